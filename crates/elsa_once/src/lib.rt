@@ -1,0 +1,6 @@
+//! Append-only collections for one thread, over values placed in an arena that the caller lends.
+#![tactic(auto)]
+
+pub mod map;
+pub mod stable;
+pub mod vec;
