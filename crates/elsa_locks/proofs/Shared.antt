@@ -3,6 +3,8 @@ use Rattle.std.proofs.Common.{◌≡◌, ◌∙◌, ℕ, zero, suc, Bool, List, 
 use Rattle.std.specs.Option.{option_map}
 use Rattle.std.specs.Map.{lookup, keys_of}
 use Rattle.std.specs.List.{IsDistinct}
+use Rattle.std.specs.List.Sorted.{IsStrictlySortedBy}
+use Rattle.std.specs.declared.cmp.Ordering.{Ordering}
 use Rattle.std.specs.declared.sync.Arc.{Arc}
 use Rattle.std.specs.Arc.{arc_value}
 use Rattle.std.proofs.lemmas.List.{length-map}
@@ -21,6 +23,9 @@ keys_shown (e ∷ es) = ap (λ ks. e.0 ∷ ks) (keys_shown es)
 
 pub distinct_shown : {K V Z : Type 0} (eq : K → K → Bool) (es : List (K × Arc V Z)) → IsDistinct eq (keys_of es) → IsDistinct eq (keys_of (shown es))
 distinct_shown eq es d = rw (keys_shown es) d
+
+pub sorted_shown : {K V Z : Type 0} (cmp : K → K → Ordering) (es : List (K × Arc V Z)) → IsStrictlySortedBy cmp (keys_of es) → IsStrictlySortedBy cmp (keys_of (shown es))
+sorted_shown cmp es s = rw (keys_shown es) s
 
 pub length_items : {V Z : Type 0} (es : List (Arc V Z)) → length (shown_items es) ≡ length es
 length_items es = length-map es arc_value
