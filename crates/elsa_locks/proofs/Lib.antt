@@ -1,0 +1,4 @@
+pub mod Clones
+pub mod Equals
+pub mod Ordered
+pub mod Shared
