@@ -2,5 +2,6 @@
 #![tactic(auto)]
 
 pub mod map;
+mod search;
 pub mod stable;
 pub mod vec;

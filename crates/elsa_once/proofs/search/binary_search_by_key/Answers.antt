@@ -1,0 +1,18 @@
+use Rattle.std.proofs.Common.{of_calls, refl, sym, ◌∙◌, inl}
+use Rattle.elsa_once.proofs.Narrowing.{narrowed_at_start, after_low, after_high, after_last}
+use Rattle.elsa_once.proofs.search.binary_search_by_key.Goals as goal
+
+pub loop-left-init : goal.loop-left-init
+loop-left-init g c = (search of_calls, narrowed_at_start _ _ _ _ _)
+
+pub loop-left-preserved-in-Less : goal.loop-left-preserved-in-Less
+loop-left-preserved-in-Less g c =
+    (search of_calls, after_low _ _ _ _ _ _ _ _ _ c.index-items-middle.result c.loop-left.invariant.1 c.loop-left-test.true c.index-items-middle.is (c.key_of.result, c.key_of.ensures, sym c.cmp-order.ensures ∙ c.in-Less.is))
+
+pub loop-left-preserved : goal.loop-left-preserved
+loop-left-preserved g c =
+    (search of_calls, after_high _ _ _ _ _ _ _ _ _ c.index-items-middle.result c.loop-left.invariant.1 c.loop-left-test.true c.index-items-middle.is (c.key_of.result, c.key_of.ensures, sym c.cmp-order.ensures ∙ c.in-Greater.is))
+
+pub returns-in-Equal : goal.returns-in-Equal
+returns-in-Equal g c =
+    after_last _ _ _ _ _ _ _ _ _ c.index-items-middle.result c.loop-left.invariant.1 c.loop-left-test.true c.index-items-middle.is _ _ (c.key_of.result, c.key_of.ensures, sym c.cmp-order.ensures ∙ c.in-Equal.is) (inl (refl, refl))

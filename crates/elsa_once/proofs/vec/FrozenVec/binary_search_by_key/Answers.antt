@@ -1,0 +1,10 @@
+use Rattle.elsa_once.proofs.Bracketed.{splits}
+use Rattle.elsa_once.proofs.vec.FrozenVec.binary_search_by_key.Goals as goal
+
+pub returns-clause-bracket : goal.returns-clause-bracket
+returns-clause-bracket g c = rw c.as_slice.ensures at c.binary_search_by_key.ensures
+
+pub returns-clause-split : goal.returns-clause-split
+returns-clause-split g c =
+    let found = rw c.as_slice.ensures at c.binary_search_by_key.ensures in
+    λ said by_place in_order. splits _ _ _ _ said found by_place in_order

@@ -1,0 +1,10 @@
+use Rattle.elsa_once.proofs.Bracketed.{parts}
+use Rattle.elsa_once.proofs.vec.FrozenVec.partition_point.Goals as goal
+
+pub returns-clause-bracket : goal.returns-clause-bracket
+returns-clause-bracket g c = rw c.as_slice.ensures at c.partition_point.ensures
+
+pub returns-clause-split : goal.returns-clause-split
+returns-clause-split g c =
+    let found = rw c.as_slice.ensures at c.partition_point.ensures in
+    λ said by_place in_order. parts _ _ _ _ said found by_place in_order

@@ -1,0 +1,96 @@
+//! Walks over a vector: an iterator, and a cursor that goes on after later pushes.
+ghost use Rattle.std.specs.Prelude.{◌≡◌, ◌+◌, if◌then◌else◌, is_some, slice_get};
+ghost use Rattle.std.specs.Iterator.{YieldsFirst, item_count};
+
+use crate::stable::StableDeref;
+use crate::vec::FrozenVec;
+use std::alloc::{Allocator, Global};
+use std::marker::Model;
+
+/// A place in a vector, counted from 0, from which a reader goes on; contracts see it as that number.
+#[derive(Clone, Copy, Debug, PartialEq, Eq)]
+pub struct Cursor {
+    place: usize,
+}
+
+impl Model for Cursor {
+    ghost use Rattle.std.specs.Prelude.{ℕ};
+
+    ghost Value = { ℕ };
+
+    ghost view = { λ c. c.place };
+
+    ghost inverse = { λ n. record { place = n } };
+}
+
+impl Cursor {
+    /// A cursor before the first item.
+    pub fn new() -> Self
+        ensures { result ≡ 0 }
+    {
+        Cursor { place: 0 }
+    }
+
+    /// The item at the cursor's place; the cursor then moves on by one.
+    ///
+    /// At the end it answers None and keeps its place, so it goes on after a later push. Asked of a vector with fewer items than its place, it answers None.
+    pub fn next<'a, T: StableDeref<'a>, A: Allocator + Copy>(
+        &mut self,
+        items: &FrozenVec<'a, T, A>,
+    ) -> Option<T::Borrow>
+        ensures item { result ≡ slice_get items.now self.old }
+        ensures place { self.new ≡ (if is_some result then self.old + 1 else self.old) }
+    {
+        if self.place < items.len() {
+            let item = items.get_unchecked(self.place);
+            self.place += 1;
+            Some(item)
+        } else {
+            None
+        }
+    }
+}
+
+/// Gives the items of a vector, in order; contracts see it as the list of the items that are left.
+#[derive(Drop)]
+pub struct Iter<'v, 'a, T: StableDeref<'a>, A: Allocator + Copy = Global> {
+    items: &'v FrozenVec<'a, T, A>,
+    cursor: Cursor,
+}
+
+// An iterator is the list of the items behind its cursor.
+impl<'v, 'a, T: StableDeref<'a>, A: Allocator + Copy> Model for Iter<'v, 'a, T, A> {
+    ghost use Rattle.std.specs.Prelude.{List, drop};
+
+    ghost Value = { List T.Borrow };
+
+    ghost view = { λ it. drop it.cursor it.items.now };
+}
+
+impl<'v, 'a, T: StableDeref<'a>, A: Allocator + Copy> Iter<'v, 'a, T, A> {
+    pub(crate) fn new(items: &'v FrozenVec<'a, T, A>) -> Self
+        ensures { result ≡ items.now }
+    {
+        Iter {
+            items,
+            cursor: Cursor::new(),
+        }
+    }
+}
+
+impl<'v, 'a, T: StableDeref<'a>, A: Allocator + Copy> Iterator for Iter<'v, 'a, T, A> {
+    type Item = T::Borrow;
+
+    ghost next_gives = { YieldsFirst (λ left. left) };
+
+    ghost remaining = { item_count (λ left. left) };
+
+    fn next(&mut self) -> Option<T::Borrow> {
+        self.cursor.next(self.items)
+    }
+
+    fn size_hint(&self) -> (usize, Option<usize>) {
+        let left = self.items.len().saturating_sub(self.cursor.place);
+        (left, Some(left))
+    }
+}
