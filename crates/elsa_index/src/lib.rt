@@ -1,5 +1,6 @@
 //! Collections that only grow and number their entries by first insertion, and what is built on them.
 #![tactic(auto)]
 
+pub mod index_map;
 pub mod index_set;
 pub mod look_up;
