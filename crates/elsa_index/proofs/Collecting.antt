@@ -20,19 +20,19 @@ module _ {K B : Type 0} (eq : K → K → Bool) (laws : IsEquivalence eq) where
   last_first : (ps : List (K × B)) (k : K) (b : B) (q : K) → lookup (eq q) (reverse (ps ++ (k, b) ∷ [])) ≡ cond (eq k q) (Some b) (lookup (eq q) (reverse ps))
   last_first ps k b q = ap (lookup (eq q)) (reverse-append ps ((k, b) ∷ [])) ∙ ap (λ c. cond c (Some b) (lookup (eq q) (reverse ps))) (laws.symm q k)
 
-  keys_push : (ps es : List (K × B)) (k : K) (b : B) → keys_of es ≡ keys_of (first_of_each eq [] ps) → keys_of (insert_entry eq es k b) ≡ keys_of (first_of_each eq [] (ps ++ (k, b) ∷ []))
+  keys_push : (ps es : List (K × B)) (k : K) (b : B) → keys_of es ≡ keys_of (first_of_each eq (λ p. p.0) [] ps) → keys_of (insert_entry eq es k b) ≡ keys_of (first_of_each eq (λ p. p.0) [] (ps ++ (k, b) ∷ []))
   keys_push ps es k b same =
       keys_insert_entry eq es k b ∙ ap (λ l. insert_key eq l k) same ∙ by (list_any (eq k) (keys_of ps)) refl
     where
       firsts : List K
-      firsts = keys_of (first_of_each eq [] ps)
-      by : (c : Bool) → list_any (eq k) (keys_of ps) ≡ c → insert_key eq (keys_of (first_of_each eq [] ps)) k ≡ keys_of (first_of_each eq [] (ps ++ (k, b) ∷ []))
+      firsts = keys_of (first_of_each eq (λ p. p.0) [] ps)
+      by : (c : Bool) → list_any (eq k) (keys_of ps) ≡ c → insert_key eq (keys_of (first_of_each eq (λ p. p.0) [] ps)) k ≡ keys_of (first_of_each eq (λ p. p.0) [] (ps ++ (k, b) ∷ []))
       by true e =
-          ap (λ c. if c then firsts else firsts ++ k ∷ []) (same_any eq laws k [] ps ∙ e)
-          ∙ sym (ap keys_of (first_of_each_push eq [] ps (k, b) ∙ ap (λ c. first_of_each eq [] ps ++ (if c then [] else (k, b) ∷ [])) e ∙ append-nil _))
+          ap (λ c. if c then firsts else firsts ++ k ∷ []) (same_any eq (λ (p : K × B). p.0) laws k [] ps ∙ e)
+          ∙ sym (ap keys_of (first_of_each_push eq (λ (p : K × B). p.0) [] ps (k, b) ∙ ap (λ c. first_of_each eq (λ p. p.0) [] ps ++ (if c then [] else (k, b) ∷ [])) e ∙ append-nil _))
       by false e =
-          ap (λ c. if c then firsts else firsts ++ k ∷ []) (same_any eq laws k [] ps ∙ e)
-          ∙ sym (ap keys_of (first_of_each_push eq [] ps (k, b) ∙ ap (λ c. first_of_each eq [] ps ++ (if c then [] else (k, b) ∷ [])) e) ∙ map-append (λ p. p.0) (first_of_each eq [] ps) ((k, b) ∷ []))
+          ap (λ c. if c then firsts else firsts ++ k ∷ []) (same_any eq (λ (p : K × B). p.0) laws k [] ps ∙ e)
+          ∙ sym (ap keys_of (first_of_each_push eq (λ (p : K × B). p.0) [] ps (k, b) ∙ ap (λ c. first_of_each eq (λ p. p.0) [] ps ++ (if c then [] else (k, b) ∷ [])) e) ∙ map-append (λ p. p.0) (first_of_each eq (λ p. p.0) [] ps) ((k, b) ∷ []))
 
   -- one more pair
   pub collects_push : {V T : Type 0} (target : V → T) (shown : B → T) (xs : List (K × V)) (es fs : List (K × B)) (k : K) (v : V) (b : B)

@@ -1,7 +1,8 @@
 -- What an insertion of a new value leaves.
-use Rattle.std.proofs.Common.{◌≡◌, ℕ, Bool, false, List, [], ◌∷◌, ◌++◌, length, position, find, slice_get, ap, ◌∙◌, arith, None, Some, if◌then◌else◌}
+use Rattle.std.proofs.Common.{◌≡◌, ℕ, Bool, true, false, true≢false, is_some, sym, List, [], ◌∷◌, ◌++◌, length, position, find, slice_get, ap, ◌∙◌, arith, None, Some, if◌then◌else◌}
 use Rattle.std.proofs.lemmas.Grind.{common_steps}
-use Rattle.std.proofs.lemmas.List.Folds.{find_at, list_any_none}
+use Rattle.std.proofs.lemmas.List.Folds.{find_at, list_any_at, list_any_none}
+use Rattle.std.proofs.lemmas.List.Quantifiers.{position-Some}
 use Rattle.std.proofs.lemmas.List.Sums.{fails_before_first, prefix_len-le-length}
 use Rattle.std.proofs.lemmas.Option.{slice_get_past}
 use Rattle.std.specs.List.{list_any, position_or_len}
@@ -34,3 +35,10 @@ found_nowhere t xs e = find_at t xs ∙ ap (slice_get xs) (none_found t xs e) �
 -- a new key goes last
 pub new_key_goes_last : {K B S : Type 0} (eq : K → K → Bool) (m : IndexMap K B S) (k : K) (b : B) → lookup (eq k) m.entries ≡ None → insert_entry eq m.entries k b ≡ m.entries ++ (k, b) ∷ []
 new_key_goes_last eq m k b none = insert_entry-new eq m k b none
+
+-- some item passes a test that finds a place
+pub some_passes : {X : Type 0} (t : X → Bool) (xs : List X) (i : ℕ) → position t xs ≡ Some i → list_any t xs ≡ true
+some_passes t [] i e = absurd (true≢false (sym (ap is_some e)))
+some_passes t (x ∷ xs) i e =
+    let p = position-Some t (x ∷ xs) i x e in
+    list_any_at t (x ∷ xs) i x p.0 p.1

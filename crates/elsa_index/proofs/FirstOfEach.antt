@@ -1,8 +1,7 @@
--- The first pair of each key, as the list of pairs goes on.
-use Rattle.std.proofs.Common.{◌≡◌, Bool, true, false, ◌||◌, if◌then◌else◌, List, [], ◌∷◌, ◌++◌, refl, sym, ap, ◌∙◌, append_assoc, append-nil}
+-- The first item of each key, as the list of items goes on.
+use Rattle.std.proofs.Common.{◌≡◌, Bool, true, false, ◌||◌, if◌then◌else◌, List, [], ◌∷◌, ◌++◌, map, refl, sym, ap, ◌∙◌, append_assoc, append-nil}
 use Rattle.std.specs.Cmp.{IsEquivalence}
 use Rattle.std.specs.List.{list_any}
-use Rattle.std.specs.Map.{keys_of}
 use Rattle.std.proofs.lemmas.List.Folds.{list_any-append}
 use Rattle.elsa_index.specs.Content.{first_of_each}
 
@@ -39,25 +38,25 @@ module _ {K : Type 0} (eq : K → K → Bool) (laws : IsEquivalence eq) (k : K) 
       step false true = refl
       step false false = refl
 
-module _ {K B : Type 0} (eq : K → K → Bool) (laws : IsEquivalence eq) (k : K) where
-  -- what is held has a key exactly if the calls so far have it
-  pub same_any : (before : List K) (ps : List (K × B)) → list_any (eq k) (before ++ keys_of (first_of_each eq before ps)) ≡ list_any (eq k) (before ++ keys_of ps)
+module _ {X K : Type 0} (eq : K → K → Bool) (key : X → K) (laws : IsEquivalence eq) (k : K) where
+  -- the first items have a key exactly if the items have it
+  pub same_any : (before : List K) (xs : List X) → list_any (eq k) (before ++ map key (first_of_each eq key before xs)) ≡ list_any (eq k) (before ++ map key xs)
   same_any before [] = refl
-  same_any before (p ∷ ps) = by (list_any (eq p.0) before) refl (same_any (before ++ p.0 ∷ []) ps ∙ ap (list_any (eq k)) (append_assoc before (p.0 ∷ []) (keys_of ps)))
+  same_any before (x ∷ xs) = by (list_any (eq (key x)) before) refl (same_any (before ++ key x ∷ []) xs ∙ ap (list_any (eq k)) (append_assoc before (key x ∷ []) (map key xs)))
     where
-      rest : List (K × B)
-      rest = first_of_each eq (before ++ p.0 ∷ []) ps
-      by : (b : Bool) → list_any (eq p.0) before ≡ b → list_any (eq k) ((before ++ p.0 ∷ []) ++ keys_of rest) ≡ list_any (eq k) (before ++ p.0 ∷ keys_of ps)
-          → list_any (eq k) (before ++ keys_of ((if b then [] else p ∷ []) ++ rest)) ≡ list_any (eq k) (before ++ p.0 ∷ keys_of ps)
-      by true e inside = left_out eq laws k before p.0 (keys_of rest) e ∙ inside
-      by false e inside = ap (list_any (eq k)) (sym (append_assoc before (p.0 ∷ []) (keys_of rest))) ∙ inside
+      rest : List X
+      rest = first_of_each eq key (before ++ key x ∷ []) xs
+      by : (b : Bool) → list_any (eq (key x)) before ≡ b → list_any (eq k) ((before ++ key x ∷ []) ++ map key rest) ≡ list_any (eq k) (before ++ key x ∷ map key xs)
+          → list_any (eq k) (before ++ map key ((if b then [] else x ∷ []) ++ rest)) ≡ list_any (eq k) (before ++ key x ∷ map key xs)
+      by true e inside = left_out eq laws k before (key x) (map key rest) e ∙ inside
+      by false e inside = ap (list_any (eq k)) (sym (append_assoc before (key x ∷ []) (map key rest))) ∙ inside
 
-module _ {K B : Type 0} (eq : K → K → Bool) where
-  -- a further pair is the last that counts
-  pub first_of_each_push : (before : List K) (ps : List (K × B)) (q : K × B) → first_of_each eq before (ps ++ q ∷ []) ≡ first_of_each eq before ps ++ (if list_any (eq q.0) (before ++ keys_of ps) then [] else q ∷ [])
-  first_of_each_push before [] q = append-nil _ ∙ ap (λ l. if list_any (eq q.0) l then [] else q ∷ []) (sym (append-nil before))
-  first_of_each_push before (p ∷ ps) q =
-      let here = if list_any (eq p.0) before then [] else p ∷ [] in
-      ap (λ l. here ++ l) (first_of_each_push (before ++ p.0 ∷ []) ps q)
-      ∙ sym (append_assoc here (first_of_each eq (before ++ p.0 ∷ []) ps) _)
-      ∙ ap (λ l. (here ++ first_of_each eq (before ++ p.0 ∷ []) ps) ++ (if list_any (eq q.0) l then [] else q ∷ [])) (append_assoc before (p.0 ∷ []) (keys_of ps))
+module _ {X K : Type 0} (eq : K → K → Bool) (key : X → K) where
+  -- a further item is the last that counts
+  pub first_of_each_push : (before : List K) (xs : List X) (y : X) → first_of_each eq key before (xs ++ y ∷ []) ≡ first_of_each eq key before xs ++ (if list_any (eq (key y)) (before ++ map key xs) then [] else y ∷ [])
+  first_of_each_push before [] y = append-nil _ ∙ ap (λ l. if list_any (eq (key y)) l then [] else y ∷ []) (sym (append-nil before))
+  first_of_each_push before (x ∷ xs) y =
+      let here = if list_any (eq (key x)) before then [] else x ∷ [] in
+      ap (λ l. here ++ l) (first_of_each_push (before ++ key x ∷ []) xs y)
+      ∙ sym (append_assoc here (first_of_each eq key (before ++ key x ∷ []) xs) _)
+      ∙ ap (λ l. (here ++ first_of_each eq key (before ++ key x ∷ []) xs) ++ (if list_any (eq (key y)) l then [] else y ∷ [])) (append_assoc before (key x ∷ []) (map key xs))

@@ -51,16 +51,18 @@ module _ {B V T : Type 0} (target : V → T) (shown : B → T) (finds : V → B 
       ((b : B) × (shown b ≡ target v) × SetCollects (bs ++ b ∷ []) vs cs)
       (λ i. SetCollects bs vs cs)
 
+-- Of items that come one after the other, those that come with a new key.
+module _ {X K : Type 0} (eq : K → K → Bool) (key : X → K) where
+  -- the items whose key equals no key of `before` and of no earlier item
+  abbrev pub first_of_each : List K → List X → List X
+  first_of_each before [] = []
+  first_of_each before (x ∷ xs) = (if list_any (eq (key x)) before then [] else x ∷ []) ++ first_of_each (before ++ key x ∷ []) xs
+
 -- What a map collects from pairs. It is no run of insertions: there the first value of a key stays, here the last wins.
 module _ {K B : Type 0} (eq : K → K → Bool) where
-  -- the pairs whose key equals no key of `before` and of no earlier pair
-  abbrev pub first_of_each : List K → List (K × B) → List (K × B)
-  first_of_each before [] = []
-  first_of_each before (p ∷ ps) = (if list_any (eq p.0) before then [] else p ∷ []) ++ first_of_each (before ++ p.0 ∷ []) ps
-
   -- the keys in the order of their first pairs, each with the value of its last
   abbrev pub Collects : List (K × B) → List (K × B) → Type 0
-  Collects ps es = (keys_of es ≡ keys_of (first_of_each [] ps)) × ((k : K) → lookup (eq k) es ≡ lookup (eq k) (reverse ps))
+  Collects ps es = (keys_of es ≡ keys_of (first_of_each eq (λ p. p.0) [] ps)) × ((k : K) → value_of eq es k ≡ value_of eq (reverse ps) k)
 
   -- es was collected from the given pairs, each value as a borrow of its target
   abbrev pub CollectsTargets : {V T : Type 0} → (V → T) → (B → T) → List (K × V) → List (K × B) → Type 0

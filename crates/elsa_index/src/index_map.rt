@@ -302,6 +302,28 @@ impl<'a, K: Eq + Hash + Drop, V: StableDeref<'a>, S: BuildHasher + Drop, A: Allo
         Ok(map)
     }
 
+    /// A map with the same content, in the same arena, under a clone of the hash builder.
+    ///
+    /// The values' borrows are shared, the keys are cloned. Later insertions into either leave the other as it is. It makes
+    /// room once, for all pairs. `O(len)`. `AllocError` comes only where the room, the clone of a key or that of the builder
+    /// was refused.
+    pub fn clone(&self) -> Result<Self, AllocError>
+    where
+        K: Clone,
+        S: Clone,
+        requires faithful { (x y : K) → K.is_clone x y → IsTrue (K.eq x y) }
+        ensures content { IfOk result (IsCloneOf K.eq K.is_clone self.now) }
+    {
+        let len = self.map.len();
+        let hash_builder = self.map.hasher().clone()?;
+        let mut map = IndexMap::with_capacity_and_hasher(*self.map.allocator(), len, hash_builder)?;
+        for i in 0..len {
+            let (key, value) = self.map.get_index(i).unwrap();
+            map.insert(key.clone()?, *value)?;
+        }
+        Ok(FrozenIndexMap::from_map(self.arena, map))
+    }
+
     /// The pairs as a vector, each once, in the order of their first insertions.
     ///
     /// `AllocError` comes where the vector was refused room; the map is given up then.
@@ -383,4 +405,15 @@ where
     {
         self.map == other.map
     }
+}
+
+impl<'a, K: Eq + Hash, V: StableDeref<'a>, S: BuildHasher, A: Allocator + Copy> Eq
+    for FrozenIndexMap<'a, K, V, S, A>
+where
+    <V as StableDeref<'a>>::Borrow: Eq,
+{
+    ghost laws = { let v = V.Borrow.Eq.laws in Cmp.equiv (record {
+        symm = λ a b. hash_map_eq_symm K.eq V.Borrow.eq v.symm (as_map a) (as_map b);
+        trans = λ a b c. hash_map_eq_trans K.eq V.Borrow.eq K.Eq.laws (partial_equiv_from_equiv v).trans (as_map a) (as_map b) (as_map c);
+    }) (λ a. hash_map_eq_refl K.eq V.Borrow.eq v.refl (as_map a)) };
 }

@@ -4,3 +4,6 @@
 pub mod index_map;
 pub mod index_set;
 pub mod look_up;
+pub mod run;
+pub mod run_index;
+pub mod run_set;

@@ -2,7 +2,7 @@ use Rattle.elsa_index.proofs.Collecting.{collects_none, collects_push}
 use Rattle.elsa_index.proofs.index_map.FrozenIndexMap.from_iter.Goals as goal
 
 pub loop-pair-init : goal.loop-pair-init
-loop-pair-init g c = collects_none g.K.PartialEq.eq g.V.HasTarget.target g.V.HasTarget.shown _ c.with_hasher-map.ensures
+loop-pair-init g c = collects_none g.K.PartialEq.eq g.met.K.Eq.laws g.V.HasTarget.target g.V.HasTarget.shown _ c.with_hasher-map.ensures
 
 pub loop-pair-preserved : goal.loop-pair-preserved
 loop-pair-preserved g c =
