@@ -3,6 +3,7 @@
 
 pub mod devices;
 pub mod engine;
+pub mod index_map;
 pub mod index_set;
 pub mod interner;
 pub mod look_up;
@@ -10,3 +11,6 @@ mod pending;
 pub mod plain_interner;
 mod reply;
 mod request;
+pub mod run;
+pub mod run_index;
+pub mod run_set;
