@@ -3,3 +3,5 @@
 
 pub mod geometry;
 pub mod machine;
+#[cfg(test)]
+mod machine_tests;

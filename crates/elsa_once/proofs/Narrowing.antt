@@ -65,7 +65,6 @@ narrowed_at_start step low high items start = record {
 -- a call about the middle of a range that is not empty
 module _ {F B R : Type 0} (step : F → B → R → F → Type 0) (low high : R) (items : List B) (start now next : F) (l r : ℕ) (item : B)
     (known : Narrowed step low high items start now l r) (open_range : l < r) (read : item ≡ get_or items (l + (r - l) / 2) item) where
-
   abbrev middle : ℕ
   middle = l + (r - l) / 2
 
@@ -125,8 +124,11 @@ searched_at_end step low high items start now l r known h = record {
   in_turn = known.in_turn;
   none_twice = known.none_twice;
   few = known.few;
-  bracket = (let within = known.within in let ordered = known.ordered in omega arith, known.below,
+  bracket = (
+    let within = known.within in let ordered = known.ordered in omega arith,
+    known.below,
     λ p. (let e : r ≡ l = (let ordered = known.ordered in omega arith) in
-      let P : ℕ → Type 0 = λ x. x < length items → Answered known.calls x high in
-      subst P e known.above p));
+        let P : ℕ → Type 0 = λ x. x < length items → Answered known.calls x high in
+        subst P e known.above p),
+  );
 }

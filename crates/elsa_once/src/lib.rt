@@ -5,3 +5,6 @@ pub mod map;
 mod search;
 pub mod stable;
 pub mod vec;
+pub mod vec_laws;
+#[cfg(test)]
+mod vec_tests;

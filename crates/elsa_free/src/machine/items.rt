@@ -38,14 +38,15 @@ impl<T> Items<T> {
     pub fn into_vec(self) -> Vec<T>
         ensures { result.items ≡ self }
     {
-        self.inner
+        let Items { inner } = self;
+        inner
     }
 
     /// The items, in order. It takes no memory.
     pub fn as_slice(&self) -> &[T]
         ensures { result.now ≡ self.now }
     {
-        self.inner.as_slice()
+        &self.inner
     }
 }
 

@@ -1,0 +1,173 @@
+//! What callers of `FrozenVec` may rely on beyond one call: each law is the contract of a function that only makes public calls.
+ghost use Rattle.std.specs.Prelude.{◌≡◌, ◌++◌, ◌⊎◌, Bool, List, IfOk, IfSome, IsSomeAnd, IsTrue, OnErr, Some, false, length, true};
+ghost use Rattle.std.specs.Fn.{AlwaysReturns};
+ghost use Rattle.std.specs.List.Sorted.{IsBinarySearchResult, IsPartitionPoint, IsPartitionedBy};
+ghost use Rattle.std.specs.Ordering.{nat_cmp};
+ghost use Rattle.elsa_once.specs.Vec.{Gains};
+
+use crate::stable::StableDeref;
+use crate::vec::{Cursor, FrozenVec};
+use bumpalo::Bump;
+use std::alloc::{AllocError, Allocator};
+use std::cmp::Ordering;
+
+// ---- content
+
+/// A vector that is taken apart and made again has the same content.
+pub fn made_again<'a, T: StableDeref<'a>, A: Allocator + Copy>(
+    arena: &'a Bump,
+    items: FrozenVec<'a, T, A>,
+) -> FrozenVec<'a, T, A>
+    ensures { result ≡ items.entry }
+{
+    FrozenVec::from_vec(arena, items.into_vec())
+}
+
+/// A push keeps what was there: the content begins as before, and a place that had an item has the same one.
+pub fn looked_up_round_a_push<'a, T: StableDeref<'a>, A: Allocator + Copy>(
+    items: &mut FrozenVec<'a, T, A>,
+    place: usize,
+    item: T,
+) -> (Option<T::Borrow>, Option<T::Borrow>)
+    ensures prefix { (more : List T.Borrow) × (items.new ≡ items.old ++ more) }
+    ensures same { IfSome result.0 (λ b. result.1 ≡ Some b) }
+{
+    let before = items.get(place);
+    let _pushed = items.push(item);
+    (before, items.get(place))
+}
+
+/// A borrow stays good after further pushes and after the vector's end.
+pub fn outlives_its_vector<'a, T: StableDeref<'a>, A: Allocator + Copy>(
+    alloc: A,
+    arena: &'a Bump,
+    item: T,
+    further: T,
+) -> Result<T::Borrow, AllocError>
+    ensures { IfOk result (λ b. T.shown b ≡ T.target item) }
+{
+    let mut items: FrozenVec<'a, T, A> = FrozenVec::new(alloc, arena);
+    let first = items.push_get(item)?;
+    items.push(further)?;
+    drop(items);
+    Ok(first)
+}
+
+/// A clone and its source go their own ways.
+pub fn pushed_apart<'a, T: StableDeref<'a>, A: Allocator + Copy>(
+    items: &mut FrozenVec<'a, T, A>,
+    one: T,
+    other: T,
+) -> Result<FrozenVec<'a, T, A>, AllocError>
+    ensures source { IfOk result (λ _. Gains T.target T.shown items.old one items.new) }
+    ensures copy { IfOk result (λ copy. Gains T.target T.shown items.old other copy) }
+    ensures refused { OnErr result ((items.new ≡ items.old) ⊎ Gains T.target T.shown items.old one items.new) }
+{
+    let mut copy = items.clone()?;
+    items.push(one)?;
+    copy.push(other)?;
+    Ok(copy)
+}
+
+// ---- equality
+
+/// A vector equals itself.
+pub fn equals_itself<'a, T: StableDeref<'a>, A: Allocator + Copy>(
+    items: &FrozenVec<'a, T, A>,
+) -> bool
+where
+    <T as StableDeref<'a>>::Borrow: Eq,
+    ensures { IsTrue result }
+{
+    items == items
+}
+
+/// Which of two vectors stands first makes no difference.
+pub fn equal_both_ways<'a, T: StableDeref<'a>, A: Allocator + Copy>(
+    one: &FrozenVec<'a, T, A>,
+    other: &FrozenVec<'a, T, A>,
+) -> (bool, bool)
+where
+    <T as StableDeref<'a>>::Borrow: PartialEq,
+    ensures { result.0 ≡ result.1 }
+{
+    (one == other, other == one)
+}
+
+/// Two vectors that equal a third are equal.
+pub fn equal_through<'a, T: StableDeref<'a>, A: Allocator + Copy>(
+    one: &FrozenVec<'a, T, A>,
+    middle: &FrozenVec<'a, T, A>,
+    other: &FrozenVec<'a, T, A>,
+) -> bool
+where
+    <T as StableDeref<'a>>::Borrow: PartialEq,
+    ensures { IsTrue result }
+{
+    if one == middle && middle == other {
+        one == other
+    } else {
+        true
+    }
+}
+
+// ---- walks
+
+/// A walk gives each item once, in order, and ends.
+pub fn walked<'a, T: StableDeref<'a>, A: Allocator + Copy, B: Allocator>(
+    alloc: B,
+    items: &FrozenVec<'a, T, A>,
+) -> Result<Vec<T::Borrow, B>, AllocError>
+    ensures { IfOk result (λ walked. walked.items ≡ items.now) }
+{
+    items.iter().collect(alloc)
+}
+
+/// A cursor at the end goes on after a push.
+pub fn read_on<'a, T: StableDeref<'a>, A: Allocator + Copy>(
+    items: &mut FrozenVec<'a, T, A>,
+    cursor: &mut Cursor,
+    item: T,
+) -> Result<Option<T::Borrow>, AllocError>
+    requires { cursor.old ≡ length items.old }
+    ensures gives { IfOk result (λ o. IsSomeAnd o (λ b. T.shown b ≡ T.target item)) }
+    ensures at_end { cursor.new ≡ length items.new }
+{
+    let _none = cursor.next(items);
+    items.push(item)?;
+    Ok(cursor.next(items))
+}
+
+// ---- searches
+
+/// Where the closure's answers hang on the item alone, a search answers as a search of a slice does.
+pub fn place_by_order<'a, T: StableDeref<'a>, A: Allocator + Copy, F: FnMut(T::Borrow) -> Ordering>(
+    items: &FrozenVec<'a, T, A>,
+    order: F,
+) -> Result<usize, usize>
+    requires { F.IsAlwaysCallable order }
+    ensures { (o : T.Borrow → Ordering) → AlwaysReturns F.FnMut (λ a r. r ≡ o a.0) order → IsBinarySearchResult o items.now result }
+{
+    items.binary_search_by(order)
+}
+
+/// The same of a partition.
+pub fn place_by_test<'a, T: StableDeref<'a>, A: Allocator + Copy, F: FnMut(T::Borrow) -> bool>(
+    items: &FrozenVec<'a, T, A>,
+    belongs: F,
+) -> usize
+    requires { F.IsAlwaysCallable belongs }
+    ensures { (test : T.Borrow → Bool) → AlwaysReturns F.FnMut (λ a r. r ≡ test a.0) belongs → IsPartitionedBy test items.now → IsPartitionPoint (λ b. test b ≡ true) (λ b. test b ≡ false) items.now result }
+{
+    items.partition_point(belongs)
+}
+
+/// A use of both: in texts sorted by length, the place of one of this length, or where the shorter ones end.
+pub fn place_by_length<'a, A: Allocator + Copy>(
+    texts: &FrozenVec<'a, String, A>,
+    wanted: usize,
+) -> Result<usize, usize>
+    ensures { IsBinarySearchResult (λ text. nat_cmp (length text.now) wanted) texts.now result }
+{
+    place_by_order(texts, |text| text.len().cmp(&wanted))
+}
