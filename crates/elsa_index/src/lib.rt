@@ -3,6 +3,8 @@
 
 pub mod devices;
 pub mod engine;
+#[cfg(test)]
+mod engine_tests;
 pub mod index_map;
 pub mod index_set;
 pub mod interner;
