@@ -61,11 +61,7 @@ fn make_room<K: Eq + Hash, V, A: Allocator + Copy>(
 
 /// Stores an owner at a key that is absent. Takes no memory.
 #[tactic(auto, using(crate::proofs::Shared::lookup_shown, crate::proofs::Shared::length_shown))]
-fn store<K: Eq + Hash, V, A: Allocator + Copy>(
-    table: &mut Table<K, V, A>,
-    key: K,
-    value: Arc<V, A>,
-)
+fn store<K: Eq + Hash, V, A: Allocator + Copy>(table: &mut Table<K, V, A>, key: K, value: Arc<V, A>)
 where
     K: Drop,
     V: Drop,
