@@ -229,8 +229,8 @@ impl<K: Ord, V, A: Allocator + Copy> TreeState<K, V, A> {
         ensures err { OnErr result (self.new ≡ self.old) }
         ensures err_only_if_absent { OnErr result (value_at (eq_by_cmp K.cmp) self.old key ≡ None) }
     {
-        if let Some(there) = find(&self.table, &key) {
-            return Ok((**there, false));
+        if let Some(owner) = find(&self.table, &key) {
+            return Ok((**owner, false));
         }
         let made = Arc::new(self.alloc, value)?;
         store(&mut self.table, key, made)?;
@@ -257,10 +257,11 @@ impl<K: Ord, V, A: Allocator + Copy> TreeState<K, V, A> {
         V: PartialEq,
         ensures { IsTrue result ↔ IsEqualMap (eq_by_cmp K.cmp) V.eq self.now other.now }
     {
-        if self.table.len() != other.table.len() {
+        let (mine, theirs) = (&self.table, &other.table);
+        if mine.len() != theirs.len() {
             return false;
         }
-        self.table == other.table
+        *mine == *theirs
     }
 
     /// The entries, each once, ascending by key. `Err` gives the map up.

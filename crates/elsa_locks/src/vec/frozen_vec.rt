@@ -119,6 +119,7 @@ impl<V, A: Allocator + Copy> FrozenVec<V, A> {
 }
 
 /// A walk over a [`FrozenVec`] that may grow meanwhile. Contracts see the place that it asks for next.
+#[derive(Drop)]
 pub struct Iter<'a, V, A: Allocator = Global> {
     list: &'a FrozenVec<V, A>,
     place: usize,

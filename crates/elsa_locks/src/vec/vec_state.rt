@@ -111,8 +111,8 @@ impl<V, A: Allocator + Copy> VecState<V, A> {
         ensures ok { OnOk result (self.new ≡ self.old ++ value ∷ []) }
         ensures err { OnErr result (self.new ≡ self.old) }
     {
-        let made = Arc::new(self.alloc, value)?;
-        append(&mut self.list, made)
+        let item = Arc::new(self.alloc, value)?;
+        append(&mut self.list, item)
     }
 
     /// Puts the item at the end, and answers one more owner of it. `Err` leaves the list.
@@ -138,9 +138,9 @@ impl<V, A: Allocator + Copy> VecState<V, A> {
         ensures ok { OnOk result (self.new ≡ self.old ++ value ∷ []) }
         ensures err { OnErr result (self.new ≡ self.old) }
     {
-        let place = self.list.len();
-        let made = Arc::new(self.alloc, value)?;
-        append(&mut self.list, made)?;
+        let place = self.len();
+        let owner = Arc::new(self.alloc, value)?;
+        append(&mut self.list, owner)?;
         Ok(place)
     }
 
