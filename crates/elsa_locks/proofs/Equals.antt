@@ -19,9 +19,9 @@ option_eq_shown E (Some x) (Some y) = refl
 pub same_from_eq : {K V Z S : Type 0} (eq : K → K → Bool) (E : V → V → Bool) → IsEquivalence eq → (m n : HashMap K (Arc V Z) S) → hash_map_eq eq (λ x y. E (arc_value x) (arc_value y)) m n ≡ true → (q : K) → option_eq E (lookup (eq q) (shown m.entries)) (lookup (eq q) (shown n.entries)) ≡ true
 same_from_eq eq E laws m n h q =
     rw (lookup_shown (eq q) m.entries, lookup_shown (eq q) n.entries)
-      (sym (option_eq_shown E (lookup (eq q) m.entries) (lookup (eq q) n.entries)) ∙ get_from_hash_map_eq eq (λ x y. E (arc_value x) (arc_value y)) laws m n h q)
+    (sym (option_eq_shown E (lookup (eq q) m.entries) (lookup (eq q) n.entries)) ∙ get_from_hash_map_eq eq (λ x y. E (arc_value x) (arc_value y)) laws m n h q)
 
 pub eq_from_same : {K V Z S : Type 0} (eq : K → K → Bool) (E : V → V → Bool) (m n : HashMap K (Arc V Z) S) → ((q : K) → option_eq E (lookup (eq q) (shown m.entries)) (lookup (eq q) (shown n.entries)) ≡ true) → hash_map_eq eq (λ x y. E (arc_value x) (arc_value y)) m n ≡ true
 eq_from_same eq E m n h = hash_map_eq_from_get eq (λ x y. E (arc_value x) (arc_value y)) m n (λ q.
     option_eq_shown E (lookup (eq q) m.entries) (lookup (eq q) n.entries)
-      ∙ rw (lookup_shown (eq q) m.entries, lookup_shown (eq q) n.entries) at (h q))
+    ∙ rw (lookup_shown (eq q) m.entries, lookup_shown (eq q) n.entries) at (h q))

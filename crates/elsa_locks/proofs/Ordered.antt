@@ -95,8 +95,8 @@ module _ {K V : Type 0} {R : K → K → Ordering} (o : IsTotalOrder R) (KE : K 
       lone_right f (e ∷ es) fs (none_above f.0 (e ∷ es) (m, below_all f.0 e.0 (keys_of es) m s)) (h f.0)
   step e f es fs Equal l s t h rest =
       both_of _ _
-        (both_of _ _ (ties e.0 f.0 ∙ ap is_eq l) (values_at e f es fs l (h e.0)))
-        (rest (λ q. tails_at e f es fs q (eq_by_cmp R q e.0) l s t refl (h q)))
+      (both_of _ _ (ties e.0 f.0 ∙ ap is_eq l) (values_at e f es fs l (h e.0)))
+      (rest (λ q. tails_at e f es fs q (eq_by_cmp R q e.0) l s t refl (h q)))
 
   pub compared : (es fs : List (K × V)) → IsStrictlySortedBy R (keys_of es) → IsStrictlySortedBy R (keys_of fs) → ((q : K) → option_eq E (lookup (eq_by_cmp R q) es) (lookup (eq_by_cmp R q) fs) ≡ true) → pointwise (λ p q. KE p.0 q.0 && E p.1 q.1) es fs ≡ true
   unfolding IsStrictlySortedBy

@@ -13,4 +13,6 @@
 //! `Err` the content is as before.
 #![tactic(auto)]
 
+pub mod history;
 pub mod map;
+pub mod vec;

@@ -35,6 +35,25 @@ impl<K: Ord, V, A: Allocator + Copy> FrozenBTreeMap<K, V, A> {
         }
     }
 
+    /// The map of the items: each key has the value of its last pair. `O(n log n)`. Takes no lock.
+    ///
+    /// `Err` where an `Arc` or a growth was refused; what was collected is given up.
+    pub fn from_iter<I: Iterator<Item = (K, V)> + Drop>(
+        alloc: A,
+        items: I,
+    ) -> Result<Self, AllocError>
+    where
+        K: Drop,
+        V: Drop,
+        requires can { I.can_next items }
+        requires ends { IsFinite (I.remaining items) }
+    {
+        let made = TreeState::from_iter(alloc, items)?;
+        Ok(FrozenBTreeMap {
+            lock: RwLock::new(made),
+        })
+    }
+
     /// An owner of the value that the key has afterwards: its own if it is there, else the one given.
     pub fn insert(&self, rt: &impl Wait, key: K, value: V) -> Result<Arc<V, A>, AllocError>
     where

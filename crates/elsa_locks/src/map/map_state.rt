@@ -61,11 +61,7 @@ fn make_room<K: Eq + Hash, V, A: Allocator + Copy>(
 
 /// Stores an owner at a key that is absent. Takes no memory.
 #[tactic(auto, using(crate::proofs::Shared::lookup_shown, crate::proofs::Shared::length_shown))]
-fn store<K: Eq + Hash, V, A: Allocator + Copy>(
-    table: &mut Table<K, V, A>,
-    key: K,
-    value: Arc<V, A>,
-)
+fn store<K: Eq + Hash, V, A: Allocator + Copy>(table: &mut Table<K, V, A>, key: K, value: Arc<V, A>)
 where
     K: Drop,
     V: Drop,
@@ -237,12 +233,12 @@ impl<K: Eq + Hash, V, A: Allocator + Copy> MapState<K, V, A> {
         ensures content { IfOk result (λ a. IsInserted K.eq self.old key (arc_value a) self.new) }
         ensures err { OnErr result (IsSameContent K.eq self.old self.new) }
     {
-        if let Some(there) = find(&self.table, &key) {
-            return Ok(there.clone()?);
+        if let Some(found) = find(&self.table, &key) {
+            return Ok(found.clone()?);
         }
         make_room(&mut self.table)?;
-        let value = f();
-        add(&mut self.table, self.alloc, key, value)
+        let made = f();
+        add(&mut self.table, self.alloc, key, made)
     }
 
     /// `insert_with` for an `f` that is given the key.
@@ -265,8 +261,8 @@ impl<K: Eq + Hash, V, A: Allocator + Copy> MapState<K, V, A> {
             None => {}
         }
         make_room(&mut self.table)?;
-        let value = f(&key);
-        add(&mut self.table, self.alloc, key, value)
+        let made = f(&key);
+        add(&mut self.table, self.alloc, key, made)
     }
 
     /// A copy of the value that the key has afterwards, and whether the key was new.
@@ -286,8 +282,8 @@ impl<K: Eq + Hash, V, A: Allocator + Copy> MapState<K, V, A> {
         ensures err { OnErr result (IsSameContent K.eq self.old self.new) }
         ensures err_only_if_absent { OnErr result (value_at K.eq self.old key ≡ None) }
     {
-        if let Some(there) = find(&self.table, &key) {
-            return Ok((**there, false));
+        if let Some(owner) = find(&self.table, &key) {
+            return Ok((**owner, false));
         }
         make_room(&mut self.table)?;
         add_copy(&mut self.table, self.alloc, key, value)?;
@@ -327,8 +323,8 @@ impl<K: Eq + Hash, V, A: Allocator + Copy> MapState<K, V, A> {
         ensures err { OnErr result (IsSameContent K.eq self.old self.new) }
         ensures err_only_if_absent { OnErr result (value_at K.eq self.old key ≡ None) }
     {
-        if let Some(there) = find(&self.table, &key) {
-            return Ok(**there);
+        if let Some(kept) = find(&self.table, &key) {
+            return Ok(**kept);
         }
         make_room(&mut self.table)?;
         let value = f();
@@ -371,7 +367,7 @@ impl<K: Eq + Hash, V, A: Allocator + Copy> MapState<K, V, A> {
         ensures clones { IfOk result (λ v. AllZip K.is_clone (keys_of self.now) v.items) }
         ensures keys { IfOk result (λ v. IsKeys K.eq (value_at K.eq self.now) v.items) }
     {
-        let mut keys = Vec::with_capacity(self.alloc, self.table.len())?;
+        let mut keys = Vec::with_capacity(self.alloc, self.len())?;
         for key in self.table.keys() {
             keys.push(key.clone()?)?;
         }

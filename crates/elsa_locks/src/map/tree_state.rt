@@ -1,12 +1,12 @@
 //! The ordered map under the lock of `FrozenBTreeMap`, with contracts that say what each call does.
-ghost use Rattle.std.specs.Prelude.{◌≡◌, ◌+◌, [], Some, None, length, is_some, IfSome, IfOk, OnErr, OnOk, IsTrue, ◌↔◌, if◌then◌else◌};
+ghost use Rattle.std.specs.Prelude.{◌≡◌, ◌+◌, List, [], Some, None, length, is_some, IfSome, IfOk, OnErr, OnOk, IsTrue, ◌↔◌, if◌then◌else◌};
 ghost use Rattle.std.specs.Option.{option_map};
 ghost use Rattle.std.specs.Ordering.{eq_by_cmp};
 ghost use Rattle.std.specs.Arc.{arc_value};
 ghost use Rattle.std.specs.Fn.{FnOnceReturnsAt, FnOnceTakesAt};
 ghost use Rattle.std.specs.List.Sorted.{IsStrictlySortedBy};
 ghost use Rattle.std.specs.Map.{keys_of};
-ghost use Rattle.std.specs.Iterator.{DrainsIf, IsFinite, HoldsAlong};
+ghost use Rattle.std.specs.Iterator.{Drains, IsFinite};
 ghost use Rattle.elsa_locks.specs.FirstWins.{value_at, IsSameContent, IsInserted, IsEqualMap, IsCollected, CloneIsEqual};
 ghost use Rattle.elsa_locks.specs.Shared.{shown};
 
@@ -38,10 +38,7 @@ impl<K: Ord, V, A: Allocator> Model for TreeState<K, V, A> {
 
 /// The owner at the key, if it is there.
 #[tactic(auto, using(crate::proofs::Shared::lookup_shown))]
-fn find<'m, K: Ord, V, A: Allocator>(
-    table: &'m Table<K, V, A>,
-    key: &K,
-) -> Option<&'m Arc<V, A>>
+fn find<'m, K: Ord, V, A: Allocator>(table: &'m Table<K, V, A>, key: &K) -> Option<&'m Arc<V, A>>
     ensures { option_map (λ a. arc_value a.now) result ≡ value_at (eq_by_cmp K.cmp) (shown table.now.entries) key.now }
 {
     table.get(key)
@@ -66,6 +63,22 @@ where
     Ok(())
 }
 
+/// Stores an owner at a key, in place of the one that is there.
+#[tactic(auto, using(crate::proofs::Shared::lookup_shown))]
+fn put<K: Ord, V, A: Allocator + Copy>(
+    table: &mut Table<K, V, A>,
+    key: K,
+    value: Arc<V, A>,
+) -> Result<(), AllocError>
+where
+    K: Drop,
+    V: Drop,
+    ensures { OnOk result ((q : K) → value_at (eq_by_cmp K.cmp) (shown table.new.entries) q ≡ (if eq_by_cmp K.cmp key q then Some (arc_value value) else value_at (eq_by_cmp K.cmp) (shown table.old.entries) q)) }
+{
+    table.insert(key, value)?;
+    Ok(())
+}
+
 impl<K: Ord, V, A: Allocator + Copy> TreeState<K, V, A> {
     /// An empty map. Takes no memory.
     pub fn new(alloc: A) -> Self
@@ -82,6 +95,28 @@ impl<K: Ord, V, A: Allocator + Copy> TreeState<K, V, A> {
         ensures { result ≡ shown map.entries }
     {
         TreeState { table: map, alloc }
+    }
+
+    /// The map of the items: each key has the value of its last pair. `O(n log n)`.
+    ///
+    /// `Err` where an `Arc` or a growth was refused; what was collected is given up.
+    pub fn from_iter<I: Iterator<Item = (K, V)> + Drop>(
+        alloc: A,
+        items: I,
+    ) -> Result<Self, AllocError>
+    where
+        K: Drop,
+        V: Drop,
+        requires can { I.can_next items }
+        requires ends { IsFinite (I.remaining items) }
+        ensures { IfOk result (λ m. (pairs : List (K × V)) × Drains I.next_gives items pairs × IsCollected (eq_by_cmp K.cmp) pairs m) }
+    {
+        let mut table = BTreeMap::new(alloc);
+        for (key, value) in items {
+            let made = Arc::new(alloc, value)?;
+            put(&mut table, key, made)?;
+        }
+        Ok(TreeState { table, alloc })
     }
 
     /// The number of entries; their keys ascend.
@@ -194,8 +229,8 @@ impl<K: Ord, V, A: Allocator + Copy> TreeState<K, V, A> {
         ensures err { OnErr result (self.new ≡ self.old) }
         ensures err_only_if_absent { OnErr result (value_at (eq_by_cmp K.cmp) self.old key ≡ None) }
     {
-        if let Some(there) = find(&self.table, &key) {
-            return Ok((**there, false));
+        if let Some(owner) = find(&self.table, &key) {
+            return Ok((**owner, false));
         }
         let made = Arc::new(self.alloc, value)?;
         store(&mut self.table, key, made)?;
@@ -222,10 +257,11 @@ impl<K: Ord, V, A: Allocator + Copy> TreeState<K, V, A> {
         V: PartialEq,
         ensures { IsTrue result ↔ IsEqualMap (eq_by_cmp K.cmp) V.eq self.now other.now }
     {
-        if self.table.len() != other.table.len() {
+        let (mine, theirs) = (&self.table, &other.table);
+        if mine.len() != theirs.len() {
             return false;
         }
-        self.table == other.table
+        *mine == *theirs
     }
 
     /// The entries, each once, ascending by key. `Err` gives the map up.

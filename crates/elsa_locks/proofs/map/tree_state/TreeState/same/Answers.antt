@@ -10,10 +10,11 @@ returns-then-len g c =
     rw (← c.self.view_is, ← c.other.view_is) (
       (λ t. never t),
       (λ h.
-        let long : length (shown c.self.inside.table.entries) ≡ length (shown c.other.inside.table.entries) =
+          let long : length (shown c.self.inside.table.entries) ≡ length (shown c.other.inside.table.entries) =
           as_long _ _ _ (compared g.met.K.Ord.total g.K.PartialEq.eq g.met.K.Ord.matches_eq g.V.PartialEq.eq (shown c.self.inside.table.entries) (shown c.other.inside.table.entries)
-            (sorted_shown g.K.Ord.cmp c.self.inside.table.entries c.len.ensures.ordered) (sorted_shown g.K.Ord.cmp c.other.inside.table.entries c.len-2.ensures.ordered) h) in
-        absurd (omega (arith, length_shown c.self.inside.table.entries, length_shown c.other.inside.table.entries))))
+          (sorted_shown g.K.Ord.cmp c.self.inside.table.entries c.len.ensures.ordered) (sorted_shown g.K.Ord.cmp c.other.inside.table.entries c.len-2.ensures.ordered) h) in
+          absurd (omega (arith, length_shown c.self.inside.table.entries, length_shown c.other.inside.table.entries))),
+    )
 
 pub returns : goal.returns
 returns g c =
@@ -21,4 +22,5 @@ returns g c =
     rw (← c.self.view_is, ← c.other.view_is) (
       (λ t. agrees g.met.K.Ord.total g.K.PartialEq.eq g.met.K.Ord.matches_eq g.V.PartialEq.eq (shown c.self.inside.table.entries) (shown c.other.inside.table.entries) (sym as_shown ∙ (sym c.eq.ensures ∙ t))),
       (λ h. c.eq.ensures ∙ (as_shown ∙ compared g.met.K.Ord.total g.K.PartialEq.eq g.met.K.Ord.matches_eq g.V.PartialEq.eq (shown c.self.inside.table.entries) (shown c.other.inside.table.entries)
-        (sorted_shown g.K.Ord.cmp c.self.inside.table.entries c.len.ensures.ordered) (sorted_shown g.K.Ord.cmp c.other.inside.table.entries c.len-2.ensures.ordered) h)))
+          (sorted_shown g.K.Ord.cmp c.self.inside.table.entries c.len.ensures.ordered) (sorted_shown g.K.Ord.cmp c.other.inside.table.entries c.len-2.ensures.ordered) h)),
+    )
