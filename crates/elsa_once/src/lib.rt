@@ -2,5 +2,7 @@
 #![tactic(auto)]
 
 pub mod map;
+#[cfg(test)]
+mod map_tests;
 pub mod stable;
 pub mod vec;
