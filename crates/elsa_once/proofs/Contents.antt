@@ -1,15 +1,16 @@
 -- Look-ups in a list of entries, and what pairs leave when they are collected.
-use Rattle.std.proofs.Common.{◌≡◌, Bool, true, false, cond, List, [], ◌∷◌, ◌++◌, reverse, Option, None, Some, length, refl, sym, ap, ◌∙◌}
+use Rattle.std.proofs.Common.{◌≡◌, Bool, true, false, true≢false, cond, subst, is_some, Result, Ok, Err, IfOk, OnErr, List, [], ◌∷◌, ◌++◌, reverse, Option, None, Some, length, refl, sym, ap, ◌∙◌}
 use Rattle.std.specs.BTreeMap as tree
 use Rattle.std.specs.BTreeMap.{BTreeMap}
 use Rattle.std.specs.Cmp.{IsEquivalence, IsTotalOrder}
+use Rattle.std.specs.HashMap.Eq.{lookup_congr}
 use Rattle.std.specs.Map.{lookup, lookup_entry, lookup_key, update, update_all}
 use Rattle.std.specs.Option.{option_map}
 use Rattle.std.specs.declared.cmp.Ordering.{Ordering}
 use Rattle.std.proofs.lemmas.List.{length-map, reverse-append}
 use Rattle.std.proofs.lemmas.List.Sums.{fold-append}
 use Rattle.std.proofs.lemmas.Map.Lookups.{btree_map_read_from_get}
-use Rattle.elsa_once.specs.FirstWins.{HoldsLast, value_at}
+use Rattle.elsa_once.specs.FirstWins.{Adds, HoldsLast, Keeps, value_at}
 
 module _ {K B : Type 0} (test : K → Bool) where
   -- the key and the value that are found belong to one entry
@@ -51,6 +52,36 @@ module _ {K V B T : Type 0} (eq : K → K → Bool) (laws : IsEquivalence eq) (t
       by false = held q
 
 module _ {K B : Type 0} (eq : K → K → Bool) (laws : IsEquivalence eq) where
+  -- what an insertion of a new key adds keeps every value
+  adds_keeps : (es : List (K × B)) (new : K → Option B) (k : K) (v : B) → value_at eq es k ≡ None → Adds eq (value_at eq es) new k v → Keeps (value_at eq es) new
+  adds_keeps es new k v none adds q x is = by (eq k q) refl
+    where
+      by : (t : Bool) → eq k q ≡ t → new q ≡ Some x
+      by true same = absurd (true≢false (ap is_some (sym is ∙ sym (lookup_congr eq laws.congr es k q same) ∙ none)))
+      by false other = (adds q).1 other ∙ is
+
+  module _ {E : Type 0} (es fs : List (K × B)) (k : K) (result : Result (B × Bool) E) (present : (x : B) → value_at eq es k ≡ Some x → (result ≡ Ok (x, false)) × (fs ≡ es))
+      (adds : value_at eq es k ≡ None → IfOk result (λ r. Adds eq (value_at eq es) (value_at eq fs) k r.0)) where
+    -- an insertion keeps every value
+    pub insert_keeps : OnErr result (fs ≡ es) → Keeps (value_at eq es) (value_at eq fs)
+    insert_keeps refused = by (value_at eq es k) refl result adds refused
+      where
+        by : (o : Option B) → value_at eq es k ≡ o → (r : Result (B × Bool) E) → (value_at eq es k ≡ None → IfOk r (λ a. Adds eq (value_at eq es) (value_at eq fs) k a.0)) → OnErr r (fs ≡ es) → Keeps (value_at eq es) (value_at eq fs)
+        by (Some x) is r h same q y had = ap (λ gs. value_at eq gs q) (present x is).1 ∙ had
+        by None is (Ok a) h same q y had = adds_keeps es (value_at eq fs) k a.0 is (h is) q y had
+        by None is (Err e) h same q y had = ap (λ gs. value_at eq gs q) same ∙ had
+
+    -- where it is accepted the key has what it answers
+    pub insert_answers : IfOk result (λ r. value_at eq fs k ≡ Some r.0)
+    insert_answers = by (value_at eq es k) refl result refl adds
+      where
+        by : (o : Option B) → value_at eq es k ≡ o → (r : Result (B × Bool) E) → result ≡ r → (value_at eq es k ≡ None → IfOk r (λ a. Adds eq (value_at eq es) (value_at eq fs) k a.0)) → IfOk r (λ a. value_at eq fs k ≡ Some a.0)
+        by (Some x) is r same h =
+            let P : Result (B × Bool) E → Type 0 = λ s. IfOk s (λ a. value_at eq fs k ≡ Some a.0) in
+            subst P (sym (present x is).0 ∙ same) (ap (λ gs. value_at eq gs k) (present x is).1 ∙ is)
+        by None is (Ok a) same h = (h is k).0 (laws.refl k)
+        by None is (Err e) same h = tt
+
   -- one more pair, under a key that equals its own
   pub copies_more : (pairs : List (K × B)) (es fs : List (K × B)) (k c : K) (v : B) → ((q : K) → value_at eq es q ≡ update_all eq (λ _. None) pairs q) → eq k c ≡ true
       → ((q : K) → value_at eq fs q ≡ cond (eq c q) (Some v) (value_at eq es q)) → (q : K) → value_at eq fs q ≡ update_all eq (λ _. None) (pairs ++ (k, v) ∷ []) q

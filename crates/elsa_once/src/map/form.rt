@@ -1,6 +1,6 @@
 //! What both maps have in common.
 ghost use Rattle.std.specs.Prelude.{◌≡◌, ◌+◌, ◌↔◌, List, Bool, false, true, None, IfOk, IsTrue, OnErr, OnOk, Some, length};
-ghost use Rattle.std.specs.Cmp.{IsEquivalence, eq_by_cmp_equiv};
+ghost use Rattle.std.specs.Cmp.{IsEquivalence};
 ghost use Rattle.std.specs.Ordering.{eq_by_cmp};
 ghost use Rattle.elsa_once.specs.FirstWins.{Adds, value_at};
 
@@ -66,7 +66,10 @@ pub trait MapForm<'a> {
 
     /// The number of entries.
     fn len(&self) -> usize
-        ensures { result ≡ length (entries self.now) };
+        ensures count { result ≡ length (entries self.now) }
+
+        // What holds of every form: that two keys are one is an equivalence.
+        ensures equivalence { IsEquivalence same };
 
     /// Whether there are no entries.
     fn is_empty(&self) -> bool
@@ -75,9 +78,6 @@ pub trait MapForm<'a> {
     /// Begins a new epoch with the content of `base`; what the map held is given up.
     fn rebase(&mut self, base: Self::Base)
         ensures { entries self.new ≡ base_entries base };
-
-    // That two keys are one is an equivalence.
-    ghost same_laws: { IsEquivalence same };
 }
 
 impl<
@@ -122,8 +122,6 @@ impl<
     fn rebase(&mut self, base: HashMap<K, V::Borrow, S, A>) {
         *self.as_mut() = base;
     }
-
-    ghost same_laws = { K.Eq.laws };
 }
 
 impl<'a, K: Ord + Drop, V: StableDeref<'a>, A: Allocator + Copy> MapForm<'a>
@@ -163,6 +161,4 @@ impl<'a, K: Ord + Drop, V: StableDeref<'a>, A: Allocator + Copy> MapForm<'a>
     fn rebase(&mut self, base: BTreeMap<K, V::Borrow, A>) {
         *self.as_mut() = base;
     }
-
-    ghost same_laws = { eq_by_cmp_equiv K.total };
 }

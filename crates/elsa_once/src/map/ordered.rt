@@ -180,11 +180,11 @@ impl<'a, K: Ord + Drop, V: StableDeref<'a>, A: Allocator + Copy> FrozenBTreeMap<
         ensures target { IfOk result (λ b. V.shown b ≡ V.target value) }
         ensures content { IfOk result (λ b. (q : K) → value_at (eq_by_cmp K.cmp) self.new q ≡ (if eq_by_cmp K.cmp key q then Some b else value_at (eq_by_cmp K.cmp) self.old q)) }
     {
-        let Ok(borrow) = value.place(self.arena) else {
+        let Ok(placed) = value.place(self.arena) else {
             return Err(AllocError);
         };
-        self.entries.insert(key, borrow)?;
-        Ok(borrow)
+        self.entries.insert(key, placed)?;
+        Ok(placed)
     }
 
     /// A map of the pairs in which, other than by insertions, the last value of a key wins.
