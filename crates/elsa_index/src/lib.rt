@@ -3,7 +3,11 @@
 
 pub mod index_map;
 pub mod index_set;
+#[cfg(test)]
+mod index_tests;
 pub mod look_up;
+#[cfg(test)]
+mod odd_keys;
 pub mod run;
 pub mod run_index;
 pub mod run_set;
