@@ -101,10 +101,10 @@ impl<'a, K: Eq + Hash, V: StableDeref<'a>, S: BuildHasher, A: Allocator + Copy> 
     {
         let FrozenIndexMap {
             arena: _,
-            map,
+            map: inner,
             of: _,
         } = self;
-        map
+        inner
     }
 
     /// The place of the pair with this key, `None` exactly if there is none.
@@ -169,10 +169,14 @@ impl<'a, K: Eq + Hash, V: StableDeref<'a>, S: BuildHasher, A: Allocator + Copy> 
     }
 
     /// Whether there are no pairs. It takes no memory.
+    #[tactic(auto, using(std::proofs::lemmas::List::nil_from_length))]
     pub fn is_empty(&self) -> bool
-        ensures { IsTrue result ↔ (self.now ≡ []) }
+        ensures empty { IsTrue result ↔ (self.now ≡ []) }
+
+        // No two keys of a map are equal.
+        ensures distinct { IsDistinct K.eq (keys_of self.now) }
     {
-        self.map.is_empty()
+        self.map.len() == 0
     }
 }
 
@@ -183,6 +187,17 @@ impl<
     S: BuildHasher,
     A: Allocator + Copy,
 > FrozenIndexMap<'a, K, V, S, A> {
+    // The value's borrow, in the arena.
+    fn placed(&self, value: V) -> Result<V::Borrow, AllocError>
+        ensures { IfOk result (λ b. V.shown b ≡ V.target value) }
+    {
+        let borrow = match value.place(self.arena) {
+            Ok(borrow) => borrow,
+            Err(_) => return Err(AllocError),
+        };
+        Ok(borrow)
+    }
+
     // Adds a pair last.
     #[tactic(auto, using(crate::proofs::Content::new_key_goes_last))]
     fn add(&mut self, key: K, value: V::Borrow) -> Result<usize, AllocError>
@@ -217,10 +232,7 @@ impl<
         if let Some((place, _, found)) = self.map.get_full(&key) {
             return Ok((place, *found, false));
         }
-        let borrow = match value.place(self.arena) {
-            Ok(borrow) => borrow,
-            Err(_) => return Err(AllocError),
-        };
+        let borrow = self.placed(value)?;
         let place = self.add(key, borrow)?;
         Ok((place, borrow, true))
     }
@@ -275,12 +287,9 @@ impl<
         ensures entries { IfOk result (λ b. self.new ≡ insert_entry K.eq self.old key b) }
         ensures values { IfOk result (λ b. (q : K) → lookup (K.eq q) self.new ≡ cond (K.eq key q) (Some b) (lookup (K.eq q) self.old)) }
     {
-        let borrow = match value.place(self.arena) {
-            Ok(borrow) => borrow,
-            Err(_) => return Err(AllocError),
-        };
-        match self.map.insert(key, borrow) {
-            Ok(_) => Ok(borrow),
+        let given = self.placed(value)?;
+        match self.map.insert(key, given) {
+            Ok(_) => Ok(given),
             Err(_) => Err(AllocError),
         }
     }

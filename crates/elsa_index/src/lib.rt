@@ -1,6 +1,7 @@
 //! Collections that only grow and number their entries by first insertion, and what is built on them.
 #![tactic(auto)]
 
+pub mod index_laws;
 pub mod index_map;
 pub mod index_set;
 #[cfg(test)]
