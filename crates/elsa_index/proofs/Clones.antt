@@ -37,12 +37,14 @@ module _ {K B : Type 0} (eq : K → K → Bool) (laws : IsEquivalence eq) (is_cl
       → IsCloneOf eq is_clone (take i es) fs → is_clone x y → eq x y ≡ true → gs ≡ insert_entry eq fs y b → IsCloneOf eq is_clone (take (i + 1) es) gs
   clone_more es fs gs i x y b within at distinct before cloned same is =
       subst (IsCloneOf eq is_clone (take (i + 1) es)) (sym (is ∙ new_key_goes_last eq (hash_map fs (tt {0}) 0) y b absent))
-          (all_zip_more (λ p q. is_clone p.0 q.0 × (eq p.0 q.0 ≡ true) × (q.1 ≡ p.1)) es fs i (x, b) (y, b) within (sym here) before (cloned, same, refl))
+      (all_zip_more (λ p q. is_clone p.0 q.0 × (eq p.0 q.0 ≡ true) × (q.1 ≡ p.1)) es fs i (x, b) (y, b) within (sym here) before (cloned, same, refl))
     where
       here : get_or es i (x, b) ≡ (x, b)
       here = get_or_from_slice_get es i (x, b) (x, b) at
+
       split : es ≡ take i es ++ (x, b) ∷ drop (i + 1) es
       split = sym (take-append-drop i es) ∙ ap (λ l. take i es ++ l) (drop_more es i (x, b) within ∙ ap (λ p. p ∷ drop (i + 1) es) here)
+
       absent : lookup (eq y) fs ≡ None
       absent = none_of (lookup (eq y) fs) (found_in_clones (take i es) fs x y before same
           ∙ ap is_some (absent_before laws (take i es) (drop (i + 1) es) (x, b) (subst (λ l. IsDistinct eq (keys_of l)) split distinct)))

@@ -26,6 +26,7 @@ module _ {K B : Type 0} (eq : K → K → Bool) (laws : IsEquivalence eq) where
     where
       firsts : List K
       firsts = keys_of (first_of_each eq (λ p. p.0) [] ps)
+
       by : (c : Bool) → list_any (eq k) (keys_of ps) ≡ c → insert_key eq (keys_of (first_of_each eq (λ p. p.0) [] ps)) k ≡ keys_of (first_of_each eq (λ p. p.0) [] (ps ++ (k, b) ∷ []))
       by true e =
           ap (λ c. if c then firsts else firsts ++ k ∷ []) (same_any eq (λ (p : K × B). p.0) laws k [] ps ∙ e)
@@ -38,9 +39,14 @@ module _ {K B : Type 0} (eq : K → K → Bool) (laws : IsEquivalence eq) where
   pub collects_push : {V T : Type 0} (target : V → T) (shown : B → T) (xs : List (K × V)) (es fs : List (K × B)) (k : K) (v : V) (b : B)
       → CollectsTargets eq target shown xs es → shown b ≡ target v → fs ≡ insert_entry eq es k b → ((q : K) → lookup (eq q) fs ≡ cond (eq k q) (Some b) (lookup (eq q) es))
       → CollectsTargets eq target shown (xs ++ (k, v) ∷ []) fs
-  collects_push target shown xs es fs k v b (ps, zipped, (keys, values)) has is looks =
-      (ps ++ (k, b) ∷ [], zipped_push (λ x p. (p.0 ≡ x.0) × (shown p.1 ≡ target x.1)) xs ps (k, v) (k, b) zipped (refl, has), (ap keys_of is ∙ keys_push ps es k b keys,
-       λ q. looks q ∙ ap (λ o. cond (eq k q) (Some b) o) (values q) ∙ sym (last_first ps k b q)))
+  collects_push target shown xs es fs k v b (ps, zipped, (keys, values)) has is looks = (
+    ps ++ (k, b) ∷ [],
+    zipped_push (λ x p. (p.0 ≡ x.0) × (shown p.1 ≡ target x.1)) xs ps (k, v) (k, b) zipped (refl, has),
+    (
+      ap keys_of is ∙ keys_push ps es k b keys,
+      λ q. looks q ∙ ap (λ o. cond (eq k q) (Some b) o) (values q) ∙ sym (last_first ps k b q),
+    ),
+  )
 
   pub collects_none : {V T : Type 0} (target : V → T) (shown : B → T) (es : List (K × B)) → es ≡ [] → CollectsTargets eq {V = V} target shown [] es
   collects_none target shown es none = ([], tt, (ap keys_of none, λ k. ap (lookup (eq k)) none))

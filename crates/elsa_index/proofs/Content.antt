@@ -1,5 +1,5 @@
 -- What an insertion of a new value leaves.
-use Rattle.std.proofs.Common.{◌≡◌, ℕ, Bool, true, false, true≢false, is_some, sym, List, [], ◌∷◌, ◌++◌, length, position, find, slice_get, ap, ◌∙◌, arith, None, Some, if◌then◌else◌}
+use Rattle.std.proofs.Common.{◌≡◌, ℕ, ◌<◌, Bool, true, false, true≢false, is_some, sym, List, [], ◌∷◌, ◌++◌, length, position, find, slice_get, ap, ◌∙◌, arith, None, Some, if◌then◌else◌}
 use Rattle.std.proofs.lemmas.Grind.{common_steps}
 use Rattle.std.proofs.lemmas.List.Folds.{find_at, list_any_at, list_any_none}
 use Rattle.std.proofs.lemmas.List.Quantifiers.{position-Some}
@@ -11,7 +11,8 @@ use Rattle.indexmap.specs.IndexMap.{IndexMap, insert_entry}
 use Rattle.indexmap.specs.IndexSet.{insert_key}
 use Rattle.indexmap.proofs.CallerLemmas.{insert_entry-new}
 
-none_found : {X : Type 0} (t : X → Bool) (xs : List X) → position t xs ≡ None → position_or_len t xs ≡ length xs
+-- where nothing passes, the count of those before the first is the length
+pub none_found : {X : Type 0} (t : X → Bool) (xs : List X) → position t xs ≡ None → position_or_len t xs ≡ length xs
 none_found t xs e = grind (arith, common_steps, prefix_len-le-length)
 
 -- no item passes a test that finds none
@@ -28,6 +29,10 @@ found_at {X} t xs i e = find_at t xs ∙ ap (slice_get xs) at
   where
     at : position_or_len t xs ≡ i
     at = grind (arith, common_steps, e)
+
+-- and lies within the list
+pub found_within : {X : Type 0} (t : X → Bool) (xs : List X) (i : ℕ) → position t xs ≡ Some i → i < length xs
+found_within t xs i e = grind (arith, common_steps, e)
 
 pub found_nowhere : {X : Type 0} (t : X → Bool) (xs : List X) → position t xs ≡ None → find t xs ≡ None
 found_nowhere t xs e = find_at t xs ∙ ap (slice_get xs) (none_found t xs e) ∙ slice_get_past xs (length xs) (omega arith)

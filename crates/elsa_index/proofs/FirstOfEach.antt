@@ -20,9 +20,11 @@ module _ {K : Type 0} (eq : K → K → Bool) (laws : IsEquivalence eq) (k : K) 
     where
       both : (b : Bool) → b ≡ true → (b || true) ≡ b
       both b e = ap (λ c. c || true) e ∙ sym e
+
       nothing : (b : Bool) → (b || false) ≡ b
       nothing true = refl
       nothing false = refl
+
       by : (b : Bool) → eq k a ≡ b → (list_any (eq k) xs || b) ≡ list_any (eq k) xs
       by true e = both (list_any (eq k) xs) (covered xs a h e)
       by false e = nothing (list_any (eq k) xs)
@@ -46,6 +48,7 @@ module _ {X K : Type 0} (eq : K → K → Bool) (key : X → K) (laws : IsEquiva
     where
       rest : List X
       rest = first_of_each eq key (before ++ key x ∷ []) xs
+
       by : (b : Bool) → list_any (eq (key x)) before ≡ b → list_any (eq k) ((before ++ key x ∷ []) ++ map key rest) ≡ list_any (eq k) (before ++ key x ∷ map key xs)
           → list_any (eq k) (before ++ map key ((if b then [] else x ∷ []) ++ rest)) ≡ list_any (eq k) (before ++ key x ∷ map key xs)
       by true e inside = left_out eq laws k before (key x) (map key rest) e ∙ inside

@@ -32,6 +32,7 @@ module _ {K V T B M : Type 0} (eq : K → K → Bool) (laws : IsEquivalence eq) 
       where
         noted : accept e (Some (k, b)) ≡ accept e (option_map (λ c. (k, c)) (answered r))
         noted = ap (λ o. accept e (option_map (λ c. (k, c)) o)) (sym (ap answered is ∙ says i b new))
+
         by : (o : Option ℕ) → place_of eq (held eq (λ p. p.0) e) k ≡ o
             → MatchOption o ((i ≡ length (held eq (λ p. p.0) e)) × (shown b ≡ target v) × (new ≡ true) × (fs ≡ held eq (λ p. p.0) e ++ (k, b) ∷ [])) (λ j. (i ≡ j) × (value_of eq (held eq (λ p. p.0) e) k ≡ Some b) × (new ≡ false) × (fs ≡ held eq (λ p. p.0) e))
             → InsertAnswers eq target shown entries (held eq (λ p. p.0) e) k v form r × (fs ≡ held eq (λ p. p.0) (accept e (option_map (λ c. (k, c)) (answered r))))

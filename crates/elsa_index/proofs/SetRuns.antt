@@ -42,6 +42,7 @@ module _ {V T B M : Type 0} (eq : B → B → Bool) (laws : IsEquivalence eq) (t
       where
         noted : accept e (Some b) ≡ accept e (answered r)
         noted = ap (accept e) (sym (ap answered is ∙ says i b new))
+
         by : (o : Option ℕ) → position (finds v) (held eq (λ b. b) e) ≡ o
             → MatchOption o ((i ≡ length (held eq (λ b. b) e)) × (shown b ≡ target v) × (new ≡ true) × (cs ≡ held eq (λ b. b) e ++ b ∷ [])) (λ j. (i ≡ j) × (slice_get (held eq (λ b. b) e) i ≡ Some b) × (new ≡ false) × (cs ≡ held eq (λ b. b) e))
             → InsertAnswers eq target shown finds asks values (held eq (λ b. b) e) v form r × (cs ≡ held eq (λ b. b) (accept e (answered r)))

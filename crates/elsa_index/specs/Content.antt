@@ -4,6 +4,10 @@ use Rattle.std.specs.Prelude.{◌≡◌, ℕ, Bool, true, false, List, [], ◌�
 use Rattle.std.specs.List.{list_any, AllZip}
 use Rattle.std.specs.Map.{keys_of, lookup}
 
+-- ys begins with xs: each item stays at its place
+abbrev pub Grows : {X : Type 0} → List X → List X → Type 0
+Grows {X} xs ys = (more : List X) × (ys ≡ xs ++ more)
+
 module _ {K B : Type 0} (eq : K → K → Bool) where
   -- the place of the pair whose key equals k
   abbrev pub place_of : List (K × B) → K → Option ℕ

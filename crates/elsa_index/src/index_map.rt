@@ -101,10 +101,10 @@ impl<'a, K: Eq + Hash, V: StableDeref<'a>, S: BuildHasher, A: Allocator + Copy> 
     {
         let FrozenIndexMap {
             arena: _,
-            map,
+            map: inner,
             of: _,
         } = self;
-        map
+        inner
     }
 
     /// The place of the pair with this key, `None` exactly if there is none.
@@ -169,20 +169,35 @@ impl<'a, K: Eq + Hash, V: StableDeref<'a>, S: BuildHasher, A: Allocator + Copy> 
     }
 
     /// Whether there are no pairs. It takes no memory.
+    #[tactic(auto, using(std::proofs::lemmas::List::nil_from_length))]
     pub fn is_empty(&self) -> bool
-        ensures { IsTrue result ↔ (self.now ≡ []) }
+        ensures empty { IsTrue result ↔ (self.now ≡ []) }
+
+        // No two keys of a map are equal.
+        ensures distinct { IsDistinct K.eq (keys_of self.now) }
     {
-        self.map.is_empty()
+        self.map.len() == 0
     }
 }
 
-impl<'a, K: Eq + Hash + Drop, V: StableDeref<'a>, S: BuildHasher, A: Allocator + Copy> FrozenIndexMap<
+impl<
     'a,
-    K,
-    V,
-    S,
-    A,
-> {
+    K: Eq + Hash + Drop,
+    V: StableDeref<'a>,
+    S: BuildHasher,
+    A: Allocator + Copy,
+> FrozenIndexMap<'a, K, V, S, A> {
+    // The value's borrow, in the arena.
+    fn placed(&self, value: V) -> Result<V::Borrow, AllocError>
+        ensures { IfOk result (λ b. V.shown b ≡ V.target value) }
+    {
+        let borrow = match value.place(self.arena) {
+            Ok(borrow) => borrow,
+            Err(_) => return Err(AllocError),
+        };
+        Ok(borrow)
+    }
+
     // Adds a pair last.
     #[tactic(auto, using(crate::proofs::Content::new_key_goes_last))]
     fn add(&mut self, key: K, value: V::Borrow) -> Result<usize, AllocError>
@@ -205,7 +220,11 @@ impl<'a, K: Eq + Hash + Drop, V: StableDeref<'a>, S: BuildHasher, A: Allocator +
     /// and value are given up, no memory is taken and nothing changes. Otherwise the value is placed in the arena and the
     /// pair goes last, by one more hash. `AllocError` comes only for an absent key and leaves the map as it was; the arena
     /// may keep a copy that nobody sees.
-    pub fn insert_full_new(&mut self, key: K, value: V) -> Result<(usize, V::Borrow, bool), AllocError>
+    pub fn insert_full_new(
+        &mut self,
+        key: K,
+        value: V,
+    ) -> Result<(usize, V::Borrow, bool), AllocError>
         ensures accepted { IfOk result (λ r. InsertedNew K.eq V.target V.shown self.old key value r.0 r.1 r.2 self.new) }
         ensures refused { OnErr result (self.new ≡ self.old) }
         ensures only_new { OnErr result (place_of K.eq self.old key ≡ None) }
@@ -213,10 +232,7 @@ impl<'a, K: Eq + Hash + Drop, V: StableDeref<'a>, S: BuildHasher, A: Allocator +
         if let Some((place, _, found)) = self.map.get_full(&key) {
             return Ok((place, *found, false));
         }
-        let borrow = match value.place(self.arena) {
-            Ok(borrow) => borrow,
-            Err(_) => return Err(AllocError),
-        };
+        let borrow = self.placed(value)?;
         let place = self.add(key, borrow)?;
         Ok((place, borrow, true))
     }
@@ -258,25 +274,22 @@ impl<'a, K: Eq + Hash + Drop, V: StableDeref<'a>, S: BuildHasher, A: Allocator +
     }
 }
 
-impl<'a, K: Eq + Hash + Drop, V: StableDeref<'a>, S: BuildHasher + Drop, A: Allocator + Copy> FrozenIndexMap<
+impl<
     'a,
-    K,
-    V,
-    S,
-    A,
-> {
+    K: Eq + Hash + Drop,
+    V: StableDeref<'a>,
+    S: BuildHasher + Drop,
+    A: Allocator + Copy,
+> FrozenIndexMap<'a, K, V, S, A> {
     // Gives a key a value, whether or not it is there.
     fn set(&mut self, key: K, value: V) -> Result<V::Borrow, AllocError>
         ensures placed { IfOk result (λ b. V.shown b ≡ V.target value) }
         ensures entries { IfOk result (λ b. self.new ≡ insert_entry K.eq self.old key b) }
         ensures values { IfOk result (λ b. (q : K) → lookup (K.eq q) self.new ≡ cond (K.eq key q) (Some b) (lookup (K.eq q) self.old)) }
     {
-        let borrow = match value.place(self.arena) {
-            Ok(borrow) => borrow,
-            Err(_) => return Err(AllocError),
-        };
-        match self.map.insert(key, borrow) {
-            Ok(_) => Ok(borrow),
+        let given = self.placed(value)?;
+        match self.map.insert(key, given) {
+            Ok(_) => Ok(given),
             Err(_) => Err(AllocError),
         }
     }
@@ -357,13 +370,13 @@ impl<'a, K: Eq + Hash, V: StableDeref<'a>, S: BuildHasher, A: Allocator + Copy> 
     }
 }
 
-impl<'a, K: Eq + Hash + Drop, V: StableDeref<'a>, S: BuildHasher + Drop, A: Allocator + Copy> FrozenIndexMap<
+impl<
     'a,
-    K,
-    V,
-    S,
-    A,
-> {
+    K: Eq + Hash + Drop,
+    V: StableDeref<'a>,
+    S: BuildHasher + Drop,
+    A: Allocator + Copy,
+> FrozenIndexMap<'a, K, V, S, A> {
     /// Begins anew with another content, as a write through `as_mut` does. It takes no memory.
     pub fn rebase(&mut self, base: IndexMap<K, V::Borrow, S, A>)
         ensures { self.new ≡ base.entries }
@@ -395,8 +408,8 @@ where
     ghost eq = { same_map K.eq V.Borrow.eq };
 
     ghost laws = { let v = V.Borrow.laws in record {
-        symm = λ a b. hash_map_eq_symm K.eq V.Borrow.eq v.symm (as_map a) (as_map b);
-        trans = λ a b c. hash_map_eq_trans K.eq V.Borrow.eq K.Eq.laws v.trans (as_map a) (as_map b) (as_map c);
+      symm = λ a b. hash_map_eq_symm K.eq V.Borrow.eq v.symm (as_map a) (as_map b);
+      trans = λ a b c. hash_map_eq_trans K.eq V.Borrow.eq K.Eq.laws v.trans (as_map a) (as_map b) (as_map c);
     } };
 
     fn eq(&self, other: &Self) -> bool
@@ -413,7 +426,7 @@ where
     <V as StableDeref<'a>>::Borrow: Eq,
 {
     ghost laws = { let v = V.Borrow.Eq.laws in Cmp.equiv (record {
-        symm = λ a b. hash_map_eq_symm K.eq V.Borrow.eq v.symm (as_map a) (as_map b);
-        trans = λ a b c. hash_map_eq_trans K.eq V.Borrow.eq K.Eq.laws (partial_equiv_from_equiv v).trans (as_map a) (as_map b) (as_map c);
+      symm = λ a b. hash_map_eq_symm K.eq V.Borrow.eq v.symm (as_map a) (as_map b);
+      trans = λ a b c. hash_map_eq_trans K.eq V.Borrow.eq K.Eq.laws (partial_equiv_from_equiv v).trans (as_map a) (as_map b) (as_map c);
     }) (λ a. hash_map_eq_refl K.eq V.Borrow.eq v.refl (as_map a)) };
 }

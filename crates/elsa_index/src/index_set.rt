@@ -82,11 +82,7 @@ where
     pub fn with_hasher(alloc: A, arena: &'a Bump, hash_builder: S) -> Self
         ensures { result ≡ [] }
     {
-        FrozenIndexSet {
-            arena,
-            set: IndexSet::with_hasher(alloc, hash_builder),
-            of: PhantomData,
-        }
+        FrozenIndexSet::from_set(arena, IndexSet::with_hasher(alloc, hash_builder))
     }
 
     /// The place of the value that equals the target of `value`, `None` exactly if there is none.
@@ -104,39 +100,30 @@ where
     pub fn get_index(&self, index: usize) -> Option<T::Borrow>
         ensures { result ≡ slice_get self.now index }
     {
-        match self.set.get_index(index) {
-            Some(value) => Some(*value),
-            None => None,
-        }
+        self.set.get_index(index).copied()
     }
 
     /// The stored value that equals the target of `value`, `None` exactly if there is none.
     ///
     /// It takes no memory. `O(1)`: one hash.
-    #[tactic(auto, using(crate::proofs::Content::found_at, crate::proofs::Content::found_nowhere))]
+    #[tactic(auto, using(crate::proofs::Content::found_at, crate::proofs::Content::found_nowhere, crate::proofs::Content::found_within))]
     pub fn get<Q: LookUp<T::Borrow>>(&self, value: &Q) -> Option<T::Borrow>
         ensures { result ≡ find (Q.finds value.now) self.now }
     {
-        match value.position(&self.set) {
-            Some(place) => self.get_index(place),
-            None => None,
-        }
+        let place = value.position(&self.set)?;
+        Some(self.set[place])
     }
 
     /// The stored value that equals the target of `value`, and its place, `None` exactly if there is none.
     ///
     /// It takes no memory. `O(1)`: one hash.
+    #[tactic(auto, using(crate::proofs::Content::found_within))]
     pub fn get_full<Q: LookUp<T::Borrow>>(&self, value: &Q) -> Option<(usize, T::Borrow)>
         ensures place { option_map (λ r. r.0) result ≡ position (Q.finds value.now) self.now }
         ensures stored { IfSome result (λ r. slice_get self.now r.0 ≡ Some r.1) }
     {
-        match value.position(&self.set) {
-            Some(place) => match self.set.get_index(place) {
-                Some(found) => Some((place, *found)),
-                None => None,
-            },
-            None => None,
-        }
+        let place = value.position(&self.set)?;
+        Some((place, self.set[place]))
     }
 
     /// A set with this content, which goes on in the given arena. It takes no memory.
@@ -156,10 +143,10 @@ where
     {
         let FrozenIndexSet {
             arena: _,
-            set,
+            set: inner,
             of: _,
         } = self;
-        set
+        inner
     }
 
     /// A set with the same content, in the same arena, under a clone of the hash builder.
@@ -228,6 +215,7 @@ where
     /// given one is given up, no memory is taken and nothing changes. Otherwise the value is placed in the arena and goes
     /// last, by one more hash. `AllocError` comes only for an absent value and leaves the set as it was; the arena may
     /// keep a copy that nobody sees.
+    #[tactic(auto, using(crate::proofs::Content::found_within))]
     pub fn insert_full_new(&mut self, value: T) -> Result<(usize, T::Borrow, bool), AllocError>
         ensures accepted { IfOk result (λ r. SetInsertedNew T.target T.shown T.finds self.old value r.0 r.1 r.2 self.new) }
         ensures refused { OnErr result (self.new ≡ self.old) }
@@ -238,10 +226,7 @@ where
         // `len` is called for its clause that the values are unequal.
         let _len = self.set.len();
         if let Some(place) = value.position(&self.set) {
-            return match self.get_index(place) {
-                Some(found) => Ok((place, found, false)),
-                None => Err(AllocError),
-            };
+            return Ok((place, self.set[place], false));
         }
         let (place, borrow) = self.insert_absent(value)?;
         Ok((place, borrow, true))

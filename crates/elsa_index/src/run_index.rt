@@ -56,13 +56,7 @@ pub enum IndexReply<B> {
 }
 
 // Makes one call.
-fn apply<
-    'a,
-    K: Eq + Hash + Drop,
-    V: StableDeref<'a>,
-    S: BuildHasher + Drop,
-    A: Allocator + Copy,
->(
+fn apply<'a, K: Eq + Hash + Drop, V: StableDeref<'a>, S: BuildHasher + Drop, A: Allocator + Copy>(
     map: &mut FrozenIndexMap<'a, K, V, S, A>,
     command: IndexCommand<K, V, IndexMap<K, V::Borrow, S, A>>,
 ) -> IndexReply<V::Borrow>
