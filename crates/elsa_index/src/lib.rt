@@ -2,6 +2,7 @@
 #![tactic(auto)]
 
 pub mod devices;
+pub mod digits;
 pub mod engine;
 #[cfg(test)]
 mod engine_tests;
