@@ -38,18 +38,6 @@ fn cut_line(piece: &[u8]) -> Option<(&[u8], &[u8])>
     Some((&piece[..at], &piece[at + 1..]))
 }
 
-/// Adds an answer line.
-fn write_answer<W: Sink>(answer: Reply<'_>, out: &mut Pending, writer: &mut W) -> Result<(), Failed>
-    ensures ok { OnOk result (Queued (W.held writer.old) out.old (W.held writer.new) out.new (shown answer.entry ++ (10 ∷ []))) }
-    ensures calm { OnOk result (W.failures writer.new ≡ W.failures writer.old) }
-    ensures err { OnErr result (AppendsSome (W.held writer.old) (W.held writer.new) (out.old ++ (shown answer.entry ++ (10 ∷ [])))) }
-    ensures failed { OnErr result (FailedOnce (W.failures writer.old) (W.failures writer.new)) }
-{
-    let mut digits = Buffer::new();
-    out.push(writer, text_of(answer, &mut digits))?;
-    out.push(writer, b"\n")
-}
-
 /// The names so far, and the line that has begun.
 #[derive(Drop)]
 struct Session<'a, A: Allocator + Copy> {
@@ -130,10 +118,11 @@ impl<'a, A: Allocator + Copy> Session<'a, A> {
         ensures err { OnErr result (FeedsSome self.old.names self.old.line.items self.old.skips piece.now (W.held writer.old) out.old (W.held writer.new)) }
         ensures failed { OnErr result (FailedOnce (W.failures writer.old) (W.failures writer.new)) }
     {
+        let mut digits = Buffer::new();
         let mut rest = piece;
         while let Some((end, later)) = cut_line(rest) {
             let answer = self.finish(end);
-            write_answer(answer, out, writer)?;
+            out.push_line(writer, text_of(answer, &mut digits))?;
             rest = later;
         }
         self.keep(rest);
@@ -170,7 +159,8 @@ impl<'a, A: Allocator + Copy> Session<'a, A> {
             return Ok(());
         }
         let answer = self.finish(&[]);
-        write_answer(answer, out, writer)?;
+        let mut digits = Buffer::new();
+        out.push_line(writer, text_of(answer, &mut digits))?;
         out.flush(writer)
     }
 }

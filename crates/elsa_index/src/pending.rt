@@ -1,5 +1,5 @@
 //! Answers that wait to be written, in an array of a fixed size: small answers become large writes, and none takes memory.
-ghost use Rattle.std.specs.Prelude.{◌≡◌, [], ◌++◌, ◌≤◌, ◌+◌, length, OnOk, OnErr};
+ghost use Rattle.std.specs.Prelude.{◌≡◌, [], ◌∷◌, ◌++◌, ◌≤◌, ◌+◌, length, OnOk, OnErr};
 ghost use Rattle.std.specs.Io.KnownBytes.{Appends};
 ghost use Rattle.elsa_index.specs.Devices.{FailedOnce, AppendsSome, Queued};
 
@@ -76,7 +76,7 @@ impl Pending {
     }
 
     /// Adds a piece; where there is no room for it, what waits is written first.
-    pub fn push<W: Sink>(&mut self, writer: &mut W, piece: &[u8]) -> Result<(), Failed>
+    fn push<W: Sink>(&mut self, writer: &mut W, piece: &[u8]) -> Result<(), Failed>
         ensures ok { OnOk result (Queued (W.held writer.old) self.old (W.held writer.new) self.new piece.now) }
         ensures calm { OnOk result (W.failures writer.new ≡ W.failures writer.old) }
         ensures err { OnErr result (AppendsSome (W.held writer.old) (W.held writer.new) (self.old ++ piece.now)) }
@@ -92,5 +92,21 @@ impl Pending {
             return Ok(());
         }
         write_all(writer, piece)
+    }
+
+    /// Adds a line: a piece, and byte 10 behind it.
+    pub fn push_line<W: Sink>(&mut self, writer: &mut W, piece: &[u8]) -> Result<(), Failed>
+        ensures ok { OnOk result (Queued (W.held writer.old) self.old (W.held writer.new) self.new (piece.now ++ (10 ∷ []))) }
+        ensures calm { OnOk result (W.failures writer.new ≡ W.failures writer.old) }
+        ensures err { OnErr result (AppendsSome (W.held writer.old) (W.held writer.new) (self.old ++ (piece.now ++ (10 ∷ [])))) }
+        ensures failed { OnErr result (FailedOnce (W.failures writer.old) (W.failures writer.new)) }
+    {
+        if piece.len() < ROOM - self.len {
+            self.add(piece);
+            self.add(b"\n");
+            return Ok(());
+        }
+        self.push(writer, piece)?;
+        self.push(writer, b"\n")
     }
 }

@@ -1,10 +1,10 @@
 //! What a line asks for.
-ghost use Rattle.std.specs.Prelude.{◌≡◌, ◌<◌, true, false, nat_eq, ℕ, IsTrue, ◌↔◌, slice_index, length, drop, MatchOption};
+ghost use Rattle.std.specs.Prelude.{◌≡◌, true, false, nat_eq, length, drop, MatchOption};
 ghost use Rattle.std.specs.List.{starts_with};
-ghost use Rattle.std.specs.Int.{IsInRange};
-ghost use Rattle.std.specs.Str.Parse.{digits_value};
-ghost use Rattle.elsa_index.specs.Lines.{command_of, command_of_text, is_number};
+ghost use Rattle.elsa_index.specs.Lines.{command_of, command_of_text};
 ghost use Rattle.elsa_index.specs.Replies.{asked};
+
+use crate::digits::number_of;
 
 /// What a line asks for.
 #[derive(Clone, Copy)]
@@ -26,23 +26,6 @@ fn after<'t>(text: &'t str, word: &str) -> Option<&'t str>
     ensures { MatchOption result (starts_with nat_eq text.now word.now ≡ false) (λ r. (starts_with nat_eq text.now word.now ≡ true) × (r.now ≡ drop (length word.now) text.now)) }
 {
     text.strip_prefix(word)
-}
-
-/// Whether each byte is a digit.
-fn all_digits(digits: &[u8]) -> bool
-    ensures { IsTrue result ↔ ((i : ℕ) → i < length digits.now → IsInRange 48 57 (slice_index digits.now i)) }
-{
-    digits.iter().all(|b| b.is_ascii_digit())
-}
-
-/// The number that digits write, with no sign.
-fn number_of(digits: &str) -> Option<u64>
-    ensures { MatchOption result (is_number digits.now ≡ false) (λ n. (is_number digits.now ≡ true) × (n ≡ digits_value 10 digits.now)) }
-{
-    if !all_digits(digits.as_bytes()) {
-        return None;
-    }
-    digits.parse().ok()
 }
 
 /// What a text asks for.

@@ -14,24 +14,24 @@ loop-end-preserved g c =
     let i = c.loop-end.invariant in
     let e = c.in-Some.end.now in
     record {
-      calm = c.in_ok-write_answer.ensures.calm ∙ i.calm;
+      calm = c.in_ok-push_line.ensures.calm ∙ i.calm;
       fed = i.fed ++ (e ++ 10 ∷ []);
       joined = piece_next i.fed c.loop-end.rest.now c.args.piece.now e c.in-Some.later.now i.joined c.in-Some.ensures.1;
       feeds = feeds_next s.names s.line.items s.skips i.fed l.names l.line.items l.skips n.names n.line.items n.skips
-          (g.W.Sink.held c.args.writer.now) (g.W.Sink.held c.loop-end.writer) (g.W.Sink.held c.write_answer.new.writer)
-          c.args.out.now c.loop-end.out c.write_answer.new.out e (shown c.finish-answer.result)
-          i.feeds c.finish-answer.ensures.finished c.finish-answer.ensures.line c.finish-answer.ensures.skips c.in-Some.ensures.0 c.in_ok-write_answer.ensures.ok;
+          (g.W.Sink.held c.args.writer.now) (g.W.Sink.held c.loop-end.writer) (g.W.Sink.held c.push_line.new.writer)
+          c.args.out.now c.loop-end.out c.push_line.new.self e (shown c.finish-answer.result)
+          i.feeds c.finish-answer.ensures.finished c.finish-answer.ensures.line c.finish-answer.ensures.skips c.in-Some.ensures.0 (rw c.text_of.ensures at c.in_ok-push_line.ensures.ok);
     }
 
-pub returns-in_err-write_answer-clause-err : goal.returns-in_err-write_answer-clause-err
-returns-in_err-write_answer-clause-err g c =
+pub returns-in_err-push_line-clause-err : goal.returns-in_err-push_line-clause-err
+returns-in_err-push_line-clause-err g c =
     let s = c.args.self.now in
     let l = c.loop-end.self in
     let i = c.loop-end.invariant in
     feeds_stop c.from_residual.result s.names s.line.items s.skips i.fed l.names l.line.items l.skips c.finish-answer.new.self.names
-    (g.W.Sink.held c.args.writer.now) (g.W.Sink.held c.loop-end.writer) (g.W.Sink.held c.write_answer.new.writer)
+    (g.W.Sink.held c.args.writer.now) (g.W.Sink.held c.loop-end.writer) (g.W.Sink.held c.push_line.new.writer)
     c.args.out.now c.loop-end.out c.in-Some.end.now (shown c.finish-answer.result) c.loop-end.rest.now c.in-Some.later.now c.args.piece.now
-    i.feeds c.finish-answer.ensures.finished c.in-Some.ensures.0 c.in_err-write_answer.ensures.err i.joined c.in-Some.ensures.1
+    i.feeds c.finish-answer.ensures.finished c.in-Some.ensures.0 (rw c.text_of.ensures at c.in_err-push_line.ensures.err) i.joined c.in-Some.ensures.1
 
 pub returns-clause-ok : goal.returns-clause-ok
 returns-clause-ok g c =

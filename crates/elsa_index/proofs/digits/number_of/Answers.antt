@@ -1,5 +1,5 @@
 use Rattle.elsa_index.proofs.Words.{not_number, number_parsed}
-use Rattle.elsa_index.proofs.request.number_of.Goals as goal
+use Rattle.elsa_index.proofs.digits.number_of.Goals as goal
 
 pub returns-then-not-all_digits : goal.returns-then-not-all_digits
 returns-then-not-all_digits c =
