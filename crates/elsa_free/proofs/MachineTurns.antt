@@ -41,12 +41,22 @@ holding w me item Done h k = absurd k
 pub plan_of : (plans : List Plan) (m : Machine) (i : ℕ) (t : Thread) → Sound plans m → slice_get m.threads i ≡ Some t → (plan : Plan) × (slice_get plans i ≡ Some plan)
 plan_of plans m i t s e = there plans i (omega (arith, s.sizes, slice_get_within m.threads i t e))
 
+held_by : (w : World) (me : ℕ) (item : Option ℕ) (phase : Phase) → HolderOk w me item phase → w.held ≡ Some me → IsHolding phase
+held_by w me item Ready h k = absurd (h k)
+held_by w me item (Peeked n) h k = absurd (h k)
+held_by w me item (Acquired n) h k = tt
+held_by w me item (Written n) h k = tt
+held_by w me item Denied h k = tt
+held_by w me item (Looked n) h k = absurd (h k)
+held_by w me item Done h k = absurd (h k)
+
 pub alone : (plans : List Plan) (schedule : List Turn) → HoldsAlone (machine_of plans schedule)
-alone plans schedule = λ i t e h.
+alone plans schedule = λ i t e.
     let m = machine_of plans schedule in
     let s = sound plans schedule in
     let p = plan_of plans m i t s e in
-    holding m.world i (next_item p.0 t.next) t.phase (s.threads i p.0 t p.1 e) h
+    let h = s.threads i p.0 t p.1 e in
+    (holding m.world i (next_item p.0 t.next) t.phase h, held_by m.world i (next_item p.0 t.next) t.phase h)
 
 pub turned_is : (plans : List Plan) (m : Machine) (turn : Turn) (plan : Plan) (t : Thread) → slice_get plans turn.thread ≡ Some plan → slice_get m.threads turn.thread ≡ Some t → turned plans m turn ≡ put turn.thread m (thread_turn plan turn.thread turn.memory m.world t)
 turned_is plans m turn plan t pe te = ap (λ p. turn_at p (slice_get m.threads turn.thread) turn m) pe ∙ ap (λ q. turn_at (Some plan) q turn m) te

@@ -1,6 +1,6 @@
 -- What holds at each moment of every schedule, and of each turn that may come next: which atomic step it is, who holds,
 -- which buffer is opened, which turns refuse, and when a read ends.
-use Rattle.std.specs.Prelude.{ℕ, suc, ◌+◌, ◌<◌, ◌≤◌, ◌≡◌, Bool, true, false, ◌&&◌, ◌==◌, if◌then◌else◌, nat_lt, List, [], ◌∷◌, ◌++◌, length, count_by, Option, Some, None, slice_get, is_none, is_some, not, MatchBool, MatchOption}
+use Rattle.std.specs.Prelude.{ℕ, suc, ◌+◌, ◌<◌, ◌≤◌, ◌≡◌, Bool, true, false, ◌&&◌, ◌==◌, if◌then◌else◌, nat_lt, List, [], ◌∷◌, ◌++◌, length, count_by, Option, Some, None, slice_get, is_none, is_some, not, MatchBool, MatchOption, ◌↔◌}
 use Rattle.elsa_free.specs.declared.machine.Answer.{Answer}
 use Rattle.elsa_free.specs.declared.machine.Answer.TheVariants.{Pushed, Refused, Read, Cloned, CloneRefused}
 use Rattle.elsa_free.specs.declared.machine.Event.TheVariants.{Look}
@@ -73,9 +73,9 @@ IsHolding Denied = Unit {0}
 IsHolding (Looked n) = ⊥
 IsHolding Done = ⊥
 
--- a thread that holds is the one that `held` tells, so at most one thread holds
+-- a thread holds exactly if `held` tells it, so at most one thread holds
 abbrev pub HoldsAlone : Machine → Type 0
-HoldsAlone m = (me : ℕ) (t : Thread) → slice_get m.threads me ≡ Some t → IsHolding t.phase → m.world.held ≡ Some me
+HoldsAlone m = (me : ℕ) (t : Thread) → slice_get m.threads me ≡ Some t → (IsHolding t.phase ↔ (m.world.held ≡ Some me))
 
 -- a thread that is to publish, or was refused
 abbrev pub IsOver : Phase → Type 0

@@ -6,7 +6,7 @@
 ghost use Rattle.std.specs.Prelude.{◌≡◌, ℕ, drop, IfOk, take};
 ghost use Rattle.elsa_free.specs.Machine.{machine_of, opening_threads, world_of};
 ghost use Rattle.elsa_free.specs.Turns.{AreCloneRefusalsEarned, AreRefusalsEarned, AreStepsAtomic, HoldsAlone, OpensTheNextBuffer, ReadsEnd, ReleasesNext};
-ghost use Rattle.elsa_free.specs.Worlds.{AreClonesRight, AreItemsFinal, ArePushesRight, AreReadsRight, AreWrittenOnce, Grows, HasFewSlots, HasRightHistory, HasWritesInOrder, IsNoPlaceTwice};
+ghost use Rattle.elsa_free.specs.Worlds.{AreClonesRight, AreEntriesAnswered, AreItemsFinal, ArePushesRight, AreReadsRight, AreWrittenOnce, Grows, HasFewSlots, HasRightHistory, HasWritesInOrder, IsNoPlaceTwice};
 
 use std::alloc::{AllocError, Global};
 
@@ -108,6 +108,7 @@ pub fn run(alloc: Global, plans: &[Plan], schedule: &[Turn]) -> Result<World, Al
 
     // What the threads are answered.
     ensures pushes { IfOk result (λ w. ArePushesRight plans.now w) }
+    ensures entries { IfOk result (λ w. AreEntriesAnswered w) }
     ensures places { IfOk result (λ w. IsNoPlaceTwice plans.now w) }
     ensures reads { IfOk result (λ w. AreReadsRight plans.now w) }
     ensures clones { IfOk result (λ w. AreClonesRight plans.now w) }
