@@ -5,7 +5,7 @@ use Rattle.elsa_free.proofs.MachineAnswered.{entries_answered}
 use Rattle.elsa_free.proofs.MachinePlaces.{no_place_twice}
 use Rattle.elsa_free.proofs.MachineRefusals.{clone_refusals_earned, refusals_earned}
 use Rattle.elsa_free.proofs.MachineRuns.{clones_right, few_slots, grows, history, items_final, pushes_right, reads_right, writes_in_order, written_once}
-use Rattle.elsa_free.proofs.MachineTurns.{alone, opens_next, reads_end, releases_next, steps_atomic}
+use Rattle.elsa_free.proofs.MachineTurns.{alone, find_buffers, opens_one, reads_end, releases_next, steps_atomic}
 use Rattle.elsa_free.proofs.machine.run.Goals as goal
 
 pub returns-clause-history : goal.returns-clause-history
@@ -50,8 +50,11 @@ returns-clause-clone_refusals c = λ k. clone_refusals_earned c.args.plans.now (
 pub returns-clause-steps : goal.returns-clause-steps
 returns-clause-steps c = λ k. steps_atomic c.args.plans.now (take k c.args.schedule.now)
 
+pub returns-clause-buffers : goal.returns-clause-buffers
+returns-clause-buffers c = λ k. find_buffers c.args.plans.now (take k c.args.schedule.now)
+
 pub returns-clause-opens : goal.returns-clause-opens
-returns-clause-opens c = λ k. opens_next c.args.plans.now (take k c.args.schedule.now)
+returns-clause-opens c = λ k. opens_one c.args.plans.now (take k c.args.schedule.now)
 
 pub returns-clause-alone : goal.returns-clause-alone
 returns-clause-alone c = λ k. alone c.args.plans.now (take k c.args.schedule.now)
