@@ -290,7 +290,7 @@ get_within (x ∷ xs) zero z h = omega arith
 get_within (x ∷ xs) (suc k) z h = let ih = get_within xs k z h in omega (arith, ih)
 
 -- an entry of a list with one more is an old one or that one
-get_push : {A : Type 0} (xs : List A) (y : A) (k : ℕ) (z : A) → slice_get (xs ++ y ∷ []) k ≡ Some z → (slice_get xs k ≡ Some z) ⊎ ((k ≡ length xs) × (y ≡ z))
+pub get_push : {A : Type 0} (xs : List A) (y : A) (k : ℕ) (z : A) → slice_get (xs ++ y ∷ []) k ≡ Some z → (slice_get xs k ≡ Some z) ⊎ ((k ≡ length xs) × (y ≡ z))
 get_push [] y zero z h = inr (refl, cc)
 get_push [] y (suc k) z h = cc
 get_push (x ∷ xs) y zero z h = inl h

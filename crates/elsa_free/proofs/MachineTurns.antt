@@ -1,5 +1,5 @@
 -- What holds at each turn.
-use Rattle.std.proofs.Common.{ℕ, suc, ◌+◌, ◌<◌, ◌≤◌, ◌≡◌, ◌⊎◌, Bool, List, [], ◌∷◌, ◌++◌, length, Option, Some, None, slice_get, slice_set, refl, arith, inl, inr, ap, sym, ◌∙◌, subst, ◌==◌}
+use Rattle.std.proofs.Common.{ℕ, suc, ◌+◌, ◌<◌, ◌≤◌, ◌≡◌, ◌⊎◌, Bool, List, [], ◌∷◌, ◌++◌, length, Option, Some, None, slice_get, slice_set, refl, arith, inl, inr, ap, sym, ◌∙◌, subst, ◌==◌, true, false}
 use Rattle.std.specs.Bool.{if◌then◌else◌}
 use Rattle.std.specs.List.{fold}
 use Rattle.std.proofs.lemmas.List.Sums.{fold-append}
@@ -17,11 +17,12 @@ use Rattle.elsa_free.specs.declared.machine.Answer.TheVariants.{Read, Cloned, Cl
 use Rattle.elsa_free.specs.declared.machine.Event.TheVariants.{Look}
 use Rattle.elsa_free.specs.Machine.{with_answer, with_event, Moved, moved, Machine, machine_of, turned, turn_at, thread_turn, pusher_turn, reader_turn, put, opening}
 use Rattle.std.proofs.Common.{◌&&◌, lt_of_not-le}
+use Rattle.std.proofs.lemmas.Bool.{ltb-false}
 use Rattle.elsa_free.specs.AtomicSteps.{Acquires, Looks, Stays}
 use Rattle.elsa_free.specs.Geometry.{IsAt, slots_before}
 use Rattle.elsa_free.specs.Machine.{cloner_turn}
 use Rattle.elsa_free.specs.Worlds.{answers_of}
-use Rattle.elsa_free.specs.Turns.{AreStepsAtomic, FindsItsBuffer, IsStepOf, LookerStep, OpensTheNextBuffer, PusherStep, shared_of, TellsALook, IsHolding, HoldsAlone, IsOver, ReleasesNext, turns_of, ReadsEnd}
+use Rattle.elsa_free.specs.Turns.{AreStepsAtomic, FindsItsBuffer, IsStepOf, LookerStep, FindBuffers, OpensAtMostItsBuffer, OpensItsBuffer, PusherStep, shared_of, TellsALook, IsHolding, HoldsAlone, IsOver, ReleasesNext, turns_of, ReadsEnd}
 use Rattle.elsa_free.proofs.MachineRows.{row, by_test, Row, stays, peeks, acquires, loses, writes, opens, denies, publishes, refuses, looks, misses, reads, clones_none, clone_looks, copies, clones, clone_fails}
 use Rattle.std.specs.Prelude.{is_none, is_some, MatchBool, MatchOption}
 use Rattle.elsa_free.proofs.Powers.{before_power, four_mono, four_pos}
@@ -41,12 +42,22 @@ holding w me item Done h k = absurd k
 pub plan_of : (plans : List Plan) (m : Machine) (i : ℕ) (t : Thread) → Sound plans m → slice_get m.threads i ≡ Some t → (plan : Plan) × (slice_get plans i ≡ Some plan)
 plan_of plans m i t s e = there plans i (omega (arith, s.sizes, slice_get_within m.threads i t e))
 
+held_by : (w : World) (me : ℕ) (item : Option ℕ) (phase : Phase) → HolderOk w me item phase → w.held ≡ Some me → IsHolding phase
+held_by w me item Ready h k = absurd (h k)
+held_by w me item (Peeked n) h k = absurd (h k)
+held_by w me item (Acquired n) h k = tt
+held_by w me item (Written n) h k = tt
+held_by w me item Denied h k = tt
+held_by w me item (Looked n) h k = absurd (h k)
+held_by w me item Done h k = absurd (h k)
+
 pub alone : (plans : List Plan) (schedule : List Turn) → HoldsAlone (machine_of plans schedule)
-alone plans schedule = λ i t e h.
+alone plans schedule = λ i t e.
     let m = machine_of plans schedule in
     let s = sound plans schedule in
     let p = plan_of plans m i t s e in
-    holding m.world i (next_item p.0 t.next) t.phase (s.threads i p.0 t p.1 e) h
+    let h = s.threads i p.0 t p.1 e in
+    (holding m.world i (next_item p.0 t.next) t.phase h, held_by m.world i (next_item p.0 t.next) t.phase h)
 
 pub turned_is : (plans : List Plan) (m : Machine) (turn : Turn) (plan : Plan) (t : Thread) → slice_get plans turn.thread ≡ Some plan → slice_get m.threads turn.thread ≡ Some t → turned plans m turn ≡ put turn.thread m (thread_turn plan turn.thread turn.memory m.world t)
 turned_is plans m turn plan t pe te = ap (λ p. turn_at p (slice_get m.threads turn.thread) turn m) pe ∙ ap (λ q. turn_at (Some plan) q turn m) te
@@ -292,9 +303,42 @@ finds w me n item phase e ok h =
       is_next = λ le. record { begins = omega (arith, p, l, le, k.2, ok.room); within = (let z = four_pos w.opened in omega arith) };
     }
 
-pub opens_next : (plans : List Plan) (schedule : List Turn) → OpensTheNextBuffer (machine_of plans schedule)
-opens_next plans schedule = λ me n t te e.
+pub find_buffers : (plans : List Plan) (schedule : List Turn) → FindBuffers (machine_of plans schedule)
+find_buffers plans schedule = λ me n t te e.
     let m = machine_of plans schedule in
     let s = sound plans schedule in
     let p = plan_of plans m me t s te in
     finds m.world me n (next_item p.0 t.next) t.phase e s.world (s.threads me p.0 t p.1 te)
+
+granted : (memory c : Bool) → (memory && c) ≡ true → memory ≡ true
+granted true c e = refl
+granted false c e = cc
+
+-- which turns open a buffer
+opens_row : (m : Machine) (turn : Turn) (t : Thread) (plan : Plan) (after : Moved) → slice_get m.threads turn.thread ≡ Some t → WorldOk m.world → HolderOk m.world turn.thread (next_item plan t.next) t.phase → Row turn.thread turn.memory m.world t plan after →
+    (after.world.opened ≡ m.world.opened) ⊎ OpensItsBuffer m turn after.world
+opens_row m turn t plan _ te ok h stays = inl refl
+opens_row m turn t plan _ te ok h (peeks p e f) = inl refl
+opens_row m turn t plan _ te ok h (acquires p e b) = inl refl
+opens_row m turn t plan _ te ok h (loses p e b) = inl refl
+opens_row m turn t plan _ te ok h (writes p e b) = inl refl
+opens_row m turn t plan _ te ok h (opens {items} {x} {n} p e b c) =
+    inr (record { thread = t; place = n; next = te; writes = p; lies = (finds m.world turn.thread n (next_item plan t.next) t.phase p ok h).is_next (ltb-false _ _ b); granted = granted turn.memory _ c; one_more = refl })
+opens_row m turn t plan _ te ok h (denies p e b c) = inl refl
+opens_row m turn t plan _ te ok h (publishes p e) = inl refl
+opens_row m turn t plan _ te ok h (refuses p e) = inl refl
+opens_row m turn t plan _ te ok h (looks p e b) = inl refl
+opens_row m turn t plan _ te ok h (misses p e b) = inl refl
+opens_row m turn t plan _ te ok h (reads p e) = inl refl
+opens_row m turn t plan _ te ok h (clones_none p b) = inl refl
+opens_row m turn t plan _ te ok h (clone_looks p b) = inl refl
+opens_row m turn t plan _ te ok h (copies p k b) = inl refl
+opens_row m turn t plan _ te ok h (clones p k b) = inl refl
+opens_row m turn t plan _ te ok h (clone_fails p k) = inl refl
+
+pub opens_one : (plans : List Plan) (schedule : List Turn) → OpensAtMostItsBuffer plans (machine_of plans schedule)
+opens_one plans schedule = λ turn.
+    let m = machine_of plans schedule in
+    let s = sound plans schedule in
+    turned_cases (λ n. (n.world.opened ≡ m.world.opened) ⊎ OpensItsBuffer m turn n.world) plans m turn (inl refl)
+    (λ plan t e f. opens_row m turn t plan _ f s.world (s.threads turn.thread plan t e f) (row plan turn.thread turn.memory m.world t))

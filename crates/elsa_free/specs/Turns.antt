@@ -1,6 +1,6 @@
 -- What holds at each moment of every schedule, and of each turn that may come next: which atomic step it is, who holds,
 -- which buffer is opened, which turns refuse, and when a read ends.
-use Rattle.std.specs.Prelude.{ℕ, suc, ◌+◌, ◌<◌, ◌≤◌, ◌≡◌, Bool, true, false, ◌&&◌, ◌==◌, if◌then◌else◌, nat_lt, List, [], ◌∷◌, ◌++◌, length, count_by, Option, Some, None, slice_get, is_none, is_some, not, MatchBool, MatchOption}
+use Rattle.std.specs.Prelude.{ℕ, suc, ◌+◌, ◌<◌, ◌≤◌, ◌≡◌, Bool, true, false, ◌&&◌, ◌==◌, if◌then◌else◌, nat_lt, List, [], ◌∷◌, ◌++◌, length, count_by, Option, Some, None, slice_get, is_none, is_some, not, MatchBool, MatchOption, ◌↔◌, ◌⊎◌}
 use Rattle.elsa_free.specs.declared.machine.Answer.{Answer}
 use Rattle.elsa_free.specs.declared.machine.Answer.TheVariants.{Pushed, Refused, Read, Cloned, CloneRefused}
 use Rattle.elsa_free.specs.declared.machine.Event.TheVariants.{Look}
@@ -61,8 +61,22 @@ pub record FindsItsBuffer (w : World) (place : ℕ) : Type 0 where
   pub is_next : slots_before w.opened ≤ place → IsAt place w.opened 0
 
 -- a thread that is to write a place finds that place's buffer open, or next to be opened
-abbrev pub OpensTheNextBuffer : Machine → Type 0
-OpensTheNextBuffer m = (me n : ℕ) (t : Thread) → slice_get m.threads me ≡ Some t → t.phase ≡ Acquired n → FindsItsBuffer m.world n
+abbrev pub FindBuffers : Machine → Type 0
+FindBuffers m = (me n : ℕ) (t : Thread) → slice_get m.threads me ≡ Some t → t.phase ≡ Acquired n → FindsItsBuffer m.world n
+
+-- a turn opens one buffer: its thread is to write the first place of that buffer, and it has memory
+pub record OpensItsBuffer (m : Machine) (turn : Turn) (after : World) : Type 0 where
+  pub thread : Thread
+  pub place : ℕ
+  pub next : slice_get m.threads turn.thread ≡ Some thread
+  pub writes : thread.phase ≡ Acquired place
+  pub lies : IsAt place m.world.opened 0
+  pub granted : turn.memory ≡ true
+  pub one_more : after.opened ≡ m.world.opened + 1
+
+-- each turn that may come next opens no buffer, or that of its place
+abbrev pub OpensAtMostItsBuffer : List Plan → Machine → Type 0
+OpensAtMostItsBuffer plans m = (turn : Turn) → ((turned plans m turn).world.opened ≡ m.world.opened) ⊎ OpensItsBuffer m turn (turned plans m turn).world
 
 abbrev pub IsHolding : Phase → Type 0
 IsHolding Ready = ⊥
@@ -73,9 +87,9 @@ IsHolding Denied = Unit {0}
 IsHolding (Looked n) = ⊥
 IsHolding Done = ⊥
 
--- a thread that holds is the one that `held` tells, so at most one thread holds
+-- a thread holds exactly if `held` tells it, so at most one thread holds
 abbrev pub HoldsAlone : Machine → Type 0
-HoldsAlone m = (me : ℕ) (t : Thread) → slice_get m.threads me ≡ Some t → IsHolding t.phase → m.world.held ≡ Some me
+HoldsAlone m = (me : ℕ) (t : Thread) → slice_get m.threads me ≡ Some t → (IsHolding t.phase ↔ (m.world.held ≡ Some me))
 
 -- a thread that is to publish, or was refused
 abbrev pub IsOver : Phase → Type 0

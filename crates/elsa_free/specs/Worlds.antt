@@ -1,7 +1,7 @@
 -- What holds of the world of every schedule: its history is that of one list that only grows, the slots hold that list,
 -- and each thread was answered from it. Every promise here speaks of the list of the events alone; no state of a thread,
 -- no turn and no lock stands in it.
-use Rattle.std.specs.Prelude.{ℕ, suc, ◌+◌, ◌-◌, ◌*◌, ◌^◌, ◌<◌, ◌≤◌, ◌≡◌, List, [], ◌∷◌, ◌++◌, length, Option, Some, None, slice_get, ◌==◌, if◌then◌else◌, take, map}
+use Rattle.std.specs.Prelude.{ℕ, suc, ◌+◌, ◌-◌, ◌*◌, ◌^◌, ◌<◌, ◌≤◌, ◌≡◌, List, [], ◌∷◌, ◌++◌, length, Option, Some, None, slice_get, ◌==◌, if◌then◌else◌, take, map, Contains}
 use Rattle.elsa_free.specs.declared.machine.Answer.{Answer}
 use Rattle.elsa_free.specs.declared.machine.Answer.TheVariants.{Pushed, Refused, Read, Cloned, CloneRefused}
 use Rattle.elsa_free.specs.declared.machine.Event.{Event}
@@ -98,6 +98,10 @@ AreOutcomes list thread least items (answer ∷ answers) = ⊥
 abbrev pub ArePushesRight : List Plan → World → Type 0
 ArePushesRight plans w = (thread : ℕ) (items : List ℕ) → slice_get plans thread ≡ Some (Pusher items) →
     AreOutcomes (list_of w.events) thread 0 items (answers_of thread w.answers)
+
+-- each entry of the list was answered to its author, at its place
+abbrev pub AreEntriesAnswered : World → Type 0
+AreEntriesAnswered w = (place : ℕ) (entry : ℕ × ℕ) → slice_get (list_of w.events) place ≡ Some entry → Contains w.answers (Pushed entry.0 place)
 
 -- no place is answered twice: two pushes that were told one place are one push
 abbrev pub IsNoPlaceTwice : List Plan → World → Type 0

@@ -1,10 +1,11 @@
 use Rattle.std.proofs.Common.{drop, subst, sym, take}
 use Rattle.elsa_free.specs.Machine.{world_of}
-use Rattle.elsa_free.specs.Worlds.{AreClonesRight, AreItemsFinal, ArePushesRight, AreReadsRight, AreWrittenOnce, Grows, HasFewSlots, HasRightHistory, HasWritesInOrder, IsNoPlaceTwice}
+use Rattle.elsa_free.specs.Worlds.{AreClonesRight, AreEntriesAnswered, AreItemsFinal, ArePushesRight, AreReadsRight, AreWrittenOnce, Grows, HasFewSlots, HasRightHistory, HasWritesInOrder, IsNoPlaceTwice}
+use Rattle.elsa_free.proofs.MachineAnswered.{entries_answered}
 use Rattle.elsa_free.proofs.MachinePlaces.{no_place_twice}
 use Rattle.elsa_free.proofs.MachineRefusals.{clone_refusals_earned, refusals_earned}
 use Rattle.elsa_free.proofs.MachineRuns.{clones_right, few_slots, grows, history, items_final, pushes_right, reads_right, writes_in_order, written_once}
-use Rattle.elsa_free.proofs.MachineTurns.{alone, opens_next, reads_end, releases_next, steps_atomic}
+use Rattle.elsa_free.proofs.MachineTurns.{alone, find_buffers, opens_one, reads_end, releases_next, steps_atomic}
 use Rattle.elsa_free.proofs.machine.run.Goals as goal
 
 pub returns-clause-history : goal.returns-clause-history
@@ -24,6 +25,9 @@ returns-clause-few_slots c = subst HasFewSlots (sym c.in_ok-world.ensures) (few_
 
 pub returns-clause-pushes : goal.returns-clause-pushes
 returns-clause-pushes c = subst (ArePushesRight c.args.plans.now) (sym c.in_ok-world.ensures) (pushes_right c.args.plans.now c.args.schedule.now)
+
+pub returns-clause-entries : goal.returns-clause-entries
+returns-clause-entries c = subst AreEntriesAnswered (sym c.in_ok-world.ensures) (entries_answered c.args.plans.now c.args.schedule.now)
 
 pub returns-clause-places : goal.returns-clause-places
 returns-clause-places c = subst (IsNoPlaceTwice c.args.plans.now) (sym c.in_ok-world.ensures) (no_place_twice c.args.plans.now c.args.schedule.now)
@@ -46,8 +50,11 @@ returns-clause-clone_refusals c = λ k. clone_refusals_earned c.args.plans.now (
 pub returns-clause-steps : goal.returns-clause-steps
 returns-clause-steps c = λ k. steps_atomic c.args.plans.now (take k c.args.schedule.now)
 
+pub returns-clause-buffers : goal.returns-clause-buffers
+returns-clause-buffers c = λ k. find_buffers c.args.plans.now (take k c.args.schedule.now)
+
 pub returns-clause-opens : goal.returns-clause-opens
-returns-clause-opens c = λ k. opens_next c.args.plans.now (take k c.args.schedule.now)
+returns-clause-opens c = λ k. opens_one c.args.plans.now (take k c.args.schedule.now)
 
 pub returns-clause-alone : goal.returns-clause-alone
 returns-clause-alone c = λ k. alone c.args.plans.now (take k c.args.schedule.now)
