@@ -1,6 +1,7 @@
 //! Collections that only grow and number their entries by first insertion, and what is built on them.
 #![tactic(auto)]
 
+pub mod cache;
 pub mod devices;
 pub mod digits;
 pub mod engine;
@@ -21,4 +22,5 @@ mod reply;
 mod request;
 pub mod run;
 pub mod run_index;
+pub mod run_map;
 pub mod run_set;
