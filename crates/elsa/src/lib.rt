@@ -3,18 +3,13 @@
 //! The paths are those of Rust's elsa: the collections at the root, each module under its name.
 #![tactic(auto)]
 
-pub use elsa_index::index_set;
-pub use elsa_index::interner;
-pub use elsa_index::look_up;
-pub use elsa_once::map;
-pub use elsa_once::stable;
-pub use elsa_once::vec;
-
 pub use elsa_index::index_set::FrozenIndexSet;
 pub use elsa_index::look_up::LookUp;
+pub use elsa_index::{index_set, interner, look_up};
 pub use elsa_once::map::FrozenMap;
 pub use elsa_once::stable::{Own, StableDeref};
 pub use elsa_once::vec::FrozenVec;
+pub use elsa_once::{map, stable, vec};
 
 pub mod command;
 mod words;
