@@ -1,17 +1,19 @@
 //! Append-only collections whose borrows last as long as the arena that the caller lends, and the program `elsa`.
 //!
-//! The paths are those of Rust's elsa: the collections at the root, each module under its name.
+//! The paths are those of Rust's elsa: the collections at the root, each module under its name, and what threads share in [`sync`].
 #![tactic(auto)]
 
+pub use elsa_index::index_map::FrozenIndexMap;
 pub use elsa_index::index_set::FrozenIndexSet;
 pub use elsa_index::look_up::LookUp;
-pub use elsa_index::{index_set, interner, look_up};
-pub use elsa_once::map::FrozenMap;
+pub use elsa_index::{cache, index_map, index_set, interner, look_up, run};
+pub use elsa_once::map::{FrozenBTreeMap, FrozenMap, MapForm};
 pub use elsa_once::stable::{Own, StableDeref};
 pub use elsa_once::vec::FrozenVec;
 pub use elsa_once::{map, stable, vec};
 
 pub mod command;
+pub mod sync;
 mod words;
 
 pub use words::Job;
