@@ -1,5 +1,5 @@
 -- An author's tickets: each entry in the rule has one of its author, so who has the others knows how many entries are its own. Assumes `Logic`.
-use Rattle.std.proofs.Common.{◌≡◌, ℕ, zero, suc, ◌+◌, ◌<◌, ◌≤◌, ◌==◌, Bool, true, false, List, [], ◌∷◌, ◌++◌, refl, ap, sym, ◌∙◌, subst, arith, append_assoc}
+use Rattle.std.proofs.Common.{◌≡◌, ◌≢◌, ℕ, zero, suc, ◌+◌, ◌<◌, ◌≤◌, ◌==◌, Bool, true, false, List, [], ◌∷◌, ◌++◌, refl, ap, sym, ◌∙◌, subst, arith, append_assoc}
 use Rattle.std.proofs.lemmas.List.{append-nil}
 use Rattle.std.proofs.lemmas.Bool.Decides.{nat_tests}
 use native.Mathlib.Decide.{ℕ_discrete, dec_lt}
@@ -8,7 +8,7 @@ use base.Logic.{SProp, ent, sep, wand, guard, emp}
 use base.Fml.{Fml, ftrue, fsep, fex}
 use types.Logic.{Logic, sem}
 use types.Keyed.{ticket, tickets_from, ticket_issued, entries_take, token}
-use types.Kit.{‵, ◌⊛◌, given, ◌$◌, ◌∵◌, !, qed, by, move, keep, drop, split, fsplit, fjoin, fpick, fpack, learn, check, done, use0, use1, use2, rewrite}
+use types.Kit.{‵, raw, ◌⊛◌, given, ◌$◌, ◌∵◌, !, qed, by, move, keep, drop, split, fsplit, fjoin, fpick, fpack, learn, check, done, use0, use1, use2, rewrite}
 use denote.Steps.{nothing}
 use Rattle.elsa_free.specs.declared.event.Entry.{Entry}
 use Rattle.elsa_free.specs.SharedList.{bit, copied, count, entry}
@@ -93,4 +93,11 @@ module _ {M : Type 1} {𝓤 : Ura M} (𝓛 : Logic 𝓤) where
           use2 𝓛 (given (n < k) (‵ (ticket a n) ⊛ ‵ (tickets_from a k))) (ticket_issued 𝓛 a k n) $ learn ! (λ lt. absurd (omega (arith, more, lt)))
       | no le ↦ qed 𝓛 (‵ (tickets_from a n) ∷ ‵ (tickets_from a k) ∷ []) ∵ move ! (1 ∷ []) $ use1 𝓛 (‵ (ticket a k) ⊛ ‵ (tickets_from a (suc k))) (entries_take token 𝓛 a k (λ _. tt)) $ split ! $ move ! (0 ∷ 2 ∷ []) $
           use2 𝓛 (given (k < n) (‵ (ticket a k) ⊛ ‵ (tickets_from a n))) (ticket_issued 𝓛 a n k) $ learn ! (λ lt. absurd (omega (arith, le, lt)))
+    ]
+
+  pub two_names : (a b n k : ℕ) → ⟦ tickets_from a n ⟧ ∗ ⟦ tickets_from b k ⟧ ⊢ guard 𝓤 (a ≢ b) (⟦ tickets_from a n ⟧ ∗ ⟦ tickets_from b k ⟧)
+  two_names a b n k = elim (ℕ_discrete a b) as (λ _. ⟦ tickets_from a n ⟧ ∗ ⟦ tickets_from b k ⟧ ⊢ guard 𝓤 (a ≢ b) (⟦ tickets_from a n ⟧ ∗ ⟦ tickets_from b k ⟧)) [
+      | no other ↦ qed 𝓛 (‵ (tickets_from a n) ∷ ‵ (tickets_from b k) ∷ []) ∵ check ! other $ done !
+      | yes same ↦ qed 𝓛 (‵ (tickets_from a n) ∷ ‵ (tickets_from b k) ∷ []) ∵ rewrite ! 1 (λ (c : ℕ). ‵ (tickets_from c k)) (sym same) refl $
+          use2 𝓛 (given ⊥ (raw (emp 𝓤))) (two_authors a n k) $ learn ! (λ none. absurd none)
     ]

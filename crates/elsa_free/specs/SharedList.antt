@@ -1,6 +1,7 @@
 -- The list that all threads of a vector share: entries of an author and an item, which only grows at its end.
 -- A pass has seen a beginning of it. There is no buffer, no lock, no pointer and no word of memory in it.
-use Rattle.std.specs.Prelude.{ℕ, suc, ◌≡◌, ◌+◌, ◌<◌, ◌≤◌, ◌==◌, Bool, true, false, List, [], ◌∷◌, ◌++◌, length, map, if◌then◌else◌}
+use Rattle.std.specs.Prelude.{ℕ, suc, ◌≡◌, ◌+◌, ◌<◌, ◌≤◌, ◌==◌, Bool, true, false, List, [], ◌∷◌, ◌++◌, length, map, if◌then◌else◌, Contains, nat_le}
+use mathlib.Core.List.{IsPrefix}
 use Rattle.logbook.specs.Pages.{Book}
 use Rattle.elsa_free.specs.Geometry.{slots_before}
 use Rattle.elsa_free.specs.declared.event.Entry.{Entry}
@@ -39,9 +40,9 @@ module _ {T : Type 0} where
   count author [] = 0
   count author (e ∷ es) = bit (e.author == author) + count author es
 
-  -- the list has this many entries and then the one given, its last
-  abbrev pub EndsAt : List (Entry T) → ℕ → Entry T → Type 0
-  EndsAt es place e = (before : List (Entry T)) × (length before ≡ place) × (es ≡ before ++ e ∷ [])
+  -- the list was longer by some entries or none, and then the one given was put at this place, its end
+  abbrev pub Appends : List (Entry T) → List (Entry T) → ℕ → Entry T → Type 0
+  Appends old new place e = (before : List (Entry T)) × IsPrefix old before × (length before ≡ place) × (new ≡ before ++ e ∷ [])
 
 -- what a pass is: the vector, the number of the author that it pushes as, and the beginning of the list that it has seen
 pub record View (T : Type 0) : Type 0 where
@@ -57,6 +58,14 @@ module _ {T : Type 0} where
   -- the same pass, later
   abbrev pub IsSamePass : View T → View T → Type 0
   IsSamePass before after = (after.vector ≡ before.vector) × (after.author ≡ before.author)
+
+  -- the longer of two lists, the first where they are as long
+  abbrev pub longer : List (Entry T) → List (Entry T) → List (Entry T)
+  longer xs ys = if nat_le (length ys) (length xs) then xs else ys
+
+-- the lists have no number in common
+abbrev pub Apart : List ℕ → List ℕ → Type 0
+Apart xs ys = (n : ℕ) → Contains xs n → Contains ys n → ⊥
 
 -- at this length the list goes on in a new buffer, or can't go on
 abbrev pub BeginsABuffer : ℕ → Type 0

@@ -5,7 +5,7 @@
 ghost use Rattle.std.specs.Prelude.{◌≡◌, ◌+◌, ◌*◌, ◌-◌, ◌^◌, ◌<◌, ◌≤◌, ◌%◌, [], ◌∷◌, ◌++◌, length, true, None, Some, IfSome, IfOk, IfErr, List, ℕ, suc, drop, slice_index_or};
 ghost use mathlib.Core.List.{IsPrefix};
 ghost use Rattle.elsa_free.specs.Geometry.{IsAt};
-ghost use Rattle.elsa_free.specs.SharedList.{BeginsABuffer, EndsAt, count, entry};
+ghost use Rattle.elsa_free.specs.SharedList.{Appends, BeginsABuffer, count, entry};
 ghost use Rattle.elsa_free.specs.declared.event.Event.TheVariants.{Took, Put, Gave, Seat};
 ghost use Rattle.elsa_free.specs.History.{list_of, is_held, kinds};
 ghost use Rattle.elsa_free.specs.Rights.{head, tops_of};
@@ -218,7 +218,8 @@ impl<T: Copy + Drop, A: Allocator + Copy> Shared<T, A> {
         (seen, published(offer.into_gain()))
     }
 
-    /// A push, tried first where the length is `guess`: the place of the item, or that its buffer was refused.
+    /// A push, tried first where the length is `guess`: the length after it, and the place of the item or that its buffer was
+    /// refused.
     pub fn push<R: Wait>(
         &self,
         rt: &R,
@@ -226,29 +227,30 @@ impl<T: Copy + Drop, A: Allocator + Copy> Shared<T, A> {
         author: Author,
         guess: usize,
         item: T,
-    ) -> (Known<T, A>, Author, Result<usize, AllocError>)
+    ) -> (Known<T, A>, Author, usize, Result<usize, AllocError>)
         requires of { (seen.book ≡ self.now.first.book) × (seen.names ≡ self.now.first.names) }
         requires mine { count (suc author.name) (list_of seen.log) ≡ author.used }
         requires guess { guess < 2 ^ 62 }
         ensures same { (result.0.book ≡ seen.book) × (result.0.names ≡ seen.names) × (result.1.name ≡ author.name) }
         ensures seen { IsPrefix (list_of seen.log) (list_of result.0.log) }
         ensures mine { count (suc author.name) (list_of result.0.log) ≡ result.1.used }
-        ensures pushed { IfOk result.2 (λ i. (i + 1 < 2 ^ 62) × (result.1.used ≡ suc author.used) × EndsAt (list_of result.0.log) i (entry (suc author.name) item)) }
-        ensures refused { IfErr result.2 (λ e. (result.1.used ≡ author.used) × BeginsABuffer (length (list_of result.0.log))) }
+        ensures length { (result.2 ≡ length (list_of result.0.log)) × (result.2 < 2 ^ 62) }
+        ensures pushed { IfOk result.3 (λ i. (result.1.used ≡ suc author.used) × Appends (list_of seen.log) (list_of result.0.log) i (entry (suc author.name) item)) }
+        ensures refused { IfErr result.3 (λ e. (result.1.used ≡ author.used) × BeginsABuffer (length (list_of result.0.log))) }
     {
         let mut seen = seen;
         let (n, right) = self.acquire(rt, &mut seen, guess);
         if n == LIMIT {
             let (held, tops) = taken_closed(right, 31);
             let (seen, author) = self.release(seen, held, tops, author, n, 31);
-            return (seen, author, Err(AllocError));
+            return (seen, author, n, Err(AllocError));
         }
         let (buffer, slot) = locate(n);
         if slot != 0 {
             let (held, row, slots, tops) = taken_open(right, buffer, slot);
             let (seen, author) = self
                 .publish(seen, held, row, slots, tops, author, n, buffer, slot, item);
-            return (seen, author, Ok(n));
+            return (seen, author, n + 1, Ok(n));
         }
         let (held, mut tops) = taken_closed(right, buffer);
         match self.slots.row(buffer_size(buffer)) {
@@ -257,11 +259,11 @@ impl<T: Copy + Drop, A: Allocator + Copy> Shared<T, A> {
                 let row = self.slots.fill(buffer, row, top);
                 let (seen, author) = self
                     .publish(seen, held, row, slots, tops, author, n, buffer, slot, item);
-                (seen, author, Ok(n))
+                (seen, author, n + 1, Ok(n))
             }
             Err(_) => {
                 let (seen, author) = self.release(seen, held, tops, author, n, buffer);
-                (seen, author, Err(AllocError))
+                (seen, author, n, Err(AllocError))
             }
         }
     }

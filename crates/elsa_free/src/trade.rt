@@ -1,7 +1,7 @@
 //! What a holder and a pass have, and the offers that trade it with the rule. None of these has bytes.
 //!
 //! Each function here is proved by hand: it takes tokens apart and puts others together, and does nothing when it runs.
-ghost use Rattle.std.specs.Prelude.{◌≡◌, ◌+◌, ◌*◌, ◌^◌, ◌<◌, ◌≤◌, ◌∷◌, ◌++◌, ℕ, suc, List, [], length, drop, slice_get, slice_index_or, None, Some};
+ghost use Rattle.std.specs.Prelude.{◌≡◌, ◌≢◌, ◌+◌, ◌*◌, ◌^◌, ◌<◌, ◌≤◌, ◌∷◌, ◌++◌, ℕ, suc, List, [], length, drop, slice_get, slice_index_or, None, Some};
 ghost use base.Stored.{coded_list, coded_ℕ};
 ghost use base.Share.{three_quarters};
 ghost use base.Growing.{latest};
@@ -9,8 +9,8 @@ ghost use Rattle.elsa_free.specs.Geometry.{IsAt};
 ghost use Rattle.elsa_free.specs.declared.event.Event.TheVariants.{Took, Put, Gave, Seat};
 ghost use Rattle.elsa_free.specs.declared.event.Entry.{Entry};
 ghost use Rattle.elsa_free.specs.History.{list_of, kinds, author_of, used_of, others};
-ghost use Rattle.elsa_free.specs.SharedList.{entry, items_of};
-ghost use Rattle.elsa_free.specs.Rights.{logs, head, tops_of, author, OnlyPushed};
+ghost use Rattle.elsa_free.specs.SharedList.{count, entry, items_of};
+ghost use Rattle.elsa_free.specs.Rights.{logs, head, tops_of, author, all_told, OnlyPushed};
 
 use crate::event::Event;
 use crate::rule::{Gives, Log, Looks, OneWord, Puts, Shelf, Takes};
@@ -203,35 +203,83 @@ pub fn looking<T, B: Shelf>(
     }
 }
 
-/// Who looked has its name, and no entries beyond those it knew.
-pub fn looked<T, B: Shelf>(gained: Gained<Event<T>, Log<T>, Looks<B>>) -> Author
-    ensures { (result.name ≡ author_of gained.about) × (result.used ≡ used_of gained.about) × (OnlyPushed gained.about gained.answer) }
-{
-    let Gained { marker: _ } = gained;
-    Author {
-        marker: PhantomData,
-    }
+/// Evidence, for good, that the places below the length of `items` were written with these. It has no bytes.
+pub struct Filled<T, B: Shelf> {
+    pub(crate) marker: PhantomData<(T, B)>,
+    pub ghost tops: { List ℕ } by { coded_list coded_ℕ },
+    pub ghost items: { List T } by { coded_list T.code },
 }
 
-/// The same, with the evidence that a place was written.
-pub fn looked_at<T, B: Shelf>(
-    gained: Gained<Event<T>, Log<T>, Looks<B>>,
-    _place: usize,
-    _buffer: usize,
-    _slot: usize,
-) -> (Author, Written<B>, Written<T>)
-    requires { (_place < length (list_of gained.answer)) × IsAt _place _buffer _slot }
-    ensures { (result.0.name ≡ author_of gained.about) × (result.0.used ≡ used_of gained.about) × (OnlyPushed gained.about gained.answer) × (result.1.of ≡ slice_index_or (tops_of gained.names) _buffer 0) × (length (B.ids result.1.value) ≡ 3 * 4 ^ _buffer) × (result.2.of ≡ slice_index_or (B.ids result.1.value) _slot 0) × (slice_get (items_of (list_of gained.answer)) _place ≡ Some result.2.value) }
+impl<T, B: Shelf> Model for Filled<T, B> {
+    ghost also_owns = { λ f. all_told T.row B.row B.ids f.tops 0 f.items };
+}
+
+/// Who looked has its name back, with no entries beyond those it knew, and the evidence for all that it saw.
+pub fn looked<T, B: Shelf>(gained: Gained<Event<T>, Log<T>, Looks<B>>) -> (Author, Filled<T, B>)
+    ensures { (result.0.name ≡ author_of gained.about) × (result.0.used ≡ used_of gained.about) × OnlyPushed gained.about gained.answer × (result.1.tops ≡ tops_of gained.names) × (result.1.items ≡ items_of (list_of gained.answer)) }
 {
     let Gained { marker: _ } = gained;
     (
         Author {
             marker: PhantomData,
         },
-        Written {
+        Filled {
             marker: PhantomData,
         },
-        Written {
+    )
+}
+
+impl<T, B: Shelf> Filled<T, B> {
+    /// The evidence for one place, by where it lies.
+    pub fn at(
+        self,
+        _place: usize,
+        _buffer: usize,
+        _slot: usize,
+    ) -> (Filled<T, B>, Written<B>, Written<T>)
+        requires { (_place < length self.items) × IsAt _place _buffer _slot }
+        ensures { (result.0.tops ≡ self.tops) × (result.0.items ≡ self.items) × (result.1.of ≡ slice_index_or self.tops _buffer 0) × (length (B.ids result.1.value) ≡ 3 * 4 ^ _buffer) × (result.2.of ≡ slice_index_or (B.ids result.1.value) _slot 0) × (slice_get self.items _place ≡ Some result.2.value) }
+    {
+        let Self { marker: _ } = self;
+        (
+            Filled {
+                marker: PhantomData,
+            },
+            Written {
+                marker: PhantomData,
+            },
+            Written {
+                marker: PhantomData,
+            },
+        )
+    }
+
+    pub fn unused(self) {
+        let Self { marker: _ } = self;
+    }
+}
+
+/// A history that was seen has no more entries of an author than it pushed.
+pub fn settled<T, B: Shelf>(seen: &Seen<Event<T>, Log<T>, OneWord<B>>, author: Author) -> Author
+    ensures { (result.name ≡ author.name) × (result.used ≡ author.used) × (count (suc author.name) (list_of seen.now.log) ≤ author.used) }
+{
+    let Author { marker: _ } = author;
+    Author {
+        marker: PhantomData,
+    }
+}
+
+/// Two passes are two authors.
+pub fn apart(one: Author, other: Author) -> (Author, Author)
+    ensures { (result.0.name ≡ one.name) × (result.0.used ≡ one.used) × (result.1.name ≡ other.name) × (result.1.used ≡ other.used) × (one.name ≢ other.name) }
+{
+    let Author { marker: _ } = one;
+    let Author { marker: _ } = other;
+    (
+        Author {
+            marker: PhantomData,
+        },
+        Author {
             marker: PhantomData,
         },
     )

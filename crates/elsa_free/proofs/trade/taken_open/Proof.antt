@@ -53,6 +53,7 @@ use Rattle.elsa_free.specs.contracts.rule.Gives as Gives
 use Rattle.elsa_free.specs.contracts.rule.Puts as Puts
 use Rattle.elsa_free.specs.contracts.trade.Held as Held
 use Rattle.elsa_free.specs.contracts.trade.Author as Author
+use Rattle.elsa_free.specs.contracts.trade.Filled as Filled
 use Rattle.elsa_free.specs.contracts.rule.OneWordRuleEventLog.TheImpl as rule
 use Rattle.elsa_free.specs.contracts.rule.TakesGainEventLog.TheImpl as takes
 use Rattle.elsa_free.specs.contracts.rule.LooksGainEventLog.TheImpl as looks

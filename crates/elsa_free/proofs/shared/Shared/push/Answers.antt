@@ -71,7 +71,7 @@ returns-then-slot-ne0-clause-mine g c =
 pub returns-then-slot-ne0-clause-pushed : goal.returns-then-slot-ne0-clause-pushed
 returns-then-slot-ne0-clause-pushed g c =
     let r = c.acquire-n.ensures.right in let s = c.acquire-n.ensures.same in let v = c.args.seen.log in let log = c.acquire-n.new.seen.log in let answer = c.acquire-n.result.1.answer in let a = suc c.args.author.name in
-    ((let h = c.acquire-n.ensures.length.1 in let no = c.if-n-eq-LIMIT.false in omega (arith, h, no)), c.publish-seen.ensures.same.3, (list_of log, sym (c.acquire-n.ensures.length.0 ∙ sym (ap length (took_list answer log r.1))), c.publish-seen.ensures.seen))
+    (c.publish-seen.ensures.same.3, (list_of log, list_prefix v log c.acquire-n.ensures.seen, sym (c.acquire-n.ensures.length.0 ∙ sym (ap length (took_list answer log r.1))), c.publish-seen.ensures.seen))
 
 pub publish-seen-requires-in-Ok-clause-held : goal.publish-seen-requires-in-Ok-clause-held
 publish-seen-requires-in-Ok-clause-held g c =
@@ -127,7 +127,7 @@ returns-in-Ok-clause-mine g c =
 pub returns-in-Ok-clause-pushed : goal.returns-in-Ok-clause-pushed
 returns-in-Ok-clause-pushed g c =
     let r = c.acquire-n.ensures.right in let s = c.acquire-n.ensures.same in let v = c.args.seen.log in let log = c.acquire-n.new.seen.log in let answer = c.acquire-n.result.1.answer in let a = suc c.args.author.name in
-    ((let h = c.acquire-n.ensures.length.1 in let no = c.if-n-eq-LIMIT.false in omega (arith, h, no)), c.publish-seen-in-Ok.ensures.same.3, (list_of log, sym (c.acquire-n.ensures.length.0 ∙ sym (ap length (took_list answer log r.1))), c.publish-seen-in-Ok.ensures.seen))
+    (c.publish-seen-in-Ok.ensures.same.3, (list_of log, list_prefix v log c.acquire-n.ensures.seen, sym (c.acquire-n.ensures.length.0 ∙ sym (ap length (took_list answer log r.1))), c.publish-seen-in-Ok.ensures.seen))
 
 pub returns-in-Err-clause-seen : goal.returns-in-Err-clause-seen
 returns-in-Err-clause-seen g c =
@@ -143,3 +143,23 @@ pub returns-in-Err-clause-refused : goal.returns-in-Err-clause-refused
 returns-in-Err-clause-refused g c =
     let r = c.acquire-n.ensures.right in let s = c.acquire-n.ensures.same in let v = c.args.seen.log in let log = c.acquire-n.new.seen.log in let answer = c.acquire-n.result.1.answer in let a = suc c.args.author.name in
     let n : c.acquire-n.result.0 ≡ length (list_of log) = c.acquire-n.ensures.length.0 ∙ sym (ap length (took_list answer log r.1)) in let l = ap length c.release-seen-in-Err.ensures.seen in let p = before_power c.locate-buffer.result.0 in (c.release-seen-in-Err.ensures.same.3, (c.locate-buffer.result.0, (let h = c.locate-buffer.ensures.openable in omega (arith, h)), (let at = c.locate-buffer.ensures.at.begins in let z = (let z : c.locate-buffer.result.1 ≡ 0 = let no = c.if-slot-ne0.false in omega (arith, no) in z) in omega (arith, at, z, l, n, p))))
+
+pub returns-then-n-eq-LIMIT-clause-length : goal.returns-then-n-eq-LIMIT-clause-length
+returns-then-n-eq-LIMIT-clause-length g c =
+    let r = c.acquire-n.ensures.right in let s = c.acquire-n.ensures.same in let v = c.args.seen.log in let log = c.acquire-n.new.seen.log in let answer = c.acquire-n.result.1.answer in let a = suc c.args.author.name in
+    (c.acquire-n.ensures.length.0 ∙ sym (ap length (took_list answer log r.1)) ∙ sym (ap length c.release-seen.ensures.seen), c.acquire-n.ensures.length.1)
+
+pub returns-then-slot-ne0-clause-length : goal.returns-then-slot-ne0-clause-length
+returns-then-slot-ne0-clause-length g c =
+    let r = c.acquire-n.ensures.right in let s = c.acquire-n.ensures.same in let v = c.args.seen.log in let log = c.acquire-n.new.seen.log in let answer = c.acquire-n.result.1.answer in let a = suc c.args.author.name in
+    let n : c.acquire-n.result.0 ≡ length (list_of log) = c.acquire-n.ensures.length.0 ∙ sym (ap length (took_list answer log r.1)) in let l = ap length c.publish-seen.ensures.seen in let m = length-append (list_of log) (entry a c.args.item ∷ []) in let h = c.acquire-n.ensures.length.1 in let no = c.if-n-eq-LIMIT.false in (omega (arith, n, l, m), omega (arith, h, no))
+
+pub returns-in-Ok-clause-length : goal.returns-in-Ok-clause-length
+returns-in-Ok-clause-length g c =
+    let r = c.acquire-n.ensures.right in let s = c.acquire-n.ensures.same in let v = c.args.seen.log in let log = c.acquire-n.new.seen.log in let answer = c.acquire-n.result.1.answer in let a = suc c.args.author.name in
+    let n : c.acquire-n.result.0 ≡ length (list_of log) = c.acquire-n.ensures.length.0 ∙ sym (ap length (took_list answer log r.1)) in let l = ap length c.publish-seen-in-Ok.ensures.seen in let m = length-append (list_of log) (entry a c.args.item ∷ []) in let h = c.acquire-n.ensures.length.1 in let no = c.if-n-eq-LIMIT.false in (omega (arith, n, l, m), omega (arith, h, no))
+
+pub returns-in-Err-clause-length : goal.returns-in-Err-clause-length
+returns-in-Err-clause-length g c =
+    let r = c.acquire-n.ensures.right in let s = c.acquire-n.ensures.same in let v = c.args.seen.log in let log = c.acquire-n.new.seen.log in let answer = c.acquire-n.result.1.answer in let a = suc c.args.author.name in
+    (c.acquire-n.ensures.length.0 ∙ sym (ap length (took_list answer log r.1)) ∙ sym (ap length c.release-seen-in-Err.ensures.seen), c.acquire-n.ensures.length.1)
