@@ -189,7 +189,7 @@ impl<T: Copy + Drop, A: Allocator + Copy> LockFreeFrozenVec<T, A> {
         ensures same { IsSamePass pass result.0 }
         ensures seen { IsPrefix pass.seen result.0.seen }
         ensures mine { mine result.0 ≡ mine pass }
-        ensures length { result.1 ≡ length result.0.seen }
+        ensures length { (result.1 ≡ length result.0.seen) × (result.1 < 2 ^ 62) }
     {
         let (seen, author, _length) = pass.parts();
         let (n, seen, gained) = self.shared.look(seen, author);
@@ -205,6 +205,7 @@ impl<T: Copy + Drop, A: Allocator + Copy> LockFreeFrozenVec<T, A> {
         ensures seen { IsPrefix pass.old.seen pass.new.seen }
         ensures mine { mine pass.new ≡ mine pass.old }
         ensures length { result ≡ length pass.new.seen }
+        ensures limit { result < 2 ^ 62 }
     {
         let before = std::mem::replace(pass, self.pass());
         let (after, answer) = self.len_in(before);
