@@ -1,4 +1,6 @@
-//! Append-only collections that threads share: their parts, and the concurrent vector.
+//! An append-only vector that many threads share: where its places lie, the slots that hold its items, and the machine that runs every schedule of it.
 #![tactic(auto)]
 
+pub mod geometry;
+pub mod machine;
 pub mod slots;
