@@ -96,3 +96,11 @@ module _ {T : Type 0} where
 
   pub count_prefix : (a : ℕ) (xs ys : List (Event T)) → IsPrefix xs ys → count a (list_of xs) ≤ count a (list_of ys)
   count_prefix a xs ys p = let q = list_prefix xs ys p in let h = count_append a (list_of xs) q.0 in let e = ap (count a) q.1 in omega arith
+
+-- of two beginnings of one list the shorter is one of the longer
+pub prefix_of_longer : {A : Type 0} (xs ys zs : List A) → IsPrefix xs zs → IsPrefix ys zs → length xs ≤ length ys → IsPrefix xs ys
+prefix_of_longer [] ys zs p q le = (ys, refl)
+prefix_of_longer (x ∷ xs) [] zs p q le = absurd (omega arith)
+prefix_of_longer (x ∷ xs) (y ∷ ys) [] p q le = absurd (cc (p.1))
+prefix_of_longer (x ∷ xs) (y ∷ ys) (z ∷ zs) p q le =
+    let rest = prefix_of_longer xs ys zs (p.0, cc (p.1)) (q.0, cc (q.1)) (omega arith) in (rest.0, cc (p.1, q.1, rest.1))

@@ -1,9 +1,11 @@
-//! Append-only collections that threads share: their parts, and the concurrent vector.
+//! An append-only vector that many threads share: where its places lie, the slots that hold its items, the machine that runs
+//! every schedule of it, and the vector itself.
 #![tactic(auto)]
 
 mod event;
 pub mod geometry;
 pub mod lock_free;
+pub mod machine;
 mod rule;
 mod shared;
 pub mod slots;

@@ -3,14 +3,16 @@
 //! A [`Pass`] is what a thread has seen of a vector. What it sees is a beginning of the one list that all threads share, so it
 //! only grows, and the places at which it pushed are its own for good. The plain forms take a pass of their own, that has
 //! seen nothing, so their contracts say less.
-ghost use Rattle.std.specs.Prelude.{◌≡◌, ◌<◌, ◌^◌, [], ◌∷◌, ◌++◌, length, slice_get, IfOk, IfErr, suc};
+ghost use Rattle.std.specs.Prelude.{◌≡◌, ◌≢◌, ◌≤◌, ◌<◌, ◌^◌, [], ◌∷◌, ◌++◌, length, slice_get, IfOk, IfErr, suc};
 ghost use mathlib.Core.List.{IsPrefix};
-ghost use Rattle.elsa_free.specs.SharedList.{Appends, BeginsABuffer, IsSamePass, count, entry, items_of, mine};
+ghost use Rattle.elsa_free.specs.SharedList.{Apart, Appends, BeginsABuffer, IsSamePass, count, entry, items_of, longer, mine};
 ghost use Rattle.elsa_free.specs.History.{list_of};
+ghost use Rattle.elsa_free.specs.Rights.{tops_of};
+ghost use lib.Pointwise.{pointwise};
 
-use crate::geometry::locate;
 use crate::shared::{Known, Shared};
-use crate::trade::{Author, looked};
+use crate::slots::Row;
+use crate::trade::{Author, Filled, apart, looked, settled};
 use std::alloc::{AllocError, Allocator, Global};
 use std::marker::Model;
 use std::sync::Wait;
@@ -24,7 +26,7 @@ pub struct Pass<T, A: Allocator = Global> {
 }
 
 impl<T, A: Allocator> Model for Pass<T, A> {
-    ghost use Rattle.std.specs.Prelude.{◌≡◌, ◌<◌, ◌^◌, length, suc};
+    ghost use Rattle.std.specs.Prelude.{◌≡◌, ◌≢◌, ◌≤◌, ◌<◌, ◌^◌, length, suc};
     ghost use Rattle.elsa_free.specs.SharedList.{View, count};
     ghost use Rattle.elsa_free.specs.History.{list_of};
 
@@ -59,6 +61,91 @@ impl<T, A: Allocator> Pass<T, A> {
             seen_length,
         } = self;
         (seen, author, seen_length)
+    }
+}
+
+impl<T, A: Allocator> Pass<T, A> {
+    /// Another pass of the same vector, which has seen as much and has pushed nothing.
+    fn fresh(&self) -> Pass<T, A>
+        ensures { (result.vector ≡ self.now.vector) × (result.seen ≡ self.now.seen) × (mine result ≡ []) }
+    {
+        Pass::of(
+            self.seen.again(),
+            settled(&self.seen, Author::new()),
+            self.seen_length,
+        )
+    }
+
+    fn length(&self) -> usize
+        ensures { result ≡ length self.now.seen }
+    {
+        self.seen_length
+    }
+
+    /// Two passes are two authors.
+    fn told_apart(self, other: Pass<T, A>) -> (Pass<T, A>, Pass<T, A>)
+        ensures { (result.0 ≡ self) × (result.1 ≡ other) × (self.author ≢ other.author) }
+    {
+        let (seen, author, length) = self.parts();
+        let (other_seen, other_author, other_length) = other.parts();
+        let (author, other_author) = apart(author, other_author);
+        (
+            Pass::of(seen, author, length),
+            Pass::of(other_seen, other_author, other_length),
+        )
+    }
+
+    /// The pass with what a longer one has seen.
+    fn raised(self, longer: &Pass<T, A>) -> Pass<T, A>
+        requires of { self.vector ≡ longer.now.vector }
+        requires shorter { length self.seen ≤ length longer.now.seen }
+        ensures same { IsSamePass self result }
+        ensures seen { (result.seen ≡ longer.now.seen) × IsPrefix self.seen result.seen }
+        ensures mine { mine result ≡ mine self }
+    {
+        let (seen, author, _length) = self.parts();
+        let mut both = seen;
+        both.learn(&longer.seen);
+        let author = settled(&longer.seen, author);
+        drop(both);
+        Pass::of(longer.seen.again(), author, longer.seen_length)
+    }
+
+    fn met(self, other: Pass<T, A>) -> (Pass<T, A>, Pass<T, A>)
+        requires { self.vector ≡ other.vector }
+        ensures same { IsSamePass self result.0 × IsSamePass other result.1 }
+        ensures seen { IsPrefix self.seen result.0.seen × IsPrefix other.seen result.1.seen }
+        ensures longer { (result.0.seen ≡ longer self.seen other.seen) × (result.1.seen ≡ longer self.seen other.seen) }
+        ensures mine { (mine result.0 ≡ mine self) × (mine result.1 ≡ mine other) }
+        ensures apart { Apart (mine result.0) (mine result.1) }
+    {
+        let (one, two) = self.told_apart(other);
+        if two.length() <= one.length() {
+            let two = two.raised(&one);
+            (one, two)
+        } else {
+            let one = one.raised(&two);
+            (one, two)
+        }
+    }
+
+    /// Both passes take the longer of what they have seen. Their own places stay, and no place is of both. It takes no memory
+    /// and no atomic step, and never waits. `O(1)`.
+    pub fn meet(&mut self, other: &mut Pass<T, A>)
+        requires of { self.old.vector ≡ other.old.vector }
+        ensures same { IsSamePass self.old self.new × IsSamePass other.old other.new }
+        ensures seen { IsPrefix self.old.seen self.new.seen × IsPrefix other.old.seen other.new.seen }
+        ensures longer { (self.new.seen ≡ longer self.old.seen other.old.seen) × (other.new.seen ≡ longer self.old.seen other.old.seen) }
+        ensures mine { (mine self.new ≡ mine self.old) × (mine other.new ≡ mine other.old) }
+        ensures apart { Apart (mine self.new) (mine other.new) }
+    {
+        let spare = self.fresh();
+        let one = std::mem::replace(self, spare);
+        let spare = other.fresh();
+        let two = std::mem::replace(other, spare);
+        let (one, two) = one.met(two);
+        drop(std::mem::replace(self, one));
+        drop(std::mem::replace(other, two));
     }
 }
 
@@ -146,6 +233,21 @@ impl<T: Copy + Drop, A: Allocator + Copy> LockFreeFrozenVec<T, A> {
         answer
     }
 
+    /// One look: the length of the list then, and the evidence for all of it.
+    fn look_in(&self, pass: Pass<T, A>) -> (Pass<T, A>, usize, Filled<T, Row<T, A>>)
+        requires { pass.vector ≡ self.now }
+        ensures same { IsSamePass pass result.0 }
+        ensures seen { IsPrefix pass.seen result.0.seen }
+        ensures mine { mine result.0 ≡ mine pass }
+        ensures length { (result.1 ≡ length result.0.seen) × (result.1 < 2 ^ 62) }
+        ensures filled { (result.2.tops ≡ tops_of self.now.1) × (result.2.items ≡ items_of result.0.seen) }
+    {
+        let (seen, author, _length) = pass.parts();
+        let (n, seen, gained) = self.shared.look(seen, author);
+        let (author, filled) = looked(gained);
+        (Pass::of(seen, author, n), n, filled)
+    }
+
     fn get_in(&self, pass: Pass<T, A>, place: usize) -> (Pass<T, A>, Option<T>)
         requires { pass.vector ≡ self.now }
         ensures same { IsSamePass pass result.0 }
@@ -153,20 +255,14 @@ impl<T: Copy + Drop, A: Allocator + Copy> LockFreeFrozenVec<T, A> {
         ensures mine { mine result.0 ≡ mine pass }
         ensures item { result.1 ≡ slice_get (items_of result.0.seen) place }
     {
-        let (seen, author, _length) = pass.parts();
-        let (n, seen, gained) = self.shared.look(seen, author);
-        let (author, filled) = looked(gained);
+        let (pass, n, filled) = self.look_in(pass);
         if place >= n {
             filled.unused();
-            return (Pass::of(seen, author, n), None);
+            return (pass, None);
         }
-        let (buffer, slot) = locate(place);
-        let (filled, row, item) = filled.at(place, buffer, slot);
-        let answer = self.shared.slots.read(buffer, slot, &row, &item);
+        let (filled, item) = self.shared.item(filled, place);
         filled.unused();
-        row.unused();
-        item.unused();
-        (Pass::of(seen, author, n), Some(answer))
+        (pass, Some(item))
     }
 
     /// The item at a place, by one look: `None` exactly if the place is at or above the length at that look. It takes no lock
@@ -184,20 +280,6 @@ impl<T: Copy + Drop, A: Allocator + Copy> LockFreeFrozenVec<T, A> {
         answer
     }
 
-    fn len_in(&self, pass: Pass<T, A>) -> (Pass<T, A>, usize)
-        requires { pass.vector ≡ self.now }
-        ensures same { IsSamePass pass result.0 }
-        ensures seen { IsPrefix pass.seen result.0.seen }
-        ensures mine { mine result.0 ≡ mine pass }
-        ensures length { (result.1 ≡ length result.0.seen) × (result.1 < 2 ^ 62) }
-    {
-        let (seen, author, _length) = pass.parts();
-        let (n, seen, gained) = self.shared.look(seen, author);
-        let (author, filled) = looked(gained);
-        filled.unused();
-        (Pass::of(seen, author, n), n)
-    }
-
     /// How many items the vector has, by one look. It takes no lock and no memory, and never waits. `O(1)`.
     pub fn len_as(&self, pass: &mut Pass<T, A>) -> usize
         requires of { pass.old.vector ≡ self.now }
@@ -208,7 +290,8 @@ impl<T: Copy + Drop, A: Allocator + Copy> LockFreeFrozenVec<T, A> {
         ensures limit { result < 2 ^ 62 }
     {
         let before = std::mem::replace(pass, self.pass());
-        let (after, answer) = self.len_in(before);
+        let (after, answer, filled) = self.look_in(before);
+        filled.unused();
         drop(std::mem::replace(pass, after));
         answer
     }
@@ -235,5 +318,58 @@ impl<T: Copy + Drop, A: Allocator + Copy> LockFreeFrozenVec<T, A> {
     /// Whether the vector has no item, by one look. It takes no lock and no memory, and never waits. `O(1)`.
     pub fn is_empty(&self) -> bool {
         self.len() == 0
+    }
+}
+
+impl<T: Copy + Drop + PartialEq, A: Allocator + Copy> LockFreeFrozenVec<T, A> {
+    fn equals_in(
+        &self,
+        pass: Pass<T, A>,
+        other: &Self,
+        other_pass: Pass<T, A>,
+    ) -> (Pass<T, A>, Pass<T, A>, bool)
+        requires { (pass.vector ≡ self.now) × (other_pass.vector ≡ other.now) }
+        ensures same { IsSamePass pass result.0 × IsSamePass other_pass result.1 }
+        ensures seen { IsPrefix pass.seen result.0.seen × IsPrefix other_pass.seen result.1.seen }
+        ensures mine { (mine result.0 ≡ mine pass) × (mine result.1 ≡ mine other_pass) }
+        ensures equal { result.2 ≡ pointwise T.eq (items_of result.0.seen) (items_of result.1.seen) }
+    {
+        let (pass, n, filled) = self.look_in(pass);
+        let (other_pass, other_n, other_filled) = other.look_in(other_pass);
+        if n != other_n {
+            filled.unused();
+            other_filled.unused();
+            return (pass, other_pass, false);
+        }
+        let equal = self.shared.has_items_of(filled, &other.shared, other_filled, n);
+        (pass, other_pass, equal)
+    }
+
+    /// Whether two vectors have equal items in order: it looks at this one, then at the other, and compares what the two looks
+    /// saw. It takes no lock and no memory, and never waits. `O(n)`.
+    pub fn equals_as(
+        &self,
+        pass: &mut Pass<T, A>,
+        other: &Self,
+        other_pass: &mut Pass<T, A>,
+    ) -> bool
+        requires of { (pass.old.vector ≡ self.now) × (other_pass.old.vector ≡ other.now) }
+        ensures same { IsSamePass pass.old pass.new × IsSamePass other_pass.old other_pass.new }
+        ensures seen { IsPrefix pass.old.seen pass.new.seen × IsPrefix other_pass.old.seen other_pass.new.seen }
+        ensures mine { (mine pass.new ≡ mine pass.old) × (mine other_pass.new ≡ mine other_pass.old) }
+        ensures equal { result ≡ pointwise T.eq (items_of pass.new.seen) (items_of other_pass.new.seen) }
+    {
+        let before = std::mem::replace(pass, self.pass());
+        let other_before = std::mem::replace(other_pass, other.pass());
+        let (after, other_after, answer) = self.equals_in(before, other, other_before);
+        drop(std::mem::replace(pass, after));
+        drop(std::mem::replace(other_pass, other_after));
+        answer
+    }
+
+    /// [`equals_as`](Self::equals_as) with passes of its own.
+    pub fn equals(&self, other: &Self) -> bool
+    {
+        self.equals_as(&mut self.pass(), other, &mut other.pass())
     }
 }

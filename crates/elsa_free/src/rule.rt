@@ -2,7 +2,7 @@
 ghost use Rattle.std.specs.Prelude.{ℕ, List};
 
 use crate::event::Event;
-use crate::slots::Slot;
+use crate::slots::Row;
 use logbook::{Gain, Play, Plain, Rule};
 use std::alloc::{Allocator, Global};
 use std::collections::LinkedList;
@@ -16,8 +16,8 @@ pub trait Shelf {
     ghost ids: { Self → List ℕ };
 }
 
-impl<T, A: Allocator> Shelf for Vec<Slot<T>, A> {
-    ghost ids = { λ v. v.items };
+impl<T, A: Allocator> Shelf for Row<T, A> {
+    ghost ids = { λ r. r };
 }
 
 /// The rule of a vector whose buffers are `B`.

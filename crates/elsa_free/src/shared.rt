@@ -2,7 +2,8 @@
 //!
 //! The word is twice the length, and one more while a thread holds. A look is one load. A holder takes the word by one
 //! exchange, opens a buffer or not, writes the slot of the length, and ends its hold by a second exchange, which publishes.
-ghost use Rattle.std.specs.Prelude.{◌≡◌, ◌+◌, ◌*◌, ◌-◌, ◌^◌, ◌<◌, ◌≤◌, ◌%◌, [], ◌∷◌, ◌++◌, length, true, None, Some, IfSome, IfOk, IfErr, List, ℕ, suc, drop, slice_index_or};
+ghost use Rattle.std.specs.Prelude.{◌≡◌, ◌+◌, ◌*◌, ◌-◌, ◌^◌, ◌<◌, ◌≤◌, ◌%◌, [], ◌∷◌, ◌++◌, length, true, None, Some, IfSome, IfOk, IfErr, List, ℕ, suc, drop, slice_get, slice_index_or};
+ghost use lib.Pointwise.{pointwise};
 ghost use mathlib.Core.List.{IsPrefix};
 ghost use Rattle.elsa_free.specs.Geometry.{IsAt};
 ghost use Rattle.elsa_free.specs.SharedList.{Appends, BeginsABuffer, count, entry};
@@ -15,7 +16,7 @@ use crate::event::Event;
 use crate::geometry::{buffer_size, locate};
 use crate::rule::{Acquire, End, Gives, Log, Look, Looks, Nothing, OneWord, Puts, See, Takes};
 use crate::slots::{Blanks, Row, Slots, Written};
-use crate::trade::{Author, Held, given, giving, looking, published, publishing, start, taken_closed, taken_open, taking};
+use crate::trade::{Author, Filled, Held, given, giving, looking, published, publishing, start, taken_closed, taken_open, taking};
 use logbook::{Gained, Offer, Seen, Word};
 use std::alloc::{AllocError, Allocator};
 use std::hint::spin_loop;
@@ -32,7 +33,8 @@ pub struct Shared<T, A: Allocator> {
     pub(crate) word: Word<Event<T>, Log<T>, OneWord<Row<T, A>>>,
     pub(crate) first: Known<T, A>,
     ghost word_is: { word ≡ word_in first.book },
-    ghost tops_are: { tops_of first.names ≡ slots.buffers.items },
+    ghost tops_are: { tops_of first.names ≡ slots },
+    ghost all: { length slots ≡ 31 },
     ghost empty: { first.log ≡ [] },
 }
 
@@ -181,8 +183,8 @@ impl<T: Copy + Drop, A: Allocator + Copy> Shared<T, A> {
     ) -> (Known<T, A>, Author)
         requires of { (seen.book ≡ self.now.first.book) × (seen.names ≡ self.now.first.names) }
         requires held { (held.name ≡ head seen.names) × (held.kinds ≡ kinds seen.log) × (is_held seen.log ≡ true) }
-        requires row { (row.of ≡ slice_index_or (tops_of seen.names) buffer 0) × (length row.value.items ≡ 3 * 4 ^ buffer) × (buffer < 31) }
-        requires slots { (slots.of ≡ drop slot row.value.items) × (tops.of ≡ drop (suc buffer) (tops_of seen.names)) }
+        requires row { (row.of ≡ slice_index_or (tops_of seen.names) buffer 0) × (length row.value ≡ 3 * 4 ^ buffer) × (buffer < 31) }
+        requires slots { (slots.of ≡ drop slot row.value) × (tops.of ≡ drop (suc buffer) (tops_of seen.names)) }
         requires n { (n ≡ length (list_of seen.log)) × (n + 1 < 2 ^ 62) }
         requires at { IsAt n buffer slot }
         requires mine { author.used ≤ count (suc author.name) (list_of seen.log) }
@@ -268,6 +270,25 @@ impl<T: Copy + Drop, A: Allocator + Copy> Shared<T, A> {
         }
     }
 
+    /// One item of what was seen.
+    pub fn item(
+        &self,
+        filled: Filled<T, Row<T, A>>,
+        place: usize,
+    ) -> (Filled<T, Row<T, A>>, T)
+        requires tops { filled.tops ≡ tops_of self.now.first.names }
+        requires place { (place < length filled.items) × (length filled.items < 2 ^ 62) }
+        ensures same { (result.0.tops ≡ filled.tops) × (result.0.items ≡ filled.items) }
+        ensures item { slice_get filled.items place ≡ Some result.1 }
+    {
+        let (buffer, slot) = locate(place);
+        let (filled, row, item) = filled.at(place, buffer, slot);
+        let answer = self.slots.read(buffer, slot, &row, &item);
+        row.unused();
+        item.unused();
+        (filled, answer)
+    }
+
     /// One look: the length of the list then, with the evidence for all of it.
     pub fn look(
         &self,
@@ -284,6 +305,37 @@ impl<T: Copy + Drop, A: Allocator + Copy> Shared<T, A> {
         let mut offer = looking(&seen, author);
         let found = self.word.load::<Look, Looks<Row<T, A>>>(&mut seen, &mut offer);
         (found as usize / 2, seen, offer.into_gain())
+    }
+}
+
+impl<T: Copy + Drop + PartialEq, A: Allocator + Copy> Shared<T, A> {
+    /// Whether what was seen of this vector and what was seen of another are `n` equal items each, one by one.
+    pub fn has_items_of(
+        &self,
+        filled: Filled<T, Row<T, A>>,
+        other: &Shared<T, A>,
+        other_filled: Filled<T, Row<T, A>>,
+        n: usize,
+    ) -> bool
+        requires tops { (filled.tops ≡ tops_of self.now.first.names) × (other_filled.tops ≡ tops_of other.now.first.names) }
+        requires n { (n ≡ length filled.items) × (n ≡ length other_filled.items) × (n < 2 ^ 62) }
+        ensures { result ≡ pointwise T.eq filled.items other_filled.items }
+    {
+        let mut filled = filled;
+        let mut other_filled = other_filled;
+        let mut equal = true;
+        let mut place = 0;
+        while equal && place < n {
+            let (rest, item) = self.item(filled, place);
+            let (other_rest, other_item) = other.item(other_filled, place);
+            filled = rest;
+            other_filled = other_rest;
+            equal = item == other_item;
+            place += 1;
+        }
+        filled.unused();
+        other_filled.unused();
+        equal
     }
 }
 

@@ -1,117 +1,125 @@
-// Buffers that grow, each opened once.
-ghost use Rattle.std.specs.Prelude.{◌≡◌, ◌<◌, ◌≤◌, ◌*◌, ◌+◌, ◌^◌, List, [], length, slice_index_or, IfOk, IfErr};
+//! The memory of a vector: 31 buffers of slots, each opened once, each slot written once and then read by any thread.
+//!
+//! No slot has a tag or a word, and opening a buffer touches none of its memory: who may write a slot holds the one right
+//! to it ([`Blank`]), and who may read it shows evidence, for good, that it was written ([`Written`]). Neither has bytes.
+//! This is the only module with raw pointers. The layer above may use this: a read gives what the one write put there.
+ghost use Rattle.std.specs.Prelude.{◌≡◌, ℕ, ◌<◌, List, length, slice_index_or, IfOk, IfErr};
+ghost use Rattle.elsa_free.specs.Geometry.{size_of};
 
+mod cells;
 mod rights;
+mod row;
 mod slot;
 
 pub use rights::{Blank, Blanks, Written};
-pub use slot::Slot;
+pub use row::Row;
 
+use crate::geometry::buffer_size;
+use slot::Slot;
 use std::alloc::{AllocError, Allocator, Global};
+use std::marker::Model;
 
+/// How many buffers can be opened.
 pub const BUFFERS: usize = 31;
 
-/// A buffer.
-pub type Row<T, A = Global> = Vec<Slot<T>, A>;
-
-/// The buffers. A clause names the slots that hold them by `buffers.items`.
-#[derive(Drop)]
+/// The buffers. A clause sees the names of their 31 rows, in order.
 pub struct Slots<T, A: Allocator = Global> {
-    buffers: Vec<Slot<Vec<Slot<T>, A>>, A>,
+    buffers: Vec<Slot<Row<T, A>>, A>,
     alloc: A,
-    ghost all: { length buffers.items ≡ 31 },
 }
 
-fn row_of<T: Drop, A: Allocator>(
-    alloc: A,
-    len: usize,
-) -> Result<(Vec<Slot<T>, A>, Blanks), AllocError>
-    ensures { IfOk result (λ r. (length r.0.items ≡ len) × (r.1.of ≡ r.0.items)) }
-{
-    let mut slots = Vec::with_capacity(alloc, len)?;
-    let mut rights = Blanks::none();
-    let mut j = 0;
-    while j < len {
-        let (slot, right) = Slot::new();
-        slots.push_reserved(slot);
-        rights.add(right);
-        j += 1;
-    }
-    Ok((slots, rights))
+impl<T, A: Allocator> Model for Slots<T, A> {
+    ghost Value = { List ℕ };
+
+    ghost view = { λ s. s.buffers.items };
+
+    ghost invariant = { λ s. length s.buffers.items ≡ 31 };
 }
 
-impl<T: Copy + Drop, A: Allocator + Clone> Slots<T, A> {
-    /// No buffer is open. The rights to open them come with it.
+impl<T: Copy, A: Allocator + Copy> Slots<T, A> {
+    /// No buffer is open. The rights to open them come with it. Takes memory for 31 rows.
     pub fn new(alloc: A) -> Result<(Slots<T, A>, Blanks), AllocError>
-        ensures { IfOk result (λ r. r.1.of ≡ r.0.buffers.items) }
+        ensures rights { IfOk result (λ r. r.1.of ≡ r.0) }
+        ensures rows { IfOk result (λ r. length r.0 ≡ 31) }
     {
-        let (buffers, rights) = row_of(alloc.clone()?, BUFFERS)?;
+        let mut buffers = Vec::with_capacity(alloc, BUFFERS)?;
+        let mut rights = Blanks::none();
+        for _ in 0..BUFFERS {
+            let (slot, right) = Slot::new();
+            buffers.push_reserved(slot);
+            rights.add(right);
+        }
         Ok((Slots { buffers, alloc }, rights))
     }
 
-    /// A row of slots for a buffer.
-    pub fn row(&self, len: usize) -> Result<(Vec<Slot<T>, A>, Blanks), AllocError>
-        ensures { IfOk result (λ r. (length r.0.items ≡ len) × (r.1.of ≡ r.0.items)) }
+    /// A row of `len` free slots, and the rights to write them. Takes memory for `len` items, and touches none of it.
+    pub fn row(&self, len: usize) -> Result<(Row<T, A>, Blanks), AllocError>
+        ensures { IfOk result (λ r. (length r.0 ≡ len) × (r.1.of ≡ r.0)) }
     {
-        row_of(self.alloc.clone()?, len)
+        Row::new(self.alloc, len)
     }
 
-    /// Opens a buffer.
-    pub fn fill(&self, buffer: usize, row: Vec<Slot<T>, A>, right: Blank) -> Written<Vec<Slot<T>, A>>
-        requires { (buffer < 31) × (right.of ≡ slice_index_or self.now.buffers.items buffer 0) }
-        ensures { (result.of ≡ slice_index_or self.now.buffers.items buffer 0) × (result.value ≡ row) }
+    /// Opens a buffer, with this row. Cannot fail.
+    pub fn fill(&self, buffer: usize, row: Row<T, A>, right: Blank) -> Written<Row<T, A>>
+        requires { (buffer < 31) × (right.of ≡ slice_index_or self.now buffer 0) }
+        ensures { (result.of ≡ slice_index_or self.now buffer 0) × (result.value ≡ row) }
     {
         self.buffers[buffer].write(row, right)
     }
 
-    /// Opens a buffer with this many slots. Where memory is refused, the right comes back.
+    /// Opens a buffer, with a row of all its slots. Where memory is refused, the right to open it comes back.
     pub fn open(
         &self,
         buffer: usize,
-        len: usize,
         right: Blank,
-    ) -> Result<(Written<Vec<Slot<T>, A>>, Blanks), Blank>
-        requires { (buffer < 31) × (right.of ≡ slice_index_or self.now.buffers.items buffer 0) }
-        ensures ok { IfOk result (λ r. (r.0.of ≡ slice_index_or self.now.buffers.items buffer 0) × (length r.0.value.items ≡ len) × (r.1.of ≡ r.0.value.items)) }
-        ensures err { IfErr result (λ r. r.of ≡ right.of) }
+    ) -> Result<(Written<Row<T, A>>, Blanks), Blank>
+        requires { (buffer < 31) × (right.of ≡ slice_index_or self.now buffer 0) }
+        ensures opened { IfOk result (λ r. (r.0.of ≡ slice_index_or self.now buffer 0) × (length r.0.value ≡ size_of buffer) × (r.1.of ≡ r.0.value)) }
+        ensures given_back { IfErr result (λ r. r.of ≡ right.of) }
     {
-        let Ok(alloc) = self.alloc.clone() else {
-            return Err(right);
-        };
-        match row_of(alloc, len) {
-            Ok((row, rights)) => Ok((self.buffers[buffer].write(row, right), rights)),
+        match self.row(buffer_size(buffer)) {
+            Ok((row, rights)) => Ok((self.fill(buffer, row, right), rights)),
             Err(_) => Err(right),
         }
     }
 
-    /// Writes a slot of an open buffer, once.
+    /// Writes a slot of an open buffer, and spends the one right to. Cannot fail.
     pub fn write(
         &self,
         buffer: usize,
         slot: usize,
         item: T,
-        row: &Written<Vec<Slot<T>, A>>,
+        row: &Written<Row<T, A>>,
         right: Blank,
     ) -> Written<T>
-        requires row { (buffer < 31) × (row.now.of ≡ slice_index_or self.now.buffers.items buffer 0) }
-        requires slot { (slot < length row.now.value.items) × (right.of ≡ slice_index_or row.now.value.items slot 0) }
-        ensures { (result.of ≡ slice_index_or row.now.value.items slot 0) × (result.value ≡ item) }
+        requires row { (buffer < 31) × (row.now.of ≡ slice_index_or self.now buffer 0) }
+        requires slot { (slot < length row.now.value) × (right.of ≡ slice_index_or row.now.value slot 0) }
+        ensures { (result.of ≡ slice_index_or row.now.value slot 0) × (result.value ≡ item) }
     {
-        self.buffers[buffer].value(row)[slot].write(item, right)
+        self.buffers[buffer].value(row).write(slot, item, right)
     }
 
-    /// What the slot holds, for whoever shows that it was written.
+    /// The item that a slot holds, for whoever shows that it was written. No lock, and no atomic step.
     pub fn read(
         &self,
         buffer: usize,
         slot: usize,
-        row: &Written<Vec<Slot<T>, A>>,
+        row: &Written<Row<T, A>>,
         item: &Written<T>,
     ) -> T
-        requires row { (buffer < 31) × (row.now.of ≡ slice_index_or self.now.buffers.items buffer 0) }
-        requires slot { (slot < length row.now.value.items) × (item.now.of ≡ slice_index_or row.now.value.items slot 0) }
+        requires row { (buffer < 31) × (row.now.of ≡ slice_index_or self.now buffer 0) }
+        requires slot { (slot < length row.now.value) × (item.now.of ≡ slice_index_or row.now.value slot 0) }
         ensures { result ≡ item.now.value }
     {
-        *self.buffers[buffer].value(row)[slot].value(item)
+        *self.buffers[buffer].value(row).get(slot, item)
+    }
+}
+
+// Gives each buffer back once.
+impl<T, A: Allocator> Drop for Slots<T, A> {
+    fn drop(self) {
+        let Self { buffers, alloc } = self;
+        drop(buffers);
+        drop(alloc);
     }
 }

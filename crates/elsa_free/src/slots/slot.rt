@@ -1,14 +1,13 @@
-// A slot has no word of its own: who may write it holds its `Blank`, and who may read it a `Written`.
+// A slot that knows whether it was written. The right and the evidence alone decide who may write it and read it; the tag is for its end.
 ghost use Rattle.std.specs.Prelude.{◌≡◌, ℕ, Some};
 ghost use base.Fml.{fsep, fex};
 ghost use base.Stored.{coded_ℕ};
-ghost use denote.Sharing.{said};
-ghost use Rattle.elsa_free.specs.Slot.{Rest, resting, shared, written, blank};
+ghost use Rattle.elsa_free.specs.Slot.{Rest, resting, tagged_shared};
 
 use super::rights::{Blank, Written};
-use std::marker::{Move, Owns, PhantomData};
+use std::marker::{Model, Move, Owns, PhantomData};
 
-/// A clause sees the name that tells it from other slots.
+/// A place for one value, written at most once. A clause sees the name that tells it from other slots.
 pub struct Slot<T> {
     value: Option<T>,
 }
@@ -18,7 +17,7 @@ impl<T> Owns for Slot<T> {
 
     ghost coded = { coded_ℕ };
 
-    ghost shr_at = { λ γ p κ. shared T.row γ p κ };
+    ghost shr_at = { λ γ p κ. tagged_shared T.row γ p κ };
 }
 
 impl<T> Move for Slot<T> {
@@ -26,6 +25,7 @@ impl<T> Move for Slot<T> {
 }
 
 impl<T> Slot<T> {
+    /// An empty slot, and the right to write it.
     pub fn new() -> (Slot<T>, Blank)
         ensures { result.1.of ≡ result.0 }
     {
@@ -37,7 +37,7 @@ impl<T> Slot<T> {
         )
     }
 
-    /// Spends the right to write it.
+    /// Writes the slot, and spends the right to.
     pub fn write(&self, value: T, right: Blank) -> Written<T>
         requires { right.of ≡ self.now }
         ensures { (result.of ≡ self.now) × (result.value ≡ value) }
@@ -71,6 +71,7 @@ impl<T> Slot<T> {
         }
     }
 
+    /// Takes the slot apart: its value, if it was written.
     pub fn into_inner(self) -> Option<T> {
         let Self { value } = self;
         value

@@ -15,7 +15,7 @@ use Rattle.elsa_free.proofs.shared.Shared.publish.Goals as goal
 
 pub publishing-offer-requires : goal.publishing-offer-requires
 publishing-offer-requires g c =
-    let ids = c.args.row.value.items in let j = c.args.slot in
+    let ids = c.args.row.value in let j = c.args.slot in
     let less : j < length ids = let a = c.requires.at.within in let l = c.requires.row.1 in omega (arith, a, l) in
     let all : c.take-right.result.of ∷ c.take-right.new.self.of ≡ slice_index_or ids j 0 ∷ drops (suc j) ids = sym c.take-right.ensures ∙ (c.requires.slots.0 ∙ drop_cons j ids less) in
     (c.requires.held.0, c.requires.held.1, subst (λ (k : ℕ). IsAt k c.args.buffer j) c.requires.n.0 c.requires.at, c.requires.row.1, c.requires.row.0, cc all, c.requires.slots.1, c.write-written.ensures.0)

@@ -83,11 +83,11 @@ publish-seen-requires-in-Ok-clause-slots g c =
     let r = c.acquire-n.ensures.right in let s = c.acquire-n.ensures.same in let v = c.args.seen.log in let log = c.acquire-n.new.seen.log in let answer = c.acquire-n.result.1.answer in let a = suc c.args.author.name in
     let b = c.locate-buffer.result.0 in let names = c.acquire-n.result.1.names in
     let same : names ≡ c.args.self.now.first.names = r.0 ∙ c.requires.of.1 in
-    let less : b < length (tops_of names) = let l = ap (λ z. length (tops_of z)) same in let t = ap length c.args.self.now.tops_are in let k = c.args.self.now.slots.all in let m = c.locate-buffer.ensures.openable in omega (arith, l, t, k, m) in
+    let less : b < length (tops_of names) = let l = ap (λ z. length (tops_of z)) same in let t = ap length c.args.self.now.tops_are in let k = c.args.self.now.all in let m = c.locate-buffer.ensures.openable in omega (arith, l, t, k, m) in
     let all : c.take-top.result.of ∷ c.take-top.new.self.of ≡ slice_index_or (tops_of names) b 0 ∷ drops (suc b) (tops_of names) = sym c.take-top.ensures ∙ (c.taken_closed-held-2.ensures.2 ∙ drop_cons b (tops_of names) less) in
     let rest : c.take-top.new.self.of ≡ drops (suc b) (tops_of names) = cc all in
-    let items = c.fill-row.result.value.items in
-    (c.in-Ok.ensures.1 ∙ (ap (λ v. v.items) (sym c.fill-row.ensures.1) ∙ subst (λ (k : ℕ). items ≡ drops k items) (sym (let z : c.locate-buffer.result.1 ≡ 0 = let no = c.if-slot-ne0.false in omega (arith, no) in z)) refl), rest ∙ ap (λ z. drops (suc b) (tops_of z)) (r.0 ∙ sym s.1))
+    let items = c.fill-row.result.value in
+    (c.in-Ok.ensures.1 ∙ (sym c.fill-row.ensures.1 ∙ subst (λ (k : ℕ). items ≡ drops k items) (sym (let z : c.locate-buffer.result.1 ≡ 0 = let no = c.if-slot-ne0.false in omega (arith, no) in z)) refl), rest ∙ ap (λ z. drops (suc b) (tops_of z)) (r.0 ∙ sym s.1))
 
 pub publish-seen-requires-in-Ok-clause-n : goal.publish-seen-requires-in-Ok-clause-n
 publish-seen-requires-in-Ok-clause-n g c =

@@ -49,7 +49,7 @@ use base.Fml.{feq}
 use mir.Val.{of_list}
 use types.Tokens.{name_new}
 use Rattle.core.proofs.cell.Inside.{Good, one}
-use Rattle.elsa_free.specs.Slot.{Rest, Turn, at, kept, Cell, written, blank, tie, lent, Value, resting, free}
+use Rattle.elsa_free.specs.Slot.{Rest, resting, free}
 use Rattle.elsa_free.specs.contracts.slots.slot.Slot.{the_row}
 use Rattle.elsa_free.specs.contracts.slots.slot.Slot.TheInside as Inside
 use Rattle.elsa_free.proofs.slots.slot.Slot.TheInside.TheLaws.{the_row_laws as inside_laws}

@@ -49,7 +49,7 @@ use base.Fml.{feq}
 use mir.Val.{of_list}
 use types.Tokens.{name_new}
 use Rattle.core.proofs.cell.Inside.{Good, one}
-use Rattle.elsa_free.specs.Slot.{Rest, Turn, at, kept, Cell, written, blank, tie, lent, Value, resting, free}
+use Rattle.elsa_free.specs.Slot.{Rest, Turn, field, tagged, tagged_lent, kept, cell, written, blank, tie, lent, memory, resting, free}
 use Rattle.elsa_free.specs.contracts.slots.slot.Slot.{the_row}
 use Rattle.elsa_free.specs.contracts.slots.slot.Slot.TheInside as Inside
 use Rattle.elsa_free.proofs.slots.slot.Slot.TheInside.TheLaws.{the_row_laws as inside_laws}
@@ -76,14 +76,14 @@ whole_spec {M} 𝓤 𝓛 𝓜 𝓡 wired T L =
     let others : Fml = fsep (flft κs.1.0 qs.1.0) (fsep (flft κs.1.1.0 qs.1.1.0) ftrue) in
     qed 𝓛 (((‵ (flft κ q) ⊛ ‵ others) ⊛ ‵ (owns (types_at En.signature.params κs) a y.0.4)) ∷ raw (fact 𝓤 _) ∷ raw (fact 𝓤 (w.of ≡ γ)) ∷ []) ∵
     keep ! (2 ∷ 0 ∷ []) $ heard ! (w.of ≡ γ) (λ same. split ! $ split ! $ move ! (2 ∷ []) $ fsplit3 ! $ fsplit ! $ move ! (2 ∷ []) $ fsplit ! $ keep ! (1 ∷ 3 ∷ 5 ∷ 6 ∷ []) $ unhide ! $ fsplit ! $ drop ! $
-    rewrite ! 0 (λ (k : ℕ). ‵ (written R k x)) same refl $ move ! (1 ∷ 2 ∷ 3 ∷ []) $ unhide ! $ fpick ! (λ t. let α : Lft = t.0 in let I : Fml = Cell R γ t b o in let e : ℕ = at R o in fsplit ! $
+    rewrite ! 0 (λ (k : ℕ). ‵ (written R k x)) same refl $ move ! (1 ∷ 2 ∷ 3 ∷ []) $ unhide ! $ fpick ! (λ t. let α : Lft = t.0 in let I : Fml = cell R (tagged R b o) (tagged_lent R b o) γ t in let e : ℕ = field R b o in fsplit ! $
     use1 𝓛 (‵ (before κ α) ⊛ ‵ (before κ α)) (types.Na.before_dup 𝓛 κ α) $ split ! $
     enter ! 𝓣.C 𝓣.Λ fn (vptr b o ∷ p ∷ []) Post $ alloc_all ! (λ l. pass_all ! refl ((tt, tt), ((tt, tt), tt)) $ let Ev = env fn.locals l in
     move ! (0 ∷ 3 ∷ []) $ use2 𝓛 (later (some (λ (s : Share). ‵ (flft α s) ⊛ raw (wand 𝓤 (A.lft α s) (H.⇛ (A.lft κ q)))))) (Lends-one 𝓛 𝓜 𝓡 κ α q) $ await ! tt $ pick ! (λ s. split ! $
-    let L' : Fml = lent R γ t b o (Rattle.elsa_free.specs.Slot.full x) in let Told : Type 0 = mathlib.Core.Path.Path O.Denot (Some x) (Some x) in
+    let L' : Fml = lent R (tagged R b o) (tagged_lent R b o) t (Rattle.elsa_free.specs.Slot.full x) in let Told : Type 0 = mathlib.Core.Path.Path O.Denot (Some x) (Some x) in
     -- [the turn's token; the way back; before; the invariant; the others; written]
     sets ! (addr ! (through ! refl (stop !))) refl (tt, tt) $ move ! (3 ∷ 0 ∷ 5 ∷ []) $
-    use3 𝓛 (later (‵ L' ⊛ ‵ (flft α s))) (steps.finds 𝓛 R γ t b o LO.shr_laws s x) $ await ! tt $ split ! $
+    use3 𝓛 (later (‵ L' ⊛ ‵ (flft α s))) (steps.finds R (tagged R b o) (tagged_lent R b o) γ 𝓛 t (λ z. LO.shr_laws (Some z) b e) s x) $ await ! tt $ split ! $
     -- [the shared value; the turn's token; the way back; before; the others]
     move ! (1 ∷ 2 ∷ []) $ use2 𝓛 (later (‵ (flft κ q))) (apply∗ 𝓤 (A.lft α s) (H.⇛ (A.lft κ q))) $ await ! tt $ move ! (0 ∷ 3 ∷ []) $ join ! $ move ! (2 ∷ 1 ∷ []) $
     use2 𝓛 (‵ (shared_of O (Some x) b e κ)) ((LO.shr_laws (Some x) b e).mono M 𝓤 𝓛 κ α) $ hide ! $ feq_i ! (List Val) (vptr b e ∷ []) (vptr b e ∷ []) refl $ fjoin ! $

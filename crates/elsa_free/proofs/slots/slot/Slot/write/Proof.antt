@@ -49,7 +49,7 @@ use base.Fml.{feq}
 use mir.Val.{of_list}
 use types.Tokens.{name_new}
 use Rattle.core.proofs.cell.Inside.{Good, one}
-use Rattle.elsa_free.specs.Slot.{Rest, Turn, at, kept, Cell, written, blank, tie, lent, Value, resting, free}
+use Rattle.elsa_free.specs.Slot.{Rest, Turn, field, tagged, tagged_lent, kept, cell, written, blank, tie, lent, memory, resting, free}
 use Rattle.elsa_free.specs.contracts.slots.slot.Slot.{the_row}
 use Rattle.elsa_free.specs.contracts.slots.slot.Slot.TheInside as Inside
 use Rattle.elsa_free.proofs.slots.slot.Slot.TheInside.TheLaws.{the_row_laws as inside_laws}
@@ -76,13 +76,13 @@ write_spec 𝓤 𝓛 𝓜 𝓡 wired T L =
     subst (λ (vss : List Val × (List Val × (List Val × Unit {0}))). ent 𝓤 ((walk_of 𝓛 En hs c).pre (At vss)) (WpFn 𝓤 H 𝓣.C 𝓣.Λ fn ((walk_of 𝓛 En hs c).args (At vss)) ((walk_of 𝓛 En hs c).post (At vss))))
     (λ i. (sym are.0.0 i, (sym got₀.1 i, (sym (blank_told y₀.0.4.1.1.0 are.1.1.0.0) i, tt)))) (
     qed 𝓛 (((‵ (flft κ q) ⊛ ‵ (flft τ r) ⊛ ‵ other) ⊛ ‵ (owns (types_at En.signature.params κs) a y.0.4)) ∷ raw (fact 𝓤 (τ ⊑ T.lives)) ∷ raw (fact 𝓤 (h ≡ γ)) ∷ []) ∵
-    keep ! (1 ∷ 2 ∷ 0 ∷ []) $ heard ! (τ ⊑ T.lives) (λ inc. heard ! (h ≡ γ) (λ same. split ! $ split3 ! $ move ! (3 ∷ []) $ fsplit3 ! $ fsplit ! $ move ! (3 ∷ []) $ fsplit ! $ fsplit ! $ keep ! (4 ∷ 6 ∷ 7 ∷ 8 ∷ 5 ∷ 1 ∷ []) $ unhide ! $ fpick ! (λ t. let α : Lft = t.0 in let I : Fml = Cell R γ t b o in let e : ℕ = at R o in fsplit ! $
+    keep ! (1 ∷ 2 ∷ 0 ∷ []) $ heard ! (τ ⊑ T.lives) (λ inc. heard ! (h ≡ γ) (λ same. split ! $ split3 ! $ move ! (3 ∷ []) $ fsplit3 ! $ fsplit ! $ move ! (3 ∷ []) $ fsplit ! $ fsplit ! $ keep ! (4 ∷ 6 ∷ 7 ∷ 8 ∷ 5 ∷ 1 ∷ []) $ unhide ! $ fpick ! (λ t. let α : Lft = t.0 in let I : Fml = cell R (tagged R b o) (tagged_lent R b o) γ t in let e : ℕ = field R b o in fsplit ! $
     move ! (1 ∷ []) $ use1 𝓛 (‵ (finv (fbor α I)) ⊛ ‵ (finv (fbor α I))) (𝓛.invs.inv_dup (fbor α I)) $ split ! $
     enter ! 𝓣.C 𝓣.Λ fn (vptr b o ∷ w₀ ∷ token_val ∷ []) Post $ alloc_all ! (λ l. pass_all ! refl ((tt, tt), (good₀, ((tt, (tt, tt)), tt))) $ let Ev = env fn.locals l in
     move ! (2 ∷ 3 ∷ []) $ use2 𝓛 (later (some (λ (s : Share). ‵ (flft α s) ⊛ raw (wand 𝓤 (A.lft α s) (H.⇛ (A.lft κ q)))))) (Lends-one 𝓛 𝓜 𝓡 κ α q) $ await ! tt $ pick ! (λ s. split ! $ let Back : SProp 𝓤 = H.⇛ (A.lft κ q) in
     -- [the turn's token; the way back; the invariant, twice; T's token; the other; the value; the right]
     sets ! (addr ! (through ! refl (stop !))) refl (tt, tt) $ rewrite ! 7 (λ (k : ℕ). ‵ (blank k)) same refl $ move ! (2 ∷ 0 ∷ 7 ∷ []) $
-    let Won : Fml = steps.Right 𝓛 R γ t b o in use3 𝓛 (later (‵ Won ⊛ ‵ (flft α s))) (steps.claims 𝓛 R γ t b o s) $ await ! tt $ split ! $ move ! (1 ∷ []) $
+    let Won : Fml = steps.Right R (tagged R b o) (tagged_lent R b o) γ 𝓛 t in use3 𝓛 (later (‵ Won ⊛ ‵ (flft α s))) (steps.claims R (tagged R b o) (tagged_lent R b o) γ 𝓛 t s) $ await ! tt $ split ! $ move ! (1 ∷ []) $
     -- [the turn's token; what was won; the way back; the invariant; T's token; the other; the value]
     let made : S.Denot = record { marker = record {}; of = γ; value = x } in let Told : Type 0 = (γ ≡ γ) × (x ≡ x) in
     move ! (6 ∷ []) $ use1 𝓛 (‵ (O.own_val (Some x) (w ∷ []))) (Some-of 𝓛 R x w₀) $
@@ -92,11 +92,11 @@ write_spec 𝓤 𝓛 𝓜 𝓡 wired T L =
     -- [the place; open; obs; auth; the slot's name; the new value; the way back; the invariant; T's token; the other]
     first ! $ blocks ! $ sets ! (addr ! (through ! refl (fld ! refl (stop !)))) refl (tt, tt) $ sets ! (of_opd ! (get ! refl)) refl good₀ $ sets ! (agg ! (and_then ! (lit ! tt) (and_then ! (get ! refl) (no_more !)))) refl good $
     assigns ! (of_opd ! (get ! refl)) (through ! refl (stop !)) (store_raw ! 0 refl good) $
-    move ! (0 ∷ 5 ∷ []) $ closes ! tt O (Some x) (w ∷ []) b e $ move ! (2 ∷ 6 ∷ []) $ join ! $ move ! (1 ∷ 2 ∷ 0 ∷ []) $ let F : Fml = steps.frozen 𝓛 R γ t b o x in
-    use3 𝓛 (later (‵ F ⊛ ‵ (flft α s) ⊛ ‵ (flft τ r))) (steps.freezes 𝓛 R γ t b o O.lives (LO.shares 𝓛) ((α, s) ∷ (τ, r) ∷ []) (Incl-trans (meet_⊑_right α τ) (Incl-trans inc (steps.option_lives R))) (meet_⊑_left α τ) x) $ await ! tt $ split3 ! $
+    move ! (0 ∷ 5 ∷ []) $ closes ! tt O (Some x) (w ∷ []) b e $ move ! (2 ∷ 6 ∷ []) $ join ! $ move ! (1 ∷ 2 ∷ 0 ∷ []) $ let F : Fml = steps.frozen R (tagged R b o) (tagged_lent R b o) γ 𝓛 t x in
+    use3 𝓛 (later (‵ F ⊛ ‵ (flft α s) ⊛ ‵ (flft τ r))) (steps.freezes R (tagged R b o) (tagged_lent R b o) γ 𝓛 t O.lives (λ z κ' ts'. LO.shares 𝓛 (Some z) κ' ts' b e) ((α, s) ∷ (τ, r) ∷ []) (Incl-trans (meet_⊑_right α τ) (Incl-trans inc (steps.option_lives R))) (meet_⊑_left α τ) x) $ await ! tt $ split3 ! $
     -- [frozen; the turn's token; T's token; the slot's name; the way back; the invariant; the other]
     move ! (3 ∷ 0 ∷ []) $ join ! $ move ! (4 ∷ 1 ∷ 0 ∷ []) $
-    use3 𝓛 (later (‵ (written R γ x) ⊛ ‵ (flft α s))) (steps.publishes 𝓛 R γ t b o s x) $ await ! tt $ split ! $
+    use3 𝓛 (later (‵ (written R γ x) ⊛ ‵ (flft α s))) (steps.publishes R (tagged R b o) (tagged_lent R b o) γ 𝓛 t s x) $ await ! tt $ split ! $
     -- [written; the turn's token; T's token; the way back; the other]
     move ! (1 ∷ 3 ∷ []) $ use2 𝓛 (later (‵ (flft κ q))) (apply∗ 𝓤 (A.lft α s) Back) $ await ! tt $ move ! (2 ∷ 3 ∷ []) $ join ! $ move ! (1 ∷ 0 ∷ []) $ join ! $ move ! (1 ∷ []) $
     use1 𝓛 (‵ (S.own_val made (token_val ∷ []))) (written_made 𝓛 R γ x) $

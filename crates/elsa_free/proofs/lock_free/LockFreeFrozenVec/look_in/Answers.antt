@@ -8,7 +8,7 @@ use Rattle.elsa_free.specs.History.{list_of, author_of, used_of}
 use Rattle.elsa_free.proofs.Logs.{items_length, list_prefix}
 use Rattle.elsa_free.proofs.Places.{look_places, push_places}
 use Rattle.elsa_free.proofs.Closing.{looked_mine}
-use Rattle.elsa_free.proofs.lock_free.LockFreeFrozenVec.len_in.Goals as goal
+use Rattle.elsa_free.proofs.lock_free.LockFreeFrozenVec.look_in.Goals as goal
 
 pub of-requires-clause-mine : goal.of-requires-clause-mine
 of-requires-clause-mine g c =
