@@ -89,7 +89,7 @@ module _ {M : Type 1} {𝓤 : Ura M} (𝓛 : Logic 𝓤) where
         let held : true ≡ is_held ys = sym (ap is_held m.1.0 ∙ held_snoc true xs Took) in
         let so : xs ≡ r = sym m.0 in
         let l : list_of xs ≡ list_of ys = sym (ap list_of m.1.0 ∙ (list_snoc xs Took ∙ append-nil (list_of xs))) in
-        qed 𝓛 [] ∵ assume ! (‵ (Kept xs)) $ fsplit ! $ fsplit ! $ rewrite ! 0 (λ (b : Bool). ‵ (at (part b) xs)) m.1.1 refl $ rewrite ! 1 (λ (b : Bool). ‵ (Spare b (length (list_of xs)))) m.1.1 refl $
+        qed 𝓛 [] ∵ assume ! (‵ (Kept xs)) $ fsplit ! $ fsplit ! $ rewrite ! 0 (λ (b : Bool). ‵ (at (part b) xs)) m.1.1.was_free refl $ rewrite ! 1 (λ (b : Bool). ‵ (Spare b (length (list_of xs)))) m.1.1.was_free refl $
         use1 𝓛 (raw (upd 𝓤 ⟦ at full_share (xs ++ Took ∷ []) ⟧)) (latest_grows logs 𝓛 (head names) (kinds xs) (kinds (xs ++ Took ∷ [])) (kinds_prefix xs Took)) $ settle 𝓛 Z (‵ (at full_share (xs ++ Took ∷ []))) $
         use1 𝓛 (‵ (at quarter (xs ++ Took ∷ [])) ⊛ ‵ (at three_quarters (xs ++ Took ∷ []))) (latest_cut logs 𝓛 full_share quarter three_quarters (head names) (kinds (xs ++ Took ∷ [])) base.Share.quarters) $ split ! $
         suffices ! _ (upd_i 𝓤 Z) $
@@ -107,7 +107,7 @@ module _ {M : Type 1} {𝓤 : Ura M} (𝓛 : Logic 𝓤) where
         qed 𝓛 (‵ (author a n) ∷ []) ∵ assume ! (‵ (Kept xs)) $ fsplit ! $ move ! (1 ∷ []) $ fsplit ! $ move ! (1 ∷ 3 ∷ []) $
         -- [tickets; author; all; position and spare]
         use2 𝓛 (given (count (suc a) L ≤ n) (‵ (tickets [] L) ⊛ ‵ (tickets_from a n))) (tickets_bound 𝓛 T.Denot a n [] L (omega arith)) $ learn ! (λ le. split ! $ move ! (2 ∷ []) $
-        use1 𝓛 (‵ (All L) ⊛ ‵ (All L)) (all_dup 𝓛 T B ids tops 0 (items_of L)) $ split ! $ move ! (0 ∷ 2 ∷ []) $ fjoin ! $ move ! (3 ∷ 0 ∷ []) $ fjoin ! $ rewrite ! 0 (λ (l : Log). ‵ (Kept l)) (sym m.1) refl $
+        use1 𝓛 (‵ (All L) ⊛ ‵ (All L)) (all_dup 𝓛 T B ids tops 0 (items_of L)) $ split ! $ move ! (0 ∷ 2 ∷ []) $ fjoin ! $ move ! (3 ∷ 0 ∷ []) $ fjoin ! $ rewrite ! 0 (λ (l : Log). ‵ (Kept l)) (sym m.1.0) refl $
         suffices ! _ (upd_i 𝓤 Z) $ frame ! $ rewrite ! 0 (λ (l : Log). ‵ (All (list_of l))) so refl $ nothing ! $
         fpack ! (count (suc a) (list_of r) ≤ n) (λ _. ftrue) (subst (λ (l : Log). count (suc a) (list_of l) ≤ n) so le) $ move ! (2 ∷ 0 ∷ 1 ∷ []) $ fjoin ! $ move ! (1 ∷ 0 ∷ []) $ fjoin ! $ done !))
 
@@ -170,8 +170,8 @@ module _ {M : Type 1} {𝓤 : Ura M} (𝓛 : Logic 𝓤) where
           suffices ! _ (upd_i 𝓤 Z) $ frame ! $ nothing ! $
           fpack ! (Known r) (λ _. ftrue) ((ap length is ∙ kinds_same xs v agree), subst (λ (y : Log). count (suc a) (list_of y) ≤ k) (sym is) le) $ move ! (1 ∷ 0 ∷ []) $ fjoin ! $ done !))
 
-      pub ends_hold : ⟦ Given ⟧ ⊢ ⟦ offer_owns Kept Goes Back None ⟧
-      ends_hold = offers Goes Back ⟦ Given ⟧ one
+      pub ends_hold : (moves : Log → Log → Log → Type 0) → ((xs ys r : Log) → moves xs ys r → Goes xs ys r) → ⟦ Given ⟧ ⊢ ⟦ offer_owns Kept moves Back None ⟧
+      ends_hold moves into = offers moves Back ⟦ Given ⟧ (λ xs ys r m. one xs ys r (into xs ys r m))
 
     -- release unchanged
     free_of_charge : (a k : ℕ) (L : Entries) → count (suc a) L ≤ k → ⟦ author a k ⟧ ⊢ ⟦ tickets L [] ⟧ ∗ ⟦ author a k ⟧
@@ -179,7 +179,7 @@ module _ {M : Type 1} {𝓤 : Ura M} (𝓛 : Logic 𝓤) where
 
     pub gives : (v : Log) (a k : ℕ) → ⟦ fsep (right names v) (fsep (Rights (length (list_of v))) (author a k)) ⟧ ⊢ ⟦ offer_owns Kept (Moved {T = T.Denot} Gave) (gave T B ids (Seat a k ∷ v)) None ⟧
     gives v a k = qed 𝓛 (‵ (fsep (right names v) (fsep (Rights (length (list_of v))) (author a k))) ∷ []) ∵ fsplit3 ! $ move ! (1 ∷ []) $
-        rewrite ! 0 (λ (y : ℕ). ‵ (Rights y)) (let z : length (list_of v) ≡ length (list_of v) + 0 = omega arith in z) refl $ nothing ! $ move ! (1 ∷ 0 ∷ []) $ fjoin ! $ move ! (1 ∷ 0 ∷ []) $ fjoin3 ! $ by ! (ends_hold v Gave refl a k k (free_of_charge a k))
+        rewrite ! 0 (λ (y : ℕ). ‵ (Rights y)) (let z : length (list_of v) ≡ length (list_of v) + 0 = omega arith in z) refl $ nothing ! $ move ! (1 ∷ 0 ∷ []) $ fjoin ! $ move ! (1 ∷ 0 ∷ []) $ fjoin3 ! $ by ! (ends_hold v Gave refl a k k (free_of_charge a k) (Moved {T = T.Denot} Gave) (λ xs ys r m. (m.0, elim m.1 [ inl s ↦ inl s | inr t ↦ inr (t.0, t.1.was_held) ])))
 
     -- publish the items of a clone
     copies_pay : (a k : ℕ) (cs : List T.Denot) (L : Entries) → count (suc a) L ≤ k → ⟦ author a k ⟧ ⊢ ⟦ tickets L (copied cs) ⟧ ∗ ⟦ author a k ⟧
@@ -187,7 +187,7 @@ module _ {M : Type 1} {𝓤 : Ura M} (𝓛 : Logic 𝓤) where
 
     pub copies : (v : Log) (cs : List T.Denot) (a k : ℕ) → ⟦ fsep (right names v) (fsep (fsep (Rights (length (list_of v) + length (copied cs))) (all_told T B ids tops (length (list_of v)) (items_of (copied cs)))) (author a k)) ⟧
         ⊢ ⟦ offer_owns Kept (Moved {T = T.Denot} (Copied cs)) (gave T B ids (Seat a k ∷ v)) None ⟧
-    copies v cs a k = ends_hold v (Copied cs) refl a k k (copies_pay a k cs)
+    copies v cs a k = ends_hold v (Copied cs) refl a k k (copies_pay a k cs) (Moved {T = T.Denot} (Copied cs)) (λ xs ys r m. m)
 
     -- publish an entry
     entry_pays : (x : Entry T.Denot) (a k : ℕ) → x.author ≡ suc a → (L : Entries) → count (suc a) L ≤ k → ⟦ author a k ⟧ ⊢ ⟦ tickets L (x ∷ []) ⟧ ∗ ⟦ author a (suc k) ⟧
@@ -200,4 +200,4 @@ module _ {M : Type 1} {𝓤 : Ura M} (𝓛 : Logic 𝓤) where
         ⊢ ⟦ offer_owns Kept (Moved {T = T.Denot} (Put x)) (wrote T B ids (Seat a k ∷ v)) None ⟧
     publishes v x a k mine = qed 𝓛 (‵ (fsep (right names v) (fsep (fsep (Rights (suc (length (list_of v)))) (told T B ids tops (length (list_of v)) x.item)) (author a k))) ∷ []) ∵
         fsplit3 ! $ move ! (1 ∷ []) $ fsplit ! $ rewrite ! 0 (λ (y : ℕ). ‵ (Rights y)) (let z : suc (length (list_of v)) ≡ length (list_of v) + 1 = omega arith in z) refl $ move ! (1 ∷ []) $ nothing ! $ move ! (1 ∷ 0 ∷ []) $ fjoin ! $
-        move ! (1 ∷ 0 ∷ []) $ fjoin ! $ move ! (1 ∷ 0 ∷ 2 ∷ []) $ fjoin3 ! $ by ! (ends_hold v (Put x) refl a k (suc k) (entry_pays x a k mine))
+        move ! (1 ∷ 0 ∷ []) $ fjoin ! $ move ! (1 ∷ 0 ∷ 2 ∷ []) $ fjoin3 ! $ by ! (ends_hold v (Put x) refl a k (suc k) (entry_pays x a k mine) (Moved {T = T.Denot} (Put x)) (λ xs ys r m. (m.0, elim m.1 [ inl s ↦ inl s | inr t ↦ inr (t.0, t.1.was_held) ])))

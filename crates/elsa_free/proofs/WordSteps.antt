@@ -7,8 +7,9 @@ use prog.Atomic.{either}
 use Rattle.logbook.specs.Pages.{Cell, cell, keeps, no_nib, step, Moves, Goes}
 use Rattle.elsa_free.specs.declared.event.Event.{Event}
 use Rattle.elsa_free.specs.declared.event.Event.TheVariants.{Took, Put, Copied, Gave, Seat}
-use Rattle.elsa_free.specs.SharedList.{bit}
-use Rattle.elsa_free.specs.History.{list_of, entries, takes, is_held}
+use Rattle.elsa_free.specs.declared.event.Entry.{Entry}
+use Rattle.elsa_free.specs.AtomicSteps.{bit, Acquires as IsAcquire, Looks as IsLook, Publishes as IsPublish, Releases as IsRelease}
+use Rattle.elsa_free.specs.History.{list_of, entries, takes, is_held, shared_by}
 use Rattle.elsa_free.specs.Rights.{Moved}
 use Rattle.elsa_free.specs.OneWord.{IsKept, Sees, Reads, Acquires, Ends, word_of}
 use Rattle.elsa_free.proofs.Logs.{held_snoc, list_snoc, prefix_whole}
@@ -43,6 +44,19 @@ module _ (T : Type 0) where
   pub word_snoc : (log : Log) (e : Event T) → takes e ≡ false → word_of (log ++ e ∷ []) ≡ 2 * (length (list_of log) + length (entries e))
   word_snoc log e ends = let h : bit (is_held (log ++ e ∷ [])) ≡ 0 = ap bit (held_snoc true log e ∙ ends) in let l = ap length (list_snoc log e) in omega (arith, length-append (list_of log) (entries e))
 
+  -- ---- the atomic steps, by their relations
+  taken : (xs ys : Log) → ys ≡ xs ++ Took ∷ [] → is_held xs ≡ false → IsAcquire (length (list_of xs)) (shared_by xs) (shared_by ys)
+  taken xs ys is free = let l : list_of ys ≡ list_of xs = ap list_of is ∙ (list_snoc xs Took ∙ append-nil (list_of xs)) in
+      record { was_free = free; was_at = refl; length_is = ap length l; held_is = ap is_held is ∙ held_snoc true xs Took; list_is = l }
+
+  published : (xs ys : Log) (x : Entry T) → ys ≡ xs ++ Put x ∷ [] → is_held xs ≡ true → IsPublish x (shared_by xs) (shared_by ys)
+  published xs ys x is held = let l : list_of ys ≡ list_of xs ++ x ∷ [] = ap list_of is ∙ list_snoc xs (Put x) in
+      record { was_held = held; length_is = ap length l ∙ length-append (list_of xs) (x ∷ []); held_is = ap is_held is ∙ held_snoc true xs (Put x); list_is = l }
+
+  released : (xs ys : Log) → ys ≡ xs ++ Gave ∷ [] → is_held xs ≡ true → IsRelease (shared_by xs) (shared_by ys)
+  released xs ys is held = let l : list_of ys ≡ list_of xs = ap list_of is ∙ (list_snoc xs Gave ∙ append-nil (list_of xs)) in
+      record { was_held = held; length_is = ap length l; held_is = ap is_held is ∙ held_snoc true xs Gave; list_is = l }
+
   -- ---- acquire
   module _ (v : Log) (found : ℕ) (even : found % 2 ≡ 0) where
     abbrev AcquireGoes : List Cell → Log → Type 0
@@ -61,7 +75,7 @@ module _ (T : Type 0) where
           Some log,
           tt,
           record { words = ap (λ (k : ℕ). (k, true) ∷ (0, true) ∷ []) n; small = omega (arith, len, tiny) },
-          inr (log, refl, refl, (refl, (refl, free))),
+          inr (log, refl, refl, (refl, (refl, taken log (log ++ Took ∷ []) refl free))),
           rw is (log, refl, refl, refl, free, tiny),
         )
     acquire_goes log tiny false is =
@@ -83,9 +97,9 @@ module _ (T : Type 0) where
   -- ---- the end of a hold
   moved : (e : Event T) (xs ys r : Log) → takes e ≡ false → plain e ≡ true → (r ≡ xs) × ((ys ≡ xs) ⊎ ((ys ≡ xs ++ e ∷ []) × (is_held xs ≡ true))) → Moved e xs ys r
   moved Took xs ys r ends pl m = absurd (cc ends)
-  moved (Put x) xs ys r ends pl m = m
+  moved (Put x) xs ys r ends pl m = (m.0, elim m.1 [ inl s ↦ inl s | inr t ↦ inr (t.0, published xs ys x t.0 t.1) ])
   moved (Copied cs) xs ys r ends pl m = m
-  moved Gave xs ys r ends pl m = m
+  moved Gave xs ys r ends pl m = (m.0, elim m.1 [ inl s ↦ inl s | inr t ↦ inr (t.0, released xs ys t.0 t.1) ])
   moved (Seat a n) xs ys r ends pl m = absurd (cc pl)
 
   module _ (v : Log) (e : Event T) (held after : ℕ) (ends : takes e ≡ false) (pl : plain e ≡ true) (low : length (list_of (v ++ e ∷ [])) < 2 ^ 62) (holds : is_held v ≡ true) (was : held ≡ word_of v) (will : after ≡ word_of (v ++ e ∷ [])) where
@@ -160,7 +174,10 @@ module _ (T : Type 0) where
       let P : List Cell → Type 0 = λ c. (0 < length c) × ((cell c 0).1 ≡ true) × Goes IsKept (λ (log : Logs). log) (Moved ask) 0 (v, (no_nib, state)) (λ n. n) (Sees (step 0 0 0 ask) (v, (no_nib, state))) c log in
       subst P (sym kept.words) (omega arith, refl, (keeps, [], state, tt, subst (λ (x : Logs). IsKept ((word_of log, true) ∷ (0, true) ∷ []) x) (sym all) record { words = refl; small = kept.small }, inl (refl, all), ap word_of all))
 
+  seen_at : (xs ys : Logs) → ys ≡ xs → IsLook (length (list_of xs)) (shared_by xs) (shared_by ys)
+  seen_at xs ys is = record { sees = refl; stays = record { length_is = ap (λ (l : Logs). length (list_of l)) is; held_is = ap is_held is; list_is = ap list_of is } }
+
   pub reads_moves : (v : Logs) (a n : ℕ) → Moves IsKept (λ (log : Logs). log) (Moved (Seat a n)) 0 (v, (no_nib, None)) (λ n. n) (Reads (step 0 0 0 (Seat a n)) (v, (no_nib, None)))
   reads_moves v a n cs log kept pre away = let all : log ++ [] ≡ log = append-nil log in
       let P : List Cell → Type 0 = λ c. (0 < length c) × ((cell c 0).1 ≡ true) × Goes IsKept (λ (log : Logs). log) (Moved (Seat a n)) 0 (v, (no_nib, None)) (λ n. n) (Reads (step 0 0 0 (Seat a n)) (v, (no_nib, None))) c log in
-      subst P (sym kept.words) (omega arith, refl, (keeps, [], Some log, tt, subst (λ (x : Logs). IsKept ((word_of log, true) ∷ (0, true) ∷ []) x) (sym all) record { words = refl; small = kept.small }, inr (log, refl, refl, (refl, all)), (ap word_of all, ap Some (sym all), subst (λ (x : Logs). length (list_of x) < 2 ^ 62) (sym all) kept.small)))
+      subst P (sym kept.words) (omega arith, refl, (keeps, [], Some log, tt, subst (λ (x : Logs). IsKept ((word_of log, true) ∷ (0, true) ∷ []) x) (sym all) record { words = refl; small = kept.small }, inr (log, refl, refl, (refl, (all, seen_at log (log ++ []) all))), (ap word_of all, ap Some (sym all), subst (λ (x : Logs). length (list_of x) < 2 ^ 62) (sym all) kept.small)))

@@ -4,6 +4,7 @@ use Rattle.std.specs.Prelude.{ℕ, ◌≡◌, ◌+◌, ◌*◌, Bool, true, fals
 use Rattle.elsa_free.specs.declared.event.Entry.{Entry}
 use Rattle.elsa_free.specs.declared.event.Event.{Event}
 use Rattle.elsa_free.specs.declared.event.Event.TheVariants.{Took, Put, Copied, Gave, Seat}
+use Rattle.elsa_free.specs.AtomicSteps.{Shared}
 use Rattle.elsa_free.specs.SharedList.{copied}
 
 module _ {T : Type 0} where
@@ -34,6 +35,10 @@ module _ {T : Type 0} where
   -- whether a thread holds: at the start the maker does, and later who took last and has not given back
   abbrev pub is_held : List (Event T) → Bool
   is_held es = held_from true es
+
+  -- what the threads share, as the history leaves it
+  abbrev pub shared_by : List (Event T) → Shared (Entry T)
+  shared_by es = record { length = length (list_of es); held = is_held es; list = list_of es }
 
   -- what the right to go on remembers of an event: of what kind it was, and how many entries it added
   abbrev pub kind : Event T → ℕ

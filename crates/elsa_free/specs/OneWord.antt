@@ -1,11 +1,11 @@
--- The one word of a vector, and what each of its atomic steps tells.
--- The word is twice the length of the shared list, and one more while a thread holds.
+-- The one word of a vector, and what each of its atomic steps tells the thread that makes it.
+-- The word is that of the atomic steps: twice the length of the shared list, and one more while a thread holds.
 use Rattle.std.specs.Prelude.{ℕ, ◌≡◌, ◌+◌, ◌*◌, ◌<◌, ◌≤◌, ◌^◌, ◌==◌, Bool, true, false, List, [], ◌∷◌, ◌++◌, length, MatchBool, Some, None}
 use mathlib.Core.List.{IsPrefix}
 use Rattle.logbook.specs.Pages.{Cell, Step, View, Book, Named}
 use Rattle.elsa_free.specs.declared.event.Event.{Event}
-use Rattle.elsa_free.specs.SharedList.{bit}
-use Rattle.elsa_free.specs.History.{list_of, is_held}
+use Rattle.elsa_free.specs.AtomicSteps as steps
+use Rattle.elsa_free.specs.History.{list_of, is_held, shared_by}
 
 -- the vector's word is the first of its book
 abbrev pub word_in : Book → Named
@@ -13,7 +13,7 @@ word_in b = record { tracked = true; key = 0; book = b }
 
 module _ {T : Type 0} where
   abbrev pub word_of : List (Event T) → ℕ
-  word_of log = 2 * length (list_of log) + bit (is_held log)
+  word_of log = steps.word_of (shared_by log)
 
   -- the rule: the word says how long the list is and whether a thread holds, and a second word that nobody uses stays 0
   pub record IsKept (cells : List Cell) (log : List (Event T)) : Type 0 where

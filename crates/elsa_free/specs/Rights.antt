@@ -17,7 +17,8 @@ use Rattle.elsa_free.specs.declared.event.Entry.{Entry}
 use Rattle.elsa_free.specs.declared.event.Event.{Event}
 use Rattle.elsa_free.specs.declared.event.Event.TheVariants.{Took, Put, Copied, Gave, Seat}
 use Rattle.elsa_free.specs.SharedList.{count, items_of}
-use Rattle.elsa_free.specs.History.{list_of, is_held, kinds, author_of, used_of, others}
+use Rattle.elsa_free.specs.AtomicSteps.{Acquires as IsAcquire, Looks as IsLook, Publishes as IsPublish, Releases as IsRelease}
+use Rattle.elsa_free.specs.History.{list_of, is_held, shared_by, kinds, author_of, used_of, others}
 
 abbrev pub logs : Order (List ℕ)
 logs = prefixes coded_ℕ
@@ -77,13 +78,15 @@ module _ {T : Type 0} where
   tickets pre [] = ftrue
   tickets pre (e ∷ es) = fsep (one_ticket pre e.author) (tickets (pre ++ e ∷ []) es)
 
-  -- how a step moves the history, by what it asks. The answer is the history before. A holder's last step may also fail
+  -- How a step moves the history, by what it asks, and which atomic step that is. The answer is the history before. A
+  -- holder's last step is offered whether its exchange succeeds or not. The items of a clone are published while no other
+  -- thread has the vector
   abbrev pub Moved : Event T → List (Event T) → List (Event T) → List (Event T) → Type 0
-  Moved Took xs ys r = (r ≡ xs) × ((ys ≡ xs ++ Took ∷ []) × (is_held xs ≡ false))
-  Moved (Put x) xs ys r = (r ≡ xs) × ((ys ≡ xs) ⊎ ((ys ≡ xs ++ Put x ∷ []) × (is_held xs ≡ true)))
+  Moved Took xs ys r = (r ≡ xs) × ((ys ≡ xs ++ Took ∷ []) × IsAcquire (length (list_of xs)) (shared_by xs) (shared_by ys))
+  Moved (Put x) xs ys r = (r ≡ xs) × ((ys ≡ xs) ⊎ ((ys ≡ xs ++ Put x ∷ []) × IsPublish x (shared_by xs) (shared_by ys)))
   Moved (Copied cs) xs ys r = (r ≡ xs) × ((ys ≡ xs) ⊎ ((ys ≡ xs ++ Copied cs ∷ []) × (is_held xs ≡ true)))
-  Moved Gave xs ys r = (r ≡ xs) × ((ys ≡ xs) ⊎ ((ys ≡ xs ++ Gave ∷ []) × (is_held xs ≡ true)))
-  Moved (Seat a n) xs ys r = (r ≡ xs) × (ys ≡ xs)
+  Moved Gave xs ys r = (r ≡ xs) × ((ys ≡ xs) ⊎ ((ys ≡ xs ++ Gave ∷ []) × IsRelease (shared_by xs) (shared_by ys)))
+  Moved (Seat a n) xs ys r = (r ≡ xs) × ((ys ≡ xs) × IsLook (length (list_of xs)) (shared_by xs) (shared_by ys))
 
   -- what the pass of an offer learns of its own entries: it has no more than it pushed
   abbrev pub OnlyPushed : List (Event T) → List (Event T) → Type 0

@@ -3,16 +3,13 @@
 use Rattle.std.specs.Prelude.{ℕ, suc, ◌≡◌, ◌+◌, ◌<◌, ◌≤◌, ◌==◌, Bool, true, false, List, [], ◌∷◌, ◌++◌, length, map, if◌then◌else◌, Contains, nat_le}
 use mathlib.Core.List.{IsPrefix}
 use Rattle.logbook.specs.Pages.{Book}
+pub use Rattle.elsa_free.specs.AtomicSteps.{bit}
 use Rattle.elsa_free.specs.Geometry.{slots_before}
 use Rattle.elsa_free.specs.declared.event.Entry.{Entry}
 
 -- which vector a pass is of
 abbrev pub Vector : Type 0
 Vector = Book × List ℕ
-
-abbrev pub bit : Bool → ℕ
-bit true = 1
-bit false = 0
 
 module _ {T : Type 0} where
   abbrev pub item_of : Entry T → T

@@ -149,6 +149,9 @@ impl<T, A: Allocator> Pass<T, A> {
     }
 }
 
+// What a pass has is history that was seen and tickets: no reference, and nothing of one thread.
+unsafe impl<T, A: Allocator> Send for Pass<T, A> {}
+
 impl<T, A: Allocator> Drop for Pass<T, A> {
     fn drop(self) {
         let (seen, author, _length) = self.parts();
