@@ -47,6 +47,10 @@ module _ {M : Type 1} {𝓤 : Ura M} (𝓛 : Logic 𝓤) (T B : RattleType) (ids
   closed_at n b e (closed c) f = let at = starts n b e in let to = starts n c f in subst (λ (k : ℕ). ⟦ blanks (drops c tops) ⟧ ⊢ ⟦ blanks (drops k tops) ⟧) (one_slot n c 0 b 0 to at).0 (id⊢ 𝓤 ⟦ blanks (drops c tops) ⟧)
   closed_at n b e (opened c j row) f = let same = (one_slot n b 0 c j (starts n b e) f.0).1 in absurd (let pos : 0 < j = f.1 in omega (arith, same, pos))
 
+  pub room_opens : (n b j : ℕ) (row : B.Denot) → IsAt n b j → 0 < j → length (ids row) ≡ 3 * 4 ^ b → ⟦ fsep (Row b row) (fsep (blanks (drops j (ids row))) (blanks (drops (suc b) tops))) ⟧ ⊢ ⟦ Rights n ⟧
+  room_opens n b j row at pos len = let r : Room B.Denot = opened b j row in let F : Room B.Denot → Fml = going T B ids tops n in let Φ : Type 0 = Fits T B ids n r in
+      qed 𝓛 (‵ (fsep (Row b row) (fsep (blanks (drops j (ids row))) (blanks (drops (suc b) tops)))) ∷ []) ∵ nothing ! $ fpack ! Φ (λ _. ftrue) (at, pos, len) $ fjoin ! $ fpack ! (Room B.Denot) F r $ done !
+
   pub room_closed : (n b : ℕ) → n + 1 ≡ 4 ^ b → ⟦ Rights n ⟧ ⊢ ⟦ blanks (drops b tops) ⟧
   room_closed n b e = qed 𝓛 (‵ (Rights n) ∷ []) ∵ fpick ! (λ r. fsplit ! $ fpick ! (λ f. drop ! $ by ! (closed_at n b e r f)))
 

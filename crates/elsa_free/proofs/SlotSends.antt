@@ -1,5 +1,5 @@
 -- What of slots may cross threads. Assumes nothing.
-use Rattle.std.proofs.Common.{ℕ, ◌+◌, List, [], ◌∷◌}
+use Rattle.std.proofs.Common.{ℕ, suc, ◌+◌, List, [], ◌∷◌}
 use Rattle.std.specs.Prelude.{Option, Some, None}
 use Rattle.std.specs.Mem.{type_size}
 use base.Fraction.{full_share}
@@ -10,6 +10,9 @@ use denote.Param.Send.{IsSend, IsSync, Common, AllSend, part_keyless, owning_sen
 use denote.Struct.Owning.{shape, fields, to}
 use denote.Struct.Struct.{Struct, exits_of}
 use Rattle.core.specs.declared.alloc.Allocator.{Ghosts}
+use Rattle.elsa_free.specs.declared.slots.told.Shelf.{Ghosts as ShelfGhosts}
+use Rattle.elsa_free.specs.Told.{all_told}
+use Rattle.elsa_free.specs.contracts.slots.told.Told as Told
 use Rattle.std.specs.contracts.option.Option.{the_row as OptionOf}
 use Rattle.std_alloc.proofs.SendSync.{FreesAnywhere, quiet}
 use Rattle.elsa_free.specs.Slot.{tagged, tagged_lent, untagged, untagged_lent, slots, slots_lent, cells_own, cells_lent, blanks}
@@ -90,3 +93,14 @@ blanks_keyless (γ ∷ γs) = (tt, blanks_keyless γs)
 
 pub blanks_send : IsSend Blanks.the_row
 blanks_send = record { owned = λ d vs. ((λ vss. (tt, ((λ uss. (tt, tt)), tt))), blanks_keyless d.of); leaving = λ k f vs. tt }
+
+module _ (T B : RattleType) (g : ShelfGhosts B.Denot) where
+  all_told-Keyless : (tops : List ℕ) (i : ℕ) (xs : List T.Denot) → Keyless (all_told T B g.ids tops i xs)
+  all_told-Keyless tops i [] = tt
+  all_told-Keyless tops i (x ∷ xs) = ((λ w. ((λ _. tt), (tt, tt))), all_told-Keyless tops (suc i) xs)
+
+  pub told_send : IsSend (Told.the_row T B g)
+  told_send = record { owned = λ d vs. ((λ vss. (tt, ((λ uss. (tt, tt)), tt))), all_told-Keyless d.tops 0 d.items); leaving = λ k f vs. tt }
+
+  pub told_sync : IsSync (Told.the_row T B g)
+  told_sync = let O = Told.the_type T B g in record { shared = λ d b o κ. ((struct_sync (shape O) (search sendable, tt)).shared (to O d) b o κ, all_told-Keyless d.tops 0 d.items) }

@@ -24,7 +24,7 @@ use Rattle.elsa_free.specs.SharedList.{copied, count, items_of}
 use Rattle.elsa_free.specs.History.{takes, is_held, list_of, entries, kinds}
 use Rattle.elsa_free.specs.Rights.{logs, head, tops_of, part, fact, author, at_log, position, right, one_ticket, tickets, Moved, told, all_told, rights, spare, kept, took, looked, gave, wrote}
 use Rattle.elsa_free.proofs.Logs.{held_snoc, items_append, items_length, list_snoc, count_snoc, kinds_prefix, kinds_list, kinds_same}
-use Rattle.elsa_free.proofs.Evidence.{all_append, all_dup}
+use Rattle.elsa_free.proofs.ToldPlaces.{all_append, all_dup}
 use Rattle.elsa_free.proofs.Tickets.{copied_tickets, tickets_append, tickets_bound}
 
 module _ {M : Type 1} {𝓤 : Ura M} (𝓛 : Logic 𝓤) where

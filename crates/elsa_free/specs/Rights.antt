@@ -12,6 +12,7 @@ use base.Growing.{Order, prefixes, latest}
 use types.Keyed.{ticket, tickets_from}
 use denote.RattleType.{RattleType}
 use Rattle.elsa_free.specs.Slot.{written, blanks}
+pub use Rattle.elsa_free.specs.Told.{Where, at_place, told, all_told}
 use Rattle.elsa_free.specs.Geometry.{IsAt}
 use Rattle.elsa_free.specs.declared.event.Entry.{Entry}
 use Rattle.elsa_free.specs.declared.event.Event.{Event}
@@ -40,12 +41,6 @@ part false = full_share
 
 abbrev pub fact : Type 0 → Fml
 fact φ = fex φ (λ _. ftrue)
-
--- where a place lies, and what stands in the slot of its buffer
-pub record Where (B : Type 0) : Type 0 where
-  pub buffer : ℕ
-  pub slot : ℕ
-  pub row : B
 
 -- where the list goes on: in a buffer that nobody has opened, or at a slot of an open one
 pub data Room (B : Type 0) : Type 0 where
@@ -94,19 +89,6 @@ module _ {T : Type 0} where
 
 -- T is the item's type, B that of a buffer, and ids the slots of a buffer
 module _ (T B : RattleType) (ids : B.Denot → List ℕ) where
-  abbrev pub at_place : List ℕ → ℕ → T.Denot → Where B.Denot → Fml
-  at_place tops i x w = fsep (fact (IsAt i w.buffer w.slot × (length (ids w.row) ≡ 3 * 4 ^ w.buffer)))
-      (fsep (written B (slice_index_or tops w.buffer 0) w.row) (written T (slice_index_or (ids w.row) w.slot 0) x))
-
-  -- the place i was written, with this item
-  abbrev pub told : List ℕ → ℕ → T.Denot → Fml
-  told tops i x = fex (Where B.Denot) (at_place tops i x)
-
-  -- the places from i on were written, with these items
-  abbrev pub all_told : List ℕ → ℕ → List T.Denot → Fml
-  all_told tops i [] = ftrue
-  all_told tops i (x ∷ xs) = fsep (told tops i x) (all_told tops (suc i) xs)
-
   abbrev pub Fits : ℕ → Room B.Denot → Type 0
   Fits n (closed b) = n + 1 ≡ 4 ^ b
   Fits n (opened b j row) = IsAt n b j × (0 < j) × (length (ids row) ≡ 3 * 4 ^ b)
@@ -129,7 +111,7 @@ module _ (T B : RattleType) (ids : B.Denot → List ℕ) where
   -- all that lies in the rule
   abbrev pub kept : List ℕ → List (Event T.Denot) → Fml
   kept names log = fsep (fsep (position names log) (spare (is_held log) (tops_of names) (length (list_of log))))
-      (fsep (all_told (tops_of names) 0 (items_of (list_of log))) (tickets [] (list_of log)))
+      (fsep (all_told T B ids (tops_of names) 0 (items_of (list_of log))) (tickets [] (list_of log)))
 
   -- What a step hands out. To who takes the right: the right, and the rights to write on;
   abbrev pub took : List ℕ → List (Event T.Denot) → Fml
@@ -137,7 +119,7 @@ module _ (T B : RattleType) (ids : B.Denot → List ℕ) where
 
   -- to who looks: the evidence for all that is seen, and the pass's tickets back;
   abbrev pub looked : List ℕ → List (Event T.Denot) → List (Event T.Denot) → Fml
-  looked names about r = fsep (all_told (tops_of names) 0 (items_of (list_of r))) (fsep (author (author_of about) (used_of about)) (fact (OnlyPushed about r)))
+  looked names about r = fsep (all_told T B ids (tops_of names) 0 (items_of (list_of r))) (fsep (author (author_of about) (used_of about)) (fact (OnlyPushed about r)))
 
   -- to who ends a hold: the pass's tickets back, with one fewer where it published an entry, and that the history was as it knew
   abbrev pub gave : List (Event T.Denot) → List (Event T.Denot) → Fml

@@ -5,14 +5,14 @@
 //! seen nothing, so their contracts say less.
 ghost use Rattle.std.specs.Prelude.{◌≡◌, ◌≢◌, ◌≤◌, ◌<◌, ◌^◌, [], ◌∷◌, ◌++◌, length, slice_get, IfOk, IfErr, suc};
 ghost use mathlib.Core.List.{IsPrefix};
-ghost use Rattle.elsa_free.specs.SharedList.{Apart, Appends, BeginsABuffer, IsSamePass, count, entry, items_of, longer, mine};
+ghost use Rattle.elsa_free.specs.SharedList.{Apart, Appends, BeginsABuffer, IsSamePass, copied, count, entry, items_of, longer, mine};
 ghost use Rattle.elsa_free.specs.History.{list_of};
 ghost use Rattle.elsa_free.specs.Rights.{tops_of};
 ghost use lib.Pointwise.{pointwise};
 
 use crate::shared::{Known, Shared};
-use crate::slots::Row;
-use crate::trade::{Author, Filled, apart, looked, settled};
+use crate::slots::{Row, Told};
+use crate::trade::{Author, apart, looked, settled};
 use std::alloc::{AllocError, Allocator, Global};
 use std::marker::Model;
 use std::sync::Wait;
@@ -237,7 +237,7 @@ impl<T: Copy + Drop, A: Allocator + Copy> LockFreeFrozenVec<T, A> {
     }
 
     /// One look: the length of the list then, and the evidence for all of it.
-    fn look_in(&self, pass: Pass<T, A>) -> (Pass<T, A>, usize, Filled<T, Row<T, A>>)
+    fn look_in(&self, pass: Pass<T, A>) -> (Pass<T, A>, usize, Told<T, Row<T, A>>)
         requires { pass.vector ≡ self.now }
         ensures same { IsSamePass pass result.0 }
         ensures seen { IsPrefix pass.seen result.0.seen }
@@ -297,6 +297,51 @@ impl<T: Copy + Drop, A: Allocator + Copy> LockFreeFrozenVec<T, A> {
         filled.unused();
         drop(std::mem::replace(pass, after));
         answer
+    }
+
+    fn clone_in(&self, pass: Pass<T, A>) -> (Pass<T, A>, Result<(Self, Pass<T, A>), AllocError>)
+        requires { pass.vector ≡ self.now }
+        ensures same { IsSamePass pass result.0 }
+        ensures seen { IsPrefix pass.seen result.0.seen }
+        ensures mine { mine result.0 ≡ mine pass }
+        ensures of { IfOk result.1 (λ r. r.1.vector ≡ r.0) }
+        ensures items { IfOk result.1 (λ r. r.1.seen ≡ copied (items_of result.0.seen)) }
+        ensures nothing_mine { IfOk result.1 (λ r. mine r.1 ≡ []) }
+    {
+        let (pass, n, told) = self.look_in(pass);
+        let copy = self.shared.copy(n, &told);
+        told.unused();
+        let Ok((shared, seen)) = copy else {
+            return (pass, Err(AllocError));
+        };
+        let author = settled(&seen, Author::new());
+        let copy_pass = Pass::of(seen, author, n);
+        (pass, Ok((LockFreeFrozenVec { shared }, copy_pass)))
+    }
+
+    /// A vector of its own with the items seen by one look, which have no author there, and a pass that has seen it whole.
+    ///
+    /// The look comes first, and the places below its length alone are copied, buffer by buffer, so it can be made amid pushes.
+    /// It takes no lock and never waits. `Err`: memory for a buffer was refused, and all that was taken is given back. `O(n)`.
+    pub fn clone_as(&self, pass: &mut Pass<T, A>) -> Result<(Self, Pass<T, A>), AllocError>
+        requires of { pass.old.vector ≡ self.now }
+        ensures same { IsSamePass pass.old pass.new }
+        ensures seen { IsPrefix pass.old.seen pass.new.seen }
+        ensures mine { mine pass.new ≡ mine pass.old }
+        ensures clone_of { IfOk result (λ r. r.1.vector ≡ r.0) }
+        ensures clone_items { IfOk result (λ r. r.1.seen ≡ copied (items_of pass.new.seen)) }
+        ensures clone_mine { IfOk result (λ r. mine r.1 ≡ []) }
+    {
+        let before = std::mem::replace(pass, self.pass());
+        let (after, answer) = self.clone_in(before);
+        drop(std::mem::replace(pass, after));
+        answer
+    }
+
+    /// [`clone_as`](Self::clone_as) with a pass of its own.
+    pub fn clone(&self) -> Result<Self, AllocError> {
+        let (copy, _pass) = self.clone_as(&mut self.pass())?;
+        Ok(copy)
     }
 
     /// [`push_as`](Self::push_as) with a pass of its own.

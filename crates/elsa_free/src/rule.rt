@@ -1,24 +1,13 @@
 //! The rule of a vector, over `logbook`: what holds between any two atomic steps, what each step hands out, and what it tells.
-ghost use Rattle.std.specs.Prelude.{ℕ, List};
-
 use crate::event::Event;
-use crate::slots::Row;
+use crate::slots::Shelf;
 use logbook::{Gain, Play, Plain, Rule};
-use std::alloc::{Allocator, Global};
+use std::alloc::Global;
 use std::collections::LinkedList;
 use std::marker::PhantomData;
 
 /// What a step answers: the history before it.
 pub type Log<T> = LinkedList<Event<T>, Global>;
-
-/// A buffer, as the names of its slots.
-pub trait Shelf {
-    ghost ids: { Self → List ℕ };
-}
-
-impl<T, A: Allocator> Shelf for Row<T, A> {
-    ghost ids = { λ r. r };
-}
 
 /// The rule of a vector whose buffers are `B`.
 pub struct OneWord<B> {

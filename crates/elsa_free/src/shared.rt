@@ -5,18 +5,19 @@
 ghost use Rattle.std.specs.Prelude.{◌≡◌, ◌+◌, ◌*◌, ◌-◌, ◌^◌, ◌<◌, ◌≤◌, ◌%◌, [], ◌∷◌, ◌++◌, length, true, None, Some, IfSome, IfOk, IfErr, List, ℕ, suc, drop, slice_get, slice_index_or};
 ghost use lib.Pointwise.{pointwise};
 ghost use mathlib.Core.List.{IsPrefix};
+ghost use Rattle.elsa_free.specs.Ahead.{GoesOn};
 ghost use Rattle.elsa_free.specs.Geometry.{IsAt};
-ghost use Rattle.elsa_free.specs.SharedList.{Appends, BeginsABuffer, count, entry};
-ghost use Rattle.elsa_free.specs.declared.event.Event.TheVariants.{Took, Put, Gave, Seat};
-ghost use Rattle.elsa_free.specs.History.{list_of, is_held, kinds};
+ghost use Rattle.elsa_free.specs.SharedList.{Appends, BeginsABuffer, copied, count, entry};
+ghost use Rattle.elsa_free.specs.declared.event.Event.TheVariants.{Took, Put, Copied, Gave, Seat};
+ghost use Rattle.elsa_free.specs.History.{entries, list_of, is_held, kinds};
 ghost use Rattle.elsa_free.specs.Rights.{head, tops_of};
 ghost use Rattle.elsa_free.specs.OneWord.{word_in, word_of};
 
 use crate::event::Event;
 use crate::geometry::{buffer_size, locate};
 use crate::rule::{Acquire, End, Gives, Log, Look, Looks, Nothing, OneWord, Puts, See, Takes};
-use crate::slots::{Blanks, Row, Slots, Written};
-use crate::trade::{Author, Filled, Held, given, giving, looking, published, publishing, start, taken_closed, taken_open, taking};
+use crate::slots::{Ahead, Blanks, Copied as CopiedSlots, Row, Slots, Told, Written};
+use crate::trade::{Author, Held, copying_closed, copying_open, given, giving, looking, published, publishing, start, taken_closed, taken_open, taking};
 use logbook::{Gained, Offer, Seen, Word};
 use std::alloc::{AllocError, Allocator};
 use std::hint::spin_loop;
@@ -48,7 +49,8 @@ impl<T: Copy + Drop, A: Allocator + Copy> Shared<T, A> {
     /// An empty list. Its maker holds the word at first, and releases it.
     pub fn new(alloc: A) -> Result<Shared<T, A>, AllocError> {
         let (slots, rights) = Slots::new(alloc)?;
-        let (start, held, rights) = start(rights);
+        let (start, held, told) = start(Told::none(&rights));
+        told.unused();
         let (first, mut one, _two) = Seen::open(start, 1, 0);
         let shared = Shared {
             slots,
@@ -60,6 +62,88 @@ impl<T: Copy + Drop, A: Allocator + Copy> Shared<T, A> {
         drop(seen);
         author.unused();
         Ok(shared)
+    }
+
+    /// A vector of its own with the first `n` items of what was seen, which have no author, and a history of it in which they
+    /// all stand.
+    pub fn copy(
+        &self,
+        n: usize,
+        told: &Told<T, Row<T, A>>,
+    ) -> Result<(Shared<T, A>, Known<T, A>), AllocError>
+        requires told { (told.now.tops ≡ tops_of self.now.first.names) × (n ≡ length told.now.items) × (n < 2 ^ 62) }
+        ensures of { IfOk result (λ r. (r.1.book ≡ r.0.first.book) × (r.1.names ≡ r.0.first.names)) }
+        ensures items { IfOk result (λ r. list_of r.1.log ≡ copied told.now.items) }
+    {
+        let CopiedSlots { slots, told, ahead } = self.slots.copy_below(n, told)?;
+        let (start, held, told) = start(told);
+        let (first, mut one, _two) = Seen::open(start, 1, 0);
+        let shared = Shared {
+            slots,
+            word: Word::tracked(1, &mut one),
+            first,
+        };
+        let seen = shared.publish_copies(held, told, ahead, n);
+        Ok((shared, seen))
+    }
+
+    /// Publishes the items of a clone, by the maker of it.
+    fn publish_copies(
+        &self,
+        held: Held,
+        told: Told<T, Row<T, A>>,
+        ahead: Ahead<T, A>,
+        n: usize,
+    ) -> Known<T, A>
+        requires held { (held.name ≡ head self.now.first.names) × (held.kinds ≡ []) }
+        requires told { (told.tops ≡ tops_of self.now.first.names) × (n ≡ length told.items) × (n < 2 ^ 62) }
+        requires ahead { GoesOn (tops_of self.now.first.names) n ahead.row ahead.slots.of ahead.further.of }
+        ensures of { (result.book ≡ self.now.first.book) × (result.names ≡ self.now.first.names) }
+        ensures items { list_of result.log ≡ copied told.items }
+    {
+        let Ahead { row, slots, further } = ahead;
+        let seen = self.first.again();
+        let author = Author::new();
+        match row {
+            Some(row) => {
+                let offer = copying_open(&seen, held, told, row, slots, further, author);
+                self.publish_by(seen, offer, n)
+            }
+            None => {
+                slots.unused();
+                let offer = copying_closed(&seen, held, told, further, author);
+                self.publish_by(seen, offer, n)
+            }
+        }
+    }
+
+    /// Ends the first hold by an offer of `n` items.
+    fn publish_by(
+        &self,
+        seen: Known<T, A>,
+        offer: Offer<Event<T>, Log<T>, OneWord<Row<T, A>>, Gives<Row<T, A>>>,
+        n: usize,
+    ) -> Known<T, A>
+        requires of { (seen.book ≡ self.now.first.book) × (seen.names ≡ self.now.first.names) × (seen.log ≡ []) }
+        requires offer { (offer.names ≡ seen.names) × (offer.state ≡ None) }
+        requires ask { (xs : List T) × (offer.ask ≡ Copied xs) × (n ≡ length xs) × (n < 2 ^ 62) }
+        requires about { (a : ℕ) × (k : ℕ) × (offer.about ≡ Seat a k ∷ []) }
+        ensures same { (result.book ≡ seen.book) × (result.names ≡ seen.names) }
+        ensures items { list_of result.log ≡ entries offer.ask }
+    {
+        let mut seen = seen;
+        let mut offer = offer;
+        let mut pen = seen.no_pen();
+        self.word
+            .compare_exchange::<End, Gives<Row<T, A>>>(
+                1,
+                2 * n as u64,
+                &mut seen,
+                &mut offer,
+                &mut pen,
+            );
+        given(offer.into_gain()).unused();
+        seen
     }
 
     /// The word, by a look that trades nothing.
@@ -273,16 +357,16 @@ impl<T: Copy + Drop, A: Allocator + Copy> Shared<T, A> {
     /// One item of what was seen.
     pub fn item(
         &self,
-        filled: Filled<T, Row<T, A>>,
+        filled: Told<T, Row<T, A>>,
         place: usize,
-    ) -> (Filled<T, Row<T, A>>, T)
+    ) -> (Told<T, Row<T, A>>, T)
         requires tops { filled.tops ≡ tops_of self.now.first.names }
         requires place { (place < length filled.items) × (length filled.items < 2 ^ 62) }
         ensures same { (result.0.tops ≡ filled.tops) × (result.0.items ≡ filled.items) }
         ensures item { slice_get filled.items place ≡ Some result.1 }
     {
         let (buffer, slot) = locate(place);
-        let (filled, row, item) = filled.at(place, buffer, slot);
+        let (row, item) = filled.at(place, buffer, slot);
         let answer = self.slots.read(buffer, slot, &row, &item);
         row.unused();
         item.unused();
@@ -312,9 +396,9 @@ impl<T: Copy + Drop + PartialEq, A: Allocator + Copy> Shared<T, A> {
     /// Whether what was seen of this vector and what was seen of another are `n` equal items each, one by one.
     pub fn has_items_of(
         &self,
-        filled: Filled<T, Row<T, A>>,
+        filled: Told<T, Row<T, A>>,
         other: &Shared<T, A>,
-        other_filled: Filled<T, Row<T, A>>,
+        other_filled: Told<T, Row<T, A>>,
         n: usize,
     ) -> bool
         requires tops { (filled.tops ≡ tops_of self.now.first.names) × (other_filled.tops ≡ tops_of other.now.first.names) }

@@ -7,12 +7,16 @@ ghost use Rattle.std.specs.Prelude.{◌≡◌, ℕ, ◌<◌, List, length, slice
 ghost use Rattle.elsa_free.specs.Geometry.{size_of};
 
 mod cells;
+mod copy;
 mod rights;
 mod row;
 mod slot;
+mod told;
 
+pub use copy::{Ahead, Copied};
 pub use rights::{Blank, Blanks, Written};
 pub use row::Row;
+pub use told::{Shelf, Told};
 
 use crate::geometry::buffer_size;
 use slot::Slot;
@@ -40,7 +44,7 @@ impl<T: Copy, A: Allocator + Copy> Slots<T, A> {
     /// No buffer is open. The rights to open them come with it. Takes memory for 31 rows.
     pub fn new(alloc: A) -> Result<(Slots<T, A>, Blanks), AllocError>
         ensures rights { IfOk result (λ r. r.1.of ≡ r.0) }
-        ensures rows { IfOk result (λ r. length r.0 ≡ 31) }
+        ensures count { IfOk result (λ r. length r.0 ≡ 31) }
     {
         let mut buffers = Vec::with_capacity(alloc, BUFFERS)?;
         let mut rights = Blanks::none();
@@ -83,6 +87,14 @@ impl<T: Copy, A: Allocator + Copy> Slots<T, A> {
         }
     }
 
+    /// An open buffer's row.
+    fn row_at<'a>(&'a self, buffer: usize, row: &Written<Row<T, A>>) -> &'a Row<T, A>
+        requires { (buffer < 31) × (row.now.of ≡ slice_index_or self.now buffer 0) }
+        ensures { result.now ≡ row.now.value }
+    {
+        self.buffers[buffer].value(row)
+    }
+
     /// Writes a slot of an open buffer, and spends the one right to. Cannot fail.
     pub fn write(
         &self,
@@ -96,7 +108,7 @@ impl<T: Copy, A: Allocator + Copy> Slots<T, A> {
         requires slot { (slot < length row.now.value) × (right.of ≡ slice_index_or row.now.value slot 0) }
         ensures { (result.of ≡ slice_index_or row.now.value slot 0) × (result.value ≡ item) }
     {
-        self.buffers[buffer].value(row).write(slot, item, right)
+        self.row_at(buffer, row).write(slot, item, right)
     }
 
     /// The item that a slot holds, for whoever shows that it was written. No lock, and no atomic step.
@@ -111,7 +123,7 @@ impl<T: Copy, A: Allocator + Copy> Slots<T, A> {
         requires slot { (slot < length row.now.value) × (item.now.of ≡ slice_index_or row.now.value slot 0) }
         ensures { result ≡ item.now.value }
     {
-        *self.buffers[buffer].value(row).get(slot, item)
+        *self.row_at(buffer, row).get(slot, item)
     }
 }
 

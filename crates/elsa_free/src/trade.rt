@@ -5,16 +5,17 @@ ghost use Rattle.std.specs.Prelude.{◌≡◌, ◌≢◌, ◌+◌, ◌*◌, ◌^
 ghost use base.Stored.{coded_list, coded_ℕ};
 ghost use base.Share.{three_quarters};
 ghost use base.Growing.{latest};
+ghost use Rattle.elsa_free.specs.Ahead.{IsClosedAt, IsOpenAt};
 ghost use Rattle.elsa_free.specs.Geometry.{IsAt};
-ghost use Rattle.elsa_free.specs.declared.event.Event.TheVariants.{Took, Put, Gave, Seat};
+ghost use Rattle.elsa_free.specs.declared.event.Event.TheVariants.{Took, Put, Copied, Gave, Seat};
 ghost use Rattle.elsa_free.specs.declared.event.Entry.{Entry};
 ghost use Rattle.elsa_free.specs.History.{list_of, kinds, author_of, used_of, others};
 ghost use Rattle.elsa_free.specs.SharedList.{count, entry, items_of};
-ghost use Rattle.elsa_free.specs.Rights.{logs, head, tops_of, author, all_told, OnlyPushed};
+ghost use Rattle.elsa_free.specs.Rights.{logs, head, tops_of, author, OnlyPushed};
 
 use crate::event::Event;
-use crate::rule::{Gives, Log, Looks, OneWord, Puts, Shelf, Takes};
-use crate::slots::{Blanks, Written};
+use crate::rule::{Gives, Log, Looks, OneWord, Puts, Takes};
+use crate::slots::{Blanks, Shelf, Told, Written};
 use logbook::{Gained, Offer, Seen, Start};
 use std::marker::{Model, PhantomData};
 
@@ -40,11 +41,11 @@ impl Model for Author {
     ghost also_owns = { λ a. author a.name a.used };
 }
 
-/// A book for these slots of buffers, with an empty list and held by its maker, who has the rights to open them.
-pub fn start<T, B: Shelf>(rights: Blanks) -> (Start<Event<T>, Log<T>, OneWord<B>>, Held, Blanks)
-    ensures { (result.0.shown ≡ []) × (tops_of result.0.names ≡ rights.of) × (result.1.name ≡ head result.0.names) × (result.1.kinds ≡ []) × (result.2.of ≡ rights.of) }
+/// A book with an empty list for these buffers, held by its maker. The evidence, of some places or none, names the buffers.
+pub fn start<T, B: Shelf>(told: Told<T, B>) -> (Start<Event<T>, Log<T>, OneWord<B>>, Held, Told<T, B>)
+    ensures { (result.0.shown ≡ []) × (tops_of result.0.names ≡ told.tops) × (result.1.name ≡ head result.0.names) × (result.1.kinds ≡ []) × (result.2.tops ≡ told.tops) × (result.2.items ≡ told.items) }
 {
-    let Blanks { marker: _ } = rights;
+    let Told { marker: _ } = told;
     (
         Start {
             marker: PhantomData,
@@ -52,7 +53,7 @@ pub fn start<T, B: Shelf>(rights: Blanks) -> (Start<Event<T>, Log<T>, OneWord<B>
         Held {
             marker: PhantomData,
         },
-        Blanks {
+        Told {
             marker: PhantomData,
         },
     )
@@ -170,6 +171,50 @@ pub fn publishing<T, B: Shelf>(
     }
 }
 
+/// An offer that publishes the items of a clone, from its maker, where the list goes on in a buffer that nobody has opened.
+pub fn copying_closed<T, B: Shelf>(
+    seen: &Seen<Event<T>, Log<T>, OneWord<B>>,
+    held: Held,
+    told: Told<T, B>,
+    tops: Blanks,
+    author: Author,
+) -> Offer<Event<T>, Log<T>, OneWord<B>, Gives<B>>
+    requires { (held.name ≡ head seen.now.names) × (held.kinds ≡ []) × (told.tops ≡ tops_of seen.now.names) × IsClosedAt (tops_of seen.now.names) (length told.items) tops.of }
+    ensures { (result.names ≡ seen.now.names) × (result.ask ≡ Copied told.items) × (result.about ≡ Seat author.name author.used ∷ []) × (result.state ≡ None) }
+{
+    let Held { marker: _ } = held;
+    let Told { marker: _ } = told;
+    let Blanks { marker: _ } = tops;
+    let Author { marker: _ } = author;
+    Offer {
+        marker: PhantomData,
+    }
+}
+
+/// The same, where the list goes on in an open buffer.
+pub fn copying_open<T, B: Shelf>(
+    seen: &Seen<Event<T>, Log<T>, OneWord<B>>,
+    held: Held,
+    told: Told<T, B>,
+    row: Written<B>,
+    slots: Blanks,
+    tops: Blanks,
+    author: Author,
+) -> Offer<Event<T>, Log<T>, OneWord<B>, Gives<B>>
+    requires { (held.name ≡ head seen.now.names) × (held.kinds ≡ []) × (told.tops ≡ tops_of seen.now.names) × IsOpenAt (tops_of seen.now.names) (length told.items) row.of (B.ids row.value) slots.of tops.of }
+    ensures { (result.names ≡ seen.now.names) × (result.ask ≡ Copied told.items) × (result.about ≡ Seat author.name author.used ∷ []) × (result.state ≡ None) }
+{
+    let Held { marker: _ } = held;
+    let Told { marker: _ } = told;
+    let Written { marker: _ } = row;
+    let Blanks { marker: _ } = slots;
+    let Blanks { marker: _ } = tops;
+    let Author { marker: _ } = author;
+    Offer {
+        marker: PhantomData,
+    }
+}
+
 /// Who gave the right back has its name, and knows that the log was as it knew.
 pub fn given<T, B: Shelf>(gained: Gained<Event<T>, Log<T>, Gives<B>>) -> Author
     ensures { (result.name ≡ author_of gained.about) × (result.used ≡ used_of gained.about) × (length gained.answer ≡ length (others gained.about)) × (OnlyPushed gained.about gained.answer) }
@@ -203,19 +248,8 @@ pub fn looking<T, B: Shelf>(
     }
 }
 
-/// Evidence, for good, that the places below the length of `items` were written with these. It has no bytes.
-pub struct Filled<T, B: Shelf> {
-    pub(crate) marker: PhantomData<(T, B)>,
-    pub ghost tops: { List ℕ } by { coded_list coded_ℕ },
-    pub ghost items: { List T } by { coded_list T.code },
-}
-
-impl<T, B: Shelf> Model for Filled<T, B> {
-    ghost also_owns = { λ f. all_told T.row B.row B.ids f.tops 0 f.items };
-}
-
 /// Who looked has its name back, with no entries beyond those it knew, and the evidence for all that it saw.
-pub fn looked<T, B: Shelf>(gained: Gained<Event<T>, Log<T>, Looks<B>>) -> (Author, Filled<T, B>)
+pub fn looked<T, B: Shelf>(gained: Gained<Event<T>, Log<T>, Looks<B>>) -> (Author, Told<T, B>)
     ensures { (result.0.name ≡ author_of gained.about) × (result.0.used ≡ used_of gained.about) × OnlyPushed gained.about gained.answer × (result.1.tops ≡ tops_of gained.names) × (result.1.items ≡ items_of (list_of gained.answer)) }
 {
     let Gained { marker: _ } = gained;
@@ -223,40 +257,10 @@ pub fn looked<T, B: Shelf>(gained: Gained<Event<T>, Log<T>, Looks<B>>) -> (Autho
         Author {
             marker: PhantomData,
         },
-        Filled {
+        Told {
             marker: PhantomData,
         },
     )
-}
-
-impl<T, B: Shelf> Filled<T, B> {
-    /// The evidence for one place, by where it lies.
-    pub fn at(
-        self,
-        _place: usize,
-        _buffer: usize,
-        _slot: usize,
-    ) -> (Filled<T, B>, Written<B>, Written<T>)
-        requires { (_place < length self.items) × IsAt _place _buffer _slot }
-        ensures { (result.0.tops ≡ self.tops) × (result.0.items ≡ self.items) × (result.1.of ≡ slice_index_or self.tops _buffer 0) × (length (B.ids result.1.value) ≡ 3 * 4 ^ _buffer) × (result.2.of ≡ slice_index_or (B.ids result.1.value) _slot 0) × (slice_get self.items _place ≡ Some result.2.value) }
-    {
-        let Self { marker: _ } = self;
-        (
-            Filled {
-                marker: PhantomData,
-            },
-            Written {
-                marker: PhantomData,
-            },
-            Written {
-                marker: PhantomData,
-            },
-        )
-    }
-
-    pub fn unused(self) {
-        let Self { marker: _ } = self;
-    }
 }
 
 /// A history that was seen has no more entries of an author than it pushed.

@@ -53,7 +53,10 @@ use Rattle.elsa_free.specs.contracts.rule.Gives as Gives
 use Rattle.elsa_free.specs.contracts.rule.Puts as Puts
 use Rattle.elsa_free.specs.contracts.trade.Held as Held
 use Rattle.elsa_free.specs.contracts.trade.Author as Author
-use Rattle.elsa_free.specs.contracts.trade.Filled as Filled
+use Rattle.elsa_free.specs.contracts.slots.told.Told as Told
+use Rattle.elsa_free.proofs.ToldPlaces.{told_made}
+use Rattle.elsa_free.proofs.ToldTokens.{told_told}
+use Rattle.elsa_free.proofs.Logs.{copied_items, copied_length}
 use Rattle.elsa_free.specs.contracts.rule.OneWordRuleEventLog.TheImpl as rule
 use Rattle.elsa_free.specs.contracts.rule.TakesGainEventLog.TheImpl as takes
 use Rattle.elsa_free.specs.contracts.rule.LooksGainEventLog.TheImpl as looks
@@ -82,9 +85,9 @@ looked_spec 𝓤 𝓛 𝓜 𝓡 wired T B _ _ g d _ =
     let up = a.0 in let tops : List ℕ = tops_of up.names in let xs : List T'.Denot = items_of (list_of up.answer) in
     move ! (1 ∷ []) $ fsplit ! $ fsplit ! $ keep ! (1 ∷ 3 ∷ []) $
     enter ! 𝓣.C 𝓣.Λ fn args Post $ alloc_all ! (λ l. pass_all ! refl ((tt, (tt, tt)), tt) $ let Env = env fn.locals l in
-    fsplit ! $ use0 𝓛 (‵ ((Token (Tuple (T' ∷ B' ∷ []))).own_val (record {}, tt) (token ∷ []))) (token_made (Tuple (T' ∷ B' ∷ [])) 𝓛) $ fjoin ! $ move ! (1 ∷ []) $ fsplit ! $ move ! (1 ∷ []) $ fpick ! (λ le. drop ! $ use0 𝓛 (‵ ((Token (unit)).own_val (record {}, tt) (token ∷ []))) (token_made (unit) 𝓛) $ fjoin ! $
+    fsplit ! $ use1 𝓛 (‵ ((Told.the_row T' B' g).own_val (record { marker = record {}; tops = tops; items = xs }) (token ∷ []))) (told_made 𝓛 T' B' g (tops) (xs)) $ move ! (1 ∷ []) $ fsplit ! $ move ! (1 ∷ []) $ fpick ! (λ le. drop ! $ use0 𝓛 (‵ ((Token (unit)).own_val (record {}, tt) (token ∷ []))) (token_made (unit) 𝓛) $ fjoin ! $
     sets ! (agg ! (no_more !)) refl (tt, tt) $ sets ! (agg ! (and_then ! (get ! refl) (no_more !))) refl (tt, (tt, tt)) $ sets ! (agg ! (no_more !)) refl (tt, tt) $ sets ! (agg ! (and_then ! (get ! refl) (no_more !))) refl (tt, (tt, tt)) $ sets ! (agg ! (and_then ! (get ! refl) (and_then ! (get ! refl) (no_more !)))) refl (tt, ((tt, tt), ((tt, tt), tt))) $
-    let u' : Author.the_row.Denot = record { marker = record {}; name = author_of up.about; used = used_of up.about } in let f' : (Filled.the_row T' B' g).Denot = record { marker = record {}; tops = tops; items = xs } in
-    nothing ! $ move ! (2 ∷ 0 ∷ []) $ fjoin ! $ move ! (1 ∷ 0 ∷ []) $ fjoin ! $ let v : Val = vstruct (vcons token (vcons token (vnil))) in let Rs : List RattleType = Author.the_row ∷ Filled.the_row T' B' g ∷ [] in feq_i ! (List Val) (v ∷ []) (v ∷ []) refl $ fjoin ! $ fpack ! (Valss Rs) (λ vss. fsep (feq (List Val) (v ∷ []) (vstruct (of_list (vss.0 ++ (vss.1.0 ++ []))) ∷ [])) (owns Rs (u', (f', tt)) vss)) (token ∷ [], (token ∷ [], tt)) $
+    let u' : Author.the_row.Denot = record { marker = record {}; name = author_of up.about; used = used_of up.about } in let f' : (Told.the_row T' B' g).Denot = record { marker = record {}; tops = tops; items = xs } in
+    nothing ! $ move ! (2 ∷ 0 ∷ []) $ fjoin ! $ move ! (1 ∷ 0 ∷ []) $ fjoin ! $ let v : Val = vstruct (vcons token (vcons token (vnil))) in let Rs : List RattleType = Author.the_row ∷ Told.the_row T' B' g ∷ [] in feq_i ! (List Val) (v ∷ []) (v ∷ []) refl $ fjoin ! $ fpack ! (Valss Rs) (λ vss. fsep (feq (List Val) (v ∷ []) (vstruct (of_list (vss.0 ++ (vss.1.0 ++ []))) ∷ [])) (owns Rs (u', (f', tt)) vss)) (token ∷ [], (token ∷ [], tt)) $
     nothing ! $ nothing ! $ fjoin ! $ 
     returns ! (look_at ! 0 refl) $ free_all ! refl $ keep ! (2 ∷ 0 ∷ 1 ∷ []) $ by ! (ends 𝓛 En hs c y (v) ((u', f')) (tt, tt) (tt, tt) (fact_i 𝓤 _ (emp 𝓤) ((refl, refl, le, refl, refl)))))))

@@ -53,7 +53,10 @@ use Rattle.elsa_free.specs.contracts.rule.Gives as Gives
 use Rattle.elsa_free.specs.contracts.rule.Puts as Puts
 use Rattle.elsa_free.specs.contracts.trade.Held as Held
 use Rattle.elsa_free.specs.contracts.trade.Author as Author
-use Rattle.elsa_free.specs.contracts.trade.Filled as Filled
+use Rattle.elsa_free.specs.contracts.slots.told.Told as Told
+use Rattle.elsa_free.proofs.ToldPlaces.{told_made}
+use Rattle.elsa_free.proofs.ToldTokens.{told_told}
+use Rattle.elsa_free.proofs.Logs.{copied_items, copied_length}
 use Rattle.elsa_free.specs.contracts.rule.OneWordRuleEventLog.TheImpl as rule
 use Rattle.elsa_free.specs.contracts.rule.TakesGainEventLog.TheImpl as takes
 use Rattle.elsa_free.specs.contracts.rule.LooksGainEventLog.TheImpl as looks

@@ -1,17 +1,25 @@
 -- The evidence that places were written can be had twice, grows, and is taken out at a place. Assumes `Logic`.
-use Rattle.std.proofs.Common.{◌≡◌, ℕ, zero, suc, ◌+◌, ◌*◌, ◌^◌, ◌<◌, List, [], ◌∷◌, ◌++◌, length, slice_get, slice_index_or, Some, refl, ap, sym, ◌∙◌, subst, arith}
+use Rattle.std.proofs.Common.{◌≡◌, ℕ, zero, suc, ◌+◌, ◌*◌, ◌^◌, ◌<◌, List, [], ◌∷◌, ◌++◌, length, slice_get, slice_index_or, Some, refl, arith}
 use seplogic.Ra.Ura.{Ura}
-use base.Logic.{SProp, ent, sep, id⊢}
+use base.Logic.{SProp, ent, sep}
 use base.Fml.{Fml, ftrue, fsep, fex}
 use types.Logic.{Logic, sem}
-use types.Kit.{‵, ◌⊛◌, ◌$◌, ◌∵◌, !, qed, by, move, keep, drop, split, fsplit, fsplit3, fjoin, fjoin3, fpick, fpack, frame, use1, use2, rewrite, done}
+use types.Kit.{‵, use0, ◌⊛◌, ◌$◌, ◌∵◌, !, qed, move, keep, drop, split, fsplit3, fjoin, fjoin3, fpick, fpack, frame, use1, use2, rewrite, done}
 use types.Tokens.{res_dup}
 use denote.Steps.{nothing}
 use denote.RattleType.{RattleType}
-use Rattle.elsa_free.specs.Slot.{written}
 use Rattle.elsa_free.specs.Geometry.{IsAt}
-use Rattle.elsa_free.specs.Rights.{fact, Where, at_place, told, all_told}
+use Rattle.elsa_free.specs.Slot.{fact}
+use denote.Shadow.{makes_shadow}
+use denote.Struct.Struct.{Struct}
+use denote.Struct.Owning.{shape}
+use mir.Val.{vstruct, vnil}
+use Rattle.elsa_free.specs.declared.slots.told.Shelf.{Ghosts}
+use Rattle.elsa_free.specs.contracts.slots.told.Told as Told
+use Rattle.elsa_free.specs.Told.{Where, at_place, told, all_told}
+use Rattle.elsa_free.proofs.SlotTokens.{token_val}
 
+-- some item of a list that has one
 pub thing : {A : Type 0} (es : List A) (k : ℕ) → k < length es → A
 thing [] k l = absurd (omega arith)
 thing (e ∷ es) k l = e
@@ -64,3 +72,13 @@ module _ {M : Type 1} {𝓤 : Ura M} (𝓛 : Logic 𝓤) (T B : RattleType) (ids
   at_one i zero (x ∷ xs) d l = qed 𝓛 (‵ (One i x) ∷ ‵ (All (suc i) xs) ∷ []) ∵ rewrite ! 0 (λ (k : ℕ). ‵ (One k x)) (let z : i ≡ i + 0 = omega arith in z) refl $ keep ! (0 ∷ []) $ done !
   at_one i (suc k) (x ∷ xs) d l = qed 𝓛 (‵ (One i x) ∷ ‵ (All (suc i) xs) ∷ []) ∵ drop ! $ use1 𝓛 (‵ (One (suc i + k) (slice_index_or xs k d))) (at_one (suc i) k xs d (omega arith)) $
       rewrite ! 0 (λ (j : ℕ). ‵ (One j (slice_index_or xs k d))) (let z : suc i + k ≡ i + suc k = omega arith in z) refl $ done !
+
+  -- one place more
+  pub all_snoc : (xs : List T.Denot) (x : T.Denot) → ⟦ All 0 xs ⟧ ∗ ⟦ One (length xs) x ⟧ ⊢ ⟦ All 0 (xs ++ x ∷ []) ⟧
+  all_snoc xs x = let one : List T.Denot = x ∷ [] in qed 𝓛 (‵ (All 0 xs) ∷ ‵ (One (length xs) x) ∷ []) ∵ move ! (1 ∷ 0 ∷ []) $ rewrite ! 0 (λ (k : ℕ). ‵ (One k x)) (let z : length xs ≡ 0 + length xs = omega arith in z) refl $ nothing ! $ move ! (1 ∷ 0 ∷ []) $ fjoin ! $ move ! (1 ∷ 0 ∷ []) $
+      use2 𝓛 (‵ (All 0 (xs ++ one))) (all_append 0 xs one) $ done !
+
+pub told_made : {M : Type 1} {𝓤 : Ura M} (𝓛 : Logic 𝓤) (T B : RattleType) (g : Ghosts B.Denot) (tops : List ℕ) (xs : List T.Denot)
+    → ent 𝓤 (sem 𝓛 (all_told T B g.ids tops 0 xs)) (sem 𝓛 ((Told.the_row T B g).own_val (record { marker = record {}; tops = tops; items = xs }) (token_val ∷ [])))
+told_made 𝓛 T B g tops xs = let F = (Struct (shape (Told.the_type T B g))).own_val (tt, tt) (token_val ∷ []) in
+    qed 𝓛 (‵ (all_told T B g.ids tops 0 xs) ∷ []) ∵ use0 𝓛 (‵ F) (makes_shadow 𝓛 F (λ vss. (tt, ((λ uss. (tt, tt)), tt))) ((vstruct vnil ∷ [], tt), (refl, ((tt, (refl, tt)), tt)))) $ fjoin ! $ done !
