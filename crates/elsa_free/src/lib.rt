@@ -1,7 +1,14 @@
-//! An append-only vector that many threads share: where its places lie, and the machine that runs every schedule of it.
+//! An append-only vector that many threads share: where its places lie, the slots that hold its items, the machine that runs
+//! every schedule of it, and the vector itself.
 #![tactic(auto)]
 
+mod event;
 pub mod geometry;
+pub mod lock_free;
 pub mod machine;
 #[cfg(test)]
 mod machine_tests;
+mod rule;
+mod shared;
+pub mod slots;
+mod trade;

@@ -1,0 +1,54 @@
+-- `none` knows nothing.
+use Rattle.std.proofs.Common.{◌≡◌, ℕ, zero, suc, ◌+◌, ◌*◌, ◌^◌, ◌<◌, List, [], ◌∷◌, ◌++◌, length, slice_index_or, sym, refl, ap, ◌∙◌, subst, arith, w64}
+use mir.Syntax.{a_type, dcons, dnil, named}
+use mir.Val.{Val, vunit, vint, vptr, vstruct, vcons, vnil, of_list}
+use mir.MapTy.{inst_fn}
+use base.Logic.{SProp, emp}
+use base.Fml.{Lft, Share, Fml, ftrue, fsep, feq, fex, flft}
+use types.Logic.{sem}
+use types.Kit.{‵, raw, ◌⊛◌, given, at_ret, ◌$◌, ◌∵◌, !, qed, by, move, keep, drop, use0, use1, use2, split, join, fsplit, fsplit3, fjoin, fjoin3, fpick, fpack, learn, rewrite, feq_i}
+use types.Run.{addr, unit_lit, of_opd, no_more, and_then, returns, enter}
+use types.ByLocal.{alloc_all, pass_all, free_all, look_at, get, sets, env}
+use types.Part.{agg}
+use contract.Monad.{fact, fact_i}
+use contract.Running.{tables}
+use denote.Exit.{yes, no}
+use denote.RattleType.{RattleType, owns, Valss}
+use denote.Signature.{types_at, plain}
+use denote.Builtin.{RefOf, RefMutOf, usize}
+use denote.Opens.{unhide}
+use denote.Param.{param, bounded}
+use denote.Plain.{uint_vals, uint_Tells}
+use denote.Ref.{mut_vals, mut_Tells, shr_vals, shr_Tells}
+use denote.Steps.{nothing, heard, opens, closes}
+use denote.Triple.Walked.{Stays, stay_dropped, stay_ref, walk_of, Goes-dropped, Goes-ref}
+use Rattle.atomic_table.proofs.Walks.{proved, proved_at, leaves}
+use Rattle.elsa_free.specs.Geometry.{IsAt}
+use Rattle.elsa_free.specs.Slot.{fact as said, written}
+use Rattle.elsa_free.specs.Told.{Where, at_place, told, all_told}
+use Rattle.elsa_free.specs.contracts.slots.rights.Blanks as Blanks
+use Rattle.elsa_free.specs.contracts.slots.rights.Written as Written
+use Rattle.elsa_free.specs.contracts.slots.told.Told as Told
+use Rattle.elsa_free.proofs.Powers.{one_slot}
+use Rattle.elsa_free.proofs.SlotTokens.{token_val, written_made}
+use Rattle.elsa_free.proofs.ToldPlaces.{told_made, at_one, all_snoc, got, thing}
+use Rattle.elsa_free.specs.contracts.slots.told.Told.none.{ended, clauses}
+use Rattle.elsa_free.specs.contracts.slots.told.Told.none.Key.{name as #self}
+use Rattle.elsa_free.proofs.slots.told.Told.none.Statement.{statement}
+use Rattle.elsa_free.proofs.slots.told.Told.none.Code as code
+
+pub none_spec : {M : Type 1} → statement M
+none_spec 𝓤 𝓛 𝓜 𝓡 wired T B L P g d _ =
+    let H = 𝓛.H in let 𝓣 = tables 𝓤 H 𝓜 𝓡 𝓡.env in let T' : RattleType = param 0 T in let B' : RattleType = param 1 B in let En = ended T B g d in let S : RattleType = Told.the_row T' B' g in
+    let inst = bounded (a_type ∷ a_type ∷ []) (T, (B, tt)) (dcons d dnil) in let fn = inst_fn inst code.function in let c = clauses T B g d 𝓛 𝓜.mem 𝓡.returns in
+    let rights = RefOf (0 ∷ []) tt (plain (λ _. Blanks.the_row)) (λ _. tt) in let hs : Stays En.signature.params En.kept = (stay_dropped rights yes, tt) in
+    proved 𝓛 En hs c 𝓜 𝓡 (Goes-dropped 𝓛 3 rights yes (λ κs x f. refl), tt) (#self inst) fn (code.unfolded 𝓤 H 𝓜 𝓡 wired (T, (B, tt)) d)
+    (λ κs. (shr_vals, tt)) (λ κs. (shr_Tells (named 0) κs.0 Blanks.the_row, tt)) (λ κs qs bounds a gh are.
+    let p : Val = vptr a.0.ref_ptr.0 a.0.ref_ptr.1 in let tops : List ℕ = a.0.now.of in let xs : List T'.Denot = [] in let r : S.Denot = record { marker = record {}; tops = tops; items = xs } in let Same : Type 0 = (tops ≡ tops) × (xs ≡ xs) in
+    let y : (walk_of 𝓛 En hs c).Ghost = ((κs, qs, bounds, a, (p ∷ [], tt)), gh) in let Post : Val → SProp 𝓤 = (walk_of 𝓛 En hs c).post y in
+    qed 𝓛 ((raw (denote.Triple.Entry.alive 𝓛 En.signature κs qs) ⊛ ‵ (owns (types_at En.signature.params κs) a y.0.4)) ∷ raw ((c κs a).requires gh) ∷ []) ∵ split ! $ keep ! (0 ∷ []) $
+    nothing ! $ use1 𝓛 (‵ (S.own_val r (token_val ∷ []))) (told_made 𝓛 T' B' g tops xs) $
+    enter ! 𝓣.C 𝓣.Λ fn (p ∷ []) Post $ alloc_all ! (λ l. pass_all ! refl ((tt, tt), tt) $
+    sets ! (agg ! (no_more !)) refl (tt, tt) $ sets ! (agg ! (and_then ! (get ! refl) (no_more !))) refl (tt, (tt, tt)) $
+    use0 𝓛 (raw (fact 𝓤 Same)) (fact_i 𝓤 Same (emp 𝓤) (refl, refl)) $ nothing ! $ nothing ! $ fjoin ! $
+    returns ! (look_at ! 0 refl) $ free_all ! refl $ keep ! (3 ∷ 0 ∷ 2 ∷ 1 ∷ []) $ by ! (leaves 𝓛 En hs c y token_val r (tt, tt) (tt, tt))))
