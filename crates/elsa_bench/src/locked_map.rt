@@ -2,12 +2,11 @@
 use crate::draws::Draws;
 use elsa::sync::FrozenMap;
 use std::alloc::Global;
-use std::io;
 use std::rt::Clock;
 use std::sync::Wait;
-use std::thread;
 use std::thread::Threads;
 use std::time::Instant;
+use std::{io, thread};
 
 const KEYS: u64 = 65536;
 
@@ -55,9 +54,17 @@ pub fn timed_copies<R: Wait + Threads + Sync + Clock>(
     let map = FrozenMap::new(alloc);
     let shared = &map;
     let start = Instant::now(rt)?;
-    let sums = thread::map_indices(rt, alloc, threads, &|i| copies(rt, shared, i, count / threads))?;
+    let sums = thread::map_indices(
+        rt,
+        alloc,
+        threads,
+        &|i| copies(rt, shared, i, count / threads),
+    )?;
     let nanos = start.elapsed(rt)?.as_nanos();
-    Ok((nanos, sums.iter().fold(0u64, |sum, one| sum.wrapping_add(*one))))
+    Ok((
+        nanos,
+        sums.iter().fold(0u64, |sum, one| sum.wrapping_add(*one)),
+    ))
 }
 
 /// The nanoseconds and the sum of the calls that answer owners.
@@ -72,7 +79,15 @@ pub fn timed_owners<R: Wait + Threads + Sync + Clock>(
     let map = FrozenMap::new(alloc);
     let shared = &map;
     let start = Instant::now(rt)?;
-    let sums = thread::map_indices(rt, alloc, threads, &|i| owners(rt, shared, i, count / threads))?;
+    let sums = thread::map_indices(
+        rt,
+        alloc,
+        threads,
+        &|i| owners(rt, shared, i, count / threads),
+    )?;
     let nanos = start.elapsed(rt)?.as_nanos();
-    Ok((nanos, sums.iter().fold(0u64, |sum, one| sum.wrapping_add(*one))))
+    Ok((
+        nanos,
+        sums.iter().fold(0u64, |sum, one| sum.wrapping_add(*one)),
+    ))
 }

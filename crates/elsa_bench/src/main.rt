@@ -7,8 +7,8 @@
 mod draws;
 mod locked_map;
 
-use std::io;
-use std::{env, process::ExitCode};
+use std::process::ExitCode;
+use std::{env, io};
 
 const USAGE: &str = "usage: elsa_bench copy|owner THREADS COUNT";
 

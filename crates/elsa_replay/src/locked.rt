@@ -5,6 +5,7 @@ use std::alloc::{AllocError, Global};
 use std::sync::Wait;
 
 /// One collection of each form.
+#[derive(Drop)]
 pub struct Locked {
     map: FrozenMap<u64, String>,
     tree: FrozenBTreeMap<u64, String>,
@@ -23,7 +24,12 @@ impl Locked {
     }
 
     /// The answer to the line.
-    pub fn answer<R: Wait>(&self, rt: &R, alloc: Global, words: &Words<'_>) -> Result<String, AllocError> {
+    pub fn answer<R: Wait>(
+        &self,
+        rt: &R,
+        alloc: Global,
+        words: &Words<'_>,
+    ) -> Result<String, AllocError> {
         match words.form {
             "locked_map" => of_map(rt, alloc, &self.map, words),
             "locked_tree" => of_tree(rt, alloc, &self.tree, words),
@@ -33,7 +39,12 @@ impl Locked {
     }
 }
 
-fn of_map<R: Wait>(rt: &R, alloc: Global, form: &FrozenMap<u64, String>, words: &Words<'_>) -> Result<String, AllocError> {
+fn of_map<R: Wait>(
+    rt: &R,
+    alloc: Global,
+    form: &FrozenMap<u64, String>,
+    words: &Words<'_>,
+) -> Result<String, AllocError> {
     match words.call {
         "insert" => {
             let text = String::from_str(alloc, words.second)?;
@@ -48,7 +59,12 @@ fn of_map<R: Wait>(rt: &R, alloc: Global, form: &FrozenMap<u64, String>, words: 
     }
 }
 
-fn of_tree<R: Wait>(rt: &R, alloc: Global, form: &FrozenBTreeMap<u64, String>, words: &Words<'_>) -> Result<String, AllocError> {
+fn of_tree<R: Wait>(
+    rt: &R,
+    alloc: Global,
+    form: &FrozenBTreeMap<u64, String>,
+    words: &Words<'_>,
+) -> Result<String, AllocError> {
     match words.call {
         "insert" => {
             let text = String::from_str(alloc, words.second)?;
@@ -63,7 +79,12 @@ fn of_tree<R: Wait>(rt: &R, alloc: Global, form: &FrozenBTreeMap<u64, String>, w
     }
 }
 
-fn of_vec<R: Wait>(rt: &R, alloc: Global, form: &FrozenVec<String>, words: &Words<'_>) -> Result<String, AllocError> {
+fn of_vec<R: Wait>(
+    rt: &R,
+    alloc: Global,
+    form: &FrozenVec<String>,
+    words: &Words<'_>,
+) -> Result<String, AllocError> {
     match words.call {
         "push_get_index" => {
             let text = String::from_str(alloc, words.first)?;
@@ -78,7 +99,12 @@ fn of_vec<R: Wait>(rt: &R, alloc: Global, form: &FrozenVec<String>, words: &Word
     }
 }
 
-fn of_free<R: Wait>(rt: &R, alloc: Global, form: &LockFreeFrozenVec<u64>, words: &Words<'_>) -> Result<String, AllocError> {
+fn of_free<R: Wait>(
+    rt: &R,
+    alloc: Global,
+    form: &LockFreeFrozenVec<u64>,
+    words: &Words<'_>,
+) -> Result<String, AllocError> {
     match words.call {
         "push" => {
             let place = form.push(rt, words.key())?;

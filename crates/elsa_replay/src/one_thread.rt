@@ -5,6 +5,7 @@ use elsa::{FrozenBTreeMap, FrozenIndexMap, FrozenIndexSet, FrozenMap, FrozenVec}
 use std::alloc::{AllocError, Global};
 
 /// One collection of each form.
+#[derive(Drop)]
 pub struct OneThread<'a> {
     vec: FrozenVec<'a, String>,
     map: FrozenMap<'a, u64, String>,
@@ -25,7 +26,11 @@ impl<'a> OneThread<'a> {
     }
 
     /// The answer to the line, or None where it names none of these forms.
-    pub fn answer(&mut self, alloc: Global, words: &Words<'_>) -> Result<Option<String>, AllocError> {
+    pub fn answer(
+        &mut self,
+        alloc: Global,
+        words: &Words<'_>,
+    ) -> Result<Option<String>, AllocError> {
         let answer = match words.form {
             "vec" => of_vec(alloc, &mut self.vec, words)?,
             "map" => of_map(alloc, &mut self.map, words)?,
@@ -38,7 +43,11 @@ impl<'a> OneThread<'a> {
     }
 }
 
-fn of_vec(alloc: Global, form: &mut FrozenVec<'_, String>, words: &Words<'_>) -> Result<String, AllocError> {
+fn of_vec(
+    alloc: Global,
+    form: &mut FrozenVec<'_, String>,
+    words: &Words<'_>,
+) -> Result<String, AllocError> {
     match words.call {
         "push" => {
             let text = String::from_str(alloc, words.first)?;
@@ -71,10 +80,17 @@ fn all_of(alloc: Global, form: &FrozenVec<'_, String>) -> Result<String, AllocEr
     Ok(all)
 }
 
-fn searched(alloc: Global, form: &FrozenVec<'_, String>, words: &Words<'_>) -> Result<String, AllocError> {
+fn searched(
+    alloc: Global,
+    form: &FrozenVec<'_, String>,
+    words: &Words<'_>,
+) -> Result<String, AllocError> {
     match words.call {
         "search" => found(alloc, form.binary_search(&words.first)),
-        "search_length" => found(alloc, form.binary_search_by_key(&words.place(), |text| text.len())),
+        "search_length" => found(
+            alloc,
+            form.binary_search_by_key(&words.place(), |text| text.len()),
+        ),
         _ => {
             let length = words.place();
             let place = form.partition_point(|text| text.len() < length);
@@ -83,7 +99,11 @@ fn searched(alloc: Global, form: &FrozenVec<'_, String>, words: &Words<'_>) -> R
     }
 }
 
-fn of_map(alloc: Global, form: &mut FrozenMap<'_, u64, String>, words: &Words<'_>) -> Result<String, AllocError> {
+fn of_map(
+    alloc: Global,
+    form: &mut FrozenMap<'_, u64, String>,
+    words: &Words<'_>,
+) -> Result<String, AllocError> {
     match words.call {
         "insert" => {
             let text = String::from_str(alloc, words.second)?;
@@ -97,7 +117,11 @@ fn of_map(alloc: Global, form: &mut FrozenMap<'_, u64, String>, words: &Words<'_
     }
 }
 
-fn of_tree(alloc: Global, form: &mut FrozenBTreeMap<'_, u64, String>, words: &Words<'_>) -> Result<String, AllocError> {
+fn of_tree(
+    alloc: Global,
+    form: &mut FrozenBTreeMap<'_, u64, String>,
+    words: &Words<'_>,
+) -> Result<String, AllocError> {
     match words.call {
         "insert" => {
             let text = String::from_str(alloc, words.second)?;
@@ -116,7 +140,11 @@ fn of_tree(alloc: Global, form: &mut FrozenBTreeMap<'_, u64, String>, words: &Wo
     }
 }
 
-fn of_index_map(alloc: Global, form: &mut FrozenIndexMap<'_, u64, String>, words: &Words<'_>) -> Result<String, AllocError> {
+fn of_index_map(
+    alloc: Global,
+    form: &mut FrozenIndexMap<'_, u64, String>,
+    words: &Words<'_>,
+) -> Result<String, AllocError> {
     match words.call {
         "insert" => {
             let text = String::from_str(alloc, words.second)?;
@@ -139,7 +167,11 @@ fn of_index_map(alloc: Global, form: &mut FrozenIndexMap<'_, u64, String>, words
     }
 }
 
-fn place_in_index_map(alloc: Global, form: &FrozenIndexMap<'_, u64, String>, words: &Words<'_>) -> Result<String, AllocError> {
+fn place_in_index_map(
+    alloc: Global,
+    form: &FrozenIndexMap<'_, u64, String>,
+    words: &Words<'_>,
+) -> Result<String, AllocError> {
     match words.call {
         "get_index_of" => counted(alloc, form.get_index_of(&words.key())),
         "get_index" => match form.get_index(words.place()) {
@@ -153,7 +185,11 @@ fn place_in_index_map(alloc: Global, form: &FrozenIndexMap<'_, u64, String>, wor
     }
 }
 
-fn of_index_set(alloc: Global, form: &mut FrozenIndexSet<'_, String>, words: &Words<'_>) -> Result<String, AllocError> {
+fn of_index_set(
+    alloc: Global,
+    form: &mut FrozenIndexSet<'_, String>,
+    words: &Words<'_>,
+) -> Result<String, AllocError> {
     match words.call {
         "insert" => {
             let text = String::from_str(alloc, words.first)?;
