@@ -99,7 +99,11 @@ fn a_refused_push(rt: HostRuntime) -> Result<(), Fail> {
 fn a_reader_beside_a_pusher(rt: HostRuntime) -> Result<(), Fail> {
     let vector = LockFreeFrozenVec::<u64>::new(rt.alloc())?;
     let shared = &vector;
-    let (pushed, seen) = thread::join(&rt, || push_all(&rt, shared, 0, 1000), || sees_all(shared, 1000));
+    let (pushed, seen) = thread::join(
+        &rt,
+        || push_all(&rt, shared, 0, 1000),
+        || sees_all(shared, 1000),
+    );
     assert_eq!(rt; (pushed, seen), (true, true));
     Ok(())
 }

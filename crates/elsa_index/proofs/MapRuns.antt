@@ -56,11 +56,12 @@ module _ {K B : Type 0} (eq : K → K → Bool) where
     -- an insertion of a key that is there changes nothing
     pub held_again : (es : List (K × B)) → Holds eq e es → value_at eq es k ≡ Some b → Holds eq (accept e k b) es
     held_again es (each, count) is =
-        let there : value_at eq all k ≡ Some b = sym (each k) ∙ is in
-        (λ q. each q ∙ sym (longer q ∙ by q (value_at eq all q) refl (eq q k) refl there),
-         let none : one_if_new all k ≡ 0 = ap (λ o. if is_some o then 0 else 1) there in
-         let sum : count_in eq (accept e k b) ≡ count_in eq e + one_if_new all k = counted in
-         omega arith)
+        let there : value_at eq all k ≡ Some b = sym (each k) ∙ is in (
+          λ q. each q ∙ sym (longer q ∙ by q (value_at eq all q) refl (eq q k) refl there),
+          let none : one_if_new all k ≡ 0 = ap (λ o. if is_some o then 0 else 1) there in
+              let sum : count_in eq (accept e k b) ≡ count_in eq e + one_if_new all k = counted in
+              omega arith,
+        )
       where
         by : (q : K) (o : Option B) → value_at eq all q ≡ o → (t : Bool) → eq q k ≡ t → value_at eq all k ≡ Some b → value_at eq (all ++ (k, b) ∷ []) q ≡ value_at eq all q
         by q (Some y) is' t same there = found_first (eq q) all ((k, b) ∷ []) y is' ∙ sym is'
@@ -70,11 +71,12 @@ module _ {K B : Type 0} (eq : K → K → Bool) where
     -- an insertion of a new key adds it
     pub held_new : (es fs : List (K × B)) → Holds eq e es → value_at eq es k ≡ None → Adds eq (value_at eq es) (value_at eq fs) k b → length fs ≡ length es + 1 → Holds eq (accept e k b) fs
     held_new es fs (each, count) none adds long =
-        let absent : value_at eq all k ≡ None = sym (each k) ∙ none in
-        (λ q. by q (eq k q) refl (value_at eq all q) refl absent ∙ sym (longer q),
-         let one : one_if_new all k ≡ 1 = ap (λ o. if is_some o then 0 else 1) absent in
-         let sum : count_in eq (accept e k b) ≡ count_in eq e + one_if_new all k = counted in
-         omega arith)
+        let absent : value_at eq all k ≡ None = sym (each k) ∙ none in (
+          λ q. by q (eq k q) refl (value_at eq all q) refl absent ∙ sym (longer q),
+          let one : one_if_new all k ≡ 1 = ap (λ o. if is_some o then 0 else 1) absent in
+              let sum : count_in eq (accept e k b) ≡ count_in eq e + one_if_new all k = counted in
+              omega arith,
+        )
       where
         by : (q : K) (t : Bool) → eq k q ≡ t → (o : Option B) → value_at eq all q ≡ o → value_at eq all k ≡ None → value_at eq fs q ≡ value_at eq (all ++ (k, b) ∷ []) q
         by q true same o is absent =

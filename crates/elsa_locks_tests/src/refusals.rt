@@ -17,9 +17,15 @@ fn a_refused_room_calls_no_closure(rt: HostRuntime) -> Result<(), Fail> {
     budget.refuse_next(1);
     assert!(rt; map.insert_with(&rt, 1, || counted(&calls)).is_err());
     budget.refuse_next(1);
-    assert!(rt; map.get_copy_or_insert_with(&rt, 1, || counted(&calls)).is_err());
+    assert!(rt;
+        map.get_copy_or_insert_with(&rt, 1, || counted(&calls))
+            .is_err()
+    );
     budget.refuse_next(1);
-    assert!(rt; map.get_copy_or_insert_with_key(&rt, 1, |_| counted(&calls)).is_err());
+    assert!(rt;
+        map.get_copy_or_insert_with_key(&rt, 1, |_| counted(&calls))
+            .is_err()
+    );
     assert_eq!(rt; (calls.get(), budget.refused()), (0, 3));
     assert_eq!(rt; map.get_copy_or_insert_with(&rt, 1, || counted(&calls))?, 7);
     budget.refuse_next(u64::MAX);

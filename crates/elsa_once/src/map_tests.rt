@@ -32,7 +32,10 @@ fn the_first_value_of_a_key_stays(rt: HostRuntime) -> Result<(), Fail> {
     assert!(rt; map.is_empty());
     assert_eq!(rt; map.insert(1, String::from_str(alloc, "a")?)?, "a");
     assert_eq!(rt; map.insert(1, String::from_str(alloc, "b")?)?, "a");
-    assert_eq!(rt; map.insert_new(1, String::from_str(alloc, "c")?)?, ("a", false));
+    assert_eq!(rt;
+        map.insert_new(1, String::from_str(alloc, "c")?)?,
+        ("a", false)
+    );
     assert_eq!(rt; map.len(), 1);
     Ok(())
 }
@@ -43,8 +46,14 @@ fn the_first_value_of_an_ordered_key_stays(rt: HostRuntime) -> Result<(), Fail> 
     let arena = Bump::new(alloc);
     let mut map: FrozenBTreeMap<'_, u32, String> = FrozenBTreeMap::new(alloc, &arena);
     assert!(rt; map.is_empty());
-    assert_eq!(rt; map.insert_new(1, String::from_str(alloc, "a")?)?, ("a", true));
-    assert_eq!(rt; map.insert_new(1, String::from_str(alloc, "b")?)?, ("a", false));
+    assert_eq!(rt;
+        map.insert_new(1, String::from_str(alloc, "a")?)?,
+        ("a", true)
+    );
+    assert_eq!(rt;
+        map.insert_new(1, String::from_str(alloc, "b")?)?,
+        ("a", false)
+    );
     assert_eq!(rt; map.insert(1, String::from_str(alloc, "c")?)?, "a");
     assert_eq!(rt; (map.len(), map[&1]), (1, "a"));
     Ok(())
@@ -67,8 +76,17 @@ fn ordered_pairs_ascend(rt: HostRuntime) -> Result<(), Fail> {
 fn collecting_keeps_the_last_value(rt: HostRuntime) -> Result<(), Fail> {
     let alloc = rt.alloc();
     let arena = Bump::new(alloc);
-    let hashed: FrozenMap<'_, u32, &str> = FrozenMap::from_iter(alloc, &arena, BuildHasherDefault::new(), [(1, "a"), (1, "b")])?;
-    let ordered: FrozenBTreeMap<'_, u32, &str> = FrozenBTreeMap::from_iter(alloc, &arena, [(1, "a"), (1, "b")])?;
+    let hashed: FrozenMap<'_, u32, &str> = FrozenMap::from_iter(
+        alloc,
+        &arena,
+        BuildHasherDefault::new(),
+        [(1, "a"), (1, "b")],
+    )?;
+    let ordered: FrozenBTreeMap<'_, u32, &str> = FrozenBTreeMap::from_iter(
+        alloc,
+        &arena,
+        [(1, "a"), (1, "b")],
+    )?;
     assert_eq!(rt; (hashed.get(&1), hashed.get(&2)), (Some("b"), None));
     assert_eq!(rt; (ordered.get(&1), ordered.get(&2)), (Some("b"), None));
     assert_eq!(rt; (hashed.len(), ordered.len()), (1, 1));
@@ -96,8 +114,12 @@ fn equality_asks_for_no_hash_and_no_order(rt: HostRuntime) -> Result<(), Fail> {
     let arena = Bump::new(alloc);
     let up = [(NoHash(1), Own(10)), (NoHash(2), Own(20))];
     let down = [(NoHash(2), Own(20)), (NoHash(1), Own(10))];
-    let mut first: FrozenBTreeMap<'_, NoHash, Own<u32>> = FrozenBTreeMap::from_iter(alloc, &arena, up)?;
-    let second: FrozenBTreeMap<'_, NoHash, Own<u32>> = FrozenBTreeMap::from_iter(alloc, &arena, down)?;
+    let mut first: FrozenBTreeMap<'_, NoHash, Own<u32>> = FrozenBTreeMap::from_iter(
+        alloc, &arena, up,
+    )?;
+    let second: FrozenBTreeMap<'_, NoHash, Own<u32>> = FrozenBTreeMap::from_iter(
+        alloc, &arena, down,
+    )?;
     assert!(rt; first == second);
     first.insert(NoHash(3), Own(30))?;
     assert!(rt; first != second);
@@ -123,12 +145,19 @@ fn keys_that_hash_alike_are_told_apart(rt: HostRuntime) -> Result<(), Fail> {
 fn a_clone_and_its_source_part(rt: HostRuntime) -> Result<(), Fail> {
     let alloc = rt.alloc();
     let arena = Bump::new(alloc);
-    let mut map: FrozenMap<'_, u32, &str, RandomState> = FrozenMap::with_hasher(alloc, &arena, RandomState::new(&rt)?);
+    let mut map: FrozenMap<'_, u32, &str, RandomState> = FrozenMap::with_hasher(
+        alloc,
+        &arena,
+        RandomState::new(&rt)?,
+    );
     map.insert(1, "a")?;
     let mut copy = map.clone()?;
     assert!(rt; copy == map);
     copy.insert(2, "b")?;
-    assert_eq!(rt; (map.get(&2), copy.get(&2), copy[&1]), (None, Some("b"), "a"));
+    assert_eq!(rt;
+        (map.get(&2), copy.get(&2), copy[&1]),
+        (None, Some("b"), "a")
+    );
     Ok(())
 }
 

@@ -66,11 +66,7 @@ pub fn hashed_there_and_back<
     V: StableDeref<'a>,
     S: BuildHasher,
     A: Allocator + Copy,
->(
-    alloc: A,
-    arena: &'a Bump,
-    map: FrozenMap<'a, K, V, S, A>,
-) -> FrozenMap<'a, K, V, S, A>
+>(alloc: A, arena: &'a Bump, map: FrozenMap<'a, K, V, S, A>) -> FrozenMap<'a, K, V, S, A>
     ensures { result ≡ map.entry }
 {
     FrozenMap::from_map(alloc, arena, map.into_map())
@@ -128,10 +124,7 @@ pub fn hashed_equal_as_functions<
     V: StableDeref<'a>,
     S: BuildHasher,
     A: Allocator + Copy,
->(
-    map: &FrozenMap<'a, K, V, S, A>,
-    other: &FrozenMap<'a, K, V, S, A>,
-) -> bool
+>(map: &FrozenMap<'a, K, V, S, A>, other: &FrozenMap<'a, K, V, S, A>) -> bool
 where
     V::Borrow: PartialEq,
     ensures equal { IsTrue result → (q : K) → option_eq V.Borrow.eq (value_at K.eq map.now q) (value_at K.eq other.now q) ≡ true }

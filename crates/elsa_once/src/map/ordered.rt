@@ -39,7 +39,8 @@ impl<'a, K: Ord, V: StableDeref<'a>, A: Allocator + Copy> Model for FrozenBTreeM
     ghost view = { λ m. m.entries.entries };
 }
 
-impl<'a, K: Ord + Drop, V: StableDeref<'a>, A: Allocator + Copy> Drop for FrozenBTreeMap<'a, K, V, A> {
+impl<'a, K: Ord + Drop, V: StableDeref<'a>, A: Allocator + Copy> Drop
+    for FrozenBTreeMap<'a, K, V, A> {
     fn drop(self) {
         let FrozenBTreeMap {
             alloc: _alloc,
@@ -239,7 +240,8 @@ impl<'a, K: Ord + Drop, V: StableDeref<'a>, A: Allocator + Copy> FrozenBTreeMap<
     }
 }
 
-impl<'a, 'q, K: Ord, V: StableDeref<'a>, A: Allocator + Copy> Index<&'q K> for FrozenBTreeMap<'a, K, V, A> {
+impl<'a, 'q, K: Ord, V: StableDeref<'a>, A: Allocator + Copy> Index<&'q K>
+    for FrozenBTreeMap<'a, K, V, A> {
     type Output = V::Borrow;
 
     ghost can_index = { λ m k. IsSome (value_at (eq_by_cmp K.cmp) m k.now) };
