@@ -2,6 +2,8 @@
 #![tactic(auto)]
 
 pub mod map;
+#[cfg(test)]
+mod map_tests;
 mod search;
 pub mod stable;
 pub mod vec;

@@ -1,0 +1,1 @@
+-- Nothing: the program has no contracts of its own.

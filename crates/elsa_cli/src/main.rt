@@ -1,0 +1,52 @@
+//! The program `elsa`: `elsa intern` answers each line of standard input on standard output.
+#![tactic(auto)]
+
+use bumpalo::Bump;
+use elsa::Job;
+use elsa::command::job;
+use elsa::interner::{Counted, EngineFault, intern_engine};
+use std::process::ExitCode;
+
+const USAGE: &str = "usage: elsa intern | elsa shared W N";
+
+/// Writes a line on standard error; where that fails, nobody is left to tell.
+fn complain(rt: &HostRuntime, message: &str) {
+    let _ = eprintln!(rt; "{message}");
+}
+
+/// Answers each line of standard input on standard output.
+fn intern(rt: &HostRuntime) -> ExitCode {
+    let arena = Bump::new(rt.alloc());
+    let mut reader = Counted::new(rt.stdin());
+    let mut writer = Counted::new(rt.stdout());
+    match intern_engine(rt.alloc(), &arena, &mut reader, &mut writer) {
+        Ok(()) => ExitCode::SUCCESS,
+        Err(EngineFault::Write) => {
+            complain(rt, "write failed");
+            ExitCode::FAILURE
+        }
+        Err(EngineFault::Read | EngineFault::Endless) => {
+            complain(rt, "read failed");
+            ExitCode::FAILURE
+        }
+    }
+}
+
+/// The words behind the program's name, where each of them is text.
+fn words(rt: &HostRuntime) -> Option<Vec<String>> {
+    std::env::args(rt).ok()?.skip(1).collect(rt.alloc()).ok()
+}
+
+fn main(rt: HostRuntime) -> ExitCode {
+    let Some(words) = words(&rt) else {
+        complain(&rt, "fault");
+        return ExitCode::FAILURE;
+    };
+    match job(words.as_slice()) {
+        Some(Job::Intern) => intern(&rt),
+        _ => {
+            complain(&rt, USAGE);
+            ExitCode::from(2)
+        }
+    }
+}

@@ -1,0 +1,281 @@
+//! Worked rows of the geometry and of the machine, whole worlds against worlds written by hand.
+use crate::geometry::{buffer_index, buffer_size, locate, prior_total_buffer_size};
+use crate::machine::{Answer, Event, Items, Plan, Turn, World, run};
+use std::alloc::{AllocError, Global};
+
+#[derive(Clone, Copy)]
+enum PlanRow<'a> {
+    Pusher(&'a [u64]),
+    Reader(&'a [usize]),
+    Cloner,
+}
+
+#[derive(Clone, Copy)]
+enum AnswerRow<'a> {
+    Pushed(usize, usize),
+    Refused(usize),
+    Read(usize, usize, Option<u64>),
+    Cloned(usize, &'a [u64]),
+    CloneRefused(usize),
+}
+
+/// A schedule and the world that it leaves. A turn is a thread; the turn at `refused` is without memory.
+#[derive(Clone, Copy)]
+struct Row<'a> {
+    name: &'a str,
+    plans: &'a [PlanRow<'a>],
+    turns: &'a [usize],
+    refused: usize,
+    opened: usize,
+    items: &'a [u64],
+    events: &'a [Event],
+    answers: &'a [AnswerRow<'a>],
+}
+
+fn plans_of(alloc: Global, rows: &[PlanRow]) -> Result<Vec<Plan>, AllocError> {
+    let mut plans = Vec::new(alloc);
+    for row in rows {
+        plans.push(match *row {
+            PlanRow::Pusher(items) => Plan::Pusher(Items::from_vec(Vec::from_slice(alloc, items)?)),
+            PlanRow::Reader(indexes) => Plan::Reader(Items::from_vec(Vec::from_slice(
+                alloc, indexes,
+            )?)),
+            PlanRow::Cloner => Plan::Cloner,
+        })?;
+    }
+    Ok(plans)
+}
+
+fn schedule_of(alloc: Global, threads: &[usize], refused: usize) -> Result<Vec<Turn>, AllocError> {
+    let mut schedule = Vec::new(alloc);
+    for (i, thread) in threads.iter().enumerate() {
+        schedule.push(Turn {
+            thread: *thread,
+            memory: i != refused,
+        })?;
+    }
+    Ok(schedule)
+}
+
+fn answers_of(alloc: Global, rows: &[AnswerRow]) -> Result<Vec<Answer>, AllocError> {
+    let mut answers = Vec::new(alloc);
+    for row in rows {
+        answers.push(match *row {
+            AnswerRow::Pushed(thread, place) => Answer::Pushed { thread, place },
+            AnswerRow::Refused(thread) => Answer::Refused { thread },
+            AnswerRow::Read(thread, index, value) => Answer::Read {
+                thread,
+                index,
+                value,
+            },
+            AnswerRow::Cloned(thread, items) => Answer::Cloned {
+                thread,
+                items: Items::from_vec(Vec::from_slice(alloc, items)?),
+            },
+            AnswerRow::CloneRefused(thread) => Answer::CloneRefused { thread },
+        })?;
+    }
+    Ok(answers)
+}
+
+/// The world of a row in which nobody holds and each write was published.
+fn world_of(alloc: Global, row: &Row) -> Result<World, AllocError> {
+    let mut writes = Vec::new(alloc);
+    for (place, item) in row.items.iter().enumerate() {
+        writes.push((place, *item))?;
+    }
+    Ok(World {
+        length: row.items.len(),
+        held: None,
+        opened: row.opened,
+        writes: Items::from_vec(writes),
+        events: Items::from_vec(Vec::from_slice(alloc, row.events)?),
+        answers: Items::from_vec(answers_of(alloc, row.answers)?),
+    })
+}
+
+#[test]
+fn schedules_leave_their_worlds(rt: HostRuntime) -> Result<(), AllocError> {
+    let alloc = rt.alloc();
+    let append = |thread, item| Event::Append { thread, item };
+    let look = |thread, length| Event::Look { thread, length };
+    let rows = [
+        Row {
+            name: "a cloner of the empty list, and a turn after it is done",
+            plans: &[PlanRow::Cloner],
+            turns: &[0, 0],
+            refused: 99,
+            opened: 0,
+            items: &[],
+            events: &[look(0, 0)],
+            answers: &[AnswerRow::Cloned(0, &[])],
+        },
+        Row {
+            name: "a turn of no thread",
+            plans: &[],
+            turns: &[0],
+            refused: 99,
+            opened: 0,
+            items: &[],
+            events: &[],
+            answers: &[],
+        },
+        Row {
+            name: "a reader amid two pushers",
+            plans: &[
+                PlanRow::Pusher(&[7]),
+                PlanRow::Pusher(&[9]),
+                PlanRow::Reader(&[0, 0, 0]),
+            ],
+            turns: &[0, 1, 0, 1, 2, 0, 0, 2, 0, 2, 2, 1, 1, 1, 1],
+            refused: 99,
+            opened: 1,
+            items: &[7, 9],
+            events: &[
+                look(2, 0),
+                look(2, 0),
+                append(0, 7),
+                look(2, 1),
+                append(1, 9),
+            ],
+            answers: &[
+                AnswerRow::Read(2, 0, None),
+                AnswerRow::Read(2, 0, None),
+                AnswerRow::Pushed(0, 0),
+                AnswerRow::Read(2, 0, Some(7)),
+                AnswerRow::Pushed(1, 1),
+            ],
+        },
+        Row {
+            name: "an acquire at an old length",
+            plans: &[PlanRow::Pusher(&[4]), PlanRow::Pusher(&[5])],
+            turns: &[0, 1, 0, 0, 0, 0, 1, 1, 1, 1, 1],
+            refused: 99,
+            opened: 1,
+            items: &[4, 5],
+            events: &[append(0, 4), append(1, 5)],
+            answers: &[AnswerRow::Pushed(0, 0), AnswerRow::Pushed(1, 1)],
+        },
+        Row {
+            name: "a buffer refused once",
+            plans: &[PlanRow::Pusher(&[4, 5])],
+            turns: &[0, 0, 0, 0, 0, 0, 0, 0, 0],
+            refused: 2,
+            opened: 1,
+            items: &[5],
+            events: &[append(0, 5)],
+            answers: &[AnswerRow::Refused(0), AnswerRow::Pushed(0, 0)],
+        },
+        Row {
+            name: "a clone amid pushes",
+            plans: &[PlanRow::Pusher(&[1, 2]), PlanRow::Cloner],
+            turns: &[0, 0, 0, 0, 0, 1, 0, 0, 0, 0, 1],
+            refused: 99,
+            opened: 1,
+            items: &[1, 2],
+            events: &[append(0, 1), look(1, 1), append(0, 2)],
+            answers: &[
+                AnswerRow::Pushed(0, 0),
+                AnswerRow::Pushed(0, 1),
+                AnswerRow::Cloned(1, &[1]),
+            ],
+        },
+        Row {
+            name: "a clone refused at its second copy",
+            plans: &[PlanRow::Pusher(&[1, 2]), PlanRow::Cloner],
+            turns: &[0, 0, 0, 0, 0, 0, 0, 0, 0, 1, 1, 1],
+            refused: 11,
+            opened: 1,
+            items: &[1, 2],
+            events: &[append(0, 1), append(0, 2), look(1, 2)],
+            answers: &[
+                AnswerRow::Pushed(0, 0),
+                AnswerRow::Pushed(0, 1),
+                AnswerRow::CloneRefused(1),
+            ],
+        },
+        Row {
+            name: "a clone while the second buffer is opened",
+            plans: &[PlanRow::Pusher(&[0, 1, 2, 3]), PlanRow::Cloner],
+            turns: &[
+                0, 0, 0, 0, 0, 0, 0, 0, 0, 0, 0, 0, 0, 0, 0, 0, 1, 0, 0, 1, 1, 1,
+            ],
+            refused: 99,
+            opened: 2,
+            items: &[0, 1, 2, 3],
+            events: &[
+                append(0, 0),
+                append(0, 1),
+                append(0, 2),
+                look(1, 3),
+                append(0, 3),
+            ],
+            answers: &[
+                AnswerRow::Pushed(0, 0),
+                AnswerRow::Pushed(0, 1),
+                AnswerRow::Pushed(0, 2),
+                AnswerRow::Pushed(0, 3),
+                AnswerRow::Cloned(1, &[0, 1, 2]),
+            ],
+        },
+    ];
+    for row in &rows {
+        let plans = plans_of(alloc, row.plans)?;
+        let schedule = schedule_of(alloc, row.turns, row.refused)?;
+        let world = run(alloc, &plans, &schedule)?;
+        assert_eq!(rt; world, world_of(alloc, row)?, "{}", row.name);
+    }
+    Ok(())
+}
+
+#[test]
+fn buffers_open_as_the_list_grows(rt: HostRuntime) -> Result<(), AllocError> {
+    let alloc = rt.alloc();
+    let items = [0; 16];
+    let plans = plans_of(alloc, &[PlanRow::Pusher(&items)])?;
+
+    // Turns, then the length and the slots in open buffers after them. The fourth is amid the push at length 3.
+    for (turns, length, slots) in [
+        (0, 0, 0),
+        (5, 1, 3),
+        (13, 3, 3),
+        (16, 3, 15),
+        (18, 4, 15),
+        (62, 15, 15),
+        (67, 16, 63),
+    ] {
+        let schedule = schedule_of(alloc, vec![in alloc; 0; turns]?.as_slice(), 99)?;
+        let world = run(alloc, &plans, &schedule)?;
+        assert_eq!(rt; world.length, length, "after {turns} turns");
+        assert_eq!(rt;
+            prior_total_buffer_size(world.opened),
+            slots,
+            "after {turns} turns"
+        );
+    }
+    Ok(())
+}
+
+#[test]
+fn places_lie_in_buffers(rt: HostRuntime) {
+    let last = (1 << 62) - 2;
+    let rows = [
+        (0, 0, 0),
+        (2, 0, 2),
+        (3, 1, 0),
+        (14, 1, 11),
+        (15, 2, 0),
+        (62, 2, 47),
+        (63, 3, 0),
+        (last, 30, 3458764513820540927),
+    ];
+    for (place, buffer, slot) in rows {
+        assert!(rt; place <= last);
+        assert_eq!(rt; buffer_index(place), buffer, "at {place}");
+        assert_eq!(rt; locate(place), (buffer, slot), "at {place}");
+    }
+    assert_eq!(rt; buffer_size(0), 3);
+    assert_eq!(rt; buffer_size(31), 13835058055282163712);
+    assert_eq!(rt; prior_total_buffer_size(0), 0);
+    assert_eq!(rt; prior_total_buffer_size(31), 4611686018427387903);
+}

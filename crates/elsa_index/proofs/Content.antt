@@ -1,0 +1,49 @@
+-- What an insertion of a new value leaves.
+use Rattle.std.proofs.Common.{◌≡◌, ℕ, ◌<◌, Bool, true, false, true≢false, is_some, sym, List, [], ◌∷◌, ◌++◌, length, position, find, slice_get, ap, ◌∙◌, arith, None, Some, if◌then◌else◌}
+use Rattle.std.proofs.lemmas.Grind.{common_steps}
+use Rattle.std.proofs.lemmas.List.Folds.{find_at, list_any_at, list_any_none}
+use Rattle.std.proofs.lemmas.List.Quantifiers.{position-Some}
+use Rattle.std.proofs.lemmas.List.Sums.{fails_before_first, prefix_len-le-length}
+use Rattle.std.proofs.lemmas.Option.{slice_get_past}
+use Rattle.std.specs.List.{list_any, position_or_len}
+use Rattle.std.specs.Map.{lookup}
+use Rattle.indexmap.specs.IndexMap.{IndexMap, insert_entry}
+use Rattle.indexmap.specs.IndexSet.{insert_key}
+use Rattle.indexmap.proofs.CallerLemmas.{insert_entry-new}
+
+-- where nothing passes, the count of those before the first is the length
+pub none_found : {X : Type 0} (t : X → Bool) (xs : List X) → position t xs ≡ None → position_or_len t xs ≡ length xs
+none_found t xs e = grind (arith, common_steps, prefix_len-le-length)
+
+-- no item passes a test that finds none
+pub none_passes : {X : Type 0} (t : X → Bool) (xs : List X) → position t xs ≡ None → list_any t xs ≡ false
+none_passes t xs e = list_any_none t xs (λ k d l. fails_before_first t xs k d (omega (arith, none_found t xs e)))
+
+-- a new value goes last
+pub new_value_goes_last : {T : Type 0} (eq : T → T → Bool) (ks : List T) (k : T) → position (eq k) ks ≡ None → insert_key eq ks k ≡ ks ++ k ∷ []
+new_value_goes_last eq ks k e = ap (λ b. if b then ks else ks ++ k ∷ []) (none_passes (eq k) ks e)
+
+-- the value that a test finds stands at the place that it finds
+pub found_at : {X : Type 0} (t : X → Bool) (xs : List X) (i : ℕ) → position t xs ≡ Some i → find t xs ≡ slice_get xs i
+found_at {X} t xs i e = find_at t xs ∙ ap (slice_get xs) at
+  where
+    at : position_or_len t xs ≡ i
+    at = grind (arith, common_steps, e)
+
+-- and lies within the list
+pub found_within : {X : Type 0} (t : X → Bool) (xs : List X) (i : ℕ) → position t xs ≡ Some i → i < length xs
+found_within t xs i e = grind (arith, common_steps, e)
+
+pub found_nowhere : {X : Type 0} (t : X → Bool) (xs : List X) → position t xs ≡ None → find t xs ≡ None
+found_nowhere t xs e = find_at t xs ∙ ap (slice_get xs) (none_found t xs e) ∙ slice_get_past xs (length xs) (omega arith)
+
+-- a new key goes last
+pub new_key_goes_last : {K B S : Type 0} (eq : K → K → Bool) (m : IndexMap K B S) (k : K) (b : B) → lookup (eq k) m.entries ≡ None → insert_entry eq m.entries k b ≡ m.entries ++ (k, b) ∷ []
+new_key_goes_last eq m k b none = insert_entry-new eq m k b none
+
+-- some item passes a test that finds a place
+pub some_passes : {X : Type 0} (t : X → Bool) (xs : List X) (i : ℕ) → position t xs ≡ Some i → list_any t xs ≡ true
+some_passes t [] i e = absurd (true≢false (sym (ap is_some e)))
+some_passes t (x ∷ xs) i e =
+    let p = position-Some t (x ∷ xs) i x e in
+    list_any_at t (x ∷ xs) i x p.0 p.1

@@ -1,0 +1,6 @@
+use Rattle.std.proofs.Common.{[]}
+use Rattle.elsa_index.specs.Content.{SetCollects}
+use Rattle.elsa_index.proofs.index_set.FrozenIndexSet.from_iter.Given as goal
+
+abbrev pub invariant-loop-value : goal.invariant-loop-value
+invariant-loop-value g l = SetCollects g.T.HasTarget.target g.T.HasTarget.shown g.T.LookUp.finds [] l.yielded l.set

@@ -1,0 +1,20 @@
+-- What an index set ends as, once its inner set, lent for writing, has ended.
+use Rattle.std.specs.Prelude.{List, []}
+use Rattle.std.specs.Borrow.{Fml, RattleType, MutBor, Lends}
+use Rattle.std.specs.HashMap.Lent.{HashMembers}
+use Rattle.std.specs.declared.alloc.Allocator as alloc
+use Rattle.std.specs.declared.hash.Hasher as hasher
+use Rattle.std.specs.declared.hash.BuildHasher as builder
+use Rattle.elsa_once.specs.declared.stable.HasTarget as target
+use Rattle.indexmap.specs.contracts.set.IndexSet.{the_row as set_row}
+use Rattle.elsa_index.specs.contracts.index_set.FrozenIndexSet.{the_row}
+use mir.Syntax.{named}
+
+module _ (T S A B H : RattleType) (value : HashMembers B.Denot) (t : target.Ghosts T.Denot B.Denot) (b : builder.Ghosts S.Denot H.Denot) (h : hasher.Ghosts H.Denot) (heap : alloc.Ghosts A.Denot) where
+  -- the inner set's type, as the logic holds it
+  abbrev pub inner_row : RattleType
+  inner_row = set_row B S A H (record { eq = value.eq }) (record { hash_input = value.hash_input }) b h heap
+
+  -- the set holds the values that are left behind r
+  abbrev pub lends_values : MutBor (List B.Denot) → MutBor inner_row.Denot → Fml
+  lends_values m r = Lends (the_row (record { mir = named 1; lft = [] }) T S A B H t b h heap (record { eq = value.eq }) (record { hash_input = value.hash_input })) inner_row m r (λ w. w.keys)

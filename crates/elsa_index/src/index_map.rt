@@ -1,0 +1,432 @@
+//! A map whose pairs keep the order of their first insertions.
+//!
+//! A new key goes last, and a key that is there keeps its place and its value. The layers above use the list of pairs that
+//! the contracts speak of, and `rebase`.
+ghost use Rattle.std.specs.Prelude.{◌≡◌, ◌++◌, ◌∷◌, ◌↔◌, [], ℕ, List, length, None, Some, slice_get, IfOk, IfSome, IsSome, IsSomeAnd, IsTrue, MatchOption, OnOk, OnErr, cond};
+ghost use Rattle.std.specs.Cmp;
+ghost use Rattle.std.specs.Cmp.{partial_equiv_from_equiv};
+ghost use Rattle.std.specs.HashMap.Eq.{hash_map_eq_symm, hash_map_eq_trans, hash_map_eq_refl};
+ghost use Rattle.std.specs.Iterator.{Drains, IsFinite};
+ghost use Rattle.std.specs.List.{IsDistinct};
+ghost use Rattle.std.specs.Map.{keys_of, lookup};
+ghost use Rattle.std.specs.Option.{option_map, ForSome};
+ghost use Rattle.indexmap.specs.IndexMap.{insert_entry};
+ghost use Rattle.elsa_index.specs.Content.{place_of, value_of, Inserted, InsertedNew, IsCloneOf, CollectsTargets};
+ghost use Rattle.elsa_index.specs.Equality.{as_map, same_map, AgreeAtEachKey};
+
+use bumpalo::Bump;
+use elsa_once::stable::StableDeref;
+use indexmap::IndexMap;
+use std::alloc::{AllocError, Allocator, Global};
+use std::hash::{BuildHasher, BuildHasherDefault, FoldHasher, Hash};
+use std::marker::{Model, PhantomData};
+use std::ops::Index;
+
+/// A map that only grows, over values placed in an arena.
+pub struct FrozenIndexMap<
+    'a,
+    K: Eq + Hash,
+    V: StableDeref<'a>,
+    S: BuildHasher = BuildHasherDefault<FoldHasher>,
+    A: Allocator + Copy = Global,
+> {
+    arena: &'a Bump,
+    map: IndexMap<K, V::Borrow, S, A>,
+    of: PhantomData<V>,
+}
+
+impl<'a, K: Eq + Hash, V: StableDeref<'a>, S: BuildHasher, A: Allocator + Copy> Model
+    for FrozenIndexMap<'a, K, V, S, A> {
+    ghost use Rattle.std.specs.Prelude.{List};
+
+    ghost Value = { List (K × V.Borrow) };
+
+    ghost view = { λ m. m.map.entries };
+}
+
+impl<'a, K: Eq + Hash + Drop, V: StableDeref<'a>, S: BuildHasher + Drop, A: Allocator + Copy> Drop
+    for FrozenIndexMap<'a, K, V, S, A> {
+    fn drop(self) {
+        let FrozenIndexMap {
+            arena: _arena,
+            map: _map,
+            of: _of,
+        } = self;
+    }
+}
+
+impl<'a, K: Eq + Hash, V: StableDeref<'a>, A: Allocator + Copy> FrozenIndexMap<
+    'a,
+    K,
+    V,
+    BuildHasherDefault<FoldHasher>,
+    A,
+> {
+    /// An empty map that hashes as std's maps do by default. It takes no memory.
+    pub fn new(alloc: A, arena: &'a Bump) -> Self
+        ensures { result ≡ [] }
+    {
+        FrozenIndexMap::with_hasher(alloc, arena, BuildHasherDefault::new())
+    }
+}
+
+impl<'a, K: Eq + Hash, V: StableDeref<'a>, S: BuildHasher, A: Allocator + Copy> FrozenIndexMap<
+    'a,
+    K,
+    V,
+    S,
+    A,
+> {
+    /// An empty map that hashes by `hash_builder`. It takes no memory.
+    pub fn with_hasher(alloc: A, arena: &'a Bump, hash_builder: S) -> Self
+        ensures { result ≡ [] }
+    {
+        FrozenIndexMap::from_map(arena, IndexMap::with_hasher(alloc, hash_builder))
+    }
+
+    /// A map with this content, which goes on in the given arena. It takes no memory.
+    pub fn from_map(arena: &'a Bump, map: IndexMap<K, V::Borrow, S, A>) -> Self
+        ensures content { result ≡ map.entries }
+    {
+        FrozenIndexMap {
+            arena,
+            map,
+            of: PhantomData,
+        }
+    }
+
+    /// The pairs, in the order of their first insertions. It takes no memory.
+    pub fn into_map(self) -> IndexMap<K, V::Borrow, S, A>
+        ensures content { result.entries ≡ self.entry }
+    {
+        let FrozenIndexMap {
+            arena: _,
+            map: inner,
+            of: _,
+        } = self;
+        inner
+    }
+
+    /// The place of the pair with this key, `None` exactly if there is none.
+    ///
+    /// It takes no memory. `O(1)`: one hash.
+    pub fn get_index_of(&self, key: &K) -> Option<usize>
+        ensures { result ≡ place_of K.eq self.now key.now }
+    {
+        self.map.get_index_of(key)
+    }
+
+    /// The value at this key, `None` exactly if the key isn't there.
+    ///
+    /// It takes no memory. `O(1)`: one hash.
+    pub fn get(&self, key: &K) -> Option<V::Borrow>
+        ensures { result ≡ value_of K.eq self.now key.now }
+    {
+        self.map.get(key).copied()
+    }
+
+    /// The place, the stored key and the value of the pair with this key, `None` exactly if there is none.
+    ///
+    /// It takes no memory. `O(1)`: one hash.
+    pub fn get_full(&self, key: &K) -> Option<(usize, K, V::Borrow)>
+    where
+        K: Copy,
+        ensures place { option_map (λ r. r.0) result ≡ place_of K.eq self.now key.now }
+        ensures pair { IfSome result (λ r. slice_get self.now r.0 ≡ Some (r.1, r.2)) }
+        ensures value { option_map (λ r. r.2) result ≡ value_of K.eq self.now key.now }
+    {
+        match self.map.get_full(key) {
+            Some((place, found, value)) => Some((place, *found, *value)),
+            None => None,
+        }
+    }
+
+    /// The pair at the place `index`, `None` exactly if there is no such place.
+    ///
+    /// It takes no memory. `O(1)`, with no hash.
+    pub fn get_index(&self, index: usize) -> Option<(K, V::Borrow)>
+    where
+        K: Copy,
+        ensures { result ≡ slice_get self.now index }
+    {
+        match self.map.get_index(index) {
+            Some((key, value)) => Some((*key, *value)),
+            None => None,
+        }
+    }
+
+    /// What `f` answers at the value of this key. It is called once if the key is there, and else never.
+    ///
+    /// It takes no memory of its own. `O(1)`: one hash.
+    pub fn map_get<R, F: FnOnce(V::Borrow) -> R>(&self, key: &K, f: F) -> Option<R>
+        requires callable { ForSome (value_of K.eq self.now key.now) (F.pre f) }
+        ensures { MatchOption (value_of K.eq self.now key.now) (result ≡ None) (λ x. IsSomeAnd result (F.post f x)) }
+    {
+        match self.map.get(key) {
+            Some(value) => Some(f(*value)),
+            None => None,
+        }
+    }
+
+    /// Whether there are no pairs. It takes no memory.
+    #[tactic(auto, using(std::proofs::lemmas::List::nil_from_length))]
+    pub fn is_empty(&self) -> bool
+        ensures empty { IsTrue result ↔ (self.now ≡ []) }
+
+        // No two keys of a map are equal.
+        ensures distinct { IsDistinct K.eq (keys_of self.now) }
+    {
+        self.map.len() == 0
+    }
+}
+
+impl<
+    'a,
+    K: Eq + Hash + Drop,
+    V: StableDeref<'a>,
+    S: BuildHasher,
+    A: Allocator + Copy,
+> FrozenIndexMap<'a, K, V, S, A> {
+    // The value's borrow, in the arena.
+    fn placed(&self, value: V) -> Result<V::Borrow, AllocError>
+        ensures { IfOk result (λ b. V.shown b ≡ V.target value) }
+    {
+        let borrow = match value.place(self.arena) {
+            Ok(borrow) => borrow,
+            Err(_) => return Err(AllocError),
+        };
+        Ok(borrow)
+    }
+
+    // Adds a pair last.
+    #[tactic(auto, using(crate::proofs::Content::new_key_goes_last))]
+    fn add(&mut self, key: K, value: V::Borrow) -> Result<usize, AllocError>
+        requires new { value_of K.eq self.old key ≡ None }
+        ensures place { IfOk result (λ i. i ≡ length self.old) }
+        ensures appended { OnOk result (self.new ≡ self.old ++ (key, value) ∷ []) }
+        ensures refused { OnErr result (self.new ≡ self.old) }
+    {
+        let place = self.map.len();
+        match self.map.insert(key, value) {
+            Ok(_) => Ok(place),
+            Err(_) => Err(AllocError),
+        }
+    }
+
+    /// Adds the pair last, unless the key is there, and answers its place, the value that the key now has and whether the
+    /// key is new.
+    ///
+    /// It looks first, by one hash: where the key is there, its place and value are answered with `false`, the given key
+    /// and value are given up, no memory is taken and nothing changes. Otherwise the value is placed in the arena and the
+    /// pair goes last, by one more hash. `AllocError` comes only for an absent key and leaves the map as it was; the arena
+    /// may keep a copy that nobody sees.
+    pub fn insert_full_new(
+        &mut self,
+        key: K,
+        value: V,
+    ) -> Result<(usize, V::Borrow, bool), AllocError>
+        ensures accepted { IfOk result (λ r. InsertedNew K.eq V.target V.shown self.old key value r.0 r.1 r.2 self.new) }
+        ensures refused { OnErr result (self.new ≡ self.old) }
+        ensures only_new { OnErr result (place_of K.eq self.old key ≡ None) }
+    {
+        if let Some((place, _, found)) = self.map.get_full(&key) {
+            return Ok((place, *found, false));
+        }
+        let borrow = self.placed(value)?;
+        let place = self.add(key, borrow)?;
+        Ok((place, borrow, true))
+    }
+
+    /// Adds the pair last, unless the key is there, and answers its place and the value that the key now has.
+    ///
+    /// Costs and the refusal are those of `insert_full_new`.
+    pub fn insert_full(&mut self, key: K, value: V) -> Result<(usize, V::Borrow), AllocError>
+        ensures accepted { IfOk result (λ r. Inserted K.eq V.target V.shown self.old key value r.0 r.1 self.new) }
+        ensures refused { OnErr result (self.new ≡ self.old) }
+        ensures only_new { OnErr result (place_of K.eq self.old key ≡ None) }
+    {
+        let (place, borrow, _) = self.insert_full_new(key, value)?;
+        Ok((place, borrow))
+    }
+
+    /// Adds the pair last, unless the key is there, and answers the value that the key now has and whether the key is new.
+    ///
+    /// Costs and the refusal are those of `insert_full_new`.
+    pub fn insert_new(&mut self, key: K, value: V) -> Result<(V::Borrow, bool), AllocError>
+        ensures accepted { IfOk result (λ r. (i : ℕ) × InsertedNew K.eq V.target V.shown self.old key value i r.0 r.1 self.new) }
+        ensures refused { OnErr result (self.new ≡ self.old) }
+        ensures only_new { OnErr result (place_of K.eq self.old key ≡ None) }
+    {
+        let (_, borrow, new) = self.insert_full_new(key, value)?;
+        Ok((borrow, new))
+    }
+
+    /// Adds the pair last, unless the key is there, and answers the value that the key now has.
+    ///
+    /// Costs and the refusal are those of `insert_full_new`.
+    pub fn insert(&mut self, key: K, value: V) -> Result<V::Borrow, AllocError>
+        ensures accepted { IfOk result (λ b. (i : ℕ) × Inserted K.eq V.target V.shown self.old key value i b self.new) }
+        ensures refused { OnErr result (self.new ≡ self.old) }
+        ensures only_new { OnErr result (place_of K.eq self.old key ≡ None) }
+    {
+        let (_, borrow) = self.insert_full(key, value)?;
+        Ok(borrow)
+    }
+}
+
+impl<
+    'a,
+    K: Eq + Hash + Drop,
+    V: StableDeref<'a>,
+    S: BuildHasher + Drop,
+    A: Allocator + Copy,
+> FrozenIndexMap<'a, K, V, S, A> {
+    // Gives a key a value, whether or not it is there.
+    fn set(&mut self, key: K, value: V) -> Result<V::Borrow, AllocError>
+        ensures placed { IfOk result (λ b. V.shown b ≡ V.target value) }
+        ensures entries { IfOk result (λ b. self.new ≡ insert_entry K.eq self.old key b) }
+        ensures values { IfOk result (λ b. (q : K) → lookup (K.eq q) self.new ≡ cond (K.eq key q) (Some b) (lookup (K.eq q) self.old)) }
+    {
+        let given = self.placed(value)?;
+        match self.map.insert(key, given) {
+            Ok(_) => Ok(given),
+            Err(_) => Err(AllocError),
+        }
+    }
+
+    /// A map of the pairs, in which the last value of a key wins and the key keeps its first place.
+    ///
+    /// Each value is placed in the arena, by one hash a pair. `AllocError` comes only where the arena or the table was
+    /// refused room.
+    pub fn from_iter<I: IntoIterator<Item = (K, V)>>(
+        alloc: A,
+        arena: &'a Bump,
+        hash_builder: S,
+        pairs: I,
+    ) -> Result<Self, AllocError>
+        requires ends { (s : I.IntoIter) → I.into_iter_gives pairs s → I.IntoIter.can_next s × IsFinite (I.IntoIter.remaining s) }
+        ensures collects { IfOk result (λ m. (s : I.IntoIter) × (xs : List (K × V)) × I.into_iter_gives pairs s × Drains I.IntoIter.next_gives s xs × CollectsTargets K.eq V.target V.shown xs m) }
+    {
+        let mut map = FrozenIndexMap::with_hasher(alloc, arena, hash_builder);
+        for pair in pairs {
+            let (key, value) = pair;
+            map.set(key, value)?;
+        }
+        Ok(map)
+    }
+
+    /// A map with the same content, in the same arena, under a clone of the hash builder.
+    ///
+    /// The values' borrows are shared, the keys are cloned. Later insertions into either leave the other as it is. It makes
+    /// room once, for all pairs. `O(len)`. `AllocError` comes only where the room, the clone of a key or that of the builder
+    /// was refused.
+    pub fn clone(&self) -> Result<Self, AllocError>
+    where
+        K: Clone,
+        S: Clone,
+        requires faithful { (x y : K) → K.is_clone x y → IsTrue (K.eq x y) }
+        ensures content { IfOk result (IsCloneOf K.eq K.is_clone self.now) }
+    {
+        let len = self.map.len();
+        let hash_builder = self.map.hasher().clone()?;
+        let mut map = IndexMap::with_capacity_and_hasher(*self.map.allocator(), len, hash_builder)?;
+        for i in 0..len {
+            let (key, value) = self.map.get_index(i).unwrap();
+            map.insert(key.clone()?, *value)?;
+        }
+        Ok(FrozenIndexMap::from_map(self.arena, map))
+    }
+
+    /// The pairs as a vector, each once, in the order of their first insertions.
+    ///
+    /// `AllocError` comes where the vector was refused room; the map is given up then.
+    pub fn into_tuple_vec(self) -> Result<Vec<(K, V::Borrow), A>, AllocError>
+        ensures pairs { IfOk result (λ pairs. pairs.items ≡ self.entry) }
+        ensures once { IfOk result (λ pairs. IsDistinct K.eq (keys_of pairs.items)) }
+    {
+        let map = self.into_map();
+        let _len = map.len();
+        let alloc = *map.allocator();
+        map.into_iter().collect(alloc)
+    }
+}
+
+impl<'a, K: Eq + Hash, V: StableDeref<'a>, S: BuildHasher, A: Allocator + Copy> FrozenIndexMap<
+    'a,
+    K,
+    V,
+    S,
+    A,
+> {
+    ghost use Rattle.std.specs.Borrow.{sem};
+    ghost use Rattle.elsa_index.specs.MapLent.{lends_pairs};
+
+    /// The pairs, to write: a new base begins with what is left in them. It takes no memory.
+    pub fn as_mut(&mut self) -> &mut IndexMap<K, V::Borrow, S, A>
+        ensures* writes_back { sem 𝓛 (lends_pairs K.row V.row S.row A.row V.Borrow.row S.Hasher.row K.Hash V.HasTarget S.BuildHasher S.Hasher.Hasher A.Allocator self.entry result) }
+        ensures content { result.now.entries ≡ self.old }
+    {
+        &mut self.map
+    }
+}
+
+impl<
+    'a,
+    K: Eq + Hash + Drop,
+    V: StableDeref<'a>,
+    S: BuildHasher + Drop,
+    A: Allocator + Copy,
+> FrozenIndexMap<'a, K, V, S, A> {
+    /// Begins anew with another content, as a write through `as_mut` does. It takes no memory.
+    pub fn rebase(&mut self, base: IndexMap<K, V::Borrow, S, A>)
+        ensures { self.new ≡ base.entries }
+    {
+        *self.as_mut() = base;
+    }
+}
+
+impl<'a, 'q, K: Eq + Hash, V: StableDeref<'a>, S: BuildHasher, A: Allocator + Copy> Index<&'q K>
+    for FrozenIndexMap<'a, K, V, S, A> {
+    type Output = V::Borrow;
+
+    ghost can_index = { λ m k. IsSome (value_of K.eq m k.now) };
+
+    ghost index_gives = { λ m k b. value_of K.eq m k.now ≡ Some b };
+
+    // The value at this key. The caller sees to it that the key is there.
+    fn index(&self, key: &'q K) -> &V::Borrow {
+        self.map.get(key).unwrap()
+    }
+}
+
+// Two maps are equal where they have equal values at each key, in any order.
+impl<'a, K: Eq + Hash, V: StableDeref<'a>, S: BuildHasher, A: Allocator + Copy> PartialEq
+    for FrozenIndexMap<'a, K, V, S, A>
+where
+    <V as StableDeref<'a>>::Borrow: PartialEq,
+{
+    ghost eq = { same_map K.eq V.Borrow.eq };
+
+    ghost laws = { let v = V.Borrow.laws in record {
+      symm = λ a b. hash_map_eq_symm K.eq V.Borrow.eq v.symm (as_map a) (as_map b);
+      trans = λ a b c. hash_map_eq_trans K.eq V.Borrow.eq K.Eq.laws v.trans (as_map a) (as_map b) (as_map c);
+    } };
+
+    fn eq(&self, other: &Self) -> bool
+        ensures decides { result ≡ same_map K.eq V.Borrow.eq self.now other.now }
+        ensures as_maps { IsTrue result ↔ AgreeAtEachKey K.eq V.Borrow.eq self.now other.now }
+    {
+        self.map == other.map
+    }
+}
+
+impl<'a, K: Eq + Hash, V: StableDeref<'a>, S: BuildHasher, A: Allocator + Copy> Eq
+    for FrozenIndexMap<'a, K, V, S, A>
+where
+    <V as StableDeref<'a>>::Borrow: Eq,
+{
+    ghost laws = { let v = V.Borrow.Eq.laws in Cmp.equiv (record {
+      symm = λ a b. hash_map_eq_symm K.eq V.Borrow.eq v.symm (as_map a) (as_map b);
+      trans = λ a b c. hash_map_eq_trans K.eq V.Borrow.eq K.Eq.laws (partial_equiv_from_equiv v).trans (as_map a) (as_map b) (as_map c);
+    }) (λ a. hash_map_eq_refl K.eq V.Borrow.eq v.refl (as_map a)) };
+}

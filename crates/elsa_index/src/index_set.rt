@@ -1,0 +1,372 @@
+//! A set whose values keep the order of their first insertions.
+ghost use Rattle.std.specs.Prelude.{◌≡◌, ◌++◌, ◌∷◌, ◌<◌, ◌^◌, ◌↔◌, [], ℕ, List, length, None, Some, slice_get, position, find, IfOk, IfSome, OnOk, OnErr, IsTrue};
+ghost use Rattle.std.specs.Cmp.{partial_equiv_from_equiv};
+ghost use Rattle.std.specs.Iterator.{Drains, IsFinite};
+ghost use Rattle.std.specs.List.{IsDistinct};
+ghost use Rattle.std.specs.Option.{option_map};
+ghost use Rattle.elsa_index.specs.Content.{SetInserted, SetInsertedNew, SetCollects};
+ghost use Rattle.elsa_index.specs.Equality.{same_set, same_set_equiv, HaveSameValues};
+
+use crate::look_up::LookUp;
+use bumpalo::Bump;
+use elsa_once::stable::StableDeref;
+use indexmap::IndexSet;
+use std::alloc::{AllocError, Allocator, Global};
+use std::hash::{BuildHasher, BuildHasherDefault, FoldHasher, Hash};
+use std::marker::{Model, PhantomData};
+use std::ops::Index;
+
+/// A set that only grows, over values placed in an arena.
+pub struct FrozenIndexSet<
+    'a,
+    T: StableDeref<'a>,
+    S: BuildHasher = BuildHasherDefault<FoldHasher>,
+    A: Allocator + Copy = Global,
+>
+where
+    T::Borrow: Eq + Hash,
+{
+    arena: &'a Bump,
+    set: IndexSet<T::Borrow, S, A>,
+    of: PhantomData<T>,
+}
+
+impl<'a, T: StableDeref<'a>, S: BuildHasher, A: Allocator + Copy> Model
+    for FrozenIndexSet<'a, T, S, A>
+where
+    T::Borrow: Eq + Hash,
+{
+    ghost use Rattle.std.specs.Prelude.{List};
+
+    ghost Value = { List T.Borrow };
+
+    ghost view = { λ m. m.set.keys };
+}
+
+impl<'a, T: StableDeref<'a>, S: BuildHasher + Drop, A: Allocator + Copy> Drop
+    for FrozenIndexSet<'a, T, S, A>
+where
+    <T as StableDeref<'a>>::Borrow: Eq + Hash,
+{
+    fn drop(self) {
+        let FrozenIndexSet {
+            arena: _arena,
+            set: _set,
+            of: _of,
+        } = self;
+    }
+}
+
+impl<'a, T: StableDeref<'a>, A: Allocator + Copy> FrozenIndexSet<
+    'a,
+    T,
+    BuildHasherDefault<FoldHasher>,
+    A,
+>
+where
+    <T as StableDeref<'a>>::Borrow: Eq + Hash,
+{
+    /// An empty set that hashes as std's maps do by default. It takes no memory.
+    pub fn new(alloc: A, arena: &'a Bump) -> Self
+        ensures { result ≡ [] }
+    {
+        FrozenIndexSet::with_hasher(alloc, arena, BuildHasherDefault::new())
+    }
+}
+
+impl<'a, T: StableDeref<'a>, S: BuildHasher, A: Allocator + Copy> FrozenIndexSet<'a, T, S, A>
+where
+    <T as StableDeref<'a>>::Borrow: Eq + Hash,
+{
+    /// An empty set that hashes by `hash_builder`. It takes no memory.
+    pub fn with_hasher(alloc: A, arena: &'a Bump, hash_builder: S) -> Self
+        ensures { result ≡ [] }
+    {
+        FrozenIndexSet::from_set(arena, IndexSet::with_hasher(alloc, hash_builder))
+    }
+
+    /// The place of the value that equals the target of `value`, `None` exactly if there is none.
+    ///
+    /// It takes no memory. `O(1)`: one hash.
+    pub fn get_index_of<Q: LookUp<T::Borrow>>(&self, value: &Q) -> Option<usize>
+        ensures { result ≡ position (Q.finds value.now) self.now }
+    {
+        value.position(&self.set)
+    }
+
+    /// The value at the place `index`, `None` exactly if there is no such place.
+    ///
+    /// It takes no memory. `O(1)`, with no hash.
+    pub fn get_index(&self, index: usize) -> Option<T::Borrow>
+        ensures { result ≡ slice_get self.now index }
+    {
+        self.set.get_index(index).copied()
+    }
+
+    /// The stored value that equals the target of `value`, `None` exactly if there is none.
+    ///
+    /// It takes no memory. `O(1)`: one hash.
+    #[tactic(auto, using(crate::proofs::Content::found_at, crate::proofs::Content::found_nowhere, crate::proofs::Content::found_within))]
+    pub fn get<Q: LookUp<T::Borrow>>(&self, value: &Q) -> Option<T::Borrow>
+        ensures { result ≡ find (Q.finds value.now) self.now }
+    {
+        let place = value.position(&self.set)?;
+        Some(self.set[place])
+    }
+
+    /// The stored value that equals the target of `value`, and its place, `None` exactly if there is none.
+    ///
+    /// It takes no memory. `O(1)`: one hash.
+    #[tactic(auto, using(crate::proofs::Content::found_within))]
+    pub fn get_full<Q: LookUp<T::Borrow>>(&self, value: &Q) -> Option<(usize, T::Borrow)>
+        ensures place { option_map (λ r. r.0) result ≡ position (Q.finds value.now) self.now }
+        ensures stored { IfSome result (λ r. slice_get self.now r.0 ≡ Some r.1) }
+    {
+        let place = value.position(&self.set)?;
+        Some((place, self.set[place]))
+    }
+
+    /// A set with this content, which goes on in the given arena. It takes no memory.
+    pub fn from_set(arena: &'a Bump, set: IndexSet<T::Borrow, S, A>) -> Self
+        ensures content { result ≡ set.keys }
+    {
+        FrozenIndexSet {
+            arena,
+            set,
+            of: PhantomData,
+        }
+    }
+
+    /// The values, in the order of their first insertions. It takes no memory.
+    pub fn into_set(self) -> IndexSet<T::Borrow, S, A>
+        ensures content { result.keys ≡ self.entry }
+    {
+        let FrozenIndexSet {
+            arena: _,
+            set: inner,
+            of: _,
+        } = self;
+        inner
+    }
+
+    /// A set with the same content, in the same arena, under a clone of the hash builder.
+    ///
+    /// The borrows are shared. Later insertions into either leave the other as it is. It makes room once, for all values.
+    /// `O(len)`. `AllocError` comes only where the room or the clone of the builder was refused.
+    pub fn clone(&self) -> Result<Self, AllocError>
+    where
+        S: Clone,
+        ensures content { IfOk result (λ m. m ≡ self.now) }
+    {
+        let hash_builder = self.set.hasher().clone()?;
+        let mut set = IndexSet::with_hasher(*self.set.allocator(), hash_builder);
+        set.extend(self.set.iter())?;
+        Ok(FrozenIndexSet::from_set(self.arena, set))
+    }
+
+    // Adds a borrow last.
+    #[tactic(auto, using(crate::proofs::Content::new_value_goes_last))]
+    fn add(&mut self, value: T::Borrow) -> Result<usize, AllocError>
+        requires new { position (T.Borrow.eq value) self.old ≡ None }
+        ensures place { IfOk result (λ i. i ≡ length self.old) }
+        ensures appended { OnOk result (self.new ≡ self.old ++ value ∷ []) }
+        ensures refused { OnErr result (self.new ≡ self.old) }
+        ensures unique { IsDistinct T.Borrow.eq self.new }
+        ensures small { IfOk result (λ i. i < 2 ^ 63) }
+    {
+        let place = self.set.len();
+        match self.set.insert(value) {
+            Ok(_) => Ok(place),
+            Err(_) => Err(AllocError),
+        }
+    }
+}
+
+impl<
+    'a,
+    T: StableDeref<'a> + LookUp<<T as StableDeref<'a>>::Borrow>,
+    S: BuildHasher,
+    A: Allocator + Copy,
+> FrozenIndexSet<'a, T, S, A>
+where
+    <T as StableDeref<'a>>::Borrow: Eq + Hash,
+{
+    // Places a value whose target is absent and adds it last: one hash, for a caller that has looked.
+    pub(crate) fn insert_absent(&mut self, value: T) -> Result<(usize, T::Borrow), AllocError>
+        requires absent { position (T.finds value) self.old ≡ None }
+        ensures place { IfOk result (λ r. r.0 ≡ length self.old) }
+        ensures placed { IfOk result (λ r. T.shown r.1 ≡ T.target value) }
+        ensures appended { IfOk result (λ r. self.new ≡ self.old ++ r.1 ∷ []) }
+        ensures refused { OnErr result (self.new ≡ self.old) }
+        ensures unique { OnOk result (IsDistinct T.Borrow.eq self.new) }
+        ensures small { IfOk result (λ r. r.0 < 2 ^ 63) }
+    {
+        let borrow = match value.place(self.arena) {
+            Ok(borrow) => borrow,
+            Err(_) => return Err(AllocError),
+        };
+        let place = self.add(borrow)?;
+        Ok((place, borrow))
+    }
+
+    /// Adds the value last, unless an equal one is there, and answers its place, the stored value and whether it is new.
+    ///
+    /// It looks first, by one hash: where an equal value is there, that one is answered with its place and `false`, the
+    /// given one is given up, no memory is taken and nothing changes. Otherwise the value is placed in the arena and goes
+    /// last, by one more hash. `AllocError` comes only for an absent value and leaves the set as it was; the arena may
+    /// keep a copy that nobody sees.
+    #[tactic(auto, using(crate::proofs::Content::found_within))]
+    pub fn insert_full_new(&mut self, value: T) -> Result<(usize, T::Borrow, bool), AllocError>
+        ensures accepted { IfOk result (λ r. SetInsertedNew T.target T.shown T.finds self.old value r.0 r.1 r.2 self.new) }
+        ensures refused { OnErr result (self.new ≡ self.old) }
+        ensures only_new { OnErr result (position (T.finds value) self.old ≡ None) }
+        ensures unique { IsDistinct T.Borrow.eq self.new }
+        ensures small { IfOk result (λ r. r.0 < 2 ^ 63) }
+    {
+        // `len` is called for its clause that the values are unequal.
+        let _len = self.set.len();
+        if let Some(place) = value.position(&self.set) {
+            return Ok((place, self.set[place], false));
+        }
+        let (place, borrow) = self.insert_absent(value)?;
+        Ok((place, borrow, true))
+    }
+
+    /// Adds the value last, unless an equal one is there, and answers its place and the stored value.
+    ///
+    /// Costs and the refusal are those of `insert_full_new`.
+    pub fn insert_full(&mut self, value: T) -> Result<(usize, T::Borrow), AllocError>
+        ensures accepted { IfOk result (λ r. SetInserted T.target T.shown T.finds self.old value r.0 r.1 self.new) }
+        ensures refused { OnErr result (self.new ≡ self.old) }
+        ensures only_new { OnErr result (position (T.finds value) self.old ≡ None) }
+        ensures unique { IsDistinct T.Borrow.eq self.new }
+        ensures small { IfOk result (λ r. r.0 < 2 ^ 63) }
+    {
+        let (place, borrow, _) = self.insert_full_new(value)?;
+        Ok((place, borrow))
+    }
+
+    /// Adds the value last, unless an equal one is there, and answers the stored value and whether it is new.
+    ///
+    /// Costs and the refusal are those of `insert_full_new`.
+    pub fn insert_new(&mut self, value: T) -> Result<(T::Borrow, bool), AllocError>
+        ensures accepted { IfOk result (λ r. (i : ℕ) × SetInsertedNew T.target T.shown T.finds self.old value i r.0 r.1 self.new) }
+        ensures refused { OnErr result (self.new ≡ self.old) }
+        ensures only_new { OnErr result (position (T.finds value) self.old ≡ None) }
+    {
+        let (_, borrow, new) = self.insert_full_new(value)?;
+        Ok((borrow, new))
+    }
+
+    /// Adds the value last, unless an equal one is there, and answers the stored value.
+    ///
+    /// Costs and the refusal are those of `insert_full_new`.
+    pub fn insert(&mut self, value: T) -> Result<T::Borrow, AllocError>
+        ensures accepted { IfOk result (λ b. (i : ℕ) × SetInserted T.target T.shown T.finds self.old value i b self.new) }
+        ensures refused { OnErr result (self.new ≡ self.old) }
+        ensures only_new { OnErr result (position (T.finds value) self.old ≡ None) }
+    {
+        let (_, borrow) = self.insert_full(value)?;
+        Ok(borrow)
+    }
+}
+
+impl<
+    'a,
+    T: StableDeref<'a> + LookUp<<T as StableDeref<'a>>::Borrow>,
+    S: BuildHasher + Drop,
+    A: Allocator + Copy,
+> FrozenIndexSet<'a, T, S, A>
+where
+    <T as StableDeref<'a>>::Borrow: Eq + Hash,
+{
+    /// A set of the values, which keeps the first of equal ones.
+    ///
+    /// Each value whose target is absent is placed in the arena; the others are given up. Two hashes a value at most.
+    /// `AllocError` comes only where the arena or the table was refused room.
+    pub fn from_iter<I: IntoIterator<Item = T>>(
+        alloc: A,
+        arena: &'a Bump,
+        hash_builder: S,
+        values: I,
+    ) -> Result<Self, AllocError>
+        requires ends { (s : I.IntoIter) → I.into_iter_gives values s → I.IntoIter.can_next s × IsFinite (I.IntoIter.remaining s) }
+        ensures collects { IfOk result (λ m. (s : I.IntoIter) × (xs : List T) × I.into_iter_gives values s × Drains I.IntoIter.next_gives s xs × SetCollects T.target T.shown T.finds [] xs m) }
+    {
+        let mut set = FrozenIndexSet::with_hasher(alloc, arena, hash_builder);
+        for value in values {
+            set.insert_full(value)?;
+        }
+        Ok(set)
+    }
+}
+
+impl<'a, T: StableDeref<'a>, S: BuildHasher, A: Allocator + Copy> FrozenIndexSet<'a, T, S, A>
+where
+    <T as StableDeref<'a>>::Borrow: Eq + Hash,
+{
+    ghost use Rattle.std.specs.Borrow.{sem};
+    ghost use Rattle.elsa_index.specs.SetLent.{lends_values};
+
+    /// The values, to write: a new base begins with what is left in them. It takes no memory.
+    pub fn as_mut(&mut self) -> &mut IndexSet<T::Borrow, S, A>
+        ensures* writes_back { sem 𝓛 (lends_values T.row S.row A.row T.Borrow.row S.Hasher.row T.Borrow.Hash T.HasTarget S.BuildHasher S.Hasher.Hasher A.Allocator self.entry result) }
+        ensures content { result.now.keys ≡ self.old }
+    {
+        &mut self.set
+    }
+}
+
+impl<'a, T: StableDeref<'a>, S: BuildHasher + Drop, A: Allocator + Copy> FrozenIndexSet<'a, T, S, A>
+where
+    <T as StableDeref<'a>>::Borrow: Eq + Hash,
+{
+    /// Begins anew with another content, as a write through `as_mut` does. It takes no memory.
+    pub fn rebase(&mut self, base: IndexSet<T::Borrow, S, A>)
+        ensures { self.new ≡ base.keys }
+    {
+        *self.as_mut() = base;
+    }
+}
+
+impl<'a, T: StableDeref<'a>, S: BuildHasher, A: Allocator + Copy> Index<usize>
+    for FrozenIndexSet<'a, T, S, A>
+where
+    <T as StableDeref<'a>>::Borrow: Eq + Hash,
+{
+    type Output = T::Borrow;
+
+    ghost can_index = { λ s i. i < length s };
+
+    ghost index_gives = { λ s i b. slice_get s i ≡ Some b };
+
+    // The value at this place. The caller sees to it that the place is there.
+    fn index(&self, index: usize) -> &T::Borrow {
+        &self.set[index]
+    }
+}
+
+// Two sets are equal where they have the same values, in any order.
+impl<'a, T: StableDeref<'a>, S: BuildHasher, A: Allocator + Copy> PartialEq
+    for FrozenIndexSet<'a, T, S, A>
+where
+    <T as StableDeref<'a>>::Borrow: Eq + Hash,
+{
+    ghost eq = { same_set T.Borrow.eq };
+
+    ghost laws = { partial_equiv_from_equiv (same_set_equiv T.Borrow.Eq.laws) };
+
+    fn eq(&self, other: &Self) -> bool
+        ensures decides { result ≡ same_set T.Borrow.eq self.now other.now }
+        ensures as_sets { IsTrue result ↔ HaveSameValues T.Borrow.eq self.now other.now }
+    {
+        self.set == other.set
+    }
+}
+
+impl<'a, T: StableDeref<'a>, S: BuildHasher, A: Allocator + Copy> Eq for FrozenIndexSet<'a, T, S, A>
+where
+    <T as StableDeref<'a>>::Borrow: Eq + Hash,
+{
+    ghost laws = { same_set_equiv T.Borrow.Eq.laws };
+}

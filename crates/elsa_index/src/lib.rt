@@ -1,0 +1,24 @@
+//! Collections that only grow and number their entries by first insertion, and what is built on them.
+#![tactic(auto)]
+
+pub mod devices;
+pub mod digits;
+pub mod engine;
+#[cfg(test)]
+mod engine_tests;
+pub mod index_laws;
+pub mod index_map;
+pub mod index_set;
+#[cfg(test)]
+mod index_tests;
+pub mod interner;
+pub mod look_up;
+#[cfg(test)]
+mod odd_keys;
+mod pending;
+pub mod plain_interner;
+mod reply;
+mod request;
+pub mod run;
+pub mod run_index;
+pub mod run_set;

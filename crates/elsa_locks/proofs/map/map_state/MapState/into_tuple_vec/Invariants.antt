@@ -1,0 +1,5 @@
+use Rattle.std.proofs.Common.{◌≡◌}
+use Rattle.elsa_locks.proofs.map.map_state.MapState.into_tuple_vec.Given as goal
+
+abbrev pub invariant-loop-pair : goal.invariant-loop-pair
+invariant-loop-pair g l = l.pairs.items ≡ l.yielded

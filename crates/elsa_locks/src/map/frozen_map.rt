@@ -1,0 +1,221 @@
+//! The hashed map behind a lock.
+ghost use Rattle.std.specs.Prelude.{IfOk};
+ghost use Rattle.std.specs.List.{IsDistinct};
+ghost use Rattle.std.specs.Map.{keys_of};
+ghost use Rattle.elsa_locks.specs.FirstWins.{CloneIsEqual};
+
+use super::MapState;
+use std::alloc::{AllocError, Allocator, Global};
+use std::collections::HashMap;
+use std::hash::{BuildHasherDefault, FoldHasher, Hash};
+use std::sync::{Arc, RwLock, Wait};
+
+/// A hashed map that threads share, in which the first value of a key stays.
+///
+/// Each call on `&self` takes the lock, makes the call of the same name on the [`MapState`] behind it, and lets the lock
+/// go before it answers: look there for what is promised of that call. Reading calls share the lock, inserting ones
+/// have it alone. All of them may wait.
+#[derive(Drop)]
+pub struct FrozenMap<K: Eq + Hash, V, A: Allocator = Global> {
+    lock: RwLock<MapState<K, V, A>>,
+}
+
+impl<K: Eq + Hash, V, A: Allocator + Copy> FrozenMap<K, V, A> {
+    /// An empty map. Takes no memory and no lock.
+    pub fn new(alloc: A) -> Self {
+        FrozenMap {
+            lock: RwLock::new(MapState::new(alloc)),
+        }
+    }
+
+    /// An owner of the value that the key has afterwards: its own if it is there, else the one given.
+    pub fn insert(&self, rt: &impl Wait, key: K, value: V) -> Result<Arc<V, A>, AllocError>
+    where
+        K: Drop,
+        V: Drop,
+    {
+        self.lock.write(rt).insert(key, value)
+    }
+
+    /// `insert`, with whether the key was new.
+    pub fn insert_new(
+        &self,
+        rt: &impl Wait,
+        key: K,
+        value: V,
+    ) -> Result<(Arc<V, A>, bool), AllocError>
+    where
+        K: Drop,
+        V: Drop,
+    {
+        self.lock.write(rt).insert_new(key, value)
+    }
+
+    /// `insert` of what `f` answers, which is called only where the key is absent and room was made for it.
+    ///
+    /// `f` runs while this call has the lock alone: a call on the same map in it may wait for ever.
+    pub fn insert_with<F: FnOnce() -> V>(
+        &self,
+        rt: &impl Wait,
+        key: K,
+        f: F,
+    ) -> Result<Arc<V, A>, AllocError>
+    where
+        K: Drop,
+        V: Drop,
+        F: Drop,
+        requires { F.IsAlwaysCallable f }
+    {
+        self.lock.write(rt).insert_with(key, f)
+    }
+
+    /// `insert_with` for an `f` that is given the key.
+    pub fn insert_with_key<F: FnOnce(&K) -> V>(
+        &self,
+        rt: &impl Wait,
+        key: K,
+        f: F,
+    ) -> Result<Arc<V, A>, AllocError>
+    where
+        K: Drop,
+        V: Drop,
+        F: Drop,
+        requires { F.IsAlwaysCallable f }
+    {
+        self.lock.write(rt).insert_with_key(key, f)
+    }
+
+    /// An owner of the value at the key, or `None` if the key is absent.
+    pub fn get(&self, rt: &impl Wait, key: &K) -> Result<Option<Arc<V, A>>, AllocError>
+    where
+        V: Drop,
+    {
+        self.lock.read(rt).get(key)
+    }
+
+    /// What the one call of `f` on the value at the key answers, or `None`, without a call, if the key is absent.
+    ///
+    /// `f` runs while this call shares the lock: an inserting call on the same map in it may wait for ever.
+    pub fn map_get<R, F: FnOnce(&V) -> R>(&self, rt: &impl Wait, key: &K, f: F) -> Option<R>
+    where
+        F: Drop,
+        requires { F.IsAlwaysCallable f }
+    {
+        self.lock.read(rt).map_get(key, f)
+    }
+
+    /// A copy of the value at the key, or `None` if the key is absent. Takes no memory.
+    pub fn get_copy(&self, rt: &impl Wait, key: &K) -> Option<V>
+    where
+        V: Copy,
+    {
+        self.lock.read(rt).get_copy(key)
+    }
+
+    /// A copy of the value that the key has afterwards. A key that is there takes no memory.
+    pub fn get_copy_or_insert(&self, rt: &impl Wait, key: K, value: V) -> Result<V, AllocError>
+    where
+        K: Drop,
+        V: Copy,
+    {
+        self.lock.write(rt).get_copy_or_insert(key, value)
+    }
+
+    /// `get_copy_or_insert` of what `f` answers, which is called only where the key is absent and room was made for it.
+    ///
+    /// `f` runs while this call has the lock alone: a call on the same map in it may wait for ever.
+    pub fn get_copy_or_insert_with<F: FnOnce() -> V>(
+        &self,
+        rt: &impl Wait,
+        key: K,
+        f: F,
+    ) -> Result<V, AllocError>
+    where
+        K: Drop,
+        V: Copy,
+        F: Drop,
+        requires { F.IsAlwaysCallable f }
+    {
+        self.lock.write(rt).get_copy_or_insert_with(key, f)
+    }
+
+    /// `get_copy_or_insert_with` for an `f` that is given the key.
+    pub fn get_copy_or_insert_with_key<F: FnOnce(&K) -> V>(
+        &self,
+        rt: &impl Wait,
+        key: K,
+        f: F,
+    ) -> Result<V, AllocError>
+    where
+        K: Drop,
+        V: Copy,
+        F: Drop,
+        requires { F.IsAlwaysCallable f }
+    {
+        self.lock.write(rt).get_copy_or_insert_with_key(key, f)
+    }
+
+    /// A clone of each key, each once, in an open order. `O(n)`.
+    pub fn keys_cloned(&self, rt: &impl Wait) -> Result<Vec<K, A>, AllocError>
+    where
+        K: Clone + Drop,
+        requires { CloneIsEqual K.is_clone K.eq }
+    {
+        self.lock.read(rt).keys_cloned()
+    }
+
+    /// The number of entries. Takes no memory.
+    pub fn len(&self, rt: &impl Wait) -> usize {
+        self.lock.read(rt).len()
+    }
+
+    /// Whether there is no entry. Takes no memory.
+    pub fn is_empty(&self, rt: &impl Wait) -> bool {
+        self.lock.read(rt).is_empty()
+    }
+
+    /// A map with the same content, which shares the values. Later insertions into either leave the other. `O(n)`.
+    pub fn clone(&self, rt: &impl Wait) -> Result<Self, AllocError>
+    where
+        K: Clone + Drop,
+        V: Drop,
+        requires { CloneIsEqual K.is_clone K.eq }
+    {
+        let copied = self.lock.read(rt).copy()?;
+        Ok(FrozenMap {
+            lock: RwLock::new(copied),
+        })
+    }
+
+    /// Whether both have the same keys, with values that are equal by `==`. `O(n)`.
+    ///
+    /// It copies its own content under its lock, lets that go, and compares under the other's, so a map may be compared
+    /// with itself, and two threads may compare two maps both ways round. `Err` only where the copy was refused.
+    pub fn equals(&self, rt: &impl Wait, other: &Self) -> Result<bool, AllocError>
+    where
+        K: Clone + Drop,
+        V: PartialEq + Drop,
+        requires { CloneIsEqual K.is_clone K.eq }
+    {
+        let copied = self.lock.read(rt).copy()?;
+        Ok(other.lock.read(rt).same(&copied))
+    }
+
+    /// The entries, each once, in an open order. Takes no lock, since the owner has the map alone.
+    ///
+    /// `Err` gives the map up.
+    pub fn into_tuple_vec(self) -> Result<Vec<(K, Arc<V, A>), A>, AllocError>
+    where
+        K: Drop,
+        V: Drop,
+        ensures { IfOk result (λ v. IsDistinct K.eq (keys_of v.items)) }
+    {
+        let FrozenMap { lock } = self;
+        lock.into_inner().into_tuple_vec()
+    }
+
+    /// The table itself, to write: it may change or remove anything. Takes no lock, since the owner has the map alone.
+    pub fn as_mut(&mut self) -> &mut HashMap<K, Arc<V, A>, BuildHasherDefault<FoldHasher>, A> {
+        self.lock.get_mut().table_mut()
+    }
+}

@@ -1,0 +1,420 @@
+//! The hashed map under the lock of `FrozenMap`, with contracts that say what each call does.
+ghost use Rattle.std.specs.Prelude.{◌≡◌, ◌+◌, ◌<◌, [], Some, None, true, length, is_some, IsSome, IfSome, IfOk, OnErr, OnOk, IsTrue, ◌↔◌, if◌then◌else◌};
+ghost use Rattle.std.specs.Option.{option_map, UnwrapsOrElse};
+ghost use Rattle.std.specs.Arc.{arc_value};
+ghost use Rattle.std.specs.Fn.{FnOnceReturnsAt, FnOnceTakesAt};
+ghost use Rattle.std.specs.List.{IsDistinct, AllZip};
+ghost use Rattle.std.specs.HashMap.{spare};
+ghost use Rattle.std.specs.Map.{keys_of};
+ghost use Rattle.elsa_locks.specs.FirstWins.{value_at, IsSameContent, IsInserted, IsEqualMap, IsKeys, CloneIsEqual};
+ghost use Rattle.elsa_locks.specs.Shared.{shown};
+
+use std::alloc::{AllocError, Allocator, Global};
+use std::collections::HashMap;
+use std::hash::{BuildHasherDefault, FoldHasher, Hash};
+use std::marker::Model;
+use std::sync::Arc;
+
+type Table<K, V, A> = HashMap<K, Arc<V, A>, BuildHasherDefault<FoldHasher>, A>;
+
+/// A hashed map in which the first value of a key stays. Values are shared as `Arc<V>`.
+///
+/// Contracts see the list of its entries, in an open order, with each value in place of its `Arc`. Keys are told apart
+/// by `==`. `A` gives the memory of the table and of each `Arc`.
+#[derive(Drop)]
+pub struct MapState<K: Eq + Hash, V, A: Allocator = Global> {
+    table: Table<K, V, A>,
+    alloc: A,
+}
+
+impl<K: Eq + Hash, V, A: Allocator> Model for MapState<K, V, A> {
+    ghost use Rattle.std.specs.Prelude.{List};
+    ghost use Rattle.elsa_locks.specs.Shared.{shown};
+
+    ghost Value = { List (K × V) };
+
+    ghost view = { λ s. shown s.table.entries };
+}
+
+/// The owner at the key, if it is there.
+#[tactic(auto, using(crate::proofs::Shared::lookup_shown))]
+fn find<'m, K: Eq + Hash, V, A: Allocator>(
+    table: &'m Table<K, V, A>,
+    key: &K,
+) -> Option<&'m Arc<V, A>>
+    ensures { option_map (λ a. arc_value a.now) result ≡ value_at K.eq (shown table.now.entries) key.now }
+{
+    table.get(key)
+}
+
+/// Makes room for one more key.
+#[tactic(auto, using(crate::proofs::Shared::lookup_shown, crate::proofs::Shared::length_shown))]
+fn make_room<K: Eq + Hash, V, A: Allocator + Copy>(
+    table: &mut Table<K, V, A>,
+) -> Result<(), AllocError>
+    ensures content { IsSameContent K.eq (shown table.old.entries) (shown table.new.entries) }
+    ensures length { length (shown table.new.entries) ≡ length (shown table.old.entries) }
+    ensures room { OnOk result (0 < spare table.new) }
+{
+    table.reserve(1)
+}
+
+/// Stores an owner at a key that is absent. Takes no memory.
+#[tactic(auto, using(crate::proofs::Shared::lookup_shown, crate::proofs::Shared::length_shown))]
+fn store<K: Eq + Hash, V, A: Allocator + Copy>(table: &mut Table<K, V, A>, key: K, value: Arc<V, A>)
+where
+    K: Drop,
+    V: Drop,
+    requires room { 0 < spare table.old }
+    requires absent { value_at K.eq (shown table.old.entries) key ≡ None }
+    ensures content { IsInserted K.eq (shown table.old.entries) key (arc_value value) (shown table.new.entries) }
+    ensures length { length (shown table.new.entries) ≡ length (shown table.old.entries) + 1 }
+{
+    let _ = table.insert(key, value);
+}
+
+/// Adds a value at a key that is absent, and answers one more owner of it.
+fn add<K: Eq + Hash, V, A: Allocator + Copy>(
+    table: &mut Table<K, V, A>,
+    alloc: A,
+    key: K,
+    value: V,
+) -> Result<Arc<V, A>, AllocError>
+where
+    K: Drop,
+    V: Drop,
+    requires room { 0 < spare table.old }
+    requires absent { value_at K.eq (shown table.old.entries) key ≡ None }
+    ensures answer { IfOk result (λ a. arc_value a ≡ value) }
+    ensures content { OnOk result (IsInserted K.eq (shown table.old.entries) key value (shown table.new.entries)) }
+    ensures length { OnOk result (length (shown table.new.entries) ≡ length (shown table.old.entries) + 1) }
+    ensures err { OnErr result (table.new ≡ table.old) }
+{
+    let made = Arc::new(alloc, value)?;
+    let answer = made.clone()?;
+    store(table, key, made);
+    Ok(answer)
+}
+
+/// Adds a value at a key that is absent.
+fn add_copy<K: Eq + Hash, V: Copy, A: Allocator + Copy>(
+    table: &mut Table<K, V, A>,
+    alloc: A,
+    key: K,
+    value: V,
+) -> Result<(), AllocError>
+where
+    K: Drop,
+    requires room { 0 < spare table.old }
+    requires absent { value_at K.eq (shown table.old.entries) key ≡ None }
+    ensures content { OnOk result (IsInserted K.eq (shown table.old.entries) key value (shown table.new.entries)) }
+    ensures length { OnOk result (length (shown table.new.entries) ≡ length (shown table.old.entries) + 1) }
+    ensures err { OnErr result (table.new ≡ table.old) }
+{
+    let made = Arc::new(alloc, value)?;
+    store(table, key, made);
+    Ok(())
+}
+
+impl<K: Eq + Hash, V, A: Allocator + Copy> MapState<K, V, A> {
+    /// An empty map. Takes no memory.
+    pub fn new(alloc: A) -> Self
+        ensures { result ≡ [] }
+    {
+        MapState {
+            table: HashMap::new(alloc),
+            alloc,
+        }
+    }
+
+    /// The number of entries; no two of them have equal keys.
+    #[tactic(auto, using(crate::proofs::Shared::distinct_shown))]
+    pub fn len(&self) -> usize
+        ensures len { result ≡ length self.now }
+        ensures distinct { IsDistinct K.eq (keys_of self.now) }
+    {
+        self.table.len()
+    }
+
+    /// Whether there is no entry.
+    pub fn is_empty(&self) -> bool
+        ensures { IsTrue result ↔ (self.now ≡ []) }
+    {
+        self.table.is_empty()
+    }
+
+    /// An owner of the value at the key, or `None` if the key is absent. `O(1)` hashed.
+    ///
+    /// `Err` only where one more owner was refused.
+    pub fn get(&self, key: &K) -> Result<Option<Arc<V, A>>, AllocError>
+    where
+        V: Drop,
+        ensures { IfOk result (λ a. option_map arc_value a ≡ value_at K.eq self.now key.now) }
+    {
+        match find(&self.table, key) {
+            Some(value) => Ok(Some(value.clone()?)),
+            None => Ok(None),
+        }
+    }
+
+    /// A copy of the value at the key, or `None` if the key is absent. `O(1)` hashed. Takes no memory.
+    pub fn get_copy(&self, key: &K) -> Option<V>
+    where
+        V: Copy,
+        ensures { result ≡ value_at K.eq self.now key.now }
+    {
+        match find(&self.table, key) {
+            Some(value) => Some(**value),
+            None => None,
+        }
+    }
+
+    /// What the one call of `f` on the value at the key answers, or `None`, without a call, if the key is absent.
+    pub fn map_get<R, F: FnOnce(&V) -> R>(&self, key: &K, f: F) -> Option<R>
+    where
+        F: Drop,
+        requires { IfSome (value_at K.eq self.now key.now) (FnOnceTakesAt F.FnOnce f) }
+        ensures called { IfSome result (λ r. IfSome (value_at K.eq self.now key.now) (λ v. FnOnceReturnsAt F.FnOnce f v r)) }
+        ensures there { is_some result ≡ is_some (value_at K.eq self.now key.now) }
+    {
+        match find(&self.table, key) {
+            Some(value) => Some(f(&**value)),
+            None => None,
+        }
+    }
+
+    /// An owner of the value that the key has afterwards, and whether the key was new.
+    ///
+    /// A key that is there keeps its value, and the key and the value handed in are given up. A new key takes one
+    /// request for the value's `Arc`, and one more where the table has to grow. `Err` leaves the content.
+    pub fn insert_new(&mut self, key: K, value: V) -> Result<(Arc<V, A>, bool), AllocError>
+    where
+        K: Drop,
+        V: Drop,
+        ensures answer { IfOk result (λ a. value_at K.eq self.new key ≡ Some (arc_value a.0)) }
+        ensures new { IfOk result (λ a. IsTrue a.1 ↔ (value_at K.eq self.old key ≡ None)) }
+        ensures content { OnOk result (IsInserted K.eq self.old key value self.new) }
+        ensures length { IfOk result (λ a. length self.new ≡ length self.old + (if a.1 then 1 else 0)) }
+        ensures err { OnErr result (IsSameContent K.eq self.old self.new) }
+    {
+        if let Some(there) = find(&self.table, &key) {
+            return Ok((there.clone()?, false));
+        }
+        make_room(&mut self.table)?;
+        let answer = add(&mut self.table, self.alloc, key, value)?;
+        Ok((answer, true))
+    }
+
+    /// An owner of the value that the key has afterwards: its own if it is there, else the one given.
+    ///
+    /// Existing values are never overwritten. `Err` leaves the content.
+    pub fn insert(&mut self, key: K, value: V) -> Result<Arc<V, A>, AllocError>
+    where
+        K: Drop,
+        V: Drop,
+        ensures answer { IfOk result (λ a. value_at K.eq self.new key ≡ Some (arc_value a)) }
+        ensures content { OnOk result (IsInserted K.eq self.old key value self.new) }
+        ensures err { OnErr result (IsSameContent K.eq self.old self.new) }
+    {
+        Ok(self.insert_new(key, value)?.0)
+    }
+
+    /// `insert` of what `f` answers, which is called only where the key is absent.
+    ///
+    /// The order is: look up; make room; call `f`; make the `Arc`; share it; store. So `f` isn't called where the room
+    /// was refused, and its answer is given up where a later step was. `Err` leaves the content.
+    pub fn insert_with<F: FnOnce() -> V>(&mut self, key: K, f: F) -> Result<Arc<V, A>, AllocError>
+    where
+        K: Drop,
+        V: Drop,
+        F: Drop,
+        requires { value_at K.eq self.old key ≡ None → F.pre f }
+        ensures answer { IfOk result (λ a. UnwrapsOrElse (value_at K.eq self.old key) (F.post f) (arc_value a)) }
+        ensures content { IfOk result (λ a. IsInserted K.eq self.old key (arc_value a) self.new) }
+        ensures err { OnErr result (IsSameContent K.eq self.old self.new) }
+    {
+        if let Some(found) = find(&self.table, &key) {
+            return Ok(found.clone()?);
+        }
+        make_room(&mut self.table)?;
+        let made = f();
+        add(&mut self.table, self.alloc, key, made)
+    }
+
+    /// `insert_with` for an `f` that is given the key.
+    pub fn insert_with_key<F: FnOnce(&K) -> V>(
+        &mut self,
+        key: K,
+        f: F,
+    ) -> Result<Arc<V, A>, AllocError>
+    where
+        K: Drop,
+        V: Drop,
+        F: Drop,
+        requires { value_at K.eq self.old key ≡ None → FnOnceTakesAt F.FnOnce f key }
+        ensures answer { IfOk result (λ a. UnwrapsOrElse (value_at K.eq self.old key) (FnOnceReturnsAt F.FnOnce f key) (arc_value a)) }
+        ensures content { IfOk result (λ a. IsInserted K.eq self.old key (arc_value a) self.new) }
+        ensures err { OnErr result (IsSameContent K.eq self.old self.new) }
+    {
+        match find(&self.table, &key) {
+            Some(there) => return Ok(there.clone()?),
+            None => {}
+        }
+        make_room(&mut self.table)?;
+        let made = f(&key);
+        add(&mut self.table, self.alloc, key, made)
+    }
+
+    /// A copy of the value that the key has afterwards, and whether the key was new.
+    ///
+    /// A key that is there takes no memory and always succeeds. `Err` leaves the content.
+    pub(crate) fn get_copy_or_insert_new(
+        &mut self,
+        key: K,
+        value: V,
+    ) -> Result<(V, bool), AllocError>
+    where
+        K: Drop,
+        V: Copy,
+        ensures answer { IfOk result (λ a. value_at K.eq self.new key ≡ Some a.0) }
+        ensures new { IfOk result (λ a. IsTrue a.1 ↔ (value_at K.eq self.old key ≡ None)) }
+        ensures content { OnOk result (IsInserted K.eq self.old key value self.new) }
+        ensures err { OnErr result (IsSameContent K.eq self.old self.new) }
+        ensures err_only_if_absent { OnErr result (value_at K.eq self.old key ≡ None) }
+    {
+        if let Some(owner) = find(&self.table, &key) {
+            return Ok((**owner, false));
+        }
+        make_room(&mut self.table)?;
+        add_copy(&mut self.table, self.alloc, key, value)?;
+        Ok((value, true))
+    }
+
+    /// A copy of the value that the key has afterwards: its own if it is there, else the one given.
+    ///
+    /// A key that is there takes no memory and always succeeds. `Err` leaves the content.
+    pub fn get_copy_or_insert(&mut self, key: K, value: V) -> Result<V, AllocError>
+    where
+        K: Drop,
+        V: Copy,
+        ensures answer { IfOk result (λ v. value_at K.eq self.new key ≡ Some v) }
+        ensures content { OnOk result (IsInserted K.eq self.old key value self.new) }
+        ensures err { OnErr result (IsSameContent K.eq self.old self.new) }
+        ensures err_only_if_absent { OnErr result (value_at K.eq self.old key ≡ None) }
+    {
+        Ok(self.get_copy_or_insert_new(key, value)?.0)
+    }
+
+    /// `get_copy_or_insert` of what `f` answers, which is called only where the key is absent.
+    ///
+    /// The order is: look up; make room; call `f`; make the `Arc`; store. `Err` leaves the content.
+    pub fn get_copy_or_insert_with<F: FnOnce() -> V>(
+        &mut self,
+        key: K,
+        f: F,
+    ) -> Result<V, AllocError>
+    where
+        K: Drop,
+        V: Copy,
+        F: Drop,
+        requires { value_at K.eq self.old key ≡ None → F.pre f }
+        ensures answer { IfOk result (UnwrapsOrElse (value_at K.eq self.old key) (F.post f)) }
+        ensures content { IfOk result (λ v. IsInserted K.eq self.old key v self.new) }
+        ensures err { OnErr result (IsSameContent K.eq self.old self.new) }
+        ensures err_only_if_absent { OnErr result (value_at K.eq self.old key ≡ None) }
+    {
+        if let Some(kept) = find(&self.table, &key) {
+            return Ok(**kept);
+        }
+        make_room(&mut self.table)?;
+        let value = f();
+        add_copy(&mut self.table, self.alloc, key, value)?;
+        Ok(value)
+    }
+
+    /// `get_copy_or_insert_with` for an `f` that is given the key.
+    pub fn get_copy_or_insert_with_key<F: FnOnce(&K) -> V>(
+        &mut self,
+        key: K,
+        f: F,
+    ) -> Result<V, AllocError>
+    where
+        K: Drop,
+        V: Copy,
+        F: Drop,
+        requires { value_at K.eq self.old key ≡ None → FnOnceTakesAt F.FnOnce f key }
+        ensures answer { IfOk result (UnwrapsOrElse (value_at K.eq self.old key) (FnOnceReturnsAt F.FnOnce f key)) }
+        ensures content { IfOk result (λ v. IsInserted K.eq self.old key v self.new) }
+        ensures err { OnErr result (IsSameContent K.eq self.old self.new) }
+        ensures err_only_if_absent { OnErr result (value_at K.eq self.old key ≡ None) }
+    {
+        match find(&self.table, &key) {
+            Some(there) => return Ok(**there),
+            None => {}
+        }
+        make_room(&mut self.table)?;
+        let value = f(&key);
+        add_copy(&mut self.table, self.alloc, key, value)?;
+        Ok(value)
+    }
+
+    /// A clone of each key, each once, in an open order. `O(n)`, one request for the list besides the keys' clones.
+    #[tactic(auto, using(crate::proofs::Shared::keys_shown))]
+    pub fn keys_cloned(&self) -> Result<Vec<K, A>, AllocError>
+    where
+        K: Clone + Drop,
+        requires { CloneIsEqual K.is_clone K.eq }
+        ensures clones { IfOk result (λ v. AllZip K.is_clone (keys_of self.now) v.items) }
+        ensures keys { IfOk result (λ v. IsKeys K.eq (value_at K.eq self.now) v.items) }
+    {
+        let mut keys = Vec::with_capacity(self.alloc, self.len())?;
+        for key in self.table.keys() {
+            keys.push(key.clone()?)?;
+        }
+        Ok(keys)
+    }
+
+    /// A map with the same content, which shares the values. `O(n)`. Later insertions into either leave the other.
+    pub fn copy(&self) -> Result<Self, AllocError>
+    where
+        K: Clone + Drop,
+        V: Drop,
+        requires { CloneIsEqual K.is_clone K.eq }
+        ensures { IfOk result (IsSameContent K.eq self.now) }
+    {
+        Ok(MapState {
+            table: self.table.clone()?,
+            alloc: self.alloc,
+        })
+    }
+
+    /// Whether both have the same keys, with values that are equal by `==`. `O(n)`. Takes no memory.
+    pub fn same(&self, other: &Self) -> bool
+    where
+        V: PartialEq,
+        ensures { IsTrue result ↔ IsEqualMap K.eq V.eq self.now other.now }
+    {
+        self.table == other.table
+    }
+
+    /// The entries, each once, in an open order. `Err` gives the map up.
+    pub fn into_tuple_vec(self) -> Result<Vec<(K, Arc<V, A>), A>, AllocError>
+    where
+        K: Drop,
+        V: Drop,
+        ensures pairs { IfOk result (λ v. shown v.items ≡ self) }
+        ensures distinct { IfOk result (λ v. IsDistinct K.eq (keys_of v.items)) }
+    {
+        let MapState { table, alloc } = self;
+        let mut pairs = Vec::with_capacity(alloc, table.len())?;
+        for pair in table {
+            pairs.push(pair)?;
+        }
+        Ok(pairs)
+    }
+
+    /// The table itself, to write.
+    pub(crate) fn table_mut(&mut self) -> &mut Table<K, V, A> {
+        &mut self.table
+    }
+}

@@ -1,0 +1,10 @@
+//! A list that only grows.
+//!
+//! Contracts see a [`VecState`] as the list of its values. [`FrozenVec`] is the same behind a lock, and [`Iter`] walks
+//! one that may grow meanwhile.
+
+mod frozen_vec;
+mod vec_state;
+
+pub use frozen_vec::{FrozenVec, Iter};
+pub use vec_state::VecState;

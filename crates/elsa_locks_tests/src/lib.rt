@@ -1,0 +1,11 @@
+//! Tests of the locked collections and the recorder, as a stranger uses them, and with memory refused.
+#![tactic(auto)]
+
+#[cfg(test)]
+mod lists;
+#[cfg(test)]
+mod maps;
+#[cfg(test)]
+mod recordings;
+#[cfg(test)]
+mod refusals;

@@ -1,0 +1,275 @@
+//! The map that keeps its keys in order.
+ghost use Rattle.std.specs.Prelude.{◌≡◌, ◌+◌, ◌↔◌, [], List, Bool, false, true, None, IfOk, IsSome, IsSomeAnd, IsTrue, MatchOption, OnErr, OnOk, Some, if◌then◌else◌, length};
+ghost use Rattle.std.specs.Borrow.{sem};
+ghost use Rattle.std.specs.Cmp.{eq_by_cmp_equiv};
+ghost use Rattle.std.specs.Iterator.{Drains, IsFinite};
+ghost use Rattle.std.specs.List.Sorted.{IsStrictlySortedBy};
+ghost use Rattle.std.specs.Map.{keys_of};
+ghost use Rattle.std.specs.Option.{ForSome};
+ghost use Rattle.std.specs.Ordering.{eq_by_cmp};
+ghost use Rattle.elsa_once.specs.FirstWins.{Adds, HoldsLast, SameAt, same_values, value_at};
+ghost use Rattle.elsa_once.specs.MapEquality.{same_values_equivalence, same_values_laws};
+ghost use Rattle.elsa_once.specs.OrderedLent.{lends_entries};
+
+use crate::stable::StableDeref;
+use bumpalo::Bump;
+use std::alloc::{AllocError, Allocator, Global};
+use std::collections::BTreeMap;
+use std::marker::{Model, PhantomData};
+use std::ops::Index;
+
+/// A map in which the first value of a key stays, and whose keys are in order.
+///
+/// Each value is placed in the arena that the map was made over, and answered as a borrow of the arena's life: the borrow
+/// outlasts later insertions and the map itself. The tree of the entries lies in memory of the allocator `A`.
+///
+/// Keys ask for `Ord` and nothing else; two keys are one where they compare `Equal`.
+pub struct FrozenBTreeMap<'a, K: Ord, V: StableDeref<'a>, A: Allocator + Copy = Global> {
+    alloc: A,
+    arena: &'a Bump,
+    entries: BTreeMap<K, V::Borrow, A>,
+    of: PhantomData<V>,
+}
+
+impl<'a, K: Ord, V: StableDeref<'a>, A: Allocator + Copy> Model for FrozenBTreeMap<'a, K, V, A> {
+    ghost use Rattle.std.specs.Prelude.{List};
+
+    ghost Value = { List (K × V.Borrow) };
+
+    ghost view = { λ m. m.entries.entries };
+}
+
+impl<'a, K: Ord + Drop, V: StableDeref<'a>, A: Allocator + Copy> Drop for FrozenBTreeMap<'a, K, V, A> {
+    fn drop(self) {
+        let FrozenBTreeMap {
+            alloc: _alloc,
+            arena: _arena,
+            entries: _entries,
+            of: _of,
+        } = self;
+    }
+}
+
+impl<'a, K: Ord, V: StableDeref<'a>, A: Allocator + Copy> FrozenBTreeMap<'a, K, V, A> {
+    /// An empty map, over `arena` for its values and `alloc` for its tree.
+    ///
+    /// Takes no memory.
+    pub fn new(alloc: A, arena: &'a Bump) -> Self
+        ensures { result ≡ [] }
+    {
+        FrozenBTreeMap::from_map(alloc, arena, BTreeMap::new(alloc))
+    }
+
+    /// A map with the content of `map`, which begins a new epoch.
+    ///
+    /// Takes no memory. `alloc` is for the memory that [`clone`](FrozenBTreeMap::clone) and
+    /// [`into_tuple_vec`](FrozenBTreeMap::into_tuple_vec) take: std's map can't be asked for its allocator.
+    pub fn from_map(alloc: A, arena: &'a Bump, map: BTreeMap<K, V::Borrow, A>) -> Self
+        ensures { result ≡ map.entries }
+    {
+        FrozenBTreeMap {
+            alloc,
+            arena,
+            entries: map,
+            of: PhantomData,
+        }
+    }
+
+    /// The number of entries.
+    pub fn len(&self) -> usize
+        ensures count { result ≡ length self.now }
+
+        // What holds of every map: its keys ascend.
+        ensures ascending { IsStrictlySortedBy K.cmp (keys_of self.now) }
+    {
+        self.entries.len()
+    }
+
+    /// Whether there are no entries.
+    pub fn is_empty(&self) -> bool
+        ensures { IsTrue result ↔ (length self.now ≡ 0) }
+    {
+        self.entries.is_empty()
+    }
+
+    /// The value at `key`, or `None` exactly if no key of the map equals it. Takes no memory; one search of the tree.
+    pub fn get(&self, key: &K) -> Option<V::Borrow>
+        ensures { result ≡ value_at (eq_by_cmp K.cmp) self.now key.now }
+    {
+        self.entries.get(key).copied()
+    }
+
+    /// What `f` answers at the value of `key`. It is called once if the key is there, and never if it isn't.
+    pub fn map_get<R, F: FnOnce(V::Borrow) -> R>(&self, key: &K, f: F) -> Option<R>
+    where
+        F: Drop,
+        requires callable { ForSome (value_at (eq_by_cmp K.cmp) self.now key.now) (F.pre f) }
+        ensures { MatchOption (value_at (eq_by_cmp K.cmp) self.now key.now) (result ≡ None) (λ value. IsSomeAnd result (F.post f value)) }
+    {
+        match self.get(key) {
+            Some(value) => Some(f(value)),
+            None => None,
+        }
+    }
+
+    /// The inner map, with each key's borrow. Takes no memory.
+    pub fn into_map(self) -> BTreeMap<K, V::Borrow, A>
+        ensures { result.entries ≡ self.entry }
+    {
+        let FrozenBTreeMap {
+            alloc: _,
+            arena: _,
+            entries,
+            of: _,
+        } = self;
+        entries
+    }
+
+    /// The inner map, lent for writing: it may change or remove anything, and what it leaves is a new base.
+    pub fn as_mut(&mut self) -> &mut BTreeMap<K, V::Borrow, A>
+        ensures* writes_back { sem 𝓛 (lends_entries K.row V.row A.row V.Borrow.row K.Ord V.HasTarget A.Allocator self.entry result) }
+        ensures content { result.now.entries ≡ self.old }
+    {
+        &mut self.entries
+    }
+}
+
+impl<'a, K: Ord + Drop, V: StableDeref<'a>, A: Allocator + Copy> FrozenBTreeMap<'a, K, V, A> {
+    /// Gives `key` the value, unless the map has a key that equals it, and answers the value that the key now has and
+    /// whether the key was new.
+    ///
+    /// A key that is there keeps its value: `key` and `value` are given up, no memory is taken and the answer is `Ok`.
+    /// For a new key the value is placed in the arena and the tree makes room for one entry; where either is refused,
+    /// the answer is `Err`, the map stays as it was, and the arena may keep a value that nobody sees.
+    ///
+    /// One search of the tree; for a new key one more, and one copy into the arena.
+    pub fn insert_new(&mut self, key: K, value: V) -> Result<(V::Borrow, bool), AllocError>
+        ensures present { (x : V.Borrow) → value_at (eq_by_cmp K.cmp) self.old key ≡ Some x → (result ≡ Ok (x, false)) × (self.new ≡ self.old) }
+        ensures new_flag { value_at (eq_by_cmp K.cmp) self.old key ≡ None → IfOk result (λ r. r.1 ≡ true) }
+        ensures new_target { value_at (eq_by_cmp K.cmp) self.old key ≡ None → IfOk result (λ r. V.shown r.0 ≡ V.target value) }
+        ensures new_content { value_at (eq_by_cmp K.cmp) self.old key ≡ None → IfOk result (λ r. Adds (eq_by_cmp K.cmp) (value_at (eq_by_cmp K.cmp) self.old) (value_at (eq_by_cmp K.cmp) self.new) key r.0) }
+        ensures new_length { value_at (eq_by_cmp K.cmp) self.old key ≡ None → OnOk result (length self.new ≡ length self.old + 1) }
+        ensures refused { OnErr result (self.new ≡ self.old) }
+        ensures only_new { OnErr result (value_at (eq_by_cmp K.cmp) self.old key ≡ None) }
+    {
+        if let Some(found) = self.get(&key) {
+            return Ok((found, false));
+        }
+        let Ok(borrow) = value.place(self.arena) else {
+            return Err(AllocError);
+        };
+        self.entries.insert(key, borrow)?;
+        Ok((borrow, true))
+    }
+
+    /// Gives `key` the value, unless the map has a key that equals it, and answers the value that the key now has:
+    /// [`insert_new`](FrozenBTreeMap::insert_new) without its flag.
+    pub fn insert(&mut self, key: K, value: V) -> Result<V::Borrow, AllocError>
+        ensures present { (x : V.Borrow) → value_at (eq_by_cmp K.cmp) self.old key ≡ Some x → (result ≡ Ok x) × (self.new ≡ self.old) }
+        ensures new_target { value_at (eq_by_cmp K.cmp) self.old key ≡ None → IfOk result (λ b. V.shown b ≡ V.target value) }
+        ensures new_content { value_at (eq_by_cmp K.cmp) self.old key ≡ None → IfOk result (λ b. Adds (eq_by_cmp K.cmp) (value_at (eq_by_cmp K.cmp) self.old) (value_at (eq_by_cmp K.cmp) self.new) key b) }
+        ensures new_length { value_at (eq_by_cmp K.cmp) self.old key ≡ None → OnOk result (length self.new ≡ length self.old + 1) }
+        ensures refused { OnErr result (self.new ≡ self.old) }
+        ensures only_new { OnErr result (value_at (eq_by_cmp K.cmp) self.old key ≡ None) }
+    {
+        Ok(self.insert_new(key, value)?.0)
+    }
+
+    // Gives a key this value, whether or not it has one.
+    fn replace(&mut self, key: K, value: V) -> Result<V::Borrow, AllocError>
+        ensures target { IfOk result (λ b. V.shown b ≡ V.target value) }
+        ensures content { IfOk result (λ b. (q : K) → value_at (eq_by_cmp K.cmp) self.new q ≡ (if eq_by_cmp K.cmp key q then Some b else value_at (eq_by_cmp K.cmp) self.old q)) }
+    {
+        let Ok(placed) = value.place(self.arena) else {
+            return Err(AllocError);
+        };
+        self.entries.insert(key, placed)?;
+        Ok(placed)
+    }
+
+    /// A map of the pairs in which, other than by insertions, the last value of a key wins.
+    ///
+    /// Each value is placed in the arena. Where memory is refused, the answer is `Err` and what was collected is given up.
+    pub fn from_iter<I: IntoIterator<Item = (K, V)>>(
+        alloc: A,
+        arena: &'a Bump,
+        pairs: I,
+    ) -> Result<Self, AllocError>
+        requires ends { (s : I.IntoIter) → I.into_iter_gives pairs s → I.IntoIter.can_next s × IsFinite (I.IntoIter.remaining s) }
+        ensures collects { IfOk result (λ m. (s : I.IntoIter) × (xs : List (K × V)) × I.into_iter_gives pairs s × Drains I.IntoIter.next_gives s xs × HoldsLast (eq_by_cmp K.cmp) V.target V.shown xs m) }
+    {
+        let mut made = FrozenBTreeMap::new(alloc, arena);
+        for pair in pairs {
+            let (key, value) = pair;
+            made.replace(key, value)?;
+        }
+        Ok(made)
+    }
+
+    /// A map with the same content over the same arena, whose borrows are shared. Later insertions into either leave the
+    /// other as it is.
+    ///
+    /// Clones each key. Where memory is refused, the answer is `Err`.
+    pub fn clone(&self) -> Result<Self, AllocError>
+    where
+        K: Clone,
+        requires equal_clones { (k c : K) → K.is_clone k c → eq_by_cmp K.cmp k c ≡ true }
+        ensures content { IfOk result (λ copy. SameAt (value_at (eq_by_cmp K.cmp) self.now) (value_at (eq_by_cmp K.cmp) copy)) }
+        ensures count { IfOk result (λ copy. length copy ≡ length self.now) }
+    {
+        let mut copy = BTreeMap::new(self.alloc);
+        for (key, value) in &self.entries {
+            let key = key.clone()?;
+            let Ok(_) = copy.insert(key, *value) else {
+                return Err(AllocError);
+            };
+        }
+        Ok(FrozenBTreeMap::from_map(self.alloc, self.arena, copy))
+    }
+
+    /// The entries as a list, each once, ascending by key.
+    ///
+    /// Takes memory for the list; where that is refused, the map is given up.
+    pub fn into_tuple_vec(self) -> Result<Vec<(K, V::Borrow), A>, AllocError>
+        ensures entries { IfOk result (λ pairs. pairs.items ≡ self.entry) }
+        ensures ascending { IfOk result (λ pairs. IsStrictlySortedBy K.cmp (keys_of pairs.items)) }
+    {
+        let alloc = self.alloc;
+        self.into_map().into_iter().collect(alloc)
+    }
+}
+
+impl<'a, 'q, K: Ord, V: StableDeref<'a>, A: Allocator + Copy> Index<&'q K> for FrozenBTreeMap<'a, K, V, A> {
+    type Output = V::Borrow;
+
+    ghost can_index = { λ m k. IsSome (value_at (eq_by_cmp K.cmp) m k.now) };
+
+    ghost index_gives = { λ m k v. value_at (eq_by_cmp K.cmp) m k.now ≡ Some v };
+
+    fn index(&self, key: &'q K) -> &V::Borrow {
+        self.entries.get(key).unwrap()
+    }
+}
+
+// Two maps are equal where each key has equal values in both, or none in either.
+impl<'a, K: Ord, V: StableDeref<'a>, A: Allocator + Copy> PartialEq for FrozenBTreeMap<'a, K, V, A>
+where
+    V::Borrow: PartialEq,
+{
+    ghost eq = { same_values (eq_by_cmp K.cmp) V.Borrow.eq };
+
+    ghost laws = { same_values_laws (eq_by_cmp K.cmp) V.Borrow.eq (eq_by_cmp_equiv K.total) V.Borrow.laws };
+
+    fn eq(&self, other: &Self) -> bool {
+        // They tell the proof that the keys ascend.
+        let _lengths = (self.len(), other.len());
+        self.entries == other.entries
+    }
+}
+
+impl<'a, K: Ord, V: StableDeref<'a>, A: Allocator + Copy> Eq for FrozenBTreeMap<'a, K, V, A>
+where
+    V::Borrow: Eq,
+{
+    ghost laws = { same_values_equivalence (eq_by_cmp K.cmp) V.Borrow.eq (eq_by_cmp_equiv K.total) V.Borrow.PartialEq.laws V.Borrow.Eq.laws };
+}

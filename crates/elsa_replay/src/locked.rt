@@ -1,0 +1,93 @@
+//! The forms that threads share, in one thread.
+use crate::words::{Words, shown};
+use elsa::sync::{FrozenBTreeMap, FrozenMap, FrozenVec, LockFreeFrozenVec};
+use std::alloc::{AllocError, Global};
+use std::sync::Wait;
+
+/// One collection of each form.
+pub struct Locked {
+    map: FrozenMap<u64, String>,
+    tree: FrozenBTreeMap<u64, String>,
+    vec: FrozenVec<String>,
+    free: LockFreeFrozenVec<u64>,
+}
+
+impl Locked {
+    pub fn new(alloc: Global) -> Result<Locked, AllocError> {
+        Ok(Locked {
+            map: FrozenMap::new(alloc),
+            tree: FrozenBTreeMap::new(alloc),
+            vec: FrozenVec::new(alloc),
+            free: LockFreeFrozenVec::new(alloc)?,
+        })
+    }
+
+    /// The answer to the line.
+    pub fn answer<R: Wait>(&self, rt: &R, alloc: Global, words: &Words<'_>) -> Result<String, AllocError> {
+        match words.form {
+            "locked_map" => of_map(rt, alloc, &self.map, words),
+            "locked_tree" => of_tree(rt, alloc, &self.tree, words),
+            "locked_vec" => of_vec(rt, alloc, &self.vec, words),
+            _ => of_free(rt, alloc, &self.free, words),
+        }
+    }
+}
+
+fn of_map<R: Wait>(rt: &R, alloc: Global, form: &FrozenMap<u64, String>, words: &Words<'_>) -> Result<String, AllocError> {
+    match words.call {
+        "insert" => {
+            let text = String::from_str(alloc, words.second)?;
+            let owner = form.insert(rt, words.key(), text)?;
+            String::from_str(alloc, owner.as_str())
+        }
+        "get" => match form.get(rt, &words.key())? {
+            Some(owner) => String::from_str(alloc, owner.as_str()),
+            None => shown(alloc, None),
+        },
+        _ => format!(in alloc; "{}", form.len(rt)),
+    }
+}
+
+fn of_tree<R: Wait>(rt: &R, alloc: Global, form: &FrozenBTreeMap<u64, String>, words: &Words<'_>) -> Result<String, AllocError> {
+    match words.call {
+        "insert" => {
+            let text = String::from_str(alloc, words.second)?;
+            let owner = form.insert(rt, words.key(), text)?;
+            String::from_str(alloc, owner.as_str())
+        }
+        "get" => match form.get(rt, &words.key())? {
+            Some(owner) => String::from_str(alloc, owner.as_str()),
+            None => shown(alloc, None),
+        },
+        _ => format!(in alloc; "{}", form.len(rt)),
+    }
+}
+
+fn of_vec<R: Wait>(rt: &R, alloc: Global, form: &FrozenVec<String>, words: &Words<'_>) -> Result<String, AllocError> {
+    match words.call {
+        "push_get_index" => {
+            let text = String::from_str(alloc, words.first)?;
+            let place = form.push_get_index(rt, text)?;
+            format!(in alloc; "{place}")
+        }
+        "get" => match form.get(rt, words.place())? {
+            Some(owner) => String::from_str(alloc, owner.as_str()),
+            None => shown(alloc, None),
+        },
+        _ => format!(in alloc; "{}", form.len(rt)),
+    }
+}
+
+fn of_free<R: Wait>(rt: &R, alloc: Global, form: &LockFreeFrozenVec<u64>, words: &Words<'_>) -> Result<String, AllocError> {
+    match words.call {
+        "push" => {
+            let place = form.push(rt, words.key())?;
+            format!(in alloc; "{place}")
+        }
+        "get" => match form.get(words.place()) {
+            Some(item) => format!(in alloc; "{item}"),
+            None => shown(alloc, None),
+        },
+        _ => format!(in alloc; "{}", form.len()),
+    }
+}

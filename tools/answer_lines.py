@@ -1,0 +1,54 @@
+#!/usr/bin/env python3
+"""The answer lines of `elsa intern`, from their definition alone: slow, short, and no kin of the program.
+
+usage: tools/answer_lines.py < INPUT > ANSWERS
+
+The input's bytes are cut after each byte 10; a last piece without one counts if it has a byte. Names are a list, at first empty.
+  put TEXT   the place of TEXT in the list; TEXT is added last if it is absent
+  find TEXT  the place of TEXT, or 'none'
+  at N       the name at place N, or 'none'; N is one or more ASCII digits, at most 2^64 - 1
+  len        how many names there are
+Any other line, and one that is not UTF-8, is a 'bad line'. TEXT is all behind the one space, and may be empty.
+"""
+import sys
+
+
+def answer(line: bytes, places: dict, names: list) -> bytes:
+    try:
+        line.decode("utf-8", "strict")
+    except UnicodeDecodeError:
+        return b"bad line"
+    if line.startswith(b"put "):
+        name = line[4:]
+        if name not in places:
+            places[name] = len(names)
+            names.append(name)
+        return b"%d" % places[name]
+    if line.startswith(b"find "):
+        name = line[5:]
+        return b"%d" % places[name] if name in places else b"none"
+    if line.startswith(b"at "):
+        digits = line[3:]
+        if digits == b"" or any(d not in b"0123456789" for d in digits):
+            return b"bad line"
+        number = 0
+        for digit in digits.lstrip(b"0"):
+            number = number * 10 + digit - 48
+            if number >= 2 ** 64:
+                return b"bad line"
+        return names[number] if number < len(names) else b"none"
+    if line == b"len":
+        return b"%d" % len(names)
+    return b"bad line"
+
+
+def answer_lines(data: bytes) -> bytes:
+    pieces = data.split(b"\n")
+    if pieces[-1] == b"":
+        pieces.pop()
+    places, names = {}, []
+    return b"".join(answer(piece, places, names) + b"\n" for piece in pieces)
+
+
+if __name__ == "__main__":
+    sys.stdout.buffer.write(answer_lines(sys.stdin.buffer.read()))
