@@ -25,13 +25,28 @@ fn answers<A: Allocator + Copy>(alloc: Global, table: A, input: &[u8]) -> Result
 fn answer_lines(rt: HostRuntime) -> Result<(), Fail> {
     let alloc = rt.alloc();
     for (input, want) in [
-        ("put lonely\nput best friend\nput threes a crowd\nput rando\nput facebook\nput best friend\nat 1\n", "0\n1\n2\n3\n4\n1\nbest friend\n"),
+        (
+            "put lonely\nput best friend\nput threes a crowd\nput rando\nput facebook\nput best friend\nat 1\n",
+            "0\n1\n2\n3\n4\n1\nbest friend\n",
+        ),
         ("", ""),
         ("\n", "bad line\n"),
-        ("put\nlen\nLEN\nfind x\nput \nat 0\nlen", "bad line\n0\nbad line\nnone\n0\n\n1\n"),
-        ("at 18446744073709551616\nat 18446744073709551615\nat +1\nat -1\nat \nat\nat 1 ", "bad line\nnone\nbad line\nbad line\nbad line\nbad line\nbad line\n"),
-        ("put a\r\nput a\nat 0\nfind a\nat 000000000000000000000001", "0\n1\na\r\n1\na\n"),
-        ("put  a\nput put a\nat 0\nat 1\nlen \n", "0\n1\n a\nput a\nbad line\n"),
+        (
+            "put\nlen\nLEN\nfind x\nput \nat 0\nlen",
+            "bad line\n0\nbad line\nnone\n0\n\n1\n",
+        ),
+        (
+            "at 18446744073709551616\nat 18446744073709551615\nat +1\nat -1\nat \nat\nat 1 ",
+            "bad line\nnone\nbad line\nbad line\nbad line\nbad line\nbad line\n",
+        ),
+        (
+            "put a\r\nput a\nat 0\nfind a\nat 000000000000000000000001",
+            "0\n1\na\r\n1\na\n",
+        ),
+        (
+            "put  a\nput put a\nat 0\nat 1\nlen \n",
+            "0\n1\n a\nput a\nbad line\n",
+        ),
     ] {
         let out = answers(alloc, alloc, input.as_bytes())?;
         assert_eq!(rt; out.as_str(), want, "to {input}");
@@ -134,8 +149,18 @@ fn devices_fail(rt: HostRuntime) -> Result<(), Fail> {
     let text = b"put a\nput b\nat 1\nlen";
     for fails_at in 0..21 {
         let arena = Bump::new(alloc);
-        let mut reader = Dribble { text, at: 0, fails_at, failures: 0 };
-        let mut writer = Narrow { bytes: [0; 16], len: 0, room: 16, failures: 0 };
+        let mut reader = Dribble {
+            text,
+            at: 0,
+            fails_at,
+            failures: 0,
+        };
+        let mut writer = Narrow {
+            bytes: [0; 16],
+            len: 0,
+            room: 16,
+            failures: 0,
+        };
         let outcome = intern_engine(alloc, &arena, &mut reader, &mut writer);
         assert_eq!(rt; outcome, Err(EngineFault::Read));
         assert_eq!(rt; (reader.failures, writer.failures), (1, 0));
@@ -145,12 +170,25 @@ fn devices_fail(rt: HostRuntime) -> Result<(), Fail> {
             12..17 => "0\n1\n",
             _ => "0\n1\nb\n",
         };
-        assert!(rt; writer.bytes.get(..writer.len) == Some(want.as_bytes()), "at {fails_at}");
+        assert!(rt;
+            writer.bytes.get(..writer.len) == Some(want.as_bytes()),
+            "at {fails_at}"
+        );
     }
     for room in 0..9 {
         let arena = Bump::new(alloc);
-        let mut reader = Dribble { text, at: 0, fails_at: 99, failures: 0 };
-        let mut writer = Narrow { bytes: [0; 16], len: 0, room, failures: 0 };
+        let mut reader = Dribble {
+            text,
+            at: 0,
+            fails_at: 99,
+            failures: 0,
+        };
+        let mut writer = Narrow {
+            bytes: [0; 16],
+            len: 0,
+            room,
+            failures: 0,
+        };
         let outcome = intern_engine(alloc, &arena, &mut reader, &mut writer);
         assert_eq!(rt; outcome.is_ok(), room == 8);
         assert!(rt; writer.bytes.get(..writer.len) == b"0\n1\nb\n2\n".get(..room));
@@ -164,7 +202,17 @@ fn as_the_plain_program(rt: HostRuntime) -> Result<(), Fail> {
     let arena = Bump::new(alloc);
     let mut fast = Interner::new(alloc, &arena);
     let mut plain = PlainInterner::new(alloc, &arena);
-    for name in ["lonely", "", "best friend", "lonely", "é", "e", "best friend", "Lonely", "e"] {
+    for name in [
+        "lonely",
+        "",
+        "best friend",
+        "lonely",
+        "é",
+        "e",
+        "best friend",
+        "Lonely",
+        "e",
+    ] {
         assert_eq!(rt; fast.find(name), plain.find(name));
         assert_eq!(rt; fast.put(name)?, plain.put(name)?);
         assert_eq!(rt; fast.len(), plain.len());

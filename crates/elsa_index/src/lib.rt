@@ -22,3 +22,6 @@ mod request;
 pub mod run;
 pub mod run_index;
 pub mod run_set;
+pub mod run_vec;
+#[cfg(test)]
+mod run_vec_tests;
