@@ -24,3 +24,6 @@ pub mod run;
 pub mod run_index;
 pub mod run_map;
 pub mod run_set;
+pub mod run_vec;
+#[cfg(test)]
+mod run_vec_tests;

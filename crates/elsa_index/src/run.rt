@@ -2,3 +2,4 @@
 pub use crate::run_index::run_index;
 pub use crate::run_map::run_map;
 pub use crate::run_set::run_set;
+pub use crate::run_vec::run_vec;
