@@ -19,7 +19,7 @@ module _ {T : Type 0} where
       let here : List ℕ = if e.author == a then i ∷ [] else [] in
       let k : suc i + length es ≡ i + suc (length es) = omega arith in
       ap (λ (l : List ℕ). here ++ l) (places_append a (suc i) es ds ∙ ap (λ (n : ℕ). places_from a (suc i) es ++ places_from a n ds) k)
-          ∙ sym (append_assoc here (places_from a (suc i) es) (places_from a (i + suc (length es)) ds))
+      ∙ sym (append_assoc here (places_from a (suc i) es) (places_from a (i + suc (length es)) ds))
 
   -- an author without entries has no places
   pub no_places : (a i : ℕ) (es : List (Entry T)) → count a es ≡ 0 → places_from a i es ≡ []

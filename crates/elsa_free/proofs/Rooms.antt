@@ -32,7 +32,6 @@ module _ {M : Type 1} {𝓤 : Ura M} (𝓛 : Logic 𝓤) (T B : RattleType) (ids
 
   infix 26 ◌⊢◌
   infixr 35 ◌∗◌
-
   abbrev Rights : ℕ → Fml
   Rights n = rights T B ids tops n
 

@@ -39,7 +39,6 @@ module _ {M : Type 1} {𝓤 : Ura M} (𝓛 : Logic 𝓤) where
 
   infix 26 ◌⊢◌
   infixr 35 ◌∗◌
-
   module _ {E : Type 0} (cv : Coded E) (rule : Rules E) (bk : Book) (names : List ℕ) where
     abbrev J : Fml
     J = contents cv.code rule bk.log_name bk.cells_name names

@@ -89,15 +89,15 @@ module _ {M : Type 1} {𝓤 : Ura M} (𝓛 : Logic 𝓤) where
   -- two passes are two authors
   pub two_authors : (a n k : ℕ) → ⟦ tickets_from a n ⟧ ∗ ⟦ tickets_from a k ⟧ ⊢ guard 𝓤 ⊥ (emp 𝓤)
   two_authors a n k = elim (dec_lt k n) as (λ _. ⟦ tickets_from a n ⟧ ∗ ⟦ tickets_from a k ⟧ ⊢ guard 𝓤 ⊥ (emp 𝓤)) [
-      | yes more ↦ qed 𝓛 (‵ (tickets_from a n) ∷ ‵ (tickets_from a k) ∷ []) ∵ use1 𝓛 (‵ (ticket a n) ⊛ ‵ (tickets_from a (suc n))) (entries_take token 𝓛 a n (λ _. tt)) $ split ! $ move ! (0 ∷ 2 ∷ []) $
-          use2 𝓛 (given (n < k) (‵ (ticket a n) ⊛ ‵ (tickets_from a k))) (ticket_issued 𝓛 a k n) $ learn ! (λ lt. absurd (omega (arith, more, lt)))
-      | no le ↦ qed 𝓛 (‵ (tickets_from a n) ∷ ‵ (tickets_from a k) ∷ []) ∵ move ! (1 ∷ []) $ use1 𝓛 (‵ (ticket a k) ⊛ ‵ (tickets_from a (suc k))) (entries_take token 𝓛 a k (λ _. tt)) $ split ! $ move ! (0 ∷ 2 ∷ []) $
-          use2 𝓛 (given (k < n) (‵ (ticket a k) ⊛ ‵ (tickets_from a n))) (ticket_issued 𝓛 a n k) $ learn ! (λ lt. absurd (omega (arith, le, lt)))
-    ]
+    | yes more ↦ qed 𝓛 (‵ (tickets_from a n) ∷ ‵ (tickets_from a k) ∷ []) ∵ use1 𝓛 (‵ (ticket a n) ⊛ ‵ (tickets_from a (suc n))) (entries_take token 𝓛 a n (λ _. tt)) $ split ! $ move ! (0 ∷ 2 ∷ []) $
+        use2 𝓛 (given (n < k) (‵ (ticket a n) ⊛ ‵ (tickets_from a k))) (ticket_issued 𝓛 a k n) $ learn ! (λ lt. absurd (omega (arith, more, lt)))
+    | no le ↦ qed 𝓛 (‵ (tickets_from a n) ∷ ‵ (tickets_from a k) ∷ []) ∵ move ! (1 ∷ []) $ use1 𝓛 (‵ (ticket a k) ⊛ ‵ (tickets_from a (suc k))) (entries_take token 𝓛 a k (λ _. tt)) $ split ! $ move ! (0 ∷ 2 ∷ []) $
+        use2 𝓛 (given (k < n) (‵ (ticket a k) ⊛ ‵ (tickets_from a n))) (ticket_issued 𝓛 a n k) $ learn ! (λ lt. absurd (omega (arith, le, lt)))
+  ]
 
   pub two_names : (a b n k : ℕ) → ⟦ tickets_from a n ⟧ ∗ ⟦ tickets_from b k ⟧ ⊢ guard 𝓤 (a ≢ b) (⟦ tickets_from a n ⟧ ∗ ⟦ tickets_from b k ⟧)
   two_names a b n k = elim (ℕ_discrete a b) as (λ _. ⟦ tickets_from a n ⟧ ∗ ⟦ tickets_from b k ⟧ ⊢ guard 𝓤 (a ≢ b) (⟦ tickets_from a n ⟧ ∗ ⟦ tickets_from b k ⟧)) [
-      | no other ↦ qed 𝓛 (‵ (tickets_from a n) ∷ ‵ (tickets_from b k) ∷ []) ∵ check ! other $ done !
-      | yes same ↦ qed 𝓛 (‵ (tickets_from a n) ∷ ‵ (tickets_from b k) ∷ []) ∵ rewrite ! 1 (λ (c : ℕ). ‵ (tickets_from c k)) (sym same) refl $
-          use2 𝓛 (given ⊥ (raw (emp 𝓤))) (two_authors a n k) $ learn ! (λ none. absurd none)
-    ]
+    | no other ↦ qed 𝓛 (‵ (tickets_from a n) ∷ ‵ (tickets_from b k) ∷ []) ∵ check ! other $ done !
+    | yes same ↦ qed 𝓛 (‵ (tickets_from a n) ∷ ‵ (tickets_from b k) ∷ []) ∵ rewrite ! 1 (λ (c : ℕ). ‵ (tickets_from c k)) (sym same) refl $
+        use2 𝓛 (given ⊥ (raw (emp 𝓤))) (two_authors a n k) $ learn ! (λ none. absurd none)
+  ]

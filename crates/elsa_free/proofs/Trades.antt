@@ -46,7 +46,6 @@ module _ {M : Type 1} {𝓤 : Ura M} (𝓛 : Logic 𝓤) where
   infix 26 ◌⊢◌
   infixr 35 ◌∗◌
   infixr 30 ◌-∗◌
-
   module _ (T B : RattleType) (ids : B.Denot → List ℕ) (names : List ℕ) where
     abbrev Log : Type 0
     Log = List (Event T.Denot)

@@ -389,7 +389,9 @@ impl<T: Copy + Drop + PartialEq, A: Allocator + Copy> LockFreeFrozenVec<T, A> {
             other_filled.unused();
             return (pass, other_pass, false);
         }
-        let equal = self.shared.has_items_of(filled, &other.shared, other_filled, n);
+        let equal = self
+            .shared
+            .has_items_of(filled, &other.shared, other_filled, n);
         (pass, other_pass, equal)
     }
 
@@ -416,8 +418,7 @@ impl<T: Copy + Drop + PartialEq, A: Allocator + Copy> LockFreeFrozenVec<T, A> {
     }
 
     /// [`equals_as`](Self::equals_as) with passes of its own.
-    pub fn equals(&self, other: &Self) -> bool
-    {
+    pub fn equals(&self, other: &Self) -> bool {
         self.equals_as(&mut self.pass(), other, &mut other.pass())
     }
 }

@@ -1,7 +1,7 @@
 //! The rule of a vector, over `logbook`: what holds between any two atomic steps, what each step hands out, and what it tells.
 use crate::event::Event;
 use crate::slots::Shelf;
-use logbook::{Gain, Play, Plain, Rule};
+use logbook::{Gain, Plain, Play, Rule};
 use std::alloc::Global;
 use std::collections::LinkedList;
 use std::marker::PhantomData;

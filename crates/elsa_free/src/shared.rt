@@ -17,7 +17,10 @@ use crate::event::Event;
 use crate::geometry::{buffer_size, locate};
 use crate::rule::{Acquire, End, Gives, Log, Look, Looks, Nothing, OneWord, Puts, See, Takes};
 use crate::slots::{Ahead, Blanks, Copied as CopiedSlots, Row, Slots, Told, Written};
-use crate::trade::{Author, Held, copying_closed, copying_open, given, giving, looking, published, publishing, start, taken_closed, taken_open, taking};
+use crate::trade::{
+    Author, Held, copying_closed, copying_open, given, giving, looking, published, publishing,
+    start, taken_closed, taken_open, taking,
+};
 use logbook::{Gained, Offer, Seen, Word};
 use std::alloc::{AllocError, Allocator};
 use std::hint::spin_loop;
@@ -101,7 +104,11 @@ impl<T: Copy + Drop, A: Allocator + Copy> Shared<T, A> {
         ensures of { (result.book ≡ self.now.first.book) × (result.names ≡ self.now.first.names) }
         ensures items { list_of result.log ≡ copied told.items }
     {
-        let Ahead { row, slots, further } = ahead;
+        let Ahead {
+            row,
+            slots,
+            further,
+        } = ahead;
         let seen = self.first.again();
         let author = Author::new();
         match row {
@@ -152,8 +159,11 @@ impl<T: Copy + Drop, A: Allocator + Copy> Shared<T, A> {
         ensures same { (seen.new.book ≡ seen.old.book) × (seen.new.names ≡ seen.old.names) }
         ensures seen { IsPrefix seen.old.log seen.new.log }
     {
-        let mut offer: Offer<Event<T>, Log<T>, OneWord<Row<T, A>>, Nothing> = seen
-            .plain::<Nothing, (), See>(&());
+        let mut offer: Offer<Event<T>, Log<T>, OneWord<Row<T, A>>, Nothing> = seen.plain::<
+            Nothing,
+            (),
+            See,
+        >(&());
         self.word.load::<See, Nothing>(seen, &mut offer)
     }
 
@@ -280,17 +290,7 @@ impl<T: Copy + Drop, A: Allocator + Copy> Shared<T, A> {
         let mut slots = slots;
         let right = slots.take();
         let written = self.slots.write(buffer, slot, item, &row, right);
-        let mut offer = publishing(
-            &seen,
-            held,
-            row,
-            slots,
-            tops,
-            author,
-            written,
-            buffer,
-            slot,
-        );
+        let mut offer = publishing(&seen, held, row, slots, tops, author, written, buffer, slot);
         let mut pen = seen.no_pen();
         let word = 2 * n as u64;
         self.word
@@ -334,8 +334,9 @@ impl<T: Copy + Drop, A: Allocator + Copy> Shared<T, A> {
         let (buffer, slot) = locate(n);
         if slot != 0 {
             let (held, row, slots, tops) = taken_open(right, buffer, slot);
-            let (seen, author) = self
-                .publish(seen, held, row, slots, tops, author, n, buffer, slot, item);
+            let (seen, author) = self.publish(
+                seen, held, row, slots, tops, author, n, buffer, slot, item,
+            );
             return (seen, author, n + 1, Ok(n));
         }
         let (held, mut tops) = taken_closed(right, buffer);
@@ -343,8 +344,9 @@ impl<T: Copy + Drop, A: Allocator + Copy> Shared<T, A> {
             Ok((row, slots)) => {
                 let top = tops.take();
                 let row = self.slots.fill(buffer, row, top);
-                let (seen, author) = self
-                    .publish(seen, held, row, slots, tops, author, n, buffer, slot, item);
+                let (seen, author) = self.publish(
+                    seen, held, row, slots, tops, author, n, buffer, slot, item,
+                );
                 (seen, author, n + 1, Ok(n))
             }
             Err(_) => {
@@ -355,11 +357,7 @@ impl<T: Copy + Drop, A: Allocator + Copy> Shared<T, A> {
     }
 
     /// One item of what was seen.
-    pub fn item(
-        &self,
-        filled: Told<T, Row<T, A>>,
-        place: usize,
-    ) -> (Told<T, Row<T, A>>, T)
+    pub fn item(&self, filled: Told<T, Row<T, A>>, place: usize) -> (Told<T, Row<T, A>>, T)
         requires tops { filled.tops ≡ tops_of self.now.first.names }
         requires place { (place < length filled.items) × (length filled.items < 2 ^ 62) }
         ensures same { (result.0.tops ≡ filled.tops) × (result.0.items ≡ filled.items) }
@@ -378,7 +376,11 @@ impl<T: Copy + Drop, A: Allocator + Copy> Shared<T, A> {
         &self,
         seen: Known<T, A>,
         author: Author,
-    ) -> (usize, Known<T, A>, Gained<Event<T>, Log<T>, Looks<Row<T, A>>>)
+    ) -> (
+        usize,
+        Known<T, A>,
+        Gained<Event<T>, Log<T>, Looks<Row<T, A>>>,
+    )
         requires { (seen.book ≡ self.now.first.book) × (seen.names ≡ self.now.first.names) }
         ensures same { (result.1.book ≡ seen.book) × (result.1.names ≡ seen.names) }
         ensures seen { IsPrefix seen.log result.1.log }
@@ -387,7 +389,9 @@ impl<T: Copy + Drop, A: Allocator + Copy> Shared<T, A> {
     {
         let mut seen = seen;
         let mut offer = looking(&seen, author);
-        let found = self.word.load::<Look, Looks<Row<T, A>>>(&mut seen, &mut offer);
+        let found = self
+            .word
+            .load::<Look, Looks<Row<T, A>>>(&mut seen, &mut offer);
         (found as usize / 2, seen, offer.into_gain())
     }
 }

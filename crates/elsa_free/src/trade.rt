@@ -42,7 +42,9 @@ impl Model for Author {
 }
 
 /// A book with an empty list for these buffers, held by its maker. The evidence, of some places or none, names the buffers.
-pub fn start<T, B: Shelf>(told: Told<T, B>) -> (Start<Event<T>, Log<T>, OneWord<B>>, Held, Told<T, B>)
+pub fn start<T, B: Shelf>(
+    told: Told<T, B>,
+) -> (Start<Event<T>, Log<T>, OneWord<B>>, Held, Told<T, B>)
     ensures { (result.0.shown ≡ []) × (tops_of result.0.names ≡ told.tops) × (result.1.name ≡ head result.0.names) × (result.1.kinds ≡ []) × (result.2.tops ≡ told.tops) × (result.2.items ≡ told.items) }
 {
     let Told { marker: _ } = told;

@@ -80,12 +80,12 @@ published_spec 𝓤 𝓛 𝓜 𝓡 wired T B _ _ g d _ =
     proved 𝓛 En hs c 𝓜 𝓡 (Goes-dropped 𝓛 2 (plain (λ _. Gained.the_row E' L' (Puts.the_row B') (puts.ghosts T' B' g d))) no (λ κs x f. refl), tt) (#self inst) fn (code.unfolded 𝓤 H 𝓜 𝓡 wired (T, (B, tt)) d)
     (λ κs. ((λ x. token ∷ []), tt)) (λ κs. ((λ x vs is. token_told (GP) vs is.0), tt)) (λ κs qs bounds a gh are.
     let y : (walk_of 𝓛 En hs c).Ghost = ((κs, qs, bounds, a, (token ∷ [], tt)), gh) in let Post : Val → SProp 𝓤 = (walk_of 𝓛 En hs c).post y in
-    let args : List Val = token ∷ [] in 
+    let args : List Val = token ∷ [] in
     qed 𝓛 ((raw (denote.Triple.Entry.alive 𝓛 En.signature κs qs) ⊛ ‵ (owns (types_at En.signature.params κs) a y.0.4)) ∷ raw ((c κs a).requires gh) ∷ []) ∵ keep ! (0 ∷ []) $ split ! $
     let up = a.0 in
     move ! (1 ∷ []) $ fsplit ! $ fsplit ! $ keep ! (1 ∷ 3 ∷ []) $
     enter ! 𝓣.C 𝓣.Λ fn args Post $ alloc_all ! (λ l. pass_all ! refl ((tt, (tt, tt)), tt) $ let Env = env fn.locals l in
     fsplit ! $ move ! (1 ∷ []) $ fpick ! (λ so. drop ! $
-    use0 𝓛 (‵ ((Token (unit)).own_val (record {}, tt) (token ∷ []))) (token_made (unit) 𝓛) $ fjoin ! $ sets ! (agg ! (no_more !)) refl (tt, tt) $ sets ! (agg ! (and_then ! (get ! refl) (no_more !))) refl (tt, (tt, tt)) $ 
-    nothing ! $ nothing ! $ fjoin ! $ 
+    use0 𝓛 (‵ ((Token (unit)).own_val (record {}, tt) (token ∷ []))) (token_made (unit) 𝓛) $ fjoin ! $ sets ! (agg ! (no_more !)) refl (tt, tt) $ sets ! (agg ! (and_then ! (get ! refl) (no_more !))) refl (tt, (tt, tt)) $
+    nothing ! $ nothing ! $ fjoin ! $
     returns ! (look_at ! 0 refl) $ free_all ! refl $ keep ! (2 ∷ 0 ∷ 1 ∷ []) $ by ! (ends 𝓛 En hs c y (token) (record { marker = record {}; name = author_of up.about; used = suc (used_of up.about) }) (tt, tt) (tt, tt) (fact_i 𝓤 _ (emp 𝓤) ((refl, refl, so.0, so.1)))))))

@@ -81,7 +81,7 @@ publishing_spec 𝓤 𝓛 𝓜 𝓡 wired T B _ _ g d _ =
     (λ κs. (shr_vals, ((λ x. token ∷ []), ((λ x. token ∷ []), ((λ x. token ∷ []), ((λ x. token ∷ []), ((λ x. token ∷ []), ((λ x. token ∷ []), (uint_vals w64, (uint_vals w64, tt)))))))))) (λ κs. (shr_Tells (named 0) κs.0 S, ((λ x vs is. token_told (unit) vs is.0), ((λ x vs is. token_told (B') vs is.0), ((λ x vs is. token_told (unit) vs is.0), ((λ x vs is. token_told (unit) vs is.0), ((λ x vs is. token_told (unit) vs is.0), ((λ x vs is. token_told (T') vs is.0), (uint_Tells w64, (uint_Tells w64, tt)))))))))) (λ κs qs bounds a gh are.
     let me = a.0.now in let p : Val = vptr a.0.ref_ptr.0 a.0.ref_ptr.1 in
     let y : (walk_of 𝓛 En hs c).Ghost = ((κs, qs, bounds, a, (p ∷ [], (token ∷ [], (token ∷ [], (token ∷ [], (token ∷ [], (token ∷ [], (token ∷ [], (vint w64 a.1.1.1.1.1.1.1.0 ∷ [], (vint w64 a.1.1.1.1.1.1.1.1.0 ∷ [], tt)))))))))), gh) in let Post : Val → SProp 𝓤 = (walk_of 𝓛 En hs c).post y in
-    let args : List Val = p ∷ token ∷ token ∷ token ∷ token ∷ token ∷ token ∷ vint w64 a.1.1.1.1.1.1.1.0 ∷ vint w64 a.1.1.1.1.1.1.1.1.0 ∷ [] in 
+    let args : List Val = p ∷ token ∷ token ∷ token ∷ token ∷ token ∷ token ∷ vint w64 a.1.1.1.1.1.1.1.0 ∷ vint w64 a.1.1.1.1.1.1.1.1.0 ∷ [] in
     qed 𝓛 ((raw (denote.Triple.Entry.alive 𝓛 En.signature κs qs) ⊛ ‵ (owns (types_at En.signature.params κs) a y.0.4)) ∷ raw (fact 𝓤 _) ∷ raw (fact 𝓤 _) ∷ given _ (‵ ftrue) ∷ []) ∵ keep ! (3 ∷ 0 ∷ []) $ learn ! (λ asked. drop ! $ split ! $
     let held = a.1.0 in let row = a.1.1.0 in let author' = a.1.1.1.1.1.0 in let item = a.1.1.1.1.1.1.0 in let b : ℕ = a.1.1.1.1.1.1.1.0 in let j : ℕ = a.1.1.1.1.1.1.1.1.0 in let tops : List ℕ = tops_of me.names in let n : ℕ = length (list_of me.log) in
     move ! (1 ∷ []) $ fsplit ! $ move ! (1 ∷ []) $ fsplit ! $ fsplit ! $ move ! (2 ∷ []) $ fsplit ! $ fsplit ! $ move ! (2 ∷ []) $ fsplit ! $ fsplit ! $ move ! (2 ∷ []) $ fsplit ! $ fsplit ! $ move ! (2 ∷ []) $ fsplit ! $ fsplit ! $ move ! (2 ∷ []) $ fsplit ! $ fsplit ! $ move ! (2 ∷ []) $ fsplit ! $ move ! (1 ∷ []) $ fsplit ! $ keep ! (12 ∷ 10 ∷ 8 ∷ 4 ∷ 14 ∷ 6 ∷ 16 ∷ []) $
@@ -91,6 +91,6 @@ publishing_spec 𝓤 𝓛 𝓜 𝓡 wired T B _ _ g d _ =
     rewrite ! 1 (λ (z : ℕ). ‵ (latest logs three_quarters z held.kinds)) asked.0 refl $ rewrite ! 1 (λ (z : List ℕ). ‵ (latest logs three_quarters (head me.names) z)) asked.1 refl $
     move ! (1 ∷ 0 ∷ 2 ∷ []) $ fjoin3 ! $ let x : Rattle.elsa_free.specs.declared.event.Entry.Entry T'.Denot = entry (suc author'.name) item.value in
     use1 𝓛 (‵ (offer_owns (kept T' B' g.ids me.names) (Moved {T = T'.Denot} (Put x)) (wrote T' B' g.ids (Seat author'.name author'.used ∷ me.log)) None)) (trades.publishes 𝓛 T' B' g.ids me.names me.log x author'.name author'.used refl) $
-    use0 𝓛 (‵ ((Token (Tuple (E' ∷ L' ∷ OneWord.the_row B' ∷ Puts.the_row B' ∷ []))).own_val (record {}, tt) (token ∷ []))) (token_made (Tuple (E' ∷ L' ∷ OneWord.the_row B' ∷ Puts.the_row B' ∷ [])) 𝓛) $ fjoin ! $ sets ! (agg ! (no_more !)) refl (tt, tt) $ sets ! (agg ! (and_then ! (get ! refl) (no_more !))) refl (tt, (tt, tt)) $ 
-    nothing ! $ nothing ! $ fjoin ! $ nothing ! $ fjoin ! $ nothing ! $ fjoin ! $ nothing ! $ fjoin ! $ nothing ! $ fjoin ! $ nothing ! $ fjoin ! $ nothing ! $ fjoin ! $ nothing ! $ fjoin ! $ nothing ! $ fjoin ! $ 
+    use0 𝓛 (‵ ((Token (Tuple (E' ∷ L' ∷ OneWord.the_row B' ∷ Puts.the_row B' ∷ []))).own_val (record {}, tt) (token ∷ []))) (token_made (Tuple (E' ∷ L' ∷ OneWord.the_row B' ∷ Puts.the_row B' ∷ [])) 𝓛) $ fjoin ! $ sets ! (agg ! (no_more !)) refl (tt, tt) $ sets ! (agg ! (and_then ! (get ! refl) (no_more !))) refl (tt, (tt, tt)) $
+    nothing ! $ nothing ! $ fjoin ! $ nothing ! $ fjoin ! $ nothing ! $ fjoin ! $ nothing ! $ fjoin ! $ nothing ! $ fjoin ! $ nothing ! $ fjoin ! $ nothing ! $ fjoin ! $ nothing ! $ fjoin ! $ nothing ! $ fjoin ! $
     returns ! (look_at ! 0 refl) $ free_all ! refl $ keep ! (2 ∷ 0 ∷ 1 ∷ []) $ by ! (ends 𝓛 En hs c y (token) (record { marker = record {}; names = me.names; ask = Put (entry (suc author'.name) item.value); about = Seat author'.name author'.used ∷ me.log; state = None }) (tt, (tt, (tt, (tt, (tt, (tt, (tt, (tt, (tt, tt))))))))) (tt, (tt, (tt, (tt, (tt, (tt, (tt, (tt, (tt, tt))))))))) (fact_i 𝓤 _ (emp 𝓤) ((refl, refl, refl, refl)))))))

@@ -89,7 +89,7 @@ settled_spec 𝓤 𝓛 𝓜 𝓡 wired T B _ _ g d _ =
     (λ κs. (shr_vals, ((λ x. token ∷ []), tt))) (λ κs. (shr_Tells (named 0) κs.0 S, ((λ x vs is. token_told (unit) vs is.0), tt))) (λ κs qs bounds a gh are.
     let me = a.0.now in let p : Val = vptr a.0.ref_ptr.0 a.0.ref_ptr.1 in
     let y : (walk_of 𝓛 En hs c).Ghost = ((κs, qs, bounds, a, (p ∷ [], (token ∷ [], tt))), gh) in let Post : Val → SProp 𝓤 = (walk_of 𝓛 En hs c).post y in
-    let args : List Val = p ∷ token ∷ [] in 
+    let args : List Val = p ∷ token ∷ [] in
     qed 𝓛 ((raw (denote.Triple.Entry.alive 𝓛 En.signature κs qs) ⊛ ‵ (owns (types_at En.signature.params κs) a y.0.4)) ∷ raw ((c κs a).requires gh) ∷ []) ∵ keep ! (0 ∷ []) $ split ! $
     let au = a.1.0 in let gg = rule.ghosts T' B' g d in let All : RattleType = Tuple (E' ∷ L' ∷ OneWord.the_row B' ∷ []) in let O : RattleType = OneWord.the_row B' in let law = rules gg.holds gg.shows gg.keeps in let cv = E'.coded in
     move ! (1 ∷ []) $ fsplit ! $ move ! (1 ∷ []) $ fsplit ! $ fsplit ! $ move ! (3 ∷ []) $ fsplit ! $
@@ -98,6 +98,6 @@ settled_spec 𝓤 𝓛 𝓜 𝓡 wired T B _ _ g d _ =
     enter ! 𝓣.C 𝓣.Λ fn args Post $ alloc_all ! (λ l. pass_all ! refl ((tt, tt), ((tt, (tt, tt)), tt)) $ let Env = env fn.locals l in
     use1 𝓛 (‵ (hidden_shr (Token All) κs.0 (record {}, tt) a.0.ref_ptr.0 a.0.ref_ptr.1) ⊛ ‵ (fhide (seen_owns cv.code law me.book me.names me.log))) (lent_out 𝓛 (Seen.struct E' L' O gg) (Seen.the_codes E'.Denot L'.Denot O.Denot E'.coded L'.coded O.coded (marker.the_row All).coded) (Seen.the_heap E' L' O gg) (Seen.the_lent E' L' O gg) κs.0 me a.0.ref_ptr.0 a.0.ref_ptr.1) $ split ! $ drop ! $ unhide ! $
     use2 𝓛 (later (some (λ (log : List E'.Denot). given (IsPrefix me.log log × (count (suc au.name) (list_of log) ≤ au.used)) (‵ (tickets_from au.name au.used))))) (settles 𝓛 cv law me.book me.names (tickets_from au.name au.used) (λ log. count (suc au.name) (list_of log) ≤ au.used) (rule_bound 𝓛 T' B' g.ids me.names au.name au.used) me.log) $ await ! tt $ pick ! (λ log. learn ! (λ so.
-    use0 𝓛 (‵ ((Token (unit)).own_val (record {}, tt) (token ∷ []))) (token_made (unit) 𝓛) $ fjoin ! $ sets ! (agg ! (no_more !)) refl (tt, tt) $ sets ! (agg ! (and_then ! (get ! refl) (no_more !))) refl (tt, (tt, tt)) $ 
+    use0 𝓛 (‵ ((Token (unit)).own_val (record {}, tt) (token ∷ []))) (token_made (unit) 𝓛) $ fjoin ! $ sets ! (agg ! (no_more !)) refl (tt, tt) $ sets ! (agg ! (and_then ! (get ! refl) (no_more !))) refl (tt, (tt, tt)) $
     nothing ! $ nothing ! $ fjoin ! $ nothing ! $ fjoin ! $
     returns ! (look_at ! 0 refl) $ free_all ! refl $ keep ! (2 ∷ 0 ∷ 1 ∷ []) $ by ! (ends 𝓛 En hs c y (token) (record { marker = record {}; name = au.name; used = au.used }) (tt, (tt, tt)) (tt, (tt, tt)) (fact_i 𝓤 _ (emp 𝓤) ((refl, refl, (let le = count_prefix (suc au.name) me.log log so.0 in let b = so.1 in omega (arith, le, b))))))))))

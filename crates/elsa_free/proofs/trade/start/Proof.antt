@@ -81,7 +81,7 @@ start_spec 𝓤 𝓛 𝓜 𝓡 wired T B _ _ g d _ =
     proved 𝓛 En hs c 𝓜 𝓡 (Goes-dropped 𝓛 2 (plain (λ _. Told.the_row T' B' g)) no (λ κs x f. refl), tt) (#self inst) fn (code.unfolded 𝓤 H 𝓜 𝓡 wired (T, (B, tt)) d)
     (λ κs. ((λ x. token ∷ []), tt)) (λ κs. ((λ x vs is. told_told T' B' g vs is.0), tt)) (λ κs qs bounds a gh are.
     let y : (walk_of 𝓛 En hs c).Ghost = ((κs, qs, bounds, a, (token ∷ [], tt)), gh) in let Post : Val → SProp 𝓤 = (walk_of 𝓛 En hs c).post y in
-    let args : List Val = token ∷ [] in 
+    let args : List Val = token ∷ [] in
     qed 𝓛 ((raw (denote.Triple.Entry.alive 𝓛 En.signature κs qs) ⊛ ‵ (owns (types_at En.signature.params κs) a y.0.4)) ∷ raw ((c κs a).requires gh) ∷ []) ∵ keep ! (0 ∷ []) $ split ! $
     let from : List ℕ = a.0.tops in let xs : List T'.Denot = a.0.items in
     move ! (1 ∷ []) $ fsplit ! $ fsplit ! $ keep ! (1 ∷ 3 ∷ []) $
@@ -93,5 +93,5 @@ start_spec 𝓤 𝓛 𝓜 𝓡 wired T B _ _ g d _ =
     sets ! (agg ! (no_more !)) refl (tt, tt) $ sets ! (agg ! (and_then ! (get ! refl) (no_more !))) refl (tt, (tt, tt)) $ sets ! (agg ! (no_more !)) refl (tt, tt) $ sets ! (agg ! (and_then ! (get ! refl) (no_more !))) refl (tt, (tt, tt)) $ sets ! (agg ! (no_more !)) refl (tt, tt) $ sets ! (agg ! (and_then ! (get ! refl) (no_more !))) refl (tt, (tt, tt)) $ sets ! (agg ! (and_then ! (get ! refl) (and_then ! (get ! refl) (and_then ! (get ! refl) (no_more !))))) refl (tt, ((tt, tt), ((tt, tt), ((tt, tt), tt)))) $
     let s' : (Start.the_row E' L' (OneWord.the_row B') (rule.ghosts T' B' g d)).Denot = record { marker = record {}; names = γ ∷ from; shown = [] } in let h' : Held.the_row.Denot = record { marker = record {}; name = γ; kinds = [] } in let b' : (Told.the_row T' B' g).Denot = record { marker = record {}; tops = from; items = xs } in
     nothing ! $ move ! (3 ∷ 0 ∷ []) $ fjoin ! $ move ! (2 ∷ 0 ∷ []) $ fjoin ! $ move ! (1 ∷ 0 ∷ []) $ fjoin ! $ let v : Val = vstruct (vcons token (vcons token (vcons token (vnil)))) in let Rs : List RattleType = Start.the_row E' L' (OneWord.the_row B') (rule.ghosts T' B' g d) ∷ Held.the_row ∷ Told.the_row T' B' g ∷ [] in feq_i ! (List Val) (v ∷ []) (v ∷ []) refl $ fjoin ! $ fpack ! (Valss Rs) (λ vss. fsep (feq (List Val) (v ∷ []) (vstruct (of_list (vss.0 ++ (vss.1.0 ++ (vss.1.1.0 ++ [])))) ∷ [])) (owns Rs (s', (h', (b', tt))) vss)) (token ∷ [], (token ∷ [], (token ∷ [], tt))) $
-    nothing ! $ nothing ! $ fjoin ! $ 
+    nothing ! $ nothing ! $ fjoin ! $
     returns ! (look_at ! 0 refl) $ free_all ! refl $ keep ! (2 ∷ 0 ∷ 1 ∷ []) $ by ! (ends 𝓛 En hs c y (v) ((s', h', b')) (tt, tt) (tt, tt) (fact_i 𝓤 _ (emp 𝓤) ((refl, refl, refl, refl, refl, refl)))))))

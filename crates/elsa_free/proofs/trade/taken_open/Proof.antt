@@ -80,7 +80,7 @@ taken_open_spec 𝓤 𝓛 𝓜 𝓡 wired T B _ _ g d _ =
     proved 𝓛 En hs c 𝓜 𝓡 (Goes-dropped 𝓛 2 (plain (λ _. Gained.the_row E' L' (Takes.the_row B') (takes.ghosts T' B' g d))) no (λ κs x f. refl), (Goes-dropped 𝓛 2 (plain (λ _. usize)) yes (λ κs x f. refl), (Goes-dropped 𝓛 2 (plain (λ _. usize)) yes (λ κs x f. refl), tt))) (#self inst) fn (code.unfolded 𝓤 H 𝓜 𝓡 wired (T, (B, tt)) d)
     (λ κs. ((λ x. token ∷ []), (uint_vals w64, (uint_vals w64, tt)))) (λ κs. ((λ x vs is. token_told (GT) vs is.0), (uint_Tells w64, (uint_Tells w64, tt)))) (λ κs qs bounds a gh are.
     let y : (walk_of 𝓛 En hs c).Ghost = ((κs, qs, bounds, a, (token ∷ [], (vint w64 a.1.0 ∷ [], (vint w64 a.1.1.0 ∷ [], tt)))), gh) in let Post : Val → SProp 𝓤 = (walk_of 𝓛 En hs c).post y in
-    let args : List Val = token ∷ vint w64 a.1.0 ∷ vint w64 a.1.1.0 ∷ [] in 
+    let args : List Val = token ∷ vint w64 a.1.0 ∷ vint w64 a.1.1.0 ∷ [] in
     qed 𝓛 ((raw (denote.Triple.Entry.alive 𝓛 En.signature κs qs) ⊛ ‵ (owns (types_at En.signature.params κs) a y.0.4)) ∷ raw (fact 𝓤 _) ∷ raw (fact 𝓤 _) ∷ given _ (‵ ftrue) ∷ []) ∵ keep ! (3 ∷ 0 ∷ []) $ learn ! (λ asked. drop ! $ split ! $
     let up = a.0 in let b : ℕ = a.1.0 in let j : ℕ = a.1.1.0 in let tops : List ℕ = tops_of up.names in let n : ℕ = length (list_of up.answer) in
     move ! (1 ∷ []) $ fsplit ! $ fsplit ! $ move ! (2 ∷ []) $ fsplit ! $ move ! (1 ∷ []) $ fsplit ! $ keep ! (4 ∷ 5 ∷ []) $
@@ -90,5 +90,5 @@ taken_open_spec 𝓤 𝓛 𝓜 𝓡 wired T B _ _ g d _ =
     sets ! (agg ! (no_more !)) refl (tt, tt) $ sets ! (agg ! (and_then ! (get ! refl) (no_more !))) refl (tt, (tt, tt)) $ sets ! (agg ! (no_more !)) refl (tt, tt) $ sets ! (agg ! (and_then ! (get ! refl) (no_more !))) refl (tt, (tt, tt)) $ sets ! (agg ! (no_more !)) refl (tt, tt) $ sets ! (agg ! (and_then ! (get ! refl) (no_more !))) refl (tt, (tt, tt)) $ sets ! (agg ! (no_more !)) refl (tt, tt) $ sets ! (agg ! (and_then ! (get ! refl) (no_more !))) refl (tt, (tt, tt)) $ sets ! (agg ! (and_then ! (get ! refl) (and_then ! (get ! refl) (and_then ! (get ! refl) (and_then ! (get ! refl) (no_more !)))))) refl (tt, ((tt, tt), ((tt, tt), ((tt, tt), ((tt, tt), tt))))) $
     let h' : Held.the_row.Denot = record { marker = record {}; name = head up.names; kinds = kinds (up.answer ++ Took ∷ []) } in let w' : (Written.the_row B').Denot = record { marker = record {}; of = slice_index_or tops b 0; value = row } in let s' : Blanks.the_row.Denot = record { marker = record {}; of = drops j (g.ids row) } in let b' : Blanks.the_row.Denot = record { marker = record {}; of = drops (suc b) tops } in
     nothing ! $ move ! (4 ∷ 0 ∷ []) $ fjoin ! $ move ! (3 ∷ 0 ∷ []) $ fjoin ! $ move ! (2 ∷ 0 ∷ []) $ fjoin ! $ move ! (1 ∷ 0 ∷ []) $ fjoin ! $ let v : Val = vstruct (vcons token (vcons token (vcons token (vcons token (vnil))))) in let Rs : List RattleType = Held.the_row ∷ Written.the_row B' ∷ Blanks.the_row ∷ Blanks.the_row ∷ [] in feq_i ! (List Val) (v ∷ []) (v ∷ []) refl $ fjoin ! $ fpack ! (Valss Rs) (λ vss. fsep (feq (List Val) (v ∷ []) (vstruct (of_list (vss.0 ++ (vss.1.0 ++ (vss.1.1.0 ++ (vss.1.1.1.0 ++ []))))) ∷ [])) (owns Rs (h', (w', (s', (b', tt)))) vss)) (token ∷ [], (token ∷ [], (token ∷ [], (token ∷ [], tt)))) $
-    nothing ! $ nothing ! $ fjoin ! $ nothing ! $ fjoin ! $ nothing ! $ fjoin ! $ 
+    nothing ! $ nothing ! $ fjoin ! $ nothing ! $ fjoin ! $ nothing ! $ fjoin ! $
     returns ! (look_at ! 0 refl) $ free_all ! refl $ keep ! (2 ∷ 0 ∷ 1 ∷ []) $ by ! (ends 𝓛 En hs c y (v) ((h', w', s', b')) (tt, (tt, (tt, tt))) (tt, (tt, (tt, tt))) (fact_i 𝓤 _ (emp 𝓤) ((refl, refl, refl, len, refl, refl)))))))))

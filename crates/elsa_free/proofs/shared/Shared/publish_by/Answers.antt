@@ -25,12 +25,12 @@ compare_exchange-requires g c = let h = c.args.self.now.word_is in let pen = c.n
     let none : List (Event g.row.T.Denot) = [] in let xs : List g.row.T.Denot = c.requires.ask.0 in let e : Event g.row.T.Denot = Copied xs in let len = copied_length xs in let app = length-append (copied xs) [] in let many = c.requires.ask.2 in let few = c.requires.ask.3 in
     let low : length (list_of (none ++ e ∷ [])) < 2 ^ 62 = omega (arith, len, app, many, few) in
     let will : 2 * n ≡ word_of (none ++ e ∷ []) = let s = word_snoc g.row.T.Denot none e refl in omega (arith, s, len, many) in (
-    ap (λ w. w.tracked) h,
-    c.requires.of.0 ∙ sym (ap (λ w. w.book) h),
-    pen.0 ∙ (c.requires.of.0 ∙ sym (ap (λ w. w.book) h)),
-    c.requires.offer.0,
-    rw (ap (λ w. w.key) h, pen.1, c.requires.ask.1, c.requires.offer.1, c.requires.of.2) (end_moves g.row.T.Denot none e 1 (2 * n) refl refl low refl refl will),
-  )
+      ap (λ w. w.tracked) h,
+      c.requires.of.0 ∙ sym (ap (λ w. w.book) h),
+      pen.0 ∙ (c.requires.of.0 ∙ sym (ap (λ w. w.book) h)),
+      c.requires.offer.0,
+      rw (ap (λ w. w.key) h, pen.1, c.requires.ask.1, c.requires.offer.1, c.requires.of.2) (end_moves g.row.T.Denot none e 1 (2 * n) refl refl low refl refl will),
+    )
 
 pub returns-clause-items : goal.returns-clause-items
 returns-clause-items g c =
@@ -38,5 +38,5 @@ returns-clause-items g c =
     let about = gain.1 ∙ (e.4 ∙ c.requires.about.2) in
     let pre : IsPrefix none told.0 = subst (λ (l : List (Event g.row.T.Denot)). IsPrefix l told.0) c.requires.of.2 told.1 in
     let all = closing none told.0 c.into_gain.result.answer c.compare_exchange.new.seen.log c.args.offer.ask c.compare_exchange.result 1 c.requires.about.0 c.requires.about.1 c.into_gain.result.about
-        pre told.2 refl told.4 about (cc (told.3, gain.2)) up.2 up.3 in
+    pre told.2 refl told.4 about (cc (told.3, gain.2)) up.2 up.3 in
     ap list_of all.0 ∙ append-nil (entries c.args.offer.ask)

@@ -41,7 +41,6 @@ use Rattle.elsa_free.specs.contracts.trade.Author.new.{ended, clauses}
 use Rattle.elsa_free.specs.contracts.trade.Author.new.Key.{name as #self}
 use Rattle.elsa_free.proofs.trade.Author.new.Statement.{statement}
 use Rattle.elsa_free.proofs.trade.Author.new.Code as code
-
 use Rattle.atomic_table.proofs.Walks.{leaves}
 
 pub new_spec : {M : Type 1} → statement M
