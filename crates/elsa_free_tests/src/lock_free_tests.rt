@@ -1,5 +1,6 @@
 //! The concurrent vector.
 use elsa_free::lock_free::LockFreeFrozenVec;
+use std::alloc::Allocator;
 use std::process::Abort;
 use std::sync::Wait;
 use std::test::*;
@@ -63,7 +64,23 @@ fn a_thousand_items(rt: HostRuntime) -> Result<(), Fail> {
     assert!(rt; push_all(&rt, &vector, 0, 1000));
     assert_eq!(rt; vector.get(usize::MAX), None);
     assert_eq!(rt; (vector.len(), vector.is_empty()), (1000, false));
-    assert!(rt; sees_all(&vector, 1000));
+    let copy = vector.clone()?;
+    assert!(rt; sees_all(&copy, 1000));
+    assert_eq!(rt; copy.get(1000), None);
+    Ok(())
+}
+
+#[test]
+fn a_clone_goes_its_own_way(rt: HostRuntime) -> Result<(), Fail> {
+    let vector = LockFreeFrozenVec::<u64>::new(rt.alloc())?;
+    let mut p = vector.pass();
+    assert_eq!(rt; vector.push_as(&rt, &mut p, 10), Ok(0));
+    assert_eq!(rt; vector.push_as(&rt, &mut p, 20), Ok(1));
+    let (copy, mut q) = vector.clone_as(&mut p)?;
+    assert!(rt; vector.equals_as(&mut p, &copy, &mut q));
+    assert_eq!(rt; copy.push_as(&rt, &mut q, 30), Ok(2));
+    assert_eq!(rt; (copy.get(2), vector.get(2)), (Some(30), None));
+    assert!(rt; !vector.equals(&copy));
     Ok(())
 }
 
@@ -74,7 +91,7 @@ fn texts_and_units(rt: HostRuntime) -> Result<(), Fail> {
     assert_eq!(rt; words.get(0), Some("lonely"));
     assert!(rt; words.equals(&words));
     let units = LockFreeFrozenVec::<()>::new(rt.alloc())?;
-    assert_eq!(rt; units.get(0), None);
+    assert_eq!(rt; units.clone()?.get(0), None);
     Ok(())
 }
 
@@ -92,6 +109,81 @@ fn a_refused_push(rt: HostRuntime) -> Result<(), Fail> {
     }
     drop(vector);
     assert_eq!(rt; budget.given(), budget.granted());
+    Ok(())
+}
+
+/// Makes clones, and says whether each of length n has item i at each place i below n, and is no shorter than the one before.
+fn clones_all<A: Allocator + Copy>(vector: &LockFreeFrozenVec<u64, A>, clones: u64) -> bool {
+    let mut longest = 0;
+    for _ in 0..clones {
+        let Ok(copy) = vector.clone() else {
+            return false;
+        };
+        let length = copy.len();
+        if length < longest || copy.get(length).is_some() {
+            return false;
+        }
+        for place in 0..length {
+            if copy.get(place) != Some(place as u64) {
+                return false;
+            }
+        }
+        longest = length;
+    }
+    true
+}
+
+#[test]
+fn clones_amid_pushes(rt: HostRuntime) -> Result<(), Fail> {
+    let vector = LockFreeFrozenVec::<u64>::new(rt.alloc())?;
+    let shared = &vector;
+    let (pushed, cloned) = thread::join(
+        &rt,
+        || push_all(&rt, shared, 0, 200),
+        || clones_all(shared, 1000),
+    );
+    assert_eq!(rt; (pushed, cloned), (true, true));
+    let budget = Budget::new(rt.alloc());
+    let small = LockFreeFrozenVec::<u64, _>::new(&budget)?;
+    for item in 0..64 {
+        if item == 3 || item == 15 || item == 63 {
+            assert!(rt; clones_all(&small, 1), "at {item}");
+            let asked = budget.asked();
+            budget.refuse_next(1);
+            assert!(rt; small.clone().is_err());
+            assert!(rt; budget.asked() > asked);
+        }
+        assert!(rt; small.push(&rt, item).is_ok());
+    }
+    drop(small);
+    assert_eq!(rt; budget.given(), budget.granted());
+    Ok(())
+}
+
+#[test]
+fn four_threads_push(rt: HostRuntime) -> Result<(), Fail> {
+    let vector = LockFreeFrozenVec::<u64>::new(rt.alloc())?;
+    let shared = &vector;
+    let (left, right) = thread::join(
+        &rt,
+        || thread::join(
+            &rt,
+            || push_all(&rt, shared, 0, 100_000),
+            || push_all(&rt, shared, 100_000, 100_000),
+        ),
+        || thread::join(
+            &rt,
+            || push_all(&rt, shared, 200_000, 100_000),
+            || push_all(&rt, shared, 300_000, 100_000),
+        ),
+    );
+    assert_eq!(rt; (left, right), ((true, true), (true, true)));
+    assert_eq!(rt; vector.len(), 400_000);
+    let mut sum: u64 = 0;
+    for place in 0..400_000 {
+        sum = sum.wrapping_add(vector.get(place).unwrap_or(0));
+    }
+    assert_eq!(rt; sum, 400_000 * 399_999 / 2);
     Ok(())
 }
 
