@@ -16,7 +16,10 @@ fn a_copy_that_is_there_stays(rt: HostRuntime) -> Result<(), Fail> {
     })?;
     assert_eq!(rt; (*answer, calls.get()), (6, 0));
     assert_eq!(rt; *map.insert(&rt, 2, 9)?, 9);
-    assert_eq!(rt; (map.get_copy(&rt, &2), map.get_copy(&rt, &3)), (Some(9), None));
+    assert_eq!(rt;
+        (map.get_copy(&rt, &2), map.get_copy(&rt, &3)),
+        (Some(9), None)
+    );
     Ok(())
 }
 
@@ -74,13 +77,18 @@ fn nine_threads_find_what_the_others_inserted(rt: HostRuntime) -> Result<(), Fai
     let shared = &map;
     let handle = &rt;
     let alloc: Global = rt.alloc();
-    let all = thread::map_indices(&rt, alloc, 9, &|i| {
-        let key = i as u64 + 1;
-        match format!(in alloc; "{key}") {
-            Ok(text) => shared.insert(handle, key, text).is_ok(),
-            Err(_) => false,
-        }
-    })?;
+    let all = thread::map_indices(
+        &rt,
+        alloc,
+        9,
+        &|i| {
+            let key = i as u64 + 1;
+            match format!(in alloc; "{key}") {
+                Ok(text) => shared.insert(handle, key, text).is_ok(),
+                Err(_) => false,
+            }
+        },
+    )?;
     for done in &all {
         assert!(rt; *done);
     }
@@ -96,7 +104,10 @@ fn a_state_answers_without_a_lock(rt: HostRuntime) -> Result<(), Fail> {
     let mut map: MapState<&str, u64> = MapState::new(rt.alloc());
     assert_eq!(rt; *map.insert_with_key("abc", |key| key.len() as u64)?, 3);
     assert_eq!(rt; map.get_copy_or_insert_with("abc", || 9)?, 3);
-    assert_eq!(rt; map.get_copy_or_insert_with_key("de", |key| key.len() as u64)?, 2);
+    assert_eq!(rt;
+        map.get_copy_or_insert_with_key("de", |key| key.len() as u64)?,
+        2
+    );
     let copy = map.copy()?;
     assert!(rt; map.same(&copy));
     assert_eq!(rt; copy.len(), 2);

@@ -1,4 +1,6 @@
-use elsa_locks::history::{CloseFault, MapCommand, MapReply, RecordPass, Recorder, VecCommand, VecReply};
+use elsa_locks::history::{
+    CloseFault, MapCommand, MapReply, RecordPass, Recorder, VecCommand, VecReply,
+};
 use elsa_locks::map::{MapState, TreeState};
 use elsa_locks::vec::VecState;
 use std::alloc::Global;
@@ -18,10 +20,14 @@ fn two_passes_at_one_key(rt: HostRuntime) -> Result<(), Fail> {
     let Ok(history) = recorder.close(vec![in rt.alloc(); a, b]?) else {
         return Err(Fail::from("the receipts are the history"));
     };
-    assert!(rt; history.entries() == [
-        (1, MapCommand::Insert(1, 6), MapReply::Value(6)),
-        (2, MapCommand::Insert(1, 12), MapReply::Value(6)),
-    ].as_slice());
+    assert!(rt;
+        history.entries()
+            == [
+                (1, MapCommand::Insert(1, 6), MapReply::Value(6)),
+                (2, MapCommand::Insert(1, 12), MapReply::Value(6)),
+            ]
+            .as_slice()
+    );
     assert_eq!(rt; history.core().get_copy(&1), Some(6));
     Ok(())
 }
@@ -36,10 +42,14 @@ fn a_pass_that_is_missing(rt: HostRuntime) -> Result<(), Fail> {
     let Err(CloseFault::Receipts(history)) = recorder.close(vec![in rt.alloc(); a]?) else {
         return Err(Fail::from("an entry has no receipt"));
     };
-    assert!(rt; history.entries() == [
-        (1, MapCommand::Insert(1, 6), MapReply::Value(6)),
-        (2, MapCommand::Insert(1, 12), MapReply::Value(6)),
-    ].as_slice());
+    assert!(rt;
+        history.entries()
+            == [
+                (1, MapCommand::Insert(1, 6), MapReply::Value(6)),
+                (2, MapCommand::Insert(1, 12), MapReply::Value(6)),
+            ]
+            .as_slice()
+    );
     Ok(())
 }
 
@@ -63,11 +73,18 @@ fn one_without_calls(alloc: Global) -> Recorder<VecState<u64>> {
 
 #[test]
 fn a_new_key_is_new_once(rt: HostRuntime) -> Result<(), Fail> {
-    let recorder: Recorder<TreeState<u64, u64>> = Recorder::new(rt.alloc(), TreeState::new(rt.alloc()));
+    let recorder: Recorder<TreeState<u64, u64>> = Recorder::new(
+        rt.alloc(),
+        TreeState::new(rt.alloc()),
+    );
     let mut a = recorder.pass(1);
     let mut b = recorder.pass(2);
-    assert!(rt; recorder.call(&rt, &mut a, MapCommand::InsertNew(1, 6))? == MapReply::ValueNew(6, true));
-    assert!(rt; recorder.call(&rt, &mut b, MapCommand::InsertNew(1, 12))? == MapReply::ValueNew(6, false));
+    assert!(rt;
+        recorder.call(&rt, &mut a, MapCommand::InsertNew(1, 6))? == MapReply::ValueNew(6, true)
+    );
+    assert!(rt;
+        recorder.call(&rt, &mut b, MapCommand::InsertNew(1, 12))? == MapReply::ValueNew(6, false)
+    );
     assert!(rt; recorder.call(&rt, &mut b, MapCommand::Len)? == MapReply::Count(1));
     let Ok(history) = recorder.close(vec![in rt.alloc(); a, b]?) else {
         return Err(Fail::from("the receipts are the history"));
@@ -100,7 +117,11 @@ fn two_threads_push(rt: HostRuntime) -> Result<(), Fail> {
     let recorder: Recorder<VecState<u64>> = Recorder::new(rt.alloc(), VecState::new(rt.alloc()));
     let (one, two) = (recorder.pass(1), recorder.pass(2));
     let (shared, handle) = (&recorder, &rt);
-    let (a, b) = thread::join(&rt, || pushes(handle, shared, one), || pushes(handle, shared, two));
+    let (a, b) = thread::join(
+        &rt,
+        || pushes(handle, shared, one),
+        || pushes(handle, shared, two),
+    );
     let passes = vec![in rt.alloc(); a.ok_or("first")?, b.ok_or("second")?]?;
     let mut answered = Vec::new(rt.alloc());
     for pass in &passes {
@@ -146,7 +167,11 @@ fn two_threads_insert_and_get(rt: HostRuntime) -> Result<(), Fail> {
     let recorder: Recorder<Numbers> = Recorder::new(rt.alloc(), MapState::new(rt.alloc()));
     let (one, two) = (recorder.pass(1), recorder.pass(2));
     let (shared, handle) = (&recorder, &rt);
-    let (a, b) = thread::join(&rt, || turns(handle, shared, one), || turns(handle, shared, two));
+    let (a, b) = thread::join(
+        &rt,
+        || turns(handle, shared, one),
+        || turns(handle, shared, two),
+    );
     let passes = vec![in rt.alloc(); a.ok_or("first")?, b.ok_or("second")?]?;
     for pass in &passes {
         assert!(rt; pass.receipts().is_sorted_by_key(|receipt| receipt.0));
