@@ -12,32 +12,51 @@ pub fn locked(
     walk: &mut Iter<'_, u64>,
     call: Call,
 ) -> Result<Answer, AllocError> {
-    let Call { kind, key, value } = call;
-    let answer = match kind {
+    if call.kind == Kind::Next {
+        return Ok(Answer::Found(walk.next(rt)?.map(|there| *there)));
+    }
+    match locked_push(rt, list, call)? {
+        Answer::NotOffered => locked_reading(rt, list, call),
+        answer => Ok(answer),
+    }
+}
+
+fn locked_push(rt: &impl Wait, list: &FrozenVec<u64>, call: Call) -> Result<Answer, AllocError> {
+    let Call { kind, value, .. } = call;
+    match kind {
         Kind::Push => {
             list.push(rt, value)?;
-            Answer::Done
+            Ok(Answer::Done)
         }
-        Kind::PushGet => Answer::Value(*list.push_get(rt, value)?),
-        Kind::PushGetIndex => Answer::Count(list.push_get_index(rt, value)?),
-        Kind::Get => Answer::Found(list.get(rt, key as usize)?.map(|there| *there)),
-        Kind::Len => Answer::Count(list.len(rt)),
-        Kind::IsEmpty => Answer::Flag(list.is_empty(rt)),
-        Kind::Next => Answer::Found(walk.next(rt)?.map(|there| *there)),
-        Kind::Clone => {
-            let other = list.clone(rt)?;
-            other.push(rt, value)?;
-            Answer::Count(other.len(rt))
-        }
-        Kind::Equals => {
-            let other = list.clone(rt)?;
-            let same = list.equals(rt, &other)? && list.equals(rt, list)?;
-            other.push(rt, value)?;
-            Answer::Flag(same && !list.equals(rt, &other)?)
-        }
-        _ => Answer::NotOffered,
-    };
-    Ok(answer)
+        Kind::PushGet => Ok(Answer::Value(*list.push_get(rt, value)?)),
+        Kind::PushGetIndex => Ok(Answer::Count(list.push_get_index(rt, value)?)),
+        _ => Ok(Answer::NotOffered),
+    }
+}
+
+fn locked_reading(rt: &impl Wait, list: &FrozenVec<u64>, call: Call) -> Result<Answer, AllocError> {
+    let Call { kind, key, value } = call;
+    match kind {
+        Kind::Get => Ok(Answer::Found(list.get(rt, key as usize)?.map(|there| *there))),
+        Kind::Len => Ok(Answer::Count(list.len(rt))),
+        Kind::IsEmpty => Ok(Answer::Flag(list.is_empty(rt))),
+        Kind::Clone => Ok(Answer::Count(locked_with(rt, list, value)?.len(rt))),
+        Kind::Equals => Ok(Answer::Flag(
+            list.equals(rt, list)? && !list.equals(rt, &locked_with(rt, list, value)?)?,
+        )),
+        _ => Ok(Answer::NotOffered),
+    }
+}
+
+/// A clone with one more item.
+fn locked_with(
+    rt: &impl Wait,
+    list: &FrozenVec<u64>,
+    value: u64,
+) -> Result<FrozenVec<u64>, AllocError> {
+    let other = list.clone(rt)?;
+    other.push(rt, value)?;
+    Ok(other)
 }
 
 /// What its state answers; `place` stands for the walk.
@@ -46,36 +65,47 @@ pub fn state(
     place: &mut usize,
     call: Call,
 ) -> Result<Answer, AllocError> {
-    let Call { kind, key, value } = call;
-    let answer = match kind {
+    if call.kind == Kind::Next {
+        let found = list.get(*place)?.map(|there| *there);
+        if found.is_some() {
+            *place = place.saturating_add(1);
+        }
+        return Ok(Answer::Found(found));
+    }
+    match state_push(list, call)? {
+        Answer::NotOffered => state_reading(list, call),
+        answer => Ok(answer),
+    }
+}
+
+fn state_push(list: &mut VecState<u64>, call: Call) -> Result<Answer, AllocError> {
+    let Call { kind, value, .. } = call;
+    match kind {
         Kind::Push => {
             list.push(value)?;
-            Answer::Done
+            Ok(Answer::Done)
         }
-        Kind::PushGet => Answer::Value(*list.push_get(value)?),
-        Kind::PushGetIndex => Answer::Count(list.push_get_index(value)?),
-        Kind::Get => Answer::Found(list.get(key as usize)?.map(|there| *there)),
-        Kind::Len => Answer::Count(list.len()),
-        Kind::IsEmpty => Answer::Flag(list.is_empty()),
-        Kind::Next => {
-            let found = list.get(*place)?.map(|there| *there);
-            if found.is_some() {
-                *place = place.saturating_add(1);
-            }
-            Answer::Found(found)
-        }
-        Kind::Clone => {
-            let mut other = list.copy()?;
-            other.push(value)?;
-            Answer::Count(other.len())
-        }
-        Kind::Equals => {
-            let mut other = list.copy()?;
-            let same = list.same(&other) && list.same(list);
-            other.push(value)?;
-            Answer::Flag(same && !list.same(&other))
-        }
-        _ => Answer::NotOffered,
-    };
-    Ok(answer)
+        Kind::PushGet => Ok(Answer::Value(*list.push_get(value)?)),
+        Kind::PushGetIndex => Ok(Answer::Count(list.push_get_index(value)?)),
+        _ => Ok(Answer::NotOffered),
+    }
+}
+
+fn state_reading(list: &VecState<u64>, call: Call) -> Result<Answer, AllocError> {
+    let Call { kind, key, value } = call;
+    match kind {
+        Kind::Get => Ok(Answer::Found(list.get(key as usize)?.map(|there| *there))),
+        Kind::Len => Ok(Answer::Count(list.len())),
+        Kind::IsEmpty => Ok(Answer::Flag(list.is_empty())),
+        Kind::Clone => Ok(Answer::Count(state_with(list, value)?.len())),
+        Kind::Equals => Ok(Answer::Flag(list.same(list) && !list.same(&state_with(list, value)?))),
+        _ => Ok(Answer::NotOffered),
+    }
+}
+
+/// A copy with one more item.
+fn state_with(list: &VecState<u64>, value: u64) -> Result<VecState<u64>, AllocError> {
+    let mut other = list.copy()?;
+    other.push(value)?;
+    Ok(other)
 }
