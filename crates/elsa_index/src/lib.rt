@@ -2,5 +2,9 @@
 #![tactic(auto)]
 
 pub mod cache;
+#[cfg(test)]
+mod cache_tests;
 pub mod run;
 pub mod run_map;
+#[cfg(test)]
+mod run_map_tests;
