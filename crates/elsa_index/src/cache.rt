@@ -104,6 +104,7 @@ impl<'a, A: Allocator + Copy> ResourceCache<'a, A> {
         ensures loaded { value_at ⟦<&'a str as PartialEq>⟧.eq self.old.texts path.entry ≡ None → IfOk result (λ t. (s : _) × FnOnceReturnsAt F.FnOnce load path.entry.now (Ok s) × (t.now ≡ string_bytes s)) }
         ensures added { value_at ⟦<&'a str as PartialEq>⟧.eq self.old.texts path.entry ≡ None → IfOk result (λ t. Adds ⟦<&'a str as PartialEq>⟧.eq (value_at ⟦<&'a str as PartialEq>⟧.eq self.old.texts) (value_at ⟦<&'a str as PartialEq>⟧.eq self.new.texts) path.entry t) }
         ensures resources { self.new.resources ≡ self.old.resources }
+        ensures others { (q : Bor (List ℕ)) → ⟦<&'a str as PartialEq>⟧.eq path.entry q ≡ false → value_at ⟦<&'a str as PartialEq>⟧.eq self.new.texts q ≡ value_at ⟦<&'a str as PartialEq>⟧.eq self.old.texts q }
         ensures refused { OnErr result (self.new ≡ self.old) }
         ensures not_found { result ≡ Err LoadFault.NotFound → FnOnceReturnsAt F.FnOnce load path.entry.now (Err LoadFault.NotFound) }
     {
@@ -134,6 +135,9 @@ impl<'a, A: Allocator + Copy> ResourceCache<'a, A> {
         ensures parsed { (t : Bor (List ℕ)) → value_at ⟦<&'a str as PartialEq>⟧.eq self.old.resources path.entry ≡ None → value_at ⟦<&'a str as PartialEq>⟧.eq self.old.texts path.entry ≡ Some t → IfOk result (λ r. r.now.first.now ≡ first_character t.now) }
         ensures loaded { value_at ⟦<&'a str as PartialEq>⟧.eq self.old.resources path.entry ≡ None → value_at ⟦<&'a str as PartialEq>⟧.eq self.old.texts path.entry ≡ None → IfOk result (λ r. (s : _) × FnOnceReturnsAt F.FnOnce load path.entry.now (Ok s) × (r.now.first.now ≡ first_character (string_bytes s))) }
         ensures stays { IfOk result (λ r. value_at ⟦<&'a str as PartialEq>⟧.eq self.new.resources path.entry ≡ Some r) }
+        ensures text_stays { (t : Bor (List ℕ)) → value_at ⟦<&'a str as PartialEq>⟧.eq self.old.texts path.entry ≡ Some t → value_at ⟦<&'a str as PartialEq>⟧.eq self.new.texts path.entry ≡ Some t }
+        ensures other_texts { (q : Bor (List ℕ)) → ⟦<&'a str as PartialEq>⟧.eq path.entry q ≡ false → value_at ⟦<&'a str as PartialEq>⟧.eq self.new.texts q ≡ value_at ⟦<&'a str as PartialEq>⟧.eq self.old.texts q }
+        ensures other_resources { (q : Bor (List ℕ)) → ⟦<&'a str as PartialEq>⟧.eq path.entry q ≡ false → value_at ⟦<&'a str as PartialEq>⟧.eq self.new.resources q ≡ value_at ⟦<&'a str as PartialEq>⟧.eq self.old.resources q }
         ensures not_found { result ≡ Err LoadFault.NotFound → (self.new ≡ self.old) × FnOnceReturnsAt F.FnOnce load path.entry.now (Err LoadFault.NotFound) }
         ensures refused { OnErr result (self.new.resources ≡ self.old.resources) }
     {

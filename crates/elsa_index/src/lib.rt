@@ -2,6 +2,8 @@
 #![tactic(auto)]
 
 pub mod cache;
+#[cfg(test)]
+mod cache_tests;
 pub mod devices;
 pub mod digits;
 pub mod engine;
@@ -23,6 +25,8 @@ mod request;
 pub mod run;
 pub mod run_index;
 pub mod run_map;
+#[cfg(test)]
+mod run_map_tests;
 pub mod run_set;
 pub mod run_vec;
 #[cfg(test)]
