@@ -279,3 +279,15 @@ fn places_lie_in_buffers(rt: HostRuntime) {
     assert_eq!(rt; prior_total_buffer_size(0), 0);
     assert_eq!(rt; prior_total_buffer_size(31), 4611686018427387903);
 }
+
+#[test]
+fn items_stay_in_order(rt: HostRuntime) -> Result<(), AllocError> {
+    let alloc = rt.alloc();
+    let mut items = Items::new(alloc);
+    items.push(7)?;
+    items.push(9)?;
+    assert_eq!(rt; items, Items::from_vec(vec![in alloc; 7, 9]?));
+    assert!(rt; items != Items::from_vec(vec![in alloc; 9, 7]?));
+    assert_eq!(rt; items.into_vec().as_slice(), [7, 9].as_slice());
+    Ok(())
+}
