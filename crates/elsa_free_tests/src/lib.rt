@@ -1,0 +1,5 @@
+//! Tests of `elsa_free` as a stranger calls it: its worked cases, memory that is refused, and threads run to their end.
+#![tactic(auto)]
+
+#[cfg(test)]
+mod slots_tests;
