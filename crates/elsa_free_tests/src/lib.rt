@@ -3,3 +3,5 @@
 
 #[cfg(test)]
 mod lock_free_tests;
+#[cfg(test)]
+mod slots_tests;

@@ -19,7 +19,8 @@ fn a_run_of_the_hashed_map(rt: HostRuntime) -> Result<(), Fail> {
         MapCommand::Len,
         MapCommand::Rebase(base),
         MapCommand::Get(1),
-        MapCommand::Get(2)]?;
+        MapCommand::Get(2),
+    ]?;
     let replies = run_map(alloc, &mut map, commands)?;
     let known = [
         MapReply::Item("a"),
@@ -46,7 +47,8 @@ fn a_run_of_the_ordered_map(rt: HostRuntime) -> Result<(), Fail> {
         MapCommand::Len,
         MapCommand::Rebase(base),
         MapCommand::Get(1),
-        MapCommand::Get(2)]?;
+        MapCommand::Get(2),
+    ]?;
     let replies = run_map(alloc, &mut map, commands)?;
     let known = [
         MapReply::Item("a"),
@@ -70,7 +72,8 @@ fn a_key_is_new_once_an_epoch(rt: HostRuntime) -> Result<(), Fail> {
         MapCommand::Insert(1, String::from_str(alloc, "b")?),
         MapCommand::InsertNew(1, String::from_str(alloc, "c")?),
         MapCommand::Rebase(HashMap::new(alloc)),
-        MapCommand::InsertNew(1, String::from_str(alloc, "d")?)]?;
+        MapCommand::InsertNew(1, String::from_str(alloc, "d")?),
+    ]?;
     let replies = run_map(alloc, &mut map, commands)?;
     let known = [
         MapReply::New("a", true),
@@ -93,7 +96,8 @@ fn an_ordered_key_is_new_once_an_epoch(rt: HostRuntime) -> Result<(), Fail> {
         MapCommand::Insert(1, String::from_str(alloc, "b")?),
         MapCommand::InsertNew(1, String::from_str(alloc, "c")?),
         MapCommand::Rebase(BTreeMap::new(alloc)),
-        MapCommand::InsertNew(1, String::from_str(alloc, "d")?)]?;
+        MapCommand::InsertNew(1, String::from_str(alloc, "d")?),
+    ]?;
     let replies = run_map(alloc, &mut map, commands)?;
     let known = [
         MapReply::New("a", true),

@@ -8,7 +8,7 @@ use std::marker::{Model, PhantomData};
 
 /// The right to write the slot `of`, once. It has no bytes.
 pub struct Blank {
-    pub marker: PhantomData<()>,
+    pub(crate) marker: PhantomData<()>,
     pub ghost of: { ℕ },
 }
 
@@ -18,7 +18,7 @@ impl Model for Blank {
 
 /// The rights to write the slots `of`, in their order. They have no bytes.
 pub struct Blanks {
-    pub marker: PhantomData<()>,
+    pub(crate) marker: PhantomData<()>,
     pub ghost of: { List ℕ } by { coded_list coded_ℕ },
 }
 
@@ -28,7 +28,7 @@ impl Model for Blanks {
 
 /// Evidence, for good, that the slot `of` holds `value`. It has no bytes.
 pub struct Written<T> {
-    pub marker: PhantomData<T>,
+    pub(crate) marker: PhantomData<T>,
     pub ghost of: { ℕ },
     pub ghost value: { T },
 }

@@ -22,7 +22,7 @@ impl<T, A: Allocator> Shelf for Row<T, A> {
 /// Evidence, for good, that the places from 0 on were written with `items`, in buffers that the slots `tops` hold.
 /// It has no bytes, and is read by `&self`.
 pub struct Told<T, B: Shelf> {
-    pub marker: PhantomData<*const (T, B)>,
+    pub(crate) marker: PhantomData<*const (T, B)>,
     pub ghost tops: { List ℕ } by { coded_list coded_ℕ },
     pub ghost items: { List T },
 }
