@@ -145,25 +145,6 @@ fn collected_cloned_and_taken_apart(rt: HostRuntime) -> Result<(), Fail> {
 // ---- walks
 
 #[test]
-fn a_walk_gives_each_item_once(rt: HostRuntime) -> Result<(), Fail> {
-    let arena = Bump::new(rt.alloc());
-    let mut frozen: FrozenVec<'_, &str> = FrozenVec::new(rt.alloc(), &arena);
-    for letter in ["a", "b", "c", "d"] {
-        frozen.push(letter)?;
-    }
-    for (walked, letter) in frozen.iter().zip(["a", "b", "c", "d"]) {
-        assert_eq!(rt; walked, letter);
-    }
-    assert_eq!(rt;
-        (frozen.iter().count(), frozen.iter().last()),
-        (4, Some("d"))
-    );
-    let walked: Vec<&str> = frozen.iter().collect(rt.alloc())?;
-    assert_eq!(rt; (walked.len(), walked.first()), (4, Some(&"a")));
-    Ok(())
-}
-
-#[test]
 fn a_cursor_amid_pushes(rt: HostRuntime) -> Result<(), Fail> {
     let arena = Bump::new(rt.alloc());
     let mut names: FrozenVec<'_, &str> = FrozenVec::new(rt.alloc(), &arena);
