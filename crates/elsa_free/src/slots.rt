@@ -13,15 +13,14 @@ mod row;
 mod slot;
 mod told;
 
+use crate::geometry::buffer_size;
 pub use copy::{Ahead, Copied};
 pub use rights::{Blank, Blanks, Written};
 pub use row::Row;
-pub use told::{Shelf, Told};
-
-use crate::geometry::buffer_size;
 use slot::Slot;
 use std::alloc::{AllocError, Allocator, Global};
 use std::marker::Model;
+pub use told::{Shelf, Told};
 
 /// How many buffers can be opened.
 pub const BUFFERS: usize = 31;
@@ -72,11 +71,7 @@ impl<T: Copy, A: Allocator + Copy> Slots<T, A> {
     }
 
     /// Opens a buffer, with a row of all its slots. Where memory is refused, the right to open it comes back.
-    pub fn open(
-        &self,
-        buffer: usize,
-        right: Blank,
-    ) -> Result<(Written<Row<T, A>>, Blanks), Blank>
+    pub fn open(&self, buffer: usize, right: Blank) -> Result<(Written<Row<T, A>>, Blanks), Blank>
         requires { (buffer < 31) × (right.of ≡ slice_index_or self.now buffer 0) }
         ensures opened { IfOk result (λ r. (r.0.of ≡ slice_index_or self.now buffer 0) × (length r.0.value ≡ size_of buffer) × (r.1.of ≡ r.0.value)) }
         ensures given_back { IfErr result (λ r. r.of ≡ right.of) }
@@ -112,13 +107,7 @@ impl<T: Copy, A: Allocator + Copy> Slots<T, A> {
     }
 
     /// The item that a slot holds, for whoever shows that it was written. No lock, and no atomic step.
-    pub fn read(
-        &self,
-        buffer: usize,
-        slot: usize,
-        row: &Written<Row<T, A>>,
-        item: &Written<T>,
-    ) -> T
+    pub fn read(&self, buffer: usize, slot: usize, row: &Written<Row<T, A>>, item: &Written<T>) -> T
         requires row { (buffer < 31) × (row.now.of ≡ slice_index_or self.now buffer 0) }
         requires slot { (slot < length row.now.value) × (item.now.of ≡ slice_index_or row.now.value slot 0) }
         ensures { result ≡ item.now.value }

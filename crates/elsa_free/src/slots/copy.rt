@@ -20,11 +20,7 @@ fn whole_buffers(n: usize) -> (usize, usize)
     ensures few { result.0 ≤ 31 }
     ensures open { 0 < result.1 → result.0 < 31 }
 {
-    if n < PLACES {
-        locate(n)
-    } else {
-        (BUFFERS, 0)
-    }
+    if n < PLACES { locate(n) } else { (BUFFERS, 0) }
 }
 
 /// How a list goes on behind the places that were copied: where the next place lies in an open buffer, the evidence of that
@@ -127,7 +123,8 @@ impl<T: Copy, A: Allocator + Copy> Slots<T, A> {
         for buffer in 0..whole {
             let right = further.take();
             let count = buffer_size(buffer);
-            let Ok((row, slots)) = self.copy_buffer(buffer, count, told, target, right, &mut copied) else {
+            let Ok((row, slots)) = self.copy_buffer(buffer, count, told, target, right, &mut copied)
+            else {
                 further.unused();
                 copied.unused();
                 return Err(AllocError);
@@ -138,16 +135,31 @@ impl<T: Copy, A: Allocator + Copy> Slots<T, A> {
         if left == 0 {
             let slots = Blanks::none();
             let row = None;
-            return Ok((copied, Ahead { row, slots, further }));
+            return Ok((
+                copied,
+                Ahead {
+                    row,
+                    slots,
+                    further,
+                },
+            ));
         }
         let right = further.take();
-        let Ok((row, slots)) = self.copy_buffer(whole, left, told, target, right, &mut copied) else {
+        let Ok((row, slots)) = self.copy_buffer(whole, left, told, target, right, &mut copied)
+        else {
             further.unused();
             copied.unused();
             return Err(AllocError);
         };
         let row = Some(row);
-        Ok((copied, Ahead { row, slots, further }))
+        Ok((
+            copied,
+            Ahead {
+                row,
+                slots,
+                further,
+            },
+        ))
     }
 
     /// A copy of the places below `n`, in buffers of its own. Every place below `n` was written, as `told` shows; no place

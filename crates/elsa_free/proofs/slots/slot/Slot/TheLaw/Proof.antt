@@ -76,5 +76,5 @@ pub shares : (T : RattleType) (L : Laws T) → statement T L
 shares T L = record {
   shr_laws = λ d b o. shared_laws T (tagged T b o) (tagged_lent T b o) d;
   shares = λ M 𝓤 𝓛 d κ ts b o inc sp. made T (tagged T b o) (tagged_lent T b o) d 𝓛 (P T L 𝓛 d b o) T.lives (gives T L 𝓛 d b o) κ (apart T L 𝓛 d b o) ts
-    (Incl-trans inc (Incl-trans (meet_⊑_left (T.lives ++ []) _) (meet_⊑_left T.lives []))) sp;
+      (Incl-trans inc (Incl-trans (meet_⊑_left (T.lives ++ []) _) (meet_⊑_left T.lives []))) sp;
 }

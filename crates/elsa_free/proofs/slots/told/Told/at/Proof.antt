@@ -36,7 +36,6 @@ use Rattle.elsa_free.specs.contracts.slots.told.Told.at.{ended, clauses}
 use Rattle.elsa_free.specs.contracts.slots.told.Told.at.Key.{name as #self}
 use Rattle.elsa_free.proofs.slots.told.Told.at.Statement.{statement}
 use Rattle.elsa_free.proofs.slots.told.Told.at.Code as code
-
 use Rattle.std.proofs.Common.{slice_get, Some}
 
 pub at_spec : {M : Type 1} → statement M
