@@ -1,4 +1,6 @@
 //! The locked map: COUNT calls in all, a tenth of them insertions.
+ghost use Rattle.std.specs.Prelude.{◌<◌};
+
 use crate::draws::Draws;
 use elsa::sync::FrozenMap;
 use std::alloc::Global;
