@@ -6,8 +6,6 @@ mod event;
 pub mod geometry;
 pub mod lock_free;
 pub mod machine;
-#[cfg(test)]
-mod machine_tests;
 mod rule;
 mod shared;
 pub mod slots;

@@ -4,4 +4,6 @@
 #[cfg(test)]
 mod lock_free_tests;
 #[cfg(test)]
+mod machine_tests;
+#[cfg(test)]
 mod slots_tests;

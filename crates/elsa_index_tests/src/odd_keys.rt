@@ -4,7 +4,7 @@ ghost use Rattle.std.specs.Str.{bytes_eq};
 ghost use Rattle.std.specs.Cmp.{partial_equiv_from_equiv};
 ghost use Rattle.std.specs.Cmp.Lexicographic.{bytes_decides};
 ghost use Rattle.std.proofs.Common.{ap};
-ghost use Rattle.elsa_index.specs.Folded.{small, small_writes, folded_equiv};
+ghost use Rattle.elsa_index_tests.specs.Folded.{small, small_writes, folded_equiv};
 
 use std::hash::{Hash, Hasher};
 

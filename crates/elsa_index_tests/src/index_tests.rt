@@ -1,11 +1,11 @@
 //! Worked rows of the index forms.
-use crate::index_map::FrozenIndexMap;
-use crate::index_set::FrozenIndexSet;
 use crate::odd_keys::{Fold, SameHash};
-use crate::run::{run_index, run_set};
-use crate::run_index::{IndexCommand, IndexReply};
-use crate::run_set::{SetCommand, SetReply};
 use bumpalo::Bump;
+use elsa_index::index_map::FrozenIndexMap;
+use elsa_index::index_set::FrozenIndexSet;
+use elsa_index::run::{run_index, run_set};
+use elsa_index::run_index::{IndexCommand, IndexReply};
+use elsa_index::run_set::{SetCommand, SetReply};
 use elsa_once::stable::Own;
 use std::alloc::{AllocError, Global};
 use std::hash::BuildHasherDefault;

@@ -1,7 +1,7 @@
 //! The engine over slices and vectors, over devices that fail, and over a budget that refuses.
-use crate::interner::{Counted, EngineFault, Failed, Interner, Sink, Source, intern_engine};
-use crate::plain_interner::PlainInterner;
 use bumpalo::Bump;
+use elsa_index::interner::{Counted, EngineFault, Failed, Interner, Sink, Source, intern_engine};
+use elsa_index::plain_interner::PlainInterner;
 use std::alloc::{Allocator, Global};
 use std::test::Fail;
 

@@ -1,9 +1,9 @@
 //! What no clause says of the maps: worked rows, upstream's cases, keys with an odd hash or no hash.
 ghost use Rattle.std.specs.Prelude.{[], refl};
 
-use crate::map::{FrozenBTreeMap, FrozenMap};
-use crate::stable::Own;
 use bumpalo::Bump;
+use elsa_once::map::{FrozenBTreeMap, FrozenMap};
+use elsa_once::stable::Own;
 use std::collections::{BTreeMap, HashMap};
 use std::hash::{BuildHasherDefault, FoldHasher, Hash, Hasher, RandomState};
 use std::test::Fail;

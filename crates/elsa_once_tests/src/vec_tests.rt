@@ -1,6 +1,6 @@
-use crate::stable::Own;
-use crate::vec::{Cursor, FrozenVec};
 use bumpalo::Bump;
+use elsa_once::stable::Own;
+use elsa_once::vec::{Cursor, FrozenVec};
 use std::alloc::AllocError;
 use std::cmp::Ordering;
 use std::test::Fail;

@@ -1,7 +1,7 @@
 //! Runs of both maps whose replies are known.
-use crate::run::run_map;
-use crate::run_map::{MapCommand, MapReply};
 use bumpalo::Bump;
+use elsa_index::run::run_map;
+use elsa_index::run_map::{MapCommand, MapReply};
 use elsa_once::map::{FrozenBTreeMap, FrozenMap};
 use std::collections::{BTreeMap, HashMap};
 use std::test::Fail;

@@ -1,7 +1,7 @@
 //! Worked rows of runs on a vector.
-use crate::run::run_vec;
-use crate::run_vec::{VecCommand, VecReply};
 use bumpalo::Bump;
+use elsa_index::run::run_vec;
+use elsa_index::run_vec::{VecCommand, VecReply};
 use elsa_once::vec::FrozenVec;
 use std::test::Fail;
 

@@ -1,0 +1,14 @@
+//! Tests of `elsa_index` as a stranger calls it: worked cases, odd but lawful keys, hostile lines, and devices that fail.
+#![tactic(auto)]
+
+#[cfg(test)]
+mod cache_tests;
+#[cfg(test)]
+mod engine_tests;
+#[cfg(test)]
+mod index_tests;
+pub mod odd_keys;
+#[cfg(test)]
+mod run_map_tests;
+#[cfg(test)]
+mod run_vec_tests;
