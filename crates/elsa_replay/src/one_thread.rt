@@ -71,8 +71,8 @@ fn of_vec(
 
 fn all_of(alloc: Global, form: &FrozenVec<'_, String>) -> Result<String, AllocError> {
     let mut all = String::new(alloc);
-    for (place, text) in form.iter().enumerate() {
-        if place > 0 {
+    for text in form.iter() {
+        if !all.is_empty() {
             all.push_str(" ")?;
         }
         all.push_str(text)?;
