@@ -1,7 +1,10 @@
-//! An append-only vector that many threads share: where its places lie, and the machine that runs every schedule of it.
+//! Append-only collections that threads share: their parts, and the concurrent vector.
 #![tactic(auto)]
 
+mod event;
 pub mod geometry;
-pub mod machine;
-#[cfg(test)]
-mod machine_tests;
+pub mod lock_free;
+mod rule;
+mod shared;
+pub mod slots;
+mod trade;

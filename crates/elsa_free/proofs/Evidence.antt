@@ -1,0 +1,66 @@
+-- The evidence that places were written can be had twice, grows, and is taken out at a place. Assumes `Logic`.
+use Rattle.std.proofs.Common.{◌≡◌, ℕ, zero, suc, ◌+◌, ◌*◌, ◌^◌, ◌<◌, List, [], ◌∷◌, ◌++◌, length, slice_get, slice_index_or, Some, refl, ap, sym, ◌∙◌, subst, arith}
+use seplogic.Ra.Ura.{Ura}
+use base.Logic.{SProp, ent, sep, id⊢}
+use base.Fml.{Fml, ftrue, fsep, fex}
+use types.Logic.{Logic, sem}
+use types.Kit.{‵, ◌⊛◌, ◌$◌, ◌∵◌, !, qed, by, move, keep, drop, split, fsplit, fsplit3, fjoin, fjoin3, fpick, fpack, frame, use1, use2, rewrite, done}
+use types.Tokens.{res_dup}
+use denote.Steps.{nothing}
+use denote.RattleType.{RattleType}
+use Rattle.elsa_free.specs.Slot.{written}
+use Rattle.elsa_free.specs.Geometry.{IsAt}
+use Rattle.elsa_free.specs.Rights.{fact, Where, at_place, told, all_told}
+
+pub thing : {A : Type 0} (es : List A) (k : ℕ) → k < length es → A
+thing [] k l = absurd (omega arith)
+thing (e ∷ es) k l = e
+
+-- what stands at a place, as an answer
+pub got : {A : Type 0} (xs : List A) (k : ℕ) (d : A) → k < length xs → slice_get xs k ≡ Some (slice_index_or xs k d)
+got [] k d l = absurd (omega arith)
+got (x ∷ xs) zero d l = refl
+got (x ∷ xs) (suc k) d l = got xs k d (omega arith)
+
+module _ {M : Type 1} {𝓤 : Ura M} (𝓛 : Logic 𝓤) (T B : RattleType) (ids : B.Denot → List ℕ) (tops : List ℕ) where
+  abbrev Pr : Type 2
+  Pr = SProp 𝓤
+
+  abbrev ◌⊢◌ : Pr → Pr → Type 1
+  P ⊢ Q = ent 𝓤 P Q
+
+  abbrev ◌∗◌ : Pr → Pr → Pr
+  P ∗ Q = sep 𝓤 P Q
+
+  abbrev ⟦◌⟧ : Fml → Pr
+  ⟦ P ⟧ = sem 𝓛 P
+
+  infix 26 ◌⊢◌
+  infixr 35 ◌∗◌
+  abbrev One : ℕ → T.Denot → Fml
+  One = told T B ids tops
+
+  abbrev All : ℕ → List T.Denot → Fml
+  All = all_told T B ids tops
+
+  told_dup : (i : ℕ) (x : T.Denot) → ⟦ One i x ⟧ ⊢ ⟦ One i x ⟧ ∗ ⟦ One i x ⟧
+  told_dup i x = let F : Where B.Denot → Fml = at_place T B ids tops i x in qed 𝓛 (‵ (One i x) ∷ []) ∵ fpick ! (λ w. let Φ : Type 0 = IsAt i w.buffer w.slot × (length (ids w.row) ≡ 3 * 4 ^ w.buffer) in
+      fsplit3 ! $ fpick ! (λ so. drop ! $ res_dup ! $ move ! (2 ∷ []) $ res_dup ! $ move ! (2 ∷ 0 ∷ []) $ nothing ! $ fpack ! Φ (λ _. ftrue) so $ fjoin3 ! $ fpack ! (Where B.Denot) F w $
+      move ! (1 ∷ 2 ∷ []) $ nothing ! $ fpack ! Φ (λ _. ftrue) so $ move ! (0 ∷ 2 ∷ 1 ∷ []) $ fjoin3 ! $ fpack ! (Where B.Denot) F w $ done !))
+
+  pub all_dup : (i : ℕ) (es : List T.Denot) → ⟦ All i es ⟧ ⊢ ⟦ All i es ⟧ ∗ ⟦ All i es ⟧
+  all_dup i [] = qed 𝓛 (‵ ftrue ∷ []) ∵ nothing ! $ done !
+  all_dup i (e ∷ es) = qed 𝓛 (‵ (One i e) ∷ ‵ (All (suc i) es) ∷ []) ∵ use1 𝓛 (‵ (One i e) ⊛ ‵ (One i e)) (told_dup i e) $ split ! $ move ! (2 ∷ []) $
+      use1 𝓛 (‵ (All (suc i) es) ⊛ ‵ (All (suc i) es)) (all_dup (suc i) es) $ split ! $ move ! (2 ∷ 0 ∷ []) $ fjoin ! $ frame ! $ move ! (1 ∷ 0 ∷ []) $ fjoin ! $ done !
+
+  pub all_append : (i : ℕ) (xs ys : List T.Denot) → ⟦ All i xs ⟧ ∗ ⟦ All (i + length xs) ys ⟧ ⊢ ⟦ All i (xs ++ ys) ⟧
+  all_append i [] ys = let none : List T.Denot = [] in qed 𝓛 (‵ ftrue ∷ ‵ (All (i + length none) ys) ∷ []) ∵ rewrite ! 1 (λ (k : ℕ). ‵ (All k ys)) (let z : i + 0 ≡ i = omega arith in z) refl $ keep ! (1 ∷ []) $ done !
+  all_append i (x ∷ xs) ys = qed 𝓛 ((‵ (One i x) ⊛ ‵ (All (suc i) xs)) ∷ ‵ (All (i + length (x ∷ xs)) ys) ∷ []) ∵ split ! $
+      rewrite ! 2 (λ (k : ℕ). ‵ (All k ys)) (let z : i + suc (length xs) ≡ suc i + length xs = omega arith in z) refl $ move ! (1 ∷ 2 ∷ []) $ use2 𝓛 (‵ (All (suc i) (xs ++ ys))) (all_append (suc i) xs ys) $ move ! (1 ∷ 0 ∷ []) $ fjoin ! $ done !
+
+  -- the evidence of the place i + k
+  pub at_one : (i k : ℕ) (xs : List T.Denot) (d : T.Denot) → k < length xs → ⟦ All i xs ⟧ ⊢ ⟦ One (i + k) (slice_index_or xs k d) ⟧
+  at_one i k [] d l = absurd (omega arith)
+  at_one i zero (x ∷ xs) d l = qed 𝓛 (‵ (One i x) ∷ ‵ (All (suc i) xs) ∷ []) ∵ rewrite ! 0 (λ (k : ℕ). ‵ (One k x)) (let z : i ≡ i + 0 = omega arith in z) refl $ keep ! (0 ∷ []) $ done !
+  at_one i (suc k) (x ∷ xs) d l = qed 𝓛 (‵ (One i x) ∷ ‵ (All (suc i) xs) ∷ []) ∵ drop ! $ use1 𝓛 (‵ (One (suc i + k) (slice_index_or xs k d))) (at_one (suc i) k xs d (omega arith)) $
+      rewrite ! 0 (λ (j : ℕ). ‵ (One j (slice_index_or xs k d))) (let z : suc i + k ≡ i + suc k = omega arith in z) refl $ done !

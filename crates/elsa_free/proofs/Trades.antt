@@ -1,0 +1,203 @@
+-- The offers over all that lies in the rule. Assumes `Logic`.
+use Rattle.std.proofs.Common.{◌≡◌, ℕ, zero, suc, ◌+◌, ◌*◌, ◌^◌, ◌<◌, ◌≤◌, ◌==◌, ◌⊎◌, inl, inr, Bool, true, false, List, [], ◌∷◌, ◌++◌, length, drop as drops, slice_index_or, refl, ap, sym, ◌∙◌, subst, arith, length-append, append_assoc, None}
+use Rattle.std.proofs.lemmas.List.{append-nil}
+use native.Mathlib.Decide.{ℕ_discrete}
+use seplogic.Ra.Ura.{Ura}
+use base.Fraction.{full_share}
+use base.Share.{quarter, three_quarters}
+use base.Share
+use base.Logic.{SProp, ent, sep, wand, ex, all, guard, upd, emp, id⊢, via, apply∗, all_i, upd_i}
+use base.Fml.{Share as FShare, Fml, ftrue, fsep, fex}
+use base.Growing.{latest}
+use types.Logic.{Logic, sem}
+use types.Keyed.{ticket, tickets_from, entries_take, token}
+use types.Growing.{latest_new, latest_grows, latest_agrees, latest_cut, latest_glue}
+use types.Kit.{‵, raw, ◌⊛◌, some, given, later, mean, ◌$◌, ◌∵◌, !, qed, by, move, keep, drop, split, split3, join, fsplit, fsplit3, fjoin, fjoin3, fpick, fpack, learn, check, frame, assume, suffices, settle, done, use0, use1, use2, rewrite}
+use denote.Steps.{nothing}
+use denote.RattleType.{RattleType}
+use Rattle.logbook.specs.Kept.{offer_owns}
+use Rattle.elsa_free.specs.Slot.{written, blanks}
+use Rattle.elsa_free.specs.declared.event.Entry.{Entry}
+use Rattle.elsa_free.specs.declared.event.Event.{Event}
+use Rattle.elsa_free.specs.declared.event.Event.TheVariants.{Took, Put, Copied, Gave, Seat}
+use Rattle.elsa_free.specs.SharedList.{copied, count, items_of}
+use Rattle.elsa_free.specs.History.{takes, is_held, list_of, entries, kinds}
+use Rattle.elsa_free.specs.Rights.{logs, head, tops_of, part, fact, author, at_log, position, right, one_ticket, tickets, Moved, told, all_told, rights, spare, kept, took, looked, gave, wrote}
+use Rattle.elsa_free.proofs.Logs.{held_snoc, items_append, items_length, list_snoc, count_snoc, kinds_prefix, kinds_list, kinds_same}
+use Rattle.elsa_free.proofs.Evidence.{all_append, all_dup}
+use Rattle.elsa_free.proofs.Tickets.{copied_tickets, tickets_append, tickets_bound}
+
+module _ {M : Type 1} {𝓤 : Ura M} (𝓛 : Logic 𝓤) where
+  abbrev Pr : Type 2
+  Pr = SProp 𝓤
+
+  abbrev ◌⊢◌ : Pr → Pr → Type 1
+  P ⊢ Q = ent 𝓤 P Q
+
+  abbrev ◌∗◌ : Pr → Pr → Pr
+  P ∗ Q = sep 𝓤 P Q
+
+  abbrev ◌-∗◌ : Pr → Pr → Pr
+  P -∗ Q = wand 𝓤 P Q
+
+  abbrev ⟦◌⟧ : Fml → Pr
+  ⟦ P ⟧ = sem 𝓛 P
+
+  infix 26 ◌⊢◌
+  infixr 35 ◌∗◌
+  infixr 30 ◌-∗◌
+
+  module _ (T B : RattleType) (ids : B.Denot → List ℕ) (names : List ℕ) where
+    abbrev Log : Type 0
+    Log = List (Event T.Denot)
+
+    abbrev Entries : Type 0
+    Entries = List (Entry T.Denot)
+
+    abbrev Three : Type 0
+    Three = Log × Log × Log
+
+    abbrev tops : List ℕ
+    tops = tops_of names
+
+    abbrev Kept : Log → Fml
+    Kept = kept T B ids names
+
+    abbrev at : FShare → Log → Fml
+    at q log = at_log q names log
+
+    abbrev Spare : Bool → ℕ → Fml
+    Spare b n = spare T B ids b tops n
+
+    abbrev Rights : ℕ → Fml
+    Rights n = rights T B ids tops n
+
+    abbrev All : Entries → Fml
+    All es = all_told T B ids tops 0 (items_of es)
+
+    module _ (moves : Log → Log → Log → Type 0) (gain : Log → Fml) where
+      abbrev Trade : Three → Pr
+      Trade z = ⟦ Kept z.0 ⟧ -∗ upd 𝓤 (⟦ Kept z.1 ⟧ ∗ ⟦ gain z.2 ⟧)
+
+      pub offers : (P : Pr) → ((xs ys r : Log) → moves xs ys r → P ⊢ Trade (xs, ys, r)) → P ⊢ ⟦ offer_owns Kept moves gain None ⟧
+      offers P h = all_i 𝓤 (λ (z : Three). all 𝓤 (λ (_ : moves z.0 z.1 z.2). Trade z)) (λ z. all_i 𝓤 (λ (_ : moves z.0 z.1 z.2). Trade z) (λ m. h z.0 z.1 z.2 m))
+
+    -- acquire: the right, and the rights to write, go to the holder
+    pub takes_right : emp 𝓤 ⊢ ⟦ offer_owns Kept (Moved {T = T.Denot} Took) (took T B ids names) None ⟧
+    takes_right = offers (Moved {T = T.Denot} Took) (took T B ids names) (emp 𝓤) (λ xs ys r m. let Z : Pr = ⟦ Kept ys ⟧ ∗ ⟦ took T B ids names r ⟧ in
+        let longer : xs ++ Took ∷ [] ≡ ys = sym m.1.0 in
+        let held : true ≡ is_held ys = sym (ap is_held m.1.0 ∙ held_snoc true xs Took) in
+        let so : xs ≡ r = sym m.0 in
+        let l : list_of xs ≡ list_of ys = sym (ap list_of m.1.0 ∙ (list_snoc xs Took ∙ append-nil (list_of xs))) in
+        qed 𝓛 [] ∵ assume ! (‵ (Kept xs)) $ fsplit ! $ fsplit ! $ rewrite ! 0 (λ (b : Bool). ‵ (at (part b) xs)) m.1.1 refl $ rewrite ! 1 (λ (b : Bool). ‵ (Spare b (length (list_of xs)))) m.1.1 refl $
+        use1 𝓛 (raw (upd 𝓤 ⟦ at full_share (xs ++ Took ∷ []) ⟧)) (latest_grows logs 𝓛 (head names) (kinds xs) (kinds (xs ++ Took ∷ [])) (kinds_prefix xs Took)) $ settle 𝓛 Z (‵ (at full_share (xs ++ Took ∷ []))) $
+        use1 𝓛 (‵ (at quarter (xs ++ Took ∷ [])) ⊛ ‵ (at three_quarters (xs ++ Took ∷ []))) (latest_cut logs 𝓛 full_share quarter three_quarters (head names) (kinds (xs ++ Took ∷ [])) base.Share.quarters) $ split ! $
+        suffices ! _ (upd_i 𝓤 Z) $
+        -- [position; right; rights; all and tickets]
+        rewrite ! 0 (λ (l : Log). ‵ (at quarter l)) longer refl $ rewrite ! 0 (λ (b : Bool). ‵ (at (part b) ys)) held refl $
+        rewrite ! 1 (λ (l : Log). ‵ (at three_quarters (l ++ Took ∷ []))) so refl $ rewrite ! 2 (λ (l : Log). ‵ (Rights (length (list_of l)))) so refl $
+        rewrite ! 3 (λ (es : Entries). ‵ (fsep (All es) (tickets [] es))) l refl $
+        move ! (1 ∷ 2 ∷ []) $ fjoin ! $ move ! (1 ∷ []) $ nothing ! $ move ! (1 ∷ 0 ∷ []) $
+        rewrite ! 1 (λ (b : Bool). ‵ (Spare b (length (list_of ys)))) held refl $ fjoin ! $ move ! (0 ∷ 2 ∷ []) $ fjoin ! $ done !)
+
+    -- a look: evidence for all that is seen, and the pass's right comes back with what it says
+    pub looks : (a n : ℕ) (about : Log) → about ≡ Seat a n ∷ [] → ⟦ author a n ⟧ ⊢ ⟦ offer_owns Kept (Moved {T = T.Denot} (Seat a n)) (looked T B ids names (Seat a n ∷ [])) None ⟧
+    looks a n about ab = offers (Moved {T = T.Denot} (Seat a n)) (looked T B ids names (Seat a n ∷ [])) ⟦ author a n ⟧ (λ xs ys r m. let Z : Pr = ⟦ Kept ys ⟧ ∗ ⟦ looked T B ids names (Seat a n ∷ []) r ⟧ in let L : Entries = list_of xs in
+        let so : xs ≡ r = sym m.0 in
+        qed 𝓛 (‵ (author a n) ∷ []) ∵ assume ! (‵ (Kept xs)) $ fsplit ! $ move ! (1 ∷ []) $ fsplit ! $ move ! (1 ∷ 3 ∷ []) $
+        -- [tickets; author; all; position and spare]
+        use2 𝓛 (given (count (suc a) L ≤ n) (‵ (tickets [] L) ⊛ ‵ (tickets_from a n))) (tickets_bound 𝓛 T.Denot a n [] L (omega arith)) $ learn ! (λ le. split ! $ move ! (2 ∷ []) $
+        use1 𝓛 (‵ (All L) ⊛ ‵ (All L)) (all_dup 𝓛 T B ids tops 0 (items_of L)) $ split ! $ move ! (0 ∷ 2 ∷ []) $ fjoin ! $ move ! (3 ∷ 0 ∷ []) $ fjoin ! $ rewrite ! 0 (λ (l : Log). ‵ (Kept l)) (sym m.1) refl $
+        suffices ! _ (upd_i 𝓤 Z) $ frame ! $ rewrite ! 0 (λ (l : Log). ‵ (All (list_of l))) so refl $ nothing ! $
+        fpack ! (count (suc a) (list_of r) ≤ n) (λ _. ftrue) (subst (λ (l : Log). count (suc a) (list_of l) ≤ n) so le) $ move ! (2 ∷ 0 ∷ 1 ∷ []) $ fjoin ! $ move ! (1 ∷ 0 ∷ []) $ fjoin ! $ done !))
+
+    -- The end of a hold, by an event that adds entries or none. The right, the rights to go on behind these entries and the evidence
+    -- for them go in. `pays` is what their tickets cost the pass, which has `k` tickets fewer before and `left` fewer after
+    module _ (v : Log) (e : Event T.Denot) (ends : takes e ≡ false) (a k left : ℕ) (pays : (L : Entries) → count (suc a) L ≤ k → ⟦ author a k ⟧ ⊢ ⟦ tickets L (entries e) ⟧ ∗ ⟦ author a left ⟧) where
+      abbrev Goes : Log → Log → Log → Type 0
+      Goes xs ys r = (r ≡ xs) × ((ys ≡ xs) ⊎ ((ys ≡ xs ++ e ∷ []) × (is_held xs ≡ true)))
+
+      abbrev new : Entries
+      new = entries e
+
+      abbrev pub Given : Fml
+      Given = fsep (right names v) (fsep (fsep (Rights (length (list_of v) + length new)) (all_told T B ids tops (length (list_of v)) (items_of new))) (author a k))
+
+      abbrev Known : Log → Type 0
+      Known r = (length r ≡ length v) × (count (suc a) (list_of r) ≤ k)
+
+      abbrev pub Back : Log → Fml
+      Back r = fsep (author a left) (fact (Known r))
+
+      one : (xs ys r : Log) → Goes xs ys r → ⟦ Given ⟧ ⊢ Trade Goes Back (xs, ys, r)
+      one xs ys r (is, inl same) = let Z : Pr = ⟦ Kept ys ⟧ ∗ ⟦ Back r ⟧ in let L : Entries = list_of xs in
+          qed 𝓛 (‵ Given ∷ []) ∵ assume ! (‵ (Kept xs)) $ fsplit ! $ fsplit ! $ move ! (3 ∷ []) $ fsplit3 ! $ move ! (3 ∷ 0 ∷ []) $
+          -- [position; right; rights and evidence; author; spare; all and tickets]
+          use2 𝓛 (given (kinds xs ≡ kinds v) (‵ (at (part (is_held xs)) xs) ⊛ ‵ (right names v))) (latest_agrees logs 𝓛 (part (is_held xs)) three_quarters (head names) (kinds xs) (kinds v)) $ learn ! (λ agree. split ! $
+          keep ! (5 ∷ 3 ∷ 0 ∷ 4 ∷ []) $ fsplit ! $ move ! (1 ∷ 2 ∷ []) $
+          use2 𝓛 (given (count (suc a) L ≤ k) (‵ (tickets [] L) ⊛ ‵ (tickets_from a k))) (tickets_bound 𝓛 T.Denot a k [] L (omega arith)) $ learn ! (λ le. split ! $
+          -- [tickets; author; all; position; spare]
+          move ! (2 ∷ 0 ∷ []) $ fjoin ! $ move ! (2 ∷ 3 ∷ []) $ fjoin ! $ move ! (0 ∷ 1 ∷ []) $ fjoin ! $
+          suffices ! _ (upd_i 𝓤 Z) $ rewrite ! 0 (λ (l : Log). ‵ (Kept l)) (sym same) refl $ frame ! $
+          use1 𝓛 (‵ (tickets L new) ⊛ ‵ (author a left)) (pays L le) $ split ! $ drop ! $ nothing ! $
+          fpack ! (Known r) (λ _. ftrue) ((ap length is ∙ kinds_same xs v agree), subst (λ (l : Log). count (suc a) (list_of l) ≤ k) (sym is) le) $ move ! (1 ∷ 0 ∷ []) $ fjoin ! $ done !))
+      one xs ys r (is, inr (longer, held)) = let Z : Pr = ⟦ Kept ys ⟧ ∗ ⟦ Back r ⟧ in let L : Entries = list_of xs in
+          let free : false ≡ is_held ys = sym (ap is_held longer ∙ (held_snoc true xs e ∙ ends)) in
+          let l : L ++ new ≡ list_of ys = sym (ap list_of longer ∙ list_snoc xs e) in
+          let i : items_of L ++ items_of new ≡ items_of (list_of ys) = sym (items_append L new) ∙ ap items_of l in
+          qed 𝓛 (‵ Given ∷ []) ∵ assume ! (‵ (Kept xs)) $ fsplit ! $ fsplit ! $ move ! (3 ∷ []) $ fsplit3 ! $ move ! (3 ∷ 0 ∷ []) $
+          -- [position; right; rights and evidence; author; spare; all and tickets]
+          use2 𝓛 (given (kinds xs ≡ kinds v) (‵ (at (part (is_held xs)) xs) ⊛ ‵ (right names v))) (latest_agrees logs 𝓛 (part (is_held xs)) three_quarters (head names) (kinds xs) (kinds v)) $ learn ! (λ agree. split ! $
+          rewrite ! 0 (λ (b : Bool). ‵ (at (part b) xs)) held refl $ rewrite ! 1 (λ (y : List ℕ). ‵ (latest logs three_quarters (head names) y)) (sym agree) refl $
+          use2 𝓛 (‵ (at full_share xs)) (latest_glue logs 𝓛 full_share quarter three_quarters (head names) (kinds xs) base.Share.quarters) $
+          use1 𝓛 (raw (upd 𝓤 ⟦ at full_share (xs ++ e ∷ []) ⟧)) (latest_grows logs 𝓛 (head names) (kinds xs) (kinds (xs ++ e ∷ [])) (kinds_prefix xs e)) $ settle 𝓛 Z (‵ (at full_share (xs ++ e ∷ []))) $
+          -- [position; rights and evidence; author; spare; all and tickets]
+          let len : length (list_of v) ≡ length L = sym (kinds_list xs v agree) in let more : length (list_of v) + length new ≡ length (list_of ys) = omega (arith, len, ap length l, length-append L new) in
+          rewrite ! 0 (λ (y : Log). ‵ (at full_share y)) (sym longer) refl $ rewrite ! 0 (λ (b : Bool). ‵ (at (part b) ys)) free refl $
+          move ! (1 ∷ []) $ fsplit ! $ rewrite ! 0 (λ (y : ℕ). ‵ (Rights y)) more refl $ rewrite ! 0 (λ (b : Bool). ‵ (Spare b (length (list_of ys)))) free refl $
+          rewrite ! 1 (λ (y : ℕ). ‵ (all_told T B ids tops y (items_of new))) (let z : length (list_of v) ≡ 0 + length (items_of L) = omega (arith, len, items_length L) in z) refl $
+          -- [spare; evidence; position; author; old spare; all and tickets]
+          keep ! (5 ∷ 3 ∷ 1 ∷ 2 ∷ 0 ∷ []) $ fsplit ! $ move ! (1 ∷ 2 ∷ []) $
+          use2 𝓛 (given (count (suc a) L ≤ k) (‵ (tickets [] L) ⊛ ‵ (tickets_from a k))) (tickets_bound 𝓛 T.Denot a k [] L (omega arith)) $ learn ! (λ le. split ! $
+          -- [tickets; author; all; evidence; position; spare]
+          move ! (1 ∷ []) $ use1 𝓛 (‵ (tickets L new) ⊛ ‵ (author a left)) (pays L le) $ split ! $ move ! (2 ∷ 0 ∷ []) $
+          use2 𝓛 (‵ (tickets [] (L ++ new))) (tickets_append 𝓛 T.Denot [] L new) $
+          -- [tickets; author; all; evidence; position; spare]
+          move ! (2 ∷ 3 ∷ []) $ use2 𝓛 (‵ (all_told T B ids tops 0 (items_of L ++ items_of new))) (all_append 𝓛 T B ids tops 0 (items_of L) (items_of new)) $
+          rewrite ! 0 (λ (y : List T.Denot). ‵ (all_told T B ids tops 0 y)) i refl $ rewrite ! 1 (λ (es : Entries). ‵ (tickets [] es)) l refl $
+          -- [all; tickets; author; position; spare]
+          fjoin ! $ move ! (2 ∷ 3 ∷ []) $ fjoin ! $ move ! (0 ∷ 1 ∷ []) $ fjoin ! $
+          suffices ! _ (upd_i 𝓤 Z) $ frame ! $ nothing ! $
+          fpack ! (Known r) (λ _. ftrue) ((ap length is ∙ kinds_same xs v agree), subst (λ (y : Log). count (suc a) (list_of y) ≤ k) (sym is) le) $ move ! (1 ∷ 0 ∷ []) $ fjoin ! $ done !))
+
+      pub ends_hold : ⟦ Given ⟧ ⊢ ⟦ offer_owns Kept Goes Back None ⟧
+      ends_hold = offers Goes Back ⟦ Given ⟧ one
+
+    -- release unchanged
+    free_of_charge : (a k : ℕ) (L : Entries) → count (suc a) L ≤ k → ⟦ author a k ⟧ ⊢ ⟦ tickets L [] ⟧ ∗ ⟦ author a k ⟧
+    free_of_charge a k L le = qed 𝓛 (‵ (author a k) ∷ []) ∵ nothing ! $ done !
+
+    pub gives : (v : Log) (a k : ℕ) → ⟦ fsep (right names v) (fsep (Rights (length (list_of v))) (author a k)) ⟧ ⊢ ⟦ offer_owns Kept (Moved {T = T.Denot} Gave) (gave T B ids (Seat a k ∷ v)) None ⟧
+    gives v a k = qed 𝓛 (‵ (fsep (right names v) (fsep (Rights (length (list_of v))) (author a k))) ∷ []) ∵ fsplit3 ! $ move ! (1 ∷ []) $
+        rewrite ! 0 (λ (y : ℕ). ‵ (Rights y)) (let z : length (list_of v) ≡ length (list_of v) + 0 = omega arith in z) refl $ nothing ! $ move ! (1 ∷ 0 ∷ []) $ fjoin ! $ move ! (1 ∷ 0 ∷ []) $ fjoin3 ! $ by ! (ends_hold v Gave refl a k k (free_of_charge a k))
+
+    -- publish the items of a clone
+    copies_pay : (a k : ℕ) (cs : List T.Denot) (L : Entries) → count (suc a) L ≤ k → ⟦ author a k ⟧ ⊢ ⟦ tickets L (copied cs) ⟧ ∗ ⟦ author a k ⟧
+    copies_pay a k cs L le = qed 𝓛 (‵ (author a k) ∷ []) ∵ use0 𝓛 (‵ (tickets L (copied cs))) (copied_tickets 𝓛 T.Denot L cs) $ done !
+
+    pub copies : (v : Log) (cs : List T.Denot) (a k : ℕ) → ⟦ fsep (right names v) (fsep (fsep (Rights (length (list_of v) + length (copied cs))) (all_told T B ids tops (length (list_of v)) (items_of (copied cs)))) (author a k)) ⟧
+        ⊢ ⟦ offer_owns Kept (Moved {T = T.Denot} (Copied cs)) (gave T B ids (Seat a k ∷ v)) None ⟧
+    copies v cs a k = ends_hold v (Copied cs) refl a k k (copies_pay a k cs)
+
+    -- publish an entry
+    entry_pays : (x : Entry T.Denot) (a k : ℕ) → x.author ≡ suc a → (L : Entries) → count (suc a) L ≤ k → ⟦ author a k ⟧ ⊢ ⟦ tickets L (x ∷ []) ⟧ ∗ ⟦ author a (suc k) ⟧
+    entry_pays x a k mine L le = let F : ℕ → Fml = λ j. fsep (ticket a j) (fact (count (suc a) L ≤ j)) in
+        qed 𝓛 (‵ (author a k) ∷ []) ∵ use1 𝓛 (‵ (ticket a k) ⊛ ‵ (tickets_from a (suc k))) (entries_take token 𝓛 a k (λ _. tt)) $ split ! $
+        nothing ! $ fpack ! (count (suc a) L ≤ k) (λ _. ftrue) le $ move ! (1 ∷ 0 ∷ []) $ fjoin ! $ fpack ! ℕ F k $
+        rewrite ! 0 (λ (b : ℕ). ‵ (one_ticket L b)) (sym mine) refl $ nothing ! $ move ! (1 ∷ 0 ∷ []) $ fjoin ! $ done !
+
+    pub publishes : (v : Log) (x : Entry T.Denot) (a k : ℕ) → x.author ≡ suc a → ⟦ fsep (right names v) (fsep (fsep (Rights (suc (length (list_of v)))) (told T B ids tops (length (list_of v)) x.item)) (author a k)) ⟧
+        ⊢ ⟦ offer_owns Kept (Moved {T = T.Denot} (Put x)) (wrote T B ids (Seat a k ∷ v)) None ⟧
+    publishes v x a k mine = qed 𝓛 (‵ (fsep (right names v) (fsep (fsep (Rights (suc (length (list_of v)))) (told T B ids tops (length (list_of v)) x.item)) (author a k))) ∷ []) ∵
+        fsplit3 ! $ move ! (1 ∷ []) $ fsplit ! $ rewrite ! 0 (λ (y : ℕ). ‵ (Rights y)) (let z : suc (length (list_of v)) ≡ length (list_of v) + 1 = omega arith in z) refl $ move ! (1 ∷ []) $ nothing ! $ move ! (1 ∷ 0 ∷ []) $ fjoin ! $
+        move ! (1 ∷ 0 ∷ []) $ fjoin ! $ move ! (1 ∷ 0 ∷ 2 ∷ []) $ fjoin3 ! $ by ! (ends_hold v (Put x) refl a k (suc k) (entry_pays x a k mine))

@@ -1,0 +1,166 @@
+-- The steps keep the rule.
+use Rattle.std.proofs.Common.{◌≡◌, ℕ, zero, suc, ◌+◌, ◌-◌, ◌*◌, ◌<◌, ◌≤◌, ◌^◌, ◌%◌, ◌==◌, ◌⊎◌, inl, inr, Bool, true, false, List, [], ◌∷◌, ◌++◌, length, refl, ap, sym, ◌∙◌, subst, arith, length-append, None, Some, MatchBool}
+use Rattle.std.proofs.lemmas.List.{append-nil}
+use Rattle.std.proofs.lemmas.Bool.Decides.{nat_tests}
+use mathlib.Core.List.{IsPrefix}
+use prog.Atomic.{either}
+use Rattle.logbook.specs.Pages.{Cell, cell, keeps, no_nib, step, Moves, Goes}
+use Rattle.elsa_free.specs.declared.event.Event.{Event}
+use Rattle.elsa_free.specs.declared.event.Event.TheVariants.{Took, Put, Copied, Gave, Seat}
+use Rattle.elsa_free.specs.SharedList.{bit}
+use Rattle.elsa_free.specs.History.{list_of, entries, takes, is_held}
+use Rattle.elsa_free.specs.Rights.{Moved}
+use Rattle.elsa_free.specs.OneWord.{IsKept, Sees, Reads, Acquires, Ends, word_of}
+use Rattle.elsa_free.proofs.Logs.{held_snoc, list_snoc, prefix_whole}
+
+bit_small : (b : Bool) → bit b ≤ 1
+bit_small true = omega arith
+bit_small false = omega arith
+
+bit_none : (b : Bool) → bit b ≡ 0 → b ≡ false
+bit_none true e = absurd (omega arith)
+bit_none false e = refl
+
+bit_one : (b : Bool) → bit b ≡ 1 → b ≡ true
+bit_one true e = refl
+bit_one false e = absurd (omega arith)
+
+-- an event that stands in a log
+abbrev pub plain : {T : Type 0} → Event T → Bool
+plain Took = true
+plain (Put x) = true
+plain (Copied cs) = true
+plain Gave = true
+plain (Seat a n) = false
+
+module _ (T : Type 0) where
+  abbrev Log : Type 0
+  Log = List (Event T)
+
+  abbrev shown : Log → Log
+  shown log = log
+
+  pub word_snoc : (log : Log) (e : Event T) → takes e ≡ false → word_of (log ++ e ∷ []) ≡ 2 * (length (list_of log) + length (entries e))
+  word_snoc log e ends = let h : bit (is_held (log ++ e ∷ [])) ≡ 0 = ap bit (held_snoc true log e ∙ ends) in let l = ap length (list_snoc log e) in omega (arith, length-append (list_of log) (entries e))
+
+  -- ---- acquire
+  module _ (v : Log) (found : ℕ) (even : found % 2 ≡ 0) where
+    abbrev AcquireGoes : List Cell → Log → Type 0
+    AcquireGoes cs log = Goes IsKept shown (Moved {T = T} Took) 0 (v, (no_nib, None)) (λ n. either (n == found) (found + 1) n) (Acquires (step 0 found (found + 1) Took) (v, (no_nib, None))) cs log
+
+    acquire_goes : (log : Log) → length (list_of log) < 2 ^ 62 → (b : Bool) → (word_of log == found) ≡ b → AcquireGoes ((word_of log, true) ∷ (0, true) ∷ []) log
+    acquire_goes log tiny true is =
+        let here : word_of log ≡ found = grind (arith, nat_tests) in
+        let small = bit_small (is_held log) in
+        let free : is_held log ≡ false = bit_none (is_held log) (omega arith) in
+        let held : bit (is_held (log ++ Took ∷ [])) ≡ 1 = ap bit (held_snoc true log Took) in
+        let len : length (list_of (log ++ Took ∷ [])) ≡ length (list_of log) = omega (arith, ap length (list_snoc log Took), length-append (list_of log) []) in
+        let n : either (word_of log == found) (found + 1) (word_of log) ≡ word_of (log ++ Took ∷ []) = rw is (let z = ap bit free in omega arith) in (
+          keeps,
+          Took ∷ [],
+          Some log,
+          tt,
+          record { words = ap (λ (k : ℕ). (k, true) ∷ (0, true) ∷ []) n; small = omega (arith, len, tiny) },
+          inr (log, refl, refl, (refl, (refl, free))),
+          rw is (log, refl, refl, refl, free, tiny),
+        )
+    acquire_goes log tiny false is =
+        let all : log ++ [] ≡ log = append-nil log in
+        let n : either (word_of log == found) (found + 1) (word_of log) ≡ word_of (log ++ []) = rw is (ap word_of (sym all)) in (
+          keeps,
+          [],
+          None,
+          tt,
+          record { words = ap (λ (k : ℕ). (k, true) ∷ (0, true) ∷ []) n; small = subst (λ (x : Log). length (list_of x) < 2 ^ 62) (sym all) tiny },
+          inl (refl, all),
+          rw is (ap word_of all),
+        )
+
+    pub acquire_moves : Moves IsKept shown (Moved {T = T} Took) 0 (v, (no_nib, None)) (λ n. either (n == found) (found + 1) n) (Acquires (step 0 found (found + 1) Took) (v, (no_nib, None)))
+    acquire_moves cs log kept pre away = let P : List Cell → Type 0 = λ c. (0 < length c) × ((cell c 0).1 ≡ true) × AcquireGoes c log in
+        subst P (sym kept.words) (omega arith, refl, acquire_goes log kept.small (word_of log == found) refl)
+
+  -- ---- the end of a hold
+  moved : (e : Event T) (xs ys r : Log) → takes e ≡ false → plain e ≡ true → (r ≡ xs) × ((ys ≡ xs) ⊎ ((ys ≡ xs ++ e ∷ []) × (is_held xs ≡ true))) → Moved e xs ys r
+  moved Took xs ys r ends pl m = absurd (cc ends)
+  moved (Put x) xs ys r ends pl m = m
+  moved (Copied cs) xs ys r ends pl m = m
+  moved Gave xs ys r ends pl m = m
+  moved (Seat a n) xs ys r ends pl m = absurd (cc pl)
+
+  module _ (v : Log) (e : Event T) (held after : ℕ) (ends : takes e ≡ false) (pl : plain e ≡ true) (low : length (list_of (v ++ e ∷ [])) < 2 ^ 62) (holds : is_held v ≡ true) (was : held ≡ word_of v) (will : after ≡ word_of (v ++ e ∷ [])) where
+    abbrev EndGoes : List Cell → Log → Type 0
+    EndGoes cs log = Goes IsKept shown (Moved e) 0 (v, (no_nib, None)) (λ n. either (n == held) after n) (Ends (step 0 held after e) (v, (no_nib, None))) cs log
+
+    end_goes : (log : Log) → length (list_of log) < 2 ^ 62 → IsPrefix v log → (b : Bool) → (word_of log == held) ≡ b → EndGoes ((word_of log, true) ∷ (0, true) ∷ []) log
+    end_goes log tiny pre true is =
+        let here : word_of log ≡ held = grind (arith, nat_tests) in
+        let one = ap bit holds in let small = bit_small (is_held log) in
+        let on : is_held log ≡ true = bit_one (is_held log) (omega arith) in
+        let wv = word_snoc v e ends in let wl = word_snoc log e ends in
+        let lv : length (list_of (v ++ e ∷ [])) ≡ length (list_of v) + length (entries e) = ap length (list_snoc v e) ∙ length-append (list_of v) (entries e) in
+        let ll : length (list_of (log ++ e ∷ [])) ≡ length (list_of log) + length (entries e) = ap length (list_snoc log e) ∙ length-append (list_of log) (entries e) in
+        let few : length (list_of (log ++ e ∷ [])) < 2 ^ 62 = omega (arith, lv, ll, low, here, was, one, small) in
+        let n : either (word_of log == held) after (word_of log) ≡ word_of (log ++ e ∷ []) = rw is (let z = ap bit on in omega arith) in (
+          keeps,
+          e ∷ [],
+          Some log,
+          tt,
+          record { words = ap (λ (k : ℕ). (k, true) ∷ (0, true) ∷ []) n; small = few },
+          inr (log, refl, refl, moved e log (log ++ e ∷ []) log ends pl (refl, inr (refl, on))),
+          (log, pre, refl, refl, rw is refl),
+        )
+    end_goes log tiny pre false is =
+        let all : log ++ [] ≡ log = append-nil log in
+        let n : either (word_of log == held) after (word_of log) ≡ word_of (log ++ []) = rw is (ap word_of (sym all)) in (
+          keeps,
+          [],
+          Some log,
+          tt,
+          record { words = ap (λ (k : ℕ). (k, true) ∷ (0, true) ∷ []) n; small = subst (λ (x : Log). length (list_of x) < 2 ^ 62) (sym all) tiny },
+          inr (log, refl, refl, moved e log (log ++ []) log ends pl (refl, inl all)),
+          (log, pre, refl, refl, rw is all),
+        )
+
+    pub end_moves : Moves IsKept shown (Moved e) 0 (v, (no_nib, None)) (λ n. either (n == held) after n) (Ends (step 0 held after e) (v, (no_nib, None)))
+    end_moves cs log kept pre away = let P : List Cell → Type 0 = λ c. (0 < length c) × ((cell c 0).1 ≡ true) × EndGoes c log in
+        subst P (sym kept.words) (omega arith, refl, end_goes log kept.small pre (word_of log == held) refl)
+
+pub chosen : {A : Type 0} (B : Type 0) (m n : ℕ) → m ≡ n → MatchBool (m == n) A B → A
+chosen {A} B m n e x = let is : (m == n) ≡ true = grind (arith, nat_tests) in subst (λ (b : Bool). MatchBool b A B) is x
+
+module _ (T : Type 0) where
+  pub acquired : (log new : List (Event T)) (ask : Event T) (found : ℕ) → ask ≡ Took → new ≡ log ++ ask ∷ [] → word_of log ≡ found → is_held log ≡ false
+      → (2 * length (list_of new) ≡ found) × (is_held new ≡ true)
+  acquired log new ask found took is was free =
+      let all : new ≡ log ++ Took ∷ [] = cc (is, took) in
+      let len : length (list_of (log ++ Took ∷ [])) ≡ length (list_of log) = omega (arith, ap length (list_snoc log Took), length-append (list_of log) []) in
+      let z = ap bit free in let l = ap (λ (x : List (Event T)). length (list_of x)) all in
+      (omega arith, ap is_held all ∙ held_snoc true log Took)
+
+  pub ended : (v log new : List (Event T)) (e : Event T) (found held : ℕ) → IsPrefix v log → length log ≡ length v → word_of log ≡ found → held ≡ word_of v
+      → MatchBool (found == held) (new ≡ log ++ e ∷ []) (new ≡ log) → new ≡ v ++ e ∷ []
+  ended v log new e found held pre len was is then =
+      let same : v ≡ log = prefix_whole v log pre (omega arith) in
+      let w = ap word_of same in
+      chosen (new ≡ log) found held (omega arith) then ∙ ap (λ (x : List (Event T)). x ++ e ∷ []) (sym same)
+
+pub word_held : {T : Type 0} (v : List (Event T)) (held : ℕ) → 2 * length (list_of v) ≡ held - 1 → is_held v ≡ true → 1 ≤ held → held ≡ word_of v
+word_held v held len on some_held = let z = ap bit on in omega arith
+
+module _ (T : Type 0) where
+  abbrev Logs : Type 0
+  Logs = List (Event T)
+
+  shows_all : Logs → Logs
+  shows_all log = log
+
+  pub sees_moves : (v : Logs) (state : Rattle.core.specs.declared.option.Option.Option Logs) (ask : Event T) → Moves IsKept (λ (log : Logs). log) (Moved ask) 0 (v, (no_nib, state)) (λ n. n) (Sees (step 0 0 0 ask) (v, (no_nib, state)))
+  sees_moves v state ask cs log kept pre away = let all : log ++ [] ≡ log = append-nil log in
+      let P : List Cell → Type 0 = λ c. (0 < length c) × ((cell c 0).1 ≡ true) × Goes IsKept (λ (log : Logs). log) (Moved ask) 0 (v, (no_nib, state)) (λ n. n) (Sees (step 0 0 0 ask) (v, (no_nib, state))) c log in
+      subst P (sym kept.words) (omega arith, refl, (keeps, [], state, tt, subst (λ (x : Logs). IsKept ((word_of log, true) ∷ (0, true) ∷ []) x) (sym all) record { words = refl; small = kept.small }, inl (refl, all), ap word_of all))
+
+  pub reads_moves : (v : Logs) (a n : ℕ) → Moves IsKept (λ (log : Logs). log) (Moved (Seat a n)) 0 (v, (no_nib, None)) (λ n. n) (Reads (step 0 0 0 (Seat a n)) (v, (no_nib, None)))
+  reads_moves v a n cs log kept pre away = let all : log ++ [] ≡ log = append-nil log in
+      let P : List Cell → Type 0 = λ c. (0 < length c) × ((cell c 0).1 ≡ true) × Goes IsKept (λ (log : Logs). log) (Moved (Seat a n)) 0 (v, (no_nib, None)) (λ n. n) (Reads (step 0 0 0 (Seat a n)) (v, (no_nib, None))) c log in
+      subst P (sym kept.words) (omega arith, refl, (keeps, [], Some log, tt, subst (λ (x : Logs). IsKept ((word_of log, true) ∷ (0, true) ∷ []) x) (sym all) record { words = refl; small = kept.small }, inr (log, refl, refl, (refl, all)), (ap word_of all, ap Some (sym all), subst (λ (x : Logs). length (list_of x) < 2 ^ 62) (sym all) kept.small)))

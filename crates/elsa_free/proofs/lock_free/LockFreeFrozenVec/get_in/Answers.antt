@@ -1,0 +1,67 @@
+use Rattle.std.proofs.Common.{◌≡◌, ◌++◌, ◌∷◌, [], ◌+◌, ◌<◌, ◌^◌, ◌≤◌, ℕ, List, suc, length, slice_get, refl, ap, sym, ◌∙◌, arith, subst}
+use Rattle.std.proofs.lemmas.Option.{slice_get_past}
+use Rattle.std.proofs.lemmas.Result.{IfOk-weaker, MatchResult-weaker}
+use mathlib.Core.List.{IsPrefix}
+use Rattle.elsa_free.specs.declared.event.Event.TheVariants.{Seat}
+use Rattle.elsa_free.specs.SharedList.{count, entry, items_of, mine}
+use Rattle.elsa_free.specs.History.{list_of, author_of, used_of}
+use Rattle.elsa_free.proofs.Logs.{items_length, list_prefix}
+use Rattle.elsa_free.proofs.Places.{look_places, push_places}
+use Rattle.elsa_free.proofs.Closing.{looked_mine}
+use Rattle.elsa_free.proofs.lock_free.LockFreeFrozenVec.get_in.Goals as goal
+
+pub of-requires-clause-mine : goal.of-requires-clause-mine
+of-requires-clause-mine g c =
+    let v = c.parts-seen.result.0.log in let log = c.look-n.result.1.log in let a = c.parts-seen.result.1.name in let n = c.parts-seen.result.1.used in let p = c.parts-seen.ensures in let got = c.look-n.ensures.gained in let up = c.looked-author.ensures in
+    let about : c.look-n.result.2.about ≡ Seat a n ∷ [] = got.1 in
+    let all : count (suc a) (list_of log) ≡ n = looked_mine v log c.look-n.result.2.answer a n c.look-n.result.2.about c.look-n.ensures.seen got.2 about p.mine up.2 in
+    let nm = up.0 ∙ ap author_of about in let us = up.1 ∙ ap used_of about in
+    ap (λ z. count (suc z) (list_of log)) nm ∙ (all ∙ sym us)
+
+pub returns-then-place-n-clause-seen : goal.returns-then-place-n-clause-seen
+returns-then-place-n-clause-seen g c =
+    let v = c.parts-seen.result.0.log in let log = c.look-n.result.1.log in let a = c.parts-seen.result.1.name in let n = c.parts-seen.result.1.used in let p = c.parts-seen.ensures in let got = c.look-n.ensures.gained in let up = c.looked-author.ensures in
+    let about : c.look-n.result.2.about ≡ Seat a n ∷ [] = got.1 in
+    let all : count (suc a) (list_of log) ≡ n = looked_mine v log c.look-n.result.2.answer a n c.look-n.result.2.about c.look-n.ensures.seen got.2 about p.mine up.2 in
+    let nm = up.0 ∙ ap author_of about in let us = up.1 ∙ ap used_of about in
+    rw (p.is, c.of.ensures) (list_prefix v log c.look-n.ensures.seen)
+
+pub returns-then-place-n-clause-mine : goal.returns-then-place-n-clause-mine
+returns-then-place-n-clause-mine g c =
+    let v = c.parts-seen.result.0.log in let log = c.look-n.result.1.log in let a = c.parts-seen.result.1.name in let n = c.parts-seen.result.1.used in let p = c.parts-seen.ensures in let got = c.look-n.ensures.gained in let up = c.looked-author.ensures in
+    let about : c.look-n.result.2.about ≡ Seat a n ∷ [] = got.1 in
+    let all : count (suc a) (list_of log) ≡ n = looked_mine v log c.look-n.result.2.answer a n c.look-n.result.2.about c.look-n.ensures.seen got.2 about p.mine up.2 in
+    let nm = up.0 ∙ ap author_of about in let us = up.1 ∙ ap used_of about in
+    let same = (look_places (suc a) n (list_of v) (list_of log) (list_prefix v log c.look-n.ensures.seen) p.mine (omega (arith, all))).1 in rw (p.is, c.of.ensures, nm) same
+
+pub returns-then-place-n-clause-item : goal.returns-then-place-n-clause-item
+returns-then-place-n-clause-item g c =
+    let v = c.parts-seen.result.0.log in let log = c.look-n.result.1.log in let a = c.parts-seen.result.1.name in let n = c.parts-seen.result.1.used in let p = c.parts-seen.ensures in let got = c.look-n.ensures.gained in let up = c.looked-author.ensures in
+    let about : c.look-n.result.2.about ≡ Seat a n ∷ [] = got.1 in
+    let all : count (suc a) (list_of log) ≡ n = looked_mine v log c.look-n.result.2.answer a n c.look-n.result.2.about c.look-n.ensures.seen got.2 about p.mine up.2 in
+    let nm = up.0 ∙ ap author_of about in let us = up.1 ∙ ap used_of about in
+    let past = c.if-place-n.true in let len = c.look-n.ensures.length.0 in let il = items_length (list_of log) in rw (c.of.ensures) (sym (slice_get_past (items_of (list_of log)) c.args.place (omega (arith, past, len, il))))
+
+pub of-requires-2-clause-mine : goal.of-requires-2-clause-mine
+of-requires-2-clause-mine g c =
+    let v = c.parts-seen.result.0.log in let log = c.look-n.result.1.log in let a = c.parts-seen.result.1.name in let n = c.parts-seen.result.1.used in let p = c.parts-seen.ensures in let got = c.look-n.ensures.gained in let up = c.looked-author.ensures in
+    let about : c.look-n.result.2.about ≡ Seat a n ∷ [] = got.1 in
+    let all : count (suc a) (list_of log) ≡ n = looked_mine v log c.look-n.result.2.answer a n c.look-n.result.2.about c.look-n.ensures.seen got.2 about p.mine up.2 in
+    let nm = up.0 ∙ ap author_of about in let us = up.1 ∙ ap used_of about in
+    ap (λ z. count (suc z) (list_of log)) nm ∙ (all ∙ sym us)
+
+pub returns-clause-seen : goal.returns-clause-seen
+returns-clause-seen g c =
+    let v = c.parts-seen.result.0.log in let log = c.look-n.result.1.log in let a = c.parts-seen.result.1.name in let n = c.parts-seen.result.1.used in let p = c.parts-seen.ensures in let got = c.look-n.ensures.gained in let up = c.looked-author.ensures in
+    let about : c.look-n.result.2.about ≡ Seat a n ∷ [] = got.1 in
+    let all : count (suc a) (list_of log) ≡ n = looked_mine v log c.look-n.result.2.answer a n c.look-n.result.2.about c.look-n.ensures.seen got.2 about p.mine up.2 in
+    let nm = up.0 ∙ ap author_of about in let us = up.1 ∙ ap used_of about in
+    rw (p.is, c.of-2.ensures) (list_prefix v log c.look-n.ensures.seen)
+
+pub returns-clause-mine : goal.returns-clause-mine
+returns-clause-mine g c =
+    let v = c.parts-seen.result.0.log in let log = c.look-n.result.1.log in let a = c.parts-seen.result.1.name in let n = c.parts-seen.result.1.used in let p = c.parts-seen.ensures in let got = c.look-n.ensures.gained in let up = c.looked-author.ensures in
+    let about : c.look-n.result.2.about ≡ Seat a n ∷ [] = got.1 in
+    let all : count (suc a) (list_of log) ≡ n = looked_mine v log c.look-n.result.2.answer a n c.look-n.result.2.about c.look-n.ensures.seen got.2 about p.mine up.2 in
+    let nm = up.0 ∙ ap author_of about in let us = up.1 ∙ ap used_of about in
+    let same = (look_places (suc a) n (list_of v) (list_of log) (list_prefix v log c.look-n.ensures.seen) p.mine (omega (arith, all))).1 in rw (p.is, c.of-2.ensures, nm) same

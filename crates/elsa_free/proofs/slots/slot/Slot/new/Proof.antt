@@ -1,0 +1,93 @@
+use Rattle.std.proofs.Common.{◌≡◌, ℕ, zero, suc, ◌+◌, ◌*◌, ◌^◌, ◌<◌, ◌≤◌, List, [], ◌∷◌, ◌++◌, Bool, sym, refl, ap, ◌∙◌, subst, arith, lit<, w64, eqb→eq}
+use mir.Syntax.{a_type, dcons, dnil, named}
+use mir.Val.{Val, vunit, vint, vptr, vstruct, vcons, vnil}
+use mir.MapTy.{inst_fn}
+use base.Fraction.{full_share}
+use base.Logic.{SProp, ent, sep, wand, emp, via, id⊢, apply∗, all_e}
+use base.Fml.{Lft, Share, Fml, Incl-trans, ftrue, fsep, fex, flft, finv, fbor, fobs}
+use base.Before.{before}
+use prog.Wp.{WpFn}
+use types.Logic.{sem}
+use types.Kit.{any_q, post}
+use prog.Wp.{Wp, after_seq, after_block}
+use types.Kit.{Item, mean, ‵, raw, ◌⊛◌, some, given, later, at_ret, ◌$◌, ◌∵◌, !, qed, by, move, keep, drop, use0, use1, use2, use3, split, split3, join, group, fsplit, fsplit3, fjoin, fjoin3, fpick, fpack, pick, learn, check, show, frame, each, assume, suffices, await, updating, now, rewrite, settle, feq_i, feq_l, flt_i, flt_l, done}
+use types.Run.{stop, from, fld, load, addr, lit, unit_lit, of_opd, bin, no_more, and_then, first, blocks, branches, exec, calls, Calls-last, returns, enter, assigns, store_raw, look_raw}
+use types.ByLocal.{alloc_all, pass_all, free_all, look_at, look_in_at, get, get_in, through, sets, sets_last, lands_as, lands_last, is, env}
+use types.Part.{agg, sub, whole}
+use types.Match.{live}
+use contract.Running.{tables}
+use contract.Monad.{fact, fact_i}
+use contract.BorrowLft.{◌⊑◌, meet_⊑_left, meet_⊑_right}
+use contract.Shared.{Lends-one}
+use denote.Exit.{yes, no}
+use denote.RattleType.{RattleType, owns}
+use denote.Signature.{types_at, plain, named_lft}
+use denote.RawPtr.{block_ptr}
+use denote.Steps.{nothing, heard, peeks, opens, closes}
+use denote.Opens.{hide, unhide}
+use denote.Laws.{Is, shows}
+use denote.Memory.{lone, cell_at, shared_of}
+use denote.Param.{param, bounded, layouts, layout}
+use denote.Param.Laws.{param_laws}
+use denote.Builtin.{RefOf, u64}
+use denote.Ref.{ShrRef, shr_vals, shr_Tells}
+use denote.Triple.Walked.{Stays, stay_dropped, walk_of, Goes-dropped}
+use Rattle.atomic_table.proofs.Walks.{proved, proved_at, leaves}
+use Rattle.atomic_table.proofs.Calls.{fm, seq_cst, found, stored, loads, stores, exchanges}
+use Rattle.core.proofs.atomic.Steps.{tail}
+use Rattle.std.specs.declared.option.Option.TheVariants.{None, Some}
+use Rattle.std.specs.contracts.option.Option.{the_row as OptionOf}
+use Rattle.core.proofs.option.Made.{Some-of, none_of}
+use Rattle.core.proofs.option.Option.TheLaws.{the_row_laws as option_laws}
+use denote.RattleType.{Valss}
+use denote.Shadow.{makes_shadow}
+use denote.Struct.Struct.{within}
+use denote.Struct.Declared.{shape, fields}
+use denote.Laws.{Typed}
+use base.Stored.{gnil, gnum}
+use base.Fml.{feq}
+use mir.Val.{of_list}
+use types.Tokens.{name_new}
+use Rattle.core.proofs.cell.Inside.{Good, one}
+use Rattle.elsa_free.specs.Slot.{Rest, Turn, at, kept, Cell, written, blank, tie, lent, Value, resting, free}
+use Rattle.elsa_free.specs.contracts.slots.slot.Slot.{the_row}
+use Rattle.elsa_free.specs.contracts.slots.slot.Slot.TheInside as Inside
+use Rattle.elsa_free.proofs.slots.slot.Slot.TheInside.TheLaws.{the_row_laws as inside_laws}
+use Rattle.elsa_free.specs.contracts.slots.rights.Written as Written
+use Rattle.elsa_free.specs.contracts.slots.rights.Blank as Blank
+use Rattle.elsa_free.proofs.SlotTurns as steps
+use Rattle.elsa_free.proofs.SlotTokens.{token_val, written_made, blank_told, blank_made}
+use Rattle.elsa_free.specs.contracts.slots.slot.Slot.new.{ended, clauses}
+use Rattle.elsa_free.specs.contracts.slots.slot.Slot.new.Key.{name as #self}
+use Rattle.elsa_free.proofs.slots.slot.Slot.new.Statement.{statement}
+use Rattle.elsa_free.proofs.slots.slot.Slot.new.Code as code
+
+pub new_spec : {M : Type 1} → statement M
+new_spec 𝓤 𝓛 𝓜 𝓡 wired T L =
+    let H = 𝓛.H in let A = 𝓛.A in let 𝓣 = tables 𝓤 H 𝓜 𝓡 𝓡.env in let R : RattleType = param 0 T in let O : RattleType = OptionOf R in let LO = option_laws R (param_laws 0 T L) in let En = ended T in
+    let inst = layouts (a_type ∷ []) (T, tt) in let fn = inst_fn inst code.function in let c = clauses T 𝓛 𝓜.mem 𝓡.returns in
+    let hs : Stays En.signature.params En.kept = tt in
+    proved 𝓛 En hs c 𝓜 𝓡 tt (#self inst) fn (code.unfolded 𝓤 H 𝓜 𝓡 wired (T, tt))
+    (λ κs. tt) (λ κs. tt) (λ κs qs bounds a gh are.
+    let y : (walk_of 𝓛 En hs c).Ghost = ((κs, qs, bounds, a, tt), gh) in let Post : Val → SProp 𝓤 = (walk_of 𝓛 En hs c).post y in
+    let S : RattleType = Inside.the_row R in let none : Val = live 0 vnil in let v : Val = vstruct (vcons none vnil) in
+    let at : Rest T.Denot → S.Denot = λ s. record { value = s.0 } in let s₀ : Rest T.Denot = (None, free) in
+    qed 𝓛 ((raw (denote.Triple.Entry.alive 𝓛 En.signature κs qs) ⊛ ‵ (owns (types_at En.signature.params κs) a y.0.4)) ∷ raw ((c κs a).requires gh) ∷ []) ∵ split ! $ keep ! (0 ∷ []) $
+    enter ! 𝓣.C 𝓣.Λ fn ([]) Post $ alloc_all ! (λ l. pass_all ! refl tt $ name_new ! tt gnil (λ γ. move ! (1 ∷ []) $
+    nothing ! $ fpack ! (Unit {0}) (λ _. ftrue) tt $ move ! (1 ∷ 0 ∷ []) $ fjoin ! $
+    nothing ! $ use0 𝓛 (‵ (O.own_val None (none ∷ []))) (none_of 𝓛 R) $ peeks ! O (Is O) (shows 𝓛 O) None (none ∷ []) (λ is-none. fjoin ! $
+    feq_i ! (List Val) (v ∷ []) (v ∷ []) refl $ fjoin ! $
+    fpack ! (Valss (fields (Inside.the_type R))) (within (shape (Inside.the_type R)) ((Inside.the_type R).to (at s₀)) (v ∷ [])) (none ∷ [], tt) $ use1 𝓛 (‵ (S.own_val (at s₀) (v ∷ []))) (id⊢ 𝓤 _) $
+    peeks ! S (Is S) (shows 𝓛 S) (at s₀) (v ∷ []) (λ is-s. let good = (((inside_laws R (param_laws 0 T L)).lawful 𝓛).typed (at s₀) (v ∷ []) is-s) in fjoin ! $
+    fpack ! (Rest T.Denot) (λ s. fsep (S.own_val (at s) (v ∷ [])) (resting R γ s)) s₀ $ let fits : Type 0 = denote.Laws.Typed (the_row R).mir (v ∷ []) in
+    use0 𝓛 (‵ (fex fits (λ _. ftrue))) (fact_i 𝓤 fits (emp 𝓤) good) $ fjoin ! $
+    -- [the slot; its right; the tokens]
+    move ! (1 ∷ []) $ use1 𝓛 (‵ (Blank.the_row.own_val (record { marker = record {}; of = γ }) (token_val ∷ []))) (blank_made 𝓛 γ) $
+    sets ! (agg ! (and_then ! (lit ! tt) (no_more !))) refl ((LO.lawful 𝓛).typed None (none ∷ []) is-none).0 $ sets ! (agg ! (and_then ! (get ! refl) (no_more !))) refl good.0 $
+    sets ! (agg ! (no_more !)) refl (tt, tt) $ sets ! (agg ! (and_then ! (get ! refl) (no_more !))) refl (tt, (tt, tt)) $
+    sets ! (agg ! (and_then ! (get ! refl) (and_then ! (get ! refl) (no_more !)))) refl (tt, (good.0.1, ((tt, tt), tt))) $
+    let u : Val = vstruct (vcons v (vcons token_val vnil)) in let Rs : List RattleType = the_row R ∷ Blank.the_row ∷ [] in let p : Blank.the_row.Denot = record { marker = record {}; of = γ } in
+    nothing ! $ move ! (1 ∷ 0 ∷ []) $ fjoin ! $ move ! (1 ∷ 0 ∷ []) $ fjoin ! $
+    feq_i ! (List Val) (u ∷ []) (u ∷ []) refl $ fjoin ! $ fpack ! (Valss Rs) (λ vss. fsep (feq (List Val) (u ∷ []) (vstruct (of_list (vss.0 ++ (vss.1.0 ++ []))) ∷ [])) (owns Rs (γ, (p, tt)) vss)) (v ∷ [], (token_val ∷ [], tt)) $
+    use0 𝓛 (raw (fact 𝓤 (γ ≡ γ))) (fact_i 𝓤 (γ ≡ γ) (emp 𝓤) refl) $ nothing ! $
+    returns ! (look_at ! 0 refl) $ free_all ! refl $ keep ! (3 ∷ 0 ∷ 2 ∷ 1 ∷ []) $ by ! (leaves 𝓛 En hs c y u (γ, p) tt tt))))))

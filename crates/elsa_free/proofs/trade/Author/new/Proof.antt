@@ -1,0 +1,59 @@
+use Rattle.std.proofs.Common.{◌≡◌, ℕ, suc, ◌+◌, ◌*◌, ◌^◌, ◌<◌, ◌≤◌, Bool, true, false, List, [], ◌∷◌, ◌++◌, length, drop as drops, slice_index_or, sym, refl, ap, ◌∙◌, subst, arith, lit<, w64, None}
+use mir.Syntax.{a_type, dcons, dnil, named}
+use mir.Val.{Val, vunit, vint, vptr, vstruct, vcons, vnil, of_list}
+use mir.MapTy.{inst_fn}
+use base.Fraction.{full_share}
+use base.Share.{three_quarters}
+use base.Growing.{latest}
+use base.Logic.{SProp, ent, wand, emp, id⊢, via, apply∗}
+use base.Fml.{Lft, Share, Fml, ftrue, fsep, fex, feq, flft, fhide}
+use types.Logic.{sem}
+use types.Growing.{latest_new}
+use types.Keyed.{tickets_from, entries_new, token as ticket_algebra}
+use types.Owned.{basic}
+use types.Kit.{‵, raw, ◌⊛◌, some, given, later, mean, at_ret, ◌$◌, ◌∵◌, !, qed, by, move, keep, drop, split, join, group, fsplit, fsplit3, fjoin, fjoin3, fpick, fpack, pick, learn, use0, use1, use2, use3, await, rewrite, feq_i, flt_i}
+use types.Run.{stop, fld, addr, lit, unit_lit, of_opd, no_more, and_then, first, blocks, exec, Calls-last, returns, enter}
+use types.ByLocal.{alloc_all, pass_all, free_all, look_at, get, get_in, through, sets, lands_last, env}
+use types.Part.{agg, sub, whole}
+use contract.Monad.{fact, fact_i}
+use contract.Running.{tables}
+use denote.Exit.{yes, no}
+use denote.RattleType.{RattleType, owns, Valss}
+use denote.Signature.{types_at, plain}
+use denote.Builtin.{RefOf, u64, usize, unit}
+use denote.Ref.{mut_vals, mut_Tells, shr_vals, shr_Tells}
+use denote.Plain.{uint_vals, uint_Tells}
+use denote.Steps.{nothing}
+use denote.Param.{param, bounded}
+use denote.Struct.Tuple.{Tuple}
+use denote.Triple.Walked.{Stays, stay_dropped, walk_of, Goes-dropped}
+use Rattle.std_collections.specs.contracts.linked_list.LinkedList as LinkedList
+use Rattle.std.specs.contracts.alloc.Global as Global
+use Rattle.std.specs.contracts.impls.GlobalAllocator.TheImpl as galloc
+use Rattle.logbook.specs.Kept.{offer_owns}
+use Rattle.logbook.specs.contracts.tokens.Start as Start
+use Rattle.logbook.specs.contracts.tokens.Seen as Seen
+use Rattle.logbook.specs.contracts.tokens.Offer as Offer
+use Rattle.logbook.specs.contracts.tokens.Gained as Gained
+use Rattle.logbook.proofs.Fields.{token, Token, token_told, token_made, ends}
+use Rattle.atomic_table.proofs.Walks.{proved}
+use Rattle.elsa_free.specs.contracts.trade.Author.new.{ended, clauses}
+use Rattle.elsa_free.specs.contracts.trade.Author.new.Key.{name as #self}
+use Rattle.elsa_free.proofs.trade.Author.new.Statement.{statement}
+use Rattle.elsa_free.proofs.trade.Author.new.Code as code
+
+use Rattle.atomic_table.proofs.Walks.{leaves}
+
+pub new_spec : {M : Type 1} → statement M
+new_spec 𝓤 𝓛 𝓜 𝓡 wired =
+    let H = 𝓛.H in let 𝓣 = tables 𝓤 H 𝓜 𝓡 𝓡.env in let fn = code.function in let c = clauses 𝓛 𝓜.mem 𝓡.returns in let En = ended in
+    let hs : Stays En.signature.params En.kept = tt in
+    proved 𝓛 En hs c 𝓜 𝓡 tt #self fn (code.unfolded 𝓤 H 𝓜 𝓡 wired)
+    (λ κs. tt) (λ κs. tt) (λ κs qs bounds a gh are.
+    let y : (walk_of 𝓛 En hs c).Ghost = ((κs, qs, bounds, a, tt), gh) in let Post : Val → SProp 𝓤 = (walk_of 𝓛 En hs c).post y in
+    qed 𝓛 ((raw (denote.Triple.Entry.alive 𝓛 En.signature κs qs) ⊛ ‵ (owns (types_at En.signature.params κs) a y.0.4)) ∷ raw ((c κs a).requires gh) ∷ []) ∵ split ! $ keep ! (0 ∷ []) $
+    enter ! 𝓣.C 𝓣.Λ fn ([]) Post $ alloc_all ! (λ l. pass_all ! refl tt $
+    use0 𝓛 (later (some (λ (γ : ℕ). ‵ (tickets_from γ 0)))) (via 𝓤 _ (entries_new ticket_algebra 𝓛 0 (λ _. tt)) (basic 𝓛 _)) $ await ! tt $ pick ! (λ γ.
+    use0 𝓛 (‵ ((Token (unit)).own_val (record {}, tt) (token ∷ []))) (token_made (unit) 𝓛) $ fjoin ! $ sets ! (agg ! (no_more !)) refl (tt, tt) $ sets ! (agg ! (and_then ! (get ! refl) (no_more !))) refl (tt, (tt, tt)) $
+    nothing ! $
+    returns ! (look_at ! 0 refl) $ free_all ! refl $ keep ! (2 ∷ 0 ∷ 1 ∷ []) $ by ! (ends 𝓛 En hs c y (token) (record { marker = record {}; name = γ; used = 0 }) tt tt (fact_i 𝓤 _ (emp 𝓤) (refl))))))

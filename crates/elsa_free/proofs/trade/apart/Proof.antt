@@ -1,0 +1,88 @@
+use Rattle.std.proofs.Common.{◌≡◌, ℕ, suc, ◌+◌, ◌*◌, ◌^◌, ◌<◌, ◌≤◌, Bool, true, false, List, [], ◌∷◌, ◌++◌, length, drop as drops, slice_index_or, sym, refl, ap, ◌∙◌, subst, arith, lit<, w64, None}
+use mir.Syntax.{a_type, dcons, dnil, named}
+use mir.Val.{Val, vunit, vint, vptr, vstruct, vcons, vnil, of_list}
+use mir.MapTy.{inst_fn}
+use base.Fraction.{full_share}
+use base.Share.{three_quarters}
+use base.Growing.{latest}
+use base.Logic.{SProp, ent, wand, emp, id⊢, via, apply∗}
+use base.Fml.{Lft, Share, Fml, ftrue, fsep, fex, feq, flft, fhide}
+use types.Logic.{sem}
+use types.Growing.{latest_new}
+use types.Keyed.{tickets_from, entries_new, token as ticket_algebra}
+use types.Owned.{basic}
+use types.Kit.{‵, raw, ◌⊛◌, some, given, later, mean, at_ret, ◌$◌, ◌∵◌, !, qed, by, move, keep, drop, split, join, group, fsplit, fsplit3, fjoin, fjoin3, fpick, fpack, pick, learn, use0, use1, use2, use3, await, rewrite, feq_i, flt_i}
+use types.Run.{stop, fld, addr, lit, unit_lit, of_opd, no_more, and_then, first, blocks, exec, Calls-last, returns, enter}
+use types.ByLocal.{alloc_all, pass_all, free_all, look_at, get, get_in, through, sets, lands_last, env}
+use types.Part.{agg, sub, whole}
+use contract.Monad.{fact, fact_i}
+use contract.Running.{tables}
+use denote.Exit.{yes, no}
+use denote.RattleType.{RattleType, owns, Valss}
+use denote.Signature.{types_at, plain}
+use denote.Builtin.{RefOf, u64, usize, unit}
+use denote.Ref.{mut_vals, mut_Tells, shr_vals, shr_Tells}
+use denote.Plain.{uint_vals, uint_Tells}
+use denote.Steps.{nothing}
+use denote.Param.{param, bounded}
+use denote.Struct.Tuple.{Tuple}
+use denote.Triple.Walked.{Stays, stay_dropped, walk_of, Goes-dropped}
+use Rattle.std_collections.specs.contracts.linked_list.LinkedList as LinkedList
+use Rattle.std.specs.contracts.alloc.Global as Global
+use Rattle.std.specs.contracts.impls.GlobalAllocator.TheImpl as galloc
+use Rattle.logbook.specs.Kept.{offer_owns}
+use Rattle.logbook.specs.contracts.tokens.Start as Start
+use Rattle.logbook.specs.contracts.tokens.Seen as Seen
+use Rattle.logbook.specs.contracts.tokens.Offer as Offer
+use Rattle.logbook.specs.contracts.tokens.Gained as Gained
+use Rattle.logbook.proofs.Fields.{token, Token, token_told, token_made, ends}
+use Rattle.atomic_table.proofs.Walks.{proved}
+use Rattle.elsa_free.specs.Slot.{written, blanks}
+use Rattle.elsa_free.specs.contracts.slots.rights.Blanks as Blanks
+use Rattle.elsa_free.specs.contracts.slots.rights.Written as Written
+use Rattle.elsa_free.specs.Geometry.{IsAt}
+use Rattle.elsa_free.specs.declared.event.Event.{Event as Ev}
+use Rattle.elsa_free.specs.declared.event.Event.TheVariants.{Took, Put, Copied, Gave, Seat}
+use Rattle.elsa_free.specs.SharedList.{copied, count, entry, items_of}
+use Rattle.elsa_free.specs.History.{list_of, kinds, author_of, used_of, others}
+use Rattle.elsa_free.specs.contracts.event.Event as Event
+use Rattle.elsa_free.specs.contracts.rule.OneWord as OneWord
+use Rattle.elsa_free.specs.contracts.rule.Takes as Takes
+use Rattle.elsa_free.specs.contracts.rule.Looks as Looks
+use Rattle.elsa_free.specs.contracts.rule.Gives as Gives
+use Rattle.elsa_free.specs.contracts.rule.Puts as Puts
+use Rattle.elsa_free.specs.contracts.trade.Held as Held
+use Rattle.elsa_free.specs.contracts.trade.Author as Author
+use Rattle.elsa_free.specs.contracts.trade.Filled as Filled
+use Rattle.elsa_free.specs.contracts.rule.OneWordRuleEventLog.TheImpl as rule
+use Rattle.elsa_free.specs.contracts.rule.TakesGainEventLog.TheImpl as takes
+use Rattle.elsa_free.specs.contracts.rule.LooksGainEventLog.TheImpl as looks
+use Rattle.elsa_free.specs.contracts.rule.GivesGainEventLog.TheImpl as gives
+use Rattle.elsa_free.specs.contracts.rule.PutsGainEventLog.TheImpl as puts
+use Rattle.elsa_free.specs.Rights.{logs, head, tops_of, author, position, right, Moved, kept, took, looked, gave, wrote, rights, told, all_told}
+use Rattle.elsa_free.specs.Rights.{fact as said}
+use Rattle.elsa_free.proofs.Trades as trades
+use Rattle.elsa_free.proofs.Tickets.{two_names}
+use Rattle.std.specs.Prelude.{◌≢◌}
+use Rattle.elsa_free.specs.contracts.trade.apart.{ended, clauses}
+use Rattle.elsa_free.specs.contracts.trade.apart.Key.{name as #self}
+use Rattle.elsa_free.proofs.trade.apart.Statement.{statement}
+use Rattle.elsa_free.proofs.trade.apart.Code as code
+
+pub apart_spec : {M : Type 1} → statement M
+apart_spec 𝓤 𝓛 𝓜 𝓡 wired =
+    let H = 𝓛.H in let 𝓣 = tables 𝓤 H 𝓜 𝓡 𝓡.env in let fn = code.function in let c = clauses 𝓛 𝓜.mem 𝓡.returns in let En = ended in
+    let hs : Stays En.signature.params En.kept = (stay_dropped (plain (λ _. Author.the_row)) yes, (stay_dropped (plain (λ _. Author.the_row)) yes, tt)) in
+    proved 𝓛 En hs c 𝓜 𝓡 (Goes-dropped 𝓛 0 (plain (λ _. Author.the_row)) yes (λ κs x f. refl), (Goes-dropped 𝓛 0 (plain (λ _. Author.the_row)) yes (λ κs x f. refl), tt)) #self fn (code.unfolded 𝓤 H 𝓜 𝓡 wired)
+    (λ κs. ((λ x. token ∷ []), ((λ x. token ∷ []), tt))) (λ κs. ((λ x vs is. token_told (unit) vs is.0), ((λ x vs is. token_told (unit) vs is.0), tt))) (λ κs qs bounds a gh are.
+    let y : (walk_of 𝓛 En hs c).Ghost = ((κs, qs, bounds, a, (token ∷ [], (token ∷ [], tt))), gh) in let Post : Val → SProp 𝓤 = (walk_of 𝓛 En hs c).post y in
+    let one = a.0 in let other = a.1.0 in
+    qed 𝓛 ((raw (denote.Triple.Entry.alive 𝓛 En.signature κs qs) ⊛ ‵ (owns (types_at En.signature.params κs) a y.0.4)) ∷ raw ((c κs a).requires gh) ∷ []) ∵ keep ! (0 ∷ []) $ split ! $
+    move ! (1 ∷ []) $ fsplit ! $ fsplit ! $ move ! (2 ∷ []) $ fsplit ! $ fsplit ! $ keep ! (4 ∷ 1 ∷ 5 ∷ []) $
+    use2 𝓛 (given (one.name ≢ other.name) (‵ (tickets_from one.name one.used) ⊛ ‵ (tickets_from other.name other.used))) (two_names 𝓛 one.name other.name one.used other.used) $ learn ! (λ differ. split ! $
+    enter ! 𝓣.C 𝓣.Λ fn (token ∷ token ∷ []) Post $ alloc_all ! (λ l. pass_all ! refl ((tt, (tt, tt)), ((tt, (tt, tt)), tt)) $ let Env = env fn.locals l in
+    use0 𝓛 (‵ ((Token (unit)).own_val (record {}, tt) (token ∷ []))) (token_made (unit) 𝓛) $ fjoin ! $ move ! (1 ∷ []) $ use0 𝓛 (‵ ((Token (unit)).own_val (record {}, tt) (token ∷ []))) (token_made (unit) 𝓛) $ fjoin ! $ move ! (1 ∷ 0 ∷ []) $
+    sets ! (agg ! (no_more !)) refl (tt, tt) $ sets ! (agg ! (and_then ! (get ! refl) (no_more !))) refl (tt, (tt, tt)) $ sets ! (agg ! (no_more !)) refl (tt, tt) $ sets ! (agg ! (and_then ! (get ! refl) (no_more !))) refl (tt, (tt, tt)) $ sets ! (agg ! (and_then ! (get ! refl) (and_then ! (get ! refl) (no_more !)))) refl (tt, ((tt, tt), ((tt, tt), tt))) $
+    nothing ! $ move ! (2 ∷ 0 ∷ []) $ fjoin ! $ move ! (1 ∷ 0 ∷ []) $ fjoin ! $ let v : Val = vstruct (vcons token (vcons token (vnil))) in let Rs : List RattleType = Author.the_row ∷ Author.the_row ∷ [] in feq_i ! (List Val) (v ∷ []) (v ∷ []) refl $ fjoin ! $ fpack ! (Valss Rs) (λ vss. fsep (feq (List Val) (v ∷ []) (vstruct (of_list (vss.0 ++ (vss.1.0 ++ []))) ∷ [])) (owns Rs (one, (other, tt)) vss)) (token ∷ [], (token ∷ [], tt)) $
+    nothing ! $ nothing ! $ fjoin ! $ nothing ! $ fjoin ! $ 
+    returns ! (look_at ! 0 refl) $ free_all ! refl $ keep ! (2 ∷ 0 ∷ 1 ∷ []) $ by ! (ends 𝓛 En hs c y (v) ((one, other)) (tt, (tt, tt)) (tt, (tt, tt)) (fact_i 𝓤 _ (emp 𝓤) ((refl, refl, refl, refl, differ)))))))

@@ -1,0 +1,72 @@
+-- The list that all threads of a vector share: entries of an author and an item, which only grows at its end.
+-- A pass has seen a beginning of it. There is no buffer, no lock, no pointer and no word of memory in it.
+use Rattle.std.specs.Prelude.{ℕ, suc, ◌≡◌, ◌+◌, ◌<◌, ◌≤◌, ◌==◌, Bool, true, false, List, [], ◌∷◌, ◌++◌, length, map, if◌then◌else◌, Contains, nat_le}
+use mathlib.Core.List.{IsPrefix}
+use Rattle.logbook.specs.Pages.{Book}
+use Rattle.elsa_free.specs.Geometry.{slots_before}
+use Rattle.elsa_free.specs.declared.event.Entry.{Entry}
+
+-- which vector a pass is of
+abbrev pub Vector : Type 0
+Vector = Book × List ℕ
+
+abbrev pub bit : Bool → ℕ
+bit true = 1
+bit false = 0
+
+module _ {T : Type 0} where
+  abbrev pub item_of : Entry T → T
+  item_of e = e.item
+
+  -- the items of a list, without their authors
+  abbrev pub items_of : List (Entry T) → List T
+  items_of es = map item_of es
+
+  abbrev pub entry : ℕ → T → Entry T
+  entry author item = record { author = author; item = item }
+
+  -- items that have no author, as those of a clone: the number of an author is above 0
+  abbrev pub copied : List T → List (Entry T)
+  copied [] = []
+  copied (x ∷ xs) = entry 0 x ∷ copied xs
+
+  -- the places of an author's entries in a list that begins at place `first`, rising
+  abbrev pub places_from : ℕ → ℕ → List (Entry T) → List ℕ
+  places_from author first [] = []
+  places_from author first (e ∷ es) = (if e.author == author then first ∷ [] else []) ++ places_from author (suc first) es
+
+  -- how many entries are of this author
+  abbrev pub count : ℕ → List (Entry T) → ℕ
+  count author [] = 0
+  count author (e ∷ es) = bit (e.author == author) + count author es
+
+  -- the list was longer by some entries or none, and then the one given was put at this place, its end
+  abbrev pub Appends : List (Entry T) → List (Entry T) → ℕ → Entry T → Type 0
+  Appends old new place e = (before : List (Entry T)) × IsPrefix old before × (length before ≡ place) × (new ≡ before ++ e ∷ [])
+
+-- what a pass is: the vector, the number of the author that it pushes as, and the beginning of the list that it has seen
+pub record View (T : Type 0) : Type 0 where
+  pub vector : Vector
+  pub author : ℕ
+  pub seen : List (Entry T)
+
+module _ {T : Type 0} where
+  -- the places of what the pass has seen at which it pushed
+  abbrev pub mine : View T → List ℕ
+  mine pass = places_from pass.author 0 pass.seen
+
+  -- the same pass, later
+  abbrev pub IsSamePass : View T → View T → Type 0
+  IsSamePass before after = (after.vector ≡ before.vector) × (after.author ≡ before.author)
+
+  -- the longer of two lists, the first where they are as long
+  abbrev pub longer : List (Entry T) → List (Entry T) → List (Entry T)
+  longer xs ys = if nat_le (length ys) (length xs) then xs else ys
+
+-- the lists have no number in common
+abbrev pub Apart : List ℕ → List ℕ → Type 0
+Apart xs ys = (n : ℕ) → Contains xs n → Contains ys n → ⊥
+
+-- at this length the list goes on in a new buffer, or can't go on
+abbrev pub BeginsABuffer : ℕ → Type 0
+BeginsABuffer place = (buffer : ℕ) × (buffer ≤ 31) × (place ≡ slots_before buffer)

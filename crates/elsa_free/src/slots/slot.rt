@@ -1,0 +1,88 @@
+// A slot has no word of its own: who may write it holds its `Blank`, and who may read it a `Written`.
+ghost use Rattle.std.specs.Prelude.{◌≡◌, ℕ, Some};
+ghost use base.Fml.{fsep, fex};
+ghost use base.Stored.{coded_ℕ};
+ghost use denote.Sharing.{said};
+ghost use Rattle.elsa_free.specs.Slot.{Rest, resting, shared, written, blank};
+
+use super::rights::{Blank, Written};
+use std::marker::{Move, Owns, PhantomData};
+
+/// A clause sees the name that tells it from other slots.
+pub struct Slot<T> {
+    value: Option<T>,
+}
+
+impl<T> Owns for Slot<T> {
+    ghost Value = { ℕ };
+
+    ghost coded = { coded_ℕ };
+
+    ghost shr_at = { λ γ p κ. shared T.row γ p κ };
+}
+
+impl<T> Move for Slot<T> {
+    ghost own_val = { λ γ vs. fex (Rest T.row.Denot) (λ s. fsep (Fields.own_val (record { value = s.0 }) vs) (resting T.row γ s)) };
+}
+
+impl<T> Slot<T> {
+    pub fn new() -> (Slot<T>, Blank)
+        ensures { result.1.of ≡ result.0 }
+    {
+        (
+            Slot { value: None },
+            Blank {
+                marker: PhantomData,
+            },
+        )
+    }
+
+    /// Spends the right to write it.
+    pub fn write(&self, value: T, right: Blank) -> Written<T>
+        requires { right.of ≡ self.now }
+        ensures { (result.of ≡ self.now) × (result.value ≡ value) }
+    {
+        let Blank { marker: _ } = right;
+        let slot = self as *const Slot<T>;
+        unsafe {
+            std::ptr::write(&raw const (*slot).value as *mut Option<T>, Some(value));
+            Written {
+                marker: PhantomData,
+            }
+        }
+    }
+
+    fn whole<'a>(&'a self, written: &Written<T>) -> &'a Option<T>
+        requires { written.now.of ≡ self.now }
+        ensures { result.now ≡ Some written.now.value }
+    {
+        let slot = self as *const Slot<T>;
+        unsafe { &(*slot).value }
+    }
+
+    /// The value, for whoever shows that there is one.
+    pub fn value<'a>(&'a self, written: &Written<T>) -> &'a T
+        requires { written.now.of ≡ self.now }
+        ensures { result.now ≡ written.now.value }
+    {
+        match self.whole(written) {
+            Some(value) => value,
+            None => unreachable!(),
+        }
+    }
+
+    pub fn into_inner(self) -> Option<T> {
+        let Self { value } = self;
+        value
+    }
+}
+
+impl<T: Drop> Drop for Slot<T> {
+    fn drop(self) {
+        drop(self.into_inner());
+    }
+}
+
+unsafe impl<T: Send> Send for Slot<T> {}
+
+unsafe impl<T: Send + Sync> Sync for Slot<T> {}
