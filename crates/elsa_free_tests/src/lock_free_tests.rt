@@ -49,9 +49,9 @@ fn passes_that_meet(rt: HostRuntime) -> Result<(), Fail> {
     assert_eq!(rt; vector.push_as(&rt, &mut p, 10), Ok(0));
     assert_eq!(rt; vector.push_as(&rt, &mut q, 20), Ok(1));
     r.meet(&mut q);
-    for (place, want) in [(0, Some(10)), (1, Some(20)), (2, None)] {
-        assert_eq!(rt; vector.get_as(&mut r, place), want, "at {place}");
-    }
+    assert_eq!(rt; vector.get_as(&mut r, 0), Some(10));
+    assert_eq!(rt; vector.get_as(&mut r, 1), Some(20));
+    assert_eq!(rt; vector.get_as(&mut r, 2), None);
     assert_eq!(rt; vector.len_as(&mut r), 2);
     Ok(())
 }
