@@ -1,5 +1,5 @@
 use Rattle.std.proofs.Common.{◌≡◌}
 use Rattle.elsa_bench.proofs.vector.read.Given as goal
 
-abbrev pub invariant-loop-_turn : goal.invariant-loop-_turn
-invariant-loop-_turn g l = l.pass.vector ≡ l.vector
+abbrev pub invariant-loop-turn : goal.invariant-loop-turn
+invariant-loop-turn g l = l.pass.vector ≡ l.vector
