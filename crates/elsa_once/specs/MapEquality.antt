@@ -1,7 +1,6 @@
 -- Equality of maps as partial functions (`same_values` of FirstWins) is an equivalence, and is what std answers.
 -- The laws stand here because the impls of `PartialEq` and `Eq` cite them.
 use Rattle.std.proofs.Common.{◌≡◌, Bool, true, false, true≢false, cond, ◌&&◌, List, [], ◌∷◌, ◌++◌, Option, None, Some, refl, sym, ap, ◌∙◌, ◌⊎◌, inl, inr}
-use Rattle.std.specs.Bool.{Decides}
 use Rattle.std.specs.Cmp.{IsEquivalence, IsPartialEquivalence, IsTotalOrder, both_ways, equiv, eq_by_cmp_equiv, first_so, second_so}
 use Rattle.std.specs.Cmp.Lexicographic.{pointwise}
 use Rattle.std.specs.HashMap.{HashMap, hash_map_eq}

@@ -1,4 +1,4 @@
-use Rattle.std.proofs.Common.{◌≡◌, Ok, Some, false, sym, ap, ◌∙◌}
+use Rattle.std.proofs.Common.{◌≡◌, Some, false, sym, ap, ◌∙◌}
 use Rattle.std.specs.HashMap.Eq.{lookup_congr}
 use Rattle.elsa_once.specs.FirstWins.{value_at}
 use Rattle.elsa_once.proofs.map.laws.is_new_once.Goals as goal
