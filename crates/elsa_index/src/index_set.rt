@@ -191,8 +191,11 @@ impl<
 where
     <T as StableDeref<'a>>::Borrow: Eq + Hash,
 {
-    // Places a value whose target is absent and adds it last: one hash, for a caller that has looked.
-    pub(crate) fn insert_absent(&mut self, value: T) -> Result<(usize, T::Borrow), AllocError>
+    /// Adds a value that is absent last, and answers its place and its borrow: the call for one that has looked.
+    ///
+    /// The caller sees to it that no equal value is there, as `get_index_of` tells. The value is placed in the arena, by one
+    /// hash. `AllocError` leaves the set as it was; the arena may keep a copy that nobody sees.
+    pub fn insert_absent(&mut self, value: T) -> Result<(usize, T::Borrow), AllocError>
         requires absent { position (T.finds value) self.old ≡ None }
         ensures place { IfOk result (λ r. r.0 ≡ length self.old) }
         ensures placed { IfOk result (λ r. T.shown r.1 ≡ T.target value) }

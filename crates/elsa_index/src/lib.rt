@@ -1,21 +1,10 @@
-//! Collections that only grow and number their entries by first insertion, and what is built on them.
+//! Collections that only grow and number their entries by first insertion.
+//!
+//! [`index_map`] and [`index_set`] hold their pairs and values in that order, [`look_up`] finds a value by its target, and
+//! [`index_laws`] says what holds across calls. The layers above use their contracts alone.
 #![tactic(auto)]
 
-pub mod cache;
-pub mod devices;
-pub mod digits;
-pub mod engine;
 pub mod index_laws;
 pub mod index_map;
 pub mod index_set;
-pub mod interner;
 pub mod look_up;
-mod pending;
-pub mod plain_interner;
-mod reply;
-mod request;
-pub mod run;
-pub mod run_index;
-pub mod run_map;
-pub mod run_set;
-pub mod run_vec;

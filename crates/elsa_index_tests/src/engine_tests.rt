@@ -1,7 +1,9 @@
 //! The engine over slices and vectors, over devices that fail, and over a budget that refuses.
 use bumpalo::Bump;
-use elsa_index::interner::{Counted, EngineFault, Failed, Interner, Sink, Source, intern_engine};
-use elsa_index::plain_interner::PlainInterner;
+use elsa_interner::interner::{
+    Counted, EngineFault, Failed, Interner, Sink, Source, intern_engine,
+};
+use elsa_interner::plain_interner::PlainInterner;
 use std::alloc::{Allocator, Global};
 use std::test::Fail;
 

@@ -1,0 +1,7 @@
+pub mod Cached
+pub mod Devices
+pub mod Engine
+pub mod Feeding
+pub mod Lines
+pub mod Names
+pub mod Replies

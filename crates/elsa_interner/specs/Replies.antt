@@ -1,0 +1,24 @@
+-- What the engine's requests and replies stand for.
+use Rattle.std.specs.Prelude.{ℕ, List, codes}
+use Rattle.std.specs.Fmt.{decimal}
+use Rattle.elsa_interner.specs.declared.request.Request.{Request}
+use Rattle.elsa_interner.specs.declared.request.Request.TheVariants.{Put, Find, At, Len, Bad}
+use Rattle.elsa_interner.specs.declared.reply.Reply.{Reply}
+use Rattle.elsa_interner.specs.declared.reply.Reply.TheVariants.{Number, Name, Nothing, BadLine, NoMemory}
+use Rattle.elsa_interner.specs.Lines.{Command, put, find, at, len, bad}
+
+-- what a request asks
+abbrev pub asked : Request → Command
+asked (Put name) = put name.now
+asked (Find name) = find name.now
+asked (At n) = at n
+asked Len = len
+asked Bad = bad
+
+-- the text of a reply
+abbrev pub shown : Reply → List ℕ
+shown (Number n) = decimal n
+shown (Name name) = name.now
+shown Nothing = codes "none"
+shown BadLine = codes "bad line"
+shown NoMemory = codes "no memory"

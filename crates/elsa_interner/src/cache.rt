@@ -1,0 +1,153 @@
+//! Files that stay loaded: each path's text is loaded once, and what is made of it is kept.
+//!
+//! It stands on the contract of `FrozenMap` alone: the first value of a key stays.
+ghost use Rattle.std.specs.Prelude.{◌≡◌, [], List, ℕ, Bool, true, false, None, Some, IfOk, OnErr};
+ghost use Rattle.std.specs.Borrow.{Bor};
+ghost use Rattle.std.specs.Fn.{FnOnceReturnsAt};
+ghost use Rattle.std.specs.String.{string_bytes};
+ghost use Rattle.elsa_once.specs.FirstWins.{Adds, Keeps, value_at};
+ghost use Rattle.elsa_interner.specs.Cached.{Cached, first_character};
+
+use bumpalo::Bump;
+use elsa_once::map::FrozenMap;
+use elsa_once::stable::Own;
+use std::alloc::{Allocator, Global};
+use std::hash::{BuildHasherDefault, FoldHasher};
+use std::marker::Model;
+
+/// What is made of a text: its first character as a slice, or the empty text.
+#[derive(Clone, Copy, Debug)]
+pub struct Resource<'a> {
+    /// The first character, or the empty text.
+    pub first: &'a str,
+}
+
+impl<'a> Resource<'a> {
+    /// The resource of this text. Takes no memory.
+    pub fn new(text: &'a str) -> Self
+        ensures { result.first.now ≡ first_character text.entry.now }
+    {
+        let mut rest = text.chars();
+        let Some(character) = rest.next() else {
+            return Resource { first: text };
+        };
+        Resource {
+            first: &text[..character.len_utf8()],
+        }
+    }
+
+    /// The first character of the text that it was made of, or the empty text.
+    pub fn get(&self) -> &'a str
+        ensures { result ≡ self.now.first }
+    {
+        self.first
+    }
+}
+
+/// Why a path has no resource.
+#[derive(Clone, Copy, Debug, PartialEq, Eq)]
+pub enum LoadFault {
+    /// The loader's answer. Nothing changed.
+    NotFound,
+    /// Memory was refused. The resources are as they were; the texts are, or have this path's text.
+    Memory,
+}
+
+/// Texts and resources by path. The caller places the paths in the arena.
+pub struct ResourceCache<'a, A: Allocator + Copy = Global> {
+    texts: FrozenMap<'a, &'a str, String, BuildHasherDefault<FoldHasher>, A>,
+    resources: FrozenMap<'a, &'a str, Own<Resource<'a>>, BuildHasherDefault<FoldHasher>, A>,
+}
+
+impl<'a, A: Allocator + Copy> Model for ResourceCache<'a, A> {
+    ghost use Rattle.std.specs.Prelude.{List, ℕ};
+    ghost use Rattle.std.specs.Borrow.{Bor};
+    ghost use Rattle.elsa_interner.specs.Cached.{Cached};
+    ghost use Rattle.elsa_interner.specs.declared.cache.Resource.{Resource};
+
+    ghost Value = { Cached (Bor (List ℕ)) (Bor (List ℕ)) (Bor Resource) };
+
+    ghost view = { λ c. record { texts = c.texts; resources = c.resources } };
+}
+
+impl<'a, A: Allocator + Copy> Drop for ResourceCache<'a, A> {
+    fn drop(self) {
+        let ResourceCache {
+            texts: _texts,
+            resources: _resources,
+        } = self;
+    }
+}
+
+impl<'a, A: Allocator + Copy> ResourceCache<'a, A> {
+    /// A cache without paths, over `arena` for the texts and resources and `alloc` for the tables. Takes no memory.
+    pub fn new(alloc: A, arena: &'a Bump) -> Self
+        ensures texts { result.texts ≡ [] }
+        ensures resources { result.resources ≡ [] }
+    {
+        ResourceCache {
+            texts: FrozenMap::new(alloc, arena),
+            resources: FrozenMap::new(alloc, arena),
+        }
+    }
+
+    // The text of the path: the one that is there, or else the loader's, which is kept.
+    fn text_of<F: FnOnce(&str) -> Result<String, LoadFault>>(
+        &mut self,
+        path: &'a str,
+        load: F,
+    ) -> Result<&'a str, LoadFault>
+    where
+        F: Drop,
+        requires loader { value_at ⟦<&'a str as PartialEq>⟧.eq self.old.texts path ≡ None → F.IsAlwaysCallable load }
+        ensures there { (t : Bor (List ℕ)) → value_at ⟦<&'a str as PartialEq>⟧.eq self.old.texts path.entry ≡ Some t → (result ≡ Ok t) × (self.new ≡ self.old) }
+        ensures loaded { value_at ⟦<&'a str as PartialEq>⟧.eq self.old.texts path.entry ≡ None → IfOk result (λ t. (s : _) × FnOnceReturnsAt F.FnOnce load path.entry.now (Ok s) × (t.now ≡ string_bytes s)) }
+        ensures added { value_at ⟦<&'a str as PartialEq>⟧.eq self.old.texts path.entry ≡ None → IfOk result (λ t. Adds ⟦<&'a str as PartialEq>⟧.eq (value_at ⟦<&'a str as PartialEq>⟧.eq self.old.texts) (value_at ⟦<&'a str as PartialEq>⟧.eq self.new.texts) path.entry t) }
+        ensures resources { self.new.resources ≡ self.old.resources }
+        ensures others { (q : Bor (List ℕ)) → ⟦<&'a str as PartialEq>⟧.eq path.entry q ≡ false → value_at ⟦<&'a str as PartialEq>⟧.eq self.new.texts q ≡ value_at ⟦<&'a str as PartialEq>⟧.eq self.old.texts q }
+        ensures refused { OnErr result (self.new ≡ self.old) }
+        ensures not_found { result ≡ Err LoadFault.NotFound → FnOnceReturnsAt F.FnOnce load path.entry.now (Err LoadFault.NotFound) }
+    {
+        if let Some(text) = self.texts.get(&path) {
+            return Ok(text);
+        }
+        let loaded = load(path)?;
+        let Ok(text) = self.texts.insert(path, loaded) else {
+            return Err(LoadFault::Memory);
+        };
+        Ok(text)
+    }
+
+    /// The resource of the path.
+    ///
+    /// A path with a resource is answered by it, without the loader and without memory. One with a text and no resource
+    /// is answered by the resource of that text, without the loader. Else the loader is called once, at the path. What
+    /// was answered once is answered always.
+    pub fn get_resource<F: FnOnce(&str) -> Result<String, LoadFault>>(
+        &mut self,
+        path: &'a str,
+        load: F,
+    ) -> Result<&'a Resource<'a>, LoadFault>
+    where
+        F: Drop,
+        requires loader { value_at ⟦<&'a str as PartialEq>⟧.eq self.old.resources path ≡ None → value_at ⟦<&'a str as PartialEq>⟧.eq self.old.texts path ≡ None → F.IsAlwaysCallable load }
+        ensures present { (r : _) → value_at ⟦<&'a str as PartialEq>⟧.eq self.old.resources path.entry ≡ Some r → (result ≡ Ok r) × (self.new ≡ self.old) }
+        ensures parsed { (t : Bor (List ℕ)) → value_at ⟦<&'a str as PartialEq>⟧.eq self.old.resources path.entry ≡ None → value_at ⟦<&'a str as PartialEq>⟧.eq self.old.texts path.entry ≡ Some t → IfOk result (λ r. r.now.first.now ≡ first_character t.now) }
+        ensures loaded { value_at ⟦<&'a str as PartialEq>⟧.eq self.old.resources path.entry ≡ None → value_at ⟦<&'a str as PartialEq>⟧.eq self.old.texts path.entry ≡ None → IfOk result (λ r. (s : _) × FnOnceReturnsAt F.FnOnce load path.entry.now (Ok s) × (r.now.first.now ≡ first_character (string_bytes s))) }
+        ensures stays { IfOk result (λ r. value_at ⟦<&'a str as PartialEq>⟧.eq self.new.resources path.entry ≡ Some r) }
+        ensures text_stays { (t : Bor (List ℕ)) → value_at ⟦<&'a str as PartialEq>⟧.eq self.old.texts path.entry ≡ Some t → value_at ⟦<&'a str as PartialEq>⟧.eq self.new.texts path.entry ≡ Some t }
+        ensures other_texts { (q : Bor (List ℕ)) → ⟦<&'a str as PartialEq>⟧.eq path.entry q ≡ false → value_at ⟦<&'a str as PartialEq>⟧.eq self.new.texts q ≡ value_at ⟦<&'a str as PartialEq>⟧.eq self.old.texts q }
+        ensures other_resources { (q : Bor (List ℕ)) → ⟦<&'a str as PartialEq>⟧.eq path.entry q ≡ false → value_at ⟦<&'a str as PartialEq>⟧.eq self.new.resources q ≡ value_at ⟦<&'a str as PartialEq>⟧.eq self.old.resources q }
+        ensures not_found { result ≡ Err LoadFault.NotFound → (self.new ≡ self.old) × FnOnceReturnsAt F.FnOnce load path.entry.now (Err LoadFault.NotFound) }
+        ensures refused { OnErr result (self.new.resources ≡ self.old.resources) }
+    {
+        if let Some(resource) = self.resources.get(&path) {
+            return Ok(resource);
+        }
+        let text = self.text_of(path, load)?;
+        let Ok(resource) = self.resources.insert(path, Own(Resource::new(text))) else {
+            return Err(LoadFault::Memory);
+        };
+        Ok(resource)
+    }
+}

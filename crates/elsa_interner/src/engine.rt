@@ -1,0 +1,220 @@
+//! An answer line for each line of the input.
+ghost use Rattle.std.specs.Prelude.{◌≡◌, ◌<◌, ◌^◌, ◌-◌, [], ◌∷◌, ◌++◌, ℕ, List, false, true, length, OnOk, OnErr, MatchOption};
+ghost use Rattle.elsa_interner.specs.Devices.{FailedOnce, AppendsSome, Queued};
+ghost use Rattle.elsa_interner.specs.Engine.{HasAnswered, HasAnsweredAll, HasAnsweredSome};
+ghost use Rattle.elsa_interner.specs.Feeding.{IsInside, IsSoFar, IsFinished, Feeds, FeedsSome, Ends, EndsSome};
+ghost use Rattle.elsa_interner.specs.Replies.{shown};
+
+use crate::devices::{Failed, Sink, Source};
+use crate::interner::Interner;
+use crate::pending::Pending;
+use crate::reply::{Reply, answer_to, text_of};
+use crate::request::request_of;
+use bumpalo::Bump;
+use itoa::Buffer;
+use memchr::memchr;
+use std::alloc::Allocator;
+use std::hash::{BuildHasherDefault, FoldHasher};
+
+/// How many bytes are read at once.
+const PIECE: usize = 8192;
+
+/// Why the engine stopped before the input's end.
+#[derive(Clone, Copy, Debug, PartialEq, Eq)]
+pub enum EngineFault {
+    /// The reader failed in this call.
+    Read,
+    /// The writer failed in this call.
+    Write,
+    /// The reader gave bytes in 2^64 - 1 reads.
+    Endless,
+}
+
+/// A line up to its byte 10, and what follows.
+fn cut_line(piece: &[u8]) -> Option<(&[u8], &[u8])>
+    ensures { MatchOption result (IsInside piece.now) (λ p. IsInside p.0.now × (piece.now ≡ p.0.now ++ (10 ∷ p.1.now))) }
+{
+    let at = memchr(10, piece)?;
+    Some((&piece[..at], &piece[at + 1..]))
+}
+
+/// The names so far, and the line that has begun.
+#[derive(Drop)]
+struct Session<'a, A: Allocator + Copy> {
+    names: Interner<'a, BuildHasherDefault<FoldHasher>, A>,
+    // What was read of the line that has begun, unless it lies whole in the piece.
+    line: Vec<u8, A>,
+    // Whether memory for that line was refused; its rest is then skipped.
+    skips: bool,
+}
+
+impl<'a, A: Allocator + Copy> Session<'a, A> {
+    /// No names and no line.
+    fn new(alloc: A, arena: &'a Bump) -> Self
+        ensures names { result.names ≡ [] }
+        ensures line { result.line.items ≡ [] }
+        ensures skips { result.skips ≡ false }
+    {
+        Session {
+            names: Interner::new(alloc, arena),
+            line: Vec::new(alloc),
+            skips: false,
+        }
+    }
+
+    /// The answer to the line that has begun and ends so.
+    fn finish(&mut self, end: &[u8]) -> Reply<'a>
+        ensures finished { IsFinished self.old.names self.old.line.items self.old.skips end.now (shown result) self.new.names }
+        ensures line { self.new.line.items ≡ [] }
+        ensures skips { self.new.skips ≡ false }
+    {
+        if self.skips {
+            self.skips = false;
+            self.line.clear();
+            return Reply::NoMemory;
+        }
+        if self.line.is_empty() {
+            return answer_to(&mut self.names, request_of(end));
+        }
+        if self.line.extend_from_slice(end).is_err() {
+            self.line.clear();
+            return Reply::NoMemory;
+        }
+        let answer = answer_to(&mut self.names, request_of(self.line.as_slice()));
+        self.line.clear();
+        answer
+    }
+
+    /// Keeps a piece of a line that goes on.
+    fn keep(&mut self, piece: &[u8])
+        ensures line { (tail : List ℕ) → IsSoFar self.old.line.items self.old.skips tail → IsSoFar self.new.line.items self.new.skips (tail ++ piece.now) }
+        ensures names { self.new.names ≡ self.old.names }
+    {
+        if self.skips || piece.is_empty() {
+            return;
+        }
+        if self.line.extend_from_slice(piece).is_err() {
+            self.line.clear();
+            self.skips = true;
+        }
+    }
+
+    /// Whether a line has begun.
+    fn has_begun(&self) -> bool
+        ensures { (tail : List ℕ) → IsSoFar self.now.line.items self.now.skips tail → (result ≡ true → 0 < length tail) × (result ≡ false → tail ≡ []) }
+    {
+        self.skips || !self.line.is_empty()
+    }
+
+    /// Answers the lines that end in the piece.
+    fn feed<W: Sink>(
+        &mut self,
+        piece: &[u8],
+        out: &mut Pending,
+        writer: &mut W,
+    ) -> Result<(), Failed>
+        ensures ok { OnOk result (Feeds self.old.names self.old.line.items self.old.skips piece.now self.new.names self.new.line.items self.new.skips (W.held writer.old) out.old (W.held writer.new) out.new) }
+        ensures calm { OnOk result (W.failures writer.new ≡ W.failures writer.old) }
+        ensures err { OnErr result (FeedsSome self.old.names self.old.line.items self.old.skips piece.now (W.held writer.old) out.old (W.held writer.new)) }
+        ensures failed { OnErr result (FailedOnce (W.failures writer.old) (W.failures writer.new)) }
+    {
+        let mut digits = Buffer::new();
+        let mut rest = piece;
+        while let Some((end, later)) = cut_line(rest) {
+            let answer = self.finish(end);
+            out.push_line(writer, text_of(answer, &mut digits))?;
+            rest = later;
+        }
+        self.keep(rest);
+        Ok(())
+    }
+
+    /// Answers the lines that end in the piece, and writes the answers.
+    fn turn<W: Sink>(
+        &mut self,
+        piece: &[u8],
+        out: &mut Pending,
+        writer: &mut W,
+    ) -> Result<(), Failed>
+        requires { out.old ≡ [] }
+        ensures ok { OnOk result (Feeds self.old.names self.old.line.items self.old.skips piece.now self.new.names self.new.line.items self.new.skips (W.held writer.old) [] (W.held writer.new) []) }
+        ensures none { OnOk result (out.new ≡ []) }
+        ensures calm { OnOk result (W.failures writer.new ≡ W.failures writer.old) }
+        ensures err { OnErr result (FeedsSome self.old.names self.old.line.items self.old.skips piece.now (W.held writer.old) [] (W.held writer.new)) }
+        ensures failed { OnErr result (FailedOnce (W.failures writer.old) (W.failures writer.new)) }
+    {
+        self.feed(piece, out, writer)?;
+        out.flush(writer)
+    }
+
+    /// Answers the last line, which has no byte 10.
+    fn end<W: Sink>(&mut self, out: &mut Pending, writer: &mut W) -> Result<(), Failed>
+        requires { out.old ≡ [] }
+        ensures ok { OnOk result (Ends self.old.names self.old.line.items self.old.skips (W.held writer.old) (W.held writer.new)) }
+        ensures calm { OnOk result (W.failures writer.new ≡ W.failures writer.old) }
+        ensures err { OnErr result (EndsSome self.old.names self.old.line.items self.old.skips (W.held writer.old) (W.held writer.new)) }
+        ensures failed { OnErr result (FailedOnce (W.failures writer.old) (W.failures writer.new)) }
+    {
+        if !self.has_begun() {
+            return Ok(());
+        }
+        let answer = self.finish(&[]);
+        let mut digits = Buffer::new();
+        out.push_line(writer, text_of(answer, &mut digits))?;
+        out.flush(writer)
+    }
+}
+
+/// Answers each line of the input by one line, until the input ends or a device fails.
+///
+/// | Line | Answer |
+/// |---|---|
+/// | `put TEXT` | the number of TEXT, which is kept as a name if it is new |
+/// | `find TEXT` | the number of TEXT, or `none` |
+/// | `at N` | the name with the number N, or `none` |
+/// | `len` | how many names there are |
+/// | any other, or one that is no UTF-8 | `bad line` |
+///
+/// A line ends at byte 10, or at the input's end if it has a byte. TEXT is all that follows the one space,
+/// byte 13 included, and may be empty. N is one or more ASCII digits and at most 2^64 - 1. Where memory for a
+/// line or a name is refused, the answer is `no memory`, the line changes nothing and its rest is skipped.
+///
+/// Names are placed in `arena`; their table and a line longer than a read take memory of `alloc`, and nothing
+/// else takes any. Answers are written before the next read, so nobody waits for one that is known.
+///
+/// After `Read` and `Endless` the answers to all lines whose byte 10 was read are written, after `Write` a
+/// beginning of the answers so far.
+pub fn intern_engine<'a, A: Allocator + Copy, R: Source, W: Sink>(
+    alloc: A,
+    arena: &'a Bump,
+    reader: &mut R,
+    writer: &mut W,
+) -> Result<(), EngineFault>
+    ensures ok { OnOk result (HasAnsweredAll (R.left reader.old) (R.left reader.new) (W.held writer.old) (W.held writer.new)) }
+    ensures calm { OnOk result ((R.failures reader.new ≡ R.failures reader.old) × (W.failures writer.new ≡ W.failures writer.old)) }
+    ensures read { result ≡ Err EngineFault.Read → HasAnswered 0 (R.left reader.old) (R.left reader.new) (W.held writer.old) (W.held writer.new) }
+    ensures read_failed { result ≡ Err EngineFault.Read → FailedOnce (R.failures reader.old) (R.failures reader.new) × (W.failures writer.new ≡ W.failures writer.old) }
+    ensures write { result ≡ Err EngineFault.Write → HasAnsweredSome (R.left reader.old) (R.left reader.new) (W.held writer.old) (W.held writer.new) }
+    ensures write_failed { result ≡ Err EngineFault.Write → FailedOnce (W.failures writer.old) (W.failures writer.new) × (R.failures reader.new ≡ R.failures reader.old) }
+    ensures endless { result ≡ Err EngineFault.Endless → HasAnswered (2 ^ 64 - 1) (R.left reader.old) (R.left reader.new) (W.held writer.old) (W.held writer.new) }
+    ensures endless_calm { result ≡ Err EngineFault.Endless → (R.failures reader.new ≡ R.failures reader.old) × (W.failures writer.new ≡ W.failures writer.old) }
+{
+    let mut session = Session::new(alloc, arena);
+    let mut out = Pending::new();
+    let mut piece = [0u8; PIECE];
+    for _turn in 0..u64::MAX {
+        let Ok(n) = reader.read(&mut piece) else {
+            return Err(EngineFault::Read);
+        };
+        if n == 0 {
+            let Ok(()) = session.end(&mut out, writer) else {
+                return Err(EngineFault::Write);
+            };
+            return Ok(());
+        }
+        let Ok(()) = session.turn(&piece[..n], &mut out, writer) else {
+            return Err(EngineFault::Write);
+        };
+    }
+    Err(EngineFault::Endless)
+}

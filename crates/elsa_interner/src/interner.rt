@@ -1,0 +1,118 @@
+//! Names, numbered by their first `put`, and the engine that answers lines about them.
+//!
+//! [`Interner`] finds a name by its hash. [`intern_engine`] runs one over a reader's lines; it is generic over
+//! [`Source`] and [`Sink`], which [`Counted`] makes of any reader and writer of std.
+ghost use Rattle.std.specs.Prelude.{◌≡◌, [], length, None, slice_get, position, IfOk, OnErr};
+ghost use Rattle.std.specs.Option.{option_map};
+ghost use Rattle.std.specs.Str.{bytes_eq};
+ghost use Rattle.elsa_interner.specs.Names.{Puts, IsOneToOne};
+
+pub use crate::devices::{Counted, Failed, Sink, Source};
+pub use crate::engine::{EngineFault, intern_engine};
+use bumpalo::Bump;
+use elsa_index::index_set::FrozenIndexSet;
+use std::alloc::{AllocError, Allocator, Global};
+use std::hash::{BuildHasher, BuildHasherDefault, FoldHasher};
+use std::marker::Model;
+
+/// Names, each with a number: the first new name has 0, the next 1, and so on.
+///
+/// In contracts an interner is the list of its names, each as its bytes; a name's number is its place there.
+/// The names lie in the arena that the caller lends, so a borrow that [`Interner::at`] answers outlives the
+/// interner. `alloc` gives the table's memory.
+#[derive(Drop)]
+pub struct Interner<
+    'a,
+    S: BuildHasher = BuildHasherDefault<FoldHasher>,
+    A: Allocator + Copy = Global,
+> {
+    alloc: A,
+    names: FrozenIndexSet<'a, String<A>, S, A>,
+    count: usize,
+}
+
+impl<'a, S: BuildHasher, A: Allocator + Copy> Model for Interner<'a, S, A> {
+    ghost use Rattle.std.specs.Prelude.{List, ℕ, ◌≡◌, map, length};
+    ghost use Rattle.std.specs.List.{IsDistinct};
+    ghost use Rattle.std.specs.Str.{bytes_eq};
+
+    ghost Value = { List (List ℕ) };
+
+    ghost view = { λ s. map (λ b. b.now) s.names };
+
+    ghost invariant = { λ s. (s.count ≡ length s.names) × IsDistinct (λ a b. bytes_eq a.now b.now) s.names };
+}
+
+impl<'a, A: Allocator + Copy> Interner<'a, BuildHasherDefault<FoldHasher>, A> {
+    /// An interner with no names, hashed as std's maps are by default.
+    ///
+    /// Takes no memory. That hash has no secret: where strangers choose the names, take
+    /// [`Interner::with_hasher`] and a `RandomState`.
+    pub fn new(alloc: A, arena: &'a Bump) -> Self
+        ensures { result ≡ [] }
+    {
+        Interner::with_hasher(alloc, arena, BuildHasherDefault::new())
+    }
+}
+
+impl<'a, S: BuildHasher, A: Allocator + Copy> Interner<'a, S, A> {
+    /// An interner with no names, hashed by `hash_builder`. Takes no memory.
+    pub fn with_hasher(alloc: A, arena: &'a Bump, hash_builder: S) -> Self
+        ensures { result ≡ [] }
+    {
+        Interner {
+            alloc,
+            names: FrozenIndexSet::with_hasher(alloc, arena, hash_builder),
+            count: 0,
+        }
+    }
+
+    /// The number of a name, or `None` if `put` never kept it.
+    ///
+    /// Takes no memory. `O(1)` hashed.
+    #[tactic(auto, using(crate::proofs::Numbers::place_of_text))]
+    pub fn find(&self, text: &str) -> Option<usize>
+        ensures { result ≡ position (bytes_eq text.now) self.now }
+    {
+        self.names.get_index_of(&text)
+    }
+
+    /// The name with this number, or `None` if the number is at or above [`Interner::len`].
+    ///
+    /// The borrow lives as long as the arena's loan. Takes no memory. `O(1)`.
+    pub fn at(&self, number: usize) -> Option<&'a str>
+        ensures { option_map (λ b. b.now) result ≡ slice_get self.now number }
+    {
+        self.names.get_index(number)
+    }
+
+    /// How many names there are. The names are one to one with the numbers below it.
+    ///
+    /// Takes no memory. `O(1)`.
+    #[tactic(auto, using(crate::proofs::Numbers::one_number_each))]
+    pub fn len(&self) -> usize
+        ensures len { result ≡ length self.now }
+        ensures one_to_one { IsOneToOne self.now }
+    {
+        self.count
+    }
+
+    /// The number of a name, which is kept if it is new and then has the number that [`Interner::len`] was.
+    ///
+    /// A name that is there takes no memory and never fails. Of a new one a copy goes into the arena. `Err` means
+    /// that memory was refused: the names stay as they were. `O(1)` hashed, and the copy.
+    #[tactic(auto, using(crate::proofs::Numbers::place_of_text))]
+    pub fn put(&mut self, text: &str) -> Result<usize, AllocError>
+        ensures put { IfOk result (λ n. Puts self.old text.now n self.new) }
+        ensures refused { OnErr result (self.new ≡ self.old) }
+        ensures only_new { OnErr result (position (bytes_eq text.now) self.old ≡ None) }
+    {
+        if let Some(place) = self.names.get_index_of(&text) {
+            return Ok(place);
+        }
+        let owned = String::from_str(self.alloc, text)?;
+        let (place, _) = self.names.insert_absent(owned)?;
+        self.count = place + 1;
+        Ok(place)
+    }
+}

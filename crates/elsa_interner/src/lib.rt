@@ -1,0 +1,13 @@
+//! What is built on the collections of one thread: names with numbers, the engine that answers lines about them, and files
+//! that stay loaded.
+#![tactic(auto)]
+
+pub mod cache;
+pub mod devices;
+pub mod digits;
+pub mod engine;
+pub mod interner;
+mod pending;
+pub mod plain_interner;
+mod reply;
+mod request;

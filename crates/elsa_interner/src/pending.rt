@@ -1,0 +1,112 @@
+//! Answers that wait to be written, in an array of a fixed size: small answers become large writes, and none takes memory.
+ghost use Rattle.std.specs.Prelude.{◌≡◌, [], ◌∷◌, ◌++◌, ◌≤◌, ◌+◌, length, OnOk, OnErr};
+ghost use Rattle.std.specs.Io.KnownBytes.{Appends};
+ghost use Rattle.elsa_interner.specs.Devices.{FailedOnce, AppendsSome, Queued};
+
+use crate::devices::{Failed, Sink};
+use std::marker::Model;
+
+/// How many bytes may wait.
+const ROOM: usize = 8192;
+
+/// Writes the whole piece, in as many writes as the writer wants.
+#[tactic(auto, using(crate::proofs::Bytes::appends_none, crate::proofs::Bytes::appends_more))]
+fn write_all<W: Sink>(writer: &mut W, piece: &[u8]) -> Result<(), Failed>
+    ensures ok { OnOk result (Appends (W.held writer.old) (W.held writer.new) piece.now) }
+    ensures calm { OnOk result (W.failures writer.new ≡ W.failures writer.old) }
+    ensures err { OnErr result (AppendsSome (W.held writer.old) (W.held writer.new) piece.now) }
+    ensures failed { OnErr result (FailedOnce (W.failures writer.old) (W.failures writer.new)) }
+{
+    let mut at = 0;
+    while at < piece.len() {
+        at += writer.write(&piece[at..])?;
+    }
+    Ok(())
+}
+
+/// Bytes that wait to be written.
+#[derive(Drop)]
+pub struct Pending {
+    bytes: [u8; ROOM],
+    len: usize,
+}
+
+impl Model for Pending {
+    ghost use Rattle.std.specs.Prelude.{List, ℕ, ◌≤◌, take};
+
+    ghost Value = { List ℕ };
+
+    ghost view = { λ p. take p.len p.bytes };
+
+    ghost invariant = { λ p. p.len ≤ 8192 };
+}
+
+impl Pending {
+    /// Nothing waits.
+    pub fn new() -> Self
+        ensures { result ≡ [] }
+    {
+        Pending {
+            bytes: [0; ROOM],
+            len: 0,
+        }
+    }
+
+    /// Writes all that waits; where the writer fails, what is left of it is given up.
+    pub fn flush<W: Sink>(&mut self, writer: &mut W) -> Result<(), Failed>
+        ensures ok { OnOk result (Appends (W.held writer.old) (W.held writer.new) self.old) }
+        ensures none { OnOk result (self.new ≡ []) }
+        ensures calm { OnOk result (W.failures writer.new ≡ W.failures writer.old) }
+        ensures err { OnErr result (AppendsSome (W.held writer.old) (W.held writer.new) self.old) }
+        ensures failed { OnErr result (FailedOnce (W.failures writer.old) (W.failures writer.new)) }
+    {
+        let len = self.len;
+        self.len = 0;
+        write_all(writer, &self.bytes[..len])
+    }
+
+    /// Adds a piece that there is room for.
+    fn add(&mut self, piece: &[u8])
+        requires { length self.old + length piece.now ≤ ROOM }
+        ensures { self.new ≡ self.old ++ piece.now }
+    {
+        let end = self.len + piece.len();
+        self.bytes[self.len..end].copy_from_slice(piece);
+        self.len = end;
+    }
+
+    /// Adds a piece; where there is no room for it, what waits is written first.
+    fn push<W: Sink>(&mut self, writer: &mut W, piece: &[u8]) -> Result<(), Failed>
+        ensures ok { OnOk result (Queued (W.held writer.old) self.old (W.held writer.new) self.new piece.now) }
+        ensures calm { OnOk result (W.failures writer.new ≡ W.failures writer.old) }
+        ensures err { OnErr result (AppendsSome (W.held writer.old) (W.held writer.new) (self.old ++ piece.now)) }
+        ensures failed { OnErr result (FailedOnce (W.failures writer.old) (W.failures writer.new)) }
+    {
+        if piece.len() <= ROOM - self.len {
+            self.add(piece);
+            return Ok(());
+        }
+        self.flush(writer)?;
+        if piece.len() <= ROOM {
+            self.add(piece);
+            return Ok(());
+        }
+        write_all(writer, piece)
+    }
+
+    /// Adds a line: a piece, and byte 10 behind it.
+    pub fn push_line<W: Sink>(&mut self, writer: &mut W, piece: &[u8]) -> Result<(), Failed>
+        ensures ok { OnOk result (Queued (W.held writer.old) self.old (W.held writer.new) self.new (piece.now ++ (10 ∷ []))) }
+        ensures calm { OnOk result (W.failures writer.new ≡ W.failures writer.old) }
+        ensures err { OnErr result (AppendsSome (W.held writer.old) (W.held writer.new) (self.old ++ (piece.now ++ (10 ∷ [])))) }
+        ensures failed { OnErr result (FailedOnce (W.failures writer.old) (W.failures writer.new)) }
+    {
+        if piece.len() < ROOM - self.len {
+            self.add(piece);
+            self.add(b"\n");
+            return Ok(());
+        }
+        self.push(writer, piece)?;
+        self.push(writer, b"\n")
+    }
+}

@@ -1,0 +1,62 @@
+//! What a line asks for.
+ghost use Rattle.std.specs.Prelude.{◌≡◌, true, false, nat_eq, length, drop, MatchOption};
+ghost use Rattle.std.specs.List.{starts_with};
+ghost use Rattle.elsa_interner.specs.Lines.{command_of, command_of_text};
+ghost use Rattle.elsa_interner.specs.Replies.{asked};
+
+use crate::digits::number_of;
+
+/// What a line asks for.
+#[derive(Clone, Copy)]
+pub enum Request<'t> {
+    /// The number of this name, which is kept if it is new.
+    Put(&'t str),
+    /// The number of this name, if there is one.
+    Find(&'t str),
+    /// The name with this number.
+    At(u64),
+    /// How many names there are.
+    Len,
+    /// Nothing that is known.
+    Bad,
+}
+
+/// What follows a word at the front of a text.
+fn after<'t>(text: &'t str, word: &str) -> Option<&'t str>
+    ensures { MatchOption result (starts_with nat_eq text.now word.now ≡ false) (λ r. (starts_with nat_eq text.now word.now ≡ true) × (r.now ≡ drop (length word.now) text.now)) }
+{
+    text.strip_prefix(word)
+}
+
+/// What a text asks for.
+fn request_of_text(text: &str) -> Request<'_>
+    ensures { asked result ≡ command_of_text text.now }
+{
+    if let Some(name) = after(text, "put ") {
+        return Request::Put(name);
+    }
+    if let Some(name) = after(text, "find ") {
+        return Request::Find(name);
+    }
+    if let Some(digits) = after(text, "at ") {
+        return match number_of(digits) {
+            Some(n) => Request::At(n),
+            None => Request::Bad,
+        };
+    }
+    if text == "len" {
+        Request::Len
+    } else {
+        Request::Bad
+    }
+}
+
+/// What a line asks for.
+pub fn request_of(line: &[u8]) -> Request<'_>
+    ensures { asked result ≡ command_of line.now }
+{
+    match str::from_utf8(line) {
+        Ok(text) => request_of_text(text),
+        Err(_) => Request::Bad,
+    }
+}

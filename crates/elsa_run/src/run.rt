@@ -1,0 +1,5 @@
+//! Whole runs of calls, each with one theorem for every list of commands.
+pub use crate::run_index::{IndexCommand, IndexReply, run_index};
+pub use crate::run_map::{MapCommand, MapReply, run_map};
+pub use crate::run_set::{SetCommand, SetReply, run_set};
+pub use crate::run_vec::{VecCommand, VecReply, run_vec};

@@ -1,0 +1,94 @@
+//! Whole runs of calls on a map, hashed or ordered.
+//!
+//! Every list of commands is answered as the model answers it: at each key stands the base's value, or else the first
+//! accepted one of the epoch.
+ghost use Rattle.std.specs.Prelude.{◌≡◌, IfOk, OnErr};
+ghost use Rattle.elsa_run.specs.MapRun.{RunsTo, Step};
+
+use elsa_once::map::MapForm;
+use elsa_once::stable::StableDeref;
+use std::alloc::{AllocError, Allocator};
+
+/// A call on a map, where `M` is the inner map.
+#[derive(Drop)]
+pub enum MapCommand<K, V, M> {
+    /// `insert`, answered by `Item` or `NoMemory`.
+    Insert(K, V),
+    /// `insert_new`, answered by `New` or `NoMemory`.
+    InsertNew(K, V),
+    /// `get`, answered by `Found`.
+    Get(K),
+    /// `len`, answered by `Count`.
+    Len,
+    /// `is_empty`, answered by `Flag`.
+    IsEmpty,
+    /// Another content in the place of what is there, as `as_mut` may leave it, answered by `Done`: a new epoch.
+    Rebase(M),
+}
+
+/// What a call on a map answered.
+#[derive(Clone, Copy, Debug, PartialEq, Eq)]
+pub enum MapReply<B> {
+    /// The value that the key now has.
+    Item(B),
+    /// The value that the key now has, and whether the key was new.
+    New(B, bool),
+    /// The value at the key, if it is there.
+    Found(Option<B>),
+    /// The number of entries.
+    Count(usize),
+    /// Whether there are no entries.
+    Flag(bool),
+    /// The new content stands.
+    Done,
+    /// Memory for an absent key was refused. The map is as it was.
+    NoMemory,
+}
+
+// Makes one call.
+fn answer<'a, M: MapForm<'a>>(
+    map: &mut M,
+    command: MapCommand<M::Key, M::Value, M::Base>,
+) -> MapReply<<M::Value as StableDeref<'a>>::Borrow>
+    ensures { Step M.same M.Value.target M.Value.shown M.base_entries (M.entries map.old) command result (M.entries map.new) }
+{
+    match command {
+        MapCommand::Insert(key, value) => match map.insert(key, value) {
+            Ok(item) => MapReply::Item(item),
+            Err(_) => MapReply::NoMemory,
+        },
+        MapCommand::InsertNew(key, value) => match map.insert_new(key, value) {
+            Ok((item, new)) => MapReply::New(item, new),
+            Err(_) => MapReply::NoMemory,
+        },
+        MapCommand::Get(key) => MapReply::Found(map.get(&key)),
+        MapCommand::Len => MapReply::Count(map.len()),
+        MapCommand::IsEmpty => MapReply::Flag(map.is_empty()),
+        MapCommand::Rebase(base) => {
+            map.rebase(base);
+            MapReply::Done
+        }
+    }
+}
+
+/// Makes the calls in order and answers one reply for each: the reply at a place belongs to the command at that place.
+///
+/// The room for all replies is made first, so `Err` means that no call was made. A call that is refused memory is answered
+/// by `NoMemory`, and the run goes on.
+pub fn run_map<'a, M: MapForm<'a>, A: Allocator + Copy>(
+    alloc: A,
+    map: &mut M,
+    commands: Vec<MapCommand<M::Key, M::Value, M::Base>>,
+) -> Result<Vec<MapReply<<M::Value as StableDeref<'a>>::Borrow>, A>, AllocError>
+    ensures run { IfOk result (λ replies. RunsTo M.same M.Value.target M.Value.shown M.base_entries (M.entries map.old) commands.items replies.items (M.entries map.new)) }
+    ensures refused { OnErr result (M.entries map.new ≡ M.entries map.old) }
+{
+    // Tells the proof that the keys' equality is an equivalence.
+    let _count = map.len();
+    let mut replies = Vec::with_capacity(alloc, commands.len())?;
+    for command in commands {
+        let reply = answer(map, command);
+        replies.push(reply).unwrap();
+    }
+    Ok(replies)
+}

@@ -1,0 +1,123 @@
+//! Whole runs of calls on an index set.
+//!
+//! Every list of commands is answered as the model answers it: what is held is the base with each further value once, in the
+//! order of the first insertions.
+ghost use Rattle.std.specs.Prelude.{◌≡◌, IfOk, OnErr};
+ghost use Rattle.elsa_run.specs.SetRun.{Step, SetRunsTo};
+
+use elsa_index::index_set::FrozenIndexSet;
+use elsa_index::look_up::LookUp;
+use elsa_once::stable::StableDeref;
+use indexmap::IndexSet;
+use std::alloc::{AllocError, Allocator};
+use std::hash::{BuildHasher, Hash};
+
+/// A call on an index set of `B`, where `M` is the inner set.
+#[derive(Drop)]
+pub enum SetCommand<T, B, M> {
+    /// `insert`, answered by `Item` or `NoMemory`.
+    Insert(T),
+    /// `insert_full`, answered by `Full` or `NoMemory`.
+    InsertFull(T),
+    /// `insert_new`, answered by `New` or `NoMemory`.
+    InsertNew(T),
+    /// `insert_full_new`, answered by `FullNew` or `NoMemory`.
+    InsertFullNew(T),
+    /// `get`, answered by `Found`.
+    Get(B),
+    /// `get_index_of`, answered by `Place`.
+    IndexOf(B),
+    /// `get_index`, answered by `Found`.
+    At(usize),
+    /// Another content in the place of what is there, as `as_mut` may leave it, answered by `Done`.
+    Rebase(M),
+}
+
+/// What a call on an index set answered.
+#[derive(Clone, Copy, Debug, PartialEq, Eq)]
+pub enum SetReply<B> {
+    /// The stored value.
+    Item(B),
+    /// The value's place, and the stored value.
+    Full(usize, B),
+    /// The stored value, and whether it is new.
+    New(B, bool),
+    /// The value's place, the stored value, and whether it is new.
+    FullNew(usize, B, bool),
+    /// The stored value, if it is there.
+    Found(Option<B>),
+    /// The place of the value, if it is there.
+    Place(Option<usize>),
+    /// The new content stands.
+    Done,
+    /// Memory for an absent value was refused. The set is as it was.
+    NoMemory,
+}
+
+// Makes one call.
+fn apply<
+    'a,
+    T: StableDeref<'a> + LookUp<<T as StableDeref<'a>>::Borrow>,
+    S: BuildHasher + Drop,
+    A: Allocator + Copy,
+>(
+    set: &mut FrozenIndexSet<'a, T, S, A>,
+    command: SetCommand<T, T::Borrow, IndexSet<T::Borrow, S, A>>,
+) -> SetReply<T::Borrow>
+where
+    <T as StableDeref<'a>>::Borrow: Eq + Hash + LookUp<<T as StableDeref<'a>>::Borrow>,
+    ensures { Step T.Borrow.eq T.target T.shown T.finds T.Borrow.finds (λ m. m.keys) set.old command result set.new }
+{
+    match command {
+        SetCommand::Insert(value) => match set.insert(value) {
+            Ok(item) => SetReply::Item(item),
+            Err(_) => SetReply::NoMemory,
+        },
+        SetCommand::InsertFull(value) => match set.insert_full(value) {
+            Ok((place, item)) => SetReply::Full(place, item),
+            Err(_) => SetReply::NoMemory,
+        },
+        SetCommand::InsertNew(value) => match set.insert_new(value) {
+            Ok((item, new)) => SetReply::New(item, new),
+            Err(_) => SetReply::NoMemory,
+        },
+        SetCommand::InsertFullNew(value) => match set.insert_full_new(value) {
+            Ok((place, item, new)) => SetReply::FullNew(place, item, new),
+            Err(_) => SetReply::NoMemory,
+        },
+        SetCommand::Get(value) => SetReply::Found(set.get(&value)),
+        SetCommand::IndexOf(value) => SetReply::Place(set.get_index_of(&value)),
+        SetCommand::At(index) => SetReply::Found(set.get_index(index)),
+        SetCommand::Rebase(base) => {
+            set.rebase(base);
+            SetReply::Done
+        }
+    }
+}
+
+/// Makes the calls in order and answers one reply a command, at the command's place.
+///
+/// The room for all replies is made before the first call, so `AllocError` means that no call was made. A call that is
+/// refused gets the reply `NoMemory`, which comes only for an absent value, and the run goes on.
+pub fn run_set<
+    'a,
+    T: StableDeref<'a> + LookUp<<T as StableDeref<'a>>::Borrow>,
+    S: BuildHasher + Drop,
+    A: Allocator + Copy,
+>(
+    alloc: A,
+    set: &mut FrozenIndexSet<'a, T, S, A>,
+    commands: Vec<SetCommand<T, T::Borrow, IndexSet<T::Borrow, S, A>>, A>,
+) -> Result<Vec<SetReply<T::Borrow>, A>, AllocError>
+where
+    <T as StableDeref<'a>>::Borrow: Eq + Hash + LookUp<<T as StableDeref<'a>>::Borrow>,
+    ensures run { IfOk result (λ replies. SetRunsTo T.Borrow.eq T.target T.shown T.finds T.Borrow.finds (λ m. m.keys) set.old commands.items replies.items set.new) }
+    ensures none_made { OnErr result (set.new ≡ set.old) }
+{
+    let mut replies = Vec::with_capacity(alloc, commands.len())?;
+    for command in commands {
+        let reply = apply(set, command);
+        replies.push(reply).unwrap();
+    }
+    Ok(replies)
+}

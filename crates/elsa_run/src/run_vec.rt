@@ -1,0 +1,96 @@
+//! Whole runs of calls on a vector.
+//!
+//! Every list of commands is answered as the model answers it: what is held is the base, and behind it the items of the accepted pushes.
+ghost use Rattle.std.specs.Prelude.{◌≡◌, IfOk, OnErr, map};
+ghost use Rattle.elsa_run.specs.VecRun.{Answers, VecRunsTo, content_after};
+
+use elsa_once::stable::StableDeref;
+use elsa_once::vec::FrozenVec;
+use std::alloc::{AllocError, Allocator};
+
+/// A call on a vector, where `M` is the inner vector.
+#[derive(Drop)]
+pub enum VecCommand<T, M> {
+    /// `push`, answered by `Done` or `NoMemory`.
+    Push(T),
+    /// `push_get`, answered by `Item` or `NoMemory`.
+    PushGet(T),
+    /// `get`, answered by `Found`.
+    Get(usize),
+    /// `first`, answered by `Found`.
+    First,
+    /// `last`, answered by `Found`.
+    Last,
+    /// `len`, answered by `Count`.
+    Len,
+    /// `is_empty`, answered by `Flag`.
+    IsEmpty,
+    /// Another content in the place of what is there, as `as_mut` may leave it, answered by `Done`.
+    Rebase(M),
+}
+
+/// What a call on a vector answered.
+#[derive(Clone, Copy, Debug, PartialEq, Eq)]
+pub enum VecReply<B> {
+    /// The item was put last, or the new content stands.
+    Done,
+    /// The item was put last, and this is its borrow.
+    Item(B),
+    /// The item at the place, if it is there.
+    Found(Option<B>),
+    /// How many items there are.
+    Count(usize),
+    /// Whether there is no item.
+    Flag(bool),
+    /// Memory for a push was refused. The vector is as it was.
+    NoMemory,
+}
+
+// Makes one call.
+fn apply<'a, T: StableDeref<'a>, A: Allocator + Copy>(
+    items: &mut FrozenVec<'a, T, A>,
+    command: VecCommand<T, Vec<T::Borrow, A>>,
+) -> VecReply<T::Borrow>
+    ensures answer { Answers T.target T.shown (λ m. m.items) (map T.shown items.old) command result }
+    ensures content { map T.shown items.new ≡ content_after T.target T.shown (λ m. m.items) (map T.shown items.old) command result }
+{
+    match command {
+        VecCommand::Push(item) => match items.push(item) {
+            Ok(()) => VecReply::Done,
+            Err(_) => VecReply::NoMemory,
+        },
+        VecCommand::PushGet(item) => match items.push_get(item) {
+            Ok(borrow) => VecReply::Item(borrow),
+            Err(_) => VecReply::NoMemory,
+        },
+        VecCommand::Get(index) => VecReply::Found(items.get(index)),
+        VecCommand::First => VecReply::Found(items.first()),
+        VecCommand::Last => VecReply::Found(items.last()),
+        VecCommand::Len => VecReply::Count(items.len()),
+        VecCommand::IsEmpty => VecReply::Flag(items.is_empty()),
+        VecCommand::Rebase(base) => {
+            *items.as_mut() = base;
+            VecReply::Done
+        }
+    }
+}
+
+/// Makes the calls in order and answers one reply a command, at the command's place.
+///
+/// The room for all replies is made before the first call, so `AllocError` means that no call was made. A call that is refused gets the
+/// reply `NoMemory`, which comes only for a push, and the run goes on.
+pub fn run_vec<'a, T: StableDeref<'a>, A: Allocator + Copy>(
+    alloc: A,
+    items: &mut FrozenVec<'a, T, A>,
+    commands: Vec<VecCommand<T, Vec<T::Borrow, A>>, A>,
+) -> Result<Vec<VecReply<T::Borrow>, A>, AllocError>
+    ensures run { IfOk result (λ replies. VecRunsTo T.target T.shown (λ m. m.items) (map T.shown items.old) commands.items replies.items (map T.shown items.new)) }
+    ensures none_made { OnErr result (items.new ≡ items.old) }
+{
+    let mut replies = Vec::with_capacity(alloc, commands.len())?;
+    for command in commands {
+        let reply = apply(items, command);
+        replies.push(reply).unwrap();
+    }
+    Ok(replies)
+}
