@@ -1,5 +1,5 @@
 -- The places of an author, in a list that grows.
-use Rattle.std.proofs.Common.{◌≡◌, ◌≢◌, ◌⊎◌, inl, inr, slice_index_or, ℕ, zero, suc, ◌+◌, ◌<◌, ◌≤◌, ◌==◌, Bool, true, false, List, [], ◌∷◌, ◌++◌, length, if◌then◌else◌, refl, ap, sym, ◌∙◌, subst, arith, append_assoc}
+use Rattle.std.proofs.Common.{◌≡◌, ◌≢◌, ◌⊎◌, inl, inr, slice_index_or, ℕ, zero, suc, ◌+◌, ◌<◌, ◌≤◌, ◌==◌, Bool, true, false, List, [], ◌∷◌, ◌++◌, length, if◌then◌else◌, refl, ap, sym, ◌∙◌, subst, arith, length-append, append_assoc}
 use Rattle.std.proofs.lemmas.List.{append-nil}
 use Rattle.std.proofs.lemmas.Bool.Decides.{nat_tests}
 use mathlib.Core.List.{IsPrefix}
@@ -55,6 +55,14 @@ module _ {T : Type 0} where
   push_places a n i es fs e (before, pre, at, is) mine was now =
       let b : suc (count a before) ≡ count a fs = sym (put_count a before e mine) ∙ ap (count a) (sym is) in
       ap (places_from a 0) is ∙ (one_place_more a before e mine ∙ (ap (λ (l : List ℕ). l ++ length before ∷ []) (same_places a es before pre (omega (arith, b, was, now))) ∙ ap (λ (k : ℕ). places_from a 0 es ++ k ∷ []) at))
+
+  -- what was appended stands at the end
+  pub appended_end : (es fs : List (Entry T)) (i : ℕ) (e : Entry T) → Appends es fs i e → length fs ≡ i + 1
+  appended_end es fs i e (before, pre, at, is) = ap length is ∙ (length-append before (e ∷ []) ∙ ap (λ (k : ℕ). k + 1) at)
+
+  -- and it was appended to the empty list and more
+  pub appended_to_nothing : (es fs : List (Entry T)) (i : ℕ) (e : Entry T) → Appends es fs i e → Appends [] fs i e
+  appended_to_nothing es fs i e (before, pre, at, is) = (before, (before, refl), at, is)
 
 -- a number in a list, by the list's own form
 In : ℕ → List ℕ → Type 0

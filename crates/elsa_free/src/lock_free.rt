@@ -1,11 +1,12 @@
 //! An append-only vector that threads push to under one word and read without a lock.
 //!
 //! A [`Pass`] is what a thread has seen of a vector. What it sees is a beginning of the one list that all threads share, so it
-//! only grows, and the places at which it pushed are its own for good. The plain forms take a pass of their own, that has
-//! seen nothing, so their contracts say less.
-ghost use Rattle.std.specs.Prelude.{◌≡◌, ◌≢◌, ◌≤◌, ◌<◌, ◌^◌, [], ◌∷◌, ◌++◌, length, slice_get, IfOk, IfErr, suc};
+//! only grows, and the places at which it pushed are its own for good. The plain forms take a pass of their own, which has
+//! seen nothing, and promise of it what the others promise of the caller's. The caller doesn't have that pass, so nothing
+//! ties the answers of two plain calls to each other; who wants to rest on that takes a pass.
+ghost use Rattle.std.specs.Prelude.{◌≡◌, ◌≢◌, ◌≤◌, ◌<◌, ◌^◌, ◌+◌, [], ◌∷◌, ◌++◌, length, slice_get, nat_eq, IfOk, IfErr, IfSome, suc};
 ghost use mathlib.Core.List.{IsPrefix};
-ghost use Rattle.elsa_free.specs.SharedList.{Apart, Appends, BeginsABuffer, IsSamePass, copied, count, entry, items_of, longer, mine};
+ghost use Rattle.elsa_free.specs.SharedList.{Apart, Appends, BeginsABuffer, IsSamePass, SomePass, View, copied, count, entry, items_of, longer, mine};
 ghost use Rattle.elsa_free.specs.History.{list_of};
 ghost use Rattle.elsa_free.specs.Rights.{tops_of};
 ghost use lib.Pointwise.{pointwise};
@@ -203,6 +204,7 @@ impl<T: Copy + Drop, A: Allocator + Copy> LockFreeFrozenVec<T, A> {
         ensures seen { IsPrefix pass.seen result.0.seen }
         ensures pushed { IfOk result.1 (λ i. Appends pass.seen result.0.seen i (entry pass.author item)) }
         ensures pushed_mine { IfOk result.1 (λ i. mine result.0 ≡ mine pass ++ i ∷ []) }
+        ensures limit { IfOk result.1 (λ i. i + 1 < 2 ^ 62) }
         ensures refused { IfErr result.1 (λ e. BeginsABuffer (length result.0.seen)) }
         ensures refused_mine { IfErr result.1 (λ e. mine result.0 ≡ mine pass) }
     {
@@ -227,6 +229,7 @@ impl<T: Copy + Drop, A: Allocator + Copy> LockFreeFrozenVec<T, A> {
         ensures seen { IsPrefix pass.old.seen pass.new.seen }
         ensures pushed { IfOk result (λ i. Appends pass.old.seen pass.new.seen i (entry pass.old.author item)) }
         ensures pushed_mine { IfOk result (λ i. mine pass.new ≡ mine pass.old ++ i ∷ []) }
+        ensures limit { IfOk result (λ i. i + 1 < 2 ^ 62) }
         ensures refused { IfErr result (λ e. BeginsABuffer (length pass.new.seen)) }
         ensures refused_mine { IfErr result (λ e. mine pass.new ≡ mine pass.old) }
     {
@@ -257,6 +260,7 @@ impl<T: Copy + Drop, A: Allocator + Copy> LockFreeFrozenVec<T, A> {
         ensures seen { IsPrefix pass.seen result.0.seen }
         ensures mine { mine result.0 ≡ mine pass }
         ensures item { result.1 ≡ slice_get (items_of result.0.seen) place }
+        ensures limit { IfSome result.1 (λ _. place + 1 < 2 ^ 62) }
     {
         let (pass, n, filled) = self.look_in(pass);
         if place >= n {
@@ -276,6 +280,7 @@ impl<T: Copy + Drop, A: Allocator + Copy> LockFreeFrozenVec<T, A> {
         ensures seen { IsPrefix pass.old.seen pass.new.seen }
         ensures mine { mine pass.new ≡ mine pass.old }
         ensures item { result ≡ slice_get (items_of pass.new.seen) place }
+        ensures limit { IfSome result (λ _. place + 1 < 2 ^ 62) }
     {
         let before = std::mem::replace(pass, self.pass());
         let (after, answer) = self.get_in(before, place);
@@ -338,33 +343,46 @@ impl<T: Copy + Drop, A: Allocator + Copy> LockFreeFrozenVec<T, A> {
         answer
     }
 
-    /// [`clone_as`](Self::clone_as) with a pass of its own.
-    pub fn clone(&self) -> Result<Self, AllocError> {
+    /// [`clone_as`](Self::clone_as) with a pass of its own: the clone has the items that it saw, in order.
+    pub fn clone(&self) -> Result<Self, AllocError>
+        ensures items { IfOk result (λ copy. SomePass self.now (λ (p : View T). SomePass copy (λ (q : View T). q.seen ≡ copied (items_of p.seen)))) }
+    {
         let (copy, _pass) = self.clone_as(&mut self.pass())?;
         Ok(copy)
     }
 
-    /// [`push_as`](Self::push_as) with a pass of its own.
-    pub fn push<R: Wait>(&self, rt: &R, item: T) -> Result<usize, AllocError> {
+    /// [`push_as`](Self::push_as) with a pass of its own, whose only place is the one that is answered. The place is below
+    /// the greatest length, `2^62 - 1`.
+    pub fn push<R: Wait>(&self, rt: &R, item: T) -> Result<usize, AllocError>
+        ensures pushed { IfOk result (λ i. SomePass self.now (λ (p : View T). Appends [] p.seen i (entry p.author item) × (mine p ≡ i ∷ []))) }
+        ensures refused { IfErr result (λ e. SomePass self.now (λ (p : View T). BeginsABuffer (length p.seen) × (mine p ≡ []))) }
+        ensures limit { IfOk result (λ i. i + 1 < 2 ^ 62) }
+    {
         let mut pass = self.pass();
         self.len_as(&mut pass);
         self.push_as(rt, &mut pass, item)
     }
 
-    /// [`get_as`](Self::get_as) with a pass of its own.
-    pub fn get(&self, place: usize) -> Option<T> {
+    /// [`get_as`](Self::get_as) with a pass of its own. At or above the greatest length, `2^62 - 1`, it is `None`.
+    pub fn get(&self, place: usize) -> Option<T>
+        ensures item { SomePass self.now (λ (p : View T). result ≡ slice_get (items_of p.seen) place) }
+        ensures limit { IfSome result (λ _. place + 1 < 2 ^ 62) }
+    {
         self.get_as(&mut self.pass(), place)
     }
 
     /// [`len_as`](Self::len_as) with a pass of its own.
     pub fn len(&self) -> usize
-        ensures { result < 2 ^ 62 }
+        ensures length { SomePass self.now (λ (p : View T). result ≡ length p.seen) }
+        ensures limit { result < 2 ^ 62 }
     {
         self.len_as(&mut self.pass())
     }
 
     /// Whether the vector has no item, by one look. It takes no lock and no memory, and never waits. `O(1)`.
-    pub fn is_empty(&self) -> bool {
+    pub fn is_empty(&self) -> bool
+        ensures { SomePass self.now (λ (p : View T). result ≡ nat_eq (length p.seen) 0) }
+    {
         self.len() == 0
     }
 }
@@ -418,7 +436,9 @@ impl<T: Copy + Drop + PartialEq, A: Allocator + Copy> LockFreeFrozenVec<T, A> {
     }
 
     /// [`equals_as`](Self::equals_as) with passes of its own.
-    pub fn equals(&self, other: &Self) -> bool {
+    pub fn equals(&self, other: &Self) -> bool
+        ensures { SomePass self.now (λ (p : View T). SomePass other.now (λ (q : View T). result ≡ pointwise T.eq (items_of p.seen) (items_of q.seen))) }
+    {
         self.equals_as(&mut self.pass(), other, &mut other.pass())
     }
 }

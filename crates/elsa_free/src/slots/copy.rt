@@ -104,7 +104,7 @@ impl<T: Copy, A: Allocator + Copy> Slots<T, A> {
 
     /// Copies the places below `n` into `target`, of which no buffer is open: whole buffers, and then the slots below `n`.
     /// No place from `n` on is read. On Err some buffers of `target` may be open, and it gives them back at its end.
-    pub fn copy_to(
+    fn copy_to(
         &self,
         n: usize,
         told: &Told<T, Row<T, A>>,

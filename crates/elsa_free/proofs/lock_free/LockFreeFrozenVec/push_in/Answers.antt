@@ -6,7 +6,7 @@ use Rattle.elsa_free.specs.declared.event.Event.TheVariants.{Seat}
 use Rattle.elsa_free.specs.SharedList.{count, entry, items_of, mine}
 use Rattle.elsa_free.specs.History.{list_of, author_of, used_of}
 use Rattle.elsa_free.proofs.Logs.{items_length, list_prefix}
-use Rattle.elsa_free.proofs.Places.{look_places, push_places}
+use Rattle.elsa_free.proofs.Places.{appended_end, look_places, push_places}
 use Rattle.elsa_free.proofs.Closing.{looked_mine}
 use Rattle.elsa_free.proofs.lock_free.LockFreeFrozenVec.push_in.Goals as goal
 
@@ -19,3 +19,8 @@ pub returns-clause-refused_mine : goal.returns-clause-refused_mine
 returns-clause-refused_mine g c =
     let v = c.parts-seen.result.0.log in let log = c.push-seen.result.0.log in let a = suc c.parts-seen.result.1.name in let n = c.parts-seen.result.1.used in let p = c.parts-seen.ensures in let up = c.push-seen.ensures in
     MatchResult-weaker c.push-seen.result.3 up.refused (λ i h. h) (λ e h. let same = (look_places a n (list_of v) (list_of log) up.seen p.mine (let m = up.mine in let u = h.0 in omega (arith, m, u))).1 in rw (p.is, c.of.ensures, up.same.2) same)
+
+pub returns-clause-limit : goal.returns-clause-limit
+returns-clause-limit g c =
+    let v = c.parts-seen.result.0.log in let log = c.push-seen.result.0.log in let a = suc c.parts-seen.result.1.name in let up = c.push-seen.ensures in
+    IfOk-weaker c.push-seen.result.3 _ _ (λ i h. let n = appended_end (list_of v) (list_of log) i (entry a c.args.item) h.1 in let l = up.length in omega (arith, n, l)) up.pushed
