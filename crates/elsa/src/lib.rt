@@ -13,6 +13,7 @@ pub use elsa_once::vec::FrozenVec;
 pub use elsa_once::{map, stable, vec};
 
 pub mod command;
+pub mod shared;
 pub mod sync;
 mod words;
 
