@@ -1,11 +1,26 @@
 -- What the words of a command line ask for: each word is its bytes, and the program's name is not among them.
-use Rattle.std.specs.Prelude.{ℕ, List, [], ◌∷◌, Option, None, Some, codes, if◌then◌else◌}
+use Rattle.std.specs.Prelude.{ℕ, ◌≤◌, ⊤, ◌&&◌, nat_le, Bool, List, [], ◌∷◌, Option, None, Some, codes, if◌then◌else◌}
 use Rattle.std.specs.Str.{bytes_eq}
+use Rattle.std.specs.Str.Parse.{digits_value}
+use Rattle.elsa_index.specs.Lines.{is_number}
 use Rattle.elsa.specs.declared.words.Job.{Job}
-use Rattle.elsa.specs.declared.words.Job.TheVariants.{Intern}
+use Rattle.elsa.specs.declared.words.Job.TheVariants.{Intern, Shared}
+
+-- one or more ASCII digits of a value from low to high; zeros may stand in front
+abbrev pub is_number_within : ℕ → ℕ → List ℕ → Bool
+is_number_within low high word = is_number word && (nat_le low (digits_value 10 word) && nat_le (digits_value 10 word) high)
 
 -- the job of these words, if they are one; all others are wrong
 abbrev pub job_of : List (List ℕ) → Option Job
 job_of [] = None
 job_of (word ∷ []) = if bytes_eq word (codes "intern") then Some Intern else None
-job_of (word ∷ second ∷ more) = None
+job_of (word ∷ second ∷ []) = None
+job_of (word ∷ workers ∷ numbers ∷ []) =
+    if bytes_eq word (codes "shared") && (is_number_within 1 16 workers && is_number_within 0 100000 numbers)
+    then Some (Shared (digits_value 10 workers) (digits_value 10 numbers)) else None
+job_of (word ∷ second ∷ third ∷ fourth ∷ more) = None
+
+-- what a job asks of the workers: one to sixteen of them, with at most a hundred thousand numbers each
+abbrev pub IsWithinLimits : Job → Type 0
+IsWithinLimits Intern = ⊤
+IsWithinLimits (Shared workers numbers) = (1 ≤ workers) × (workers ≤ 16) × (numbers ≤ 100000)

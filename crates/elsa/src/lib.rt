@@ -15,6 +15,7 @@ pub use elsa_once::{map, stable, vec};
 pub use elsa_run::run;
 
 pub mod command;
+pub mod shared;
 pub mod sync;
 mod words;
 

@@ -1,10 +1,12 @@
-//! The program `elsa`: `elsa intern` answers each line of standard input on standard output.
+//! The program `elsa`: `elsa intern` answers each line of standard input on standard output, and `elsa shared W N` lets W threads push N
+//! numbers each into one concurrent vector and prints its length.
 #![tactic(auto)]
 
 use bumpalo::Bump;
 use elsa::Job;
 use elsa::command::job;
 use elsa::interner::{Counted, EngineFault, intern_engine};
+use elsa::shared::{Gate, run_shared};
 use std::process::ExitCode;
 
 const USAGE: &str = "usage: elsa intern | elsa shared W N";
@@ -32,6 +34,28 @@ fn intern(rt: &HostRuntime) -> ExitCode {
     }
 }
 
+/// A gate that lets each worker go on.
+struct Open;
+
+impl Gate for Open {
+    fn after(&self, _worker: usize, _place: usize) -> bool {
+        true
+    }
+}
+
+/// Prints the length of a vector that was filled, or that something failed.
+fn tell(rt: &HostRuntime, length: Option<usize>) -> ExitCode {
+    let Some(length) = length else {
+        complain(rt, "fault");
+        return ExitCode::FAILURE;
+    };
+    if println!(rt; "ok {length}").is_err() {
+        complain(rt, "write failed");
+        return ExitCode::FAILURE;
+    }
+    ExitCode::SUCCESS
+}
+
 /// The words behind the program's name, where each of them is text.
 fn words(rt: &HostRuntime) -> Option<Vec<String>> {
     std::env::args(rt).ok()?.skip(1).collect(rt.alloc()).ok()
@@ -44,7 +68,11 @@ fn main(rt: HostRuntime) -> ExitCode {
     };
     match job(words.as_slice()) {
         Some(Job::Intern) => intern(&rt),
-        _ => {
+        Some(Job::Shared(workers, numbers)) => {
+            let length = run_shared(&rt, rt.alloc(), workers, numbers, &Open);
+            tell(&rt, length.ok())
+        }
+        None => {
             complain(&rt, USAGE);
             ExitCode::from(2)
         }
