@@ -2,7 +2,7 @@
 use Rattle.std.specs.Prelude.{ℕ, ◌≤◌, ⊤, ◌&&◌, nat_le, Bool, List, [], ◌∷◌, Option, None, Some, codes, if◌then◌else◌}
 use Rattle.std.specs.Str.{bytes_eq}
 use Rattle.std.specs.Str.Parse.{digits_value}
-use Rattle.elsa_index.specs.Lines.{is_number}
+use Rattle.elsa_interner.specs.Lines.{is_number}
 use Rattle.elsa.specs.declared.words.Job.{Job}
 use Rattle.elsa.specs.declared.words.Job.TheVariants.{Intern, Shared}
 

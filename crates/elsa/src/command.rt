@@ -5,7 +5,7 @@ ghost use Rattle.std.specs.String.{string_bytes};
 ghost use Rattle.elsa.specs.Jobs.{IsWithinLimits, is_number_within, job_of};
 
 use crate::words::Job;
-use elsa_index::digits::number_of;
+use elsa_interner::digits::number_of;
 
 /// The number that a word writes in digits, if it lies from `low` to `high`.
 fn number_within(word: &str, low: u64, high: u64) -> Option<usize>
