@@ -7,6 +7,7 @@ use std::thread;
 const TURNS: u64 = 10_000_000;
 
 /// Counts its calls, and answers false at the call of a number that is named, counted from 1, of a worker that is named.
+#[derive(Drop)]
 pub struct Stops {
     pub worker: usize,
     pub at: u64,
@@ -43,6 +44,7 @@ impl Gate for Stops {
 }
 
 /// Holds each of two workers until the other has been answered too, and notes their places, each as one more than the place.
+#[derive(Drop)]
 pub struct Pair {
     first: AtomicU64,
     second: AtomicU64,
@@ -84,6 +86,7 @@ impl Gate for Pair {
 }
 
 /// Answers false to a worker whose places don't rise, and sums all places.
+#[derive(Drop)]
 pub struct Rising {
     pub last: [AtomicU64; 4],
     sum: AtomicU64,

@@ -76,9 +76,14 @@ fn refused_memory(rt: HostRuntime) -> Result<(), Fail> {
     let requests = budget.asked();
     assert!(rt; requests > 3);
     for n in 0..requests {
-        for last in [n.wrapping_add(1), u64::MAX] {
-            let begun = budget.asked();
-            budget.refuse(begun.wrapping_add(n), begun.wrapping_add(last).max(last));
+        for is_alone in [true, false] {
+            let from = budget.asked().wrapping_add(n);
+            let to = if is_alone {
+                from.wrapping_add(1)
+            } else {
+                u64::MAX
+            };
+            budget.refuse(from, to);
             let answer = run_shared(&rt, &budget, 2, 20, &gate);
             assert_eq!(rt; answer, Err(SharedFault::Memory));
         }
