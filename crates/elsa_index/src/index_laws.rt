@@ -117,14 +117,14 @@ where
 
 /// Whether two sets are equal: order plays no part.
 pub fn sets_are_equal<'a, T: StableDeref<'a>, S: BuildHasher, A: Allocator + Copy>(
-    left: &FrozenIndexSet<'a, T, S, A>,
-    right: &FrozenIndexSet<'a, T, S, A>,
+    first: &FrozenIndexSet<'a, T, S, A>,
+    second: &FrozenIndexSet<'a, T, S, A>,
 ) -> bool
 where
     <T as StableDeref<'a>>::Borrow: Eq + Hash,
-    ensures blind_to_order { IsPermutation left.now right.now → IsTrue result }
+    ensures blind_to_order { IsPermutation first.now second.now → IsTrue result }
 {
-    left == right
+    first == second
 }
 
 /// Two insertions into a set, one after the other, and the places that they answered.
