@@ -1,5 +1,6 @@
 //! What users may rely on across calls: each law is the contract of a function that makes the calls.
 ghost use Rattle.std.specs.Prelude.{◌≡◌, ◌+◌, ◌↔◌, ℕ, List, Some, false, length, position, IfOk, OnErr, IsPermutation, IsTrue};
+ghost use Rattle.elsa_index.specs.Equality.{same_map, same_set};
 ghost use Rattle.elsa_index.specs.Content.{place_of, Grows, Inserted, SetInserted, IsCloneOf};
 
 use crate::index_map::FrozenIndexMap;
@@ -108,6 +109,7 @@ pub fn are_equal<'a, K: Eq + Hash, V: StableDeref<'a>, S: BuildHasher, A: Alloca
 ) -> bool
 where
     <V as StableDeref<'a>>::Borrow: Eq,
+    ensures answered { result ≡ same_map K.eq V.Borrow.eq left.now right.now }
     ensures blind_to_order { IsPermutation left.now right.now → IsTrue result }
 {
     // `is_empty` is called for its clause that no two keys are equal.
@@ -122,6 +124,7 @@ pub fn sets_are_equal<'a, T: StableDeref<'a>, S: BuildHasher, A: Allocator + Cop
 ) -> bool
 where
     <T as StableDeref<'a>>::Borrow: Eq + Hash,
+    ensures answered { result ≡ same_set T.Borrow.eq first.now second.now }
     ensures blind_to_order { IsPermutation first.now second.now → IsTrue result }
 {
     first == second

@@ -1,5 +1,6 @@
 //! What callers of `FrozenVec` may rely on beyond one call: each law is the contract of a function that only makes public calls.
-ghost use Rattle.std.specs.Prelude.{◌≡◌, ◌++◌, ◌⊎◌, Bool, List, IfOk, IfSome, IsSomeAnd, IsTrue, OnErr, Some, false, length, true};
+ghost use Rattle.std.specs.Prelude.{◌≡◌, ◌++◌, ◌⊎◌, Bool, List, IfOk, IfSome, IsSomeAnd, IsTrue, OnErr, Some, false, length, slice_get, true};
+ghost use lib.Pointwise.{pointwise};
 ghost use Rattle.std.specs.Fn.{AlwaysReturns};
 ghost use Rattle.std.specs.List.Sorted.{IsBinarySearchResult, IsPartitionPoint, IsPartitionedBy};
 ghost use Rattle.std.specs.Ordering.{nat_cmp};
@@ -23,18 +24,20 @@ pub fn made_again<'a, T: StableDeref<'a>, A: Allocator + Copy>(
     FrozenVec::from_vec(arena, items.into_vec())
 }
 
-/// A push keeps what was there: the content begins as before, and a place that had an item has the same one.
+/// A push, accepted or refused, keeps what was there: the content begins as before, and a place that had an item has the same one.
 pub fn looked_up_round_a_push<'a, T: StableDeref<'a>, A: Allocator + Copy>(
     items: &mut FrozenVec<'a, T, A>,
     place: usize,
     item: T,
-) -> (Option<T::Borrow>, Option<T::Borrow>)
+) -> (Option<T::Borrow>, Result<(), AllocError>, Option<T::Borrow>)
+    ensures looked_up { (result.0 ≡ slice_get items.old place) × (result.2 ≡ slice_get items.new place) }
+    ensures pushed { IfOk result.1 (λ _. Gains T.target T.shown items.old item items.new) }
     ensures prefix { (more : List T.Borrow) × (items.new ≡ items.old ++ more) }
-    ensures same { IfSome result.0 (λ b. result.1 ≡ Some b) }
+    ensures same { IfSome result.0 (λ b. result.2 ≡ Some b) }
 {
     let before = items.get(place);
-    let _pushed = items.push(item);
-    (before, items.get(place))
+    let pushed = items.push(item);
+    (before, pushed, items.get(place))
 }
 
 /// A borrow stays good after further pushes and after the vector's end.
@@ -77,7 +80,8 @@ pub fn equals_itself<'a, T: StableDeref<'a>, A: Allocator + Copy>(
 ) -> bool
 where
     <T as StableDeref<'a>>::Borrow: Eq,
-    ensures { IsTrue result }
+    ensures answered { result ≡ pointwise T.Borrow.eq items.now items.now }
+    ensures equal { IsTrue result }
 {
     items == items
 }
@@ -89,7 +93,8 @@ pub fn equal_both_ways<'a, T: StableDeref<'a>, A: Allocator + Copy>(
 ) -> (bool, bool)
 where
     <T as StableDeref<'a>>::Borrow: PartialEq,
-    ensures { result.0 ≡ result.1 }
+    ensures answered { (result.0 ≡ pointwise T.Borrow.eq one.now other.now) × (result.1 ≡ pointwise T.Borrow.eq other.now one.now) }
+    ensures same { result.0 ≡ result.1 }
 {
     (one == other, other == one)
 }
@@ -99,16 +104,15 @@ pub fn equal_through<'a, T: StableDeref<'a>, A: Allocator + Copy>(
     one: &FrozenVec<'a, T, A>,
     middle: &FrozenVec<'a, T, A>,
     other: &FrozenVec<'a, T, A>,
-) -> bool
+) -> (bool, bool, bool)
 where
     <T as StableDeref<'a>>::Borrow: PartialEq,
-    ensures { IsTrue result }
+    ensures one { result.0 ≡ pointwise T.Borrow.eq one.now middle.now }
+    ensures other { result.1 ≡ pointwise T.Borrow.eq middle.now other.now }
+    ensures both { result.2 ≡ pointwise T.Borrow.eq one.now other.now }
+    ensures through { IsTrue result.0 → IsTrue result.1 → IsTrue result.2 }
 {
-    if one == middle && middle == other {
-        one == other
-    } else {
-        true
-    }
+    (one == middle, middle == other, one == other)
 }
 
 // ---- walks

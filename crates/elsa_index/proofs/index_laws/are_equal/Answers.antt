@@ -6,4 +6,4 @@ use Rattle.elsa_index.proofs.index_laws.are_equal.Goals as goal
 pub returns : goal.returns
 returns g c =
     let computed : c.eq.result ≡ same_map g.K.PartialEq.eq g.V.Borrow.PartialEq.eq c.args.left.now c.args.right.now = search rules in
-    record { blind_to_order = λ moved. computed ∙ same_in_any_order g.K.PartialEq.eq g.met.K.Eq.laws g.V.Borrow.PartialEq.eq g.met.V.Borrow.Eq.laws _ _ c.is_empty-empty.ensures.distinct moved }
+    record { answered = computed; blind_to_order = λ moved. computed ∙ same_in_any_order g.K.PartialEq.eq g.met.K.Eq.laws g.V.Borrow.PartialEq.eq g.met.V.Borrow.Eq.laws _ _ c.is_empty-empty.ensures.distinct moved }

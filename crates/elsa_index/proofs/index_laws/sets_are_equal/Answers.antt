@@ -6,4 +6,4 @@ use Rattle.elsa_index.proofs.index_laws.sets_are_equal.Goals as goal
 pub returns : goal.returns
 returns g c =
     let computed : c.eq.result ≡ same_set g.T.Borrow.PartialEq.eq c.args.first.now c.args.second.now = search rules in
-    record { blind_to_order = λ moved. computed ∙ same_set_in_any_order g.T.Borrow.PartialEq.eq g.met.T.Borrow.Eq.laws _ _ moved }
+    record { answered = computed; blind_to_order = λ moved. computed ∙ same_set_in_any_order g.T.Borrow.PartialEq.eq g.met.T.Borrow.Eq.laws _ _ moved }
