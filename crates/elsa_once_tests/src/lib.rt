@@ -1,7 +1,9 @@
-//! Tests of `elsa_once` as a stranger calls it: worked cases, tables of probes, odd keys, and a table whose memory is refused.
+//! Tests of `elsa_once` as a stranger calls it: worked cases, tables of probes, odd keys, and memory refused.
 #![tactic(auto)]
 
 #[cfg(test)]
 mod map_tests;
+#[cfg(test)]
+mod refusals;
 #[cfg(test)]
 mod vec_tests;

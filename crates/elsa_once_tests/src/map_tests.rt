@@ -4,8 +4,9 @@ ghost use Rattle.std.specs.Prelude.{[], refl};
 use bumpalo::Bump;
 use elsa_once::map::{FrozenBTreeMap, FrozenMap};
 use elsa_once::stable::Own;
-use std::collections::{BTreeMap, HashMap};
-use std::hash::{BuildHasherDefault, FoldHasher, Hash, Hasher, RandomState};
+use std::alloc::{AllocError, Global};
+use std::collections::BTreeMap;
+use std::hash::{BuildHasherDefault, Hash, Hasher, RandomState};
 use std::test::Fail;
 
 // A key whose hash is that of every other.
@@ -24,88 +25,175 @@ impl Hash for SameHash {
 #[derive(Clone, Copy, Drop, PartialEq, Eq, PartialOrd, Ord)]
 struct NoHash(u32);
 
+// ---- insertions
+
+type Hashed<'a> = FrozenMap<'a, u32, String>;
+
+fn insert<'a>(alloc: Global, map: &mut Hashed<'a>, text: &str) -> Result<&'a str, AllocError> {
+    map.insert(1, String::from_str(alloc, text)?)
+}
+
+fn insert_new<'a>(
+    alloc: Global,
+    map: &mut Hashed<'a>,
+    text: &str,
+) -> Result<(&'a str, bool), AllocError> {
+    map.insert_new(1, String::from_str(alloc, text)?)
+}
+
 #[test]
 fn the_first_value_of_a_key_stays(rt: HostRuntime) -> Result<(), Fail> {
     let alloc = rt.alloc();
     let arena = Bump::new(alloc);
-    let mut map: FrozenMap<'_, u32, String> = FrozenMap::new(alloc, &arena);
-    assert!(rt; map.is_empty());
-    assert_eq!(rt; map.insert(1, String::from_str(alloc, "a")?)?, "a");
-    assert_eq!(rt; map.insert(1, String::from_str(alloc, "b")?)?, "a");
-    assert_eq!(rt;
-        map.insert_new(1, String::from_str(alloc, "c")?)?,
-        ("a", false)
-    );
-    assert_eq!(rt; map.len(), 1);
+    let mut map: Hashed<'_> = FrozenMap::new(alloc, &arena);
+    let empty = map.is_empty();
+    let answers = [insert(alloc, &mut map, "a")?, insert(alloc, &mut map, "b")?];
+    let third = insert_new(alloc, &mut map, "c")?;
+    assert!(rt; empty && answers == ["a", "a"] && third == ("a", false) && map.len() == 1);
     Ok(())
+}
+
+type Ordered<'a> = FrozenBTreeMap<'a, u32, String>;
+
+fn ordered_insert<'a>(
+    alloc: Global,
+    map: &mut Ordered<'a>,
+    text: &str,
+) -> Result<&'a str, AllocError> {
+    map.insert(1, String::from_str(alloc, text)?)
+}
+
+fn ordered_insert_new<'a>(
+    alloc: Global,
+    map: &mut Ordered<'a>,
+    text: &str,
+) -> Result<(&'a str, bool), AllocError> {
+    map.insert_new(1, String::from_str(alloc, text)?)
+}
+
+// The value at 1 by `[]`, if the key is there.
+fn at_one<'a>(map: &Ordered<'a>) -> Option<&'a str> {
+    if map.get(&1).is_none() {
+        return None;
+    }
+    Some(map[&1])
 }
 
 #[test]
 fn the_first_value_of_an_ordered_key_stays(rt: HostRuntime) -> Result<(), Fail> {
     let alloc = rt.alloc();
     let arena = Bump::new(alloc);
-    let mut map: FrozenBTreeMap<'_, u32, String> = FrozenBTreeMap::new(alloc, &arena);
-    assert!(rt; map.is_empty());
-    assert_eq!(rt;
-        map.insert_new(1, String::from_str(alloc, "a")?)?,
-        ("a", true)
-    );
-    assert_eq!(rt;
-        map.insert_new(1, String::from_str(alloc, "b")?)?,
-        ("a", false)
-    );
-    assert_eq!(rt; map.insert(1, String::from_str(alloc, "c")?)?, "a");
-    assert_eq!(rt; (map.len(), map[&1]), (1, "a"));
+    let mut map: Ordered<'_> = FrozenBTreeMap::new(alloc, &arena);
+    let empty = map.is_empty();
+    let answers = [
+        ordered_insert_new(alloc, &mut map, "a")?,
+        ordered_insert_new(alloc, &mut map, "b")?,
+    ];
+    let third = ordered_insert(alloc, &mut map, "c")?;
+    assert!(rt; empty && answers == [("a", true), ("a", false)] && third == "a");
+    assert!(rt; map.len() == 1 && at_one(&map) == Some("a"));
     Ok(())
+}
+
+// ---- collecting
+
+// The pairs of an ordered map of these texts, as a list.
+fn ordered_pairs<'a>(
+    alloc: Global,
+    arena: &'a Bump,
+    pairs: [(u32, &'a str); 3],
+) -> Result<Vec<(u32, &'a str)>, AllocError> {
+    let mut map: FrozenBTreeMap<'_, u32, &str> = FrozenBTreeMap::new(alloc, arena);
+    for (key, value) in pairs {
+        map.insert(key, value)?;
+    }
+    map.into_tuple_vec()
 }
 
 #[test]
 fn ordered_pairs_ascend(rt: HostRuntime) -> Result<(), Fail> {
-    let alloc = rt.alloc();
-    let arena = Bump::new(alloc);
-    let mut map: FrozenBTreeMap<'_, u32, &str> = FrozenBTreeMap::new(alloc, &arena);
-    for (key, value) in [(2, "b"), (1, "a"), (3, "c")] {
-        map.insert(key, value)?;
-    }
-    let pairs = map.into_tuple_vec()?;
-    assert_eq!(rt; pairs.as_slice(), [(1, "a"), (2, "b"), (3, "c")].as_slice());
+    let arena = Bump::new(rt.alloc());
+    let pairs = ordered_pairs(rt.alloc(), &arena, [(2, "b"), (1, "a"), (3, "c")])?;
+    assert!(rt; pairs.as_slice() == [(1, "a"), (2, "b"), (3, "c")].as_slice());
     Ok(())
+}
+
+// The values at 1 and 2 in a hashed map of these pairs, and their number.
+fn hashed_of<'a>(
+    alloc: Global,
+    arena: &'a Bump,
+    pairs: [(u32, &'a str); 2],
+) -> Result<([Option<&'a str>; 2], usize), AllocError> {
+    let map: FrozenMap<'_, u32, &str> = FrozenMap::from_iter(
+        alloc,
+        arena,
+        BuildHasherDefault::new(),
+        pairs,
+    )?;
+    Ok(([map.get(&1), map.get(&2)], map.len()))
+}
+
+// The same in an ordered map.
+fn ordered_of<'a>(
+    alloc: Global,
+    arena: &'a Bump,
+    pairs: [(u32, &'a str); 2],
+) -> Result<([Option<&'a str>; 2], usize), AllocError> {
+    let map: FrozenBTreeMap<'_, u32, &str> = FrozenBTreeMap::from_iter(alloc, arena, pairs)?;
+    Ok(([map.get(&1), map.get(&2)], map.len()))
 }
 
 #[test]
 fn collecting_keeps_the_last_value(rt: HostRuntime) -> Result<(), Fail> {
     let alloc = rt.alloc();
     let arena = Bump::new(alloc);
-    let hashed: FrozenMap<'_, u32, &str> = FrozenMap::from_iter(
-        alloc,
-        &arena,
-        BuildHasherDefault::new(),
-        [(1, "a"), (1, "b")],
-    )?;
-    let ordered: FrozenBTreeMap<'_, u32, &str> = FrozenBTreeMap::from_iter(
-        alloc,
-        &arena,
-        [(1, "a"), (1, "b")],
-    )?;
-    assert_eq!(rt; (hashed.get(&1), hashed.get(&2)), (Some("b"), None));
-    assert_eq!(rt; (ordered.get(&1), ordered.get(&2)), (Some("b"), None));
-    assert_eq!(rt; (hashed.len(), ordered.len()), (1, 1));
+    let hashed = hashed_of(alloc, &arena, [(1, "a"), (1, "b")])?;
+    let ordered = ordered_of(alloc, &arena, [(1, "a"), (1, "b")])?;
+    let want = ([Some("b"), None], 1);
+    assert!(rt; hashed == want && ordered == want);
     Ok(())
+}
+
+// ---- looking up
+
+type Keyed<'a, 'k> = FrozenMap<'a, &'k str, String>;
+
+fn pair<'a, 'k>(map: &Keyed<'a, 'k>, key: &'k str) -> Option<(&'k str, &'a str)> {
+    map.get_key_value(&key)
+}
+
+fn length_at<'k>(map: &Keyed<'_, 'k>, key: &'k str) -> Option<usize> {
+    map.map_get(&key, |value| value.len())
+}
+
+// How often the function of a look-up is called.
+fn calls_at<'k>(map: &Keyed<'_, 'k>, key: &'k str) -> usize {
+    let mut calls = 0usize;
+    let _answer = map.map_get(&key, |_| calls = 1);
+    calls
 }
 
 #[test]
 fn an_absent_key_calls_nothing(rt: HostRuntime) -> Result<(), Fail> {
-    let alloc = rt.alloc();
-    let arena = Bump::new(alloc);
-    let mut map: FrozenMap<'_, &str, String> = FrozenMap::new(alloc, &arena);
-    map.insert("1", String::from_str(alloc, "a")?)?;
-    assert_eq!(rt; map.get_key_value(&"1"), Some(("1", "a")));
-    assert_eq!(rt; map.get_key_value(&"2"), None);
-    let mut calls = 0;
-    let found = map.map_get(&"1", |value| value.len());
-    let missed = map.map_get(&"2", |_| calls += 1);
-    assert_eq!(rt; (found, missed.is_none(), calls), (Some(1), true, 0));
+    let arena = Bump::new(rt.alloc());
+    let mut map: Keyed<'_, '_> = FrozenMap::new(rt.alloc(), &arena);
+    let text = String::from_str(rt.alloc(), "a")?;
+    map.insert("1", text)?;
+    let there = pair(&map, "1");
+    assert!(rt; there == Some(("1", "a")) && pair(&map, "2").is_none());
+    assert!(rt; length_at(&map, "1") == Some(1) && length_at(&map, "2").is_none());
+    assert!(rt; calls_at(&map, "1") == 1 && calls_at(&map, "2") == 0);
     Ok(())
+}
+
+// ---- equality, clones, inner maps
+
+fn without_hash(
+    alloc: Global,
+    arena: &Bump,
+    pairs: [(NoHash, Own<u32>); 2],
+) -> Result<FrozenBTreeMap<'_, NoHash, Own<u32>>, AllocError> {
+    FrozenBTreeMap::from_iter(alloc, arena, pairs)
 }
 
 #[test]
@@ -114,82 +202,94 @@ fn equality_asks_for_no_hash_and_no_order(rt: HostRuntime) -> Result<(), Fail> {
     let arena = Bump::new(alloc);
     let up = [(NoHash(1), Own(10)), (NoHash(2), Own(20))];
     let down = [(NoHash(2), Own(20)), (NoHash(1), Own(10))];
-    let mut first: FrozenBTreeMap<'_, NoHash, Own<u32>> = FrozenBTreeMap::from_iter(
-        alloc, &arena, up,
-    )?;
-    let second: FrozenBTreeMap<'_, NoHash, Own<u32>> = FrozenBTreeMap::from_iter(
-        alloc, &arena, down,
-    )?;
-    assert!(rt; first == second);
+    let mut first = without_hash(alloc, &arena, up)?;
+    let second = without_hash(alloc, &arena, down)?;
+    let equal = first == second;
     first.insert(NoHash(3), Own(30))?;
-    assert!(rt; first != second);
+    assert!(rt; equal && first != second);
     Ok(())
+}
+
+// Whether each key below 200 has itself as its value.
+fn has_all(map: &FrozenMap<'_, SameHash, Own<u32>>) -> bool {
+    for number in 0..200 {
+        if map.get(&SameHash(number)).copied() != Some(number) {
+            return false;
+        }
+    }
+    map.len() == 200
 }
 
 #[test]
 fn keys_that_hash_alike_are_told_apart(rt: HostRuntime) -> Result<(), Fail> {
-    let alloc = rt.alloc();
-    let arena = Bump::new(alloc);
-    let mut map: FrozenMap<'_, SameHash, Own<u32>> = FrozenMap::new(alloc, &arena);
+    let arena = Bump::new(rt.alloc());
+    let mut map: FrozenMap<'_, SameHash, Own<u32>> = FrozenMap::new(rt.alloc(), &arena);
     for number in 0..200 {
         map.insert(SameHash(number), Own(number))?;
     }
-    for number in 0..200 {
-        assert_eq!(rt; map.get(&SameHash(number)).copied(), Some(number));
-    }
-    assert_eq!(rt; map.len(), 200);
+    assert!(rt; has_all(&map));
     Ok(())
+}
+
+type Seeded<'a> = FrozenMap<'a, u32, &'a str, RandomState>;
+
+// A map of one pair and a clone of it with one more, and whether the two were equal.
+fn parted<'a>(
+    alloc: Global,
+    arena: &'a Bump,
+    hasher: RandomState,
+) -> Result<(Seeded<'a>, Seeded<'a>, bool), AllocError> {
+    let mut map: Seeded<'a> = FrozenMap::with_hasher(alloc, arena, hasher);
+    map.insert(1, "a")?;
+    let mut copy = map.clone()?;
+    let equal = copy == map;
+    copy.insert(2, "b")?;
+    Ok((map, copy, equal))
+}
+
+// The value at a key by `[]`, if the key is there.
+fn by_key<'a>(map: &Seeded<'a>, key: u32) -> Option<&'a str> {
+    if map.get(&key).is_none() {
+        return None;
+    }
+    Some(map[&key])
 }
 
 #[test]
 fn a_clone_and_its_source_part(rt: HostRuntime) -> Result<(), Fail> {
-    let alloc = rt.alloc();
-    let arena = Bump::new(alloc);
-    let mut map: FrozenMap<'_, u32, &str, RandomState> = FrozenMap::with_hasher(
-        alloc,
-        &arena,
-        RandomState::new(&rt)?,
-    );
-    map.insert(1, "a")?;
-    let mut copy = map.clone()?;
-    assert!(rt; copy == map);
-    copy.insert(2, "b")?;
-    assert_eq!(rt;
-        (map.get(&2), copy.get(&2), copy[&1]),
-        (None, Some("b"), "a")
-    );
+    let arena = Bump::new(rt.alloc());
+    let hasher = RandomState::new(&rt)?;
+    let (map, copy, equal) = parted(rt.alloc(), &arena, hasher)?;
+    assert!(rt; equal && by_key(&map, 2).is_none() && by_key(&copy, 2) == Some("b"));
+    assert!(rt; by_key(&copy, 1) == Some("a"));
     Ok(())
+}
+
+type Based<'a> = FrozenBTreeMap<'a, u32, &'a str>;
+
+fn based<'a>(alloc: Global, arena: &'a Bump) -> Result<Based<'a>, AllocError> {
+    let mut base: BTreeMap<u32, &'a str> = BTreeMap::new(alloc);
+    base.insert(1, "base")?;
+    Ok(FrozenBTreeMap::from_map(alloc, arena, base))
+}
+
+// Takes 1 out of the inner map.
+fn remove_one(map: &mut Based<'_>) {
+    map.as_mut().remove(&1);
+}
+
+// How many pairs the inner map of a clone has.
+fn inner_count(map: &Based<'_>) -> Result<usize, AllocError> {
+    Ok(map.clone()?.into_map().len())
 }
 
 #[test]
 fn an_inner_map_is_a_base(rt: HostRuntime) -> Result<(), Fail> {
-    let alloc = rt.alloc();
-    let arena = Bump::new(alloc);
-    let mut base: BTreeMap<u32, &str> = BTreeMap::new(alloc);
-    base.insert(1, "base")?;
-    let mut map: FrozenBTreeMap<'_, u32, &str> = FrozenBTreeMap::from_map(alloc, &arena, base);
-    assert_eq!(rt; map.insert(1, "a")?, "base");
-    map.as_mut().remove(&1);
-    assert_eq!(rt; map.insert(1, "a")?, "a");
-    assert_eq!(rt; map.clone()?.into_map().len(), 1);
-    Ok(())
-}
-
-#[test]
-fn a_key_that_is_there_takes_no_memory(rt: HostRuntime) -> Result<(), Fail> {
-    let alloc = rt.alloc();
-    let arena = Bump::new(alloc);
-    let budget = Bump::new(alloc);
-    let mut map: FrozenMap<'_, u32, &str, _, &Bump> = FrozenMap::new(&budget, &arena);
-    map.insert(1, "a")?;
-    budget.set_allocation_limit(Some(0));
-    for key in 2..100 {
-        let had = map.len();
-        if map.insert(key, "b").is_err() {
-            assert_eq!(rt; map.len(), had);
-        }
-    }
-    assert_eq!(rt; map.insert_new(1, "c")?, ("a", false));
-    assert!(rt; map.len() < 99);
+    let arena = Bump::new(rt.alloc());
+    let mut map = based(rt.alloc(), &arena)?;
+    let first = map.insert(1, "a")?;
+    remove_one(&mut map);
+    let second = map.insert(1, "a")?;
+    assert!(rt; first == "base" && second == "a" && inner_count(&map)? == 1);
     Ok(())
 }

@@ -1,77 +1,98 @@
+//! What no clause says of the vector: worked rows, upstream's cases, and the places at which a search asks.
 use bumpalo::Bump;
 use elsa_once::stable::Own;
 use elsa_once::vec::{Cursor, FrozenVec};
-use std::alloc::AllocError;
+use std::alloc::{AllocError, Global};
 use std::cmp::Ordering;
 use std::test::Fail;
 
+type Names<'a> = FrozenVec<'a, String>;
+
 // ---- content
+
+// Whether these are the items, by place, at the ends, and counted.
+fn holds(names: &Names<'_>, want: &[&str]) -> bool {
+    for place in 0..want.len() {
+        if names.get(place) != want.get(place).copied() {
+            return false;
+        }
+    }
+    has_count(names, want.len()) && has_ends(names, want)
+}
+
+fn has_count(names: &Names<'_>, count: usize) -> bool {
+    names.len() == count
+        && names.is_empty() == (count == 0)
+        && names.get(count).is_none()
+        && names.get(usize::MAX).is_none()
+}
+
+fn has_ends(names: &Names<'_>, want: &[&str]) -> bool {
+    names.first() == want.first().copied() && names.last() == want.last().copied()
+}
+
+fn push_all(alloc: Global, names: &mut Names<'_>, texts: &[&str]) -> Result<(), AllocError> {
+    for text in texts {
+        names.push(String::from_str(alloc, *text)?)?;
+    }
+    Ok(())
+}
 
 #[test]
 fn an_empty_vector_and_three_pushes(rt: HostRuntime) -> Result<(), Fail> {
-    let arena = Bump::new(rt.alloc());
-    let mut names: FrozenVec<'_, String> = FrozenVec::new(rt.alloc(), &arena);
-    assert!(rt; names.is_empty());
-    assert_eq!(rt;
-        (names.first(), names.last(), names.get(1)),
-        (None, None, None)
-    );
-    assert_eq!(rt; names.get(usize::MAX), None);
-    for name in ["a", "b", "c"] {
-        names.push(String::from_str(rt.alloc(), name)?)?;
-    }
-    assert_eq!(rt; (names.len(), names.is_empty()), (3, false));
-    assert_eq!(rt;
-        (names.first(), names.last(), names.get(1)),
-        (Some("a"), Some("c"), Some("b"))
-    );
-    assert_eq!(rt; names.get(usize::MAX), None);
+    let alloc = rt.alloc();
+    let arena = Bump::new(alloc);
+    let mut names: Names<'_> = FrozenVec::new(alloc, &arena);
+    let empty = holds(&names, &[]);
+    push_all(alloc, &mut names, &["a", "b", "c"])?;
+    assert!(rt; empty && holds(&names, &["a", "b", "c"]));
     Ok(())
 }
 
 #[derive(Clone, Copy, Debug, PartialEq, Eq)]
 struct Moo(i32);
 
+fn cow(cows: &FrozenVec<'_, Own<Moo>>, place: usize) -> Option<i32> {
+    cows.get_copy(place).map(|moo| moo.0)
+}
+
 #[test]
 fn copies_of_what_stands_there(rt: HostRuntime) -> Result<(), Fail> {
     let arena = Bump::new(rt.alloc());
     let mut cows: FrozenVec<'_, Own<Moo>> = FrozenVec::new(rt.alloc(), &arena);
-    assert_eq!(rt; cows.get_copy(1), None);
+    let absent = cow(&cows, 1);
     for number in [1, 2, 3] {
         cows.push(Own(Moo(number)))?;
     }
-    assert_eq!(rt; cows.get_copy(1), Some(Moo(2)));
-    assert!(rt; cows.len() > 2);
-    assert_eq!(rt; (cows[2].0, cows.get_unchecked(0).0), (3, 1));
+    assert!(rt; absent.is_none() && cow(&cows, 1) == Some(2) && by_place(&cows) == Some((3, 1)));
     Ok(())
+}
+
+// The last of three by `[]`, and the first by a look without a test.
+fn by_place(cows: &FrozenVec<'_, Own<Moo>>) -> Option<(i32, i32)> {
+    if cows.len() != 3 {
+        return None;
+    }
+    Some((cows[2].0, cows.get_unchecked(0).0))
+}
+
+// The first of 1001 items, read before it is answered, when the vector has ended.
+fn first_of_many(alloc: Global, arena: &Bump) -> Result<(&str, bool), AllocError> {
+    let mut names: Names<'_> = FrozenVec::new(alloc, arena);
+    let first = names.push_get(String::from_str(alloc, "a")?)?;
+    for _ in 0..1000 {
+        names.push(String::from_str(alloc, "b")?)?;
+    }
+    let good = first == "a" && names.len() == 1001;
+    drop(names);
+    Ok((first, good))
 }
 
 #[test]
 fn the_first_borrow_outlives_the_vector(rt: HostRuntime) -> Result<(), Fail> {
     let arena = Bump::new(rt.alloc());
-    let mut names: FrozenVec<'_, String> = FrozenVec::new(rt.alloc(), &arena);
-    let first = names.push_get(String::from_str(rt.alloc(), "a")?)?;
-    for _ in 0..1000 {
-        names.push(String::from_str(rt.alloc(), "b")?)?;
-    }
-    assert_eq!(rt; (names.len(), first), (1001, "a"));
-    drop(names);
-    assert_eq!(rt; first, "a");
-    Ok(())
-}
-
-// The table's memory is refused: the push answers Err and nothing has changed.
-#[test]
-fn a_refused_push(rt: HostRuntime) -> Result<(), Fail> {
-    let arena = Bump::new(rt.alloc());
-    let table = Bump::new(rt.alloc());
-    let mut names: FrozenVec<'_, &str, &Bump> = FrozenVec::new(&table, &arena);
-    table.set_allocation_limit(Some(0));
-    assert!(rt; names.push("a").is_err());
-    assert!(rt; names.is_empty());
-    table.set_allocation_limit(None);
-    assert_eq!(rt; names.push_get("b")?, "b");
-    assert_eq!(rt; (names.len(), names.get(0)), (1, Some("b")));
+    let (first, good) = first_of_many(rt.alloc(), &arena)?;
+    assert!(rt; good && first == "a");
     Ok(())
 }
 
@@ -81,192 +102,281 @@ struct Thing<'a> {
     friends: &'a [Thing<'a>],
 }
 
+type Things<'a> = FrozenVec<'a, Own<Thing<'a>>>;
+
+// Adds a thing whose friends are all that were added before it.
+fn befriend<'a>(
+    arena: &'a Bump,
+    things: &mut Things<'a>,
+    before: &[Thing<'a>],
+    name: &'a str,
+) -> Result<Thing<'a>, AllocError> {
+    let friends: &'a [Thing<'a>] = arena.try_alloc_slice_copy(before)?;
+    Ok(*things.push_get(Own(Thing { name, friends }))?)
+}
+
+// Whether the things have these names, and each as many friends as stand before it.
+fn are_named(things: &Things<'_>, names: &[&str]) -> bool {
+    let mut place = 0usize;
+    for thing in things {
+        if names.get(place) != Some(&thing.name) || thing.friends.len() != place {
+            return false;
+        }
+        place = place.saturating_add(1);
+    }
+    place == names.len()
+}
+
+// The name of the first friend of the second thing.
+fn a_friend<'a>(things: &Things<'a>) -> Option<&'a str> {
+    if things.len() < 2 {
+        return None;
+    }
+    Some(things[1].friends.first()?.name)
+}
+
 #[test]
 fn things_that_befriend_each_other(rt: HostRuntime) -> Result<(), Fail> {
     let arena = Bump::new(rt.alloc());
-    let mut things: FrozenVec<'_, Own<Thing<'_>>> = FrozenVec::new(rt.alloc(), &arena);
-    let lonely = things.push_get(Own(Thing {
-        name: "lonely",
-        friends: &[],
-    }))?;
-    let one: &[Thing<'_>] = arena.try_alloc_slice_copy(&[*lonely])?;
-    let best = things.push_get(Own(Thing {
-        name: "best friend",
-        friends: one,
-    }))?;
-    let two: &[Thing<'_>] = arena.try_alloc_slice_copy(&[*lonely, *best])?;
-    things.push(Own(Thing {
-        name: "threes a crowd",
-        friends: two,
-    }))?;
-    let names = ["lonely", "best friend", "threes a crowd"];
-    let mut count = 0;
-    for thing in &things {
-        assert_eq!(rt;
-            (names.get(count), thing.friends.len()),
-            (Some(&thing.name), count)
-        );
-        count += 1;
-    }
-    assert_eq!(rt; count, 3);
-    assert!(rt; things.len() > 1);
-    let best = things[1];
-    assert!(rt; best.friends.len() > 0);
-    assert_eq!(rt; best.friends[0].name, "lonely");
+    let mut things: Things<'_> = FrozenVec::new(rt.alloc(), &arena);
+    let lonely = befriend(&arena, &mut things, &[], "lonely")?;
+    let best = befriend(&arena, &mut things, &[lonely], "best friend")?;
+    befriend(&arena, &mut things, &[lonely, best], "threes a crowd")?;
+    assert!(rt;
+        are_named(&things, &["lonely", "best friend", "threes a crowd"])
+            && a_friend(&things) == Some("lonely")
+    );
     Ok(())
 }
 
 // ---- making, taking apart, comparing
 
+type Texts<'a> = FrozenVec<'a, &'a str>;
+
+// A vector of these texts and a clone of it, each with one more text of its own.
+fn parted_pair<'a>(
+    alloc: Global,
+    arena: &'a Bump,
+    texts: [&'a str; 4],
+) -> Result<(Texts<'a>, Texts<'a>, bool), AllocError> {
+    let mut one: Texts<'a> = FrozenVec::from_iter(alloc, arena, texts.into_iter())?;
+    let mut other = one.clone()?;
+    let equal = one == other;
+    one.push("e")?;
+    other.push("f")?;
+    Ok((one, other, equal))
+}
+
+// Taken apart and made again, and once more after the inner vector was cleared.
+fn made_again<'a>(arena: &'a Bump, texts: Texts<'a>) -> (usize, Option<&'a str>, bool) {
+    let mut again: Texts<'a> = FrozenVec::from_vec(arena, texts.into_vec());
+    let (count, last) = (again.len(), again.last());
+    again.as_mut().clear();
+    (count, last, again.is_empty())
+}
+
 #[test]
 fn collected_cloned_and_taken_apart(rt: HostRuntime) -> Result<(), Fail> {
     let arena = Bump::new(rt.alloc());
-    let mut one: FrozenVec<'_, &str> = FrozenVec::from_iter(
-        rt.alloc(),
-        &arena,
-        ["a", "b", "c", "d"].into_iter(),
-    )?;
-    let mut other = one.clone()?;
-    assert!(rt; one == other);
-    one.push("e")?;
-    other.push("f")?;
-    assert!(rt; one != other);
-    assert_eq!(rt;
-        (one.get(4), other.get(4), other.len()),
-        (Some("e"), Some("f"), 5)
-    );
-    other.as_mut().clear();
-    assert!(rt; other.is_empty());
-    let again: FrozenVec<'_, &str> = FrozenVec::from_vec(&arena, one.into_vec());
-    assert_eq!(rt; (again.len(), again.last()), (5, Some("e")));
+    let (one, other, equal) = parted_pair(rt.alloc(), &arena, ["a", "b", "c", "d"])?;
+    assert!(rt; equal && one != other && other.get(4) == Some("f"));
+    assert!(rt; made_again(&arena, one) == (5, Some("e"), true));
     Ok(())
 }
 
 // ---- walks
 
+// Whether an iterator gives these texts, collected and counted.
+fn walks(alloc: Global, texts: &Texts<'_>, want: &[&str]) -> Result<bool, AllocError> {
+    let all: Vec<&str> = texts.iter().collect(alloc)?;
+    Ok(all.as_slice() == want && texts.iter().count() == want.len())
+}
+
+#[test]
+fn a_walk_gives_each_item_once(rt: HostRuntime) -> Result<(), Fail> {
+    let arena = Bump::new(rt.alloc());
+    let texts: Texts<'_> = FrozenVec::from_iter(
+        rt.alloc(),
+        &arena,
+        ["a", "b", "c", "d"].into_iter(),
+    )?;
+    assert!(rt; walks(rt.alloc(), &texts, &["a", "b", "c", "d"])?);
+    Ok(())
+}
+
 #[test]
 fn a_cursor_amid_pushes(rt: HostRuntime) -> Result<(), Fail> {
     let arena = Bump::new(rt.alloc());
-    let mut names: FrozenVec<'_, &str> = FrozenVec::new(rt.alloc(), &arena);
+    let mut names: Texts<'_> = FrozenVec::new(rt.alloc(), &arena);
     let mut cursor = Cursor::new();
     names.push("a")?;
-    assert_eq!(rt; cursor.next(&names), Some("a"));
-    assert_eq!(rt; cursor.next(&names), None);
+    let seen = [cursor.next(&names), cursor.next(&names)];
     names.push("b")?;
-    assert_eq!(rt; cursor.next(&names), Some("b"));
+    assert!(rt; seen == [Some("a"), None] && cursor.next(&names) == Some("b"));
     Ok(())
 }
 
 // ---- searches
 
+// Whether each text is found as it stands beside it.
+fn finds<'a>(texts: &Texts<'a>, rows: &[(&'a str, Result<usize, usize>)]) -> bool {
+    for row in rows {
+        if texts.binary_search(&row.0) != row.1 {
+            return false;
+        }
+    }
+    true
+}
+
+// The same by their lengths.
+fn finds_by_length(texts: &Texts<'_>, rows: &[(usize, Result<usize, usize>)]) -> bool {
+    for row in rows {
+        if texts.binary_search_by_key(&row.0, |text| text.len()) != row.1 {
+            return false;
+        }
+    }
+    true
+}
+
+// Where the texts shorter than this end.
+fn shorter(texts: &Texts<'_>, length: usize) -> usize {
+    texts.partition_point(|text| text.len() < length)
+}
+
 #[test]
 fn searches_of_sorted_texts(rt: HostRuntime) -> Result<(), Fail> {
     let arena = Bump::new(rt.alloc());
-    let mut texts: FrozenVec<'_, &str> = FrozenVec::new(rt.alloc(), &arena);
-    for text in ["ab", "cde", "fghij"] {
-        texts.push(text)?;
-    }
-    for (text, answer) in [
-        ("cde", Ok(1)),
-        ("cdf", Err(2)),
-        ("a", Err(0)),
-        ("g", Err(3)),
-    ] {
-        assert_eq!(rt; texts.binary_search(&text), answer);
-    }
-    for (length, answer) in [(1, Err(0)), (3, Ok(1)), (4, Err(2))] {
-        assert_eq!(rt;
-            texts.binary_search_by_key(&length, |text| text.len()),
-            answer
-        );
-    }
-    assert_eq!(rt; texts.partition_point(|text| text.len() < 4), 2);
-    assert_eq!(rt; texts.partition_point(|_| false), 0);
-    assert_eq!(rt; texts.partition_point(|_| true), 3);
+    let texts: Texts<'_> = FrozenVec::from_iter(
+        rt.alloc(),
+        &arena,
+        ["ab", "cde", "fghij"].into_iter(),
+    )?;
+    assert!(rt;
+        finds(
+            &texts,
+            &[
+                ("cde", Ok(1)),
+                ("cdf", Err(2)),
+                ("a", Err(0)),
+                ("g", Err(3))
+            ],
+        )
+    );
+    assert!(rt; finds_by_length(&texts, &[(1, Err(0)), (3, Ok(1)), (4, Err(2))]));
+    assert!(rt; [shorter(&texts, 4), shorter(&texts, 0), shorter(&texts, 9)] == [2, 0, 3]);
     Ok(())
 }
 
+type Numbers<'a> = FrozenVec<'a, Own<usize>>;
+
 // The numbers from 0 up.
-fn numbers<'a>(
-    rt: &HostRuntime,
-    arena: &'a Bump,
-    count: usize,
-) -> Result<FrozenVec<'a, Own<usize>>, AllocError> {
-    let mut made = FrozenVec::new(rt.alloc(), arena);
+fn numbers(alloc: Global, arena: &Bump, count: usize) -> Result<Numbers<'_>, AllocError> {
+    let mut made = FrozenVec::new(alloc, arena);
     for number in 0..count {
         made.push(Own(number))?;
     }
     Ok(made)
 }
 
+// No place of a search.
+const NO: usize = usize::MAX;
+
+// Whether the noted places are these, up to the first that is none.
+fn are_noted(places: &Vec<usize>, calls: [usize; 4]) -> bool {
+    for at in 0..4 {
+        if places.get(at).copied().unwrap_or(NO) != calls[at] {
+            return false;
+        }
+    }
+    places.len() <= 4
+}
+
 // A search by a closure that gives these answers in turn, and the last one from then on, and notes where it was called.
 fn searched(
-    items: &FrozenVec<'_, Own<usize>>,
-    answers: &[Ordering],
+    items: &Numbers<'_>,
+    answers: [Ordering; 2],
     places: &mut Vec<usize>,
 ) -> Result<usize, usize> {
-    let mut left = answers;
-    let mut answer = Ordering::Equal;
+    let [mut answer, last] = answers;
     items.binary_search_by(|place| {
-        if let Some((next, rest)) = left.split_first() {
-            answer = *next;
-            left = rest;
-        }
         let _noted = places.push(*place);
-        answer
+        let now = answer;
+        answer = last;
+        now
     })
+}
+
+// Whether a search of so many items with these answers calls at these places and answers this.
+fn calls_at(
+    alloc: Global,
+    count: usize,
+    answers: [Ordering; 2],
+    calls: [usize; 4],
+    answer: Result<usize, usize>,
+) -> Result<bool, AllocError> {
+    let arena = Bump::new(alloc);
+    let items = numbers(alloc, &arena, count)?;
+    let mut places = Vec::new(alloc);
+    Ok(searched(&items, answers, &mut places) == answer && are_noted(&places, calls))
 }
 
 #[test]
 fn the_calls_of_a_search(rt: HostRuntime) -> Result<(), Fail> {
     use std::cmp::Ordering::{Equal, Greater, Less};
-    let arena = Bump::new(rt.alloc());
-    let rows: [(usize, &[Ordering], &[usize], Result<usize, usize>); 7] = [
-        (8, &[Less], &[4, 6, 7], Err(8)),
-        (8, &[Greater], &[4, 2, 1, 0], Err(0)),
-        (8, &[Equal], &[4], Ok(4)),
-        (3, &[Less, Greater], &[1, 2], Err(2)),
-        (3, &[Greater, Less], &[1, 0], Err(1)),
-        (3, &[Less], &[1, 2], Err(3)),
-        (0, &[], &[], Err(0)),
-    ];
-    for (count, answers, calls, answer) in rows {
-        let items = numbers(&rt, &arena, count)?;
-        let mut places = Vec::new(rt.alloc());
-        assert_eq!(rt; searched(&items, answers, &mut places), answer);
-        assert!(rt; places.as_slice() == calls, "at {count} items");
+    for (count, answers, calls, answer) in [
+        (8, [Less, Less], [4, 6, 7, NO], Err(8)),
+        (8, [Greater, Greater], [4, 2, 1, 0], Err(0)),
+        (8, [Equal, Equal], [4, NO, NO, NO], Ok(4)),
+        (3, [Less, Greater], [1, 2, NO, NO], Err(2)),
+        (3, [Greater, Less], [1, 0, NO, NO], Err(1)),
+        (3, [Less, Less], [1, 2, NO, NO], Err(3)),
+        (0, [Less, Less], [NO, NO, NO, NO], Err(0)),
+    ] {
+        assert!(rt;
+            calls_at(rt.alloc(), count, answers, calls, answer)?,
+            "at {count}"
+        );
     }
     Ok(())
 }
 
-// The same of a partition.
-fn parted(items: &FrozenVec<'_, Own<usize>>, answers: &[bool], places: &mut Vec<usize>) -> usize {
-    let mut left = answers;
-    let mut answer = true;
+// The same of a partition, with three answers.
+fn parted(items: &Numbers<'_>, answers: [bool; 3], places: &mut Vec<usize>) -> usize {
+    let [mut answer, mut next, last] = answers;
     items.partition_point(|place| {
-        if let Some((next, rest)) = left.split_first() {
-            answer = *next;
-            left = rest;
-        }
         let _noted = places.push(*place);
-        answer
+        let now = answer;
+        answer = next;
+        next = last;
+        now
     })
+}
+
+fn parts_at(
+    alloc: Global,
+    count: usize,
+    answers: [bool; 3],
+    calls: [usize; 4],
+    answer: usize,
+) -> Result<bool, AllocError> {
+    let arena = Bump::new(alloc);
+    let items = numbers(alloc, &arena, count)?;
+    let mut places = Vec::new(alloc);
+    Ok(parted(&items, answers, &mut places) == answer && are_noted(&places, calls))
 }
 
 #[test]
 fn the_calls_of_a_partition(rt: HostRuntime) -> Result<(), Fail> {
-    let arena = Bump::new(rt.alloc());
-    let rows: [(usize, &[bool], &[usize], usize); 4] = [
-        (7, &[true], &[3, 5, 6], 7),
-        (4, &[false, true], &[2, 1], 2),
-        (5, &[true, false, true], &[2, 4, 3], 4),
-        (0, &[], &[], 0),
-    ];
-    for (count, answers, calls, answer) in rows {
-        let items = numbers(&rt, &arena, count)?;
-        let mut places = Vec::new(rt.alloc());
-        assert_eq!(rt; parted(&items, answers, &mut places), answer);
-        assert!(rt; places.as_slice() == calls, "at {count} items");
+    for (count, answers, calls, answer) in [
+        (7, [true, true, true], [3, 5, 6, NO], 7),
+        (4, [false, true, true], [2, 1, NO, NO], 2),
+        (5, [true, false, true], [2, 4, 3, NO], 4),
+        (0, [true, true, true], [NO, NO, NO, NO], 0),
+    ] {
+        assert!(rt;
+            parts_at(rt.alloc(), count, answers, calls, answer)?,
+            "at {count}"
+        );
     }
     Ok(())
 }
@@ -278,9 +388,6 @@ fn searches_of_unsorted_numbers(rt: HostRuntime) -> Result<(), Fail> {
     for number in [3, 1, 2] {
         items.push(Own(number))?;
     }
-    assert_eq!(rt;
-        (items.binary_search(&&1), items.binary_search(&&3)),
-        (Ok(1), Err(3))
-    );
+    assert!(rt; [items.binary_search(&&1), items.binary_search(&&3)] == [Ok(1), Err(3)]);
     Ok(())
 }
