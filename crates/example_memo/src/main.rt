@@ -1,0 +1,57 @@
+//! A memo table that worker threads share, with a recorder beside it.
+//!
+//! Four workers compute Fibonacci numbers. What one of them has computed stands in a [`FrozenMap`](elsa::sync::FrozenMap) for all: the first
+//! value of a key stays. No contract can say what stands in a table that others write to, so a value carries what it is
+//! ([`Term`](term::Term) has a ghost field), and each number that is answered is proved to be the right one.
+//!
+//! Each worker also tells a [`Recorder`](elsa::sync::history::Recorder) of its results. When the workers are done the recorder is closed with
+//! their passes. That succeeds exactly if the receipts in the passes are the recorder's history, which is proved to be legal: each reply
+//! follows from the calls before it. So the audit at the end reads the history and trusts no worker. The program prints the same whatever the
+//! schedule.
+#![tactic(auto)]
+
+mod audit;
+mod term;
+mod worker;
+
+use crate::audit::{closed, told_by};
+use crate::worker::{Memo, Tellings, work};
+use elsa::sync::map::MapState;
+use elsa::sync::{FrozenMap, history};
+use std::{io, thread};
+
+const WORKERS: usize = 4;
+
+fn main(rt: HostRuntime) -> io::Result<()> {
+    let alloc = rt.alloc();
+    let memo: Memo = FrozenMap::new(alloc);
+    let recorder: Tellings = history::Recorder::new(alloc, MapState::new(alloc));
+    let (shared, told) = (&memo, &recorder);
+    let results = thread::map_indices(
+        &rt,
+        alloc,
+        WORKERS,
+        &|worker| work(&rt, shared, told, worker),
+    )?;
+    let mut passes = Vec::new(alloc);
+    for result in results {
+        passes.push(result?)?;
+    }
+    println!(rt; "{} numbers in the table", memo.len(&rt))?;
+    let Some(history) = closed(recorder, passes) else {
+        return rt.println("the receipts aren't the history");
+    };
+    println!(rt; "{} calls, all of them legal", history.entries().len())?;
+    for worker in 0..WORKERS {
+        println!(rt;
+            "worker {worker} told of {}",
+            told_by(&history, worker as u64)
+        )?;
+    }
+    for place in [10, 20, 50, 90] {
+        if let Some(value) = history.core().get_copy(&place) {
+            println!(rt; "number {place} is {value}")?;
+        }
+    }
+    Ok(())
+}

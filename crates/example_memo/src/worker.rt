@@ -1,0 +1,62 @@
+//! What each thread does.
+ghost use Rattle.std.specs.Prelude.{◌≡◌, IfOk, IfSome};
+ghost use Rattle.example_memo.specs.Fibonacci.{fibonacci_at};
+
+use crate::term::Term;
+use elsa::sync::FrozenMap;
+use elsa::sync::history::{MapCommand, RecordPass, Recorder};
+use elsa::sync::map::MapState;
+use std::alloc::AllocError;
+use std::sync::Wait;
+
+/// The table: terms by their places.
+pub type Memo = FrozenMap<u64, Term>;
+
+/// What the recorder records: insertions of numbers at their places.
+pub type Tellings = Recorder<MapState<u64, u64>>;
+
+/// The greatest place that is asked for.
+pub const LAST: u64 = 90;
+
+/// The number at a place, from the table or by the rule. `None` where it is 2^64 or more. It waits for the table.
+fn number<R: Wait>(rt: &R, memo: &Memo, place: u64) -> Result<Option<u64>, AllocError>
+    ensures { IfOk result (λ number. IfSome number (λ value. value ≡ fibonacci_at place)) }
+{
+    if place < 2 {
+        return Ok(Some(place));
+    }
+    if let Some(term) = memo.get_copy(rt, &place) {
+        return Ok(term.at(place));
+    }
+    let Some(one) = number(rt, memo, place - 1)? else {
+        return Ok(None);
+    };
+    let Some(two) = number(rt, memo, place - 2)? else {
+        return Ok(None);
+    };
+    let Some(value) = one.checked_add(two) else {
+        return Ok(None);
+    };
+    let term = memo.get_copy_or_insert(rt, place, Term::new(place, value))?;
+    Ok(term.at(place))
+}
+
+/// Computes the numbers at every fourth place from the worker's own, and tells the recorder of each.
+pub fn work<R: Wait>(
+    rt: &R,
+    memo: &Memo,
+    recorder: &Tellings,
+    worker: usize,
+) -> Result<RecordPass<MapState<u64, u64>>, AllocError> {
+    let first = worker as u64;
+    let mut pass = recorder.pass(first);
+    for place in 0..=LAST {
+        if place % 4 != first {
+            continue;
+        }
+        if let Some(value) = number(rt, memo, place)? {
+            recorder.call(rt, &mut pass, MapCommand::Insert(place, value))?;
+        }
+    }
+    Ok(pass)
+}
