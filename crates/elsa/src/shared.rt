@@ -2,7 +2,9 @@
 //!
 //! What each worker was answered follows from its pass and needs no check: its places hold its numbers, rise, and are nobody else's. So at the
 //! end one length says whether all is there.
-ghost use Rattle.std.specs.Prelude.{◌≡◌, ◌*◌, ◌<◌, ◌≤◌, All, IfOk};
+ghost use Rattle.std.specs.Prelude.{◌≡◌, ◌+◌, ◌*◌, ◌^◌, ◌≤◌, All, IfNone, IfOk, length};
+ghost use Rattle.elsa_free.specs.SharedList.{mine};
+ghost use Rattle.elsa.specs.Workers.{numbers, pushed_by};
 
 use core::thread::Stack;
 use elsa_free::lock_free::{LockFreeFrozenVec, Pass};
@@ -52,7 +54,7 @@ impl<'v, A: Allocator> Promise<Done<A>> for Of<'v, A> {
     ghost kept_by = { λ of done. done.pass.vector ≡ of.0.now };
 }
 
-/// Pushes the worker's numbers in their order, and stops at a refused push and at a false answer of the gate.
+/// Pushes the worker's numbers in their order, and stops at a refused push and at a false answer of the gate. Numbers past the greatest go round.
 fn work<R: Wait, G: Gate, A: Allocator + Copy>(
     rt: &R,
     vector: &LockFreeFrozenVec<u64, A>,
@@ -60,7 +62,9 @@ fn work<R: Wait, G: Gate, A: Allocator + Copy>(
     worker: usize,
     count: usize,
 ) -> Done<A>
-    ensures { result.pass.vector ≡ vector.now }
+    ensures of { result.pass.vector ≡ vector.now }
+    ensures places { IfNone result.fault (length (mine result.pass) ≡ count) }
+    ensures numbers { worker * count + count ≤ 2 ^ 64 → IfNone result.fault (pushed_by result.pass.author result.pass.seen ≡ numbers (worker * count) count) }
 {
     let first = (worker as u64).wrapping_mul(count as u64);
     let mut pass = vector.pass();

@@ -1,4 +1,4 @@
-use Rattle.std.proofs.Common.{rules, ◌≡◌, ◌+◌, ◌<◌, ◌∙◌}
+use Rattle.std.proofs.Common.{rules, ◌≡◌, ◌+◌}
 use Rattle.elsa.proofs.shared.met.Goals as goal
 
 -- what is left of the workers is of the vector as all of them were
