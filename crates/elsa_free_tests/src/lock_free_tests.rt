@@ -126,12 +126,16 @@ fn a_clone_goes_its_own_way(rt: HostRuntime) -> Result<(), Fail> {
 }
 
 #[test]
-fn texts_and_units(rt: HostRuntime) -> Result<(), Fail> {
+fn texts(rt: HostRuntime) -> Result<(), Fail> {
     let words = LockFreeFrozenVec::<&str>::new(rt.alloc())?;
     assert_eq!(rt; words.get(usize::MAX), None);
     assert_eq!(rt; words.push(&rt, "lonely"), Ok(0));
     assert_eq!(rt; words.get(0), Some("lonely"));
-    assert!(rt; words.equals(&words));
+    Ok(())
+}
+
+#[test]
+fn units(rt: HostRuntime) -> Result<(), Fail> {
     let units = LockFreeFrozenVec::<()>::new(rt.alloc())?;
     assert_eq!(rt; units.clone()?.get(0), None);
     Ok(())
@@ -239,7 +243,10 @@ fn clones_at_rest(rt: HostRuntime) -> Result<(), Fail> {
         assert!(rt; push_all(&rt, &vector, 0, length));
         let copy = vector.clone()?;
         assert!(rt; has_places(&copy, length as usize), "of {length}");
-        assert!(rt; vector.equals(&copy), "of {length}");
+        assert!(rt;
+            vector.equals(&copy) && vector.equals(&vector),
+            "of {length}"
+        );
     }
     Ok(())
 }

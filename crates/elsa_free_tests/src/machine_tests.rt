@@ -282,12 +282,9 @@ fn places_lie_in_buffers(rt: HostRuntime) {
 
 #[test]
 fn items_stay_in_order(rt: HostRuntime) -> Result<(), AllocError> {
-    let alloc = rt.alloc();
-    let mut items = Items::new(alloc);
+    let mut items = Items::new(rt.alloc());
     items.push(7)?;
     items.push(9)?;
-    assert_eq!(rt; items, Items::from_vec(vec![in alloc; 7, 9]?));
-    assert!(rt; items != Items::from_vec(vec![in alloc; 9, 7]?));
     assert_eq!(rt; items.into_vec().as_slice(), [7, 9].as_slice());
     Ok(())
 }

@@ -1,11 +1,47 @@
 //! The slots, over an allocator that refuses and counts.
-ghost use Rattle.std.specs.Prelude.{◌≡◌, length, IfSome};
+ghost use Rattle.std.specs.Prelude.{◌≡◌, length, slice_index_or, IfSome};
 
-use elsa_free::slots::{Ahead, Blanks, Copied, Row, Slots, Told};
+use elsa_free::slots::{Ahead, Blank, Blanks, Copied, Row, Slots, Told};
 use std::alloc::Global;
 use std::process::Abort;
 use std::test::*;
 use test_alloc::Budget;
+
+/// The right that came back where the first buffer was refused.
+fn refused<'a>(slots: &Slots<u64, &'a Budget<Global>>, right: Blank) -> Option<Blank>
+    requires { (right.of ≡ slice_index_or slots.now 0 0) × (length slots.now ≡ 31) }
+    ensures { IfSome result (λ r. r.of ≡ right.of) }
+{
+    match slots.open(0, right) {
+        Err(right) => Some(right),
+        Ok((row, rights)) => {
+            row.unused();
+            rights.unused();
+            None
+        }
+    }
+}
+
+/// What the first slot holds once its buffer was opened and 7 written to it.
+fn first_of_opened<'a>(slots: &Slots<u64, &'a Budget<Global>>, right: Blank) -> Option<u64>
+    requires { (right.of ≡ slice_index_or slots.now 0 0) × (length slots.now ≡ 31) }
+{
+    match slots.open(0, right) {
+        Ok((row, rights)) => {
+            let mut rights = rights;
+            let written = slots.write(0, 0, 7, &row, rights.take());
+            let item = slots.read(0, 0, &row, &written);
+            rights.unused();
+            row.unused();
+            written.unused();
+            Some(item)
+        }
+        Err(right) => {
+            right.unused();
+            None
+        }
+    }
+}
 
 #[test]
 fn an_open_that_is_refused_and_the_same_open(rt: HostRuntime) -> Result<(), Fail> {
@@ -15,27 +51,11 @@ fn an_open_that_is_refused_and_the_same_open(rt: HostRuntime) -> Result<(), Fail
     let right = tops.take();
     tops.unused();
     budget.refuse_next(1);
-    let right = match slots.open(0, right) {
-        Err(right) => right,
-        Ok((row, rights)) => {
-            row.unused();
-            rights.unused();
-            panic!(rt; "a request was granted that the budget refuses")
-        }
+    let Some(right) = refused(&slots, right) else {
+        panic!(rt; "a request was granted that the budget refuses");
     };
-    let (row, mut rights) = match slots.open(0, right) {
-        Ok(opened) => opened,
-        Err(right) => {
-            right.unused();
-            panic!(rt; "a request was refused that the budget allows")
-        }
-    };
+    assert_eq!(rt; first_of_opened(&slots, right), Some(7));
     assert_eq!(rt; budget.asked(), asked.wrapping_add(2));
-    let written = slots.write(0, 0, 7, &row, rights.take());
-    rights.unused();
-    assert_eq!(rt; slots.read(0, 0, &row, &written), 7);
-    row.unused();
-    written.unused();
     drop(slots);
     assert_eq!(rt; budget.given(), budget.granted());
     Ok(())
