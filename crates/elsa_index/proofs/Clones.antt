@@ -1,7 +1,7 @@
 -- A map of clones, made pair by pair.
-use Rattle.std.proofs.Common.{◌≡◌, ℕ, ◌+◌, ◌<◌, Bool, true, false, cond, List, [], ◌∷◌, ◌++◌, length, take, drop, slice_get, get_or, Option, Some, None, is_some, refl, sym, ap, subst, ◌∙◌, true≢false, arith}
+use Rattle.std.proofs.Common.{◌≡◌, ℕ, ◌+◌, ◌<◌, Bool, true, false, cond, List, [], ◌∷◌, ◌++◌, length, take, drop, slice_get, get_or, Option, Some, None, is_some, refl, sym, ap, subst, ◌∙◌}
 use Rattle.std.specs.Cmp.{IsEquivalence}
-use Rattle.std.specs.List.{AllZip, IsDistinct}
+use Rattle.std.specs.List.{IsDistinct}
 use Rattle.std.specs.Map.{keys_of, lookup}
 use Rattle.std.proofs.lemmas.List.{drop_more, take-append-drop}
 use Rattle.std.proofs.lemmas.List.Elements.{all_zip_more}
@@ -10,11 +10,7 @@ use Rattle.indexmap.specs.IndexMap.{insert_entry}
 use Rattle.indexmap.specs.Layout.{hash_map}
 use Rattle.indexmap.proofs.MapLemmas.{absent_before}
 use Rattle.elsa_index.specs.Content.{IsCloneOf}
-use Rattle.elsa_index.proofs.Content.{new_key_goes_last}
-
-none_of : {X : Type 0} (o : Option X) → is_some o ≡ false → o ≡ None
-none_of None h = refl
-none_of (Some x) h = absurd (true≢false h)
+use Rattle.elsa_index.proofs.Content.{new_key_goes_last, none_of}
 
 found_alike : {X : Type 0} (b : Bool) (v w : X) (r s : Option X) → is_some r ≡ is_some s → is_some (cond b (Some v) r) ≡ is_some (cond b (Some w) s)
 found_alike true v w r s h = refl

@@ -7,7 +7,7 @@ use Rattle.std.proofs.lemmas.List.{map-append, reverse-append}
 use Rattle.indexmap.specs.IndexMap.{insert_entry}
 use Rattle.indexmap.specs.IndexSet.{insert_key}
 use Rattle.indexmap.proofs.SetLemmas.{keys_insert_entry}
-use Rattle.elsa_index.specs.Content.{first_of_each, Collects, CollectsTargets, SetInserted, SetCollects}
+use Rattle.elsa_index.specs.Content.{first_of_each, CollectsTargets, SetInserted, SetCollects}
 use Rattle.elsa_index.proofs.FirstOfEach.{first_of_each_push, same_any}
 
 zipped_push : {A B : Type 0} (R : A → B → Type 0) (xs : List A) (ys : List B) (x : A) (y : B) → AllZip R xs ys → R x y → AllZip R (xs ++ x ∷ []) (ys ++ y ∷ [])

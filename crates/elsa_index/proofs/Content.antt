@@ -1,15 +1,17 @@
 -- What an insertion of a new value leaves.
-use Rattle.std.proofs.Common.{◌≡◌, ℕ, ◌<◌, Bool, true, false, true≢false, is_some, sym, List, [], ◌∷◌, ◌++◌, length, position, find, slice_get, ap, ◌∙◌, arith, None, Some, if◌then◌else◌}
+use Rattle.std.proofs.Common.{◌≡◌, ℕ, ◌<◌, Bool, true, false, true≢false, is_some, refl, sym, subst, List, [], ◌∷◌, ◌++◌, length, position, find, slice_get, ap, ◌∙◌, arith, Option, None, Some, MatchOption, if◌then◌else◌}
 use Rattle.std.proofs.lemmas.Grind.{common_steps}
 use Rattle.std.proofs.lemmas.List.Folds.{find_at, list_any_at, list_any_none}
 use Rattle.std.proofs.lemmas.List.Quantifiers.{position-Some}
 use Rattle.std.proofs.lemmas.List.Sums.{fails_before_first, prefix_len-le-length}
 use Rattle.std.proofs.lemmas.Option.{slice_get_past}
 use Rattle.std.specs.List.{list_any, position_or_len}
-use Rattle.std.specs.Map.{lookup}
+use Rattle.std.specs.Map.{keys_of, lookup}
 use Rattle.indexmap.specs.IndexMap.{IndexMap, insert_entry}
 use Rattle.indexmap.specs.IndexSet.{insert_key}
 use Rattle.indexmap.proofs.CallerLemmas.{insert_entry-new}
+use Rattle.indexmap.proofs.MapLemmas.{some_index}
+use Rattle.elsa_index.specs.Content.{place_of, InsertedNew}
 
 -- where nothing passes, the count of those before the first is the length
 pub none_found : {X : Type 0} (t : X → Bool) (xs : List X) → position t xs ≡ None → position_or_len t xs ≡ length xs
@@ -40,6 +42,22 @@ found_nowhere t xs e = find_at t xs ∙ ap (slice_get xs) (none_found t xs e) �
 -- a new key goes last
 pub new_key_goes_last : {K B S : Type 0} (eq : K → K → Bool) (m : IndexMap K B S) (k : K) (b : B) → lookup (eq k) m.entries ≡ None → insert_entry eq m.entries k b ≡ m.entries ++ (k, b) ∷ []
 new_key_goes_last eq m k b none = insert_entry-new eq m k b none
+
+-- what is not there is None
+pub none_of : {X : Type 0} (o : Option X) → is_some o ≡ false → o ≡ None
+none_of None h = refl
+none_of (Some x) h = absurd (true≢false h)
+
+-- a key without a value has no place
+pub no_place : {K B : Type 0} (eq : K → K → Bool) (es : List (K × B)) (k : K) → lookup (eq k) es ≡ None → place_of eq es k ≡ None
+no_place eq es k none = none_of (position (eq k) (keys_of es)) (some_index (eq k) es ∙ ap is_some none)
+
+-- a pair with a new key goes last
+pub new_pair_goes_last : {K B V T : Type 0} (eq : K → K → Bool) (target : V → T) (shown : B → T) (es : List (K × B)) (k : K) (v : V) (i : ℕ) (b : B) (fs : List (K × B))
+    → lookup (eq k) es ≡ None → i ≡ length es → shown b ≡ target v → fs ≡ es ++ (k, b) ∷ [] → InsertedNew eq target shown es k v i b true fs
+new_pair_goes_last eq target shown es k v i b fs none at is left =
+    subst (λ o. MatchOption o ((i ≡ length es) × (shown b ≡ target v) × (true ≡ true) × (fs ≡ es ++ (k, b) ∷ [])) (λ j. (i ≡ j) × (lookup (eq k) es ≡ Some b) × (true ≡ false) × (fs ≡ es)))
+    (sym (no_place eq es k none)) (at, is, refl, left)
 
 -- some item passes a test that finds a place
 pub some_passes : {X : Type 0} (t : X → Bool) (xs : List X) (i : ℕ) → position t xs ≡ Some i → list_any t xs ≡ true

@@ -1,10 +1,9 @@
 -- What stays of a content that grows, and what one insertion leaves.
-use Rattle.std.proofs.Common.{◌≡◌, ℕ, ◌+◌, Bool, true, false, true≢false, List, [], ◌∷◌, ◌++◌, length, map, position, slice_get, refl, sym, ap, ◌∙◌, append_assoc, append-nil, arith, Option, None, Some, MatchOption, IsTrue, ◌↔◌, IsPermutation}
+use Rattle.std.proofs.Common.{◌≡◌, ℕ, ◌+◌, Bool, true, false, true≢false, List, [], ◌∷◌, ◌++◌, length, position, slice_get, refl, sym, ap, ◌∙◌, append_assoc, append-nil, arith, Option, None, Some, MatchOption, ◌↔◌, IsPermutation}
 use Rattle.std.specs.Cmp.{IsEquivalence}
 use Rattle.std.specs.List.{IsDistinct}
 use Rattle.std.specs.Map.{keys_of, lookup}
 use Rattle.std.specs.Option.{option_eq}
-use Rattle.std.specs.Set.{is_member}
 use Rattle.std.proofs.lemmas.Grind.{common_steps}
 use Rattle.std.proofs.lemmas.List.{length-append, length-map, length_push, map-append}
 use Rattle.std.proofs.lemmas.List.Folds.{position_or_len_push, prefix_len-append}

@@ -17,6 +17,7 @@ ghost use Rattle.elsa_index.specs.Equality.{as_map, same_map, AgreeAtEachKey};
 use bumpalo::Bump;
 use elsa_once::stable::StableDeref;
 use indexmap::IndexMap;
+use indexmap::map::Entry;
 use std::alloc::{AllocError, Allocator, Global};
 use std::hash::{BuildHasher, BuildHasherDefault, FoldHasher, Hash};
 use std::marker::{Model, PhantomData};
@@ -198,28 +199,14 @@ impl<
         Ok(borrow)
     }
 
-    // Adds a pair last.
-    #[tactic(auto, using(crate::proofs::Content::new_key_goes_last))]
-    fn add(&mut self, key: K, value: V::Borrow) -> Result<usize, AllocError>
-        requires new { value_of K.eq self.old key ≡ None }
-        ensures place { IfOk result (λ i. i ≡ length self.old) }
-        ensures appended { OnOk result (self.new ≡ self.old ++ (key, value) ∷ []) }
-        ensures refused { OnErr result (self.new ≡ self.old) }
-    {
-        let place = self.map.len();
-        match self.map.insert(key, value) {
-            Ok(_) => Ok(place),
-            Err(_) => Err(AllocError),
-        }
-    }
-
     /// Adds the pair last, unless the key is there, and answers its place, the value that the key now has and whether the
     /// key is new.
     ///
-    /// It looks first, by one hash: where the key is there, its place and value are answered with `false`, the given key
-    /// and value are given up, no memory is taken and nothing changes. Otherwise the value is placed in the arena and the
-    /// pair goes last, by one more hash. `AllocError` comes only for an absent key and leaves the map as it was; the arena
-    /// may keep a copy that nobody sees.
+    /// It looks first, by the one hash of the call: where the key is there, its place and value are answered with `false`,
+    /// the given key and value are given up, no memory is taken and nothing changes. Otherwise the table makes room for one
+    /// pair, the value is placed in the arena and the pair goes last. `AllocError` comes only for an absent key and leaves
+    /// the map as it was; the table may keep the room.
+    #[tactic(auto, using(crate::proofs::Content::no_place))]
     pub fn insert_full_new(
         &mut self,
         key: K,
@@ -229,11 +216,19 @@ impl<
         ensures refused { OnErr result (self.new ≡ self.old) }
         ensures only_new { OnErr result (place_of K.eq self.old key ≡ None) }
     {
-        if let Some((place, _, found)) = self.map.get_full(&key) {
-            return Ok((place, *found, false));
-        }
-        let borrow = self.placed(value)?;
-        let place = self.add(key, borrow)?;
+        let Ok(found) = self.map.entry(key) else {
+            return Err(AllocError);
+        };
+        let room = match found {
+            Entry::Occupied(there) => return Ok((there.index(), *there.get(), false)),
+            Entry::Vacant(room) => room,
+        };
+        let Ok(borrow) = value.place(self.arena) else {
+            let _key = room.into_key();
+            return Err(AllocError);
+        };
+        let place = room.index();
+        room.insert(borrow);
         Ok((place, borrow, true))
     }
 
