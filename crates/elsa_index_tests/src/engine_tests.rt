@@ -23,6 +23,17 @@ fn answers<A: Allocator + Copy>(alloc: Global, table: A, input: &[u8]) -> Result
     }
 }
 
+// Whether these are the answer lines to the input.
+fn is_answered<A: Allocator + Copy>(
+    alloc: Global,
+    table: A,
+    input: &[u8],
+    want: &str,
+) -> Result<bool, Fail> {
+    let out = answers(alloc, table, input)?;
+    Ok(out.as_str() == want)
+}
+
 #[test]
 fn answer_lines(rt: HostRuntime) -> Result<(), Fail> {
     let alloc = rt.alloc();
@@ -50,11 +61,19 @@ fn answer_lines(rt: HostRuntime) -> Result<(), Fail> {
             "0\n1\n a\nput a\nbad line\n",
         ),
     ] {
-        let out = answers(alloc, alloc, input.as_bytes())?;
-        assert_eq!(rt; out.as_str(), want, "to {input}");
+        assert!(rt;
+            is_answered(alloc, alloc, input.as_bytes(), want)?,
+            "to {input}"
+        );
     }
-    let out = answers(alloc, alloc, b"\x70\x75\x74\x20\xff\x0alen")?;
-    assert_eq!(rt; out.as_str(), "bad line\n0\n");
+    Ok(())
+}
+
+#[test]
+fn a_line_that_is_no_text(rt: HostRuntime) -> Result<(), Fail> {
+    let alloc = rt.alloc();
+    let input = b"\x70\x75\x74\x20\xff\x0alen";
+    assert!(rt; is_answered(alloc, alloc, input, "bad line\n0\n")?);
     Ok(())
 }
 
@@ -68,20 +87,31 @@ fn long_line(alloc: Global, letters: usize) -> Result<Vec<u8>, Fail> {
     Ok(input)
 }
 
+// Whether the answers to a long line are its number, its text, and how many there are.
+fn is_long(out: &str, letters: usize) -> bool {
+    out.len().checked_sub(5) == Some(letters)
+        && out.starts_with("0\naaaaaaaa")
+        && out.ends_with("aaaa\n1\n")
+}
+
 #[test]
 fn a_long_line(rt: HostRuntime) -> Result<(), Fail> {
     let alloc = rt.alloc();
     let input = long_line(alloc, 100_000)?;
     let out = answers(alloc, alloc, input.as_slice())?;
-    assert_eq!(rt; out.len(), 100_005);
-    assert!(rt; out.as_str().starts_with("0\naaaaaaaa"));
-    assert!(rt; out.as_str().ends_with("aaaa\n1\n"));
+    assert!(rt; is_long(out.as_str(), 100_000));
+    Ok(())
+}
+
+#[test]
+fn lines_without_memory(rt: HostRuntime) -> Result<(), Fail> {
+    let alloc = rt.alloc();
+    let long = long_line(alloc, 100_000)?;
     let budget = Bump::new(alloc);
     budget.set_allocation_limit(Some(0));
-    let out = answers(alloc, &budget, input.as_slice())?;
-    assert_eq!(rt; out.as_str(), "no memory\nnone\n0\n");
-    let out = answers(alloc, &budget, b"put a\nfind a\nlen\nput\n")?;
-    assert_eq!(rt; out.as_str(), "no memory\nnone\n0\nbad line\n");
+    assert!(rt; is_answered(alloc, &budget, long.as_slice(), "no memory\nnone\n0\n")?);
+    let short = b"put a\nfind a\nlen\nput\n";
+    assert!(rt; is_answered(alloc, &budget, short, "no memory\nnone\n0\nbad line\n")?);
     Ok(())
 }
 
@@ -145,27 +175,40 @@ impl Sink for Narrow {
     }
 }
 
+const TEXT: &[u8] = b"put a\nput b\nat 1\nlen";
+
+/// What the engine answers where the reader fails at this read and the writer has this room.
+fn outcome(alloc: Global, fails_at: usize, writer: &mut Narrow) -> (Result<(), EngineFault>, u64) {
+    let arena = Bump::new(alloc);
+    let mut reader = Dribble {
+        text: TEXT,
+        at: 0,
+        fails_at,
+        failures: 0,
+    };
+    let outcome = intern_engine(alloc, &arena, &mut reader, writer);
+    (outcome, reader.failures)
+}
+
+fn with_room(room: usize) -> Narrow {
+    Narrow {
+        bytes: [0; 16],
+        len: 0,
+        room,
+        failures: 0,
+    }
+}
+
+/// Whether the bytes that the writer took are these.
+fn took(writer: &Narrow, want: &[u8]) -> bool {
+    writer.bytes.get(..writer.len) == Some(want)
+}
+
 #[test]
-fn devices_fail(rt: HostRuntime) -> Result<(), Fail> {
-    let alloc = rt.alloc();
-    let text = b"put a\nput b\nat 1\nlen";
+fn a_reader_fails(rt: HostRuntime) -> Result<(), Fail> {
     for fails_at in 0..21 {
-        let arena = Bump::new(alloc);
-        let mut reader = Dribble {
-            text,
-            at: 0,
-            fails_at,
-            failures: 0,
-        };
-        let mut writer = Narrow {
-            bytes: [0; 16],
-            len: 0,
-            room: 16,
-            failures: 0,
-        };
-        let outcome = intern_engine(alloc, &arena, &mut reader, &mut writer);
-        assert_eq!(rt; outcome, Err(EngineFault::Read));
-        assert_eq!(rt; (reader.failures, writer.failures), (1, 0));
+        let mut writer = with_room(16);
+        let failed = outcome(rt.alloc(), fails_at, &mut writer) == (Err(EngineFault::Read), 1);
         let want = match fails_at {
             0..6 => "",
             6..12 => "0\n",
@@ -173,29 +216,44 @@ fn devices_fail(rt: HostRuntime) -> Result<(), Fail> {
             _ => "0\n1\nb\n",
         };
         assert!(rt;
-            writer.bytes.get(..writer.len) == Some(want.as_bytes()),
+            failed && writer.failures == 0 && took(&writer, want.as_bytes()),
             "at {fails_at}"
         );
     }
+    Ok(())
+}
+
+#[test]
+fn a_writer_fails(rt: HostRuntime) -> Result<(), Fail> {
+    let whole = b"0\n1\nb\n2\n";
     for room in 0..9 {
-        let arena = Bump::new(alloc);
-        let mut reader = Dribble {
-            text,
-            at: 0,
-            fails_at: 99,
-            failures: 0,
-        };
-        let mut writer = Narrow {
-            bytes: [0; 16],
-            len: 0,
-            room,
-            failures: 0,
-        };
-        let outcome = intern_engine(alloc, &arena, &mut reader, &mut writer);
-        assert_eq!(rt; outcome.is_ok(), room == 8);
-        assert!(rt; writer.bytes.get(..writer.len) == b"0\n1\nb\n2\n".get(..room));
+        let mut writer = with_room(room);
+        let (outcome, _) = outcome(rt.alloc(), 99, &mut writer);
+        let good = outcome.is_ok() == (room == 8);
+        assert!(rt; good && took(&writer, &whole[..room]), "at {room}");
     }
     Ok(())
+}
+
+/// Whether both find, put and count alike.
+fn are_alike(
+    fast: &mut Interner<'_>,
+    plain: &mut PlainInterner<'_>,
+    name: &str,
+) -> Result<bool, Fail> {
+    let found = fast.find(name) == plain.find(name);
+    let put = fast.put(name)? == plain.put(name)?;
+    Ok(found && put && fast.len() == plain.len())
+}
+
+/// Whether both have the same names at the places below 9.
+fn name_alike(fast: &Interner<'_>, plain: &PlainInterner<'_>) -> bool {
+    for number in 0..9 {
+        if fast.at(number) != plain.at(number) {
+            return false;
+        }
+    }
+    true
 }
 
 #[test]
@@ -215,12 +273,8 @@ fn as_the_plain_program(rt: HostRuntime) -> Result<(), Fail> {
         "Lonely",
         "e",
     ] {
-        assert_eq!(rt; fast.find(name), plain.find(name));
-        assert_eq!(rt; fast.put(name)?, plain.put(name)?);
-        assert_eq!(rt; fast.len(), plain.len());
+        assert!(rt; are_alike(&mut fast, &mut plain, name)?, "{name}");
     }
-    for number in 0..9 {
-        assert_eq!(rt; fast.at(number), plain.at(number));
-    }
+    assert!(rt; name_alike(&fast, &plain));
     Ok(())
 }

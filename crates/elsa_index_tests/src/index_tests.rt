@@ -3,82 +3,144 @@ use crate::odd_keys::{Fold, SameHash};
 use bumpalo::Bump;
 use elsa_index::index_map::FrozenIndexMap;
 use elsa_index::index_set::FrozenIndexSet;
-use elsa_once::stable::Own;
 use elsa_run::run::{run_index, run_set};
 use elsa_run::run_index::{IndexCommand, IndexReply};
 use elsa_run::run_set::{SetCommand, SetReply};
+use elsa_once::stable::Own;
+use indexmap::{IndexMap, IndexSet};
 use std::alloc::{AllocError, Global};
-use std::hash::BuildHasherDefault;
+use std::hash::{BuildHasherDefault, FoldHasher};
 use std::test::Fail;
 
+// ---- insertions into a map
+
+type Owners<'a> = FrozenIndexMap<'a, u32, String>;
+
+fn insert_full<'a>(
+    alloc: Global,
+    map: &mut Owners<'a>,
+    key: u32,
+    text: &str,
+) -> Result<(usize, &'a str), AllocError> {
+    map.insert_full(key, String::from_str(alloc, text)?)
+}
+
+fn insert_new<'a>(
+    alloc: Global,
+    map: &mut Owners<'a>,
+    key: u32,
+    text: &str,
+) -> Result<(&'a str, bool), AllocError> {
+    map.insert_new(key, String::from_str(alloc, text)?)
+}
+
+fn insert_full_new<'a>(
+    alloc: Global,
+    map: &mut Owners<'a>,
+    key: u32,
+    text: &str,
+) -> Result<(usize, &'a str, bool), AllocError> {
+    map.insert_full_new(key, String::from_str(alloc, text)?)
+}
+
+fn insert<'a>(
+    alloc: Global,
+    map: &mut Owners<'a>,
+    key: u32,
+    text: &str,
+) -> Result<&'a str, AllocError> {
+    map.insert(key, String::from_str(alloc, text)?)
+}
+
 // The value at a key, by indexing, if the key is there.
-fn by_key<'a>(map: &FrozenIndexMap<'a, u32, String>, key: u32) -> Option<&'a str> {
+fn by_key<'a>(map: &Owners<'a>, key: u32) -> Option<&'a str> {
     if map.get(&key).is_none() {
         return None;
     }
     Some(map[&key])
 }
 
-// The value at a place, by indexing, if the place is there.
-fn by_place<'a>(set: &FrozenIndexSet<'a, String>, place: usize) -> Option<&'a str> {
-    if set.get_index(place).is_none() {
-        return None;
-    }
-    Some(set[place])
-}
-
-fn text(alloc: Global, of: &str) -> Result<String, AllocError> {
-    String::from_str(alloc, of)
-}
-
 #[test]
 fn the_first_value_of_a_key_stays(rt: HostRuntime) -> Result<(), Fail> {
     let alloc = rt.alloc();
     let arena = Bump::new(alloc);
-    let mut map: FrozenIndexMap<'_, u32, String> = FrozenIndexMap::new(alloc, &arena);
-    assert!(rt; map.is_empty());
-    assert_eq!(rt; map.insert_full(12, text(alloc, "a")?)?, (0, "a"));
-    assert_eq!(rt; map.insert_full(12, text(alloc, "b")?)?, (0, "a"));
-    assert_eq!(rt; map.insert_new(12, text(alloc, "c")?)?, ("a", false));
-    assert_eq!(rt; map.insert_full_new(7, text(alloc, "d")?)?, (1, "d", true));
-    assert_eq!(rt; map.insert(7, text(alloc, "e")?)?, "d");
-    assert_eq!(rt; (by_key(&map, 7), by_key(&map, 8)), (Some("d"), None));
+    let mut map: Owners<'_> = FrozenIndexMap::new(alloc, &arena);
+    let empty = map.is_empty();
+    let full = [
+        insert_full(alloc, &mut map, 12, "a")?,
+        insert_full(alloc, &mut map, 12, "b")?,
+    ];
+    assert!(rt; empty && full == [(0, "a"), (0, "a")]);
+    let new = insert_new(alloc, &mut map, 12, "c")?;
+    let full_new = insert_full_new(alloc, &mut map, 7, "d")?;
+    let last = insert(alloc, &mut map, 7, "e")?;
+    assert!(rt; new == ("a", false) && full_new == (1, "d", true) && last == "d");
+    assert!(rt; [by_key(&map, 7), by_key(&map, 8)] == [Some("d"), None]);
     Ok(())
 }
 
 #[test]
-fn look_ups_in_a_map(rt: HostRuntime) -> Result<(), Fail> {
+fn an_insertion_says_whether_the_key_was_new(rt: HostRuntime) -> Result<(), Fail> {
     let alloc = rt.alloc();
     let arena = Bump::new(alloc);
-    let mut map: FrozenIndexMap<'_, &str, &str> = FrozenIndexMap::new(alloc, &arena);
-    assert_eq!(rt; map.get_index(usize::MAX), None);
-    assert_eq!(rt; map.insert_full("foo", "a")?, (0, "a"));
-    assert_eq!(rt;
-        (map.get_index(0), map.get_index(1)),
-        (Some(("foo", "a")), None)
-    );
-    assert_eq!(rt;
-        (map.get_full(&"foo"), map.get_full(&"2")),
-        (Some((0, "foo", "a")), None)
-    );
-    assert_eq!(rt;
-        (map.get_index_of(&"foo"), map.get_index_of(&"2")),
-        (Some(0), None)
-    );
-    assert_eq!(rt;
-        map.map_get(&"foo", |value: &str| -> usize { value.len() }),
-        Some(1)
-    );
-    assert_eq!(rt; map.get_index(usize::MAX), None);
+    let mut map: Owners<'_> = FrozenIndexMap::new(alloc, &arena);
+    let answers = [
+        insert_full_new(alloc, &mut map, 12, "a")?,
+        insert_full_new(alloc, &mut map, 12, "b")?,
+    ];
+    assert!(rt; answers == [(0, "a", true), (0, "a", false)]);
     Ok(())
 }
 
-// A map of the first `count` of these pairs, from the given one on.
+// ---- looking up in a map
+
+type Keyed<'a> = FrozenIndexMap<'a, &'a str, &'a str>;
+
+fn at_places<'a>(map: &Keyed<'a>) -> [Option<(&'a str, &'a str)>; 3] {
+    [
+        map.get_index(0),
+        map.get_index(1),
+        map.get_index(usize::MAX),
+    ]
+}
+
+fn full<'a>(map: &Keyed<'a>, key: &'a str) -> Option<(usize, &'a str, &'a str)> {
+    map.get_full(&key)
+}
+
+fn place<'a>(map: &Keyed<'a>, key: &'a str) -> Option<usize> {
+    map.get_index_of(&key)
+}
+
+fn length<'a>(map: &Keyed<'a>, key: &'a str) -> Option<usize> {
+    map.map_get(&key, |value: &str| -> usize { value.len() })
+}
+
+#[test]
+fn look_ups_in_a_map(rt: HostRuntime) -> Result<(), Fail> {
+    let arena = Bump::new(rt.alloc());
+    let mut map: Keyed<'_> = FrozenIndexMap::new(rt.alloc(), &arena);
+    let before = map.get_index(usize::MAX);
+    let first = map.insert_full("foo", "a")?;
+    assert!(rt; before.is_none() && first == (0, "a"));
+    assert!(rt; at_places(&map) == [Some(("foo", "a")), None, None]);
+    assert!(rt; [full(&map, "foo"), full(&map, "2")] == [Some((0, "foo", "a")), None]);
+    assert!(rt;
+        [place(&map, "foo"), place(&map, "2"), length(&map, "foo")] == [Some(0), None, Some(1)]
+    );
+    Ok(())
+}
+
+// ---- making a map, and comparing
+
+type Texts<'a> = FrozenIndexMap<'a, u32, &'a str>;
+
+// A map of these pairs.
 fn collected<'a>(
     alloc: Global,
     arena: &'a Bump,
     pairs: &[(u32, &'a str)],
-) -> Result<FrozenIndexMap<'a, u32, &'a str>, AllocError> {
+) -> Result<Texts<'a>, AllocError> {
     let mut given: Vec<(u32, &'a str)> = Vec::new(alloc);
     for pair in pairs {
         given.push(*pair)?;
@@ -87,50 +149,58 @@ fn collected<'a>(
 }
 
 #[test]
-fn collecting_and_order(rt: HostRuntime) -> Result<(), Fail> {
-    let alloc = rt.alloc();
-    let arena = Bump::new(alloc);
-    let map = collected(alloc, &arena, &[(1, "a"), (2, "x"), (1, "b")])?;
+fn collecting_keeps_the_first_place_and_the_last_value(rt: HostRuntime) -> Result<(), Fail> {
+    let arena = Bump::new(rt.alloc());
+    let map = collected(rt.alloc(), &arena, &[(1, "a"), (2, "x"), (1, "b")])?;
     let pairs = map.into_tuple_vec()?;
-    assert_eq!(rt; pairs.as_slice(), [(1, "b"), (2, "x")].as_slice());
-    let ab = collected(alloc, &arena, &[(1, "a"), (2, "b")])?;
-    let ba = collected(alloc, &arena, &[(2, "b"), (1, "a")])?;
-    assert!(rt; ab == ba);
-    assert_eq!(rt;
-        (ab.get_index_of(&1), ba.get_index_of(&1)),
-        (Some(0), Some(1))
-    );
-    let other = collected(alloc, &arena, &[(1, "a"), (2, "c")])?;
-    assert!(rt; ab != other);
+    assert!(rt; pairs.as_slice() == [(1, "b"), (2, "x")].as_slice());
     Ok(())
+}
+
+#[test]
+fn order_does_not_count(rt: HostRuntime) -> Result<(), Fail> {
+    let arena = Bump::new(rt.alloc());
+    let ab = collected(rt.alloc(), &arena, &[(1, "a"), (2, "b")])?;
+    let ba = collected(rt.alloc(), &arena, &[(2, "b"), (1, "a")])?;
+    let other = collected(rt.alloc(), &arena, &[(1, "a"), (2, "c")])?;
+    assert!(rt; ab == ba && ab != other);
+    assert!(rt; [ab.get_index_of(&1), ba.get_index_of(&1)] == [Some(0), Some(1)]);
+    Ok(())
+}
+
+// The pairs at the first two places of a map made of the inner one.
+fn pairs_of<'a>(
+    arena: &'a Bump,
+    inner: IndexMap<u32, &'a str, BuildHasherDefault<FoldHasher>>,
+) -> [Option<(u32, &'a str)>; 2] {
+    let again: Texts<'a> = FrozenIndexMap::from_map(arena, inner);
+    [again.get_index(0), again.get_index(1)]
 }
 
 #[test]
 fn a_clone_goes_its_own_way(rt: HostRuntime) -> Result<(), Fail> {
-    let alloc = rt.alloc();
-    let arena = Bump::new(alloc);
-    let mut map = collected(alloc, &arena, &[(1, "a")])?;
+    let arena = Bump::new(rt.alloc());
+    let mut map = collected(rt.alloc(), &arena, &[(1, "a")])?;
     let mut copy = map.clone()?;
-    assert_eq!(rt; map.insert_full(2, "b")?, (1, "b"));
-    assert_eq!(rt; copy.insert_full(3, "c")?, (1, "c"));
-    assert_eq!(rt; (map.get(&3), copy.get(&2)), (None, None));
+    let places = [map.insert_full(2, "b")?, copy.insert_full(3, "c")?];
+    assert!(rt; places == [(1, "b"), (1, "c")]);
+    assert!(rt; [map.get(&3), copy.get(&2)] == [None, None]);
     map.as_mut().clear();
-    assert_eq!(rt; map.insert_full(2, "z")?, (0, "z"));
-    let again = FrozenIndexMap::from_map(&arena, copy.into_map());
-    assert_eq!(rt;
-        (again.get_index(0), again.get_index(1)),
-        (Some((1, "a")), Some((3, "c")))
-    );
-    let _: FrozenIndexMap<'_, u32, &str> = again;
+    assert!(rt; map.insert_full(2, "z")? == (0, "z"));
+    assert!(rt; pairs_of(&arena, copy.into_map()) == [Some((1, "a")), Some((3, "c"))]);
     Ok(())
 }
 
-#[test]
-fn runs_of_a_map(rt: HostRuntime) -> Result<(), Fail> {
-    let alloc = rt.alloc();
-    let arena = Bump::new(alloc);
-    let mut map: FrozenIndexMap<'_, u32, &str> = FrozenIndexMap::new(alloc, &arena);
-    let commands = Vec::from_array(
+// ---- runs
+
+type MapCommand<'a> = IndexCommand<
+    u32,
+    &'a str,
+    IndexMap<u32, &'a str, BuildHasherDefault<FoldHasher>>,
+>;
+
+fn map_commands<'a>(alloc: Global) -> Result<Vec<MapCommand<'a>>, Fail> {
+    Ok(Vec::from_array(
         alloc,
         [
             IndexCommand::InsertFull(5, "p"),
@@ -144,32 +214,46 @@ fn runs_of_a_map(rt: HostRuntime) -> Result<(), Fail> {
             IndexCommand::Get(6),
             IndexCommand::IsEmpty,
         ],
-    )?;
-    let replies = run_index(alloc, &mut map, commands)?;
-    let wanted = [
-        IndexReply::Full(0, "p"),
-        IndexReply::Full(1, "q"),
-        IndexReply::Full(0, "p"),
-        IndexReply::Place(Some(1)),
-        IndexReply::Place(None),
-        IndexReply::New("q", false),
-        IndexReply::FullNew(2, "t", true),
-        IndexReply::Item("t"),
-        IndexReply::Found(Some("t")),
-        IndexReply::Flag(false),
-    ];
-    assert_eq!(rt; replies.as_slice(), wanted.as_slice());
-    Ok(())
+    )?)
+}
+
+fn are_of_a_map(replies: &[IndexReply<&str>]) -> bool {
+    replies
+        == [
+            IndexReply::Full(0, "p"),
+            IndexReply::Full(1, "q"),
+            IndexReply::Full(0, "p"),
+            IndexReply::Place(Some(1)),
+            IndexReply::Place(None),
+            IndexReply::New("q", false),
+            IndexReply::FullNew(2, "t", true),
+            IndexReply::Item("t"),
+            IndexReply::Found(Some("t")),
+            IndexReply::Flag(false),
+        ]
+        .as_slice()
 }
 
 #[test]
-fn runs_of_a_set(rt: HostRuntime) -> Result<(), Fail> {
+fn runs_of_a_map(rt: HostRuntime) -> Result<(), Fail> {
     let alloc = rt.alloc();
     let arena = Bump::new(alloc);
-    let mut set: FrozenIndexSet<'_, &str> = FrozenIndexSet::new(alloc, &arena);
-    let mut base: FrozenIndexSet<'_, &str> = FrozenIndexSet::new(alloc, &arena);
+    let mut map: Texts<'_> = FrozenIndexMap::new(alloc, &arena);
+    let replies = run_index(alloc, &mut map, map_commands(alloc)?)?;
+    assert!(rt; are_of_a_map(replies.as_slice()));
+    Ok(())
+}
+
+type BorrowCommand<'a> = SetCommand<
+    &'a str,
+    &'a str,
+    IndexSet<&'a str, BuildHasherDefault<FoldHasher>>,
+>;
+
+fn set_commands<'a>(alloc: Global, arena: &'a Bump) -> Result<Vec<BorrowCommand<'a>>, Fail> {
+    let mut base: FrozenIndexSet<'a, &'a str> = FrozenIndexSet::new(alloc, arena);
     base.insert("b")?;
-    let commands = Vec::from_array(
+    Ok(Vec::from_array(
         alloc,
         [
             SetCommand::Insert("a"),
@@ -183,30 +267,42 @@ fn runs_of_a_set(rt: HostRuntime) -> Result<(), Fail> {
             SetCommand::InsertFullNew("c"),
             SetCommand::Get("c"),
         ],
-    )?;
-    let replies = run_set(alloc, &mut set, commands)?;
-    let wanted = [
-        SetReply::Item("a"),
-        SetReply::Full(1, "b"),
-        SetReply::Full(0, "a"),
-        SetReply::Place(None),
-        SetReply::Found(Some("b")),
-        SetReply::Done,
-        SetReply::Place(Some(0)),
-        SetReply::New("b", false),
-        SetReply::FullNew(1, "c", true),
-        SetReply::Found(Some("c")),
-    ];
-    assert_eq!(rt; replies.as_slice(), wanted.as_slice());
+    )?)
+}
+
+fn are_of_a_set(replies: &[SetReply<&str>]) -> bool {
+    replies
+        == [
+            SetReply::Item("a"),
+            SetReply::Full(1, "b"),
+            SetReply::Full(0, "a"),
+            SetReply::Place(None),
+            SetReply::Found(Some("b")),
+            SetReply::Done,
+            SetReply::Place(Some(0)),
+            SetReply::New("b", false),
+            SetReply::FullNew(1, "c", true),
+            SetReply::Found(Some("c")),
+        ]
+        .as_slice()
+}
+
+#[test]
+fn runs_of_a_set(rt: HostRuntime) -> Result<(), Fail> {
+    let alloc = rt.alloc();
+    let arena = Bump::new(alloc);
+    let mut set: FrozenIndexSet<'_, &str> = FrozenIndexSet::new(alloc, &arena);
+    let replies = run_set(alloc, &mut set, set_commands(alloc, &arena)?)?;
+    assert!(rt; are_of_a_set(replies.as_slice()));
     Ok(())
 }
 
+// ---- sets
+
+type Set<'a> = FrozenIndexSet<'a, String>;
+
 // A set of owned copies of these texts.
-fn set_of<'a>(
-    alloc: Global,
-    arena: &'a Bump,
-    texts: &[&str],
-) -> Result<FrozenIndexSet<'a, String>, AllocError> {
+fn set_of<'a>(alloc: Global, arena: &'a Bump, texts: &[&str]) -> Result<Set<'a>, AllocError> {
     let mut given: Vec<String> = Vec::new(alloc);
     for of in texts {
         given.push(String::from_str(alloc, *of)?)?;
@@ -214,79 +310,153 @@ fn set_of<'a>(
     FrozenIndexSet::from_iter(alloc, arena, BuildHasherDefault::new(), given)
 }
 
+// The value at a place, by indexing, if the place is there.
+fn by_place<'a>(set: &Set<'a>, place: usize) -> Option<&'a str> {
+    if set.get_index(place).is_none() {
+        return None;
+    }
+    Some(set[place])
+}
+
+// What is found by an owner and by a text, and whether the owner can be inserted anew.
+fn found<'a>(
+    set: &mut Set<'a>,
+    owner: String,
+) -> Result<
+    (
+        Option<&'a str>,
+        Option<(usize, &'a str)>,
+        (usize, &'a str, bool),
+    ),
+    AllocError,
+> {
+    let by_owner = set.get(&owner);
+    let by_text = set.get_full(&owner.as_str());
+    Ok((by_owner, by_text, set.insert_full_new(owner)?))
+}
+
 #[test]
 fn sets(rt: HostRuntime) -> Result<(), Fail> {
     let alloc = rt.alloc();
     let arena = Bump::new(alloc);
     let mut ab = set_of(alloc, &arena, &["a", "b", "a"])?;
-    assert_eq!(rt;
-        (by_place(&ab, 0), by_place(&ab, 1), by_place(&ab, 2)),
-        (Some("a"), Some("b"), None)
-    );
     let ba = set_of(alloc, &arena, &["b", "a"])?;
     assert!(rt; ab == ba);
-    let short = text(alloc, "b")?;
-    assert_eq!(rt;
-        (ab.get(&short), ab.get_full(&short.as_str())),
-        (Some("b"), Some((1, "b")))
+    assert!(rt;
+        [by_place(&ab, 0), by_place(&ab, 1), by_place(&ab, 2)] == [Some("a"), Some("b"), None]
     );
-    assert_eq!(rt; ab.insert_full_new(short)?, (1, "b", false));
-    assert_eq!(rt; ab.get_index(usize::MAX), None);
-    let mut copy = ab.clone()?;
-    assert_eq!(rt; copy.insert_new(text(alloc, "c")?)?, ("c", true));
-    assert!(rt; copy != ab);
-    let again: FrozenIndexSet<'_, String> = FrozenIndexSet::from_set(&arena, copy.into_set());
-    assert_eq!(rt; again.get_index_of(&"c"), Some(2));
-    ab.as_mut().clear();
-    assert_eq!(rt; ab.get_index(0), None);
+    let b = found(&mut ab, String::from_str(alloc, "b")?)?;
+    assert!(rt; b == (Some("b"), Some((1, "b")), (1, "b", false)));
     Ok(())
+}
+
+// A clone with one more value, taken apart and made again: whether it differed, and the value's place.
+fn made_again<'a>(
+    alloc: Global,
+    arena: &'a Bump,
+    set: &Set<'a>,
+) -> Result<(bool, bool, Option<usize>), AllocError> {
+    let mut copy = set.clone()?;
+    let (_, new) = copy.insert_new(String::from_str(alloc, "c")?)?;
+    let differs = copy != *set;
+    let again: Set<'a> = FrozenIndexSet::from_set(arena, copy.into_set());
+    Ok((new, differs, again.get_index_of(&"c")))
+}
+
+#[test]
+fn sets_are_cloned_and_cleared(rt: HostRuntime) -> Result<(), Fail> {
+    let arena = Bump::new(rt.alloc());
+    let mut ab = set_of(rt.alloc(), &arena, &["a", "b"])?;
+    assert!(rt; made_again(rt.alloc(), &arena, &ab)? == (true, true, Some(2)));
+    let before = ab.get_index(usize::MAX);
+    ab.as_mut().clear();
+    assert!(rt;
+        before.is_none() && ab.get_index(0).is_none() && ab.get_index(usize::MAX).is_none()
+    );
+    Ok(())
+}
+
+// A set of numbers finds one by an equal number and none by another.
+fn finds_numbers(alloc: Global, arena: &Bump) -> Result<bool, AllocError> {
+    let mut numbers: FrozenIndexSet<'_, Own<u32>> = FrozenIndexSet::new(alloc, arena);
+    let seven = *numbers.insert(Own(7))?;
+    let places = [numbers.get_index_of(&Own(7)), numbers.get_index_of(&Own(8))];
+    Ok(seven == 7 && places == [Some(0), None])
+}
+
+// A set of lists finds one by a slice of equal items.
+fn finds_lists(alloc: Global, arena: &Bump) -> Result<bool, AllocError> {
+    let mut lists: FrozenIndexSet<'_, Vec<u32>> = FrozenIndexSet::new(alloc, arena);
+    let (place, _) = lists.insert_full(Vec::from_slice(alloc, &[1, 2])?)?;
+    Ok(place == 0 && lists.get_index_of(&[1u32, 2].as_slice()) == Some(0))
 }
 
 #[test]
 fn forms_of_values(rt: HostRuntime) -> Result<(), Fail> {
-    let alloc = rt.alloc();
-    let arena = Bump::new(alloc);
-    let mut numbers: FrozenIndexSet<'_, Own<u32>> = FrozenIndexSet::new(alloc, &arena);
-    assert_eq!(rt; *numbers.insert(Own(7))?, 7);
-    assert_eq!(rt;
-        (numbers.get_index_of(&Own(7)), numbers.get_index_of(&Own(8))),
-        (Some(0), None)
-    );
-    let mut lists: FrozenIndexSet<'_, Vec<u32>> = FrozenIndexSet::new(alloc, &arena);
-    let list = Vec::from_array(alloc, [1, 2])?;
-    assert_eq!(rt; lists.insert_full(list)?.0, 0);
-    assert_eq!(rt; lists.get_index_of(&[1u32, 2].as_slice()), Some(0));
+    let arena = Bump::new(rt.alloc());
+    assert!(rt; finds_numbers(rt.alloc(), &arena)? && finds_lists(rt.alloc(), &arena)?);
     Ok(())
 }
 
+// ---- odd keys
+
+type AlikeMap<'a> = FrozenIndexMap<'a, SameHash, Own<u32>>;
+
+fn map_has_all(map: &AlikeMap<'_>) -> bool {
+    for i in 0..200u32 {
+        let key = SameHash(i);
+        if map.get_index_of(&key) != Some(i as usize) || map.get(&key).copied() != Some(i + 1) {
+            return false;
+        }
+    }
+    map.get_index_of(&SameHash(200)).is_none()
+}
+
 #[test]
-fn keys_that_hash_alike(rt: HostRuntime) -> Result<(), Fail> {
-    let alloc = rt.alloc();
-    let arena = Bump::new(alloc);
-    let mut map: FrozenIndexMap<'_, SameHash, Own<u32>> = FrozenIndexMap::new(alloc, &arena);
-    let mut set: FrozenIndexSet<'_, Own<SameHash>> = FrozenIndexSet::new(alloc, &arena);
+fn keys_of_a_map_that_hash_alike(rt: HostRuntime) -> Result<(), Fail> {
+    let arena = Bump::new(rt.alloc());
+    let mut map: AlikeMap<'_> = FrozenIndexMap::new(rt.alloc(), &arena);
     for i in 0..200u32 {
         map.insert(SameHash(i), Own(i + 1))?;
+    }
+    assert!(rt; map_has_all(&map));
+    Ok(())
+}
+
+type AlikeSet<'a> = FrozenIndexSet<'a, Own<SameHash>>;
+
+fn set_has_all(set: &AlikeSet<'_>) -> bool {
+    for i in 0..200u32 {
+        if set.get_index_of(&Own(SameHash(i))) != Some(i as usize) {
+            return false;
+        }
+    }
+    set.get_index_of(&Own(SameHash(200))).is_none()
+}
+
+#[test]
+fn values_of_a_set_that_hash_alike(rt: HostRuntime) -> Result<(), Fail> {
+    let arena = Bump::new(rt.alloc());
+    let mut set: AlikeSet<'_> = FrozenIndexSet::new(rt.alloc(), &arena);
+    for i in 0..200u32 {
         set.insert(Own(SameHash(i)))?;
     }
-    for i in 0..200u32 {
-        let place = Some(i as usize);
-        assert_eq!(rt; map.get_index_of(&SameHash(i)), place);
-        assert_eq!(rt; set.get_index_of(&Own(SameHash(i))), place);
-        assert_eq!(rt; map.get(&SameHash(i)).copied(), Some(i + 1));
-    }
-    assert_eq!(rt; map.get_index_of(&SameHash(200)), None);
+    assert!(rt; set_has_all(&set));
     Ok(())
+}
+
+type Folded<'a> = FrozenIndexMap<'a, Fold<'a>, &'a str>;
+
+fn folded_at<'a>(map: &Folded<'a>, key: &'a str) -> (Option<usize>, Option<&'a str>) {
+    let found = map.get_full(&Fold(key)).map(|found| -> &str { found.1.0 });
+    (map.get_index_of(&Fold(key)), found)
 }
 
 #[test]
 fn keys_that_fold_case(rt: HostRuntime) -> Result<(), Fail> {
-    let alloc = rt.alloc();
-    let arena = Bump::new(alloc);
-    let mut map: FrozenIndexMap<'_, Fold<'_>, &str> = FrozenIndexMap::new(alloc, &arena);
-    assert_eq!(rt; map.insert(Fold("AB"), "x")?, "x");
-    assert_eq!(rt; map.insert(Fold("ab"), "y")?, "x");
-    assert_eq!(rt; map.get_index_of(&Fold("aB")), Some(0));
-    assert_eq!(rt; map.get_full(&Fold("aB")).map(|found| -> &str { found.1.0 }), Some("AB"));
+    let arena = Bump::new(rt.alloc());
+    let mut map: Folded<'_> = FrozenIndexMap::new(rt.alloc(), &arena);
+    let answers = [map.insert(Fold("AB"), "x")?, map.insert(Fold("ab"), "y")?];
+    assert!(rt; answers == ["x", "x"] && folded_at(&map, "aB") == (Some(0), Some("AB")));
     Ok(())
 }

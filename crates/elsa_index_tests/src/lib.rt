@@ -1,4 +1,4 @@
-//! Tests of `elsa_index` as a stranger calls it: worked cases, odd but lawful keys, hostile lines, and devices that fail.
+//! Tests of `elsa_index` as a stranger calls it: worked cases, odd but lawful keys, hostile lines, devices that fail, and memory refused.
 #![tactic(auto)]
 
 #[cfg(test)]
@@ -8,6 +8,8 @@ mod engine_tests;
 #[cfg(test)]
 mod index_tests;
 pub mod odd_keys;
+#[cfg(test)]
+mod refusals;
 #[cfg(test)]
 mod run_map_tests;
 #[cfg(test)]
