@@ -1,8 +1,8 @@
 //! Runs of both maps whose replies are known.
 use bumpalo::Bump;
+use elsa_once::map::{FrozenBTreeMap, FrozenMap};
 use elsa_run::run::run_map;
 use elsa_run::run_map::{MapCommand, MapReply};
-use elsa_once::map::{FrozenBTreeMap, FrozenMap};
 use std::alloc::Global;
 use std::collections::{BTreeMap, HashMap};
 use std::test::Fail;

@@ -1,8 +1,8 @@
 //! Worked rows of runs on a vector.
 use bumpalo::Bump;
+use elsa_once::vec::FrozenVec;
 use elsa_run::run::run_vec;
 use elsa_run::run_vec::{VecCommand, VecReply};
-use elsa_once::vec::FrozenVec;
 use std::alloc::Global;
 use std::test::Fail;
 
