@@ -1,5 +1,5 @@
 -- The item that was put last is the one that the last place has.
-use Rattle.std.proofs.Common.{◌≡◌, ℕ, List, [], ◌∷◌, ◌++◌, length, slice_get, Some, ap, sym, ◌∙◌, unwrap_or}
+use Rattle.std.proofs.Common.{◌≡◌, List, [], ◌∷◌, ◌++◌, length, slice_get, Some, ap, sym, ◌∙◌, unwrap_or}
 use Rattle.std.specs.Borrow.{Bor}
 
 last_is : {X : Type 0} (xs : List X) (b r : X) → slice_get (xs ++ b ∷ []) (length xs) ≡ Some r → b ≡ r

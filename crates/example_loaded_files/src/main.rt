@@ -31,7 +31,7 @@ fn main(rt: HostRuntime) -> io::Result<()> {
             println!(rt; "FILE SECTION KEY, please")?;
             continue;
         };
-        let tree = match shelf.tree(&rt, file) {
+        let tree = match shelf.tree(&rt, String::from_str(alloc, file)?) {
             Ok(tree) => tree,
             Err(fault) => {
                 println!(rt; "{file}: {fault}")?;

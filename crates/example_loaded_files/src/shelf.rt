@@ -1,5 +1,8 @@
 //! Files by their paths, each loaded once.
-ghost use Rattle.std.specs.Prelude.{◌≡◌, [], OnErr};
+ghost use Rattle.std.specs.Prelude.{◌≡◌, [], Some, IfOk, OnErr};
+ghost use Rattle.std.specs.Borrow.{Bor};
+ghost use Rattle.std.specs.Map.{lookup};
+ghost use Rattle.example_loaded_files.specs.declared.ini.Tree.{Tree};
 
 use crate::ini::{Nodes, ParseFault, Tree};
 use bumpalo::Bump;
@@ -91,11 +94,12 @@ impl<'a> Shelf<'a> {
     pub fn tree<R: Files + AllocGlobal>(
         &mut self,
         rt: &R,
-        path: &str,
+        path: String,
     ) -> Result<&'a Tree<'a>, LoadFault>
+        ensures present { (tree : Bor Tree) → lookup (⟦<String as PartialEq>⟧.eq path) self.old.trees ≡ Some tree → (result ≡ Ok tree) × (self.new.trees ≡ self.old.trees) }
+        ensures stays { IfOk result (λ tree. lookup (⟦<String as PartialEq>⟧.eq path) self.new.trees ≡ Some tree) }
         ensures refused { OnErr result (self.new.trees ≡ self.old.trees) }
     {
-        let path = String::from_str(self.alloc, path)?;
         if let Some(tree) = self.trees.get(&path) {
             return Ok(tree);
         }
