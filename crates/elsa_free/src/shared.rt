@@ -216,8 +216,9 @@ impl<T: Copy + Drop, A: Allocator + Copy> Shared<T, A> {
         let mut tries: u32 = 0;
         for _ in rt.forever() {
             if found % 2 == 0 {
+                let length = found as usize / 2;
                 if let Some(right) = self.try_acquire(seen, &mut found) {
-                    return (found as usize / 2, right);
+                    return (length, right);
                 }
             } else {
                 tries = wait_a_little(tries);
