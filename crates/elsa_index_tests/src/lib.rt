@@ -1,4 +1,4 @@
-//! Tests of `elsa_index` as a stranger calls it: worked cases, odd but lawful keys, hostile lines, devices that fail, and memory refused.
+//! Tests of the index forms, the runs, the interner and the cache as a stranger calls it: worked cases, odd but lawful keys, hostile lines, devices that fail, and memory refused.
 #![tactic(auto)]
 
 #[cfg(test)]
