@@ -165,10 +165,10 @@ impl<'a, K: Eq + Hash, V: StableDeref<'a>, S: BuildHasher, A: Allocator + Copy> 
         let FrozenMap {
             alloc: _,
             arena: _,
-            entries,
+            entries: inner_map,
             of: _,
         } = self;
-        entries
+        inner_map
     }
 
     /// The inner map, lent for writing: it may change or remove anything, and what it leaves is a new base.

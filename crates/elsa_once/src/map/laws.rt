@@ -92,13 +92,13 @@ pub fn hashed_there_and_back<
 pub fn ordered_there_and_back<'a, K: Ord, V: StableDeref<'a>, A: Allocator + Copy>(
     alloc: A,
     arena: &'a Bump,
-    map: FrozenBTreeMap<'a, K, V, A>,
+    tree: FrozenBTreeMap<'a, K, V, A>,
     key: &K,
 ) -> (Option<V::Borrow>, FrozenBTreeMap<'a, K, V, A>)
-    ensures between { result.0 ≡ value_at (eq_by_cmp K.cmp) map.entry key.now }
-    ensures again { result.1 ≡ map.entry }
+    ensures between { result.0 ≡ value_at (eq_by_cmp K.cmp) tree.entry key.now }
+    ensures again { result.1 ≡ tree.entry }
 {
-    let inner = map.into_map();
+    let inner = tree.into_map();
     let between = inner.get(key).copied();
     (between, FrozenBTreeMap::from_map(alloc, arena, inner))
 }
@@ -131,18 +131,18 @@ pub fn hashed_inserted_apart<
 /// A clone of an ordered map and its source go their own ways: after an insertion into each, each is what the source was
 /// before, with its own insertion alone.
 pub fn ordered_inserted_apart<'a, K: Ord + Clone + Drop, V: StableDeref<'a>, A: Allocator + Copy>(
-    map: &mut FrozenBTreeMap<'a, K, V, A>,
+    tree: &mut FrozenBTreeMap<'a, K, V, A>,
     one: (K, V),
     other: (K, V),
 ) -> Result<FrozenBTreeMap<'a, K, V, A>, AllocError>
     requires equal_clones { (k c : K) → K.is_clone k c → eq_by_cmp K.cmp k c ≡ true }
-    ensures source { IfOk result (λ _. Inserts (eq_by_cmp K.cmp) V.target V.shown (value_at (eq_by_cmp K.cmp) map.old) one.0 one.1 (value_at (eq_by_cmp K.cmp) map.new)) }
-    ensures copy { IfOk result (λ copy. Inserts (eq_by_cmp K.cmp) V.target V.shown (value_at (eq_by_cmp K.cmp) map.old) other.0 other.1 (value_at (eq_by_cmp K.cmp) copy)) }
+    ensures source { IfOk result (λ _. Inserts (eq_by_cmp K.cmp) V.target V.shown (value_at (eq_by_cmp K.cmp) tree.old) one.0 one.1 (value_at (eq_by_cmp K.cmp) tree.new)) }
+    ensures copy { IfOk result (λ copy. Inserts (eq_by_cmp K.cmp) V.target V.shown (value_at (eq_by_cmp K.cmp) tree.old) other.0 other.1 (value_at (eq_by_cmp K.cmp) copy)) }
 {
     let (key, value) = one;
     let (other_key, other_value) = other;
-    let mut copy = map.clone()?;
-    map.insert(key, value)?;
+    let mut copy = tree.clone()?;
+    tree.insert(key, value)?;
     copy.insert(other_key, other_value)?;
     Ok(copy)
 }
@@ -165,13 +165,13 @@ where
 
 /// Two ordered maps are equal exactly if at each key both have equal values or neither has one.
 pub fn ordered_equal_as_functions<'a, K: Ord, V: StableDeref<'a>, A: Allocator + Copy>(
-    map: &FrozenBTreeMap<'a, K, V, A>,
+    tree: &FrozenBTreeMap<'a, K, V, A>,
     other: &FrozenBTreeMap<'a, K, V, A>,
 ) -> bool
 where
     V::Borrow: PartialEq,
-    ensures equal { IsTrue result → (q : K) → option_eq V.Borrow.eq (value_at (eq_by_cmp K.cmp) map.now q) (value_at (eq_by_cmp K.cmp) other.now q) ≡ true }
-    ensures only_equal { ((q : K) → option_eq V.Borrow.eq (value_at (eq_by_cmp K.cmp) map.now q) (value_at (eq_by_cmp K.cmp) other.now q) ≡ true) → IsTrue result }
+    ensures equal { IsTrue result → (q : K) → option_eq V.Borrow.eq (value_at (eq_by_cmp K.cmp) tree.now q) (value_at (eq_by_cmp K.cmp) other.now q) ≡ true }
+    ensures only_equal { ((q : K) → option_eq V.Borrow.eq (value_at (eq_by_cmp K.cmp) tree.now q) (value_at (eq_by_cmp K.cmp) other.now q) ≡ true) → IsTrue result }
 {
-    *map == *other
+    *tree == *other
 }

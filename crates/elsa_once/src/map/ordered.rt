@@ -120,10 +120,10 @@ impl<'a, K: Ord, V: StableDeref<'a>, A: Allocator + Copy> FrozenBTreeMap<'a, K, 
         let FrozenBTreeMap {
             alloc: _,
             arena: _,
-            entries,
+            entries: inner_map,
             of: _,
         } = self;
-        entries
+        inner_map
     }
 
     /// The inner map, lent for writing: it may change or remove anything, and what it leaves is a new base.
