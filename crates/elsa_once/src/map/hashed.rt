@@ -261,6 +261,7 @@ impl<
     /// A map of the pairs in which, other than by insertions, the last value of a key wins.
     ///
     /// Each value is placed in the arena. Where memory is refused, the answer is `Err` and what was collected is given up.
+    /// Which of several equal keys the map then shows is left open.
     pub fn from_iter<I: IntoIterator<Item = (K, V)>>(
         alloc: A,
         arena: &'a Bump,

@@ -1,7 +1,7 @@
 //! What a caller may rely on, each law on the contract of a function that makes the calls.
 //!
 //! The laws follow from the contracts of the maps alone, as any caller's own proofs do.
-ghost use Rattle.std.specs.Prelude.{◌≡◌, ◌+◌, ◌↔◌, Bool, false, true, IfOk, IsTrue, None, OnErr, Some, if◌then◌else◌, length};
+ghost use Rattle.std.specs.Prelude.{◌≡◌, ◌+◌, ◌⊎◌, ◌↔◌, Bool, false, true, IfOk, IsTrue, None, OnErr, Some, if◌then◌else◌, length};
 ghost use Rattle.std.specs.Option.{option_eq};
 ghost use Rattle.std.specs.Ordering.{eq_by_cmp};
 ghost use Rattle.elsa_once.specs.FirstWins.{Inserts, Keeps, value_at};
@@ -119,6 +119,7 @@ pub fn hashed_inserted_apart<
     requires equal_clones { (k c : K) → K.is_clone k c → K.eq k c ≡ true }
     ensures source { IfOk result (λ _. Inserts K.eq V.target V.shown (value_at K.eq map.old) one.0 one.1 (value_at K.eq map.new)) }
     ensures copy { IfOk result (λ copy. Inserts K.eq V.target V.shown (value_at K.eq map.old) other.0 other.1 (value_at K.eq copy)) }
+    ensures refused { OnErr result ((map.new ≡ map.old) ⊎ Inserts K.eq V.target V.shown (value_at K.eq map.old) one.0 one.1 (value_at K.eq map.new)) }
 {
     let (key, value) = one;
     let (other_key, other_value) = other;
@@ -138,6 +139,7 @@ pub fn ordered_inserted_apart<'a, K: Ord + Clone + Drop, V: StableDeref<'a>, A: 
     requires equal_clones { (k c : K) → K.is_clone k c → eq_by_cmp K.cmp k c ≡ true }
     ensures source { IfOk result (λ _. Inserts (eq_by_cmp K.cmp) V.target V.shown (value_at (eq_by_cmp K.cmp) tree.old) one.0 one.1 (value_at (eq_by_cmp K.cmp) tree.new)) }
     ensures copy { IfOk result (λ copy. Inserts (eq_by_cmp K.cmp) V.target V.shown (value_at (eq_by_cmp K.cmp) tree.old) other.0 other.1 (value_at (eq_by_cmp K.cmp) copy)) }
+    ensures refused { OnErr result ((tree.new ≡ tree.old) ⊎ Inserts (eq_by_cmp K.cmp) V.target V.shown (value_at (eq_by_cmp K.cmp) tree.old) one.0 one.1 (value_at (eq_by_cmp K.cmp) tree.new)) }
 {
     let (key, value) = one;
     let (other_key, other_value) = other;
