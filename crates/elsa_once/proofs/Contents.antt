@@ -1,5 +1,5 @@
 -- Look-ups in a list of entries, and what pairs leave when they are collected.
-use Rattle.std.proofs.Common.{◌≡◌, Bool, true, false, true≢false, cond, subst, is_some, Result, Ok, Err, IfOk, OnErr, List, [], ◌∷◌, ◌++◌, reverse, Option, None, Some, length, refl, sym, ap, ◌∙◌}
+use Rattle.std.proofs.Common.{◌≡◌, ◌↔◌, Bool, true, false, true≢false, cond, subst, is_some, Result, Ok, Err, IfOk, OnErr, List, [], ◌∷◌, ◌++◌, reverse, Option, None, Some, length, refl, sym, ap, ◌∙◌}
 use Rattle.std.specs.BTreeMap as tree
 use Rattle.std.specs.BTreeMap.{BTreeMap}
 use Rattle.std.specs.Cmp.{IsEquivalence, IsTotalOrder}
@@ -10,7 +10,7 @@ use Rattle.std.specs.declared.cmp.Ordering.{Ordering}
 use Rattle.std.proofs.lemmas.List.{length-map, reverse-append}
 use Rattle.std.proofs.lemmas.List.Sums.{fold-append}
 use Rattle.std.proofs.lemmas.Map.Lookups.{btree_map_read_from_get}
-use Rattle.elsa_once.specs.FirstWins.{Adds, HoldsLast, Keeps, value_at}
+use Rattle.elsa_once.specs.FirstWins.{Adds, HoldsLast, Inserts, Keeps, SameAt, value_at}
 
 module _ {K B : Type 0} (test : K → Bool) where
   -- the key and the value that are found belong to one entry
@@ -51,6 +51,15 @@ module _ {K V B T : Type 0} (eq : K → K → Bool) (laws : IsEquivalence eq) (t
       by true = ap Some shows
       by false = held q
 
+-- an accepted insertion into entries that have, at each key, what old has
+pub inserts_alike : {K V B T : Type 0} (eq : K → K → Bool) (target : V → T) (shown : B → T) (old : K → Option B) (es fs : List (K × B)) (k : K) (v : V) (b : B) → SameAt old (value_at eq es)
+    → ((x : B) → value_at eq es k ≡ Some x → fs ≡ es) → (value_at eq es k ≡ None → shown b ≡ target v) → (value_at eq es k ≡ None → Adds eq (value_at eq es) (value_at eq fs) k b)
+    → Inserts eq target shown old k v (value_at eq fs)
+inserts_alike eq target shown old es fs k v b same unchanged shows adds = (
+  (λ x had q. ap (λ gs. value_at eq gs q) (unchanged x (same k ∙ had)) ∙ same q),
+  (λ none. (b, shows (same k ∙ none), (λ q. ((adds (same k ∙ none) q).0, (λ other. (adds (same k ∙ none) q).1 other ∙ same q))))),
+)
+
 module _ {K B : Type 0} (eq : K → K → Bool) (laws : IsEquivalence eq) where
   -- what an insertion of a new key adds keeps every value
   adds_keeps : (es : List (K × B)) (new : K → Option B) (k : K) (v : B) → value_at eq es k ≡ None → Adds eq (value_at eq es) new k v → Keeps (value_at eq es) new
@@ -80,6 +89,17 @@ module _ {K B : Type 0} (eq : K → K → Bool) (laws : IsEquivalence eq) where
             let P : Result (B × Bool) E → Type 0 = λ s. IfOk s (λ a. value_at eq fs k ≡ Some a.0) in
             subst P (sym (present x is).0 ∙ same) (ap (λ gs. value_at eq gs k) (present x is).1 ∙ is)
         by None is (Ok a) same h = (h is k).0 (laws.refl k)
+        by None is (Err e) same h = tt
+
+    -- where it is accepted the flag says whether the key was new
+    pub insert_flag : (value_at eq es k ≡ None → IfOk result (λ r. r.1 ≡ true)) → IfOk result (λ r. (r.1 ≡ true) ↔ (value_at eq es k ≡ None))
+    insert_flag flag = by (value_at eq es k) refl result refl flag
+      where
+        by : (o : Option B) → value_at eq es k ≡ o → (r : Result (B × Bool) E) → result ≡ r → (value_at eq es k ≡ None → IfOk r (λ a. a.1 ≡ true)) → IfOk r (λ a. (a.1 ≡ true) ↔ (value_at eq es k ≡ None))
+        by (Some x) is r same h =
+            let P : Result (B × Bool) E → Type 0 = λ s. IfOk s (λ a. (a.1 ≡ true) ↔ (value_at eq es k ≡ None)) in
+            subst P (sym (present x is).0 ∙ same) ((λ f. absurd (true≢false (sym f))), (λ none. absurd (true≢false (ap is_some (sym is ∙ none)))))
+        by None is (Ok a) same h = ((λ f. is), (λ none. h none))
         by None is (Err e) same h = tt
 
   -- one more pair, under a key that equals its own

@@ -1,5 +1,5 @@
 //! What callers of `FrozenVec` may rely on beyond one call: each law is the contract of a function that only makes public calls.
-ghost use Rattle.std.specs.Prelude.{◌≡◌, ◌++◌, ◌⊎◌, Bool, List, IfOk, IfSome, IsSomeAnd, IsTrue, OnErr, Some, false, length, slice_get, true};
+ghost use Rattle.std.specs.Prelude.{◌≡◌, ◌++◌, ◌⊎◌, Bool, List, IfOk, IfSome, IsTrue, None, OnErr, OnOk, Some, false, length, slice_get, true};
 ghost use lib.Pointwise.{pointwise};
 ghost use Rattle.std.specs.Fn.{AlwaysReturns};
 ghost use Rattle.std.specs.List.Sorted.{IsBinarySearchResult, IsPartitionPoint, IsPartitionedBy};
@@ -14,14 +14,19 @@ use std::cmp::Ordering;
 
 // ---- content
 
-/// A vector that is taken apart and made again has the same content.
+/// A vector that is taken apart and made again has the same content, and so has the inner vector between: it answers what
+/// stood there at a place.
 pub fn made_again<'a, T: StableDeref<'a>, A: Allocator + Copy>(
     arena: &'a Bump,
     items: FrozenVec<'a, T, A>,
-) -> FrozenVec<'a, T, A>
-    ensures { result ≡ items.entry }
+    place: usize,
+) -> (Option<T::Borrow>, FrozenVec<'a, T, A>)
+    ensures between { result.0 ≡ slice_get items.entry place }
+    ensures again { result.1 ≡ items.entry }
 {
-    FrozenVec::from_vec(arena, items.into_vec())
+    let inner = items.into_vec();
+    let between = inner.get(place).copied();
+    (between, FrozenVec::from_vec(arena, inner))
 }
 
 /// A push, accepted or refused, keeps what was there: the content begins as before, and a place that had an item has the same one.
@@ -40,20 +45,21 @@ pub fn looked_up_round_a_push<'a, T: StableDeref<'a>, A: Allocator + Copy>(
     (before, pushed, items.get(place))
 }
 
-/// A borrow stays good after further pushes and after the vector's end.
+/// A borrow stays good after further pushes, which leave it at its place, and after the vector's end.
 pub fn outlives_its_vector<'a, T: StableDeref<'a>, A: Allocator + Copy>(
-    alloc: A,
-    arena: &'a Bump,
+    mut items: FrozenVec<'a, T, A>,
     item: T,
     further: T,
-) -> Result<T::Borrow, AllocError>
-    ensures { IfOk result (λ b. T.shown b ≡ T.target item) }
+) -> Result<(T::Borrow, Option<T::Borrow>), AllocError>
+    ensures shows { IfOk result (λ r. T.shown r.0 ≡ T.target item) }
+    ensures stands { IfOk result (λ r. r.1 ≡ Some r.0) }
 {
-    let mut items: FrozenVec<'a, T, A> = FrozenVec::new(alloc, arena);
-    let first = items.push_get(item)?;
+    let place = items.len();
+    let borrow = items.push_get(item)?;
     items.push(further)?;
+    let later = items.get(place);
     drop(items);
-    Ok(first)
+    Ok((borrow, later))
 }
 
 /// A clone and its source go their own ways.
@@ -74,16 +80,17 @@ pub fn pushed_apart<'a, T: StableDeref<'a>, A: Allocator + Copy>(
 
 // ---- equality
 
-/// A vector equals itself.
-pub fn equals_itself<'a, T: StableDeref<'a>, A: Allocator + Copy>(
-    items: &FrozenVec<'a, T, A>,
+/// Two vectors of one content are equal: so a vector equals itself.
+pub fn equal_where_the_same<'a, T: StableDeref<'a>, A: Allocator + Copy>(
+    one: &FrozenVec<'a, T, A>,
+    other: &FrozenVec<'a, T, A>,
 ) -> bool
 where
     <T as StableDeref<'a>>::Borrow: Eq,
-    ensures answered { result ≡ pointwise T.Borrow.eq items.now items.now }
-    ensures equal { IsTrue result }
+    ensures answered { result ≡ pointwise T.Borrow.eq one.now other.now }
+    ensures equal { one.now ≡ other.now → IsTrue result }
 {
-    items == items
+    one == other
 }
 
 /// Which of two vectors stands first makes no difference.
@@ -127,19 +134,23 @@ pub fn walked<'a, T: StableDeref<'a>, A: Allocator + Copy, B: Allocator>(
     items.iter().collect(alloc)
 }
 
-/// A cursor at the end goes on after a push.
+/// A cursor at the end goes on after a push: it answers None before it, and then what was pushed.
 pub fn read_on<'a, T: StableDeref<'a>, A: Allocator + Copy>(
     items: &mut FrozenVec<'a, T, A>,
     cursor: &mut Cursor,
     item: T,
-) -> Result<Option<T::Borrow>, AllocError>
+) -> (Option<T::Borrow>, Result<(), AllocError>, Option<T::Borrow>)
     requires { cursor.old ≡ length items.old }
-    ensures gives { IfOk result (λ o. IsSomeAnd o (λ b. T.shown b ≡ T.target item)) }
+    ensures before { result.0 ≡ None }
+    ensures pushed { OnOk result.1 (Gains T.target T.shown items.old item items.new) }
+    ensures refused { OnErr result.1 (items.new ≡ items.old) }
+    ensures after { result.2 ≡ slice_get items.new (length items.old) }
+    ensures shows { IfSome result.2 (λ b. T.shown b ≡ T.target item) }
     ensures at_end { cursor.new ≡ length items.new }
 {
-    let _none = cursor.next(items);
-    items.push(item)?;
-    Ok(cursor.next(items))
+    let before = cursor.next(items);
+    let pushed = items.push(item);
+    (before, pushed, cursor.next(items))
 }
 
 // ---- searches

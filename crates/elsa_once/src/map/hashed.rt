@@ -1,8 +1,9 @@
 //! The map that finds a key by its hash.
-ghost use Rattle.std.specs.Prelude.{◌≡◌, ◌+◌, ◌↔◌, [], List, Bool, false, true, None, IfOk, IsNone, IsSome, IsSomeAnd, IsTrue, MatchOption, OnErr, OnOk, Some, if◌then◌else◌, length};
+ghost use Rattle.std.specs.Prelude.{◌≡◌, ◌+◌, ◌↔◌, [], ◌∷◌, List, Bool, false, true, None, IfOk, IsNone, IsSome, IsSomeAnd, IsTrue, MatchOption, OnErr, OnOk, Some, if◌then◌else◌, length};
 ghost use Rattle.std.specs.Borrow.{sem};
 ghost use Rattle.std.specs.Iterator.{Drains, IsFinite};
 ghost use Rattle.std.specs.List.{IsDistinct};
+ghost use Rattle.std.specs.List.Sorted.{IsPermutation};
 ghost use Rattle.std.specs.Map.{keys_of};
 ghost use Rattle.std.specs.Option.{ForSome};
 ghost use Rattle.elsa_once.specs.FirstWins.{Adds, HoldsLast, SameAt, entry_at, same_values, value_at};
@@ -165,10 +166,10 @@ impl<'a, K: Eq + Hash, V: StableDeref<'a>, S: BuildHasher, A: Allocator + Copy> 
         let FrozenMap {
             alloc: _,
             arena: _,
-            entries,
+            entries: inner_map,
             of: _,
         } = self;
-        entries
+        inner_map
     }
 
     /// The inner map, lent for writing: it may change or remove anything, and what it leaves is a new base.
@@ -201,6 +202,7 @@ impl<'a, K: Eq + Hash + Drop, V: StableDeref<'a>, S: BuildHasher, A: Allocator +
         ensures new_target { value_at K.eq self.old key ≡ None → IfOk result (λ r. V.shown r.0 ≡ V.target value) }
         ensures new_content { value_at K.eq self.old key ≡ None → IfOk result (λ r. Adds K.eq (value_at K.eq self.old) (value_at K.eq self.new) key r.0) }
         ensures new_length { value_at K.eq self.old key ≡ None → OnOk result (length self.new ≡ length self.old + 1) }
+        ensures new_entry { value_at K.eq self.old key ≡ None → IfOk result (λ r. IsPermutation ((key, r.0) ∷ self.old) self.new) }
         ensures refused { OnErr result (self.new ≡ self.old) }
         ensures only_new { OnErr result (value_at K.eq self.old key ≡ None) }
     {
@@ -226,6 +228,7 @@ impl<'a, K: Eq + Hash + Drop, V: StableDeref<'a>, S: BuildHasher, A: Allocator +
         ensures new_target { value_at K.eq self.old key ≡ None → IfOk result (λ b. V.shown b ≡ V.target value) }
         ensures new_content { value_at K.eq self.old key ≡ None → IfOk result (λ b. Adds K.eq (value_at K.eq self.old) (value_at K.eq self.new) key b) }
         ensures new_length { value_at K.eq self.old key ≡ None → OnOk result (length self.new ≡ length self.old + 1) }
+        ensures new_entry { value_at K.eq self.old key ≡ None → IfOk result (λ b. IsPermutation ((key, b) ∷ self.old) self.new) }
         ensures refused { OnErr result (self.new ≡ self.old) }
         ensures only_new { OnErr result (value_at K.eq self.old key ≡ None) }
     {
@@ -258,6 +261,7 @@ impl<
     /// A map of the pairs in which, other than by insertions, the last value of a key wins.
     ///
     /// Each value is placed in the arena. Where memory is refused, the answer is `Err` and what was collected is given up.
+    /// Which of several equal keys the map then shows is left open.
     pub fn from_iter<I: IntoIterator<Item = (K, V)>>(
         alloc: A,
         arena: &'a Bump,

@@ -1,10 +1,10 @@
 //! What a caller may rely on, each law on the contract of a function that makes the calls.
 //!
 //! The laws follow from the contracts of the maps alone, as any caller's own proofs do.
-ghost use Rattle.std.specs.Prelude.{◌≡◌, ◌+◌, ◌↔◌, Bool, false, true, IfOk, IsTrue, OnOk, Some, if◌then◌else◌, length};
+ghost use Rattle.std.specs.Prelude.{◌≡◌, ◌+◌, ◌⊎◌, ◌↔◌, Bool, false, true, IfOk, IsTrue, None, OnErr, Some, if◌then◌else◌, length};
 ghost use Rattle.std.specs.Option.{option_eq};
 ghost use Rattle.std.specs.Ordering.{eq_by_cmp};
-ghost use Rattle.elsa_once.specs.FirstWins.{Keeps, SameAt, value_at};
+ghost use Rattle.elsa_once.specs.FirstWins.{Inserts, Keeps, value_at};
 
 use super::{FrozenBTreeMap, FrozenMap, MapForm};
 use crate::stable::StableDeref;
@@ -13,7 +13,7 @@ use std::alloc::{AllocError, Allocator};
 use std::hash::{BuildHasher, Hash};
 
 /// An insertion, accepted or refused, keeps the value of every key that has one; the key has the answered value
-/// afterwards, and the flag is true exactly where the content grows by one entry.
+/// afterwards, and the flag is true exactly where the key was new, and the content grows by one entry.
 pub fn keeps_earlier_values<'a, M: MapForm<'a>>(
     map: &mut M,
     key: M::Key,
@@ -21,7 +21,10 @@ pub fn keeps_earlier_values<'a, M: MapForm<'a>>(
 ) -> Result<(<M::Value as StableDeref<'a>>::Borrow, bool), AllocError>
     ensures kept { Keeps (value_at M.same (M.entries map.old)) (value_at M.same (M.entries map.new)) }
     ensures there { IfOk result (λ r. value_at M.same (M.entries map.new) key ≡ Some r.0) }
+    ensures flag { IfOk result (λ r. IsTrue r.1 ↔ (value_at M.same (M.entries map.old) key ≡ None)) }
     ensures grows { IfOk result (λ r. length (M.entries map.new) ≡ length (M.entries map.old) + (if r.1 then 1 else 0)) }
+    ensures refused { OnErr result (M.entries map.new ≡ M.entries map.old) }
+    ensures only_new { OnErr result (value_at M.same (M.entries map.old) key ≡ None) }
 {
     // Tells the proof that the keys' equality is an equivalence.
     let _count = map.len();
@@ -43,8 +46,11 @@ pub fn is_new_once<'a, M: MapForm<'a>>(
     AllocError,
 >
     requires equal { M.same first.0 again.0 ≡ true }
+    ensures first { IfOk result (λ answers. IsTrue answers.0.1 ↔ (value_at M.same (M.entries map.old) first.0 ≡ None)) }
     ensures once { IfOk result (λ answers. answers.1.1 ≡ false) }
     ensures same_value { IfOk result (λ answers. answers.1.0 ≡ answers.0.0) }
+    ensures there { IfOk result (λ answers. value_at M.same (M.entries map.new) first.0 ≡ Some answers.0.0) }
+    ensures kept { Keeps (value_at M.same (M.entries map.old)) (value_at M.same (M.entries map.new)) }
 {
     // Tells the proof that the keys' equality is an equivalence.
     let _count = map.len();
@@ -59,32 +65,47 @@ pub fn is_new_once<'a, M: MapForm<'a>>(
     Ok((before, after))
 }
 
-/// A hashed map made of the inner map of another has its content.
+/// A hashed map made of the inner map of another has its content, and so has the inner map between: it answers what `key`
+/// had there.
 pub fn hashed_there_and_back<
     'a,
     K: Eq + Hash,
     V: StableDeref<'a>,
     S: BuildHasher,
     A: Allocator + Copy,
->(alloc: A, arena: &'a Bump, map: FrozenMap<'a, K, V, S, A>) -> FrozenMap<'a, K, V, S, A>
-    ensures { result ≡ map.entry }
+>(
+    alloc: A,
+    arena: &'a Bump,
+    map: FrozenMap<'a, K, V, S, A>,
+    key: &K,
+) -> (Option<V::Borrow>, FrozenMap<'a, K, V, S, A>)
+    ensures between { result.0 ≡ value_at K.eq map.entry key.now }
+    ensures again { result.1 ≡ map.entry }
 {
-    FrozenMap::from_map(alloc, arena, map.into_map())
+    let inner = map.into_map();
+    let between = inner.get(key).copied();
+    (between, FrozenMap::from_map(alloc, arena, inner))
 }
 
-/// An ordered map made of the inner map of another has its content.
+/// An ordered map made of the inner map of another has its content, and so has the inner map between: it answers what `key`
+/// had there.
 pub fn ordered_there_and_back<'a, K: Ord, V: StableDeref<'a>, A: Allocator + Copy>(
     alloc: A,
     arena: &'a Bump,
-    map: FrozenBTreeMap<'a, K, V, A>,
-) -> FrozenBTreeMap<'a, K, V, A>
-    ensures { result ≡ map.entry }
+    tree: FrozenBTreeMap<'a, K, V, A>,
+    key: &K,
+) -> (Option<V::Borrow>, FrozenBTreeMap<'a, K, V, A>)
+    ensures between { result.0 ≡ value_at (eq_by_cmp K.cmp) tree.entry key.now }
+    ensures again { result.1 ≡ tree.entry }
 {
-    FrozenBTreeMap::from_map(alloc, arena, map.into_map())
+    let inner = tree.into_map();
+    let between = inner.get(key).copied();
+    (between, FrozenBTreeMap::from_map(alloc, arena, inner))
 }
 
-/// A clone of a hashed map keeps the content that its source had, whatever is inserted into the source.
-pub fn hashed_clone_stays<
+/// A clone of a hashed map and its source go their own ways: after an insertion into each, each is what the source was
+/// before, with its own insertion alone.
+pub fn hashed_inserted_apart<
     'a,
     K: Eq + Hash + Clone + Drop,
     V: StableDeref<'a>,
@@ -92,28 +113,39 @@ pub fn hashed_clone_stays<
     A: Allocator + Copy,
 >(
     map: &mut FrozenMap<'a, K, V, S, A>,
-    key: K,
-    value: V,
+    one: (K, V),
+    other: (K, V),
 ) -> Result<FrozenMap<'a, K, V, S, A>, AllocError>
     requires equal_clones { (k c : K) → K.is_clone k c → K.eq k c ≡ true }
-    ensures { IfOk result (λ copy. SameAt (value_at K.eq map.old) (value_at K.eq copy)) }
+    ensures source { IfOk result (λ _. Inserts K.eq V.target V.shown (value_at K.eq map.old) one.0 one.1 (value_at K.eq map.new)) }
+    ensures copy { IfOk result (λ copy. Inserts K.eq V.target V.shown (value_at K.eq map.old) other.0 other.1 (value_at K.eq copy)) }
+    ensures refused { OnErr result ((map.new ≡ map.old) ⊎ Inserts K.eq V.target V.shown (value_at K.eq map.old) one.0 one.1 (value_at K.eq map.new)) }
 {
-    let copy = map.clone()?;
+    let (key, value) = one;
+    let (other_key, other_value) = other;
+    let mut copy = map.clone()?;
     map.insert(key, value)?;
+    copy.insert(other_key, other_value)?;
     Ok(copy)
 }
 
-/// A clone of an ordered map keeps the content that its source had, whatever is inserted into the source.
-pub fn ordered_clone_stays<'a, K: Ord + Clone + Drop, V: StableDeref<'a>, A: Allocator + Copy>(
-    map: &mut FrozenBTreeMap<'a, K, V, A>,
-    key: K,
-    value: V,
+/// A clone of an ordered map and its source go their own ways: after an insertion into each, each is what the source was
+/// before, with its own insertion alone.
+pub fn ordered_inserted_apart<'a, K: Ord + Clone + Drop, V: StableDeref<'a>, A: Allocator + Copy>(
+    tree: &mut FrozenBTreeMap<'a, K, V, A>,
+    one: (K, V),
+    other: (K, V),
 ) -> Result<FrozenBTreeMap<'a, K, V, A>, AllocError>
     requires equal_clones { (k c : K) → K.is_clone k c → eq_by_cmp K.cmp k c ≡ true }
-    ensures { IfOk result (λ copy. SameAt (value_at (eq_by_cmp K.cmp) map.old) (value_at (eq_by_cmp K.cmp) copy)) }
+    ensures source { IfOk result (λ _. Inserts (eq_by_cmp K.cmp) V.target V.shown (value_at (eq_by_cmp K.cmp) tree.old) one.0 one.1 (value_at (eq_by_cmp K.cmp) tree.new)) }
+    ensures copy { IfOk result (λ copy. Inserts (eq_by_cmp K.cmp) V.target V.shown (value_at (eq_by_cmp K.cmp) tree.old) other.0 other.1 (value_at (eq_by_cmp K.cmp) copy)) }
+    ensures refused { OnErr result ((tree.new ≡ tree.old) ⊎ Inserts (eq_by_cmp K.cmp) V.target V.shown (value_at (eq_by_cmp K.cmp) tree.old) one.0 one.1 (value_at (eq_by_cmp K.cmp) tree.new)) }
 {
-    let copy = map.clone()?;
-    map.insert(key, value)?;
+    let (key, value) = one;
+    let (other_key, other_value) = other;
+    let mut copy = tree.clone()?;
+    tree.insert(key, value)?;
+    copy.insert(other_key, other_value)?;
     Ok(copy)
 }
 
@@ -135,13 +167,13 @@ where
 
 /// Two ordered maps are equal exactly if at each key both have equal values or neither has one.
 pub fn ordered_equal_as_functions<'a, K: Ord, V: StableDeref<'a>, A: Allocator + Copy>(
-    map: &FrozenBTreeMap<'a, K, V, A>,
+    tree: &FrozenBTreeMap<'a, K, V, A>,
     other: &FrozenBTreeMap<'a, K, V, A>,
 ) -> bool
 where
     V::Borrow: PartialEq,
-    ensures equal { IsTrue result → (q : K) → option_eq V.Borrow.eq (value_at (eq_by_cmp K.cmp) map.now q) (value_at (eq_by_cmp K.cmp) other.now q) ≡ true }
-    ensures only_equal { ((q : K) → option_eq V.Borrow.eq (value_at (eq_by_cmp K.cmp) map.now q) (value_at (eq_by_cmp K.cmp) other.now q) ≡ true) → IsTrue result }
+    ensures equal { IsTrue result → (q : K) → option_eq V.Borrow.eq (value_at (eq_by_cmp K.cmp) tree.now q) (value_at (eq_by_cmp K.cmp) other.now q) ≡ true }
+    ensures only_equal { ((q : K) → option_eq V.Borrow.eq (value_at (eq_by_cmp K.cmp) tree.now q) (value_at (eq_by_cmp K.cmp) other.now q) ≡ true) → IsTrue result }
 {
-    *map == *other
+    *tree == *other
 }

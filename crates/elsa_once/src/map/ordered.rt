@@ -1,5 +1,6 @@
 //! The map that keeps its keys in order.
 ghost use Rattle.std.specs.Prelude.{◌≡◌, ◌+◌, ◌↔◌, [], List, Bool, false, true, None, IfOk, IsSome, IsSomeAnd, IsTrue, MatchOption, OnErr, OnOk, Some, if◌then◌else◌, length};
+ghost use Rattle.std.specs.BTreeMap.{insert_entry};
 ghost use Rattle.std.specs.Borrow.{sem};
 ghost use Rattle.std.specs.Cmp.{eq_by_cmp_equiv};
 ghost use Rattle.std.specs.Iterator.{Drains, IsFinite};
@@ -120,10 +121,10 @@ impl<'a, K: Ord, V: StableDeref<'a>, A: Allocator + Copy> FrozenBTreeMap<'a, K, 
         let FrozenBTreeMap {
             alloc: _,
             arena: _,
-            entries,
+            entries: inner_map,
             of: _,
         } = self;
-        entries
+        inner_map
     }
 
     /// The inner map, lent for writing: it may change or remove anything, and what it leaves is a new base.
@@ -150,6 +151,7 @@ impl<'a, K: Ord + Drop, V: StableDeref<'a>, A: Allocator + Copy> FrozenBTreeMap<
         ensures new_target { value_at (eq_by_cmp K.cmp) self.old key ≡ None → IfOk result (λ r. V.shown r.0 ≡ V.target value) }
         ensures new_content { value_at (eq_by_cmp K.cmp) self.old key ≡ None → IfOk result (λ r. Adds (eq_by_cmp K.cmp) (value_at (eq_by_cmp K.cmp) self.old) (value_at (eq_by_cmp K.cmp) self.new) key r.0) }
         ensures new_length { value_at (eq_by_cmp K.cmp) self.old key ≡ None → OnOk result (length self.new ≡ length self.old + 1) }
+        ensures new_entry { value_at (eq_by_cmp K.cmp) self.old key ≡ None → IfOk result (λ r. self.new ≡ insert_entry K.cmp self.old key r.0) }
         ensures refused { OnErr result (self.new ≡ self.old) }
         ensures only_new { OnErr result (value_at (eq_by_cmp K.cmp) self.old key ≡ None) }
     {
@@ -170,6 +172,7 @@ impl<'a, K: Ord + Drop, V: StableDeref<'a>, A: Allocator + Copy> FrozenBTreeMap<
         ensures new_target { value_at (eq_by_cmp K.cmp) self.old key ≡ None → IfOk result (λ b. V.shown b ≡ V.target value) }
         ensures new_content { value_at (eq_by_cmp K.cmp) self.old key ≡ None → IfOk result (λ b. Adds (eq_by_cmp K.cmp) (value_at (eq_by_cmp K.cmp) self.old) (value_at (eq_by_cmp K.cmp) self.new) key b) }
         ensures new_length { value_at (eq_by_cmp K.cmp) self.old key ≡ None → OnOk result (length self.new ≡ length self.old + 1) }
+        ensures new_entry { value_at (eq_by_cmp K.cmp) self.old key ≡ None → IfOk result (λ b. self.new ≡ insert_entry K.cmp self.old key b) }
         ensures refused { OnErr result (self.new ≡ self.old) }
         ensures only_new { OnErr result (value_at (eq_by_cmp K.cmp) self.old key ≡ None) }
     {
@@ -191,6 +194,7 @@ impl<'a, K: Ord + Drop, V: StableDeref<'a>, A: Allocator + Copy> FrozenBTreeMap<
     /// A map of the pairs in which, other than by insertions, the last value of a key wins.
     ///
     /// Each value is placed in the arena. Where memory is refused, the answer is `Err` and what was collected is given up.
+    /// Which of several equal keys the map then shows is left open.
     pub fn from_iter<I: IntoIterator<Item = (K, V)>>(
         alloc: A,
         arena: &'a Bump,

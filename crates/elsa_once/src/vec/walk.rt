@@ -1,6 +1,7 @@
 //! Walks over a vector: an iterator, and a cursor that goes on after later pushes.
-ghost use Rattle.std.specs.Prelude.{◌≡◌, ◌+◌, if◌then◌else◌, is_some, slice_get};
-ghost use Rattle.std.specs.Iterator.{YieldsFirst, item_count};
+ghost use Rattle.std.specs.Prelude.{◌≡◌, ◌+◌, IfSome, Some, if◌then◌else◌, is_some, length, slice_get};
+ghost use Rattle.std.specs.Iterator.{UpTo, YieldsFirst, item_count};
+ghost use Rattle.std.specs.Iterator.SizeHint.{IsWithinCount};
 
 use crate::stable::StableDeref;
 use crate::vec::FrozenVec;
@@ -89,7 +90,11 @@ impl<'v, 'a, T: StableDeref<'a>, A: Allocator + Copy> Iterator for Iter<'v, 'a, 
         self.cursor.next(self.items)
     }
 
-    fn size_hint(&self) -> (usize, Option<usize>) {
+    fn size_hint(&self) -> (usize, Option<usize>)
+        ensures lower { IsWithinCount result.0 (item_count (λ left. left) self.now) }
+        ensures upper { IfSome result.1 (UpTo (item_count (λ left. left) self.now)) }
+        ensures exact { result ≡ (length self.now, Some (length self.now)) }
+    {
         let left = self.items.len().saturating_sub(self.cursor.place);
         (left, Some(left))
     }

@@ -1,4 +1,4 @@
-use Rattle.elsa_once.proofs.Contents.{insert_answers, insert_keeps}
+use Rattle.elsa_once.proofs.Contents.{insert_answers, insert_flag, insert_keeps}
 use Rattle.elsa_once.proofs.map.laws.keeps_earlier_values.Goals as goal
 
 pub returns-clause-kept : goal.returns-clause-kept
@@ -10,3 +10,8 @@ pub returns-clause-there : goal.returns-clause-there
 returns-clause-there g c =
     let done = c.insert_new.ensures in
     insert_answers g.M.MapForm.same c.len-count.ensures.equivalence (g.M.MapForm.entries c.args.map.now) (g.M.MapForm.entries c.insert_new.new.self) c.args.key c.insert_new.result done.present done.new_content
+
+pub returns-clause-flag : goal.returns-clause-flag
+returns-clause-flag g c =
+    let done = c.insert_new.ensures in
+    insert_flag g.M.MapForm.same c.len-count.ensures.equivalence (g.M.MapForm.entries c.args.map.now) (g.M.MapForm.entries c.insert_new.new.self) c.args.key c.insert_new.result done.present done.new_content done.new_flag
