@@ -414,7 +414,9 @@ impl<K: Eq + Hash, V, A: Allocator + Copy> MapState<K, V, A> {
     }
 
     /// The table itself, to write.
-    pub(crate) fn table_mut(&mut self) -> &mut Table<K, V, A> {
+    pub(crate) fn table_mut(&mut self) -> &mut Table<K, V, A>
+        ensures { shown result.now.entries ≡ self.old }
+    {
         &mut self.table
     }
 }

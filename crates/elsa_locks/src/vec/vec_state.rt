@@ -174,7 +174,9 @@ impl<V, A: Allocator + Copy> VecState<V, A> {
     }
 
     /// The list itself, to write.
-    pub(crate) fn list_mut(&mut self) -> &mut Vec<Arc<V, A>, A> {
+    pub(crate) fn list_mut(&mut self) -> &mut Vec<Arc<V, A>, A>
+        ensures { shown_items result.now.items ≡ self.old }
+    {
         &mut self.list
     }
 }
