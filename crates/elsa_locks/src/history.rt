@@ -8,6 +8,7 @@
 //! caller's calls stand in the order in which it made them, each with the reply that it was given.
 
 mod history_state;
+pub mod laws;
 mod map_core;
 mod record_pass;
 mod recorder;

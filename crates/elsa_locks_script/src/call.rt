@@ -1,7 +1,8 @@
-//! A call of the script, read from a line, and what it was answered.
+//! A call of the script, read from a line, what it was answered, and what is seen after it.
 
 use std::fmt;
 use std::fmt::{Display, Formatter, Write};
+use std::sync::Arc;
 
 /// The calls of the locked collections.
 #[derive(Clone, Copy, PartialEq, Eq)]
@@ -35,33 +36,66 @@ pub struct Call {
     pub value: u64,
 }
 
+/// The keys or places of the script are the numbers below this.
+pub const KEYS: usize = 12;
+
+/// The keys that a map answered, ascending, of which the first `count` are meant.
+#[derive(Clone, Copy, PartialEq)]
+pub struct Keys {
+    pub list: [u64; KEYS],
+    pub count: usize,
+}
+
 /// What a call was answered.
-#[derive(Drop, PartialEq)]
+#[derive(Clone, Copy, PartialEq)]
 pub enum Answer {
     Done,
     Value(u64),
     New(u64, bool),
     Found(Option<u64>),
-    Keys(Vec<u64>),
+    Keys(Keys),
     Count(usize),
     Flag(bool),
     NotOffered,
 }
 
+impl Keys {
+    /// The keys that are meant.
+    fn meant(&self) -> &[u64] {
+        &self.list[..self.count.min(KEYS)]
+    }
+}
+
 impl Display for Answer {
     fn fmt<W: Write>(&self, f: &mut Formatter<W>) -> fmt::Result {
         match self {
-            Answer::Done => write!(f, "done"),
+            Answer::Done => f.write_str("done"),
             Answer::Value(value) => write!(f, "{value}"),
             Answer::New(value, new) => write!(f, "{value} {new}"),
             Answer::Found(Some(value)) => write!(f, "found {value}"),
-            Answer::Found(None) => write!(f, "none"),
-            Answer::Keys(keys) => write!(f, "keys {keys:?}"),
+            Answer::Found(None) => f.write_str("none"),
+            Answer::Keys(keys) => write!(f, "keys {:?}", keys.meant()),
             Answer::Count(count) => write!(f, "count {count}"),
             Answer::Flag(flag) => write!(f, "{flag}"),
-            Answer::NotOffered => write!(f, "not offered"),
+            Answer::NotOffered => f.write_str("not offered"),
         }
     }
+}
+
+/// The value of an owner that was answered.
+pub fn shared(owner: Option<Arc<u64>>) -> Option<u64> {
+    match owner {
+        Some(owner) => Some(*owner),
+        None => None,
+    }
+}
+
+/// What is compared after each call: the answer, the length, and what stands at each key or place of the script.
+#[derive(Clone, Copy, PartialEq)]
+pub struct Seen {
+    pub answer: Answer,
+    pub len: usize,
+    pub found: [Option<u64>; KEYS],
 }
 
 fn kind_of(word: &str) -> Option<Kind> {

@@ -1,164 +1,170 @@
 //! A call on the locked hashed map, and the same call on its state.
 
-use crate::call::{Answer, Call, Kind};
+use crate::call::{Answer, Call, KEYS, Keys, Kind, Seen, shared};
 use elsa_locks::map::{FrozenMap, MapState};
 use std::alloc::AllocError;
 use std::sync::Wait;
 
-/// What the locked map answers.
-pub fn locked(rt: &impl Wait, map: &FrozenMap<u64, u64>, call: Call) -> Result<Answer, AllocError> {
-    match locked_copy(rt, map, call)? {
-        Answer::NotOffered => match locked_insertion(rt, map, call)? {
-            Answer::NotOffered => locked_reading(rt, map, call),
-            answer => Ok(answer),
-        },
-        answer => Ok(answer),
+type Locked = FrozenMap<u64, u64>;
+
+type State = MapState<u64, u64>;
+
+/// The keys, ascending. More than the script has are told as no such call.
+fn ascending(mut keys: Vec<u64>) -> Result<Answer, AllocError> {
+    keys.sort()?;
+    let count = keys.len();
+    if count > KEYS {
+        return Ok(Answer::NotOffered);
     }
+    let mut list = [0; KEYS];
+    for i in 0..count {
+        list[i] = keys[i];
+    }
+    Ok(Answer::Keys(Keys { list, count }))
 }
 
-fn locked_copy(
-    rt: &impl Wait,
-    map: &FrozenMap<u64, u64>,
-    call: Call,
-) -> Result<Answer, AllocError> {
+/// What the locked map answers, and what is seen after it.
+pub fn locked(rt: &impl Wait, map: &Locked, call: Call) -> Result<Seen, AllocError> {
+    let answer = match call.kind {
+        Kind::Insert | Kind::InsertNew | Kind::InsertWith | Kind::InsertWithKey => {
+            locked_insertion(rt, map, call)?
+        }
+        Kind::GetCopyOrInsert | Kind::GetCopyOrInsertWith | Kind::GetCopyOrInsertWithKey => {
+            locked_copy(rt, map, call)?
+        }
+        _ => locked_reading(rt, map, call)?,
+    };
+    let mut found = [None; KEYS];
+    for key in 0..KEYS {
+        found[key] = locked_get(rt, map, key as u64)?;
+    }
+    Ok(Seen {
+        answer,
+        len: map.len(rt),
+        found,
+    })
+}
+
+fn locked_get(rt: &impl Wait, map: &Locked, key: u64) -> Result<Option<u64>, AllocError> {
+    Ok(shared(map.get(rt, &key)?))
+}
+
+fn locked_copy(rt: &impl Wait, map: &Locked, call: Call) -> Result<Answer, AllocError> {
     let Call { kind, key, value } = call;
-    match kind {
-        Kind::GetCopyOrInsert => Ok(Answer::Value(map.get_copy_or_insert(rt, key, value)?)),
-        Kind::GetCopyOrInsertWith => Ok(Answer::Value(map.get_copy_or_insert_with(
-            rt,
-            key,
-            || value,
-        )?)),
-        Kind::GetCopyOrInsertWithKey => Ok(Answer::Value(map.get_copy_or_insert_with_key(
-            rt,
-            key,
-            |k| k.wrapping_add(value),
-        )?)),
-        Kind::Len => Ok(Answer::Count(map.len(rt))),
-        Kind::IsEmpty => Ok(Answer::Flag(map.is_empty(rt))),
-        _ => Ok(Answer::NotOffered),
-    }
+    let there = match kind {
+        Kind::GetCopyOrInsert => map.get_copy_or_insert(rt, key, value)?,
+        Kind::GetCopyOrInsertWith => map.get_copy_or_insert_with(rt, key, || value)?,
+        _ => map.get_copy_or_insert_with_key(rt, key, |k| k.wrapping_add(value))?,
+    };
+    Ok(Answer::Value(there))
 }
 
-fn locked_insertion(
-    rt: &impl Wait,
-    map: &FrozenMap<u64, u64>,
-    call: Call,
-) -> Result<Answer, AllocError> {
+fn locked_insertion(rt: &impl Wait, map: &Locked, call: Call) -> Result<Answer, AllocError> {
     let Call { kind, key, value } = call;
     match kind {
         Kind::Insert => Ok(Answer::Value(*map.insert(rt, key, value)?)),
-        Kind::InsertNew => {
-            let (there, new) = map.insert_new(rt, key, value)?;
-            Ok(Answer::New(*there, new))
-        }
+        Kind::InsertNew => locked_new(rt, map, key, value),
         Kind::InsertWith => Ok(Answer::Value(*map.insert_with(rt, key, || value)?)),
-        Kind::InsertWithKey => Ok(Answer::Value(*map.insert_with_key(
-            rt,
-            key,
-            |k| k.wrapping_add(value),
-        )?)),
-        _ => Ok(Answer::NotOffered),
+        _ => Ok(Answer::Value(*map.insert_with_key(rt, key, |k| k.wrapping_add(value))?)),
     }
 }
 
-fn locked_reading(
-    rt: &impl Wait,
-    map: &FrozenMap<u64, u64>,
-    call: Call,
-) -> Result<Answer, AllocError> {
+fn locked_reading(rt: &impl Wait, map: &Locked, call: Call) -> Result<Answer, AllocError> {
     let Call { kind, key, value } = call;
     match kind {
-        Kind::Get => Ok(Answer::Found(map.get(rt, &key)?.map(|there| *there))),
+        Kind::Get => Ok(Answer::Found(locked_get(rt, map, key)?)),
         Kind::MapGet => Ok(Answer::Found(map.map_get(rt, &key, |there| there.wrapping_add(value)))),
         Kind::GetCopy => Ok(Answer::Found(map.get_copy(rt, &key))),
-        Kind::KeysCloned => Ok(Answer::Keys(sorted(map.keys_cloned(rt)?)?)),
+        Kind::KeysCloned => ascending(map.keys_cloned(rt)?),
+        Kind::Len => Ok(Answer::Count(map.len(rt))),
+        Kind::IsEmpty => Ok(Answer::Flag(map.is_empty(rt))),
         Kind::Clone => Ok(Answer::Count(locked_with(rt, map, key, value)?.len(rt))),
         Kind::Equals => Ok(Answer::Flag(map.equals(rt, &locked_with(rt, map, key, value)?)?)),
         _ => Ok(Answer::NotOffered),
     }
 }
 
+fn locked_new(rt: &impl Wait, map: &Locked, key: u64, value: u64) -> Result<Answer, AllocError> {
+    let (there, new) = map.insert_new(rt, key, value)?;
+    Ok(Answer::New(*there, new))
+}
+
 /// A clone with one more insertion.
-fn locked_with(
-    rt: &impl Wait,
-    map: &FrozenMap<u64, u64>,
-    key: u64,
-    value: u64,
-) -> Result<FrozenMap<u64, u64>, AllocError> {
+fn locked_with(rt: &impl Wait, map: &Locked, key: u64, value: u64) -> Result<Locked, AllocError> {
     let other = map.clone(rt)?;
     other.insert(rt, key, value)?;
     Ok(other)
 }
 
-/// What its state answers.
-pub fn state(map: &mut MapState<u64, u64>, call: Call) -> Result<Answer, AllocError> {
-    match state_copy(map, call)? {
-        Answer::NotOffered => match state_insertion(map, call)? {
-            Answer::NotOffered => state_reading(map, call),
-            answer => Ok(answer),
-        },
-        answer => Ok(answer),
+/// What its state answers, and what is seen after it.
+pub fn state(map: &mut State, call: Call) -> Result<Seen, AllocError> {
+    let answer = match call.kind {
+        Kind::Insert | Kind::InsertNew | Kind::InsertWith | Kind::InsertWithKey => {
+            state_insertion(map, call)?
+        }
+        Kind::GetCopyOrInsert | Kind::GetCopyOrInsertWith | Kind::GetCopyOrInsertWithKey => {
+            state_copy(map, call)?
+        }
+        _ => state_reading(map, call)?,
+    };
+    let mut found = [None; KEYS];
+    for key in 0..KEYS {
+        found[key] = map.get_copy(&(key as u64));
     }
+    Ok(Seen {
+        answer,
+        len: map.len(),
+        found,
+    })
 }
 
-fn state_copy(map: &mut MapState<u64, u64>, call: Call) -> Result<Answer, AllocError> {
+fn state_copy(map: &mut State, call: Call) -> Result<Answer, AllocError> {
     let Call { kind, key, value } = call;
-    match kind {
-        Kind::GetCopyOrInsert => Ok(Answer::Value(map.get_copy_or_insert(key, value)?)),
-        Kind::GetCopyOrInsertWith => Ok(Answer::Value(map.get_copy_or_insert_with(key, || value)?)),
-        Kind::GetCopyOrInsertWithKey => Ok(Answer::Value(map.get_copy_or_insert_with_key(
-            key,
-            |k| k.wrapping_add(value),
-        )?)),
-        Kind::Len => Ok(Answer::Count(map.len())),
-        Kind::IsEmpty => Ok(Answer::Flag(map.is_empty())),
-        _ => Ok(Answer::NotOffered),
-    }
+    let there = match kind {
+        Kind::GetCopyOrInsert => map.get_copy_or_insert(key, value)?,
+        Kind::GetCopyOrInsertWith => map.get_copy_or_insert_with(key, || value)?,
+        _ => map.get_copy_or_insert_with_key(key, |k| k.wrapping_add(value))?,
+    };
+    Ok(Answer::Value(there))
 }
 
-fn state_insertion(map: &mut MapState<u64, u64>, call: Call) -> Result<Answer, AllocError> {
+fn state_insertion(map: &mut State, call: Call) -> Result<Answer, AllocError> {
     let Call { kind, key, value } = call;
     match kind {
         Kind::Insert => Ok(Answer::Value(*map.insert(key, value)?)),
-        Kind::InsertNew => {
-            let (there, new) = map.insert_new(key, value)?;
-            Ok(Answer::New(*there, new))
-        }
+        Kind::InsertNew => state_new(map, key, value),
         Kind::InsertWith => Ok(Answer::Value(*map.insert_with(key, || value)?)),
-        Kind::InsertWithKey => Ok(Answer::Value(*map.insert_with_key(
-            key,
-            |k| k.wrapping_add(value),
-        )?)),
-        _ => Ok(Answer::NotOffered),
+        _ => Ok(Answer::Value(*map.insert_with_key(key, |k| k.wrapping_add(value))?)),
     }
 }
 
-fn state_reading(map: &MapState<u64, u64>, call: Call) -> Result<Answer, AllocError> {
+fn state_reading(map: &State, call: Call) -> Result<Answer, AllocError> {
     let Call { kind, key, value } = call;
     match kind {
-        Kind::Get => Ok(Answer::Found(map.get(&key)?.map(|there| *there))),
+        Kind::Get => Ok(Answer::Found(state_get(map, key)?)),
         Kind::MapGet => Ok(Answer::Found(map.map_get(&key, |there| there.wrapping_add(value)))),
         Kind::GetCopy => Ok(Answer::Found(map.get_copy(&key))),
-        Kind::KeysCloned => Ok(Answer::Keys(sorted(map.keys_cloned()?)?)),
+        Kind::KeysCloned => ascending(map.keys_cloned()?),
+        Kind::Len => Ok(Answer::Count(map.len())),
+        Kind::IsEmpty => Ok(Answer::Flag(map.is_empty())),
         Kind::Clone => Ok(Answer::Count(state_with(map, key, value)?.len())),
         Kind::Equals => Ok(Answer::Flag(map.same(&state_with(map, key, value)?))),
         _ => Ok(Answer::NotOffered),
     }
 }
 
+fn state_get(map: &State, key: u64) -> Result<Option<u64>, AllocError> {
+    Ok(shared(map.get(&key)?))
+}
+
+fn state_new(map: &mut State, key: u64, value: u64) -> Result<Answer, AllocError> {
+    let (there, new) = map.insert_new(key, value)?;
+    Ok(Answer::New(*there, new))
+}
+
 /// A clone with one more insertion.
-fn state_with(
-    map: &MapState<u64, u64>,
-    key: u64,
-    value: u64,
-) -> Result<MapState<u64, u64>, AllocError> {
+fn state_with(map: &State, key: u64, value: u64) -> Result<State, AllocError> {
     let mut other = map.copy()?;
     other.insert(key, value)?;
     Ok(other)
-}
-
-fn sorted(mut keys: Vec<u64>) -> Result<Vec<u64>, AllocError> {
-    keys.sort()?;
-    Ok(keys)
 }

@@ -1,43 +1,53 @@
 //! A call on the locked list, and the same call on its state.
 
-use crate::call::{Answer, Call, Kind};
+use crate::call::{Answer, Call, KEYS, Kind, Seen, shared};
 use elsa_locks::vec::{FrozenVec, Iter, VecState};
 use std::alloc::AllocError;
 use std::sync::Wait;
 
-/// What the locked list answers; `next` is a call of the walk.
+type Locked = FrozenVec<u64>;
+
+type State = VecState<u64>;
+
+/// What the locked list answers, and what is seen after it; `next` is a call of the walk.
 pub fn locked(
     rt: &impl Wait,
-    list: &FrozenVec<u64>,
+    list: &Locked,
     walk: &mut Iter<'_, u64>,
     call: Call,
-) -> Result<Answer, AllocError> {
-    if call.kind == Kind::Next {
-        return Ok(Answer::Found(walk.next(rt)?.map(|there| *there)));
+) -> Result<Seen, AllocError> {
+    let answer = if call.kind == Kind::Next {
+        Answer::Found(shared(walk.next(rt)?))
+    } else {
+        locked_call(rt, list, call)?
+    };
+    let mut found = [None; KEYS];
+    for place in 0..KEYS {
+        found[place] = locked_get(rt, list, place)?;
     }
-    match locked_push(rt, list, call)? {
-        Answer::NotOffered => locked_reading(rt, list, call),
-        answer => Ok(answer),
-    }
+    Ok(Seen {
+        answer,
+        len: list.len(rt),
+        found,
+    })
 }
 
-fn locked_push(rt: &impl Wait, list: &FrozenVec<u64>, call: Call) -> Result<Answer, AllocError> {
-    let Call { kind, value, .. } = call;
-    match kind {
-        Kind::Push => {
-            list.push(rt, value)?;
-            Ok(Answer::Done)
-        }
-        Kind::PushGet => Ok(Answer::Value(*list.push_get(rt, value)?)),
-        Kind::PushGetIndex => Ok(Answer::Count(list.push_get_index(rt, value)?)),
-        _ => Ok(Answer::NotOffered),
-    }
+fn locked_get(rt: &impl Wait, list: &Locked, place: usize) -> Result<Option<u64>, AllocError> {
+    Ok(shared(list.get(rt, place)?))
 }
 
-fn locked_reading(rt: &impl Wait, list: &FrozenVec<u64>, call: Call) -> Result<Answer, AllocError> {
+fn locked_push(rt: &impl Wait, list: &Locked, value: u64) -> Result<Answer, AllocError> {
+    list.push(rt, value)?;
+    Ok(Answer::Done)
+}
+
+fn locked_call(rt: &impl Wait, list: &Locked, call: Call) -> Result<Answer, AllocError> {
     let Call { kind, key, value } = call;
     match kind {
-        Kind::Get => Ok(Answer::Found(list.get(rt, key as usize)?.map(|there| *there))),
+        Kind::Push => locked_push(rt, list, value),
+        Kind::PushGet => Ok(Answer::Value(*list.push_get(rt, value)?)),
+        Kind::PushGetIndex => Ok(Answer::Count(list.push_get_index(rt, value)?)),
+        Kind::Get => Ok(Answer::Found(locked_get(rt, list, key as usize)?)),
         Kind::Len => Ok(Answer::Count(list.len(rt))),
         Kind::IsEmpty => Ok(Answer::Flag(list.is_empty(rt))),
         Kind::Clone => Ok(Answer::Count(locked_with(rt, list, value)?.len(rt))),
@@ -49,52 +59,54 @@ fn locked_reading(rt: &impl Wait, list: &FrozenVec<u64>, call: Call) -> Result<A
 }
 
 /// A clone with one more item.
-fn locked_with(
-    rt: &impl Wait,
-    list: &FrozenVec<u64>,
-    value: u64,
-) -> Result<FrozenVec<u64>, AllocError> {
+fn locked_with(rt: &impl Wait, list: &Locked, value: u64) -> Result<Locked, AllocError> {
     let other = list.clone(rt)?;
     other.push(rt, value)?;
     Ok(other)
 }
 
-/// What its state answers; `place` stands for the walk.
-pub fn state(
-    list: &mut VecState<u64>,
-    place: &mut usize,
-    call: Call,
-) -> Result<Answer, AllocError> {
-    if call.kind == Kind::Next {
-        let found = list.get(*place)?.map(|there| *there);
-        if found.is_some() {
-            *place = place.saturating_add(1);
-        }
-        return Ok(Answer::Found(found));
+/// What its state answers, and what is seen after it; `place` stands for the walk.
+pub fn state(list: &mut State, place: &mut usize, call: Call) -> Result<Seen, AllocError> {
+    let answer = if call.kind == Kind::Next {
+        Answer::Found(state_next(list, place)?)
+    } else {
+        state_call(list, call)?
+    };
+    let mut found = [None; KEYS];
+    for i in 0..KEYS {
+        found[i] = state_get(list, i)?;
     }
-    match state_push(list, call)? {
-        Answer::NotOffered => state_reading(list, call),
-        answer => Ok(answer),
-    }
+    Ok(Seen {
+        answer,
+        len: list.len(),
+        found,
+    })
 }
 
-fn state_push(list: &mut VecState<u64>, call: Call) -> Result<Answer, AllocError> {
-    let Call { kind, value, .. } = call;
-    match kind {
-        Kind::Push => {
-            list.push(value)?;
-            Ok(Answer::Done)
-        }
-        Kind::PushGet => Ok(Answer::Value(*list.push_get(value)?)),
-        Kind::PushGetIndex => Ok(Answer::Count(list.push_get_index(value)?)),
-        _ => Ok(Answer::NotOffered),
-    }
+fn state_get(list: &State, place: usize) -> Result<Option<u64>, AllocError> {
+    Ok(shared(list.get(place)?))
 }
 
-fn state_reading(list: &VecState<u64>, call: Call) -> Result<Answer, AllocError> {
+fn state_next(list: &State, place: &mut usize) -> Result<Option<u64>, AllocError> {
+    let found = state_get(list, *place)?;
+    if found.is_some() {
+        *place = place.saturating_add(1);
+    }
+    Ok(found)
+}
+
+fn state_push(list: &mut State, value: u64) -> Result<Answer, AllocError> {
+    list.push(value)?;
+    Ok(Answer::Done)
+}
+
+fn state_call(list: &mut State, call: Call) -> Result<Answer, AllocError> {
     let Call { kind, key, value } = call;
     match kind {
-        Kind::Get => Ok(Answer::Found(list.get(key as usize)?.map(|there| *there))),
+        Kind::Push => state_push(list, value),
+        Kind::PushGet => Ok(Answer::Value(*list.push_get(value)?)),
+        Kind::PushGetIndex => Ok(Answer::Count(list.push_get_index(value)?)),
+        Kind::Get => Ok(Answer::Found(state_get(list, key as usize)?)),
         Kind::Len => Ok(Answer::Count(list.len())),
         Kind::IsEmpty => Ok(Answer::Flag(list.is_empty())),
         Kind::Clone => Ok(Answer::Count(state_with(list, value)?.len())),
@@ -104,7 +116,7 @@ fn state_reading(list: &VecState<u64>, call: Call) -> Result<Answer, AllocError>
 }
 
 /// A copy with one more item.
-fn state_with(list: &VecState<u64>, value: u64) -> Result<VecState<u64>, AllocError> {
+fn state_with(list: &State, value: u64) -> Result<State, AllocError> {
     let mut other = list.copy()?;
     other.push(value)?;
     Ok(other)

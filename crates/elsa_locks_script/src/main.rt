@@ -10,106 +10,60 @@ mod hashed;
 mod listed;
 mod ordered;
 
-use crate::call::{Answer, Call, parse};
+use crate::call::{Call, Seen, parse};
 use elsa_locks::map::{FrozenBTreeMap, FrozenMap, MapState, TreeState};
 use elsa_locks::vec::{FrozenVec, Iter, VecState};
 use std::alloc::{AllocError, Global};
 use std::io;
 use std::sync::Wait;
 
-/// What is compared after each call: the answer, the length, and what stands at each key or place of the script.
-#[derive(Drop, PartialEq)]
-struct Seen {
-    answer: Answer,
-    len: usize,
-    found: Vec<Option<u64>>,
+/// The maps, each with its state beside it.
+#[derive(Drop)]
+struct Maps {
+    map: FrozenMap<u64, u64>,
+    map_state: MapState<u64, u64>,
+    tree: FrozenBTreeMap<u64, u64>,
+    tree_state: TreeState<u64, u64>,
 }
 
-fn look<F: Fn(u64) -> Result<Option<u64>, AllocError>>(
-    alloc: Global,
-    answer: Answer,
-    len: usize,
-    get: F,
-) -> Result<Seen, AllocError>
-    requires { F.IsAlwaysCallable get }
-{
-    let mut found = Vec::new(alloc);
-    for key in 0..12u64 {
-        found.push(get(key)?)?;
+fn empty_maps(alloc: Global) -> Maps {
+    Maps {
+        map: FrozenMap::new(alloc),
+        map_state: MapState::new(alloc),
+        tree: FrozenBTreeMap::new(alloc),
+        tree_state: TreeState::new(alloc),
     }
-    Ok(Seen { answer, len, found })
 }
 
-fn on_maps(
-    rt: &impl Wait,
-    alloc: Global,
-    map: &FrozenMap<u64, u64>,
-    state: &mut MapState<u64, u64>,
-    call: Call,
-) -> Result<(Seen, Seen), AllocError> {
-    let one = hashed::locked(rt, map, call)?;
-    let two = hashed::state(state, call)?;
-    let one = look(
-        alloc,
+/// The list and a walk over it, with its state and the walk's place beside them.
+#[derive(Drop)]
+struct Lists<'a> {
+    list: &'a FrozenVec<u64>,
+    walk: Iter<'a, u64>,
+    state: VecState<u64>,
+    place: usize,
+}
+
+fn on_map(rt: &impl Wait, maps: &mut Maps, call: Call) -> Result<(Seen, Seen), AllocError> {
+    let one = hashed::locked(rt, &maps.map, call)?;
+    Ok((one, hashed::state(&mut maps.map_state, call)?))
+}
+
+fn on_tree(rt: &impl Wait, maps: &mut Maps, call: Call) -> Result<(Seen, Seen), AllocError> {
+    let one = ordered::locked(rt, &maps.tree, call)?;
+    Ok((one, ordered::state(&mut maps.tree_state, call)?))
+}
+
+fn on_list(rt: &impl Wait, lists: &mut Lists<'_>, call: Call) -> Result<(Seen, Seen), AllocError> {
+    let one = listed::locked(rt, lists.list, &mut lists.walk, call)?;
+    Ok((
         one,
-        map.len(rt),
-        |key| Ok(map.get(rt, &key)?.map(|there| *there)),
-    )?;
-    let two = look(alloc, two, state.len(), |key| Ok(state.get_copy(&key)))?;
-    Ok((one, two))
+        listed::state(&mut lists.state, &mut lists.place, call)?,
+    ))
 }
 
-fn on_trees(
-    rt: &impl Wait,
-    alloc: Global,
-    map: &FrozenBTreeMap<u64, u64>,
-    state: &mut TreeState<u64, u64>,
-    call: Call,
-) -> Result<(Seen, Seen), AllocError> {
-    let one = ordered::locked(rt, map, call)?;
-    let two = ordered::state(state, call)?;
-    let one = look(
-        alloc,
-        one,
-        map.len(rt),
-        |key| Ok(map.get(rt, &key)?.map(|there| *there)),
-    )?;
-    let two = look(
-        alloc,
-        two,
-        state.len(),
-        |key| Ok(state.get(&key)?.map(|there| *there)),
-    )?;
-    Ok((one, two))
-}
-
-fn on_lists(
-    rt: &impl Wait,
-    alloc: Global,
-    list: &FrozenVec<u64>,
-    walk: &mut Iter<'_, u64>,
-    state: &mut VecState<u64>,
-    place: &mut usize,
-    call: Call,
-) -> Result<(Seen, Seen), AllocError> {
-    let one = listed::locked(rt, list, walk, call)?;
-    let two = listed::state(state, place, call)?;
-    let one = look(
-        alloc,
-        one,
-        list.len(rt),
-        |key| Ok(list.get(rt, key as usize)?.map(|there| *there)),
-    )?;
-    let two = look(
-        alloc,
-        two,
-        state.len(),
-        |key| Ok(state.get(key as usize)?.map(|there| *there)),
-    )?;
-    Ok((one, two))
-}
-
-fn report(rt: &impl Print, line: &str, one: &Seen, two: &Seen) -> io::Result<()> {
+fn report(rt: &impl Print, line: &str, seen: (Seen, Seen)) -> io::Result<()> {
+    let (one, two) = seen;
     let end = if one == two { "" } else { " DIFFERS" };
     println!(rt;
         "{line}: {}; {} at {:?}{end}",
@@ -117,41 +71,40 @@ fn report(rt: &impl Print, line: &str, one: &Seen, two: &Seen) -> io::Result<()>
     )
 }
 
+fn on_line<R: Print + Wait>(
+    rt: &R,
+    maps: &mut Maps,
+    lists: &mut Lists<'_>,
+    text: &str,
+) -> io::Result<()> {
+    let (family, rest) = text.split_once(' ').unwrap_or((text, ""));
+    let Some(call) = parse(rest) else {
+        return println!(rt; "{text}: no such call");
+    };
+    let seen = match family {
+        "map" => on_map(rt, maps, call)?,
+        "tree" => on_tree(rt, maps, call)?,
+        _ => on_list(rt, lists, call)?,
+    };
+    report(rt, text, seen)
+}
+
 fn main(rt: HostRuntime) -> io::Result<()> {
     let alloc = rt.alloc();
-    let map = FrozenMap::new(alloc);
-    let mut map_state = MapState::new(alloc);
-    let tree = FrozenBTreeMap::new(alloc);
-    let mut tree_state = TreeState::new(alloc);
+    let mut maps = empty_maps(alloc);
     let list = FrozenVec::new(alloc);
-    let mut list_state = VecState::new(alloc);
-    let mut walk = list.iter();
-    let mut place = 0usize;
+    let mut lists = Lists {
+        list: &list,
+        walk: list.iter(),
+        state: VecState::new(alloc),
+        place: 0,
+    };
     for _ in 0..u64::MAX {
         let mut line = String::new(alloc);
         if rt.read_line(&mut line)? == 0 {
             return Ok(());
         }
-        let text = line.as_str().trim_end();
-        let (family, rest) = text.split_once(' ').unwrap_or((text, ""));
-        let Some(call) = parse(rest) else {
-            println!(rt; "{text}: no such call")?;
-            continue;
-        };
-        let (one, two) = match family {
-            "map" => on_maps(&rt, alloc, &map, &mut map_state, call)?,
-            "tree" => on_trees(&rt, alloc, &tree, &mut tree_state, call)?,
-            _ => on_lists(
-                &rt,
-                alloc,
-                &list,
-                &mut walk,
-                &mut list_state,
-                &mut place,
-                call,
-            )?,
-        };
-        report(&rt, text, &one, &two)?;
+        on_line(&rt, &mut maps, &mut lists, line.as_str().trim_end())?;
     }
     Ok(())
 }

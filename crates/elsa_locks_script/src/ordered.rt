@@ -1,46 +1,38 @@
 //! A call on the locked ordered map, and the same call on its state.
 
-use crate::call::{Answer, Call, Kind};
+use crate::call::{Answer, Call, KEYS, Kind, Seen, shared};
 use elsa_locks::map::{FrozenBTreeMap, TreeState};
 use std::alloc::AllocError;
 use std::sync::Wait;
 
-/// What the locked map answers.
-pub fn locked(
-    rt: &impl Wait,
-    map: &FrozenBTreeMap<u64, u64>,
-    call: Call,
-) -> Result<Answer, AllocError> {
-    match locked_insertion(rt, map, call)? {
-        Answer::NotOffered => locked_reading(rt, map, call),
-        answer => Ok(answer),
+type Locked = FrozenBTreeMap<u64, u64>;
+
+type State = TreeState<u64, u64>;
+
+/// What the locked map answers, and what is seen after it.
+pub fn locked(rt: &impl Wait, map: &Locked, call: Call) -> Result<Seen, AllocError> {
+    let answer = locked_call(rt, map, call)?;
+    let mut found = [None; KEYS];
+    for key in 0..KEYS {
+        found[key] = locked_get(rt, map, key as u64)?;
     }
+    Ok(Seen {
+        answer,
+        len: map.len(rt),
+        found,
+    })
 }
 
-fn locked_insertion(
-    rt: &impl Wait,
-    map: &FrozenBTreeMap<u64, u64>,
-    call: Call,
-) -> Result<Answer, AllocError> {
+fn locked_get(rt: &impl Wait, map: &Locked, key: u64) -> Result<Option<u64>, AllocError> {
+    Ok(shared(map.get(rt, &key)?))
+}
+
+fn locked_call(rt: &impl Wait, map: &Locked, call: Call) -> Result<Answer, AllocError> {
     let Call { kind, key, value } = call;
     match kind {
         Kind::Insert => Ok(Answer::Value(*map.insert(rt, key, value)?)),
-        Kind::InsertNew => {
-            let (there, new) = map.insert_new(rt, key, value)?;
-            Ok(Answer::New(*there, new))
-        }
-        _ => Ok(Answer::NotOffered),
-    }
-}
-
-fn locked_reading(
-    rt: &impl Wait,
-    map: &FrozenBTreeMap<u64, u64>,
-    call: Call,
-) -> Result<Answer, AllocError> {
-    let Call { kind, key, value } = call;
-    match kind {
-        Kind::Get => Ok(Answer::Found(map.get(rt, &key)?.map(|there| *there))),
+        Kind::InsertNew => locked_new(rt, map, key, value),
+        Kind::Get => Ok(Answer::Found(locked_get(rt, map, key)?)),
         Kind::MapGet => Ok(Answer::Found(map.map_get(rt, &key, |there| there.wrapping_add(value)))),
         Kind::Len => Ok(Answer::Count(map.len(rt))),
         Kind::IsEmpty => Ok(Answer::Flag(map.is_empty(rt))),
@@ -50,42 +42,42 @@ fn locked_reading(
     }
 }
 
+fn locked_new(rt: &impl Wait, map: &Locked, key: u64, value: u64) -> Result<Answer, AllocError> {
+    let (there, new) = map.insert_new(rt, key, value)?;
+    Ok(Answer::New(*there, new))
+}
+
 /// A clone with one more insertion.
-fn locked_with(
-    rt: &impl Wait,
-    map: &FrozenBTreeMap<u64, u64>,
-    key: u64,
-    value: u64,
-) -> Result<FrozenBTreeMap<u64, u64>, AllocError> {
+fn locked_with(rt: &impl Wait, map: &Locked, key: u64, value: u64) -> Result<Locked, AllocError> {
     let other = map.clone(rt)?;
     other.insert(rt, key, value)?;
     Ok(other)
 }
 
-/// What its state answers.
-pub fn state(map: &mut TreeState<u64, u64>, call: Call) -> Result<Answer, AllocError> {
-    match state_insertion(map, call)? {
-        Answer::NotOffered => state_reading(map, call),
-        answer => Ok(answer),
+/// What its state answers, and what is seen after it.
+pub fn state(map: &mut State, call: Call) -> Result<Seen, AllocError> {
+    let answer = state_call(map, call)?;
+    let mut found = [None; KEYS];
+    for key in 0..KEYS {
+        found[key] = state_get(map, key as u64)?;
     }
+    Ok(Seen {
+        answer,
+        len: map.len(),
+        found,
+    })
 }
 
-fn state_insertion(map: &mut TreeState<u64, u64>, call: Call) -> Result<Answer, AllocError> {
+fn state_get(map: &State, key: u64) -> Result<Option<u64>, AllocError> {
+    Ok(shared(map.get(&key)?))
+}
+
+fn state_call(map: &mut State, call: Call) -> Result<Answer, AllocError> {
     let Call { kind, key, value } = call;
     match kind {
         Kind::Insert => Ok(Answer::Value(*map.insert(key, value)?)),
-        Kind::InsertNew => {
-            let (there, new) = map.insert_new(key, value)?;
-            Ok(Answer::New(*there, new))
-        }
-        _ => Ok(Answer::NotOffered),
-    }
-}
-
-fn state_reading(map: &TreeState<u64, u64>, call: Call) -> Result<Answer, AllocError> {
-    let Call { kind, key, value } = call;
-    match kind {
-        Kind::Get => Ok(Answer::Found(map.get(&key)?.map(|there| *there))),
+        Kind::InsertNew => state_new(map, key, value),
+        Kind::Get => Ok(Answer::Found(state_get(map, key)?)),
         Kind::MapGet => Ok(Answer::Found(map.map_get(&key, |there| there.wrapping_add(value)))),
         Kind::Len => Ok(Answer::Count(map.len())),
         Kind::IsEmpty => Ok(Answer::Flag(map.is_empty())),
@@ -95,12 +87,13 @@ fn state_reading(map: &TreeState<u64, u64>, call: Call) -> Result<Answer, AllocE
     }
 }
 
+fn state_new(map: &mut State, key: u64, value: u64) -> Result<Answer, AllocError> {
+    let (there, new) = map.insert_new(key, value)?;
+    Ok(Answer::New(*there, new))
+}
+
 /// A clone with one more insertion.
-fn state_with(
-    map: &TreeState<u64, u64>,
-    key: u64,
-    value: u64,
-) -> Result<TreeState<u64, u64>, AllocError> {
+fn state_with(map: &State, key: u64, value: u64) -> Result<State, AllocError> {
     let mut other = map.copy()?;
     other.insert(key, value)?;
     Ok(other)

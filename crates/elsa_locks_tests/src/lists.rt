@@ -1,52 +1,94 @@
-use elsa_locks::vec::FrozenVec;
+//! Worked rows of the locked vector.
+use elsa_locks::vec::{FrozenVec, Iter};
+use std::alloc::AllocError;
+use std::sync::{Arc, Wait};
 use std::test::Fail;
+
+type List = FrozenVec<&'static str>;
+
+// Whether the item that was answered is this one.
+fn is(item: Option<Arc<&'static str>>, want: &str) -> bool {
+    match item {
+        Some(item) => *item == want,
+        None => false,
+    }
+}
+
+fn stands(rt: &impl Wait, list: &List, item: &str, place: usize) -> Result<bool, AllocError> {
+    Ok(is(list.get(rt, place)?, item))
+}
+
+// Whether the push is answered this place.
+fn goes_to(
+    rt: &impl Wait,
+    list: &List,
+    item: &'static str,
+    place: usize,
+) -> Result<bool, AllocError> {
+    Ok(list.push_get_index(rt, item)? == place)
+}
 
 #[test]
 fn places_count_from_0(rt: HostRuntime) -> Result<(), Fail> {
-    let list: FrozenVec<&str> = FrozenVec::new(rt.alloc());
-    assert_eq!(rt; list.push_get_index(&rt, "a")?, 0);
-    assert_eq!(rt; **list.get(&rt, 0)?.as_ref().ok_or("absent")?, "a");
-    assert_eq!(rt; list.push_get_index(&rt, "b")?, 1);
-    assert_eq!(rt; *list.push_get(&rt, "c")?, "c");
+    let list: List = FrozenVec::new(rt.alloc());
+    assert!(rt; goes_to(&rt, &list, "a", 0)? && stands(&rt, &list, "a", 0)?);
+    assert!(rt; goes_to(&rt, &list, "b", 1)? && *list.push_get(&rt, "c")? == "c");
     assert!(rt; list.get(&rt, 3)?.is_none());
     Ok(())
 }
 
+// Whether the walk answers this item next.
+fn answers(
+    rt: &impl Wait,
+    walk: &mut Iter<'_, &'static str>,
+    item: &str,
+) -> Result<bool, AllocError> {
+    Ok(is(walk.next(rt)?, item))
+}
+
 #[test]
 fn a_walk_goes_on_after_a_push(rt: HostRuntime) -> Result<(), Fail> {
-    let list: FrozenVec<&str> = FrozenVec::new(rt.alloc());
+    let list: List = FrozenVec::new(rt.alloc());
     list.push(&rt, "a")?;
     let mut walk = list.iter();
-    assert_eq!(rt; **walk.next(&rt)?.as_ref().ok_or("absent")?, "a");
-    assert!(rt; walk.next(&rt)?.is_none());
+    assert!(rt; answers(&rt, &mut walk, "a")? && walk.next(&rt)?.is_none());
     list.push(&rt, "b")?;
-    assert_eq!(rt; **walk.next(&rt)?.as_ref().ok_or("absent")?, "b");
+    assert!(rt; answers(&rt, &mut walk, "b")?);
     Ok(())
+}
+
+type Numbers = FrozenVec<u64>;
+
+// Whether the list is equal to itself and to its clone, until the clone gets an item of its own, which the list has not.
+fn parts(rt: &impl Wait, list: &Numbers) -> Result<bool, AllocError> {
+    let other = list.clone(rt)?;
+    let equal = list.equals(rt, list)? && list.equals(rt, &other)?;
+    other.push(rt, 8)?;
+    Ok(equal && !list.equals(rt, &other)? && other.len(rt) == 2)
 }
 
 #[test]
 fn a_clone_goes_its_own_way(rt: HostRuntime) -> Result<(), Fail> {
-    let mut list: FrozenVec<u64> = FrozenVec::new(rt.alloc());
-    assert!(rt; list.is_empty(&rt));
+    let mut list: Numbers = FrozenVec::new(rt.alloc());
+    let empty = list.is_empty(&rt);
     list.push(&rt, 7)?;
-    let other = list.clone(&rt)?;
-    assert!(rt; list.equals(&rt, &list)? && list.equals(&rt, &other)?);
-    other.push(&rt, 8)?;
-    assert!(rt; !list.equals(&rt, &other)?);
-    assert_eq!(rt; (list.len(&rt), other.len(&rt)), (1, 2));
+    assert!(rt; empty && parts(&rt, &list)? && list.len(&rt) == 1);
     list.as_mut().clear();
-    assert_eq!(rt; list.len(&rt), 0);
+    assert!(rt; list.len(&rt) == 0);
     Ok(())
+}
+
+// Whether there are two owners, of whose list "b" is the second item.
+fn are_two(rt: &impl Wait, items: Vec<Arc<&'static str>>) -> Result<bool, AllocError> {
+    let count = items.len();
+    Ok(count == 2 && stands(rt, &FrozenVec::from_vec(items), "b", 1)?)
 }
 
 #[test]
 fn owners_take_a_list_apart(rt: HostRuntime) -> Result<(), Fail> {
-    let list: FrozenVec<&str> = FrozenVec::new(rt.alloc());
+    let list: List = FrozenVec::new(rt.alloc());
     list.push(&rt, "a")?;
     list.push(&rt, "b")?;
-    let items = list.into_vec();
-    assert_eq!(rt; items.len(), 2);
-    let again = FrozenVec::from_vec(items);
-    assert_eq!(rt; **again.get(&rt, 1)?.as_ref().ok_or("absent")?, "b");
+    assert!(rt; are_two(&rt, list.into_vec())?);
     Ok(())
 }

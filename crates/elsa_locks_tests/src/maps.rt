@@ -1,115 +1,209 @@
+//! Worked rows of the locked maps, a state without a lock, and nine threads at one map.
 use elsa_locks::map::{FrozenBTreeMap, FrozenMap, MapState};
-use std::alloc::Global;
+use std::alloc::{AllocError, Global};
 use std::cell::Cell;
+use std::collections::BTreeMap;
+use std::sync::{Arc, Wait};
 use std::test::Fail;
 use std::thread;
 
-#[test]
-fn a_copy_that_is_there_stays(rt: HostRuntime) -> Result<(), Fail> {
-    let map: FrozenMap<u64, u64> = FrozenMap::new(rt.alloc());
+type Numbers = FrozenMap<u64, u64>;
+
+// The value of an insertion at 1 whose closure makes a 12, and how often that was called.
+fn made_at_one(rt: &impl Wait, map: &Numbers) -> Result<(u64, u64), AllocError> {
     let calls = Cell::new(0u64);
-    assert_eq!(rt; map.get_copy_or_insert(&rt, 1, 6)?, 6);
-    assert_eq!(rt; map.get_copy_or_insert(&rt, 1, 12)?, 6);
-    let answer = map.insert_with(&rt, 1, || {
+    let value = map.insert_with(rt, 1, || {
         calls.set(1);
         12
     })?;
-    assert_eq!(rt; (*answer, calls.get()), (6, 0));
-    assert_eq!(rt; *map.insert(&rt, 2, 9)?, 9);
-    assert_eq!(rt;
-        (map.get_copy(&rt, &2), map.get_copy(&rt, &3)),
-        (Some(9), None)
+    Ok((*value, calls.get()))
+}
+
+// Whether 6 is what stays at 1, whatever is given there later.
+fn keeps_six(rt: &impl Wait, map: &Numbers) -> Result<bool, AllocError> {
+    let copies = (
+        map.get_copy_or_insert(rt, 1, 6)?,
+        map.get_copy_or_insert(rt, 1, 12)?,
     );
+    Ok(copies == (6, 6) && made_at_one(rt, map)? == (6, 0))
+}
+
+#[test]
+fn a_copy_that_is_there_stays(rt: HostRuntime) -> Result<(), Fail> {
+    let map: Numbers = FrozenMap::new(rt.alloc());
+    assert!(rt; keeps_six(&rt, &map)? && *map.insert(&rt, 2, 9)? == 9);
+    assert!(rt; map.get_copy(&rt, &2) == Some(9) && map.get_copy(&rt, &3).is_none());
     Ok(())
+}
+
+type Texts = FrozenMap<u64, &'static str>;
+
+fn has_keys(rt: &impl Wait, map: &Texts, want: &[u64]) -> Result<bool, AllocError> {
+    let mut keys = map.keys_cloned(rt)?;
+    keys.sort()?;
+    Ok(keys.as_slice() == want)
+}
+
+// Whether the other map is no longer equal once it gets one more key, which the map hasn't.
+fn parts(rt: &impl Wait, map: &Texts, other: &Texts) -> Result<bool, AllocError> {
+    other.insert(rt, 3, "c")?;
+    Ok(!map.equals(rt, other)?)
+}
+
+fn has_lengths(rt: &impl Wait, map: &Texts, other: &Texts) -> bool {
+    map.len(rt) == 2 && other.len(rt) == 3
+}
+
+fn has_a_at(rt: &impl Wait, map: &Texts, key: u64) -> Option<bool> {
+    map.map_get(rt, &key, |text| *text == "a")
 }
 
 #[test]
 fn a_map_is_equal_to_itself(rt: HostRuntime) -> Result<(), Fail> {
-    let map: FrozenMap<u64, &str> = FrozenMap::new(rt.alloc());
+    let map: Texts = FrozenMap::new(rt.alloc());
     map.insert(&rt, 2, "b")?;
     map.insert(&rt, 1, "a")?;
-    assert!(rt; map.equals(&rt, &map)?);
-    let mut keys = map.keys_cloned(&rt)?;
-    keys.sort()?;
-    assert_eq!(rt; keys.as_slice(), [1, 2].as_slice());
-    assert!(rt; map.map_get(&rt, &1, |text| *text == "a") == Some(true));
+    assert!(rt; map.equals(&rt, &map)? && has_a_at(&rt, &map, 1) == Some(true));
+    assert!(rt; has_keys(&rt, &map, [1, 2].as_slice())?);
     let other = map.clone(&rt)?;
-    other.insert(&rt, 3, "c")?;
-    assert_eq!(rt; (map.len(&rt), other.len(&rt)), (2, 3));
-    assert!(rt; !map.equals(&rt, &other)?);
+    assert!(rt; parts(&rt, &map, &other)? && has_lengths(&rt, &map, &other));
     Ok(())
+}
+
+fn is_new(rt: &impl Wait, map: &Texts, text: &'static str) -> Result<bool, AllocError> {
+    let (_, new) = map.insert_new(rt, 1, text)?;
+    Ok(new)
+}
+
+// Whether the pair at the place is this one.
+fn is_pair(pairs: &[(u64, Arc<&str>)], place: usize, key: u64, text: &str) -> bool {
+    match pairs.get(place) {
+        Some(pair) => pair.0 == key && *pair.1 == text,
+        None => false,
+    }
+}
+
+// Whether 2 with "b" is the one pair.
+fn are_of_two(pairs: &[(u64, Arc<&str>)]) -> bool {
+    pairs.len() == 1 && is_pair(pairs, 0, 2, "b")
 }
 
 #[test]
 fn owners_take_a_hashed_map_apart(rt: HostRuntime) -> Result<(), Fail> {
-    let mut map: FrozenMap<u64, &str> = FrozenMap::new(rt.alloc());
-    assert!(rt; map.is_empty(&rt));
-    assert!(rt; map.insert_new(&rt, 1, "a")?.1);
-    assert!(rt; !map.insert_new(&rt, 1, "b")?.1);
+    let mut map: Texts = FrozenMap::new(rt.alloc());
+    assert!(rt; map.is_empty(&rt) && is_new(&rt, &map, "a")? && !is_new(&rt, &map, "b")?);
     map.insert(&rt, 2, "b")?;
     let _ = map.as_mut().remove(&1);
     assert!(rt; map.get(&rt, &1)?.is_none());
-    let pairs = map.into_tuple_vec()?;
-    assert_eq!(rt; pairs.len(), 1);
-    for (key, value) in &pairs {
-        assert_eq!(rt; (*key, **value), (2, "b"));
-    }
+    assert!(rt; are_of_two(map.into_tuple_vec()?.as_slice()));
     Ok(())
+}
+
+type Ordered = FrozenBTreeMap<u64, &'static str>;
+
+fn has_at(rt: &impl Wait, map: &Ordered, key: u64, text: &str) -> Result<bool, AllocError> {
+    match map.get(rt, &key)? {
+        Some(there) => Ok(*there == text),
+        None => Ok(false),
+    }
+}
+
+// Whether these are 1 with "b" and then 2 with "x".
+fn are_of_both(pairs: &[(u64, Arc<&str>)]) -> bool {
+    pairs.len() == 2 && is_pair(pairs, 0, 1, "b") && is_pair(pairs, 1, 2, "x")
 }
 
 #[test]
 fn the_last_value_of_a_key_is_collected(rt: HostRuntime) -> Result<(), Fail> {
-    let pairs = vec![in rt.alloc(); (2u64, "x"), (1, "a"), (1, "b")]?;
-    let map = FrozenBTreeMap::from_iter(rt.alloc(), pairs.into_iter())?;
-    assert_eq!(rt; **map.get(&rt, &1)?.as_ref().ok_or("absent")?, "b");
-    let whole = map.into_tuple_vec()?;
-    let mut seen = Vec::new(rt.alloc());
-    for (key, value) in &whole {
-        seen.push((*key, **value))?;
-    }
-    assert_eq!(rt; seen.as_slice(), [(1, "b"), (2, "x")].as_slice());
+    let pairs = [(2u64, "x"), (1, "a"), (1, "b")];
+    let map: Ordered = FrozenBTreeMap::from_iter(rt.alloc(), pairs.into_iter())?;
+    assert!(rt; has_at(&rt, &map, 1, "b")?);
+    assert!(rt; are_of_both(map.into_tuple_vec()?.as_slice()));
     Ok(())
+}
+
+#[test]
+fn a_map_is_taken_over(rt: HostRuntime) -> Result<(), Fail> {
+    let mut table: BTreeMap<u64, Arc<&'static str>> = BTreeMap::new(rt.alloc());
+    table.insert(1, Arc::new(rt.alloc(), "b")?)?;
+    table.insert(2, Arc::new(rt.alloc(), "x")?)?;
+    let map: Ordered = FrozenBTreeMap::from_map(rt.alloc(), table);
+    assert!(rt; has_at(&rt, &map, 2, "x")?);
+    assert!(rt; are_of_both(map.into_tuple_vec()?.as_slice()));
+    Ok(())
+}
+
+type Owners = FrozenMap<usize, String>;
+
+const TEXTS: [&str; 9] = ["1", "2", "3", "4", "5", "6", "7", "8", "9"];
+
+// The text at a place of the table, as an owned one.
+fn owned(alloc: Global, place: usize) -> Result<String, AllocError> {
+    match TEXTS.get(place) {
+        Some(text) => String::from_str(alloc, text),
+        None => Err(AllocError),
+    }
+}
+
+// Inserts the number behind the place with its text.
+fn insert_text(rt: &impl Wait, alloc: Global, map: &Owners, place: usize) -> bool {
+    match owned(alloc, place) {
+        Ok(text) => map.insert(rt, place.saturating_add(1), text).is_ok(),
+        Err(_) => false,
+    }
+}
+
+// Whether the number behind the place has its text.
+fn has_text(rt: &impl Wait, map: &Owners, place: usize) -> Result<bool, AllocError> {
+    match map.get(rt, &place.saturating_add(1))? {
+        Some(text) => Ok(TEXTS.get(place) == Some(&text.as_str())),
+        None => Ok(false),
+    }
+}
+
+fn have_all_inserted(all: &[bool]) -> bool {
+    for done in all {
+        if !*done {
+            return false;
+        }
+    }
+    all.len() == 9
 }
 
 #[test]
 fn nine_threads_find_what_the_others_inserted(rt: HostRuntime) -> Result<(), Fail> {
-    let map: FrozenMap<u64, String> = FrozenMap::new(rt.alloc());
-    let shared = &map;
-    let handle = &rt;
     let alloc: Global = rt.alloc();
-    let all = thread::map_indices(
-        &rt,
-        alloc,
-        9,
-        &|i| {
-            let key = i as u64 + 1;
-            match format!(in alloc; "{key}") {
-                Ok(text) => shared.insert(handle, key, text).is_ok(),
-                Err(_) => false,
-            }
-        },
-    )?;
-    for done in &all {
-        assert!(rt; *done);
-    }
-    for i in 1..10u64 {
-        let text = map.get(&rt, &(10 - i))?.ok_or("absent")?;
-        assert_eq!(rt; *text, format!(in alloc; "{}", 10 - i)?);
+    let map: Owners = FrozenMap::new(alloc);
+    let (shared, handle) = (&map, &rt);
+    let all = thread::map_indices(&rt, alloc, 9, &|i| insert_text(handle, alloc, shared, i))?;
+    assert!(rt; have_all_inserted(all.as_slice()));
+    for place in 0..9usize {
+        assert!(rt; has_text(&rt, &map, 8 - place)?);
     }
     Ok(())
 }
 
+type State = MapState<&'static str, u64>;
+
+fn with_its_length(map: &mut State, key: &'static str) -> Result<u64, AllocError> {
+    Ok(*map.insert_with_key(key, |key| key.len() as u64)?)
+}
+
+fn copy_with_its_length(map: &mut State, key: &'static str) -> Result<u64, AllocError> {
+    map.get_copy_or_insert_with_key(key, |key| key.len() as u64)
+}
+
+fn copy_or_nine(map: &mut State, key: &'static str) -> Result<u64, AllocError> {
+    map.get_copy_or_insert_with(key, || 9)
+}
+
 #[test]
 fn a_state_answers_without_a_lock(rt: HostRuntime) -> Result<(), Fail> {
-    let mut map: MapState<&str, u64> = MapState::new(rt.alloc());
-    assert_eq!(rt; *map.insert_with_key("abc", |key| key.len() as u64)?, 3);
-    assert_eq!(rt; map.get_copy_or_insert_with("abc", || 9)?, 3);
-    assert_eq!(rt;
-        map.get_copy_or_insert_with_key("de", |key| key.len() as u64)?,
-        2
-    );
+    let mut map: State = MapState::new(rt.alloc());
+    let three = with_its_length(&mut map, "abc")?;
+    assert!(rt; three == 3 && copy_or_nine(&mut map, "abc")? == 3);
+    assert!(rt; copy_with_its_length(&mut map, "de")? == 2);
     let copy = map.copy()?;
-    assert!(rt; map.same(&copy));
-    assert_eq!(rt; copy.len(), 2);
+    assert!(rt; map.same(&copy) && copy.len() == 2);
     Ok(())
 }

@@ -1,104 +1,172 @@
+//! Recordings by one thread and by two, and what closes and what does not.
 use elsa_locks::history::{
-    CloseFault, MapCommand, MapReply, RecordPass, Recorder, VecCommand, VecReply,
+    CloseFault, Core, History, MapCommand, MapReply, RecordPass, Recorder, VecCommand, VecReply,
 };
 use elsa_locks::map::{MapState, TreeState};
 use elsa_locks::vec::VecState;
-use std::alloc::Global;
+use std::alloc::{AllocError, Global};
 use std::sync::Wait;
 use std::test::Fail;
 use std::thread;
 
+// The list of two passes.
+fn both<C: Core>(
+    alloc: Global,
+    one: RecordPass<C>,
+    two: RecordPass<C>,
+) -> Result<Vec<RecordPass<C>>, AllocError> {
+    let mut passes = Vec::new(alloc);
+    passes.push(one)?;
+    passes.push(two)?;
+    Ok(passes)
+}
+
+// The list of one pass.
+fn alone<C: Core>(alloc: Global, pass: RecordPass<C>) -> Result<Vec<RecordPass<C>>, AllocError> {
+    let mut passes = Vec::new(alloc);
+    passes.push(pass)?;
+    Ok(passes)
+}
+
+// Whether the receipts are the history, and it has that many entries.
+fn closes_with<C: Core + Drop>(
+    recorder: Recorder<C>,
+    passes: Vec<RecordPass<C>>,
+    count: usize,
+) -> bool {
+    match recorder.close(passes) {
+        Ok(history) => history.entries().len() == count,
+        Err(_) => false,
+    }
+}
+
+// ---- a map over numbers
+
 type Numbers = MapState<u64, u64>;
+
+type Pass = RecordPass<Numbers>;
+
+fn numbers(alloc: Global) -> Recorder<Numbers> {
+    Recorder::new(alloc, MapState::new(alloc))
+}
+
+// Records an insertion at 1, and says whether 6 was answered.
+fn answers_six(
+    rt: &impl Wait,
+    recorder: &Recorder<Numbers>,
+    pass: &mut Pass,
+    value: u64,
+) -> Result<bool, AllocError> {
+    Ok(recorder.call(rt, pass, MapCommand::Insert(1, value))? == MapReply::Value(6))
+}
+
+// Whether the history is that of 6 by the first pass and 12 by the second, both answered 6.
+fn is_of_both(history: &History<Numbers>) -> bool {
+    let entries = [
+        (1, MapCommand::Insert(1, 6), MapReply::Value(6)),
+        (2, MapCommand::Insert(1, 12), MapReply::Value(6)),
+    ];
+    history.entries() == entries.as_slice() && history.core().get_copy(&1) == Some(6)
+}
 
 #[test]
 fn two_passes_at_one_key(rt: HostRuntime) -> Result<(), Fail> {
-    let recorder: Recorder<Numbers> = Recorder::new(rt.alloc(), MapState::new(rt.alloc()));
+    let recorder = numbers(rt.alloc());
     let mut a = recorder.pass(1);
     let mut b = recorder.pass(2);
-    assert!(rt; recorder.call(&rt, &mut a, MapCommand::Insert(1, 6))? == MapReply::Value(6));
-    assert!(rt; recorder.call(&rt, &mut b, MapCommand::Insert(1, 12))? == MapReply::Value(6));
-    let Ok(history) = recorder.close(vec![in rt.alloc(); a, b]?) else {
+    let first = answers_six(&rt, &recorder, &mut a, 6)?;
+    assert!(rt; first && answers_six(&rt, &recorder, &mut b, 12)?);
+    let Ok(history) = recorder.close(both(rt.alloc(), a, b)?) else {
         return Err(Fail::from("the receipts are the history"));
     };
-    assert!(rt;
-        history.entries()
-            == [
-                (1, MapCommand::Insert(1, 6), MapReply::Value(6)),
-                (2, MapCommand::Insert(1, 12), MapReply::Value(6)),
-            ]
-            .as_slice()
-    );
-    assert_eq!(rt; history.core().get_copy(&1), Some(6));
+    assert!(rt; is_of_both(&history));
     Ok(())
 }
 
 #[test]
 fn a_pass_that_is_missing(rt: HostRuntime) -> Result<(), Fail> {
-    let recorder: Recorder<Numbers> = Recorder::new(rt.alloc(), MapState::new(rt.alloc()));
+    let recorder = numbers(rt.alloc());
     let mut a = recorder.pass(1);
     let mut b = recorder.pass(2);
-    recorder.call(&rt, &mut a, MapCommand::Insert(1, 6))?;
-    recorder.call(&rt, &mut b, MapCommand::Insert(1, 12))?;
-    let Err(CloseFault::Receipts(history)) = recorder.close(vec![in rt.alloc(); a]?) else {
+    let first = answers_six(&rt, &recorder, &mut a, 6)?;
+    assert!(rt; first && answers_six(&rt, &recorder, &mut b, 12)?);
+    let Err(CloseFault::Receipts(history)) = recorder.close(alone(rt.alloc(), a)?) else {
         return Err(Fail::from("an entry has no receipt"));
     };
-    assert!(rt;
-        history.entries()
-            == [
-                (1, MapCommand::Insert(1, 6), MapReply::Value(6)),
-                (2, MapCommand::Insert(1, 12), MapReply::Value(6)),
-            ]
-            .as_slice()
-    );
+    assert!(rt; is_of_both(&history));
     Ok(())
+}
+
+// Whether a recorder without calls closes over no passes, with no entries.
+fn closes_empty(alloc: Global) -> bool {
+    let recorder: Recorder<VecState<u64>> = Recorder::new(alloc, VecState::new(alloc));
+    closes_with(recorder, Vec::new(alloc), 0)
 }
 
 #[test]
 fn a_pass_of_another_recorder(rt: HostRuntime) -> Result<(), Fail> {
-    let one: Recorder<Numbers> = Recorder::new(rt.alloc(), MapState::new(rt.alloc()));
-    let two: Recorder<Numbers> = Recorder::new(rt.alloc(), MapState::new(rt.alloc()));
+    let one = numbers(rt.alloc());
     let mut pass = one.pass(1);
-    one.call(&rt, &mut pass, MapCommand::Insert(1, 6))?;
-    assert!(rt; two.close(vec![in rt.alloc(); pass]?).is_err());
-    let Ok(nothing) = one_without_calls(rt.alloc()).close(Vec::new(rt.alloc())) else {
-        return Err(Fail::from("no calls and no passes"));
-    };
-    assert!(rt; nothing.entries().is_empty());
+    assert!(rt; answers_six(&rt, &one, &mut pass, 6)?);
+    let two = numbers(rt.alloc());
+    assert!(rt; two.close(alone(rt.alloc(), pass)?).is_err() && closes_empty(rt.alloc()));
     Ok(())
 }
 
-fn one_without_calls(alloc: Global) -> Recorder<VecState<u64>> {
-    Recorder::new(alloc, VecState::new(alloc))
+// ---- an ordered map
+
+type Ordered = TreeState<u64, u64>;
+
+fn answers(
+    rt: &impl Wait,
+    recorder: &Recorder<Ordered>,
+    pass: &mut RecordPass<Ordered>,
+    command: MapCommand<u64, u64>,
+    want: MapReply<u64>,
+) -> Result<bool, AllocError> {
+    Ok(recorder.call(rt, pass, command)? == want)
+}
+
+// Whether 1 is new with 6, and not with 12, and is then the one key.
+fn is_new_once(
+    rt: &impl Wait,
+    recorder: &Recorder<Ordered>,
+    a: &mut RecordPass<Ordered>,
+    b: &mut RecordPass<Ordered>,
+) -> Result<bool, AllocError> {
+    let calls = [
+        (MapCommand::InsertNew(1, 12), MapReply::ValueNew(6, false)),
+        (MapCommand::Len, MapReply::Count(1)),
+    ];
+    let mut good = answers(
+        rt,
+        recorder,
+        a,
+        MapCommand::InsertNew(1, 6),
+        MapReply::ValueNew(6, true),
+    )?;
+    for (command, want) in calls {
+        good = answers(rt, recorder, b, command, want)? && good;
+    }
+    Ok(good)
 }
 
 #[test]
 fn a_new_key_is_new_once(rt: HostRuntime) -> Result<(), Fail> {
-    let recorder: Recorder<TreeState<u64, u64>> = Recorder::new(
-        rt.alloc(),
-        TreeState::new(rt.alloc()),
-    );
+    let recorder: Recorder<Ordered> = Recorder::new(rt.alloc(), TreeState::new(rt.alloc()));
     let mut a = recorder.pass(1);
     let mut b = recorder.pass(2);
-    assert!(rt;
-        recorder.call(&rt, &mut a, MapCommand::InsertNew(1, 6))? == MapReply::ValueNew(6, true)
-    );
-    assert!(rt;
-        recorder.call(&rt, &mut b, MapCommand::InsertNew(1, 12))? == MapReply::ValueNew(6, false)
-    );
-    assert!(rt; recorder.call(&rt, &mut b, MapCommand::Len)? == MapReply::Count(1));
-    let Ok(history) = recorder.close(vec![in rt.alloc(); a, b]?) else {
-        return Err(Fail::from("the receipts are the history"));
-    };
-    assert_eq!(rt; history.entries().len(), 3);
+    assert!(rt; is_new_once(&rt, &recorder, &mut a, &mut b)?);
+    assert!(rt; closes_with(recorder, both(rt.alloc(), a, b)?, 3));
     Ok(())
 }
 
+// ---- threads
+
+type Places = RecordPass<VecState<u64>>;
+
 /// Pushes 100 numbers, and says whether each was answered a place above the one before.
-fn pushes<R: Wait>(
-    rt: &R,
-    recorder: &Recorder<VecState<u64>>,
-    mut pass: RecordPass<VecState<u64>>,
-) -> Option<RecordPass<VecState<u64>>> {
+fn pushes<R: Wait>(rt: &R, recorder: &Recorder<VecState<u64>>, mut pass: Places) -> Option<Places> {
     let mut least = 0;
     for i in 0..100u64 {
         let Ok(VecReply::Place(place)) = recorder.call(rt, &mut pass, VecCommand::Push(i)) else {
@@ -112,6 +180,32 @@ fn pushes<R: Wait>(
     Some(pass)
 }
 
+// Marks the places that the pass was answered, and says whether each was below 200 and not marked.
+fn marks_places(pass: &Places, marked: &mut [bool; 200]) -> bool {
+    for receipt in pass.receipts() {
+        let VecReply::Place(place) = receipt.2 else {
+            return false;
+        };
+        if place >= 200 || marked[place] {
+            return false;
+        }
+        marked[place] = true;
+    }
+    true
+}
+
+// Whether the two passes were answered each place below 200 once.
+fn share_places(one: &Places, two: &Places) -> bool {
+    let mut marked = [false; 200];
+    let once = marks_places(one, &mut marked) && marks_places(two, &mut marked);
+    for i in 0..200usize {
+        if !marked[i] {
+            return false;
+        }
+    }
+    once
+}
+
 #[test]
 fn two_threads_push(rt: HostRuntime) -> Result<(), Fail> {
     let recorder: Recorder<VecState<u64>> = Recorder::new(rt.alloc(), VecState::new(rt.alloc()));
@@ -122,33 +216,16 @@ fn two_threads_push(rt: HostRuntime) -> Result<(), Fail> {
         || pushes(handle, shared, one),
         || pushes(handle, shared, two),
     );
-    let passes = vec![in rt.alloc(); a.ok_or("first")?, b.ok_or("second")?]?;
-    let mut answered = Vec::new(rt.alloc());
-    for pass in &passes {
-        for (_, _, reply) in pass.receipts() {
-            let VecReply::Place(place) = reply else {
-                return Err(Fail::from("a push answers a place"));
-            };
-            answered.push(*place)?;
-        }
-    }
-    answered.sort()?;
-    for i in 0..200usize {
-        assert_eq!(rt; answered.get(i), Some(&i));
-    }
-    let Ok(history) = recorder.close(passes) else {
-        return Err(Fail::from("the receipts are the history"));
+    let (Some(a), Some(b)) = (a, b) else {
+        return Err(Fail::from("a push was refused, or its place doesn't rise"));
     };
-    assert_eq!(rt; (answered.len(), history.entries().len()), (200, 200));
+    assert!(rt; share_places(&a, &b));
+    assert!(rt; closes_with(recorder, both(rt.alloc(), a, b)?, 200));
     Ok(())
 }
 
 /// 50 calls, in turn an insertion of the caller's number and a look-up, each at one of five keys.
-fn turns<R: Wait>(
-    rt: &R,
-    recorder: &Recorder<Numbers>,
-    mut pass: RecordPass<Numbers>,
-) -> Option<RecordPass<Numbers>> {
+fn turns<R: Wait>(rt: &R, recorder: &Recorder<Numbers>, mut pass: Pass) -> Option<Pass> {
     for i in 0..50u64 {
         let command = if i % 2 == 0 {
             MapCommand::Insert(i % 5, pass.number())
@@ -162,9 +239,13 @@ fn turns<R: Wait>(
     Some(pass)
 }
 
+fn rises(pass: &Pass) -> bool {
+    pass.receipts().is_sorted_by_key(|receipt| receipt.0)
+}
+
 #[test]
 fn two_threads_insert_and_get(rt: HostRuntime) -> Result<(), Fail> {
-    let recorder: Recorder<Numbers> = Recorder::new(rt.alloc(), MapState::new(rt.alloc()));
+    let recorder = numbers(rt.alloc());
     let (one, two) = (recorder.pass(1), recorder.pass(2));
     let (shared, handle) = (&recorder, &rt);
     let (a, b) = thread::join(
@@ -172,13 +253,10 @@ fn two_threads_insert_and_get(rt: HostRuntime) -> Result<(), Fail> {
         || turns(handle, shared, one),
         || turns(handle, shared, two),
     );
-    let passes = vec![in rt.alloc(); a.ok_or("first")?, b.ok_or("second")?]?;
-    for pass in &passes {
-        assert!(rt; pass.receipts().is_sorted_by_key(|receipt| receipt.0));
-    }
-    let Ok(history) = recorder.close(passes) else {
-        return Err(Fail::from("the receipts are the history"));
+    let (Some(a), Some(b)) = (a, b) else {
+        return Err(Fail::from("a call was refused"));
     };
-    assert_eq!(rt; history.entries().len(), 100);
+    assert!(rt; rises(&a) && rises(&b));
+    assert!(rt; closes_with(recorder, both(rt.alloc(), a, b)?, 100));
     Ok(())
 }

@@ -4,7 +4,7 @@ ghost use Rattle.elsa_locks.specs.Receipts.{AreReceipts, EndsElsewhere, IsCall, 
 
 use super::{Core, History};
 use std::alloc::{AllocError, Allocator, Global};
-use std::marker::Model;
+use std::marker::{Model, PhantomData};
 use std::sync::{RwLock, Wait};
 
 /// What one caller of a recorder was answered: a receipt for each of its accepted calls, in the order of the calls.
@@ -14,6 +14,7 @@ use std::sync::{RwLock, Wait};
 pub struct RecordPass<C: Core, A: Allocator = Global> {
     number: u64,
     receipts: Vec<(usize, C::Command, C::Reply), A>,
+    of: PhantomData<C>,
 }
 
 impl<C: Core, A: Allocator> Model for RecordPass<C, A> {
@@ -32,6 +33,7 @@ impl<C: Core, A: Allocator + Copy> RecordPass<C, A> {
         RecordPass {
             number,
             receipts: Vec::new(alloc),
+            of: PhantomData,
         }
     }
 

@@ -149,7 +149,8 @@ impl<K: Eq + Hash, V, A: Allocator + Copy> MapState<K, V, A> {
     pub fn get(&self, key: &K) -> Result<Option<Arc<V, A>>, AllocError>
     where
         V: Drop,
-        ensures { IfOk result (λ a. option_map arc_value a ≡ value_at K.eq self.now key.now) }
+        ensures answer { IfOk result (λ a. option_map arc_value a ≡ value_at K.eq self.now key.now) }
+        ensures err_only_if_there { OnErr result (is_some (value_at K.eq self.now key.now) ≡ true) }
     {
         match find(&self.table, key) {
             Some(value) => Ok(Some(value.clone()?)),
@@ -414,7 +415,9 @@ impl<K: Eq + Hash, V, A: Allocator + Copy> MapState<K, V, A> {
     }
 
     /// The table itself, to write.
-    pub(crate) fn table_mut(&mut self) -> &mut Table<K, V, A> {
+    pub(crate) fn table_mut(&mut self) -> &mut Table<K, V, A>
+        ensures { shown result.now.entries ≡ self.old }
+    {
         &mut self.table
     }
 }

@@ -1,5 +1,5 @@
 //! The ordered map under the lock of `FrozenBTreeMap`, with contracts that say what each call does.
-ghost use Rattle.std.specs.Prelude.{◌≡◌, ◌+◌, List, [], Some, None, length, is_some, IfSome, IfOk, OnErr, OnOk, IsTrue, ◌↔◌, if◌then◌else◌};
+ghost use Rattle.std.specs.Prelude.{◌≡◌, ◌+◌, List, [], Some, None, true, length, is_some, IfSome, IfOk, OnErr, OnOk, IsTrue, ◌↔◌, if◌then◌else◌};
 ghost use Rattle.std.specs.Option.{option_map};
 ghost use Rattle.std.specs.Ordering.{eq_by_cmp};
 ghost use Rattle.std.specs.Arc.{arc_value};
@@ -141,7 +141,8 @@ impl<K: Ord, V, A: Allocator + Copy> TreeState<K, V, A> {
     pub fn get(&self, key: &K) -> Result<Option<Arc<V, A>>, AllocError>
     where
         V: Drop,
-        ensures { IfOk result (λ a. option_map arc_value a ≡ value_at (eq_by_cmp K.cmp) self.now key.now) }
+        ensures answer { IfOk result (λ a. option_map arc_value a ≡ value_at (eq_by_cmp K.cmp) self.now key.now) }
+        ensures err_only_if_there { OnErr result (is_some (value_at (eq_by_cmp K.cmp) self.now key.now) ≡ true) }
     {
         match find(&self.table, key) {
             Some(value) => Ok(Some(value.clone()?)),

@@ -1,5 +1,5 @@
 //! The list under the lock of `FrozenVec`, with contracts that say what each call does.
-ghost use Rattle.std.specs.Prelude.{◌≡◌, [], ◌∷◌, ◌++◌, length, slice_get, IfOk, OnErr, OnOk, IsTrue, ◌↔◌};
+ghost use Rattle.std.specs.Prelude.{◌≡◌, [], ◌∷◌, ◌++◌, ◌<◌, length, slice_get, IfOk, OnErr, OnOk, IsTrue, ◌↔◌};
 ghost use Rattle.std.specs.Option.{option_map};
 ghost use Rattle.std.specs.Arc.{arc_value};
 ghost use Rattle.std.specs.Cmp.Lexicographic.{pointwise};
@@ -83,7 +83,8 @@ impl<V, A: Allocator + Copy> VecState<V, A> {
     pub fn get(&self, place: usize) -> Result<Option<Arc<V, A>>, AllocError>
     where
         V: Drop,
-        ensures { IfOk result (λ a. option_map arc_value a ≡ slice_get self.now place) }
+        ensures answer { IfOk result (λ a. option_map arc_value a ≡ slice_get self.now place) }
+        ensures err_only_if_there { OnErr result (place < length self.now) }
     {
         match self.list.get(place) {
             Some(value) => Ok(Some(value.clone()?)),
@@ -174,7 +175,9 @@ impl<V, A: Allocator + Copy> VecState<V, A> {
     }
 
     /// The list itself, to write.
-    pub(crate) fn list_mut(&mut self) -> &mut Vec<Arc<V, A>, A> {
+    pub(crate) fn list_mut(&mut self) -> &mut Vec<Arc<V, A>, A>
+        ensures { shown_items result.now.items ≡ self.old }
+    {
         &mut self.list
     }
 }
