@@ -63,6 +63,7 @@ impl<'a, A: Allocator + Copy> Session<'a, A> {
     }
 
     /// The answer to the line that has begun and ends so.
+    #[inline(always)]
     fn finish(&mut self, end: &[u8]) -> Reply<'a>
         ensures finished { IsFinished self.old.names self.old.line.items self.old.skips end.now (shown result) self.new.names }
         ensures line { self.new.line.items ≡ [] }

@@ -29,6 +29,7 @@ fn after<'t>(text: &'t str, word: &str) -> Option<&'t str>
 }
 
 /// What a text asks for.
+#[inline(always)]
 fn request_of_text(text: &str) -> Request<'_>
     ensures { asked result ≡ command_of_text text.now }
 {
@@ -52,6 +53,7 @@ fn request_of_text(text: &str) -> Request<'_>
 }
 
 /// What a line asks for.
+#[inline(always)]
 pub fn request_of(line: &[u8]) -> Request<'_>
     ensures { asked result ≡ command_of line.now }
 {
