@@ -4,6 +4,7 @@ ghost use Rattle.std.specs.Cmp.{partial_equiv_from_equiv};
 ghost use Rattle.std.specs.Iterator.{Drains, IsFinite};
 ghost use Rattle.std.specs.List.{IsDistinct};
 ghost use Rattle.std.specs.Option.{option_map};
+ghost use Rattle.std.specs.Str.{bytes_eq};
 ghost use Rattle.elsa_index.specs.Content.{SetInserted, SetInsertedNew, SetCollects};
 ghost use Rattle.elsa_index.specs.Equality.{same_set, same_set_equiv, HaveSameValues};
 
@@ -88,6 +89,7 @@ where
     /// The place of the value that equals the target of `value`, `None` exactly if there is none.
     ///
     /// It takes no memory. `O(1)`: one hash.
+    #[inline(always)]
     pub fn get_index_of<Q: LookUp<T::Borrow>>(&self, value: &Q) -> Option<usize>
         ensures { result ≡ position (Q.finds value.now) self.now }
     {
@@ -271,6 +273,26 @@ where
     {
         let (_, borrow) = self.insert_full(value)?;
         Ok(borrow)
+    }
+}
+
+impl<'a, B: Allocator, S: BuildHasher, A: Allocator + Copy> FrozenIndexSet<'a, String<B>, S, A> {
+    /// Adds a text that is absent last, and answers its place and its borrow: `insert_absent` without a `String`.
+    ///
+    /// The caller sees to it that no equal text is there, as `get_index_of` tells. A copy of the text goes straight into
+    /// the arena, by one hash. `AllocError` leaves the set as it was; the arena may keep a copy that nobody sees.
+    pub fn insert_absent_text(&mut self, text: &str) -> Result<(usize, &'a str), AllocError>
+        requires absent { position (λ k. bytes_eq text.now k.now) self.old ≡ None }
+        ensures place { IfOk result (λ r. r.0 ≡ length self.old) }
+        ensures placed { IfOk result (λ r. r.1.now ≡ text.now) }
+        ensures appended { IfOk result (λ r. self.new ≡ self.old ++ r.1 ∷ []) }
+        ensures refused { OnErr result (self.new ≡ self.old) }
+        ensures unique { OnOk result (IsDistinct (λ a b. bytes_eq a.now b.now) self.new) }
+        ensures small { IfOk result (λ r. r.0 < 2 ^ 63) }
+    {
+        let placed = self.arena.try_alloc_str(text)?;
+        let place = self.add(placed)?;
+        Ok((place, placed))
     }
 }
 

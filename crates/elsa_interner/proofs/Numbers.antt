@@ -23,10 +23,6 @@ place_in_map {X} p f xs = (λ j. cond (nat_lt (or_len xs j) (length-map xs f j))
 pub place_of_text : (text : List ℕ) (ks : List (Bor (List ℕ))) → position (bytes_eq text) (map (λ b. b.now) ks) ≡ position (λ k. bytes_eq text k.now) ks
 place_of_text text ks = place_in_map (bytes_eq text) (λ b. b.now) ks
 
--- a copy of a text that has no place has none
-pub copy_is_new : (ks : List (Bor (List ℕ))) (text copy : List ℕ) → copy ≡ text → position (λ k. bytes_eq text k.now) ks ≡ None → position (λ k. bytes_eq copy k.now) ks ≡ None
-copy_is_new ks text copy same none = ap (λ t. position (λ k. bytes_eq t k.now) ks) same ∙ none
-
 -- a new name is put last
 pub put_last : (ks cs : List (Bor (List ℕ))) (text copy : List ℕ) (n : ℕ) (b : Bor (List ℕ)) → copy ≡ text → position (λ k. bytes_eq text k.now) ks ≡ None
     → n ≡ length ks → b.now ≡ copy → cs ≡ ks ++ b ∷ [] → Puts (map (λ c. c.now) ks) text n (map (λ c. c.now) cs)

@@ -9,7 +9,7 @@ use crate::devices::{Failed, Sink, Source};
 use crate::interner::Interner;
 use crate::pending::Pending;
 use crate::reply::{Reply, answer_to, text_of};
-use crate::request::request_of;
+use crate::request::{request_of, request_of_known};
 use bumpalo::Bump;
 use itoa::Buffer;
 use memchr::memchr;
@@ -38,6 +38,15 @@ fn cut_line(piece: &[u8]) -> Option<(&[u8], &[u8])>
     Some((&piece[..at], &piece[at + 1..]))
 }
 
+/// The same of a text, whose parts are texts.
+fn cut_text(text: &str) -> Option<(&str, &str)>
+    ensures { MatchOption result (IsInside text.now) (λ p. IsInside p.0.now × (text.now ≡ p.0.now ++ (10 ∷ p.1.now))) }
+{
+    let (line, _later) = cut_line(text.as_bytes())?;
+    let at = line.len();
+    Some((&text[..at], &text[at + 1..]))
+}
+
 /// The names so far, and the line that has begun.
 #[derive(Drop)]
 struct Session<'a, A: Allocator + Copy> {
@@ -63,6 +72,7 @@ impl<'a, A: Allocator + Copy> Session<'a, A> {
     }
 
     /// The answer to the line that has begun and ends so.
+    #[inline(always)]
     fn finish(&mut self, end: &[u8]) -> Reply<'a>
         ensures finished { IsFinished self.old.names self.old.line.items self.old.skips end.now (shown result) self.new.names }
         ensures line { self.new.line.items ≡ [] }
@@ -83,6 +93,19 @@ impl<'a, A: Allocator + Copy> Session<'a, A> {
         let answer = answer_to(&mut self.names, request_of(self.line.as_slice()));
         self.line.clear();
         answer
+    }
+
+    /// The same, where the end is known to be a text.
+    #[inline(always)]
+    fn finish_text(&mut self, end: &str) -> Reply<'a>
+        ensures finished { IsFinished self.old.names self.old.line.items self.old.skips end.now (shown result) self.new.names }
+        ensures line { self.new.line.items ≡ [] }
+        ensures skips { self.new.skips ≡ false }
+    {
+        if self.skips || !self.line.is_empty() {
+            return self.finish(end.as_bytes());
+        }
+        answer_to(&mut self.names, request_of_known(end))
     }
 
     /// Keeps a piece of a line that goes on.
@@ -106,8 +129,8 @@ impl<'a, A: Allocator + Copy> Session<'a, A> {
         self.skips || !self.line.is_empty()
     }
 
-    /// Answers the lines that end in the piece.
-    fn feed<W: Sink>(
+    /// Answers the lines that end in the piece, each of which may be no text.
+    fn feed_bytes<W: Sink>(
         &mut self,
         piece: &[u8],
         out: &mut Pending,
@@ -127,6 +150,47 @@ impl<'a, A: Allocator + Copy> Session<'a, A> {
         }
         self.keep(rest);
         Ok(())
+    }
+
+    /// Answers the lines that end in the piece, which is a text: so is each of its lines, and none is looked at again.
+    fn feed_text<W: Sink>(
+        &mut self,
+        piece: &str,
+        out: &mut Pending,
+        writer: &mut W,
+    ) -> Result<(), Failed>
+        ensures ok { OnOk result (Feeds self.old.names self.old.line.items self.old.skips piece.now self.new.names self.new.line.items self.new.skips (W.held writer.old) out.old (W.held writer.new) out.new) }
+        ensures calm { OnOk result (W.failures writer.new ≡ W.failures writer.old) }
+        ensures err { OnErr result (FeedsSome self.old.names self.old.line.items self.old.skips piece.now (W.held writer.old) out.old (W.held writer.new)) }
+        ensures failed { OnErr result (FailedOnce (W.failures writer.old) (W.failures writer.new)) }
+    {
+        let mut digits = Buffer::new();
+        let mut rest = piece;
+        while let Some((end, later)) = cut_text(rest) {
+            let answer = self.finish_text(end);
+            out.push_line(writer, text_of(answer, &mut digits))?;
+            rest = later;
+        }
+        self.keep(rest.as_bytes());
+        Ok(())
+    }
+
+    /// Answers the lines that end in the piece.
+    fn feed<W: Sink>(
+        &mut self,
+        piece: &[u8],
+        out: &mut Pending,
+        writer: &mut W,
+    ) -> Result<(), Failed>
+        ensures ok { OnOk result (Feeds self.old.names self.old.line.items self.old.skips piece.now self.new.names self.new.line.items self.new.skips (W.held writer.old) out.old (W.held writer.new) out.new) }
+        ensures calm { OnOk result (W.failures writer.new ≡ W.failures writer.old) }
+        ensures err { OnErr result (FeedsSome self.old.names self.old.line.items self.old.skips piece.now (W.held writer.old) out.old (W.held writer.new)) }
+        ensures failed { OnErr result (FailedOnce (W.failures writer.old) (W.failures writer.new)) }
+    {
+        match str::from_utf8(piece) {
+            Ok(text) => self.feed_text(text, out, writer),
+            Err(_) => self.feed_bytes(piece, out, writer),
+        }
     }
 
     /// Answers the lines that end in the piece, and writes the answers.

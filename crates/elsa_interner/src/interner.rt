@@ -26,7 +26,6 @@ pub struct Interner<
     S: BuildHasher = BuildHasherDefault<FoldHasher>,
     A: Allocator + Copy = Global,
 > {
-    alloc: A,
     names: FrozenIndexSet<'a, String<A>, S, A>,
     count: usize,
 }
@@ -61,7 +60,6 @@ impl<'a, S: BuildHasher, A: Allocator + Copy> Interner<'a, S, A> {
         ensures { result ≡ [] }
     {
         Interner {
-            alloc,
             names: FrozenIndexSet::with_hasher(alloc, arena, hash_builder),
             count: 0,
         }
@@ -71,6 +69,7 @@ impl<'a, S: BuildHasher, A: Allocator + Copy> Interner<'a, S, A> {
     ///
     /// Takes no memory. `O(1)` hashed.
     #[tactic(auto, using(crate::proofs::Numbers::place_of_text))]
+    #[inline(always)]
     pub fn find(&self, text: &str) -> Option<usize>
         ensures { result ≡ position (bytes_eq text.now) self.now }
     {
@@ -99,9 +98,10 @@ impl<'a, S: BuildHasher, A: Allocator + Copy> Interner<'a, S, A> {
 
     /// The number of a name, which is kept if it is new and then has the number that [`Interner::len`] was.
     ///
-    /// A name that is there takes no memory and never fails. Of a new one a copy goes into the arena. `Err` means
-    /// that memory was refused: the names stay as they were. `O(1)` hashed, and the copy.
+    /// A name that is there takes no memory and never fails. Of a new one a copy goes straight into the arena. `Err`
+    /// means that memory was refused: the names stay as they were. `O(1)` hashed, and the copy.
     #[tactic(auto, using(crate::proofs::Numbers::place_of_text))]
+    #[inline(always)]
     pub fn put(&mut self, text: &str) -> Result<usize, AllocError>
         ensures put { IfOk result (λ n. Puts self.old text.now n self.new) }
         ensures refused { OnErr result (self.new ≡ self.old) }
@@ -110,8 +110,7 @@ impl<'a, S: BuildHasher, A: Allocator + Copy> Interner<'a, S, A> {
         if let Some(place) = self.names.get_index_of(&text) {
             return Ok(place);
         }
-        let owned = String::from_str(self.alloc, text)?;
-        let (place, _) = self.names.insert_absent(owned)?;
+        let (place, _) = self.names.insert_absent_text(text)?;
         self.count = place + 1;
         Ok(place)
     }

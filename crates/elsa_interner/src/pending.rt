@@ -95,6 +95,7 @@ impl Pending {
     }
 
     /// Adds a line: a piece, and byte 10 behind it.
+    #[inline(always)]
     pub fn push_line<W: Sink>(&mut self, writer: &mut W, piece: &[u8]) -> Result<(), Failed>
         ensures ok { OnOk result (Queued (W.held writer.old) self.old (W.held writer.new) self.new (piece.now ++ (10 ∷ []))) }
         ensures calm { OnOk result (W.failures writer.new ≡ W.failures writer.old) }

@@ -26,6 +26,7 @@ pub enum Reply<'a> {
 
 /// Does what is asked.
 #[tactic(auto, using(crate::proofs::Replies::put_replies))]
+#[inline(always)]
 pub fn answer_to<'a, S: BuildHasher, A: Allocator + Copy>(
     names: &mut Interner<'a, S, A>,
     request: Request<'_>,
@@ -51,6 +52,7 @@ pub fn answer_to<'a, S: BuildHasher, A: Allocator + Copy>(
 }
 
 /// The text of a reply, which may lie in `digits`.
+#[inline(always)]
 pub fn text_of<'b>(reply: Reply<'b>, digits: &'b mut Buffer) -> &'b [u8]
     ensures { result.now ≡ shown reply.entry }
 {

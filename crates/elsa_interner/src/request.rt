@@ -29,6 +29,7 @@ fn after<'t>(text: &'t str, word: &str) -> Option<&'t str>
 }
 
 /// What a text asks for.
+#[inline(always)]
 fn request_of_text(text: &str) -> Request<'_>
     ensures { asked result ≡ command_of_text text.now }
 {
@@ -52,6 +53,7 @@ fn request_of_text(text: &str) -> Request<'_>
 }
 
 /// What a line asks for.
+#[inline(always)]
 pub fn request_of(line: &[u8]) -> Request<'_>
     ensures { asked result ≡ command_of line.now }
 {
@@ -59,4 +61,14 @@ pub fn request_of(line: &[u8]) -> Request<'_>
         Ok(text) => request_of_text(text),
         Err(_) => Request::Bad,
     }
+}
+
+/// What a line asks for that is known to be a text.
+#[inline(always)]
+pub fn request_of_known(line: &str) -> Request<'_>
+    ensures { asked result ≡ command_of line.now }
+{
+    // `as_bytes` is called for its clause that they are UTF-8.
+    let _bytes = line.as_bytes();
+    request_of_text(line)
 }

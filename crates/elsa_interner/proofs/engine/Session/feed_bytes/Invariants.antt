@@ -1,6 +1,6 @@
 use Rattle.std.proofs.Common.{◌≡◌, ◌++◌, List, ℕ, length}
 use Rattle.elsa_interner.specs.Feeding.{Feeds}
-use Rattle.elsa_interner.proofs.engine.Session.feed.Given as goal
+use Rattle.elsa_interner.proofs.engine.Session.feed_bytes.Given as goal
 
 abbrev pub invariant-loop-end : goal.invariant-loop-end
 invariant-loop-end g l = record {

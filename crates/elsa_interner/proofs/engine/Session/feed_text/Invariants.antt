@@ -1,0 +1,17 @@
+use Rattle.std.proofs.Common.{◌≡◌, ◌++◌, List, ℕ, length}
+use Rattle.elsa_interner.specs.Feeding.{Feeds}
+use denote.Shadow.{shadow}
+use denote.Text.{Utf8}
+use Rattle.elsa_interner.proofs.engine.Session.feed_text.Given as goal
+
+abbrev pub invariant-loop-end : goal.invariant-loop-end
+invariant-loop-end g l = record {
+  text : shadow (Utf8 l.rest);
+  calm : g.W.Sink.failures l.writer ≡ g.W.Sink.failures l.fn.writer;
+  fed : List ℕ;
+  joined : fed ++ l.rest ≡ l.fn.piece;
+  feeds : Feeds l.fn.self.names l.fn.self.line.items l.fn.self.skips fed l.self.names l.self.line.items l.self.skips (g.W.Sink.held l.fn.writer) l.fn.out (g.W.Sink.held l.writer) l.out;
+}
+
+abbrev pub decreases-loop-end : goal.decreases-loop-end
+decreases-loop-end g l = length l.rest
