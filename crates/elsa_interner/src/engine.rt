@@ -31,6 +31,7 @@ pub enum EngineFault {
 }
 
 /// A line up to its byte 10, and what follows.
+#[inline(always)]
 fn cut_line(piece: &[u8]) -> Option<(&[u8], &[u8])>
     ensures { MatchOption result (IsInside piece.now) (λ p. IsInside p.0.now × (piece.now ≡ p.0.now ++ (10 ∷ p.1.now))) }
 {
@@ -39,6 +40,7 @@ fn cut_line(piece: &[u8]) -> Option<(&[u8], &[u8])>
 }
 
 /// The same of a text, whose parts are texts.
+#[inline(always)]
 fn cut_text(text: &str) -> Option<(&str, &str)>
     ensures { MatchOption result (IsInside text.now) (λ p. IsInside p.0.now × (text.now ≡ p.0.now ++ (10 ∷ p.1.now))) }
 {
