@@ -286,7 +286,7 @@ fn stands_refusal(rt: &impl Wait, alloc: Global, script: Script, number: u64) ->
 fn each_request_is_refused_in_turn(rt: HostRuntime) -> Result<(), Fail> {
     for script in [Script::Map, Script::List, Script::Recorder] {
         let count = requests(&rt, rt.alloc(), script).ok_or("nothing is refused")?;
-        assert!(rt; count > 10);
+        assert!(rt; count > 4);
         for number in 0..count {
             assert!(rt;
                 stands_refusal(&rt, rt.alloc(), script, number),
