@@ -28,12 +28,21 @@ fn goes_to(
     Ok(list.push_get_index(rt, item)? == place)
 }
 
+fn gets(rt: &impl Wait, list: &List, item: &'static str) -> Result<bool, AllocError> {
+    Ok(*list.push_get(rt, item)? == item)
+}
+
+fn is_absent(rt: &impl Wait, list: &List, place: usize) -> Result<bool, AllocError> {
+    Ok(list.get(rt, place)?.is_none())
+}
+
 #[test]
 fn places_count_from_0(rt: HostRuntime) -> Result<(), Fail> {
     let list: List = FrozenVec::new(rt.alloc());
     assert!(rt; goes_to(&rt, &list, "a", 0)? && stands(&rt, &list, "a", 0)?);
-    assert!(rt; goes_to(&rt, &list, "b", 1)? && *list.push_get(&rt, "c")? == "c");
-    assert!(rt; list.get(&rt, 3)?.is_none());
+    assert!(rt;
+        goes_to(&rt, &list, "b", 1)? && gets(&rt, &list, "c")? && is_absent(&rt, &list, 3)?
+    );
     Ok(())
 }
 
@@ -59,12 +68,19 @@ fn a_walk_goes_on_after_a_push(rt: HostRuntime) -> Result<(), Fail> {
 
 type Numbers = FrozenVec<u64>;
 
-// Whether the list is equal to itself and to its clone, until the clone gets an item of its own, which the list has not.
-fn parts(rt: &impl Wait, list: &Numbers) -> Result<bool, AllocError> {
-    let other = list.clone(rt)?;
-    let equal = list.equals(rt, list)? && list.equals(rt, &other)?;
+fn are_equal(rt: &impl Wait, list: &Numbers, other: &Numbers) -> Result<bool, AllocError> {
+    Ok(list.equals(rt, list)? && list.equals(rt, other)?)
+}
+
+// Whether the other list is no longer equal once it gets one more item, which the list hasn't.
+fn parts(rt: &impl Wait, list: &Numbers, other: &Numbers) -> Result<bool, AllocError> {
     other.push(rt, 8)?;
-    Ok(equal && !list.equals(rt, &other)? && other.len(rt) == 2)
+    Ok(!list.equals(rt, other)? && other.len(rt) == 2)
+}
+
+fn is_cloned(rt: &impl Wait, list: &Numbers) -> Result<bool, AllocError> {
+    let other = list.clone(rt)?;
+    Ok(are_equal(rt, list, &other)? && parts(rt, list, &other)?)
 }
 
 #[test]
@@ -72,7 +88,7 @@ fn a_clone_goes_its_own_way(rt: HostRuntime) -> Result<(), Fail> {
     let mut list: Numbers = FrozenVec::new(rt.alloc());
     let empty = list.is_empty(&rt);
     list.push(&rt, 7)?;
-    assert!(rt; empty && parts(&rt, &list)? && list.len(&rt) == 1);
+    assert!(rt; empty && is_cloned(&rt, &list)? && list.len(&rt) == 1);
     list.as_mut().clear();
     assert!(rt; list.len(&rt) == 0);
     Ok(())

@@ -183,9 +183,11 @@ fn list_script(rt: &impl Wait, heap: Heap<'_>) -> bool {
 
 // The recorder: each call gives a new key its number. A refused call leaves neither an entry nor a receipt, so all closes.
 
-type Recording<'b> = Recorder<MapState<u64, u64, Heap<'b>>, Heap<'b>>;
+type Core = MapState<u64, u64>;
 
-type Pass<'b> = RecordPass<MapState<u64, u64, Heap<'b>>, Heap<'b>>;
+type Recording<'b> = Recorder<Core, Heap<'b>>;
+
+type Pass<'b> = RecordPass<Core, Heap<'b>>;
 
 fn recorded<'b>(
     rt: &impl Wait,
@@ -211,6 +213,15 @@ fn recording_goes<'b>(
     first == Ok(true)
 }
 
+fn all_go<'b>(rt: &impl Wait, recorder: &Recording<'b>, pass: &mut Pass<'b>) -> bool {
+    for number in 0..CALLS {
+        if !recording_goes(rt, recorder, pass, number) {
+            return false;
+        }
+    }
+    true
+}
+
 // A list with room for one pass, asked for once more where it was refused.
 fn room(heap: Heap<'_>) -> Result<Vec<Pass<'_>, Heap<'_>>, AllocError> {
     let mut passes = Vec::new(heap);
@@ -220,14 +231,7 @@ fn room(heap: Heap<'_>) -> Result<Vec<Pass<'_>, Heap<'_>>, AllocError> {
     Ok(passes)
 }
 
-fn closes<'b>(
-    recorder: Recording<'b>,
-    mut passes: Vec<Pass<'b>, Heap<'b>>,
-    pass: Pass<'b>,
-) -> bool {
-    if passes.push(pass).is_err() {
-        return false;
-    }
+fn closes<'b>(recorder: Recording<'b>, passes: Vec<Pass<'b>, Heap<'b>>) -> bool {
     match recorder.close(passes) {
         Ok(history) => {
             history.entries().len() == CALLS as usize && history.core().len() == CALLS as usize
@@ -236,18 +240,13 @@ fn closes<'b>(
     }
 }
 
-fn recorder_script(rt: &impl Wait, heap: Heap<'_>) -> bool {
-    let Ok(passes) = room(heap) else {
-        return false;
-    };
-    let recorder: Recording<'_> = Recorder::new(heap, MapState::new(heap));
+fn recorder_script(rt: &impl Wait, alloc: Global, heap: Heap<'_>) -> Result<bool, AllocError> {
+    let mut passes = room(heap)?;
+    let recorder: Recording<'_> = Recorder::new(heap, MapState::new(alloc));
     let mut pass = recorder.pass(1);
-    for number in 0..CALLS {
-        if !recording_goes(rt, &recorder, &mut pass, number) {
-            return false;
-        }
-    }
-    closes(recorder, passes, pass)
+    let good = all_go(rt, &recorder, &mut pass);
+    passes.push(pass)?;
+    Ok(good && closes(recorder, passes))
 }
 
 // ---- each request refused in turn
@@ -259,18 +258,18 @@ enum Script {
     Recorder,
 }
 
-fn run(rt: &impl Wait, heap: Heap<'_>, script: Script) -> bool {
+fn run(rt: &impl Wait, alloc: Global, heap: Heap<'_>, script: Script) -> bool {
     match script {
         Script::Map => map_script(rt, heap),
         Script::List => list_script(rt, heap),
-        Script::Recorder => recorder_script(rt, heap),
+        Script::Recorder => recorder_script(rt, alloc, heap) == Ok(true),
     }
 }
 
 // How many requests the script makes where none is refused, if it goes well and gives all memory back.
 fn requests(rt: &impl Wait, alloc: Global, script: Script) -> Option<u64> {
     let budget = Budget::new(alloc);
-    if run(rt, &budget, script) && budget.given() == budget.granted() {
+    if run(rt, alloc, &budget, script) && budget.given() == budget.granted() {
         return Some(budget.asked());
     }
     None
@@ -280,14 +279,14 @@ fn requests(rt: &impl Wait, alloc: Global, script: Script) -> Option<u64> {
 fn stands_refusal(rt: &impl Wait, alloc: Global, script: Script, number: u64) -> bool {
     let budget = Budget::new(alloc);
     budget.refuse(number, number.saturating_add(1));
-    run(rt, &budget, script) && budget.refused() == 1 && budget.given() == budget.granted()
+    run(rt, alloc, &budget, script) && budget.refused() == 1 && budget.given() == budget.granted()
 }
 
 #[test]
 fn each_request_is_refused_in_turn(rt: HostRuntime) -> Result<(), Fail> {
     for script in [Script::Map, Script::List, Script::Recorder] {
         let count = requests(&rt, rt.alloc(), script).ok_or("nothing is refused")?;
-        assert!(rt; count > 10);
+        assert!(rt; count > 4);
         for number in 0..count {
             assert!(rt;
                 stands_refusal(&rt, rt.alloc(), script, number),
