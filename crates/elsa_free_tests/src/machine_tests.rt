@@ -78,19 +78,31 @@ fn answers_of(alloc: Global, rows: &[AnswerRow]) -> Result<Vec<Answer>, AllocErr
     Ok(answers)
 }
 
-/// The world of a row in which nobody holds and each write was published.
-fn world_of(alloc: Global, row: &Row) -> Result<World, AllocError> {
-    let mut writes = Vec::new(alloc);
-    for (place, item) in row.items.iter().enumerate() {
+/// Each item with its place.
+fn writes_of(alloc: Global, items: &[u64]) -> Result<Items<(usize, u64)>, AllocError> {
+    let mut writes = Items::new(alloc);
+    for (place, item) in items.iter().enumerate() {
         writes.push((place, *item))?;
     }
+    Ok(writes)
+}
+
+fn events_of(alloc: Global, events: &[Event]) -> Result<Items<Event>, AllocError> {
+    Ok(Items::from_vec(Vec::from_slice(alloc, events)?))
+}
+
+/// The world of a row in which nobody holds and each write was published.
+fn world_of(alloc: Global, row: &Row) -> Result<World, AllocError> {
+    let writes = writes_of(alloc, row.items)?;
+    let events = events_of(alloc, row.events)?;
+    let answers = Items::from_vec(answers_of(alloc, row.answers)?);
     Ok(World {
         length: row.items.len(),
         held: None,
         opened: row.opened,
-        writes: Items::from_vec(writes),
-        events: Items::from_vec(Vec::from_slice(alloc, row.events)?),
-        answers: Items::from_vec(answers_of(alloc, row.answers)?),
+        writes,
+        events,
+        answers,
     })
 }
 
