@@ -81,8 +81,8 @@ fn answers_of(alloc: Global, rows: &[AnswerRow]) -> Result<Vec<Answer>, AllocErr
 /// Each item with its place.
 fn writes_of(alloc: Global, items: &[u64]) -> Result<Items<(usize, u64)>, AllocError> {
     let mut writes = Items::new(alloc);
-    for (place, item) in items.iter().enumerate() {
-        writes.push((place, *item))?;
+    for place in 0..items.len() {
+        writes.push((place, items[place]))?;
     }
     Ok(writes)
 }
