@@ -1,6 +1,6 @@
 //! The concurrent vector.
 use elsa_free::lock_free::LockFreeFrozenVec;
-use std::alloc::{Allocator, Global};
+use std::alloc::{AllocError, Allocator, Global};
 use std::process::Abort;
 use std::sync::Wait;
 use std::test::*;
@@ -85,52 +85,80 @@ fn clones_all<A: Allocator + Copy>(vector: &LockFreeFrozenVec<u64, A>, clones: u
     true
 }
 
-#[test]
-fn passes_that_meet(rt: HostRuntime) -> Result<(), Fail> {
-    let vector = LockFreeFrozenVec::<u64>::new(rt.alloc())?;
+/// Whether a pass that met one sees what two passes pushed.
+fn passes_meet<R: Wait>(rt: &R, vector: &LockFreeFrozenVec<u64>) -> bool {
     let mut p = vector.pass();
     let mut q = vector.pass();
     let mut r = vector.pass();
-    assert_eq!(rt; vector.push_as(&rt, &mut p, 10), Ok(0));
-    assert_eq!(rt; vector.push_as(&rt, &mut q, 20), Ok(1));
+    let places = [
+        vector.push_as(rt, &mut p, 10),
+        vector.push_as(rt, &mut q, 20),
+    ];
     r.meet(&mut q);
-    assert_eq!(rt; vector.get_as(&mut r, 0), Some(10));
-    assert_eq!(rt; vector.get_as(&mut r, 1), Some(20));
-    assert_eq!(rt; vector.get_as(&mut r, 2), None);
-    assert_eq!(rt; vector.len_as(&mut r), 2);
+    let seen = [
+        vector.get_as(&mut r, 0),
+        vector.get_as(&mut r, 1),
+        vector.get_as(&mut r, 2),
+    ];
+    let length = vector.len_as(&mut r);
+    places == [Ok(0), Ok(1)] && seen == [Some(10), Some(20), None] && length == 2
+}
+
+#[test]
+fn passes_that_meet(rt: HostRuntime) -> Result<(), Fail> {
+    let vector = LockFreeFrozenVec::<u64>::new(rt.alloc())?;
+    assert!(rt; passes_meet(&rt, &vector));
     Ok(())
+}
+
+/// Whether a clone has its places for items, `length` of them.
+fn is_cloned(vector: &LockFreeFrozenVec<u64>, length: usize) -> Result<bool, AllocError> {
+    Ok(has_places(&vector.clone()?, length))
+}
+
+/// Whether an empty vector takes a thousand items.
+fn takes_a_thousand<R: Wait>(rt: &R, vector: &LockFreeFrozenVec<u64>) -> bool {
+    vector.is_empty()
+        && push_all(rt, vector, 0, 1000)
+        && vector.len() == 1000
+        && !vector.is_empty()
+        && vector.get(usize::MAX).is_none()
 }
 
 #[test]
 fn a_thousand_items(rt: HostRuntime) -> Result<(), Fail> {
     let vector = LockFreeFrozenVec::<u64>::new(rt.alloc())?;
-    assert!(rt; vector.is_empty());
-    assert!(rt; push_all(&rt, &vector, 0, 1000));
-    assert_eq!(rt; (vector.len(), vector.is_empty()), (1000, false));
-    assert_eq!(rt; vector.get(usize::MAX), None);
-    assert!(rt; has_places(&vector.clone()?, 1000));
+    assert!(rt; takes_a_thousand(&rt, &vector) && is_cloned(&vector, 1000)?);
     Ok(())
+}
+
+/// Whether a clone equals its source of two items, and one more item then stands in the clone alone.
+fn is_parted<R: Wait>(rt: &R, vector: &LockFreeFrozenVec<u64>) -> Result<bool, AllocError> {
+    let mut p = vector.pass();
+    let (copy, mut q) = vector.clone_as(&mut p)?;
+    let equal = vector.equals_as(&mut p, &copy, &mut q);
+    let place = copy.push_as(rt, &mut q, 30);
+    Ok(equal && place == Ok(2) && has_places(vector, 2) && !vector.equals(&copy))
 }
 
 #[test]
 fn a_clone_goes_its_own_way(rt: HostRuntime) -> Result<(), Fail> {
     let vector = LockFreeFrozenVec::<u64>::new(rt.alloc())?;
-    let mut p = vector.pass();
-    assert!(rt; push_all(&rt, &vector, 0, 2));
-    let (copy, mut q) = vector.clone_as(&mut p)?;
-    assert!(rt; vector.equals_as(&mut p, &copy, &mut q));
-    assert_eq!(rt; copy.push_as(&rt, &mut q, 30), Ok(2));
-    assert!(rt; has_places(&vector, 2));
-    assert!(rt; !vector.equals(&copy));
+    assert!(rt; push_all(&rt, &vector, 0, 2) && is_parted(&rt, &vector)?);
     Ok(())
+}
+
+/// Whether an empty vector takes a text.
+fn takes_a_text<R: Wait>(rt: &R, words: &LockFreeFrozenVec<&str>) -> bool {
+    words.get(usize::MAX).is_none()
+        && words.push(rt, "lonely") == Ok(0)
+        && words.get(0) == Some("lonely")
 }
 
 #[test]
 fn texts(rt: HostRuntime) -> Result<(), Fail> {
     let words = LockFreeFrozenVec::<&str>::new(rt.alloc())?;
-    assert_eq!(rt; words.get(usize::MAX), None);
-    assert_eq!(rt; words.push(&rt, "lonely"), Ok(0));
-    assert_eq!(rt; words.get(0), Some("lonely"));
+    assert!(rt; takes_a_text(&rt, &words));
     Ok(())
 }
 
@@ -141,22 +169,26 @@ fn units(rt: HostRuntime) -> Result<(), Fail> {
     Ok(())
 }
 
+/// Whether a push is refused exactly if it opens a buffer, and takes this place once it is allowed.
+fn opens_at<R: Wait>(
+    rt: &R,
+    budget: &Budget<Global>,
+    vector: &LockFreeFrozenVec<u64, &Budget<Global>>,
+    place: usize,
+) -> bool {
+    let opens = place == 0 || place == 3 || place == 15;
+    budget.refuse_next(1);
+    let refused = vector.push(rt, place as u64).is_err();
+    budget.refuse_next(0);
+    refused == opens && (!opens || vector.push(rt, place as u64) == Ok(place))
+}
+
 #[test]
 fn a_refused_push(rt: HostRuntime) -> Result<(), Fail> {
     let budget = Budget::new(rt.alloc());
     let vector = LockFreeFrozenVec::<u64, _>::new(&budget)?;
     for place in 0..16 {
-        let opens = place == 0 || place == 3 || place == 15;
-        budget.refuse_next(1);
-        assert_eq!(rt;
-            vector.push(&rt, place as u64).is_err(),
-            opens,
-            "at {place}"
-        );
-        budget.refuse_next(0);
-        if opens {
-            assert_eq!(rt; vector.push(&rt, place as u64), Ok(place));
-        }
+        assert!(rt; opens_at(&rt, &budget, &vector, place), "at {place}");
     }
     assert!(rt; has_places(&vector, 16));
     Ok(())
@@ -216,8 +248,10 @@ fn each_request_refused_in_turn(rt: HostRuntime) -> Result<(), Fail> {
             let from = budget.asked().wrapping_add(number);
             budget.refuse(from, from.saturating_add(further));
             let refused = script(&rt, &budget).unwrap_or(0);
-            assert!(rt; refused > 0, "at {number}");
-            assert_eq!(rt; budget.given(), budget.granted(), "at {number}");
+            assert!(rt;
+                refused > 0 && budget.given() == budget.granted(),
+                "at {number}"
+            );
         }
     }
     Ok(())
@@ -236,15 +270,19 @@ fn clones_amid_pushes(rt: HostRuntime) -> Result<(), Fail> {
     Ok(())
 }
 
+/// Whether a vector equals itself and a clone of it.
+fn is_equal(vector: &LockFreeFrozenVec<u64>) -> Result<bool, AllocError> {
+    Ok(vector.equals(&vector.clone()?) && vector.equals(vector))
+}
+
 #[test]
 fn clones_at_rest(rt: HostRuntime) -> Result<(), Fail> {
     for length in [0, 3, 15, 63] {
         let vector = LockFreeFrozenVec::<u64>::new(rt.alloc())?;
-        assert!(rt; push_all(&rt, &vector, 0, length));
-        let copy = vector.clone()?;
-        assert!(rt; has_places(&copy, length as usize), "of {length}");
         assert!(rt;
-            vector.equals(&copy) && vector.equals(&vector),
+            push_all(&rt, &vector, 0, length)
+                && is_cloned(&vector, length as usize)?
+                && is_equal(&vector)?,
             "of {length}"
         );
     }
@@ -263,10 +301,12 @@ fn threads_push_at_once(rt: HostRuntime) -> Result<(), Fail> {
             threads,
             &|i| push_all(handle, shared, count.wrapping_mul(i as u64), count),
         )?;
-        assert!(rt; pushed.iter().all(|done| *done), "{threads} threads");
         let mut seen = vec![in rt.alloc(); false; length]?;
-        assert_eq!(rt; vector.len(), length);
-        assert!(rt; has_each_once(&vector, &mut seen), "{threads} threads");
+        let whole = vector.len() == length && has_each_once(&vector, &mut seen);
+        assert!(rt;
+            pushed.iter().all(|done| *done) && whole,
+            "{threads} threads"
+        );
     }
     Ok(())
 }

@@ -78,19 +78,31 @@ fn answers_of(alloc: Global, rows: &[AnswerRow]) -> Result<Vec<Answer>, AllocErr
     Ok(answers)
 }
 
+/// Each item with its place.
+fn writes_of(alloc: Global, items: &[u64]) -> Result<Items<(usize, u64)>, AllocError> {
+    let mut writes = Items::new(alloc);
+    for place in 0..items.len() {
+        writes.push((place, items[place]))?;
+    }
+    Ok(writes)
+}
+
+fn events_of(alloc: Global, events: &[Event]) -> Result<Items<Event>, AllocError> {
+    Ok(Items::from_vec(Vec::from_slice(alloc, events)?))
+}
+
 /// The world of a row in which nobody holds and each write was published.
 fn world_of(alloc: Global, row: &Row) -> Result<World, AllocError> {
-    let mut writes = Vec::new(alloc);
-    for (place, item) in row.items.iter().enumerate() {
-        writes.push((place, *item))?;
-    }
+    let writes = writes_of(alloc, row.items)?;
+    let events = events_of(alloc, row.events)?;
+    let answers = Items::from_vec(answers_of(alloc, row.answers)?);
     Ok(World {
         length: row.items.len(),
         held: None,
         opened: row.opened,
-        writes: Items::from_vec(writes),
-        events: Items::from_vec(Vec::from_slice(alloc, row.events)?),
-        answers: Items::from_vec(answers_of(alloc, row.answers)?),
+        writes,
+        events,
+        answers,
     })
 }
 
@@ -246,20 +258,23 @@ fn buffers_open_as_the_list_grows(rt: HostRuntime) -> Result<(), AllocError> {
     ] {
         let schedule = schedule_of(alloc, vec![in alloc; 0; turns]?.as_slice(), 99)?;
         let world = run(alloc, &plans, &schedule)?;
-        assert_eq!(rt; world.length, length, "after {turns} turns");
-        assert_eq!(rt;
-            prior_total_buffer_size(world.opened),
-            slots,
-            "after {turns} turns"
-        );
+        let good = world.length == length && prior_total_buffer_size(world.opened) == slots;
+        assert!(rt; good, "after {turns} turns");
     }
     Ok(())
 }
 
+/// The greatest place.
+const LAST: usize = (1 << 62) - 2;
+
+/// Whether a place lies in this buffer at this slot.
+fn lies_at(place: usize, buffer: usize, slot: usize) -> bool {
+    place <= LAST && buffer_index(place) == buffer && locate(place) == (buffer, slot)
+}
+
 #[test]
 fn places_lie_in_buffers(rt: HostRuntime) {
-    let last = (1 << 62) - 2;
-    let rows = [
+    for (place, buffer, slot) in [
         (0, 0, 0),
         (2, 0, 2),
         (3, 1, 0),
@@ -267,17 +282,14 @@ fn places_lie_in_buffers(rt: HostRuntime) {
         (15, 2, 0),
         (62, 2, 47),
         (63, 3, 0),
-        (last, 30, 3458764513820540927),
-    ];
-    for (place, buffer, slot) in rows {
-        assert!(rt; place <= last);
-        assert_eq!(rt; buffer_index(place), buffer, "at {place}");
-        assert_eq!(rt; locate(place), (buffer, slot), "at {place}");
+        (LAST, 30, 3458764513820540927),
+    ] {
+        assert!(rt; lies_at(place, buffer, slot), "at {place}");
     }
-    assert_eq!(rt; buffer_size(0), 3);
-    assert_eq!(rt; buffer_size(31), 13835058055282163712);
-    assert_eq!(rt; prior_total_buffer_size(0), 0);
-    assert_eq!(rt; prior_total_buffer_size(31), 4611686018427387903);
+    assert!(rt; buffer_size(0) == 3 && buffer_size(31) == 13835058055282163712);
+    assert!(rt;
+        prior_total_buffer_size(0) == 0 && prior_total_buffer_size(31) == 4611686018427387903
+    );
 }
 
 #[test]

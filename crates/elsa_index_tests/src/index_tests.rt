@@ -12,86 +12,6 @@ use std::alloc::{AllocError, Global};
 use std::hash::{BuildHasherDefault, FoldHasher};
 use std::test::Fail;
 
-// ---- insertions into a map
-
-type Owners<'a> = FrozenIndexMap<'a, u32, String>;
-
-fn insert_full<'a>(
-    alloc: Global,
-    map: &mut Owners<'a>,
-    key: u32,
-    text: &str,
-) -> Result<(usize, &'a str), AllocError> {
-    map.insert_full(key, String::from_str(alloc, text)?)
-}
-
-fn insert_new<'a>(
-    alloc: Global,
-    map: &mut Owners<'a>,
-    key: u32,
-    text: &str,
-) -> Result<(&'a str, bool), AllocError> {
-    map.insert_new(key, String::from_str(alloc, text)?)
-}
-
-fn insert_full_new<'a>(
-    alloc: Global,
-    map: &mut Owners<'a>,
-    key: u32,
-    text: &str,
-) -> Result<(usize, &'a str, bool), AllocError> {
-    map.insert_full_new(key, String::from_str(alloc, text)?)
-}
-
-fn insert<'a>(
-    alloc: Global,
-    map: &mut Owners<'a>,
-    key: u32,
-    text: &str,
-) -> Result<&'a str, AllocError> {
-    map.insert(key, String::from_str(alloc, text)?)
-}
-
-// The value at a key, by indexing, if the key is there.
-fn by_key<'a>(map: &Owners<'a>, key: u32) -> Option<&'a str> {
-    if map.get(&key).is_none() {
-        return None;
-    }
-    Some(map[&key])
-}
-
-#[test]
-fn the_first_value_of_a_key_stays(rt: HostRuntime) -> Result<(), Fail> {
-    let alloc = rt.alloc();
-    let arena = Bump::new(alloc);
-    let mut map: Owners<'_> = FrozenIndexMap::new(alloc, &arena);
-    let empty = map.is_empty();
-    let full = [
-        insert_full(alloc, &mut map, 12, "a")?,
-        insert_full(alloc, &mut map, 12, "b")?,
-    ];
-    assert!(rt; empty && full == [(0, "a"), (0, "a")]);
-    let new = insert_new(alloc, &mut map, 12, "c")?;
-    let full_new = insert_full_new(alloc, &mut map, 7, "d")?;
-    let last = insert(alloc, &mut map, 7, "e")?;
-    assert!(rt; new == ("a", false) && full_new == (1, "d", true) && last == "d");
-    assert!(rt; [by_key(&map, 7), by_key(&map, 8)] == [Some("d"), None]);
-    Ok(())
-}
-
-#[test]
-fn an_insertion_says_whether_the_key_was_new(rt: HostRuntime) -> Result<(), Fail> {
-    let alloc = rt.alloc();
-    let arena = Bump::new(alloc);
-    let mut map: Owners<'_> = FrozenIndexMap::new(alloc, &arena);
-    let answers = [
-        insert_full_new(alloc, &mut map, 12, "a")?,
-        insert_full_new(alloc, &mut map, 12, "b")?,
-    ];
-    assert!(rt; answers == [(0, "a", true), (0, "a", false)]);
-    Ok(())
-}
-
 // ---- looking up in a map
 
 type Keyed<'a> = FrozenIndexMap<'a, &'a str, &'a str>;
@@ -116,13 +36,21 @@ fn length<'a>(map: &Keyed<'a>, key: &'a str) -> Option<usize> {
     map.map_get(&key, |value: &str| -> usize { value.len() })
 }
 
+// The value at a key, by indexing, if the key is there.
+fn by_key<'a>(map: &Keyed<'a>, key: &'a str) -> Option<&'a str> {
+    if map.get(&key).is_none() {
+        return None;
+    }
+    Some(map[&key])
+}
+
 #[test]
 fn look_ups_in_a_map(rt: HostRuntime) -> Result<(), Fail> {
     let arena = Bump::new(rt.alloc());
     let mut map: Keyed<'_> = FrozenIndexMap::new(rt.alloc(), &arena);
     let before = map.get_index(usize::MAX);
     let first = map.insert_full("foo", "a")?;
-    assert!(rt; before.is_none() && first == (0, "a"));
+    assert!(rt; before.is_none() && first == (0, "a") && by_key(&map, "foo") == Some("a"));
     assert!(rt; at_places(&map) == [Some(("foo", "a")), None, None]);
     assert!(rt; [full(&map, "foo"), full(&map, "2")] == [Some((0, "foo", "a")), None]);
     assert!(rt;
@@ -199,7 +127,59 @@ type MapCommand<'a> = IndexCommand<
     IndexMap<u32, &'a str, BuildHasherDefault<FoldHasher>>,
 >;
 
-fn map_commands<'a>(alloc: Global) -> Result<Vec<MapCommand<'a>>, Fail> {
+// The first value of a key stays.
+fn insertions<'a>(alloc: Global) -> Result<Vec<MapCommand<'a>>, AllocError> {
+    Ok(Vec::from_array(
+        alloc,
+        [
+            IndexCommand::IsEmpty,
+            IndexCommand::InsertFull(12, "a"),
+            IndexCommand::InsertFull(12, "b"),
+            IndexCommand::InsertNew(12, "c"),
+            IndexCommand::InsertFullNew(7, "d"),
+            IndexCommand::Insert(7, "e"),
+            IndexCommand::Get(7),
+            IndexCommand::Get(8),
+        ],
+    )?)
+}
+
+fn are_insertions(replies: &[IndexReply<&str>]) -> bool {
+    replies
+        == [
+            IndexReply::Flag(true),
+            IndexReply::Full(0, "a"),
+            IndexReply::Full(0, "a"),
+            IndexReply::New("a", false),
+            IndexReply::FullNew(1, "d", true),
+            IndexReply::Item("d"),
+            IndexReply::Found(Some("d")),
+            IndexReply::Found(None),
+        ]
+        .as_slice()
+}
+
+// An insertion says whether the key was new.
+fn repeats<'a>(alloc: Global) -> Result<Vec<MapCommand<'a>>, AllocError> {
+    Ok(Vec::from_array(
+        alloc,
+        [
+            IndexCommand::InsertFullNew(12, "a"),
+            IndexCommand::InsertFullNew(12, "b"),
+        ],
+    )?)
+}
+
+fn are_repeats(replies: &[IndexReply<&str>]) -> bool {
+    replies
+        == [
+            IndexReply::FullNew(0, "a", true),
+            IndexReply::FullNew(0, "a", false),
+        ]
+        .as_slice()
+}
+
+fn map_commands<'a>(alloc: Global) -> Result<Vec<MapCommand<'a>>, AllocError> {
     Ok(Vec::from_array(
         alloc,
         [
@@ -234,13 +214,27 @@ fn are_of_a_map(replies: &[IndexReply<&str>]) -> bool {
         .as_slice()
 }
 
+fn replies_to<'a>(
+    alloc: Global,
+    arena: &'a Bump,
+    commands: Vec<MapCommand<'a>>,
+) -> Result<Vec<IndexReply<&'a str>>, AllocError> {
+    let mut map: Texts<'a> = FrozenIndexMap::new(alloc, arena);
+    run_index(alloc, &mut map, commands)
+}
+
+fn are_rows(alloc: Global, arena: &Bump) -> Result<bool, AllocError> {
+    Ok(
+        are_insertions(replies_to(alloc, arena, insertions(alloc)?)?.as_slice())
+            && are_repeats(replies_to(alloc, arena, repeats(alloc)?)?.as_slice())
+            && are_of_a_map(replies_to(alloc, arena, map_commands(alloc)?)?.as_slice()),
+    )
+}
+
 #[test]
 fn runs_of_a_map(rt: HostRuntime) -> Result<(), Fail> {
-    let alloc = rt.alloc();
-    let arena = Bump::new(alloc);
-    let mut map: Texts<'_> = FrozenIndexMap::new(alloc, &arena);
-    let replies = run_index(alloc, &mut map, map_commands(alloc)?)?;
-    assert!(rt; are_of_a_map(replies.as_slice()));
+    let arena = Bump::new(rt.alloc());
+    assert!(rt; are_rows(rt.alloc(), &arena)?);
     Ok(())
 }
 

@@ -1,13 +1,71 @@
-//! Runs of both maps whose replies are known.
+//! Runs of both maps whose replies are known: worked rows, an insertion of each kind, and a new base.
 use bumpalo::Bump;
 use elsa_once::map::{FrozenBTreeMap, FrozenMap};
 use elsa_run::run::run_map;
 use elsa_run::run_map::{MapCommand, MapReply};
-use std::alloc::Global;
+use std::alloc::{AllocError, Global};
 use std::collections::{BTreeMap, HashMap};
 use std::test::Fail;
 
-// The replies to a run with an insertion of each kind and a base in which only 2 is there.
+// A command with a text in the place of an owner.
+#[derive(Clone, Copy)]
+enum Row<'t> {
+    Insert(u32, &'t str),
+    InsertNew(u32, &'t str),
+    Get(u32),
+    Len,
+    IsEmpty,
+}
+
+// The commands of a run: some rows, a new base, and further rows.
+#[derive(Clone, Copy)]
+struct Rows<'t> {
+    before: &'t [Row<'t>],
+    after: &'t [Row<'t>],
+}
+
+// The first value of a key stays, however it is inserted. Then an empty base.
+const STAYS: Rows<'static> = Rows {
+    before: &[
+        Row::IsEmpty,
+        Row::Insert(1, "a"),
+        Row::Insert(1, "b"),
+        Row::InsertNew(1, "c"),
+        Row::Len,
+    ],
+    after: &[
+        Row::IsEmpty,
+        Row::InsertNew(1, "a"),
+        Row::InsertNew(1, "b"),
+        Row::Insert(1, "c"),
+        Row::Len,
+    ],
+};
+
+fn are_of_stays(replies: &[MapReply<&str>]) -> bool {
+    replies
+        == [
+            MapReply::Flag(true),
+            MapReply::Item("a"),
+            MapReply::Item("a"),
+            MapReply::New("a", false),
+            MapReply::Count(1),
+            MapReply::Done,
+            MapReply::Flag(true),
+            MapReply::New("a", true),
+            MapReply::New("a", false),
+            MapReply::Item("a"),
+            MapReply::Count(1),
+        ]
+        .as_slice()
+}
+
+// With a base in which only 2 is there.
+const FIRST_WINS: Rows<'static> = Rows {
+    before: &[Row::Insert(1, "a"), Row::Insert(1, "b"), Row::Len],
+    after: &[Row::Get(1), Row::Get(2)],
+};
+
 fn are_first_wins(replies: &[MapReply<&str>]) -> bool {
     replies
         == [
@@ -21,7 +79,16 @@ fn are_first_wins(replies: &[MapReply<&str>]) -> bool {
         .as_slice()
 }
 
-// The replies to insertions that say whether the key was new, with a new epoch before the last.
+// Insertions that say whether the key was new, with an empty base before the last.
+const NEW_ONCE: Rows<'static> = Rows {
+    before: &[
+        Row::InsertNew(1, "a"),
+        Row::Insert(1, "b"),
+        Row::InsertNew(1, "c"),
+    ],
+    after: &[Row::InsertNew(1, "d")],
+};
+
 fn are_new_once(replies: &[MapReply<&str>]) -> bool {
     replies
         == [
@@ -34,76 +101,110 @@ fn are_new_once(replies: &[MapReply<&str>]) -> bool {
         .as_slice()
 }
 
-type HashedCommand<'a> = MapCommand<u32, String, HashMap<u32, &'a str>>;
+type Command<M> = MapCommand<u32, String, M>;
 
-fn hashed_commands<'a>(alloc: Global) -> Result<Vec<HashedCommand<'a>>, Fail> {
-    let mut base: HashMap<u32, &'a str> = HashMap::new(alloc);
-    base.insert(2, "z")?;
-    Ok(vec![in alloc;
-        MapCommand::Insert(1, String::from_str(alloc, "a")?),
-        MapCommand::Insert(1, String::from_str(alloc, "b")?),
-        MapCommand::Len,
-        MapCommand::Rebase(base),
-        MapCommand::Get(1),
-        MapCommand::Get(2),
-    ]?)
+fn command<M: Drop>(alloc: Global, row: Row<'_>) -> Result<Command<M>, AllocError> {
+    match row {
+        Row::Insert(key, text) => Ok(MapCommand::Insert(key, String::from_str(alloc, text)?)),
+        Row::InsertNew(key, text) => Ok(MapCommand::InsertNew(key, String::from_str(alloc, text)?)),
+        Row::Get(key) => Ok(MapCommand::Get(key)),
+        Row::Len => Ok(MapCommand::Len),
+        Row::IsEmpty => Ok(MapCommand::IsEmpty),
+    }
 }
 
-fn hashed_new_commands<'a>(alloc: Global) -> Result<Vec<HashedCommand<'a>>, Fail> {
-    Ok(vec![in alloc;
-        MapCommand::InsertNew(1, String::from_str(alloc, "a")?),
-        MapCommand::Insert(1, String::from_str(alloc, "b")?),
-        MapCommand::InsertNew(1, String::from_str(alloc, "c")?),
-        MapCommand::Rebase(HashMap::new(alloc)),
-        MapCommand::InsertNew(1, String::from_str(alloc, "d")?),
-    ]?)
+fn add<M: Drop>(
+    alloc: Global,
+    commands: &mut Vec<Command<M>>,
+    rows: &[Row<'_>],
+) -> Result<(), AllocError> {
+    for row in rows {
+        commands.push(command(alloc, *row)?)?;
+    }
+    Ok(())
+}
+
+fn commands<M: Drop>(
+    alloc: Global,
+    rows: Rows<'_>,
+    base: M,
+) -> Result<Vec<Command<M>>, AllocError> {
+    let mut made = Vec::new(alloc);
+    let rebase = MapCommand::Rebase(base);
+    add(alloc, &mut made, rows.before)?;
+    made.push(rebase)?;
+    add(alloc, &mut made, rows.after)?;
+    Ok(made)
+}
+
+// ---- the hashed map
+
+fn hashed_base<'a>(alloc: Global) -> Result<HashMap<u32, &'a str>, AllocError> {
+    let mut base = HashMap::new(alloc);
+    base.insert(2, "z")?;
+    Ok(base)
+}
+
+fn hashed_replies<'a>(
+    alloc: Global,
+    arena: &'a Bump,
+    rows: Rows<'_>,
+    base: HashMap<u32, &'a str>,
+) -> Result<Vec<MapReply<&'a str>>, AllocError> {
+    let mut map: FrozenMap<'a, u32, String> = FrozenMap::new(alloc, arena);
+    run_map(alloc, &mut map, commands(alloc, rows, base)?)
+}
+
+fn hashed_is_answered(alloc: Global, arena: &Bump) -> Result<bool, AllocError> {
+    let stays = hashed_replies(alloc, arena, STAYS, HashMap::new(alloc))?;
+    let first_wins = hashed_replies(alloc, arena, FIRST_WINS, hashed_base(alloc)?)?;
+    let new_once = hashed_replies(alloc, arena, NEW_ONCE, HashMap::new(alloc))?;
+    Ok(
+        are_of_stays(stays.as_slice())
+            && are_first_wins(first_wins.as_slice())
+            && are_new_once(new_once.as_slice()),
+    )
 }
 
 #[test]
 fn runs_of_the_hashed_map(rt: HostRuntime) -> Result<(), Fail> {
-    let alloc = rt.alloc();
-    let arena = Bump::new(alloc);
-    let mut map: FrozenMap<'_, u32, String> = FrozenMap::new(alloc, &arena);
-    let replies = run_map(alloc, &mut map, hashed_commands(alloc)?)?;
-    let mut other: FrozenMap<'_, u32, String> = FrozenMap::new(alloc, &arena);
-    let further = run_map(alloc, &mut other, hashed_new_commands(alloc)?)?;
-    assert!(rt; are_first_wins(replies.as_slice()) && are_new_once(further.as_slice()));
+    let arena = Bump::new(rt.alloc());
+    assert!(rt; hashed_is_answered(rt.alloc(), &arena)?);
     Ok(())
 }
 
-type OrderedCommand<'a> = MapCommand<u32, String, BTreeMap<u32, &'a str>>;
+// ---- the ordered map
 
-fn ordered_commands<'a>(alloc: Global) -> Result<Vec<OrderedCommand<'a>>, Fail> {
-    let mut base: BTreeMap<u32, &'a str> = BTreeMap::new(alloc);
+fn ordered_base<'a>(alloc: Global) -> Result<BTreeMap<u32, &'a str>, AllocError> {
+    let mut base = BTreeMap::new(alloc);
     base.insert(2, "z")?;
-    Ok(vec![in alloc;
-        MapCommand::Insert(1, String::from_str(alloc, "a")?),
-        MapCommand::Insert(1, String::from_str(alloc, "b")?),
-        MapCommand::Len,
-        MapCommand::Rebase(base),
-        MapCommand::Get(1),
-        MapCommand::Get(2),
-    ]?)
+    Ok(base)
 }
 
-fn ordered_new_commands<'a>(alloc: Global) -> Result<Vec<OrderedCommand<'a>>, Fail> {
-    Ok(vec![in alloc;
-        MapCommand::InsertNew(1, String::from_str(alloc, "a")?),
-        MapCommand::Insert(1, String::from_str(alloc, "b")?),
-        MapCommand::InsertNew(1, String::from_str(alloc, "c")?),
-        MapCommand::Rebase(BTreeMap::new(alloc)),
-        MapCommand::InsertNew(1, String::from_str(alloc, "d")?),
-    ]?)
+fn ordered_replies<'a>(
+    alloc: Global,
+    arena: &'a Bump,
+    rows: Rows<'_>,
+    base: BTreeMap<u32, &'a str>,
+) -> Result<Vec<MapReply<&'a str>>, AllocError> {
+    let mut map: FrozenBTreeMap<'a, u32, String> = FrozenBTreeMap::new(alloc, arena);
+    run_map(alloc, &mut map, commands(alloc, rows, base)?)
+}
+
+fn ordered_is_answered(alloc: Global, arena: &Bump) -> Result<bool, AllocError> {
+    let stays = ordered_replies(alloc, arena, STAYS, BTreeMap::new(alloc))?;
+    let first_wins = ordered_replies(alloc, arena, FIRST_WINS, ordered_base(alloc)?)?;
+    let new_once = ordered_replies(alloc, arena, NEW_ONCE, BTreeMap::new(alloc))?;
+    Ok(
+        are_of_stays(stays.as_slice())
+            && are_first_wins(first_wins.as_slice())
+            && are_new_once(new_once.as_slice()),
+    )
 }
 
 #[test]
 fn runs_of_the_ordered_map(rt: HostRuntime) -> Result<(), Fail> {
-    let alloc = rt.alloc();
-    let arena = Bump::new(alloc);
-    let mut map: FrozenBTreeMap<'_, u32, String> = FrozenBTreeMap::new(alloc, &arena);
-    let replies = run_map(alloc, &mut map, ordered_commands(alloc)?)?;
-    let mut other: FrozenBTreeMap<'_, u32, String> = FrozenBTreeMap::new(alloc, &arena);
-    let further = run_map(alloc, &mut other, ordered_new_commands(alloc)?)?;
-    assert!(rt; are_first_wins(replies.as_slice()) && are_new_once(further.as_slice()));
+    let arena = Bump::new(rt.alloc());
+    assert!(rt; ordered_is_answered(rt.alloc(), &arena)?);
     Ok(())
 }

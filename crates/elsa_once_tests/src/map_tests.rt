@@ -25,76 +25,6 @@ impl Hash for SameHash {
 #[derive(Clone, Copy, Drop, PartialEq, Eq, PartialOrd, Ord)]
 struct NoHash(u32);
 
-// ---- insertions
-
-type Hashed<'a> = FrozenMap<'a, u32, String>;
-
-fn insert<'a>(alloc: Global, map: &mut Hashed<'a>, text: &str) -> Result<&'a str, AllocError> {
-    map.insert(1, String::from_str(alloc, text)?)
-}
-
-fn insert_new<'a>(
-    alloc: Global,
-    map: &mut Hashed<'a>,
-    text: &str,
-) -> Result<(&'a str, bool), AllocError> {
-    map.insert_new(1, String::from_str(alloc, text)?)
-}
-
-#[test]
-fn the_first_value_of_a_key_stays(rt: HostRuntime) -> Result<(), Fail> {
-    let alloc = rt.alloc();
-    let arena = Bump::new(alloc);
-    let mut map: Hashed<'_> = FrozenMap::new(alloc, &arena);
-    let empty = map.is_empty();
-    let answers = [insert(alloc, &mut map, "a")?, insert(alloc, &mut map, "b")?];
-    let third = insert_new(alloc, &mut map, "c")?;
-    assert!(rt; empty && answers == ["a", "a"] && third == ("a", false) && map.len() == 1);
-    Ok(())
-}
-
-type Ordered<'a> = FrozenBTreeMap<'a, u32, String>;
-
-fn ordered_insert<'a>(
-    alloc: Global,
-    map: &mut Ordered<'a>,
-    text: &str,
-) -> Result<&'a str, AllocError> {
-    map.insert(1, String::from_str(alloc, text)?)
-}
-
-fn ordered_insert_new<'a>(
-    alloc: Global,
-    map: &mut Ordered<'a>,
-    text: &str,
-) -> Result<(&'a str, bool), AllocError> {
-    map.insert_new(1, String::from_str(alloc, text)?)
-}
-
-// The value at 1 by `[]`, if the key is there.
-fn at_one<'a>(map: &Ordered<'a>) -> Option<&'a str> {
-    if map.get(&1).is_none() {
-        return None;
-    }
-    Some(map[&1])
-}
-
-#[test]
-fn the_first_value_of_an_ordered_key_stays(rt: HostRuntime) -> Result<(), Fail> {
-    let alloc = rt.alloc();
-    let arena = Bump::new(alloc);
-    let mut map: Ordered<'_> = FrozenBTreeMap::new(alloc, &arena);
-    let empty = map.is_empty();
-    let answers = [
-        ordered_insert_new(alloc, &mut map, "a")?,
-        ordered_insert_new(alloc, &mut map, "b")?,
-    ];
-    let third = ordered_insert(alloc, &mut map, "c")?;
-    assert!(rt; empty && answers == [("a", true), ("a", false)] && third == "a");
-    assert!(rt; map.len() == 1 && at_one(&map) == Some("a"));
-    Ok(())
-}
-
 // ---- collecting
 
 // The pairs of an ordered map of these texts, as a list.
@@ -273,6 +203,14 @@ fn based<'a>(alloc: Global, arena: &'a Bump) -> Result<Based<'a>, AllocError> {
     Ok(FrozenBTreeMap::from_map(alloc, arena, base))
 }
 
+// The value at 1 by `[]`, if the key is there.
+fn at_one<'a>(map: &Based<'a>) -> Option<&'a str> {
+    if map.get(&1).is_none() {
+        return None;
+    }
+    Some(map[&1])
+}
+
 // Takes 1 out of the inner map.
 fn remove_one(map: &mut Based<'_>) {
     map.as_mut().remove(&1);
@@ -291,5 +229,6 @@ fn an_inner_map_is_a_base(rt: HostRuntime) -> Result<(), Fail> {
     remove_one(&mut map);
     let second = map.insert(1, "a")?;
     assert!(rt; first == "base" && second == "a" && inner_count(&map)? == 1);
+    assert!(rt; at_one(&map) == Some("a"));
     Ok(())
 }

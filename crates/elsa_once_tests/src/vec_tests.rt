@@ -10,45 +10,6 @@ type Names<'a> = FrozenVec<'a, String>;
 
 // ---- content
 
-// Whether these are the items, by place, at the ends, and counted.
-fn holds(names: &Names<'_>, want: &[&str]) -> bool {
-    for place in 0..want.len() {
-        if names.get(place) != want.get(place).copied() {
-            return false;
-        }
-    }
-    has_count(names, want.len()) && has_ends(names, want)
-}
-
-fn has_count(names: &Names<'_>, count: usize) -> bool {
-    names.len() == count
-        && names.is_empty() == (count == 0)
-        && names.get(count).is_none()
-        && names.get(usize::MAX).is_none()
-}
-
-fn has_ends(names: &Names<'_>, want: &[&str]) -> bool {
-    names.first() == want.first().copied() && names.last() == want.last().copied()
-}
-
-fn push_all(alloc: Global, names: &mut Names<'_>, texts: &[&str]) -> Result<(), AllocError> {
-    for text in texts {
-        names.push(String::from_str(alloc, *text)?)?;
-    }
-    Ok(())
-}
-
-#[test]
-fn an_empty_vector_and_three_pushes(rt: HostRuntime) -> Result<(), Fail> {
-    let alloc = rt.alloc();
-    let arena = Bump::new(alloc);
-    let mut names: Names<'_> = FrozenVec::new(alloc, &arena);
-    let empty = holds(&names, &[]);
-    push_all(alloc, &mut names, &["a", "b", "c"])?;
-    assert!(rt; empty && holds(&names, &["a", "b", "c"]));
-    Ok(())
-}
-
 #[derive(Clone, Copy, Debug, PartialEq, Eq)]
 struct Moo(i32);
 

@@ -15,7 +15,7 @@ mod term;
 mod worker;
 
 use crate::audit::{closed, told_by};
-use crate::worker::{Memo, Tellings, work};
+use crate::worker::{Memo, Tellings, Told, work};
 use elsa::sync::map::MapState;
 use elsa::sync::{FrozenMap, history};
 use std::{io, thread};
@@ -41,11 +41,16 @@ fn main(rt: HostRuntime) -> io::Result<()> {
     let Some(history) = closed(recorder, passes) else {
         return rt.println("the receipts aren't the history");
     };
+    tell(&rt, &history)
+}
+
+/// Prints how many calls the history has, how many of them each worker made, and some of the numbers.
+fn tell(rt: &impl Print, history: &Told) -> io::Result<()> {
     println!(rt; "{} calls, all of them legal", history.entries().len())?;
     for worker in 0..WORKERS {
         println!(rt;
             "worker {worker} told of {}",
-            told_by(&history, worker as u64)
+            told_by(history, worker as u64)
         )?;
     }
     for place in [10, 20, 50, 90] {

@@ -4,7 +4,7 @@ ghost use Rattle.example_memo.specs.Fibonacci.{fibonacci_at};
 
 use crate::term::Term;
 use elsa::sync::FrozenMap;
-use elsa::sync::history::{MapCommand, RecordPass, Recorder};
+use elsa::sync::history::{History, MapCommand, RecordPass, Recorder};
 use elsa::sync::map::MapState;
 use std::alloc::AllocError;
 use std::sync::Wait;
@@ -14,6 +14,9 @@ pub type Memo = FrozenMap<u64, Term>;
 
 /// What the recorder records: insertions of numbers at their places.
 pub type Tellings = Recorder<MapState<u64, u64>>;
+
+/// What a closed recorder leaves.
+pub type Told = History<MapState<u64, u64>>;
 
 /// The greatest place that is asked for.
 pub const LAST: u64 = 90;
