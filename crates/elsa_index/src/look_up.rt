@@ -54,7 +54,8 @@ impl<'a, 'b> LookUp<&'a str> for &'b str {
         &self,
         set: &IndexSet<&'a str, S, A>,
     ) -> Option<usize> {
-        set.get_index_of(*self)
+        let text = *self;
+        set.get_index_of(text)
     }
 }
 
@@ -80,7 +81,8 @@ impl<'a, 'b, U: Eq + Hash> LookUp<&'a [U]> for &'b [U] {
         &self,
         set: &IndexSet<&'a [U], S, A>,
     ) -> Option<usize> {
-        set.get_index_of(*self)
+        let items = *self;
+        set.get_index_of(items)
     }
 }
 
