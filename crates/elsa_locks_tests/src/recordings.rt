@@ -1,4 +1,5 @@
 //! Recordings by one thread and by two, and what closes and what does not.
+use elsa_locks::history::laws::recorded_alone;
 use elsa_locks::history::{
     CloseFault, Core, History, MapCommand, MapReply, RecordPass, Recorder, VecCommand, VecReply,
 };
@@ -80,6 +81,17 @@ fn two_passes_at_one_key(rt: HostRuntime) -> Result<(), Fail> {
         return Err(Fail::from("the receipts are the history"));
     };
     assert!(rt; is_of_both(&history));
+    Ok(())
+}
+
+#[test]
+fn one_call_is_the_history(rt: HostRuntime) -> Result<(), Fail> {
+    let core: Numbers = MapState::new(rt.alloc());
+    let Ok(history) = recorded_alone(&rt, rt.alloc(), core, 1, MapCommand::Insert(1, 6))? else {
+        return Err(Fail::from("the receipt is the history"));
+    };
+    let entries = [(1, MapCommand::Insert(1, 6), MapReply::Value(6))];
+    assert!(rt; history.entries() == entries.as_slice());
     Ok(())
 }
 
