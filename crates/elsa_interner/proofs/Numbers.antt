@@ -1,16 +1,17 @@
 -- Names as texts, and the borrows behind them.
-use Rattle.std.proofs.Common.{◌≡◌, ℕ, ◌+◌, ◌<◌, false, true≢false, Bool, true, cond, not, nat_lt, List, [], ◌∷◌, ◌++◌, length, map, position, slice_get, refl, ap, subst, sym, ◌∙◌, append-nil, arith, Option, Bor, None, Some, MatchOption, inl, inr}
+use Rattle.std.proofs.Common.{◌≡◌, ℕ, ◌+◌, ◌<◌, false, true≢false, Bool, true, cond, not, nat_lt, List, [], ◌∷◌, ◌++◌, length, get_or, map, position, slice_get, refl, ap, subst, sym, ◌∙◌, append-nil, arith, Option, Bor, None, Some, MatchOption, inl, inr}
 use mathlib.Core.List.{IsPrefix}
 use Rattle.std.proofs.lemmas.Grind.{common_steps}
 use Rattle.std.proofs.lemmas.List.{length-append, map-append, length-map}
 use Rattle.std.proofs.lemmas.List.Folds.{position_or_len_push}
+use Rattle.std.proofs.lemmas.List.Quantifiers.{position-Some}
 use Rattle.std.proofs.lemmas.List.Sums.{prefix_len-le-length}
 use Rattle.std.specs.Str.{bytes_eq}
 use Rattle.std.specs.List.{IsDistinct, AllByRecursion, position_or_len}
-use Rattle.std.specs.Cmp.Lexicographic.{nat_list_eq_equiv}
+use Rattle.std.specs.Cmp.Lexicographic.{bytes_decides, nat_list_eq_equiv}
 use Rattle.std.proofs.lemmas.Bool.{cases_lt}
 use Rattle.std.proofs.lemmas.Map.Keys.{apart_from_distinct}
-use Rattle.std.proofs.lemmas.Option.{slice_get_within, get_or_from_slice_get}
+use Rattle.std.proofs.lemmas.Option.{slice_get-get_or, slice_get_within, get_or_from_slice_get}
 use Rattle.elsa_interner.specs.Names.{Puts, IsOneToOne}
 
 abbrev shown : List (Bor (List ℕ)) → List (List ℕ)
@@ -33,6 +34,12 @@ pub put_last : (ks cs : List (Bor (List ℕ))) (text copy : List ℕ) (n : ℕ) 
 put_last ks cs text copy n b same none number placed last =
     subst (λ o. MatchOption o ((n ≡ length (shown ks)) × (shown cs ≡ shown ks ++ text ∷ [])) (λ j. (n ≡ j) × (shown cs ≡ shown ks))) (sym (place_of_text text ks ∙ none))
     (number ∙ sym (length-map ks (λ c. c.now)), ap shown last ∙ map-append (λ c. c.now) ks (b ∷ []) ∙ ap (λ t. shown ks ++ t ∷ []) (placed ∙ same))
+
+-- the name at the place where a text is found is that text
+pub at_place : (names : List (List ℕ)) (text : List ℕ) (n : ℕ) → position (bytes_eq text) names ≡ Some n → slice_get names n ≡ Some text
+at_place names text n found =
+    let p = position-Some (bytes_eq text) names n [] found in
+    slice_get-get_or names n [] p.0 ∙ ap Some (sym ((bytes_decides text (get_or names n [])).0 p.1))
 
 -- a text that no name equals is found where it goes last
 found_last : (names : List (List ℕ)) (text : List ℕ) → position (bytes_eq text) names ≡ None → position (bytes_eq text) (names ++ text ∷ []) ≡ Some (length names)

@@ -89,6 +89,7 @@ impl<'a, A: Allocator + Copy> PlainInterner<'a, A> {
         ensures put { IfOk result (λ n. Puts self.old text.now n self.new) }
         ensures refused { OnErr result (self.new ≡ self.old) }
         ensures only_new { OnErr result (position (bytes_eq text.now) self.old ≡ None) }
+        ensures stands { IfOk result (λ n. slice_get self.new n ≡ Some text.now) }
         ensures stands_at { IfOk result (λ n. position (bytes_eq text.now) self.new ≡ Some n) }
         ensures kept { IsPrefix self.old self.new }
     {

@@ -1,5 +1,6 @@
-use Rattle.std.proofs.Common.{rules, subst, map}
-use Rattle.elsa_interner.proofs.Numbers.{kept_put, put_last, stands_put}
+use Rattle.std.proofs.Common.{rules, subst, ap, sym, ◌∙◌, map, position}
+use Rattle.std.specs.Str.{bytes_eq}
+use Rattle.elsa_interner.proofs.Numbers.{at_place, kept_put, place_of_text, put_last, stands_put}
 use Rattle.elsa_interner.proofs.Walks.{distinct_after}
 use Rattle.elsa_interner.specs.Names.{Puts}
 use Rattle.elsa_interner.proofs.plain_interner.PlainInterner.put.Goals as goal
@@ -17,6 +18,14 @@ returns-clause-put g c =
 
 pub returns-clause-stands_at : goal.returns-clause-stands_at
 returns-clause-stands_at g c = stands_put c.args.self.now c.args.text.now c.len-place.result (map (λ b. b.now) c.push.new.self) (returns-clause-put g c)
+
+pub returns-in-Some-clause-stands : goal.returns-in-Some-clause-stands
+returns-in-Some-clause-stands g c =
+    let text = c.args.text.now in
+    at_place c.args.self.now text c.in-Some.place (ap (position (bytes_eq text)) (sym c.self.view_is) ∙ place_of_text text c.self.inside.names ∙ search rules)
+
+pub returns-clause-stands : goal.returns-clause-stands
+returns-clause-stands g c = at_place (map (λ b. b.now) c.push.new.self) c.args.text.now c.len-place.result (returns-clause-stands_at g c)
 
 pub returns-clause-kept : goal.returns-clause-kept
 returns-clause-kept g c = kept_put _ _ _ _ (returns-clause-put g c)
