@@ -1,7 +1,8 @@
 -- What an insertion of a new value leaves.
-use Rattle.std.proofs.Common.{◌≡◌, ℕ, ◌<◌, Bool, true, false, true≢false, is_some, refl, sym, subst, List, [], ◌∷◌, ◌++◌, length, position, find, slice_get, ap, ◌∙◌, arith, Option, None, Some, MatchOption, if◌then◌else◌}
+use Rattle.std.proofs.Common.{◌≡◌, ℕ, ◌<◌, Bool, true, false, true≢false, is_some, refl, sym, subst, List, [], ◌∷◌, ◌++◌, length, position, find, slice_get, ap, ◌∙◌, arith, Option, None, Some, MatchOption, cond, if◌then◌else◌}
 use Rattle.std.proofs.lemmas.Grind.{common_steps}
-use Rattle.std.proofs.lemmas.List.Folds.{find_at, list_any_at, list_any_none}
+use Rattle.std.proofs.lemmas.List.{length-append}
+use Rattle.std.proofs.lemmas.List.Folds.{find_at, list_any_at, list_any_none, position_or_len_push}
 use Rattle.std.proofs.lemmas.List.Quantifiers.{position-Some}
 use Rattle.std.proofs.lemmas.List.Sums.{fails_before_first, prefix_len-le-length}
 use Rattle.std.proofs.lemmas.Option.{slice_get_past}
@@ -48,9 +49,26 @@ pub none_of : {X : Type 0} (o : Option X) → is_some o ≡ false → o ≡ None
 none_of None h = refl
 none_of (Some x) h = absurd (true≢false h)
 
+-- a last item is found where no earlier one passes
+pub place_of_last : {X : Type 0} (t : X → Bool) (xs : List X) (y : X) → position t xs ≡ None → t y ≡ true → position t (xs ++ y ∷ []) ≡ Some (length xs)
+place_of_last t xs y none passes = let e = none_found t xs none in grind (arith, common_steps, position_or_len_push, length-append)
+
+-- and so is the value of a last pair
+pub value_of_last : {K B : Type 0} (t : K → Bool) (es : List (K × B)) (k : K) (b : B) → lookup t es ≡ None → t k ≡ true → lookup t (es ++ (k, b) ∷ []) ≡ Some b
+value_of_last t [] k b none passes = ap (λ c. cond c (Some b) None) passes
+value_of_last {K} {B} t (e ∷ es) k b none passes = by (t e.0) (λ later. value_of_last t es k b later passes) none
+  where
+    by : (c : Bool) → (lookup t es ≡ None → lookup t (es ++ (k, b) ∷ []) ≡ Some b) → cond c (Some e.1) (lookup t es) ≡ None → cond c (Some e.1) (lookup t (es ++ (k, b) ∷ [])) ≡ Some b
+    by true rest some = absurd (true≢false (ap is_some some))
+    by false rest later = rest later
+
 -- a key without a value has no place
 pub no_place : {K B : Type 0} (eq : K → K → Bool) (es : List (K × B)) (k : K) → lookup (eq k) es ≡ None → place_of eq es k ≡ None
 no_place eq es k none = none_of (position (eq k) (keys_of es)) (some_index (eq k) es ∙ ap is_some none)
+
+-- and a key without a place has no value
+pub no_value : {K B : Type 0} (eq : K → K → Bool) (es : List (K × B)) (k : K) → place_of eq es k ≡ None → lookup (eq k) es ≡ None
+no_value eq es k none = none_of (lookup (eq k) es) (sym (some_index (eq k) es) ∙ ap is_some none)
 
 -- a pair with a new key goes last
 pub new_pair_goes_last : {K B V T : Type 0} (eq : K → K → Bool) (target : V → T) (shown : B → T) (es : List (K × B)) (k : K) (v : V) (i : ℕ) (b : B) (fs : List (K × B))

@@ -6,12 +6,12 @@ use Rattle.std.specs.Map.{keys_of, lookup}
 use Rattle.std.specs.Option.{option_eq}
 use Rattle.std.proofs.lemmas.Grind.{common_steps}
 use Rattle.std.proofs.lemmas.List.{length-append, length-map, length_push, map-append}
-use Rattle.std.proofs.lemmas.List.Folds.{position_or_len_push, prefix_len-append}
+use Rattle.std.proofs.lemmas.List.Folds.{prefix_len-append}
 use Rattle.std.proofs.lemmas.List.Sorted.{list_any-IsPermutation}
 use Rattle.indexmap.proofs.MapLemmas.{lookup_permutation}
 use Rattle.elsa_index.specs.Content.{place_of, value_of, Grows, Inserted, InsertedNew, SetInserted}
 use Rattle.elsa_index.specs.Equality.{same_map, same_set, same_map_decides, same_set_decides}
-use Rattle.elsa_index.proofs.Content.{none_found}
+use Rattle.elsa_index.proofs.Content.{no_value, place_of_last, value_of_last}
 
 -- what grows twice grows
 pub grows_on : {X : Type 0} (xs ys zs : List X) → Grows xs ys → Grows ys zs → Grows xs zs
@@ -20,10 +20,6 @@ grows_on xs ys zs (more, first) (later, second) = (more ++ later, second ∙ ap 
 -- a place that a test finds is found in what the list grows to
 place_kept : {X : Type 0} (t : X → Bool) (xs ys : List X) (i : ℕ) → position t xs ≡ Some i → position t (xs ++ ys) ≡ Some i
 place_kept t xs ys i e = grind (arith, common_steps, prefix_len-append, length-append)
-
--- a last item is found where no earlier one passes
-place_of_last : {X : Type 0} (t : X → Bool) (xs : List X) (y : X) → position t xs ≡ None → t y ≡ true → position t (xs ++ y ∷ []) ≡ Some (length xs)
-place_of_last t xs y none passes = let e = none_found t xs none in grind (arith, common_steps, position_or_len_push, length-append)
 
 -- the same where the list grew
 pub place_stays : {X : Type 0} (t : X → Bool) (xs ys : List X) (i : ℕ) → Grows xs ys → position t xs ≡ Some i → position t ys ≡ Some i
@@ -75,6 +71,14 @@ module _ {K V T B : Type 0} (eq : K → K → Bool) (laws : IsEquivalence eq) (t
       by None g = (g.0, g.1, g.3)
       by (Some n) g = (g.0, g.1, g.3)
 
+  -- and has the value that was answered
+  pub value_inserted_new : (es : List (K × B)) (k : K) (v : V) (i : ℕ) (b : B) (new : Bool) (fs : List (K × B)) → InsertedNew eq target shown es k v i b new fs → value_of eq fs k ≡ Some b
+  value_inserted_new es k v i b new fs h = by (place_of eq es k) refl h
+    where
+      by : (o : Option ℕ) → place_of eq es k ≡ o → MatchOption o ((i ≡ length es) × (shown b ≡ target v) × (new ≡ true) × (fs ≡ es ++ (k, b) ∷ [])) (λ n. (i ≡ n) × (value_of eq es k ≡ Some b) × (new ≡ false) × (fs ≡ es)) → value_of eq fs k ≡ Some b
+      by None at g = ap (lookup (eq k)) g.3 ∙ value_of_last (eq k) es k b (no_value eq es k at) (laws.refl k)
+      by (Some n) at g = ap (lookup (eq k)) g.3 ∙ g.1
+
 module _ {B V T : Type 0} (eq : B → B → Bool) (laws : IsEquivalence eq) (target : V → T) (shown : B → T) (finds : V → B → Bool)
     (finds_target : (v : V) (b k : B) → shown b ≡ target v → finds v k ≡ eq b k) where
   -- an insertion leaves what was there
@@ -85,13 +89,9 @@ module _ {B V T : Type 0} (eq : B → B → Bool) (laws : IsEquivalence eq) (tar
       by None g = (b ∷ [], g.2)
       by (Some j) g = ([], g.2 ∙ sym (append-nil bs))
 
-  -- the value stands at the place that was answered
-  pub set_place_inserted : (bs : List B) (v : V) (i : ℕ) (b : B) (cs : List B) → SetInserted target shown finds bs v i b cs → position (finds v) cs ≡ Some i
-  set_place_inserted bs v i b cs h = by (position (finds v) bs) refl h
-    where
-      by : (o : Option ℕ) → position (finds v) bs ≡ o → MatchOption o ((i ≡ length bs) × (shown b ≡ target v) × (cs ≡ bs ++ b ∷ [])) (λ j. (i ≡ j) × (slice_get bs i ≡ Some b) × (cs ≡ bs)) → position (finds v) cs ≡ Some i
-      by None at g = ap (position (finds v)) g.2 ∙ place_of_last (finds v) bs b at (finds_target v b b g.1 ∙ laws.refl b) ∙ ap Some (sym g.0)
-      by (Some j) at g = ap (position (finds v)) g.2 ∙ at ∙ ap Some (sym g.0)
+  -- a value that nothing was found for stands last, where it goes last
+  pub set_place_added : (bs : List B) (v : V) (i : ℕ) (b : B) (cs : List B) → position (finds v) bs ≡ None → i ≡ length bs → shown b ≡ target v → cs ≡ bs ++ b ∷ [] → position (finds v) cs ≡ Some i
+  set_place_added bs v i b cs none at is left = ap (position (finds v)) left ∙ place_of_last (finds v) bs b none (finds_target v b b is ∙ laws.refl b) ∙ ap Some (sym at)
 
 -- the same pairs in another order are the same map
 pub same_in_any_order : {K B : Type 0} (eq : K → K → Bool) (laws : IsEquivalence eq) (same : B → B → Bool) (same_laws : IsEquivalence same) (es fs : List (K × B))

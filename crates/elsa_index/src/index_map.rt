@@ -215,6 +215,8 @@ impl<
         ensures accepted { IfOk result (λ r. InsertedNew K.eq V.target V.shown self.old key value r.0 r.1 r.2 self.new) }
         ensures refused { OnErr result (self.new ≡ self.old) }
         ensures only_new { OnErr result (place_of K.eq self.old key ≡ None) }
+        ensures stands { IfOk result (λ r. value_of K.eq self.new key ≡ Some r.1) }
+        ensures stands_at { IfOk result (λ r. place_of K.eq self.new key ≡ Some r.0) }
     {
         let Ok(found) = self.map.entry(key) else {
             return Err(AllocError);
@@ -239,6 +241,8 @@ impl<
         ensures accepted { IfOk result (λ r. Inserted K.eq V.target V.shown self.old key value r.0 r.1 self.new) }
         ensures refused { OnErr result (self.new ≡ self.old) }
         ensures only_new { OnErr result (place_of K.eq self.old key ≡ None) }
+        ensures stands { IfOk result (λ r. value_of K.eq self.new key ≡ Some r.1) }
+        ensures stands_at { IfOk result (λ r. place_of K.eq self.new key ≡ Some r.0) }
     {
         let (place, borrow, _) = self.insert_full_new(key, value)?;
         Ok((place, borrow))
@@ -251,6 +255,7 @@ impl<
         ensures accepted { IfOk result (λ r. (i : ℕ) × InsertedNew K.eq V.target V.shown self.old key value i r.0 r.1 self.new) }
         ensures refused { OnErr result (self.new ≡ self.old) }
         ensures only_new { OnErr result (place_of K.eq self.old key ≡ None) }
+        ensures stands { IfOk result (λ r. value_of K.eq self.new key ≡ Some r.0) }
     {
         let (_, borrow, new) = self.insert_full_new(key, value)?;
         Ok((borrow, new))
@@ -263,6 +268,7 @@ impl<
         ensures accepted { IfOk result (λ b. (i : ℕ) × Inserted K.eq V.target V.shown self.old key value i b self.new) }
         ensures refused { OnErr result (self.new ≡ self.old) }
         ensures only_new { OnErr result (place_of K.eq self.old key ≡ None) }
+        ensures stands { IfOk result (λ b. value_of K.eq self.new key ≡ Some b) }
     {
         let (_, borrow) = self.insert_full(key, value)?;
         Ok(borrow)

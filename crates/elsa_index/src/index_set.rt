@@ -205,6 +205,8 @@ where
         ensures refused { OnErr result (self.new ≡ self.old) }
         ensures unique { OnOk result (IsDistinct T.Borrow.eq self.new) }
         ensures small { IfOk result (λ r. r.0 < 2 ^ 63) }
+        ensures stands { IfOk result (λ r. slice_get self.new r.0 ≡ Some r.1) }
+        ensures stands_at { IfOk result (λ r. position (T.finds value) self.new ≡ Some r.0) }
     {
         let borrow = match value.place(self.arena) {
             Ok(borrow) => borrow,
@@ -227,6 +229,8 @@ where
         ensures only_new { OnErr result (position (T.finds value) self.old ≡ None) }
         ensures unique { IsDistinct T.Borrow.eq self.new }
         ensures small { IfOk result (λ r. r.0 < 2 ^ 63) }
+        ensures stands { IfOk result (λ r. slice_get self.new r.0 ≡ Some r.1) }
+        ensures stands_at { IfOk result (λ r. position (T.finds value) self.new ≡ Some r.0) }
     {
         // `len` is called for its clause that the values are unequal.
         let _len = self.set.len();
@@ -246,6 +250,8 @@ where
         ensures only_new { OnErr result (position (T.finds value) self.old ≡ None) }
         ensures unique { IsDistinct T.Borrow.eq self.new }
         ensures small { IfOk result (λ r. r.0 < 2 ^ 63) }
+        ensures stands { IfOk result (λ r. slice_get self.new r.0 ≡ Some r.1) }
+        ensures stands_at { IfOk result (λ r. position (T.finds value) self.new ≡ Some r.0) }
     {
         let (place, borrow, _) = self.insert_full_new(value)?;
         Ok((place, borrow))
@@ -254,10 +260,12 @@ where
     /// Adds the value last, unless an equal one is there, and answers the stored value and whether it is new.
     ///
     /// Costs and the refusal are those of `insert_full_new`.
+    #[tactic(auto, using(crate::proofs::Content::found_at))]
     pub fn insert_new(&mut self, value: T) -> Result<(T::Borrow, bool), AllocError>
         ensures accepted { IfOk result (λ r. (i : ℕ) × SetInsertedNew T.target T.shown T.finds self.old value i r.0 r.1 self.new) }
         ensures refused { OnErr result (self.new ≡ self.old) }
         ensures only_new { OnErr result (position (T.finds value) self.old ≡ None) }
+        ensures stands { IfOk result (λ r. find (T.finds value) self.new ≡ Some r.0) }
     {
         let (_, borrow, new) = self.insert_full_new(value)?;
         Ok((borrow, new))
@@ -266,10 +274,12 @@ where
     /// Adds the value last, unless an equal one is there, and answers the stored value.
     ///
     /// Costs and the refusal are those of `insert_full_new`.
+    #[tactic(auto, using(crate::proofs::Content::found_at))]
     pub fn insert(&mut self, value: T) -> Result<T::Borrow, AllocError>
         ensures accepted { IfOk result (λ b. (i : ℕ) × SetInserted T.target T.shown T.finds self.old value i b self.new) }
         ensures refused { OnErr result (self.new ≡ self.old) }
         ensures only_new { OnErr result (position (T.finds value) self.old ≡ None) }
+        ensures stands { IfOk result (λ b. find (T.finds value) self.new ≡ Some b) }
     {
         let (_, borrow) = self.insert_full(value)?;
         Ok(borrow)
@@ -289,6 +299,8 @@ impl<'a, B: Allocator, S: BuildHasher, A: Allocator + Copy> FrozenIndexSet<'a, S
         ensures refused { OnErr result (self.new ≡ self.old) }
         ensures unique { OnOk result (IsDistinct (λ a b. bytes_eq a.now b.now) self.new) }
         ensures small { IfOk result (λ r. r.0 < 2 ^ 63) }
+        ensures stands { IfOk result (λ r. slice_get self.new r.0 ≡ Some r.1) }
+        ensures stands_at { IfOk result (λ r. position (λ k. bytes_eq text.now k.now) self.new ≡ Some r.0) }
     {
         let placed = self.arena.try_alloc_str(text)?;
         let place = self.add(placed)?;

@@ -1,6 +1,10 @@
 //! Worked rows of the index forms.
 use crate::odd_keys::{Fold, SameHash};
 use bumpalo::Bump;
+use elsa_index::index_laws::{
+    are_equal, clone_and_part, insert_both, insert_twice, remade, set_insert_both, set_remade,
+    sets_are_equal,
+};
 use elsa_index::index_map::FrozenIndexMap;
 use elsa_index::index_set::FrozenIndexSet;
 use elsa_once::stable::Own;
@@ -91,31 +95,26 @@ fn order_does_not_count(rt: HostRuntime) -> Result<(), Fail> {
     let ab = collected(rt.alloc(), &arena, &[(1, "a"), (2, "b")])?;
     let ba = collected(rt.alloc(), &arena, &[(2, "b"), (1, "a")])?;
     let other = collected(rt.alloc(), &arena, &[(1, "a"), (2, "c")])?;
-    assert!(rt; ab == ba && ab != other);
+    assert!(rt; are_equal(&ab, &ba) && !are_equal(&ab, &other));
     assert!(rt; [ab.get_index_of(&1), ba.get_index_of(&1)] == [Some(0), Some(1)]);
     Ok(())
 }
 
-// The pairs at the first two places of a map made of the inner one.
-fn pairs_of<'a>(
-    arena: &'a Bump,
-    inner: IndexMap<u32, &'a str, BuildHasherDefault<FoldHasher>>,
-) -> [Option<(u32, &'a str)>; 2] {
-    let again: Texts<'a> = FrozenIndexMap::from_map(arena, inner);
-    [again.get_index(0), again.get_index(1)]
+// The pairs at the first three places of a map.
+fn pairs_of<'a>(map: &Texts<'a>) -> [Option<(u32, &'a str)>; 3] {
+    [map.get_index(0), map.get_index(1), map.get_index(2)]
 }
 
 #[test]
 fn a_clone_goes_its_own_way(rt: HostRuntime) -> Result<(), Fail> {
     let arena = Bump::new(rt.alloc());
     let mut map = collected(rt.alloc(), &arena, &[(1, "a")])?;
-    let mut copy = map.clone()?;
-    let places = [map.insert_full(2, "b")?, copy.insert_full(3, "c")?];
-    assert!(rt; places == [(1, "b"), (1, "c")]);
-    assert!(rt; [map.get(&3), copy.get(&2)] == [None, None]);
+    let copy = clone_and_part(&mut map, (2, "b"), (3, "c"))?;
+    let kept = pairs_of(&remade(&arena, copy));
+    assert!(rt; kept == [Some((1, "a")), Some((3, "c")), None]);
+    assert!(rt; pairs_of(&map) == [Some((1, "a")), Some((2, "b")), None]);
     map.as_mut().clear();
     assert!(rt; map.insert_full(2, "z")? == (0, "z"));
-    assert!(rt; pairs_of(&arena, copy.into_map()) == [Some((1, "a")), Some((3, "c"))]);
     Ok(())
 }
 
@@ -335,7 +334,7 @@ fn sets(rt: HostRuntime) -> Result<(), Fail> {
     let arena = Bump::new(alloc);
     let mut ab = set_of(alloc, &arena, &["a", "b", "a"])?;
     let ba = set_of(alloc, &arena, &["b", "a"])?;
-    assert!(rt; ab == ba);
+    assert!(rt; sets_are_equal(&ab, &ba));
     assert!(rt;
         [by_place(&ab, 0), by_place(&ab, 1), by_place(&ab, 2)] == [Some("a"), Some("b"), None]
     );
@@ -353,7 +352,7 @@ fn made_again<'a>(
     let mut copy = set.clone()?;
     let (_, new) = copy.insert_new(String::from_str(alloc, "c")?)?;
     let differs = copy != *set;
-    let again: Set<'a> = FrozenIndexSet::from_set(arena, copy.into_set());
+    let again = set_remade(arena, copy);
     Ok((new, differs, again.get_index_of(&"c")))
 }
 
@@ -389,6 +388,29 @@ fn finds_lists(alloc: Global, arena: &Bump) -> Result<bool, AllocError> {
 fn forms_of_values(rt: HostRuntime) -> Result<(), Fail> {
     let arena = Bump::new(rt.alloc());
     assert!(rt; finds_numbers(rt.alloc(), &arena)? && finds_lists(rt.alloc(), &arena)?);
+    Ok(())
+}
+
+// ---- the laws' places and flags
+
+fn laws_of_a_map(alloc: Global, arena: &Bump) -> Result<bool, AllocError> {
+    let mut map: Texts<'_> = FrozenIndexMap::new(alloc, arena);
+    let places = insert_both(&mut map, (5, "a"), (4, "b"))?;
+    let news = insert_twice(&mut map, 6, "c", "d")?;
+    Ok(places == (0, 1) && news == (true, false) && map.get(&6) == Some("c"))
+}
+
+fn laws_of_a_set(alloc: Global, arena: &Bump) -> Result<bool, AllocError> {
+    let mut set: Set<'_> = FrozenIndexSet::new(alloc, arena);
+    let a = String::from_str(alloc, "a")?;
+    let places = set_insert_both(&mut set, a, String::from_str(alloc, "b")?)?;
+    Ok(places == (0, 1))
+}
+
+#[test]
+fn laws(rt: HostRuntime) -> Result<(), Fail> {
+    let arena = Bump::new(rt.alloc());
+    assert!(rt; laws_of_a_map(rt.alloc(), &arena)? && laws_of_a_set(rt.alloc(), &arena)?);
     Ok(())
 }
 

@@ -4,6 +4,8 @@
 #[cfg(test)]
 mod cache_tests;
 #[cfg(test)]
+mod caller_tests;
+#[cfg(test)]
 mod engine_tests;
 #[cfg(test)]
 mod index_tests;

@@ -1,8 +1,8 @@
 -- The first character of a text, cut off.
-use Rattle.std.proofs.Common.{◌≡◌, ◌+◌, ◌≤◌, ◌-◌, ℕ, List, [], ◌∷◌, ◌++◌, length, take, drop, encode_utf8, sym, ap, ◌∙◌, arith}
+use Rattle.std.proofs.Common.{◌≡◌, ◌≤◌, ◌-◌, ℕ, List, [], ◌∷◌, ◌++◌, length, take, drop, encode_utf8, sym, ap, ◌∙◌, arith}
 use Rattle.std.specs.Char.{len_utf8}
 use Rattle.std.specs.List.{slice_range}
-use Rattle.std.specs.Str.{IsUtf8, chars}
+use Rattle.std.specs.Str.{IsUtf8}
 use Rattle.std.proofs.lemmas.List.{take-append-le, take_rest}
 use Rattle.std.proofs.lemmas.Str.{chars-nil, chars_past_char, length-encode}
 use Rattle.elsa_interner.specs.Cached.{encoded_first, first_character}

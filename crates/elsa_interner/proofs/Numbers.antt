@@ -1,12 +1,17 @@
 -- Names as texts, and the borrows behind them.
-use Rattle.std.proofs.Common.{◌≡◌, ℕ, ◌+◌, ◌<◌, false, true≢false, Bool, cond, not, nat_lt, List, [], ◌∷◌, ◌++◌, length, map, position, slice_get, refl, ap, subst, sym, ◌∙◌, arith, Bor, None, Some, MatchOption, inl, inr}
-use Rattle.std.proofs.lemmas.List.{map-append, length-map}
+use Rattle.std.proofs.Common.{◌≡◌, ℕ, ◌+◌, ◌<◌, false, true≢false, Bool, true, cond, not, nat_lt, List, [], ◌∷◌, ◌++◌, length, get_or, map, position, slice_get, refl, ap, subst, sym, ◌∙◌, append-nil, arith, Option, Bor, None, Some, MatchOption, inl, inr}
+use mathlib.Core.List.{IsPrefix}
+use Rattle.std.proofs.lemmas.Grind.{common_steps}
+use Rattle.std.proofs.lemmas.List.{length-append, map-append, length-map}
+use Rattle.std.proofs.lemmas.List.Folds.{position_or_len_push}
+use Rattle.std.proofs.lemmas.List.Quantifiers.{position-Some}
+use Rattle.std.proofs.lemmas.List.Sums.{prefix_len-le-length}
 use Rattle.std.specs.Str.{bytes_eq}
 use Rattle.std.specs.List.{IsDistinct, AllByRecursion, position_or_len}
-use Rattle.std.specs.Cmp.Lexicographic.{nat_list_eq_equiv}
+use Rattle.std.specs.Cmp.Lexicographic.{bytes_decides, nat_list_eq_equiv}
 use Rattle.std.proofs.lemmas.Bool.{cases_lt}
 use Rattle.std.proofs.lemmas.Map.Keys.{apart_from_distinct}
-use Rattle.std.proofs.lemmas.Option.{slice_get_within, get_or_from_slice_get}
+use Rattle.std.proofs.lemmas.Option.{slice_get-get_or, slice_get_within, get_or_from_slice_get}
 use Rattle.elsa_interner.specs.Names.{Puts, IsOneToOne}
 
 abbrev shown : List (Bor (List ℕ)) → List (List ℕ)
@@ -29,6 +34,34 @@ pub put_last : (ks cs : List (Bor (List ℕ))) (text copy : List ℕ) (n : ℕ) 
 put_last ks cs text copy n b same none number placed last =
     subst (λ o. MatchOption o ((n ≡ length (shown ks)) × (shown cs ≡ shown ks ++ text ∷ [])) (λ j. (n ≡ j) × (shown cs ≡ shown ks))) (sym (place_of_text text ks ∙ none))
     (number ∙ sym (length-map ks (λ c. c.now)), ap shown last ∙ map-append (λ c. c.now) ks (b ∷ []) ∙ ap (λ t. shown ks ++ t ∷ []) (placed ∙ same))
+
+-- the name at the place where a text is found is that text
+pub at_place : (names : List (List ℕ)) (text : List ℕ) (n : ℕ) → position (bytes_eq text) names ≡ Some n → slice_get names n ≡ Some text
+at_place names text n found =
+    let p = position-Some (bytes_eq text) names n [] found in
+    slice_get-get_or names n [] p.0 ∙ ap Some (sym ((bytes_decides text (get_or names n [])).0 p.1))
+
+-- a text that no name equals is found where it goes last
+found_last : (names : List (List ℕ)) (text : List ℕ) → position (bytes_eq text) names ≡ None → position (bytes_eq text) (names ++ text ∷ []) ≡ Some (length names)
+found_last names text none =
+    let same : bytes_eq text text ≡ true = nat_list_eq_equiv.refl text in
+    grind (arith, common_steps, position_or_len_push, prefix_len-le-length, length-append)
+
+-- a name that was put stands at its number
+pub stands_put : (names : List (List ℕ)) (text : List ℕ) (n : ℕ) (after : List (List ℕ)) → Puts names text n after → position (bytes_eq text) after ≡ Some n
+stands_put names text n after h = by (position (bytes_eq text) names) refl h
+  where
+    by : (o : Option ℕ) → position (bytes_eq text) names ≡ o → MatchOption o ((n ≡ length names) × (after ≡ names ++ text ∷ [])) (λ i. (n ≡ i) × (after ≡ names)) → position (bytes_eq text) after ≡ Some n
+    by None at g = ap (position (bytes_eq text)) g.1 ∙ found_last names text at ∙ ap Some (sym g.0)
+    by (Some i) at g = ap (position (bytes_eq text)) g.1 ∙ at ∙ ap Some (sym g.0)
+
+-- and those before it stay where they are
+pub kept_put : (names : List (List ℕ)) (text : List ℕ) (n : ℕ) (after : List (List ℕ)) → Puts names text n after → IsPrefix names after
+kept_put names text n after h = by (position (bytes_eq text) names) h
+  where
+    by : (o : Option ℕ) → MatchOption o ((n ≡ length names) × (after ≡ names ++ text ∷ [])) (λ i. (n ≡ i) × (after ≡ names)) → IsPrefix names after
+    by None g = (text ∷ [], sym g.1)
+    by (Some i) g = ([], append-nil names ∙ sym g.1)
 
 all_shown : (text : List ℕ) (ys : List (Bor (List ℕ))) → AllByRecursion (λ y. bytes_eq text y.now ≡ false) ys → AllByRecursion (λ t. bytes_eq text t ≡ false) (map (λ b. b.now) ys)
 all_shown text [] h = tt

@@ -2,9 +2,10 @@
 //!
 //! [`Interner`] finds a name by its hash. [`intern_engine`] runs one over a reader's lines; it is generic over
 //! [`Source`] and [`Sink`], which [`Counted`] makes of any reader and writer of std.
-ghost use Rattle.std.specs.Prelude.{◌≡◌, [], length, None, slice_get, position, IfOk, OnErr};
+ghost use Rattle.std.specs.Prelude.{◌≡◌, [], length, None, Some, slice_get, position, IfOk, OnErr};
 ghost use Rattle.std.specs.Option.{option_map};
 ghost use Rattle.std.specs.Str.{bytes_eq};
+ghost use mathlib.Core.List.{IsPrefix};
 ghost use Rattle.elsa_interner.specs.Names.{Puts, IsOneToOne};
 
 pub use crate::devices::{Counted, Failed, Sink, Source};
@@ -106,6 +107,9 @@ impl<'a, S: BuildHasher, A: Allocator + Copy> Interner<'a, S, A> {
         ensures put { IfOk result (λ n. Puts self.old text.now n self.new) }
         ensures refused { OnErr result (self.new ≡ self.old) }
         ensures only_new { OnErr result (position (bytes_eq text.now) self.old ≡ None) }
+        ensures stands { IfOk result (λ n. slice_get self.new n ≡ Some text.now) }
+        ensures stands_at { IfOk result (λ n. position (bytes_eq text.now) self.new ≡ Some n) }
+        ensures kept { IsPrefix self.old self.new }
     {
         if let Some(place) = self.names.get_index_of(&text) {
             return Ok(place);

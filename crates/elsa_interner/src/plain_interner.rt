@@ -1,9 +1,10 @@
 //! The plain, slow program of an interner: names in a vector, found by a walk from the front.
 //!
 //! It meets the same clauses as [`crate::interner::Interner`], and tests compare the two.
-ghost use Rattle.std.specs.Prelude.{◌≡◌, [], length, None, slice_get, position, IfOk, OnErr};
+ghost use Rattle.std.specs.Prelude.{◌≡◌, [], length, None, Some, slice_get, position, IfOk, OnErr};
 ghost use Rattle.std.specs.Option.{option_map};
 ghost use Rattle.std.specs.Str.{bytes_eq};
+ghost use mathlib.Core.List.{IsPrefix};
 ghost use Rattle.elsa_interner.specs.Names.{Puts, IsOneToOne};
 
 use bumpalo::Bump;
@@ -88,6 +89,9 @@ impl<'a, A: Allocator + Copy> PlainInterner<'a, A> {
         ensures put { IfOk result (λ n. Puts self.old text.now n self.new) }
         ensures refused { OnErr result (self.new ≡ self.old) }
         ensures only_new { OnErr result (position (bytes_eq text.now) self.old ≡ None) }
+        ensures stands { IfOk result (λ n. slice_get self.new n ≡ Some text.now) }
+        ensures stands_at { IfOk result (λ n. position (bytes_eq text.now) self.new ≡ Some n) }
+        ensures kept { IsPrefix self.old self.new }
     {
         if let Some(place) = place_of(&self.names, text) {
             return Ok(place);

@@ -1,5 +1,5 @@
 use Rattle.std.specs.Map.{keys_of}
-use Rattle.elsa_index.proofs.Laws.{grows_inserted, keys_grow, place_inserted, place_stays}
+use Rattle.elsa_index.proofs.Laws.{grows_inserted, keys_grow, place_stays}
 use Rattle.elsa_index.proofs.index_laws.insert_both.Goals as goal
 
 pub returns-clause-first_place : goal.returns-clause-first_place
@@ -7,9 +7,5 @@ returns-clause-first_place g c =
     let eq = g.K.PartialEq.eq in
     let target = g.V.HasTarget.target in
     let shown = g.V.HasTarget.shown in
-    let here = place_inserted eq g.met.K.Eq.laws target shown _ _ _ _ _ _ c.in_ok-place.ensures.accepted in
     let later = grows_inserted eq g.met.K.Eq.laws target shown _ _ _ _ _ _ c.in_ok-next.ensures.accepted in
-    place_stays (eq c.args.first.0) (keys_of c.insert_full.new.self) (keys_of c.insert_full-2.new.self) c.in_ok-place.place (keys_grow eq g.met.K.Eq.laws target shown _ _ later) here
-
-pub returns-clause-second_place : goal.returns-clause-second_place
-returns-clause-second_place g c = place_inserted g.K.PartialEq.eq g.met.K.Eq.laws g.V.HasTarget.target g.V.HasTarget.shown _ _ _ _ _ _ c.in_ok-next.ensures.accepted
+    place_stays (eq c.args.first.0) (keys_of c.insert_full.new.self) (keys_of c.insert_full-2.new.self) c.in_ok-place.place (keys_grow eq g.met.K.Eq.laws target shown _ _ later) c.in_ok-place.ensures.stands_at

@@ -1,4 +1,4 @@
-use Rattle.std.proofs.Common.{◌≡◌, ◌++◌, ℕ, length, encode_utf8, sym, subst, ap, ◌∙◌}
+use Rattle.std.proofs.Common.{ℕ, length, encode_utf8, sym, subst, ap, ◌∙◌}
 use Rattle.std.specs.Str.{IsCharBoundary}
 use Rattle.std.proofs.lemmas.Str.{IsCharBoundary-at_seam, IsUtf8-past_char, length-encode}
 use Rattle.elsa_interner.proofs.FirstCharacters.{first_cut, no_first}

@@ -1,0 +1,84 @@
+//! Callers that look up what they put in: their clauses are proved with no proof file.
+ghost use Rattle.std.specs.Prelude.{◌≡◌, Some, IfOk, find, position, slice_get};
+ghost use Rattle.std.specs.Map.{keys_of, lookup};
+ghost use Rattle.std.specs.Str.{bytes_eq};
+ghost use Rattle.std.specs.String.{string_bytes};
+
+use bumpalo::Bump;
+use elsa_index::index_map::FrozenIndexMap;
+use elsa_index::index_set::FrozenIndexSet;
+use elsa_interner::interner::Interner;
+use std::alloc::AllocError;
+use std::test::Fail;
+
+// The numbers of two names. Equal names have one, and others two; both are found afterwards.
+fn numbers(
+    names: &mut Interner<'_>,
+    first: &str,
+    second: &str,
+) -> Result<(usize, usize), AllocError>
+    ensures one { IfOk result (λ r. first.now ≡ second.now → r.0 ≡ r.1) }
+    ensures apart { IfOk result (λ r. r.0 ≡ r.1 → first.now ≡ second.now) }
+    ensures first { IfOk result (λ r. position (bytes_eq first.now) names.new ≡ Some r.0) }
+    ensures second { IfOk result (λ r. position (bytes_eq second.now) names.new ≡ Some r.1) }
+{
+    let number = names.put(first)?;
+    let next = names.put(second)?;
+    Ok((number, next))
+}
+
+// The value that a key has in a map afterwards.
+fn value_of<'a>(
+    map: &mut FrozenIndexMap<'a, u32, &'a str>,
+    key: u32,
+    value: &'a str,
+) -> Result<&'a str, AllocError>
+    ensures value { IfOk result (λ b. lookup (⟦<u32 as PartialEq>⟧.eq key) map.new ≡ Some b) }
+{
+    map.insert(key, value)
+}
+
+// The place that a key has in a map afterwards.
+fn place_of<'a>(
+    map: &mut FrozenIndexMap<'a, u32, &'a str>,
+    key: u32,
+    value: &'a str,
+) -> Result<usize, AllocError>
+    ensures place { IfOk result (λ place. position (⟦<u32 as PartialEq>⟧.eq key) (keys_of map.new) ≡ Some place) }
+{
+    let (place, _) = map.insert_full(key, value)?;
+    Ok(place)
+}
+
+// The place that a name has in a set afterwards, and the borrow that stands there.
+fn name_at<'a>(
+    names: &mut FrozenIndexSet<'a, String>,
+    name: String,
+) -> Result<(usize, &'a str), AllocError>
+    ensures place { IfOk result (λ r. position (λ kept. bytes_eq (string_bytes name) kept.now) names.new ≡ Some r.0) }
+    ensures kept { IfOk result (λ r. slice_get names.new r.0 ≡ Some r.1) }
+{
+    names.insert_full(name)
+}
+
+// The borrow that a name has in a set afterwards.
+fn name_of<'a>(names: &mut FrozenIndexSet<'a, String>, name: String) -> Result<&'a str, AllocError>
+    ensures { IfOk result (λ b. find (λ kept. bytes_eq (string_bytes name) kept.now) names.new ≡ Some b) }
+{
+    names.insert(name)
+}
+
+#[test]
+fn what_was_put_in_is_found(rt: HostRuntime) -> Result<(), Fail> {
+    let alloc = rt.alloc();
+    let arena = Bump::new(alloc);
+    let mut names = Interner::new(alloc, &arena);
+    let mut map = FrozenIndexMap::new(alloc, &arena);
+    let mut set: FrozenIndexSet<'_, String> = FrozenIndexSet::new(alloc, &arena);
+    let one = numbers(&mut names, "a", "a")? == (0, 0);
+    let keyed = value_of(&mut map, 7, "a")? == "a" && place_of(&mut map, 7, "b")? == 0;
+    let named = name_of(&mut set, String::from_str(alloc, "a")?)? == "a"
+        && name_at(&mut set, String::from_str(alloc, "b")?)? == (1, "b");
+    assert!(rt; one && keyed && named);
+    Ok(())
+}
