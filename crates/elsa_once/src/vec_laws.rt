@@ -184,5 +184,5 @@ pub fn place_by_length<'a, A: Allocator + Copy>(
 ) -> Result<usize, usize>
     ensures { IsBinarySearchResult (λ text. nat_cmp (length text.now) wanted) texts.now result }
 {
-    place_by_order(texts, |text| text.len().cmp(&wanted))
+    texts.binary_search_by(|text| text.len().cmp(&wanted))
 }
