@@ -137,7 +137,7 @@ pub fn ordered_inserted_apart<'a, K: Ord + Clone + Drop, V: StableDeref<'a>, A: 
     one: (K, V),
     other: (K, V),
 ) -> Result<FrozenBTreeMap<'a, K, V, A>, AllocError>
-    requires equal_clones { (k c : K) → K.is_clone k c → eq_by_cmp K.cmp k c ≡ true }
+    requires equal_clones { (k c : K) → K.is_clone k c → K.eq k c ≡ true }
     ensures source { IfOk result (λ _. Inserts (eq_by_cmp K.cmp) V.target V.shown (value_at (eq_by_cmp K.cmp) tree.old) one.0 one.1 (value_at (eq_by_cmp K.cmp) tree.new)) }
     ensures copy { IfOk result (λ copy. Inserts (eq_by_cmp K.cmp) V.target V.shown (value_at (eq_by_cmp K.cmp) tree.old) other.0 other.1 (value_at (eq_by_cmp K.cmp) copy)) }
     ensures refused { OnErr result ((tree.new ≡ tree.old) ⊎ Inserts (eq_by_cmp K.cmp) V.target V.shown (value_at (eq_by_cmp K.cmp) tree.old) one.0 one.1 (value_at (eq_by_cmp K.cmp) tree.new)) }
