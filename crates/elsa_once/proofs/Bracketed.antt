@@ -7,7 +7,7 @@ use Rattle.std.specs.List.Sorted.{IsBinarySearchResult, IsPartitionPoint, IsPart
 use Rattle.std.specs.Ordering.{ordering_index}
 use Rattle.std.specs.declared.cmp.Ordering.{Ordering}
 use Rattle.std.specs.declared.cmp.Ordering.TheVariants.{Less, Equal, Greater}
-use Rattle.elsa_once.specs.Search.{Call, MadeInTurn, Answered, IsBetween, Brackets, Searched, Compares, ComparesAt, AnswersByItem, AnswersByPlace, Rises, Splits, Falls, Parts}
+use Rattle.elsa_once.specs.Search.{Call, MadeInTurn, Answered, IsBetween, Brackets, Searched, ComparesAt, AnswersByItem, AnswersByPlace, Rises, Splits, Falls, Parts}
 
 -- a call that answered was made about an item
 called : {F B R : Type 0} (step : F → B → R → F → Type 0) (items : List B) (start : F) (calls : List (Call R)) (end : F) (i : ℕ) (r : R)
@@ -140,13 +140,6 @@ module _ {F B R : Type 0} (step : F → B → R → F → Type 0) (items : List 
 pub splits_by_item : {F B : Type 0} (step : F → B → Ordering → F → Type 0) (items : List B) (start : F) (r : Result ℕ ℕ) → Searched step items start (λ calls. Brackets (length items) (Answered calls) r)
     → (o : B → Ordering) → AnswersByItem step start o → IsBinarySearchResult o items r
 splits_by_item step items start r found o by_item = splits_list step items start r found o (said_by_item step items start o by_item)
-
-pub splits_by_key : {F B K : Type 0} (cmp : K → K → Ordering) (key : K) (step : F → B → K → F → Type 0) (items : List B) (start : F) (r : Result ℕ ℕ)
-    → Searched (Compares cmp key step) items start (λ calls. Brackets (length items) (Answered calls) r)
-    → (key_of : B → K) → AnswersByItem step start key_of → IsBinarySearchResult (λ b. cmp (key_of b) key) items r
-splits_by_key cmp key step items start r found key_of by_item =
-    splits_by_item (Compares cmp key step) items start r found (λ b. cmp (key_of b) key)
-    (λ item o after (k, called, is). (sym is ∙ ap (λ k. cmp k key) (by_item item k after called).0, (by_item item k after called).1))
 
 pub parts_by_item : {F B : Type 0} (step : F → B → Bool → F → Type 0) (items : List B) (start : F) (i : ℕ) → Searched step items start (λ calls. IsBetween (length items) (Answered calls) true false i)
     → (test : B → Bool) → AnswersByItem step start test → IsPartitionedBy test items → IsPartitionPoint (λ b. test b ≡ true) (λ b. test b ≡ false) items i

@@ -185,13 +185,25 @@ fn by_key<'a>(map: &Seeded<'a>, key: u32) -> Option<&'a str> {
     Some(map[&key])
 }
 
+// The value at a text in a clone of an ordered map.
+fn in_a_clone<'a>(
+    alloc: Global,
+    arena: &'a Bump,
+    key: &str,
+) -> Result<Option<&'a str>, AllocError> {
+    let mut map: FrozenBTreeMap<'a, String, &'a str> = FrozenBTreeMap::new(alloc, arena);
+    let key = String::from_str(alloc, key)?;
+    map.insert(key.clone()?, "a")?;
+    Ok(map.clone()?.get(&key))
+}
+
 #[test]
 fn a_clone_and_its_source_part(rt: HostRuntime) -> Result<(), Fail> {
     let arena = Bump::new(rt.alloc());
     let hasher = RandomState::new(&rt)?;
     let (map, copy, equal) = parted(rt.alloc(), &arena, hasher)?;
     assert!(rt; equal && by_key(&map, 2).is_none() && by_key(&copy, 2) == Some("b"));
-    assert!(rt; by_key(&copy, 1) == Some("a"));
+    assert!(rt; by_key(&copy, 1) == Some("a") && in_a_clone(rt.alloc(), &arena, "x")? == Some("a"));
     Ok(())
 }
 

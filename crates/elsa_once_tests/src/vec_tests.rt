@@ -1,7 +1,12 @@
 //! What no clause says of the vector: worked rows, upstream's cases, and the places at which a search asks.
+ghost use Rattle.std.specs.Prelude.{◌≡◌, false, length, ltb, true};
+ghost use Rattle.std.specs.List.Sorted.{IsBinarySearchResult, IsPartitionPoint, IsPartitionedBy};
+ghost use Rattle.std.specs.Ordering.{nat_cmp};
+
 use bumpalo::Bump;
 use elsa_once::stable::Own;
 use elsa_once::vec::{Cursor, FrozenVec};
+use elsa_once::vec_laws::{read_on, walked};
 use std::alloc::{AllocError, Global};
 use std::cmp::Ordering;
 use std::test::Fail;
@@ -149,7 +154,7 @@ fn collected_cloned_and_taken_apart(rt: HostRuntime) -> Result<(), Fail> {
 
 // Whether an iterator gives these texts, collected and counted.
 fn walks(alloc: Global, texts: &Texts<'_>, want: &[&str]) -> Result<bool, AllocError> {
-    let all: Vec<&str> = texts.iter().collect(alloc)?;
+    let all = walked(alloc, texts)?;
     Ok(all.as_slice() == want && texts.iter().count() == want.len())
 }
 
@@ -170,10 +175,11 @@ fn a_cursor_amid_pushes(rt: HostRuntime) -> Result<(), Fail> {
     let arena = Bump::new(rt.alloc());
     let mut names: Texts<'_> = FrozenVec::new(rt.alloc(), &arena);
     let mut cursor = Cursor::new();
-    names.push("a")?;
-    let seen = [cursor.next(&names), cursor.next(&names)];
+    let (none, pushed, first) = read_on(&mut names, &mut cursor, "a");
+    let end = cursor.next(&names);
     names.push("b")?;
-    assert!(rt; seen == [Some("a"), None] && cursor.next(&names) == Some("b"));
+    assert!(rt; none.is_none() && pushed.is_ok() && first == Some("a"));
+    assert!(rt; end.is_none() && cursor.next(&names) == Some("b"));
     Ok(())
 }
 
@@ -189,10 +195,17 @@ fn finds<'a>(texts: &Texts<'a>, rows: &[(&'a str, Result<usize, usize>)]) -> boo
     true
 }
 
-// The same by their lengths.
+// The place of a text of this length, or where it would go.
+fn of_length(texts: &Texts<'_>, wanted: usize) -> Result<usize, usize>
+    ensures { IsBinarySearchResult (λ text. nat_cmp (length text.now) wanted) texts.now result }
+{
+    texts.binary_search_by_key(&wanted, |text| text.len())
+}
+
+// Whether each length is found as it stands beside it.
 fn finds_by_length(texts: &Texts<'_>, rows: &[(usize, Result<usize, usize>)]) -> bool {
     for row in rows {
-        if texts.binary_search_by_key(&row.0, |text| text.len()) != row.1 {
+        if of_length(texts, row.0) != row.1 {
             return false;
         }
     }
@@ -200,8 +213,10 @@ fn finds_by_length(texts: &Texts<'_>, rows: &[(usize, Result<usize, usize>)]) ->
 }
 
 // Where the texts shorter than this end.
-fn shorter(texts: &Texts<'_>, length: usize) -> usize {
-    texts.partition_point(|text| text.len() < length)
+fn shorter(texts: &Texts<'_>, limit: usize) -> usize
+    ensures { IsPartitionedBy (λ text. ltb (length text.now) limit) texts.now → IsPartitionPoint (λ text. ltb (length text.now) limit ≡ true) (λ text. ltb (length text.now) limit ≡ false) texts.now result }
+{
+    texts.partition_point(|text| text.len() < limit)
 }
 
 #[test]

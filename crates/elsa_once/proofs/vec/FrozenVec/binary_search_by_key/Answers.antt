@@ -1,4 +1,4 @@
-use Rattle.elsa_once.proofs.Bracketed.{splits, splits_by_key}
+use Rattle.elsa_once.proofs.Bracketed.{splits, splits_by_item}
 use Rattle.elsa_once.proofs.vec.FrozenVec.binary_search_by_key.Goals as goal
 
 pub returns-clause-bracket : goal.returns-clause-bracket
@@ -12,4 +12,4 @@ returns-clause-split g c =
 pub returns-clause-by_item : goal.returns-clause-by_item
 returns-clause-by_item g c =
     let found = rw c.as_slice.ensures at c.binary_search_by_key.ensures in
-    λ keyed by_item. splits_by_key g.K.Ord.cmp c.args.key.now _ _ _ _ found keyed by_item
+    λ o by_item. splits_by_item _ _ _ _ found o by_item
