@@ -6,7 +6,9 @@ ghost use Rattle.std.specs.Ordering.{nat_cmp};
 use bumpalo::Bump;
 use elsa_once::stable::Own;
 use elsa_once::vec::{Cursor, FrozenVec};
-use elsa_once::vec_laws::{read_on, walked};
+use elsa_once::vec_laws::{
+    equal_both_ways, equal_through, equal_where_the_same, made_again, pushed_apart, read_on, walked,
+};
 use std::alloc::{AllocError, Global};
 use std::cmp::Ordering;
 use std::test::Fail;
@@ -126,27 +128,27 @@ fn parted_pair<'a>(
     texts: [&'a str; 4],
 ) -> Result<(Texts<'a>, Texts<'a>, bool), AllocError> {
     let mut one: Texts<'a> = FrozenVec::from_iter(alloc, arena, texts.into_iter())?;
-    let mut other = one.clone()?;
-    let equal = one == other;
-    one.push("e")?;
-    other.push("f")?;
+    let equal = equal_where_the_same(&one, &one.clone()?);
+    let other = pushed_apart(&mut one, "e", "f")?;
     Ok((one, other, equal))
 }
 
 // Taken apart and made again, and once more after the inner vector was cleared.
-fn made_again<'a>(arena: &'a Bump, texts: Texts<'a>) -> (usize, Option<&'a str>, bool) {
-    let mut again: Texts<'a> = FrozenVec::from_vec(arena, texts.into_vec());
-    let (count, last) = (again.len(), again.last());
+fn taken_apart<'a>(arena: &'a Bump, texts: Texts<'a>) -> (usize, Option<&'a str>, bool) {
+    let (between, mut again) = made_again(arena, texts, 4);
+    let (count, is_last) = (again.len(), again.last() == between);
     again.as_mut().clear();
-    (count, last, again.is_empty())
+    (count, between, is_last && again.is_empty())
 }
 
 #[test]
 fn collected_cloned_and_taken_apart(rt: HostRuntime) -> Result<(), Fail> {
     let arena = Bump::new(rt.alloc());
     let (one, other, equal) = parted_pair(rt.alloc(), &arena, ["a", "b", "c", "d"])?;
-    assert!(rt; equal && one != other && other.get(4) == Some("f"));
-    assert!(rt; made_again(&arena, one) == (5, Some("e"), true));
+    let both = equal_both_ways(&one, &other);
+    let through = equal_through(&one, &one, &other);
+    assert!(rt; equal && !both.0 && !both.1 && through.0 && !through.1 && !through.2);
+    assert!(rt; other.get(4) == Some("f") && taken_apart(&arena, one) == (5, Some("e"), true));
     Ok(())
 }
 
