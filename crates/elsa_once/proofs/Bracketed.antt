@@ -7,7 +7,7 @@ use Rattle.std.specs.List.Sorted.{IsBinarySearchResult, IsPartitionPoint, IsPart
 use Rattle.std.specs.Ordering.{ordering_index}
 use Rattle.std.specs.declared.cmp.Ordering.{Ordering}
 use Rattle.std.specs.declared.cmp.Ordering.TheVariants.{Less, Equal, Greater}
-use Rattle.elsa_once.specs.Search.{Call, MadeInTurn, Answered, IsBetween, Brackets, Searched, ComparesAt, AnswersByPlace, Rises, Splits, Falls, Parts}
+use Rattle.elsa_once.specs.Search.{Call, MadeInTurn, Answered, IsBetween, Brackets, Searched, ComparesAt, AnswersByItem, AnswersByPlace, Rises, Splits, Falls, Parts}
 
 -- a call that answered was made about an item
 called : {F B R : Type 0} (step : F → B → R → F → Type 0) (items : List B) (start : F) (calls : List (Call R)) (end : F) (i : ℕ) (r : R)
@@ -111,6 +111,41 @@ sorted_place {B} cmp target items r bracket = by r bracket
 
 -- ---- where the answers hang on the item alone
 
+-- a search splits a list as a search of a slice does
+splits_list : {F B : Type 0} (step : F → B → Ordering → F → Type 0) (items : List B) (start : F) (r : Result ℕ ℕ) → Searched step items start (λ calls. Brackets (length items) (Answered calls) r)
+    → (o : B → Ordering) → ((d : B) → AnswersByPlace step items start (λ k. o (get_or items k d))) → IsBinarySearchResult o items r
+splits_list step items start (Ok i) found o said = λ d. sym (said d found.calls found.end i Equal found.in_turn found.bracket)
+splits_list {B = B} step items start (Err i) found o said =
+    λ rises.
+    let at = λ (d : B). splits items start step (Err i) (λ k. o (get_or items k d)) found (said d) (λ i j up within. rises i j d up within) in
+    ((λ k d low high. (at d).1 k high), λ k d low high. (at d).2 k low high)
+
+-- a partition parts a list as that of a slice does
+parts_list : {F B : Type 0} (step : F → B → Bool → F → Type 0) (items : List B) (start : F) (i : ℕ) → Searched step items start (λ calls. IsBetween (length items) (Answered calls) true false i)
+    → (test : B → Bool) → ((d : B) → AnswersByPlace step items start (λ k. test (get_or items k d))) → IsPartitionedBy test items → IsPartitionPoint (λ b. test b ≡ true) (λ b. test b ≡ false) items i
+parts_list {B = B} step items start i found test said =
+    λ falls.
+    let at = λ (d : B). parts items start step i (λ k. test (get_or items k d)) found (said d) (λ i j up within. falls i j d up within) in
+    ((λ k d low high. (at d).1 k high), λ k d low high. (at d).2 k low high)
+
+-- a closure that stays as it is
+module _ {F B R : Type 0} (step : F → B → R → F → Type 0) (items : List B) (start : F) (o : B → R) (by_item : AnswersByItem step start o) where
+  said_by_item : (d : B) → AnswersByPlace step items start (λ k. o (get_or items k d))
+  said_by_item d calls end i r made answered = read (slice_get items i) refl (answered_so step items start (λ item r. r ≡ o item) by_item calls end i r made answered)
+    where
+      read : (found : Option B) → slice_get items i ≡ found → IsSomeAnd found (λ item. r ≡ o item) → r ≡ o (get_or items i d)
+      read None at h = absurd h
+      read (Some item) at h = h ∙ ap o (sym (get_or_from_slice_get items i item d at))
+
+pub splits_by_item : {F B : Type 0} (step : F → B → Ordering → F → Type 0) (items : List B) (start : F) (r : Result ℕ ℕ) → Searched step items start (λ calls. Brackets (length items) (Answered calls) r)
+    → (o : B → Ordering) → AnswersByItem step start o → IsBinarySearchResult o items r
+splits_by_item step items start r found o by_item = splits_list step items start r found o (said_by_item step items start o by_item)
+
+pub parts_by_item : {F B : Type 0} (step : F → B → Bool → F → Type 0) (items : List B) (start : F) (i : ℕ) → Searched step items start (λ calls. IsBetween (length items) (Answered calls) true false i)
+    → (test : B → Bool) → AnswersByItem step start test → IsPartitionedBy test items → IsPartitionPoint (λ b. test b ≡ true) (λ b. test b ≡ false) items i
+parts_by_item step items start i found test by_item = parts_list step items start i found test (said_by_item step items start test by_item)
+
+-- a closure that may change
 module _ {F B R : Type 0} (g : Mut F (B × Unit {0}) R) (P : B → R → Type 0) (items : List B) (start : F) (always : AlwaysReturns g (λ a r. P a.0 r) start) where
   after_call : (f : F) (b : B) (r : R) (q : F) → Called g f (b, tt) r q → AlwaysReturns g (λ a r. P a.0 r) f → P b r × AlwaysReturns g (λ a r. P a.0 r) q
   after_call f b r q s h = ((h.at ((b, tt) ∷ []) r q s).0, record { at = λ xs. (h.at ((b, tt) ∷ xs) r q s).1 })
@@ -133,23 +168,10 @@ module _ {F B R : Type 0} (g : Mut F (B × Unit {0}) R) (items : List B) (start 
       let call = answered_by_item g (λ b r. r ≡ o b) items start always calls end i r made answered in
       call.2 ∙ ap o (sym (get_or_from_slice_get items i call.0 d call.1))
 
--- a search splits a list as a search of a slice does
-pub splits_items : {F B : Type 0} (g : Mut F (B × Unit {0}) Ordering) (items : List B) (start : F) (r : Result ℕ ℕ)
-    → ((order : ℕ → Ordering) → AnswersByPlace (λ p b r q. Called g p (b, tt) r q) items start order → Rises (length items) order → Splits (length items) order r)
-    → Searched (λ p b r q. Called g p (b, tt) r q) items start (λ calls. Brackets (length items) (Answered calls) r)
+pub splits_items : {F B : Type 0} (g : Mut F (B × Unit {0}) Ordering) (items : List B) (start : F) (r : Result ℕ ℕ) → Searched (λ p b r q. Called g p (b, tt) r q) items start (λ calls. Brackets (length items) (Answered calls) r)
     → (o : B → Ordering) → AlwaysReturns g (λ a r. r ≡ o a.0) start → IsBinarySearchResult o items r
-splits_items g items start (Ok i) split found o always =
-    λ d. sym (by_place g items start o always d found.calls found.end i Equal found.in_turn found.bracket)
-splits_items {B = B} g items start (Err i) split found o always =
-    λ rises.
-    let at = λ (d : B). split (λ k. o (get_or items k d)) (by_place g items start o always d) (λ i j up within. rises i j d up within) in
-    ((λ k d low high. (at d).1 k high), λ k d low high. (at d).2 k low high)
+splits_items g items start r found o always = splits_list (λ p b r q. Called g p (b, tt) r q) items start r found o (by_place g items start o always)
 
--- a partition parts a list as that of a slice does
-pub parts_items : {F B : Type 0} (g : Mut F (B × Unit {0}) Bool) (items : List B) (start : F) (i : ℕ)
-    → ((answer : ℕ → Bool) → AnswersByPlace (λ p b r q. Called g p (b, tt) r q) items start answer → Falls (length items) answer → Parts (length items) answer i)
+pub parts_items : {F B : Type 0} (g : Mut F (B × Unit {0}) Bool) (items : List B) (start : F) (i : ℕ) → Searched (λ p b r q. Called g p (b, tt) r q) items start (λ calls. IsBetween (length items) (Answered calls) true false i)
     → (test : B → Bool) → AlwaysReturns g (λ a r. r ≡ test a.0) start → IsPartitionedBy test items → IsPartitionPoint (λ b. test b ≡ true) (λ b. test b ≡ false) items i
-parts_items {B = B} g items start i split test always =
-    λ falls.
-    let at = λ (d : B). split (λ k. test (get_or items k d)) (by_place g items start test always d) (λ i j up within. falls i j d up within) in
-    ((λ k d low high. (at d).1 k high), λ k d low high. (at d).2 k low high)
+parts_items g items start i found test always = parts_list (λ p b r q. Called g p (b, tt) r q) items start i found test (by_place g items start test always)

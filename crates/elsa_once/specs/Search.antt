@@ -3,7 +3,7 @@
 -- A search asks a closure about items of the list, one after another. Nothing here names the place that is asked next. What binds a search is that
 -- each call starts where the one before left the closure, that no place is asked twice, that the calls are few, and that the place which it
 -- answers stands between two answers that were given: the bracket. So a closure that contradicts itself is held to what it said, and no more.
--- The last part says what the bracket comes to where the answers hang on the place alone and stand in order.
+-- The last parts say what the bracket comes to where the answers hang on the place alone and stand in order, and when they hang on the item alone.
 use Rattle.std.specs.Prelude.{◌≡◌, ◌≢◌, ℕ, ◌-◌, ◌<◌, ◌≤◌, ◌^◌, ◌⊎◌, Bool, true, false, List, [], ◌∷◌, IsSomeAnd, Some, Ok, Err, Result, length, slice_get}
 use Rattle.std.specs.Ordering.{ordering_index}
 use Rattle.std.specs.declared.cmp.Ordering.{Ordering}
@@ -88,3 +88,9 @@ Falls n answer = (i j : ℕ) → i ≤ j → j < n → answer j ≡ true → ans
 -- exactly the places below i are true
 abbrev pub Parts : ℕ → (ℕ → Bool) → ℕ → Type 0
 Parts n answer i = (i ≤ n) × ((k : ℕ) → k < i → answer k ≡ true) × ((k : ℕ) → i ≤ k → k < n → answer k ≡ false)
+
+-- ---- where the answers hang on the item alone
+
+-- a call about an item answers what `answer` gives for it, and leaves the closure as it was
+abbrev pub AnswersByItem : {F B R : Type 0} → (F → B → R → F → Type 0) → F → (B → R) → Type 0
+AnswersByItem {F} {B} {R} step start answer = (item : B) (r : R) (after : F) → step start item r after → (r ≡ answer item) × (after ≡ start)

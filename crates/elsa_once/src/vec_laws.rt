@@ -155,7 +155,7 @@ pub fn read_on<'a, T: StableDeref<'a>, A: Allocator + Copy>(
 
 // ---- searches
 
-/// Where the closure's answers hang on the item alone, a search answers as a search of a slice does.
+/// Where the closure's answers hang on the item alone, a search answers as a search of a slice does, also where the calls change the closure.
 pub fn place_by_order<'a, T: StableDeref<'a>, A: Allocator + Copy, F: FnMut(T::Borrow) -> Ordering>(
     items: &FrozenVec<'a, T, A>,
     order: F,
@@ -177,12 +177,13 @@ pub fn place_by_test<'a, T: StableDeref<'a>, A: Allocator + Copy, F: FnMut(T::Bo
     items.partition_point(belongs)
 }
 
-/// A use of both: in texts sorted by length, the place of one of this length, or where the shorter ones end.
+/// A search by a closure that stays as it is, which needs no law: in texts sorted by length, the place of one of this length, or where the
+/// shorter ones end.
 pub fn place_by_length<'a, A: Allocator + Copy>(
     texts: &FrozenVec<'a, String, A>,
     wanted: usize,
 ) -> Result<usize, usize>
     ensures { IsBinarySearchResult (λ text. nat_cmp (length text.now) wanted) texts.now result }
 {
-    place_by_order(texts, |text| text.len().cmp(&wanted))
+    texts.binary_search_by(|text| text.len().cmp(&wanted))
 }

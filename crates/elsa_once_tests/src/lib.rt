@@ -2,6 +2,8 @@
 #![tactic(auto)]
 
 #[cfg(test)]
+mod law_tests;
+#[cfg(test)]
 mod map_tests;
 #[cfg(test)]
 mod refusals;

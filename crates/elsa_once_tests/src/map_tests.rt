@@ -2,6 +2,10 @@
 ghost use Rattle.std.specs.Prelude.{[], refl};
 
 use bumpalo::Bump;
+use elsa_once::map::laws::{
+    hashed_equal_as_functions, hashed_inserted_apart, hashed_there_and_back,
+    ordered_equal_as_functions, ordered_inserted_apart, ordered_there_and_back,
+};
 use elsa_once::map::{FrozenBTreeMap, FrozenMap};
 use elsa_once::stable::Own;
 use std::alloc::{AllocError, Global};
@@ -134,7 +138,7 @@ fn equality_asks_for_no_hash_and_no_order(rt: HostRuntime) -> Result<(), Fail> {
     let down = [(NoHash(2), Own(20)), (NoHash(1), Own(10))];
     let mut first = without_hash(alloc, &arena, up)?;
     let second = without_hash(alloc, &arena, down)?;
-    let equal = first == second;
+    let equal = ordered_equal_as_functions(&first, &second);
     first.insert(NoHash(3), Own(30))?;
     assert!(rt; equal && first != second);
     Ok(())
@@ -163,7 +167,7 @@ fn keys_that_hash_alike_are_told_apart(rt: HostRuntime) -> Result<(), Fail> {
 
 type Seeded<'a> = FrozenMap<'a, u32, &'a str, RandomState>;
 
-// A map of one pair and a clone of it with one more, and whether the two were equal.
+// A map of one pair and a clone of it with one more, which was taken apart and made again, and whether all went so.
 fn parted<'a>(
     alloc: Global,
     arena: &'a Bump,
@@ -171,10 +175,10 @@ fn parted<'a>(
 ) -> Result<(Seeded<'a>, Seeded<'a>, bool), AllocError> {
     let mut map: Seeded<'a> = FrozenMap::with_hasher(alloc, arena, hasher);
     map.insert(1, "a")?;
-    let mut copy = map.clone()?;
-    let equal = copy == map;
-    copy.insert(2, "b")?;
-    Ok((map, copy, equal))
+    let equal = hashed_equal_as_functions(&map, &map.clone()?);
+    let copy = hashed_inserted_apart(&mut map, (1, "c"), (2, "b"))?;
+    let (between, copy) = hashed_there_and_back(alloc, arena, copy, &2);
+    Ok((map, copy, equal && between == Some("b")))
 }
 
 // The value at a key by `[]`, if the key is there.
@@ -185,13 +189,26 @@ fn by_key<'a>(map: &Seeded<'a>, key: u32) -> Option<&'a str> {
     Some(map[&key])
 }
 
+// The value at a text that went into a clone alone, in a clone of that.
+fn in_a_clone<'a>(
+    alloc: Global,
+    arena: &'a Bump,
+    key: &str,
+) -> Result<Option<&'a str>, AllocError> {
+    let mut map: FrozenBTreeMap<'a, String, &'a str> = FrozenBTreeMap::new(alloc, arena);
+    let key = String::from_str(alloc, key)?;
+    let first = String::from_str(alloc, "first")?;
+    let copy = ordered_inserted_apart(&mut map, (first, "b"), (key.clone()?, "a"))?;
+    Ok(copy.clone()?.get(&key))
+}
+
 #[test]
 fn a_clone_and_its_source_part(rt: HostRuntime) -> Result<(), Fail> {
     let arena = Bump::new(rt.alloc());
     let hasher = RandomState::new(&rt)?;
     let (map, copy, equal) = parted(rt.alloc(), &arena, hasher)?;
     assert!(rt; equal && by_key(&map, 2).is_none() && by_key(&copy, 2) == Some("b"));
-    assert!(rt; by_key(&copy, 1) == Some("a"));
+    assert!(rt; by_key(&copy, 1) == Some("a") && in_a_clone(rt.alloc(), &arena, "x")? == Some("a"));
     Ok(())
 }
 
@@ -216,9 +233,14 @@ fn remove_one(map: &mut Based<'_>) {
     map.as_mut().remove(&1);
 }
 
-// How many pairs the inner map of a clone has.
-fn inner_count(map: &Based<'_>) -> Result<usize, AllocError> {
-    Ok(map.clone()?.into_map().len())
+// The value at 1 in the inner map of a clone, and how many pairs that has.
+fn inner<'a>(
+    alloc: Global,
+    arena: &'a Bump,
+    map: &Based<'a>,
+) -> Result<(Option<&'a str>, usize), AllocError> {
+    let (value, again) = ordered_there_and_back(alloc, arena, map.clone()?, &1);
+    Ok((value, again.into_map().len()))
 }
 
 #[test]
@@ -228,7 +250,8 @@ fn an_inner_map_is_a_base(rt: HostRuntime) -> Result<(), Fail> {
     let first = map.insert(1, "a")?;
     remove_one(&mut map);
     let second = map.insert(1, "a")?;
-    assert!(rt; first == "base" && second == "a" && inner_count(&map)? == 1);
+    assert!(rt; first == "base" && second == "a");
+    assert!(rt; inner(rt.alloc(), &arena, &map)? == (Some("a"), 1));
     assert!(rt; at_one(&map) == Some("a"));
     Ok(())
 }

@@ -1,7 +1,14 @@
 //! What no clause says of the vector: worked rows, upstream's cases, and the places at which a search asks.
+ghost use Rattle.std.specs.Prelude.{◌≡◌, false, length, ltb, true};
+ghost use Rattle.std.specs.List.Sorted.{IsBinarySearchResult, IsPartitionPoint, IsPartitionedBy};
+ghost use Rattle.std.specs.Ordering.{nat_cmp};
+
 use bumpalo::Bump;
 use elsa_once::stable::Own;
 use elsa_once::vec::{Cursor, FrozenVec};
+use elsa_once::vec_laws::{
+    equal_both_ways, equal_through, equal_where_the_same, made_again, pushed_apart, read_on, walked,
+};
 use std::alloc::{AllocError, Global};
 use std::cmp::Ordering;
 use std::test::Fail;
@@ -121,27 +128,27 @@ fn parted_pair<'a>(
     texts: [&'a str; 4],
 ) -> Result<(Texts<'a>, Texts<'a>, bool), AllocError> {
     let mut one: Texts<'a> = FrozenVec::from_iter(alloc, arena, texts.into_iter())?;
-    let mut other = one.clone()?;
-    let equal = one == other;
-    one.push("e")?;
-    other.push("f")?;
+    let equal = equal_where_the_same(&one, &one.clone()?);
+    let other = pushed_apart(&mut one, "e", "f")?;
     Ok((one, other, equal))
 }
 
 // Taken apart and made again, and once more after the inner vector was cleared.
-fn made_again<'a>(arena: &'a Bump, texts: Texts<'a>) -> (usize, Option<&'a str>, bool) {
-    let mut again: Texts<'a> = FrozenVec::from_vec(arena, texts.into_vec());
-    let (count, last) = (again.len(), again.last());
+fn taken_apart<'a>(arena: &'a Bump, texts: Texts<'a>) -> (usize, Option<&'a str>, bool) {
+    let (between, mut again) = made_again(arena, texts, 4);
+    let (count, is_last) = (again.len(), again.last() == between);
     again.as_mut().clear();
-    (count, last, again.is_empty())
+    (count, between, is_last && again.is_empty())
 }
 
 #[test]
 fn collected_cloned_and_taken_apart(rt: HostRuntime) -> Result<(), Fail> {
     let arena = Bump::new(rt.alloc());
     let (one, other, equal) = parted_pair(rt.alloc(), &arena, ["a", "b", "c", "d"])?;
-    assert!(rt; equal && one != other && other.get(4) == Some("f"));
-    assert!(rt; made_again(&arena, one) == (5, Some("e"), true));
+    let both = equal_both_ways(&one, &other);
+    let through = equal_through(&one, &one, &other);
+    assert!(rt; equal && !both.0 && !both.1 && through.0 && !through.1 && !through.2);
+    assert!(rt; other.get(4) == Some("f") && taken_apart(&arena, one) == (5, Some("e"), true));
     Ok(())
 }
 
@@ -149,7 +156,7 @@ fn collected_cloned_and_taken_apart(rt: HostRuntime) -> Result<(), Fail> {
 
 // Whether an iterator gives these texts, collected and counted.
 fn walks(alloc: Global, texts: &Texts<'_>, want: &[&str]) -> Result<bool, AllocError> {
-    let all: Vec<&str> = texts.iter().collect(alloc)?;
+    let all = walked(alloc, texts)?;
     Ok(all.as_slice() == want && texts.iter().count() == want.len())
 }
 
@@ -170,10 +177,11 @@ fn a_cursor_amid_pushes(rt: HostRuntime) -> Result<(), Fail> {
     let arena = Bump::new(rt.alloc());
     let mut names: Texts<'_> = FrozenVec::new(rt.alloc(), &arena);
     let mut cursor = Cursor::new();
-    names.push("a")?;
-    let seen = [cursor.next(&names), cursor.next(&names)];
+    let (none, pushed, first) = read_on(&mut names, &mut cursor, "a");
+    let end = cursor.next(&names);
     names.push("b")?;
-    assert!(rt; seen == [Some("a"), None] && cursor.next(&names) == Some("b"));
+    assert!(rt; none.is_none() && pushed.is_ok() && first == Some("a"));
+    assert!(rt; end.is_none() && cursor.next(&names) == Some("b"));
     Ok(())
 }
 
@@ -189,10 +197,17 @@ fn finds<'a>(texts: &Texts<'a>, rows: &[(&'a str, Result<usize, usize>)]) -> boo
     true
 }
 
-// The same by their lengths.
+// The place of a text of this length, or where it would go.
+fn of_length(texts: &Texts<'_>, wanted: usize) -> Result<usize, usize>
+    ensures { IsBinarySearchResult (λ text. nat_cmp (length text.now) wanted) texts.now result }
+{
+    texts.binary_search_by_key(&wanted, |text| text.len())
+}
+
+// Whether each length is found as it stands beside it.
 fn finds_by_length(texts: &Texts<'_>, rows: &[(usize, Result<usize, usize>)]) -> bool {
     for row in rows {
-        if texts.binary_search_by_key(&row.0, |text| text.len()) != row.1 {
+        if of_length(texts, row.0) != row.1 {
             return false;
         }
     }
@@ -200,8 +215,10 @@ fn finds_by_length(texts: &Texts<'_>, rows: &[(usize, Result<usize, usize>)]) ->
 }
 
 // Where the texts shorter than this end.
-fn shorter(texts: &Texts<'_>, length: usize) -> usize {
-    texts.partition_point(|text| text.len() < length)
+fn shorter(texts: &Texts<'_>, limit: usize) -> usize
+    ensures { IsPartitionedBy (λ text. ltb (length text.now) limit) texts.now → IsPartitionPoint (λ text. ltb (length text.now) limit ≡ true) (λ text. ltb (length text.now) limit ≡ false) texts.now result }
+{
+    texts.partition_point(|text| text.len() < limit)
 }
 
 #[test]

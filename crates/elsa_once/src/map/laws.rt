@@ -1,7 +1,7 @@
 //! What a caller may rely on, each law on the contract of a function that makes the calls.
 //!
 //! The laws follow from the contracts of the maps alone, as any caller's own proofs do.
-ghost use Rattle.std.specs.Prelude.{◌≡◌, ◌+◌, ◌⊎◌, ◌↔◌, Bool, false, true, IfOk, IsTrue, None, OnErr, Some, if◌then◌else◌, length};
+ghost use Rattle.std.specs.Prelude.{◌≡◌, ◌+◌, ◌⊎◌, ◌↔◌, All, Bool, false, true, IfOk, IsSome, IsTrue, None, OnErr, Some, if◌then◌else◌, length};
 ghost use Rattle.std.specs.Option.{option_eq};
 ghost use Rattle.std.specs.Ordering.{eq_by_cmp};
 ghost use Rattle.elsa_once.specs.FirstWins.{Inserts, Keeps, value_at};
@@ -32,7 +32,7 @@ pub fn keeps_earlier_values<'a, M: MapForm<'a>>(
 }
 
 /// Of two insertions of one key the second is told that the key wasn't new and answers the first one's value, whatever
-/// is inserted between them: in one epoch a key is new at most once.
+/// is inserted between them, all of which the map then has: in one epoch a key is new at most once.
 pub fn is_new_once<'a, M: MapForm<'a>>(
     map: &mut M,
     first: (M::Key, M::Value),
@@ -50,6 +50,7 @@ pub fn is_new_once<'a, M: MapForm<'a>>(
     ensures once { IfOk result (λ answers. answers.1.1 ≡ false) }
     ensures same_value { IfOk result (λ answers. answers.1.0 ≡ answers.0.0) }
     ensures there { IfOk result (λ answers. value_at M.same (M.entries map.new) first.0 ≡ Some answers.0.0) }
+    ensures between { IfOk result (λ _. All (λ pair. IsSome (value_at M.same (M.entries map.new) pair.0)) between.items) }
     ensures kept { Keeps (value_at M.same (M.entries map.old)) (value_at M.same (M.entries map.new)) }
 {
     // Tells the proof that the keys' equality is an equivalence.
@@ -136,7 +137,7 @@ pub fn ordered_inserted_apart<'a, K: Ord + Clone + Drop, V: StableDeref<'a>, A: 
     one: (K, V),
     other: (K, V),
 ) -> Result<FrozenBTreeMap<'a, K, V, A>, AllocError>
-    requires equal_clones { (k c : K) → K.is_clone k c → eq_by_cmp K.cmp k c ≡ true }
+    requires equal_clones { (k c : K) → K.is_clone k c → K.eq k c ≡ true }
     ensures source { IfOk result (λ _. Inserts (eq_by_cmp K.cmp) V.target V.shown (value_at (eq_by_cmp K.cmp) tree.old) one.0 one.1 (value_at (eq_by_cmp K.cmp) tree.new)) }
     ensures copy { IfOk result (λ copy. Inserts (eq_by_cmp K.cmp) V.target V.shown (value_at (eq_by_cmp K.cmp) tree.old) other.0 other.1 (value_at (eq_by_cmp K.cmp) copy)) }
     ensures refused { OnErr result ((tree.new ≡ tree.old) ⊎ Inserts (eq_by_cmp K.cmp) V.target V.shown (value_at (eq_by_cmp K.cmp) tree.old) one.0 one.1 (value_at (eq_by_cmp K.cmp) tree.new)) }

@@ -218,7 +218,7 @@ impl<'a, K: Ord + Drop, V: StableDeref<'a>, A: Allocator + Copy> FrozenBTreeMap<
     pub fn clone(&self) -> Result<Self, AllocError>
     where
         K: Clone,
-        requires equal_clones { (k c : K) → K.is_clone k c → eq_by_cmp K.cmp k c ≡ true }
+        requires equal_clones { (k c : K) → K.is_clone k c → K.eq k c ≡ true }
         ensures content { IfOk result (λ copy. SameAt (value_at (eq_by_cmp K.cmp) self.now) (value_at (eq_by_cmp K.cmp) copy)) }
         ensures count { IfOk result (λ copy. length copy ≡ length self.now) }
     {

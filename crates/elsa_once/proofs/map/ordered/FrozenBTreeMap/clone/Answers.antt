@@ -14,7 +14,7 @@ use Rattle.elsa_once.proofs.map.ordered.FrozenBTreeMap.clone.Goals as goal
 pub loop-key-preserved : goal.loop-key-preserved
 loop-key-preserved g c =
     let eq = eq_by_cmp g.K.Ord.cmp in
-    let more = copies_more eq (eq_by_cmp_equiv g.met.K.Ord.total) (map deref_pair c.loop-key.yielded) c.loop-key.copy.entries c.insert.new.self.entries c.in-Some.key.now c.in_ok-key.key c.in-Some.value.now c.loop-key.invariant.content (c.requires.equal_clones c.in-Some.key.now c.in_ok-key.key c.in_ok-key.ensures.cases) c.in-Ok.ensures.updates.0 in
+    let more = copies_more eq (eq_by_cmp_equiv g.met.K.Ord.total) (map deref_pair c.loop-key.yielded) c.loop-key.copy.entries c.insert.new.self.entries c.in-Some.key.now c.in_ok-key.key c.in-Some.value.now c.loop-key.invariant.content (sym (g.met.K.Ord.matches_eq c.in-Some.key.now c.in_ok-key.key) ∙ c.requires.equal_clones c.in-Some.key.now c.in_ok-key.key c.in_ok-key.ensures.cases) c.in-Ok.ensures.updates.0 in
     record {
       content = λ q. more q ∙ ap (λ xs. update_all eq (λ _. None) xs q) (sym (map-append deref_pair c.loop-key.yielded ((c.in-Some.key, c.in-Some.value) ∷ [])));
       ascending = c.insert.ensures.ordered;
