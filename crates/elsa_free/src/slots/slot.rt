@@ -6,6 +6,7 @@ ghost use Rattle.elsa_free.specs.Slot.{Rest, resting, tagged_shared};
 
 use super::rights::{Blank, Written};
 use std::marker::{Model, Move, Owns, PhantomData};
+use std::mem::align_of;
 
 /// A place for one value, written at most once. A clause sees the name that tells it from other slots.
 pub struct Slot<T> {
@@ -52,23 +53,14 @@ impl<T> Slot<T> {
         }
     }
 
-    fn whole<'a>(&'a self, written: &Written<T>) -> &'a Option<T>
-        requires { written.now.of ≡ self.now }
-        ensures { result.now ≡ Some written.now.value }
-    {
-        let slot = self as *const Slot<T>;
-        unsafe { &(*slot).value }
-    }
-
     /// The value, for whoever shows that there is one.
     pub fn value<'a>(&'a self, written: &Written<T>) -> &'a T
         requires { written.now.of ≡ self.now }
         ensures { result.now ≡ written.now.value }
     {
-        match self.whole(written) {
-            Some(value) => value,
-            None => unreachable!(),
-        }
+        let slot = self as *const Slot<T>;
+        // An `Option`'s tag is its first byte, so its value lies its own alignment further on. The tag isn't read.
+        unsafe { &*((&raw const (*slot).value as *const u8).add(align_of::<T>()) as *const T) }
     }
 
     /// Takes the slot apart: its value, if it was written.

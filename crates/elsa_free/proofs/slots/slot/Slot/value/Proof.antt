@@ -1,69 +1,60 @@
-use Rattle.std.proofs.Common.{◌≡◌, ℕ, zero, suc, ◌+◌, ◌*◌, ◌^◌, ◌<◌, ◌≤◌, List, [], ◌∷◌, ◌++◌, Bool, sym, refl, ap, ◌∙◌, subst, arith, lit<, w64, eqb→eq}
-use mir.Syntax.{a_type, dcons, dnil, named}
-use mir.Val.{Val, vunit, vint, vptr, vstruct, vcons, vnil}
+-- `value` finds the slot's lent `Option` by the evidence, and gives the part of it that is the value. Assumes `Logic`.
+use Rattle.std.proofs.Common.{◌≡◌, ℕ, zero, ◌+◌, List, [], ◌∷◌, sym, refl, subst, arith}
+use mir.Syntax.{Ty, Width, w8, w16, w32, w64, w128, a_type, named}
+use prog.Memory.{align, up, capped}
+use prog.Align.{align-bytes}
+use mir.Val.{bytes, Val, vptr}
 use mir.MapTy.{inst_fn}
-use base.Fraction.{full_share}
-use base.Logic.{SProp, ent, sep, wand, emp, via, id⊢, apply∗, all_e}
-use base.Fml.{Lft, Share, Fml, Incl-trans, ftrue, fsep, fex, flft, finv, fbor, fobs}
+use base.Logic.{SProp, wand, emp, apply∗}
+use base.Fml.{Lft, Share, Fml, ftrue, fsep, flft}
 use base.Before.{before}
-use prog.Wp.{WpFn}
-use types.Logic.{sem}
-use types.Kit.{any_q, post}
-use prog.Wp.{Wp, after_seq, after_block}
-use types.Kit.{Item, mean, ‵, raw, ◌⊛◌, some, given, later, at_ret, ◌$◌, ◌∵◌, !, qed, by, move, keep, drop, use0, use1, use2, use3, split, split3, join, group, fsplit, fsplit3, fjoin, fjoin3, fpick, fpack, pick, learn, check, show, frame, each, assume, suffices, await, updating, now, rewrite, settle, feq_i, feq_l, flt_i, flt_l, done}
-use types.Run.{stop, from, fld, load, addr, lit, unit_lit, of_opd, bin, no_more, and_then, first, blocks, branches, exec, calls, Calls-last, returns, enter, assigns, store_raw, look_raw}
-use types.ByLocal.{alloc_all, pass_all, free_all, look_at, look_in_at, get, get_in, through, sets, sets_last, lands_as, lands_last, is, env}
-use types.Part.{agg, sub, whole}
-use types.Match.{live}
+use types.Kit.{‵, raw, ◌⊛◌, some, later, at_ret, ◌$◌, ◌∵◌, !, qed, by, move, keep, drop, use0, use1, use2, use3, split, join, fsplit, fsplit3, fjoin, fpick, pick, await, rewrite, feq_i}
+use types.Run.{stop, fld, addr, align_word, of_opd, bin, first, blocks, exec, returns, enter}
+use types.ByLocal.{alloc_all, pass_all, free_all, look_at, get, through, sets, sets_last, env}
 use contract.Running.{tables}
 use contract.Monad.{fact, fact_i}
-use contract.BorrowLft.{◌⊑◌, meet_⊑_left, meet_⊑_right}
 use contract.Shared.{Lends-one}
-use denote.Exit.{yes, no}
+use denote.Exit.{yes}
 use denote.RattleType.{RattleType, owns}
-use denote.Signature.{types_at, plain, named_lft}
-use denote.RawPtr.{block_ptr}
-use denote.Steps.{nothing, heard, peeks, opens, closes}
+use denote.Signature.{types_at, plain}
+use denote.Steps.{nothing, heard}
 use denote.Opens.{hide, unhide}
-use denote.Laws.{Is, shows}
-use denote.Memory.{lone, cell_at, shared_of}
-use denote.Param.{param, bounded, layouts, layout}
+use denote.Memory.{shared_of}
+use denote.Param.{param, layouts, layout}
 use denote.Param.Laws.{param_laws}
-use denote.Builtin.{RefOf, u64}
-use denote.Ref.{ShrRef, shr_vals, shr_Tells}
+use denote.Builtin.{RefOf}
+use denote.Ref.{shr_vals, shr_Tells}
 use denote.Triple.Walked.{Stays, stay_dropped, walk_of, Goes-dropped}
-use Rattle.atomic_table.proofs.Walks.{proved, proved_at, leaves}
-use Rattle.atomic_table.proofs.Calls.{fm, seq_cst, found, stored, loads, stores, exchanges}
+use Rattle.atomic_table.proofs.Walks.{proved, leaves}
 use Rattle.core.proofs.atomic.Steps.{tail}
-use Rattle.std.specs.declared.option.Option.TheVariants.{None, Some}
+use Rattle.std.specs.declared.option.Option.TheVariants.{Some}
 use Rattle.std.specs.contracts.option.Option.{the_row as OptionOf}
-use Rattle.core.proofs.option.Made.{Some-of, none_of}
 use Rattle.core.proofs.option.Option.TheLaws.{the_row_laws as option_laws}
-use denote.RattleType.{Valss}
-use denote.Shadow.{makes_shadow}
-use denote.Struct.Struct.{within}
-use denote.Struct.Declared.{shape, fields}
-use denote.Laws.{Typed}
-use base.Stored.{gnil, gnum}
-use base.Fml.{feq}
-use mir.Val.{of_list}
-use types.Tokens.{name_new}
-use Rattle.core.proofs.cell.Inside.{Good, one}
-use Rattle.elsa_free.specs.Slot.{Rest, Turn, field, tagged, tagged_lent, kept, cell, written, blank, tie, lent, memory, resting, free}
+use Rattle.elsa_free.specs.Slot.{field, tagged, tagged_lent, cell, written, lent}
 use Rattle.elsa_free.specs.contracts.slots.slot.Slot.{the_row}
-use Rattle.elsa_free.specs.contracts.slots.slot.Slot.TheInside as Inside
-use Rattle.elsa_free.proofs.slots.slot.Slot.TheInside.TheLaws.{the_row_laws as inside_laws}
 use Rattle.elsa_free.specs.contracts.slots.rights.Written as Written
-use Rattle.elsa_free.specs.contracts.slots.rights.Blank as Blank
 use Rattle.elsa_free.proofs.SlotTurns as steps
-use Rattle.elsa_free.proofs.SlotTokens.{token_val, written_made, blank_told, blank_made}
-use Rattle.elsa_free.specs.contracts.slots.slot.Slot.whole.{ended, clauses}
-use Rattle.elsa_free.specs.contracts.slots.slot.Slot.whole.Key.{name as #self}
-use Rattle.elsa_free.proofs.slots.slot.Slot.whole.Statement.{statement}
-use Rattle.elsa_free.proofs.slots.slot.Slot.whole.Code as code
+use Rattle.elsa_free.specs.contracts.slots.slot.Slot.value.{ended, clauses}
+use Rattle.elsa_free.specs.contracts.slots.slot.Slot.value.Key.{name as #self}
+use Rattle.elsa_free.proofs.slots.slot.Slot.value.Statement.{statement}
+use Rattle.elsa_free.proofs.slots.slot.Slot.value.Code as code
 
-pub whole_spec : {M : Type 1} → statement M
-whole_spec {M} 𝓤 𝓛 𝓜 𝓡 wired T L =
+-- the τ that follows an enum's tag, one byte, lies as far from the enum as its own alignment
+abbrev Past : ℕ → Type 0
+Past a = (e : ℕ) → e + up a (up 1 zero + 1) ≡ capped a + e
+
+past_bytes : (w : Width) → Past (bytes w)
+past_bytes w8 e = omega arith
+past_bytes w16 e = omega arith
+past_bytes w32 e = omega arith
+past_bytes w64 e = omega arith
+past_bytes w128 e = omega arith
+
+past : (τ : Ty) → Past (align τ)
+past τ = subst Past (sym (align-bytes τ)) (past_bytes _)
+
+pub value_spec : {M : Type 1} → statement M
+value_spec {M} 𝓤 𝓛 𝓜 𝓡 wired T L =
     let H = 𝓛.H in let A = 𝓛.A in let 𝓣 = tables 𝓤 H 𝓜 𝓡 𝓡.env in let R : RattleType = param 0 T in let O : RattleType = OptionOf R in let LO = option_laws R (param_laws 0 T L) in let En = ended T in
     let inst = layouts (a_type ∷ []) (T, tt) in let fn = inst_fn inst code.function in let c = clauses T 𝓛 𝓜.mem 𝓡.returns in
     let self = RefOf (0 ∷ []) tt (plain (λ _. the_row R)) (λ _. tt) in let token = RefOf (1 ∷ []) tt (plain (λ _. Written.the_row R)) (λ _. tt) in
@@ -80,13 +71,15 @@ whole_spec {M} 𝓤 𝓛 𝓜 𝓡 wired T L =
     use1 𝓛 (‵ (before κ α) ⊛ ‵ (before κ α)) (types.Na.before_dup 𝓛 κ α) $ split ! $
     enter ! 𝓣.C 𝓣.Λ fn (vptr b o ∷ p ∷ []) Post $ alloc_all ! (λ l. pass_all ! refl ((tt, tt), ((tt, tt), tt)) $ let Ev = env fn.locals l in
     move ! (0 ∷ 3 ∷ []) $ use2 𝓛 (later (some (λ (s : Share). ‵ (flft α s) ⊛ raw (wand 𝓤 (A.lft α s) (H.⇛ (A.lft κ q)))))) (Lends-one 𝓛 𝓜 𝓡 κ α q) $ await ! tt $ pick ! (λ s. split ! $
-    let L' : Fml = lent R (tagged R b o) (tagged_lent R b o) t (Rattle.elsa_free.specs.Slot.full x) in let Told : Type 0 = mathlib.Core.Path.Path O.Denot (Some x) (Some x) in
+    let L' : Fml = lent R (tagged R b o) (tagged_lent R b o) t (Rattle.elsa_free.specs.Slot.full x) in let Told : Type 0 = x ≡ x in let at : ℕ = capped (align (layout T)) + e in
     -- [the turn's token; the way back; before; the invariant; the others; written]
     sets ! (addr ! (through ! refl (stop !))) refl (tt, tt) $ move ! (3 ∷ 0 ∷ 5 ∷ []) $
     use3 𝓛 (later (‵ L' ⊛ ‵ (flft α s))) (steps.finds R (tagged R b o) (tagged_lent R b o) γ 𝓛 t (λ z. LO.shr_laws (Some z) b e) s x) $ await ! tt $ split ! $
     -- [the shared value; the turn's token; the way back; before; the others]
     move ! (1 ∷ 2 ∷ []) $ use2 𝓛 (later (‵ (flft κ q))) (apply∗ 𝓤 (A.lft α s) (H.⇛ (A.lft κ q))) $ await ! tt $ move ! (0 ∷ 3 ∷ []) $ join ! $ move ! (2 ∷ 1 ∷ []) $
-    use2 𝓛 (‵ (shared_of O (Some x) b e κ)) ((LO.shr_laws (Some x) b e).mono M 𝓤 𝓛 κ α) $ hide ! $ feq_i ! (List Val) (vptr b e ∷ []) (vptr b e ∷ []) refl $ fjoin ! $
-    first ! $ blocks ! $ sets_last ! (addr ! (through ! refl (fld ! refl (stop !)))) refl (tt, tt) $ exec ! 𝓣.C 𝓣.Λ Ev (tail (tail fn.body)) (at_ret Ev Post) $ sets ! (of_opd ! (get ! refl)) refl (tt, tt) $
+    use2 𝓛 (‵ (shared_of O (Some x) b e κ)) ((LO.shr_laws (Some x) b e).mono M 𝓤 𝓛 κ α) $ fsplit ! $ fsplit ! $ drop ! $ fsplit ! $ move ! (1 ∷ 2 ∷ []) $ drop ! $ drop ! $
+    rewrite ! 0 (λ (k : ℕ). ‵ (shared_of R x b k κ)) (past (layout T) e) refl $ hide ! $ feq_i ! (List Val) (vptr b at ∷ []) (vptr b at ∷ []) refl $ fjoin ! $
+    first ! $ blocks ! $ sets ! (addr ! (through ! refl (fld ! refl (stop !)))) refl (tt, tt) $ sets ! (bin ! (get ! refl) (align_word !) tt) refl (tt, tt) $
+    sets ! (of_opd ! (get ! refl)) refl (tt, tt) $ sets_last ! (addr ! (through ! refl (stop !))) refl (tt, tt) $ exec ! 𝓣.C 𝓣.Λ Ev (tail (tail fn.body)) (at_ret Ev Post) $ sets ! (of_opd ! (get ! refl)) refl (tt, tt) $
     use0 𝓛 (raw (fact 𝓤 Told)) (fact_i 𝓤 Told (emp 𝓤) refl) $ nothing ! $ nothing ! $ fjoin ! $ nothing ! $ fjoin ! $
-    returns ! (look_at ! 0 refl) $ free_all ! refl $ keep ! (3 ∷ 0 ∷ 2 ∷ 1 ∷ []) $ by ! (leaves 𝓛 En hs c y (vptr b e) (record { ref_ptr = (b, e); now = Some x }) (tt, (tt, tt)) (tt, (tt, tt))))))))
+    returns ! (look_at ! 0 refl) $ free_all ! refl $ keep ! (3 ∷ 0 ∷ 2 ∷ 1 ∷ []) $ by ! (leaves 𝓛 En hs c y (vptr b at) (record { ref_ptr = (b, at); now = x }) (tt, (tt, tt)) (tt, (tt, tt))))))))
