@@ -198,6 +198,7 @@ impl<'a, K: Eq + Hash + Drop, V: StableDeref<'a>, S: BuildHasher, A: Allocator +
     /// One hash and one search, and for a new key one copy into the arena.
     pub fn insert_new(&mut self, key: K, value: V) -> Result<(V::Borrow, bool), AllocError>
         ensures present { (x : V.Borrow) → value_at K.eq self.old key ≡ Some x → (result ≡ Ok (x, false)) × (self.new ≡ self.old) }
+        ensures stands { IfOk result (λ r. value_at K.eq self.new key ≡ Some r.0) }
         ensures new_flag { value_at K.eq self.old key ≡ None → IfOk result (λ r. r.1 ≡ true) }
         ensures new_target { value_at K.eq self.old key ≡ None → IfOk result (λ r. V.shown r.0 ≡ V.target value) }
         ensures new_content { value_at K.eq self.old key ≡ None → IfOk result (λ r. Adds K.eq (value_at K.eq self.old) (value_at K.eq self.new) key r.0) }
@@ -225,6 +226,7 @@ impl<'a, K: Eq + Hash + Drop, V: StableDeref<'a>, S: BuildHasher, A: Allocator +
     /// [`insert_new`](FrozenMap::insert_new) without its flag.
     pub fn insert(&mut self, key: K, value: V) -> Result<V::Borrow, AllocError>
         ensures present { (x : V.Borrow) → value_at K.eq self.old key ≡ Some x → (result ≡ Ok x) × (self.new ≡ self.old) }
+        ensures stands { IfOk result (λ b. value_at K.eq self.new key ≡ Some b) }
         ensures new_target { value_at K.eq self.old key ≡ None → IfOk result (λ b. V.shown b ≡ V.target value) }
         ensures new_content { value_at K.eq self.old key ≡ None → IfOk result (λ b. Adds K.eq (value_at K.eq self.old) (value_at K.eq self.new) key b) }
         ensures new_length { value_at K.eq self.old key ≡ None → OnOk result (length self.new ≡ length self.old + 1) }

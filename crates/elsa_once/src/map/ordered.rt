@@ -147,6 +147,7 @@ impl<'a, K: Ord + Drop, V: StableDeref<'a>, A: Allocator + Copy> FrozenBTreeMap<
     /// One search of the tree; for a new key one more, and one copy into the arena.
     pub fn insert_new(&mut self, key: K, value: V) -> Result<(V::Borrow, bool), AllocError>
         ensures present { (x : V.Borrow) → value_at (eq_by_cmp K.cmp) self.old key ≡ Some x → (result ≡ Ok (x, false)) × (self.new ≡ self.old) }
+        ensures stands { IfOk result (λ r. value_at (eq_by_cmp K.cmp) self.new key ≡ Some r.0) }
         ensures new_flag { value_at (eq_by_cmp K.cmp) self.old key ≡ None → IfOk result (λ r. r.1 ≡ true) }
         ensures new_target { value_at (eq_by_cmp K.cmp) self.old key ≡ None → IfOk result (λ r. V.shown r.0 ≡ V.target value) }
         ensures new_content { value_at (eq_by_cmp K.cmp) self.old key ≡ None → IfOk result (λ r. Adds (eq_by_cmp K.cmp) (value_at (eq_by_cmp K.cmp) self.old) (value_at (eq_by_cmp K.cmp) self.new) key r.0) }
@@ -169,6 +170,7 @@ impl<'a, K: Ord + Drop, V: StableDeref<'a>, A: Allocator + Copy> FrozenBTreeMap<
     /// [`insert_new`](FrozenBTreeMap::insert_new) without its flag.
     pub fn insert(&mut self, key: K, value: V) -> Result<V::Borrow, AllocError>
         ensures present { (x : V.Borrow) → value_at (eq_by_cmp K.cmp) self.old key ≡ Some x → (result ≡ Ok x) × (self.new ≡ self.old) }
+        ensures stands { IfOk result (λ b. value_at (eq_by_cmp K.cmp) self.new key ≡ Some b) }
         ensures new_target { value_at (eq_by_cmp K.cmp) self.old key ≡ None → IfOk result (λ b. V.shown b ≡ V.target value) }
         ensures new_content { value_at (eq_by_cmp K.cmp) self.old key ≡ None → IfOk result (λ b. Adds (eq_by_cmp K.cmp) (value_at (eq_by_cmp K.cmp) self.old) (value_at (eq_by_cmp K.cmp) self.new) key b) }
         ensures new_length { value_at (eq_by_cmp K.cmp) self.old key ≡ None → OnOk result (length self.new ≡ length self.old + 1) }
