@@ -2,7 +2,7 @@
 //!
 //! A new key goes last, and a key that is there keeps its place and its value. The layers above use the list of pairs that
 //! the contracts speak of, and `rebase`.
-ghost use Rattle.std.specs.Prelude.{◌≡◌, ◌++◌, ◌∷◌, ◌↔◌, [], ℕ, List, length, None, Some, slice_get, IfOk, IfSome, IsSome, IsSomeAnd, IsTrue, MatchOption, OnOk, OnErr, cond};
+ghost use Rattle.std.specs.Prelude.{◌≡◌, ◌++◌, ◌∷◌, ◌↔◌, [], ℕ, List, length, false, None, Ok, Some, slice_get, IfOk, IfSome, IsSome, IsSomeAnd, IsTrue, MatchOption, OnOk, OnErr, cond};
 ghost use Rattle.std.specs.Cmp;
 ghost use Rattle.std.specs.Cmp.{partial_equiv_from_equiv};
 ghost use Rattle.std.specs.HashMap.Eq.{hash_map_eq_symm, hash_map_eq_trans, hash_map_eq_refl};
@@ -212,6 +212,7 @@ impl<
         key: K,
         value: V,
     ) -> Result<(usize, V::Borrow, bool), AllocError>
+        ensures present { (x : V.Borrow) → value_of K.eq self.old key ≡ Some x → (i : ℕ) × (place_of K.eq self.old key ≡ Some i) × (result ≡ Ok (i, x, false)) × (self.new ≡ self.old) }
         ensures accepted { IfOk result (λ r. InsertedNew K.eq V.target V.shown self.old key value r.0 r.1 r.2 self.new) }
         ensures refused { OnErr result (self.new ≡ self.old) }
         ensures only_new { OnErr result (place_of K.eq self.old key ≡ None) }
@@ -238,6 +239,7 @@ impl<
     ///
     /// Costs and the refusal are those of `insert_full_new`.
     pub fn insert_full(&mut self, key: K, value: V) -> Result<(usize, V::Borrow), AllocError>
+        ensures present { (x : V.Borrow) → value_of K.eq self.old key ≡ Some x → (i : ℕ) × (place_of K.eq self.old key ≡ Some i) × (result ≡ Ok (i, x)) × (self.new ≡ self.old) }
         ensures accepted { IfOk result (λ r. Inserted K.eq V.target V.shown self.old key value r.0 r.1 self.new) }
         ensures refused { OnErr result (self.new ≡ self.old) }
         ensures only_new { OnErr result (place_of K.eq self.old key ≡ None) }
@@ -252,6 +254,7 @@ impl<
     ///
     /// Costs and the refusal are those of `insert_full_new`.
     pub fn insert_new(&mut self, key: K, value: V) -> Result<(V::Borrow, bool), AllocError>
+        ensures present { (x : V.Borrow) → value_of K.eq self.old key ≡ Some x → (result ≡ Ok (x, false)) × (self.new ≡ self.old) }
         ensures accepted { IfOk result (λ r. (i : ℕ) × InsertedNew K.eq V.target V.shown self.old key value i r.0 r.1 self.new) }
         ensures refused { OnErr result (self.new ≡ self.old) }
         ensures only_new { OnErr result (place_of K.eq self.old key ≡ None) }
@@ -265,6 +268,7 @@ impl<
     ///
     /// Costs and the refusal are those of `insert_full_new`.
     pub fn insert(&mut self, key: K, value: V) -> Result<V::Borrow, AllocError>
+        ensures present { (x : V.Borrow) → value_of K.eq self.old key ≡ Some x → (result ≡ Ok x) × (self.new ≡ self.old) }
         ensures accepted { IfOk result (λ b. (i : ℕ) × Inserted K.eq V.target V.shown self.old key value i b self.new) }
         ensures refused { OnErr result (self.new ≡ self.old) }
         ensures only_new { OnErr result (place_of K.eq self.old key ≡ None) }
