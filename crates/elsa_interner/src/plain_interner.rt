@@ -1,7 +1,7 @@
 //! The plain, slow program of an interner: names in a vector, found by a walk from the front.
 //!
 //! It meets the same clauses as [`crate::interner::Interner`], and tests compare the two.
-ghost use Rattle.std.specs.Prelude.{◌≡◌, [], length, None, Some, slice_get, position, IfOk, OnErr};
+ghost use Rattle.std.specs.Prelude.{◌≡◌, ℕ, [], List, length, None, Some, slice_get, position, IfOk, OnErr};
 ghost use Rattle.std.specs.Option.{option_map};
 ghost use Rattle.std.specs.Str.{bytes_eq};
 ghost use mathlib.Core.List.{IsPrefix};
@@ -92,6 +92,7 @@ impl<'a, A: Allocator + Copy> PlainInterner<'a, A> {
         ensures stands { IfOk result (λ n. slice_get self.new n ≡ Some text.now) }
         ensures stands_at { IfOk result (λ n. position (bytes_eq text.now) self.new ≡ Some n) }
         ensures kept { IsPrefix self.old self.new }
+        ensures kept_at { (word : List ℕ) (i : ℕ) → position (bytes_eq word) self.old ≡ Some i → position (bytes_eq word) self.new ≡ Some i }
     {
         if let Some(place) = place_of(&self.names, text) {
             return Ok(place);
