@@ -1,5 +1,5 @@
 -- What the bracket of a search comes to.
-use Rattle.std.proofs.Common.{◌≡◌, ℕ, ◌-◌, ◌<◌, ◌≤◌, inl, inr, Bool, true, false, List, [], ◌∷◌, Option, Some, None, IsSomeAnd, Ok, Err, Result, length, slice_get, get_or, arith, refl, sym, ap, subst, ◌∙◌}
+use Rattle.std.proofs.Common.{◌≡◌, ℕ, ◌-◌, ◌<◌, ◌≤◌, inl, inr, Bool, true, false, List, [], ◌∷◌, Option, Some, None, IfOk, IsSomeAnd, Ok, Err, Result, length, slice_get, get_or, arith, refl, sym, ap, subst, ◌∙◌}
 use Rattle.std.proofs.lemmas.Option.{slice_get_within}
 use Rattle.std.proofs.lemmas.Option.{get_or_from_slice_get}
 use Rattle.std.specs.Fn.{AlwaysReturns, Mut, Called}
@@ -175,3 +175,26 @@ splits_items g items start r found o always = splits_list (λ p b r q. Called g 
 pub parts_items : {F B : Type 0} (g : Mut F (B × Unit {0}) Bool) (items : List B) (start : F) (i : ℕ) → Searched (λ p b r q. Called g p (b, tt) r q) items start (λ calls. IsBetween (length items) (Answered calls) true false i)
     → (test : B → Bool) → AlwaysReturns g (λ a r. r ≡ test a.0) start → IsPartitionedBy test items → IsPartitionPoint (λ b. test b ≡ true) (λ b. test b ≡ false) items i
 parts_items g items start i found test always = parts_list (λ p b r q. Called g p (b, tt) r q) items start i found test (by_place g items start test always)
+
+-- ---- where an item was found
+
+-- what has an item lies within the list
+pub some_within : {B : Type 0} (items : List B) (i : ℕ) (P : B → Type 0) → IsSomeAnd (slice_get items i) P → i < length items
+some_within {B} items i P some = by (slice_get items i) refl some
+  where
+    by : (o : Option B) → slice_get items i ≡ o → IsSomeAnd o P → i < length items
+    by None at some = absurd some
+    by (Some item) at some = slice_get_within items i item at
+
+-- an answered place has an item
+pub within_list : {F B : Type 0} (step : F → B → Ordering → F → Type 0) (items : List B) (start : F) (r : Result ℕ ℕ) → Searched step items start (λ calls. Brackets (length items) (Answered calls) r)
+    → IfOk r (λ i. i < length items)
+within_list step items start (Ok i) found = let at = called step items start found.calls found.end i Equal found.in_turn found.bracket in slice_get_within items i at.1 at.3
+within_list step items start (Err i) found = tt
+
+-- of which a closure that stays as it is says Equal
+pub found_by_item : {F B : Type 0} (step : F → B → Ordering → F → Type 0) (items : List B) (start : F) (r : Result ℕ ℕ) → Searched step items start (λ calls. Brackets (length items) (Answered calls) r)
+    → (o : B → Ordering) → AnswersByItem step start o → IfOk r (λ i. IsSomeAnd (slice_get items i) (λ item. o item ≡ Equal))
+found_by_item step items start (Ok i) found o by_item =
+    answered_so step items start (λ item r. o item ≡ r) (λ item r after called. (sym (by_item item r after called).0, (by_item item r after called).1)) found.calls found.end i Equal found.in_turn found.bracket
+found_by_item step items start (Err i) found o by_item = tt
