@@ -1,5 +1,6 @@
 //! Callers that look up what they put in: their clauses are proved with no proof file.
-ghost use Rattle.std.specs.Prelude.{◌≡◌, Some, IfOk, find, position, slice_get};
+ghost use Rattle.std.specs.Prelude.{◌≡◌, ℕ, List, Ok, Some, IfOk, IsOk, find, position, slice_get};
+ghost use Rattle.std.specs.Borrow.{Bor};
 ghost use Rattle.std.specs.Map.{keys_of, lookup};
 ghost use Rattle.std.specs.Str.{bytes_eq};
 ghost use Rattle.std.specs.String.{string_bytes};
@@ -19,6 +20,7 @@ fn numbers(
 ) -> Result<(usize, usize), AllocError>
     ensures one { IfOk result (λ r. first.now ≡ second.now → r.0 ≡ r.1) }
     ensures apart { IfOk result (λ r. r.0 ≡ r.1 → first.now ≡ second.now) }
+    ensures kept { (word : List ℕ) (i : ℕ) → position (bytes_eq word) names.old ≡ Some i → position (bytes_eq word) names.new ≡ Some i }
     ensures first { IfOk result (λ r. position (bytes_eq first.now) names.new ≡ Some r.0) }
     ensures second { IfOk result (λ r. position (bytes_eq second.now) names.new ≡ Some r.1) }
 {
@@ -34,6 +36,7 @@ fn value_of<'a>(
     value: &'a str,
 ) -> Result<&'a str, AllocError>
     ensures value { IfOk result (λ b. lookup (⟦<u32 as PartialEq>⟧.eq key) map.new ≡ Some b) }
+    ensures known { (there : Bor (List ℕ)) → lookup (⟦<u32 as PartialEq>⟧.eq key) map.old ≡ Some there → (result ≡ Ok there) × (map.new ≡ map.old) }
 {
     map.insert(key, value)
 }
@@ -45,6 +48,7 @@ fn place_of<'a>(
     value: &'a str,
 ) -> Result<usize, AllocError>
     ensures place { IfOk result (λ place. position (⟦<u32 as PartialEq>⟧.eq key) (keys_of map.new) ≡ Some place) }
+    ensures known { (there : Bor (List ℕ)) → lookup (⟦<u32 as PartialEq>⟧.eq key) map.old ≡ Some there → IsOk result × (map.new ≡ map.old) }
 {
     let (place, _) = map.insert_full(key, value)?;
     Ok(place)

@@ -178,23 +178,8 @@ parts_items g items start i found test always = parts_list (λ p b r q. Called g
 
 -- ---- where an item was found
 
--- what has an item lies within the list
-pub some_within : {B : Type 0} (items : List B) (i : ℕ) (P : B → Type 0) → IsSomeAnd (slice_get items i) P → i < length items
-some_within {B} items i P some = by (slice_get items i) refl some
-  where
-    by : (o : Option B) → slice_get items i ≡ o → IsSomeAnd o P → i < length items
-    by None at some = absurd some
-    by (Some item) at some = slice_get_within items i item at
-
 -- an answered place has an item
 pub within_list : {F B : Type 0} (step : F → B → Ordering → F → Type 0) (items : List B) (start : F) (r : Result ℕ ℕ) → Searched step items start (λ calls. Brackets (length items) (Answered calls) r)
     → IfOk r (λ i. i < length items)
 within_list step items start (Ok i) found = let at = called step items start found.calls found.end i Equal found.in_turn found.bracket in slice_get_within items i at.1 at.3
 within_list step items start (Err i) found = tt
-
--- of which a closure that stays as it is says Equal
-pub found_by_item : {F B : Type 0} (step : F → B → Ordering → F → Type 0) (items : List B) (start : F) (r : Result ℕ ℕ) → Searched step items start (λ calls. Brackets (length items) (Answered calls) r)
-    → (o : B → Ordering) → AnswersByItem step start o → IfOk r (λ i. IsSomeAnd (slice_get items i) (λ item. o item ≡ Equal))
-found_by_item step items start (Ok i) found o by_item =
-    answered_so step items start (λ item r. o item ≡ r) (λ item r after called. (sym (by_item item r after called).0, (by_item item r after called).1)) found.calls found.end i Equal found.in_turn found.bracket
-found_by_item step items start (Err i) found o by_item = tt

@@ -1,5 +1,8 @@
 //! What no clause says of the maps: worked rows, upstream's cases, keys with an odd hash or no hash.
-ghost use Rattle.std.specs.Prelude.{[], refl};
+ghost use Rattle.std.specs.Prelude.{◌≡◌, ℕ, [], List, IfOk, IsSome, Some, refl};
+ghost use Rattle.std.specs.Borrow.{Bor};
+ghost use Rattle.std.specs.Map.{lookup};
+ghost use Rattle.std.specs.Ordering.{eq_by_cmp};
 
 use bumpalo::Bump;
 use elsa_once::map::laws::{
@@ -189,17 +192,29 @@ fn by_key<'a>(map: &Seeded<'a>, key: u32) -> Option<&'a str> {
     Some(map[&key])
 }
 
+type Named<'a> = FrozenBTreeMap<'a, String, &'a str>;
+
+// A clone with one more key.
+fn with_key<'a>(map: &Named<'a>, key: String, value: &'a str) -> Result<Named<'a>, AllocError>
+    ensures there { IfOk result (λ copy. IsSome (lookup (eq_by_cmp ⟦<String as Ord>⟧.cmp key) copy)) }
+    ensures kept { (there : Bor (List ℕ)) → lookup (eq_by_cmp ⟦<String as Ord>⟧.cmp key) map.now ≡ Some there → IfOk result (λ copy. lookup (eq_by_cmp ⟦<String as Ord>⟧.cmp key) copy ≡ Some there) }
+{
+    let mut copy = map.clone()?;
+    copy.insert(key, value)?;
+    Ok(copy)
+}
+
 // The value at a text that went into a clone alone, in a clone of that.
 fn in_a_clone<'a>(
     alloc: Global,
     arena: &'a Bump,
     key: &str,
 ) -> Result<Option<&'a str>, AllocError> {
-    let mut map: FrozenBTreeMap<'a, String, &'a str> = FrozenBTreeMap::new(alloc, arena);
+    let mut map: Named<'a> = FrozenBTreeMap::new(alloc, arena);
     let key = String::from_str(alloc, key)?;
     let first = String::from_str(alloc, "first")?;
     let copy = ordered_inserted_apart(&mut map, (first, "b"), (key.clone()?, "a"))?;
-    Ok(copy.clone()?.get(&key))
+    Ok(with_key(&copy, key.clone()?, "c")?.get(&key))
 }
 
 #[test]

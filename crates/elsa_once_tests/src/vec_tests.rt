@@ -1,5 +1,5 @@
 //! What no clause says of the vector: worked rows, upstream's cases, and the places at which a search asks.
-ghost use Rattle.std.specs.Prelude.{◌≡◌, false, length, ltb, true};
+ghost use Rattle.std.specs.Prelude.{◌≡◌, ◌<◌, IfOk, false, length, ltb, true};
 ghost use Rattle.std.specs.List.Sorted.{IsBinarySearchResult, IsPartitionPoint, IsPartitionedBy};
 ghost use Rattle.std.specs.Ordering.{nat_cmp};
 
@@ -199,7 +199,8 @@ fn finds<'a>(texts: &Texts<'a>, rows: &[(&'a str, Result<usize, usize>)]) -> boo
 
 // The place of a text of this length, or where it would go.
 fn of_length(texts: &Texts<'_>, wanted: usize) -> Result<usize, usize>
-    ensures { IsBinarySearchResult (λ text. nat_cmp (length text.now) wanted) texts.now result }
+    ensures place { IsBinarySearchResult (λ text. nat_cmp (length text.now) wanted) texts.now result }
+    ensures within { IfOk result (λ place. place < length texts.now) }
 {
     texts.binary_search_by_key(&wanted, |text| text.len())
 }

@@ -1,4 +1,4 @@
-use Rattle.elsa_once.proofs.Bracketed.{splits, splits_by_item, found_by_item, within_list}
+use Rattle.elsa_once.proofs.Bracketed.{splits, splits_by_item, within_list}
 use Rattle.elsa_once.proofs.vec.FrozenVec.binary_search_by.Goals as goal
 
 pub returns-clause-bracket : goal.returns-clause-bracket
@@ -13,11 +13,6 @@ pub returns-clause-by_item : goal.returns-clause-by_item
 returns-clause-by_item g c =
     let found = rw c.as_slice.ensures at c.binary_search_by.ensures in
     λ o by_item. splits_by_item _ _ _ _ found o by_item
-
-pub returns-clause-found : goal.returns-clause-found
-returns-clause-found g c =
-    let found = rw c.as_slice.ensures at c.binary_search_by.ensures in
-    λ o by_item. found_by_item _ _ _ _ found o by_item
 
 pub returns-clause-within : goal.returns-clause-within
 returns-clause-within g c =
