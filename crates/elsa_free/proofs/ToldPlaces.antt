@@ -9,7 +9,6 @@ use types.Tokens.{res_dup}
 use denote.Steps.{nothing}
 use denote.RattleType.{RattleType}
 use Rattle.elsa_free.specs.Geometry.{IsAt}
-use Rattle.elsa_free.specs.Slot.{fact}
 use denote.Shadow.{makes_shadow}
 use denote.Struct.Struct.{Struct}
 use denote.Struct.Owning.{shape}

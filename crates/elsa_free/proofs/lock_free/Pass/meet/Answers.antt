@@ -1,5 +1,3 @@
-use Rattle.std.proofs.Common.{◌≡◌}
-use Rattle.elsa_free.specs.SharedList.{mine}
 use Rattle.elsa_free.proofs.lock_free.Pass.meet.Goals as goal
 
 pub returns-clause-apart : goal.returns-clause-apart

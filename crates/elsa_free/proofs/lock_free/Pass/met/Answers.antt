@@ -1,5 +1,4 @@
 use Rattle.std.proofs.Common.{◌≡◌, ◌≢◌, ap, sym, ◌∙◌}
-use Rattle.elsa_free.specs.SharedList.{mine}
 use Rattle.elsa_free.proofs.Places.{apart_places}
 use Rattle.elsa_free.proofs.lock_free.Pass.met.Goals as goal
 
