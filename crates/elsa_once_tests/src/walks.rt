@@ -1,6 +1,7 @@
 //! Walks over the maps, and what a vector gains by an iterator.
 use bumpalo::Bump;
 use elsa_once::map::{FrozenBTreeMap, FrozenMap};
+use elsa_once::stable::Own;
 use elsa_once::vec::FrozenVec;
 use std::alloc::{AllocError, Global};
 use std::test::*;
@@ -43,6 +44,9 @@ fn an_ordered_map_is_walked_in_the_order_of_its_keys(rt: HostRuntime) -> Result<
 /// The number of keys from `low` on and below `high`.
 fn within<'a>(map: &Ordered<'a>, low: u64, high: u64) -> usize {
     let mut count = 0usize;
+    if high < low {
+        return 0;
+    }
     for (_key, _value) in map.range(low..high) {
         count = count.saturating_add(1);
     }
@@ -109,15 +113,17 @@ fn an_extended_vector_has_its_items_and_then_the_iterator_s(rt: HostRuntime) -> 
     Ok(())
 }
 
+const NUMBERS: [Own<u64>; 6] = [Own(1), Own(2), Own(3), Own(4), Own(5), Own(6)];
+
 /// Extends a vector whose table may grow once: whether that failed, and how many items it has then, and after one more push.
 fn extended(alloc: Global, heap: &Budget<Global>) -> (bool, usize, usize) {
     let arena = Bump::new(alloc);
-    let mut names: FrozenVec<'_, &str, &Budget<Global>> = FrozenVec::new(heap, &arena);
+    let mut numbers: FrozenVec<'_, Own<u64>, &Budget<Global>> = FrozenVec::new(heap, &arena);
     heap.refuse(1, 2);
-    let ended = names.extend(["a", "b", "c", "d", "e", "f"].into_iter());
-    let kept = names.len();
-    let _pushed = names.push("g");
-    (ended.is_err(), kept, names.len())
+    let ended = numbers.extend(NUMBERS.into_iter());
+    let kept = numbers.len();
+    let _pushed = numbers.push(Own(7));
+    (ended.is_err(), kept, numbers.len())
 }
 
 /// An allocation that fails while a vector is extended leaves what was pushed before it, and the vector goes on.
