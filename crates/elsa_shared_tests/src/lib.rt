@@ -7,3 +7,7 @@ mod gates;
 mod job_tests;
 #[cfg(test)]
 mod shared_tests;
+#[cfg(test)]
+mod upstream_tests;
+#[cfg(test)]
+mod walk_tests;
