@@ -1,4 +1,4 @@
-//! Append-only collections whose borrows last as long as the arena that the caller lends, and the program `elsa`.
+//! Append-only collections whose borrows last as long as the arena that the caller passes in, and the program `elsa`.
 //!
 //! The paths are those of Rust's elsa: the collections at the root, each module under its name, and what threads share in [`sync`].
 #![tactic(auto)]

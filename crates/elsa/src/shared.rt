@@ -1,6 +1,6 @@
 //! Workers that push numbers into one concurrent vector, each under a name of its own.
 //!
-//! What each worker was answered follows from its pass and needs no check: its places hold its numbers, rise, and are nobody else's. So at the
+//! What each worker did follows from its pass and needs no check: its places hold its numbers, rise, and are nobody else's. So at the
 //! end one length says whether all is there.
 ghost use Rattle.std.specs.Prelude.{◌≡◌, ◌+◌, ◌*◌, ◌^◌, ◌≤◌, All, IfNone, IfOk, length};
 ghost use Rattle.elsa_free.specs.SharedList.{mine};
@@ -16,16 +16,16 @@ use std::thread::{Promise, PromisedHandle, Threads};
 
 /// What is asked after each push, in the worker's own thread: whether the worker is to go on.
 pub trait Gate {
-    /// Worker `worker`, counted from 0, was answered `place`; false ends that worker.
+    /// Worker `worker`, counted from 0, pushed at `place`; false ends that worker.
     fn after(&self, worker: usize, place: usize) -> bool;
 }
 
-/// Why the numbers aren't all in the vector; of several faults the first in this order is answered.
+/// Why the numbers aren't all in the vector; of several faults the first in this order is returned.
 #[derive(Clone, Copy, Debug, PartialEq, Eq, PartialOrd, Ord)]
 pub enum SharedFault {
-    /// A request for memory was refused.
+    /// An allocation failed.
     Memory,
-    /// A gate answered false.
+    /// A gate returned false.
     Gate,
     /// None of the others came, and the length at the end isn't that of all numbers.
     Check,
@@ -54,7 +54,7 @@ impl<'v, A: Allocator> Promise<Done<A>> for Of<'v, A> {
     ghost kept_by = { λ of done. done.pass.vector ≡ of.0.now };
 }
 
-/// Pushes the worker's numbers in their order, and stops at a refused push and at a false answer of the gate. Numbers past the greatest go round.
+/// Pushes the worker's numbers in their order, and stops at a failed push and at a false result of the gate. Numbers past the greatest go round.
 fn work<R: Wait, G: Gate, A: Allocator + Copy>(
     rt: &R,
     vector: &LockFreeFrozenVec<u64, A>,
@@ -152,7 +152,7 @@ fn first_fault(one: Option<SharedFault>, other: Option<SharedFault>) -> Option<S
     }
 }
 
-/// Lets the passes of all workers meet in the one given, and answers the first in order of their faults.
+/// Lets the passes of all workers meet in the one given, and returns the first in order of their faults.
 fn met<A: Allocator + Copy>(
     pass: &mut Pass<u64, A>,
     all: Vec<Done<A>, A>,
@@ -211,10 +211,10 @@ pub fn run_shared_on_stacks<
     Ok(length)
 }
 
-/// Pushes `count` numbers from each of `workers` threads into one vector, and answers its length at the end, which is `workers * count`.
+/// Pushes `count` numbers from each of `workers` threads into one vector, and returns its length at the end, which is `workers * count`.
 ///
 /// Worker `w`, counted from 0, pushes `w * count` to `w * count + count - 1` in order, and after each push it asks the gate whether to go on.
-/// `Err` is the first in order of the faults that came; a worker stops at a refused push and at a false answer of its gate, and the others go
+/// `Err` is the first in order of the faults that came; a worker stops at a failed push and at a false result of its gate, and the others go
 /// on. At the end every thread that was started has ended, at `Err` too. It waits, and takes memory for the vector and its threads.
 /// `O(workers * count)` pushes, side by side.
 pub fn run_shared<R: Threads + Wait + Sync, G: Gate + Sync, A: Allocator + Copy + Send + Sync>(

@@ -1,6 +1,6 @@
 //! The collections that threads share.
 //!
-//! The locked forms take their lock for one call each; a call that may wait takes the right to wait. The looks at a [`LockFreeFrozenVec`] wait
+//! The locked forms take their lock for one call each; a call that may wait takes the right to wait. Reads of a [`LockFreeFrozenVec`] wait
 //! for nobody. [`history`] has the recorder, [`machine`] every schedule of the concurrent vector.
 pub use elsa_free::lock_free::{LockFreeFrozenVec, Pass};
 pub use elsa_free::{geometry, lock_free, machine, slots};

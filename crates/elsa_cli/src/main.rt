@@ -11,7 +11,7 @@ use std::process::ExitCode;
 
 const USAGE: &str = "usage: elsa intern | elsa shared W N";
 
-/// Writes a line on standard error; where that fails, nobody is left to tell.
+/// Writes a line on standard error; where that fails, there is nobody left to tell.
 fn complain(rt: &HostRuntime, message: &str) {
     let _ = eprintln!(rt; "{message}");
 }

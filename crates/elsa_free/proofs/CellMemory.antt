@@ -20,7 +20,6 @@ use types.Tokens.{name_new}
 use types.Kit.{Item, Goal, Seq, ‵, raw, some, given, later, ◌⊛◌, ◌$◌, ◌∵◌, !, qed, by, move, keep, drop as skip, use0, use1, use2, pick, learn, split, await, updating, now, rewrite, frame, fsplit, fsplit3, fjoin, fpick, fpack, feq_i, feq_l, done}
 use denote.RattleType.{RattleType, Valss}
 use denote.Memory.{part_at}
-use denote.Param.{layout}
 use denote.Shadow.{makes_shadow}
 use denote.Steps.{nothing}
 use denote.Struct.Struct.{Struct, within}

@@ -12,16 +12,6 @@ ends_below b low =
     let k : 4 ^ 31 ≡ 2 ^ 62 = refl in
     omega (arith, e, m, k)
 
--- the slot of a buffer is the place that lies that many places behind the buffer's first
-pub is_at : (b j : ℕ) → j < size_of b → IsAt (slots_before b + j) b j
-is_at b j low = record { begins = let e = before_power b in omega (arith, e); within = low }
-
-head_same : {A : Type 0} (d : A) (xs ys : List A) → xs ≡ ys → slice_index_or xs 0 d ≡ slice_index_or ys 0 d
-head_same d xs ys e = ap (λ l. slice_index_or l 0 d) e
-
-pub first_right : (row : List ℕ) (j r : ℕ) (rest : List ℕ) → j < length row → drop j row ≡ r ∷ rest → r ≡ slice_index_or row j 0
-first_right row j r rest low e = sym (head_same 0 _ _ (sym (drop-cons row j 0 low) ∙ e))
-
 tail_of : {A : Type 0} → List A → List A
 tail_of [] = []
 tail_of (x ∷ xs) = xs
@@ -49,6 +39,3 @@ whole_below n last left b at low =
 
 pub behind : (n last left : ℕ) → IsAt n last left → slots_before last + left ≡ n
 behind n last left at = let e = before_power last in let f = at.begins in omega (arith, e, f)
-
-pub next_buffer : (b : ℕ) → slots_before (b + 1) ≡ slots_before b + size_of b
-next_buffer b = ap slots_before (let z : b + 1 ≡ suc b = omega arith in z)

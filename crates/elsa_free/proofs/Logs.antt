@@ -46,11 +46,6 @@ module _ {T : Type 0} where
   copied_items [] = refl
   copied_items (x ∷ xs) = ap (λ (l : List T). x ∷ l) (copied_items xs)
 
-  -- a clone's items are nobody's
-  pub copied_count : (a : ℕ) (xs : List T) → count (suc a) (copied xs) ≡ 0
-  copied_count a [] = refl
-  copied_count a (x ∷ xs) = let other : (0 == suc a) ≡ false = grind (arith, nat_tests) in let b = ap bit other in let h = copied_count a xs in omega (arith, b, h)
-
   pub items_append : (xs ys : List (Entry T)) → items_of (xs ++ ys) ≡ items_of xs ++ items_of ys
   items_append xs ys = map-append item_of xs ys
 

@@ -60,10 +60,6 @@ module _ {T : Type 0} where
   pub appended_end : (es fs : List (Entry T)) (i : ℕ) (e : Entry T) → Appends es fs i e → length fs ≡ i + 1
   appended_end es fs i e (before, pre, at, is) = ap length is ∙ (length-append before (e ∷ []) ∙ ap (λ (k : ℕ). k + 1) at)
 
-  -- and it was appended to the empty list and more
-  pub appended_to_nothing : (es fs : List (Entry T)) (i : ℕ) (e : Entry T) → Appends es fs i e → Appends [] fs i e
-  appended_to_nothing es fs i e (before, pre, at, is) = (before, (before, refl), at, is)
-
 -- a number in a list, by the list's own form
 In : ℕ → List ℕ → Type 0
 In n [] = ⊥

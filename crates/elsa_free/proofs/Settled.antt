@@ -1,5 +1,5 @@
 -- What a token shows of a history that was seen, by a look at what lies in the rule, with no step of the machine. Assumes `Logic`.
-use Rattle.std.proofs.Common.{◌≡◌, ℕ, suc, ◌≤◌, List, [], ◌∷◌, map, subst, arith}
+use Rattle.std.proofs.Common.{◌≡◌, ℕ, suc, ◌≤◌, List, [], ◌∷◌, ◌++◌, map, refl, sym, ◌∙◌, ap, subst, arith}
 use mathlib.Core.List.{IsPrefix}
 use seplogic.Ra.Ura.{Ura}
 use base.Fraction.{full_share}
@@ -10,17 +10,19 @@ use base.Growing.{latest}
 use types.Logic.{Logic, sem}
 use types.Keyed.{tickets_from}
 use types.Growing.{latest_bounds}
-use types.Kit.{‵, ◌⊛◌, some, given, ◌$◌, ◌∵◌, !, qed, by, move, keep, drop, split, split3, fsplit, fsplit3, fjoin, fjoin3, fpick, fpack, pick, learn, show, check, frame, assume, suffices, done, use1, use2}
+use types.Kit.{‵, ◌⊛◌, some, given, ◌$◌, ◌∵◌, !, qed, by, move, keep, drop, split, split3, fsplit, fsplit3, fjoin, fjoin3, fpick, fpack, pick, learn, show, check, frame, assume, suffices, done, use1, use2, rewrite}
 use denote.Steps.{nothing}
 use denote.RattleType.{RattleType}
 use Rattle.logbook.specs.Pages.{Cell, Book, Calm}
 use Rattle.logbook.specs.Kept.{roster, logs, Rules, reached, standing, contents, seen_owns}
 use Rattle.logbook.proofs.Roster.{prefix_out}
 use Rattle.elsa_free.specs.declared.event.Event.{Event}
-use Rattle.elsa_free.specs.SharedList.{count}
+use Rattle.elsa_free.specs.SharedList.{count, items_of}
 use Rattle.elsa_free.specs.History.{list_of}
-use Rattle.elsa_free.specs.Rights.{kept, tickets}
+use Rattle.elsa_free.specs.Rights.{kept, tickets, tops_of, all_told}
+use Rattle.elsa_free.proofs.Logs.{items_append, list_prefix}
 use Rattle.elsa_free.proofs.Tickets.{tickets_bound}
+use Rattle.elsa_free.proofs.ToldPlaces.{all_dup, all_first}
 
 module _ {M : Type 1} {𝓤 : Ura M} (𝓛 : Logic 𝓤) where
   open 𝓛 use {H}
@@ -91,9 +93,30 @@ module _ {M : Type 1} {𝓤 : Ura M} (𝓛 : Logic 𝓤) where
           use2 𝓛 (given (F s.1) (‵ (rule.keeps names (rule.shows s.1)) ⊛ ‵ X)) (test s.1) $ learn ! (λ f. split ! $ move ! (2 ∷ 3 ∷ 0 ∷ []) $
           types.Kit.use3 𝓛 (‵ J) (shut s.0 s.1 so.0) $ frame ! $ show ! (Shown x) s.1 $ check ! (so.1, f) $ done !))))
 
+    -- what the rule gives out of every history that begins so, and keeps, is had of a history that was seen
+    module _ (X : Fml) (x : List E) (gives : (log : List E) → IsPrefix x log → ⟦ rule.keeps names (rule.shows log) ⟧ ⊢ ⟦ rule.keeps names (rule.shows log) ⟧ ∗ ⟦ X ⟧) where
+      pub hands : ⟦ K x ⟧ ⊢ H.⇛ ⟦ X ⟧
+      hands = qed 𝓛 (‵ (K x) ∷ []) ∵ use1 𝓛 (given Q (‵ N ⊛ ‵ (had x))) (opened x) $ learn ! (λ calm. split ! $
+          use1 𝓛 (‵ (finv J)) (𝓛.invs.named_inv bk.number J) $
+          suffices ! _ (𝓛.invs.inv_acc J ⟦ X ⟧) $ frame ! $ assume ! (‵ J) $ suffices ! _ (upd_i 𝓤 (⟦ J ⟧ ∗ ⟦ X ⟧)) $ use2 𝓛 (seeing x) (looked x) $ pick ! (λ s. learn ! (λ so. split3 ! $ move ! (2 ∷ []) $
+          use1 𝓛 (‵ (rule.keeps names (rule.shows s.1)) ⊛ ‵ X) (gives s.1 so.1) $ split ! $ move ! (2 ∷ 3 ∷ 0 ∷ []) $
+          types.Kit.use3 𝓛 (‵ J) (shut s.0 s.1 so.0) $ done !)))
+
   -- an author has no more entries in the rule than it used tickets
   pub rule_bound : (T B : RattleType) (ids : B.Denot → List ℕ) (names : List ℕ) (a n : ℕ) (log : List (Event T.Denot))
       → ⟦ kept T B ids names log ⟧ ∗ ⟦ tickets_from a n ⟧ ⊢ guard 𝓤 (count (suc a) (list_of log) ≤ n) (⟦ kept T B ids names log ⟧ ∗ ⟦ tickets_from a n ⟧)
   rule_bound T B ids names a n log = qed 𝓛 (‵ (kept T B ids names log) ∷ ‵ (tickets_from a n) ∷ []) ∵ fsplit ! $ move ! (1 ∷ []) $ fsplit ! $ move ! (1 ∷ 3 ∷ []) $
       use2 𝓛 (given (count (suc a) (list_of log) ≤ n) (‵ (tickets [] (list_of log)) ⊛ ‵ (tickets_from a n))) (tickets_bound 𝓛 T.Denot a n [] (list_of log) (omega arith)) $ learn ! (λ le. split ! $
       check ! le $ move ! (2 ∷ 0 ∷ []) $ fjoin ! $ move ! (2 ∷ 0 ∷ []) $ fjoin ! $ done !)
+
+  -- the rule gives out the evidence that a beginning of its list was written, and keeps what it has
+  pub rule_gives : (T B : RattleType) (ids : B.Denot → List ℕ) (names : List ℕ) (x log : List (Event T.Denot)) → IsPrefix x log
+      → ⟦ kept T B ids names log ⟧ ⊢ ⟦ kept T B ids names log ⟧ ∗ ⟦ all_told T B ids (tops_of names) 0 (items_of (list_of x)) ⟧
+  rule_gives T B ids names x log pre =
+      let q = list_prefix x log pre in let all = items_of (list_of log) in let short = items_of (list_of x) in
+      let more : all ≡ short ++ items_of q.0 = sym (ap items_of q.1) ∙ items_append (list_of x) q.0 in
+      let All : List T.Denot → Fml = all_told T B ids (tops_of names) 0 in
+      qed 𝓛 (‵ (kept T B ids names log) ∷ []) ∵ fsplit ! $ move ! (1 ∷ []) $ fsplit ! $
+      use1 𝓛 (‵ (All all) ⊛ ‵ (All all)) (all_dup 𝓛 T B ids (tops_of names) 0 all) $ split ! $
+      rewrite ! 0 (λ (xs : List T.Denot). ‵ (All xs)) more refl $ use1 𝓛 (‵ (All short)) (all_first 𝓛 T B ids (tops_of names) 0 short (items_of q.0)) $
+      move ! (1 ∷ 2 ∷ []) $ fjoin ! $ move ! (2 ∷ 0 ∷ []) $ fjoin ! $ done !

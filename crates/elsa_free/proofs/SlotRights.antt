@@ -4,7 +4,6 @@ use seplogic.Ra.Ura.{Ura}
 use base.Logic.{ent, sep, id⊢}
 use types.Logic.{Logic, sem}
 use types.Kit.{‵, ◌⊛◌, ◌$◌, ◌∵◌, !, qed, by, move, drop, split, fsplit, fjoin, frame, use2, done}
-use denote.Steps.{nothing}
 use Rattle.elsa_free.specs.Slot.{blank, blanks}
 
 abbrev pub front : List ℕ → ℕ

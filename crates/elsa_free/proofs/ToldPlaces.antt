@@ -9,7 +9,6 @@ use types.Tokens.{res_dup}
 use denote.Steps.{nothing}
 use denote.RattleType.{RattleType}
 use Rattle.elsa_free.specs.Geometry.{IsAt}
-use Rattle.elsa_free.specs.Slot.{fact}
 use denote.Shadow.{makes_shadow}
 use denote.Struct.Struct.{Struct}
 use denote.Struct.Owning.{shape}
@@ -65,6 +64,11 @@ module _ {M : Type 1} {𝓤 : Ura M} (𝓛 : Logic 𝓤) (T B : RattleType) (ids
   all_append i [] ys = let none : List T.Denot = [] in qed 𝓛 (‵ ftrue ∷ ‵ (All (i + length none) ys) ∷ []) ∵ rewrite ! 1 (λ (k : ℕ). ‵ (All k ys)) (let z : i + 0 ≡ i = omega arith in z) refl $ keep ! (1 ∷ []) $ done !
   all_append i (x ∷ xs) ys = qed 𝓛 ((‵ (One i x) ⊛ ‵ (All (suc i) xs)) ∷ ‵ (All (i + length (x ∷ xs)) ys) ∷ []) ∵ split ! $
       rewrite ! 2 (λ (k : ℕ). ‵ (All k ys)) (let z : i + suc (length xs) ≡ suc i + length xs = omega arith in z) refl $ move ! (1 ∷ 2 ∷ []) $ use2 𝓛 (‵ (All (suc i) (xs ++ ys))) (all_append (suc i) xs ys) $ move ! (1 ∷ 0 ∷ []) $ fjoin ! $ done !
+
+  -- the evidence of the first places alone
+  pub all_first : (i : ℕ) (xs ys : List T.Denot) → ⟦ All i (xs ++ ys) ⟧ ⊢ ⟦ All i xs ⟧
+  all_first i [] ys = qed 𝓛 (‵ (All i ys) ∷ []) ∵ drop ! $ nothing ! $ done !
+  all_first i (x ∷ xs) ys = qed 𝓛 (‵ (One i x) ∷ ‵ (All (suc i) (xs ++ ys)) ∷ []) ∵ move ! (1 ∷ []) $ use1 𝓛 (‵ (All (suc i) xs)) (all_first (suc i) xs ys) $ move ! (1 ∷ 0 ∷ []) $ fjoin ! $ done !
 
   -- the evidence of the place i + k
   pub at_one : (i k : ℕ) (xs : List T.Denot) (d : T.Denot) → k < length xs → ⟦ All i xs ⟧ ⊢ ⟦ One (i + k) (slice_index_or xs k d) ⟧

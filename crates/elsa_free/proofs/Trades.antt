@@ -1,7 +1,6 @@
 -- The offers over all that lies in the rule. Assumes `Logic`.
 use Rattle.std.proofs.Common.{◌≡◌, ℕ, zero, suc, ◌+◌, ◌*◌, ◌^◌, ◌<◌, ◌≤◌, ◌==◌, ◌⊎◌, inl, inr, Bool, true, false, List, [], ◌∷◌, ◌++◌, length, drop as drops, slice_index_or, refl, ap, sym, ◌∙◌, subst, arith, length-append, append_assoc, None}
 use Rattle.std.proofs.lemmas.List.{append-nil}
-use native.Mathlib.Decide.{ℕ_discrete}
 use seplogic.Ra.Ura.{Ura}
 use base.Fraction.{full_share}
 use base.Share.{quarter, three_quarters}
@@ -16,7 +15,6 @@ use types.Kit.{‵, raw, ◌⊛◌, some, given, later, mean, ◌$◌, ◌∵◌
 use denote.Steps.{nothing}
 use denote.RattleType.{RattleType}
 use Rattle.logbook.specs.Kept.{offer_owns}
-use Rattle.elsa_free.specs.Slot.{written, blanks}
 use Rattle.elsa_free.specs.declared.event.Entry.{Entry}
 use Rattle.elsa_free.specs.declared.event.Event.{Event}
 use Rattle.elsa_free.specs.declared.event.Event.TheVariants.{Took, Put, Copied, Gave, Seat}

@@ -144,14 +144,6 @@ pub chosen : {A : Type 0} (B : Type 0) (m n : ℕ) → m ≡ n → MatchBool (m 
 chosen {A} B m n e x = let is : (m == n) ≡ true = grind (arith, nat_tests) in subst (λ (b : Bool). MatchBool b A B) is x
 
 module _ (T : Type 0) where
-  pub acquired : (log new : List (Event T)) (ask : Event T) (found : ℕ) → ask ≡ Took → new ≡ log ++ ask ∷ [] → word_of log ≡ found → is_held log ≡ false
-      → (2 * length (list_of new) ≡ found) × (is_held new ≡ true)
-  acquired log new ask found took is was free =
-      let all : new ≡ log ++ Took ∷ [] = cc (is, took) in
-      let len : length (list_of (log ++ Took ∷ [])) ≡ length (list_of log) = omega (arith, ap length (list_snoc log Took), length-append (list_of log) []) in
-      let z = ap bit free in let l = ap (λ (x : List (Event T)). length (list_of x)) all in
-      (omega arith, ap is_held all ∙ held_snoc true log Took)
-
   pub ended : (v log new : List (Event T)) (e : Event T) (found held : ℕ) → IsPrefix v log → length log ≡ length v → word_of log ≡ found → held ≡ word_of v
       → MatchBool (found == held) (new ≡ log ++ e ∷ []) (new ≡ log) → new ≡ v ++ e ∷ []
   ended v log new e found held pre len was is then =
@@ -165,9 +157,6 @@ word_held v held len on some_held = let z = ap bit on in omega arith
 module _ (T : Type 0) where
   abbrev Logs : Type 0
   Logs = List (Event T)
-
-  shows_all : Logs → Logs
-  shows_all log = log
 
   pub sees_moves : (v : Logs) (state : Rattle.core.specs.declared.option.Option.Option Logs) (ask : Event T) → Moves IsKept (λ (log : Logs). log) (Moved ask) 0 (v, (no_nib, state)) (λ n. n) (Sees (step 0 0 0 ask) (v, (no_nib, state)))
   sees_moves v state ask cs log kept pre away = let all : log ++ [] ≡ log = append-nil log in

@@ -56,10 +56,6 @@ module _ {T : Type 0} where
   abbrev pub IsSamePass : View T → View T → Type 0
   IsSamePass before after = (after.vector ≡ before.vector) × (after.author ≡ before.author)
 
-  -- there is a pass of the vector with the property: one that a call made for itself and let go
-  abbrev pub SomePass : Vector → (View T → Type 0) → Type 0
-  SomePass vector P = (pass : View T) × (pass.vector ≡ vector) × P pass
-
   -- the longer of two lists, the first where they are as long
   abbrev pub longer : List (Entry T) → List (Entry T) → List (Entry T)
   longer xs ys = if nat_le (length ys) (length xs) then xs else ys

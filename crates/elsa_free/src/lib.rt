@@ -4,8 +4,10 @@
 
 mod event;
 pub mod geometry;
+mod iter;
 pub mod lock_free;
 pub mod machine;
+mod pass;
 mod rule;
 mod shared;
 pub mod slots;

@@ -15,6 +15,7 @@ ghost use Rattle.elsa_free.specs.OneWord.{word_in, word_of};
 
 use crate::event::Event;
 use crate::geometry::{buffer_size, locate};
+use crate::iter::Iter;
 use crate::rule::{Acquire, End, Gives, Log, Look, Looks, Nothing, OneWord, Puts, See, Takes};
 use crate::slots::{Ahead, Blanks, Copied as CopiedSlots, Row, Slots, Told, Written};
 use crate::trade::{
@@ -357,19 +358,27 @@ impl<T: Copy + Drop, A: Allocator + Copy> Shared<T, A> {
         }
     }
 
-    /// One item of what was seen.
-    pub fn item(&self, filled: Told<T, Row<T, A>>, place: usize) -> (Told<T, Row<T, A>>, T)
-        requires tops { filled.tops ≡ tops_of self.now.first.names }
-        requires place { (place < length filled.items) × (length filled.items < 2 ^ 62) }
-        ensures same { (result.0.tops ≡ filled.tops) × (result.0.items ≡ filled.items) }
-        ensures item { slice_get filled.items place ≡ Some result.1 }
+    /// One item of what is known to be written. It takes no atomic step.
+    pub fn item(&self, told: &Told<T, Row<T, A>>, place: usize) -> T
+        requires tops { told.now.tops ≡ tops_of self.now.first.names }
+        requires place { (place < length told.now.items) × (length told.now.items < 2 ^ 62) }
+        ensures { slice_get told.now.items place ≡ Some result }
     {
         let (buffer, slot) = locate(place);
-        let (row, item) = filled.at(place, buffer, slot);
+        let (row, item) = told.at(place, buffer, slot);
         let answer = self.slots.read(buffer, slot, &row, &item);
         row.unused();
         item.unused();
-        (filled, answer)
+        answer
+    }
+
+    /// A walk over the items that are known to be written. It takes no atomic step.
+    pub fn items<'a>(&'a self, told: Told<T, Row<T, A>>, len: usize) -> Iter<'a, T, A>
+        requires tops { told.tops ≡ tops_of self.now.first.names }
+        requires len { (len ≡ length told.items) × (len < 2 ^ 62) }
+        ensures { result ≡ told.items }
+    {
+        Iter::new(&self.slots, told, len)
     }
 
     /// One look: the length of the list then, with the evidence for all of it.
@@ -398,32 +407,26 @@ impl<T: Copy + Drop, A: Allocator + Copy> Shared<T, A> {
 }
 
 impl<T: Copy + Drop + PartialEq, A: Allocator + Copy> Shared<T, A> {
-    /// Whether what was seen of this vector and what was seen of another are `n` equal items each, one by one.
+    /// Whether what is known to be written in this vector and in another are `n` equal items each, one by one.
     pub fn has_items_of(
         &self,
-        filled: Told<T, Row<T, A>>,
+        told: &Told<T, Row<T, A>>,
         other: &Shared<T, A>,
-        other_filled: Told<T, Row<T, A>>,
+        other_told: &Told<T, Row<T, A>>,
         n: usize,
     ) -> bool
-        requires tops { (filled.tops ≡ tops_of self.now.first.names) × (other_filled.tops ≡ tops_of other.now.first.names) }
-        requires n { (n ≡ length filled.items) × (n ≡ length other_filled.items) × (n < 2 ^ 62) }
-        ensures { result ≡ pointwise T.eq filled.items other_filled.items }
+        requires tops { (told.now.tops ≡ tops_of self.now.first.names) × (other_told.now.tops ≡ tops_of other.now.first.names) }
+        requires n { (n ≡ length told.now.items) × (n ≡ length other_told.now.items) × (n < 2 ^ 62) }
+        ensures { result ≡ pointwise T.eq told.now.items other_told.now.items }
     {
-        let mut filled = filled;
-        let mut other_filled = other_filled;
         let mut equal = true;
         let mut place = 0;
         while equal && place < n {
-            let (rest, item) = self.item(filled, place);
-            let (other_rest, other_item) = other.item(other_filled, place);
-            filled = rest;
-            other_filled = other_rest;
+            let item = self.item(told, place);
+            let other_item = other.item(other_told, place);
             equal = item == other_item;
             place += 1;
         }
-        filled.unused();
-        other_filled.unused();
         equal
     }
 }

@@ -275,6 +275,15 @@ pub fn settled<T, B: Shelf>(seen: &Seen<Event<T>, Log<T>, OneWord<B>>, author: A
     }
 }
 
+/// A history that was seen shows, for good, that each place of its list was written. It takes no atomic step.
+pub fn evidence<T, B: Shelf>(_seen: &Seen<Event<T>, Log<T>, OneWord<B>>) -> Told<T, B>
+    ensures { (result.tops ≡ tops_of _seen.now.names) × (result.items ≡ items_of (list_of _seen.now.log)) }
+{
+    Told {
+        marker: PhantomData,
+    }
+}
+
 /// Two passes are two authors.
 pub fn apart(one: Author, other: Author) -> (Author, Author)
     ensures { (result.0.name ≡ one.name) × (result.0.used ≡ one.used) × (result.1.name ≡ other.name) × (result.1.used ≡ other.used) × (one.name ≢ other.name) }

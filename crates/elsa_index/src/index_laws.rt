@@ -11,9 +11,9 @@ use elsa_once::stable::StableDeref;
 use std::alloc::{AllocError, Allocator};
 use std::hash::{BuildHasher, Hash};
 
-/// Two insertions, one after the other, and the places that they answered.
+/// Two insertions, one after the other, and the places that they returned.
 ///
-/// What the map held before stands at its old places, also where an insertion is refused, and each answered place keeps its
+/// What the map held before is at its old places, also where an insertion is refused, and each returned place keeps its
 /// key.
 pub fn insert_both<
     'a,
@@ -130,9 +130,9 @@ where
     first == second
 }
 
-/// Two insertions into a set, one after the other, and the places that they answered.
+/// Two insertions into a set, one after the other, and the places that they returned.
 ///
-/// What the set held before stands at its old places, also where an insertion is refused, and each answered place keeps its
+/// What the set held before is at its old places, also where an insertion is refused, and each returned place keeps its
 /// value.
 pub fn set_insert_both<
     'a,

@@ -1,6 +1,6 @@
 //! A map whose pairs keep the order of their first insertions.
 //!
-//! A new key goes last, and a key that is there keeps its place and its value. The layers above use the list of pairs that
+//! A new key goes last, and a present key keeps its place and its value. The layers above use the list of pairs that
 //! the contracts speak of, and `rebase`.
 ghost use Rattle.std.specs.Prelude.{◌≡◌, ◌++◌, ◌∷◌, ◌↔◌, [], ℕ, List, length, false, None, Ok, Some, slice_get, IfOk, IfSome, IsSome, IsSomeAnd, IsTrue, MatchOption, OnOk, OnErr, cond};
 ghost use Rattle.std.specs.Cmp;
@@ -117,7 +117,7 @@ impl<'a, K: Eq + Hash, V: StableDeref<'a>, S: BuildHasher, A: Allocator + Copy> 
         self.map.get_index_of(key)
     }
 
-    /// The value at this key, `None` exactly if the key isn't there.
+    /// The value at this key, `None` exactly if the key is absent.
     ///
     /// It takes no memory. `O(1)`: one hash.
     pub fn get(&self, key: &K) -> Option<V::Borrow>
@@ -156,7 +156,7 @@ impl<'a, K: Eq + Hash, V: StableDeref<'a>, S: BuildHasher, A: Allocator + Copy> 
         }
     }
 
-    /// What `f` answers at the value of this key. It is called once if the key is there, and else never.
+    /// What `f` returns for the value of this key. It is called once if the key is present, and else never.
     ///
     /// It takes no memory of its own. `O(1)`: one hash.
     pub fn map_get<R, F: FnOnce(V::Borrow) -> R>(&self, key: &K, f: F) -> Option<R>
@@ -199,11 +199,11 @@ impl<
         Ok(borrow)
     }
 
-    /// Adds the pair last, unless the key is there, and answers its place, the value that the key now has and whether the
+    /// Adds the pair last, unless the key is present, and returns its place, the value that the key now has and whether the
     /// key is new.
     ///
-    /// It looks first, by the one hash of the call: where the key is there, its place and value are answered with `false`,
-    /// the given key and value are given up, no memory is taken and nothing changes. Otherwise the table makes room for one
+    /// It looks first, by the one hash of the call: where the key is present, its place and value are returned with `false`,
+    /// the given key and value are dropped, no memory is taken and nothing changes. Otherwise the table makes room for one
     /// pair, the value is placed in the arena and the pair goes last. `AllocError` comes only for an absent key and leaves
     /// the map as it was; the table may keep the room.
     #[tactic(auto, using(crate::proofs::Content::no_place))]
@@ -235,7 +235,7 @@ impl<
         Ok((place, borrow, true))
     }
 
-    /// Adds the pair last, unless the key is there, and answers its place and the value that the key now has.
+    /// Adds the pair last, unless the key is present, and returns its place and the value that the key now has.
     ///
     /// Costs and the refusal are those of `insert_full_new`.
     pub fn insert_full(&mut self, key: K, value: V) -> Result<(usize, V::Borrow), AllocError>
@@ -250,7 +250,7 @@ impl<
         Ok((place, borrow))
     }
 
-    /// Adds the pair last, unless the key is there, and answers the value that the key now has and whether the key is new.
+    /// Adds the pair last, unless the key is present, and returns the value that the key now has and whether the key is new.
     ///
     /// Costs and the refusal are those of `insert_full_new`.
     pub fn insert_new(&mut self, key: K, value: V) -> Result<(V::Borrow, bool), AllocError>
@@ -264,7 +264,7 @@ impl<
         Ok((borrow, new))
     }
 
-    /// Adds the pair last, unless the key is there, and answers the value that the key now has.
+    /// Adds the pair last, unless the key is present, and returns the value that the key now has.
     ///
     /// Costs and the refusal are those of `insert_full_new`.
     pub fn insert(&mut self, key: K, value: V) -> Result<V::Borrow, AllocError>
@@ -286,7 +286,7 @@ impl<
     S: BuildHasher + Drop,
     A: Allocator + Copy,
 > FrozenIndexMap<'a, K, V, S, A> {
-    // Gives a key a value, whether or not it is there.
+    // Gives a key a value, whether or not it is present.
     fn set(&mut self, key: K, value: V) -> Result<V::Borrow, AllocError>
         ensures placed { IfOk result (λ b. V.shown b ≡ V.target value) }
         ensures entries { IfOk result (λ b. self.new ≡ insert_entry K.eq self.old key b) }
@@ -324,7 +324,7 @@ impl<
     ///
     /// The values' borrows are shared, the keys are cloned. Later insertions into either leave the other as it is. It makes
     /// room once, for all pairs. `O(len)`. `AllocError` comes only where the room, the clone of a key or that of the builder
-    /// was refused.
+    /// failed.
     pub fn clone(&self) -> Result<Self, AllocError>
     where
         K: Clone,
@@ -344,7 +344,7 @@ impl<
 
     /// The pairs as a vector, each once, in the order of their first insertions.
     ///
-    /// `AllocError` comes where the vector was refused room; the map is given up then.
+    /// `AllocError` comes where the vector got no memory; the map is dropped then.
     pub fn into_tuple_vec(self) -> Result<Vec<(K, V::Borrow), A>, AllocError>
         ensures pairs { IfOk result (λ pairs. pairs.items ≡ self.entry) }
         ensures once { IfOk result (λ pairs. IsDistinct K.eq (keys_of pairs.items)) }
@@ -398,7 +398,7 @@ impl<'a, 'q, K: Eq + Hash, V: StableDeref<'a>, S: BuildHasher, A: Allocator + Co
 
     ghost index_gives = { λ m k b. value_of K.eq m k.now ≡ Some b };
 
-    // The value at this key. The caller sees to it that the key is there.
+    // The value at this key. The caller makes sure that the key is present.
     fn index(&self, key: &'q K) -> &V::Borrow {
         self.map.get(key).unwrap()
     }

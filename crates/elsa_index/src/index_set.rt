@@ -154,7 +154,7 @@ where
     /// A set with the same content, in the same arena, under a clone of the hash builder.
     ///
     /// The borrows are shared. Later insertions into either leave the other as it is. It makes room once, for all values.
-    /// `O(len)`. `AllocError` comes only where the room or the clone of the builder was refused.
+    /// `O(len)`. `AllocError` comes only where the room or the clone of the builder failed.
     pub fn clone(&self) -> Result<Self, AllocError>
     where
         S: Clone,
@@ -193,9 +193,9 @@ impl<
 where
     <T as StableDeref<'a>>::Borrow: Eq + Hash,
 {
-    /// Adds a value that is absent last, and answers its place and its borrow: the call for one that has looked.
+    /// Adds a value that is absent last, and returns its place and its borrow: the call for one that has looked.
     ///
-    /// The caller sees to it that no equal value is there, as `get_index_of` tells. The value is placed in the arena, by one
+    /// The caller makes sure that no equal value is present, as `get_index_of` tells. The value is placed in the arena, by one
     /// hash. `AllocError` leaves the set as it was; the arena may keep a copy that nobody sees.
     pub fn insert_absent(&mut self, value: T) -> Result<(usize, T::Borrow), AllocError>
         requires absent { position (T.finds value) self.old ≡ None }
@@ -216,10 +216,10 @@ where
         Ok((place, borrow))
     }
 
-    /// Adds the value last, unless an equal one is there, and answers its place, the stored value and whether it is new.
+    /// Adds the value last, unless an equal one is present, and returns its place, the stored value and whether it is new.
     ///
-    /// It looks first, by one hash: where an equal value is there, that one is answered with its place and `false`, the
-    /// given one is given up, no memory is taken and nothing changes. Otherwise the value is placed in the arena and goes
+    /// It looks first, by one hash: where an equal value is present, that one is returned with its place and `false`, the
+    /// given one is dropped, no memory is taken and nothing changes. Otherwise the value is placed in the arena and goes
     /// last, by one more hash. `AllocError` comes only for an absent value and leaves the set as it was; the arena may
     /// keep a copy that nobody sees.
     #[tactic(auto, using(crate::proofs::Content::found_within))]
@@ -241,7 +241,7 @@ where
         Ok((place, borrow, true))
     }
 
-    /// Adds the value last, unless an equal one is there, and answers its place and the stored value.
+    /// Adds the value last, unless an equal one is present, and returns its place and the stored value.
     ///
     /// Costs and the refusal are those of `insert_full_new`.
     pub fn insert_full(&mut self, value: T) -> Result<(usize, T::Borrow), AllocError>
@@ -257,7 +257,7 @@ where
         Ok((place, borrow))
     }
 
-    /// Adds the value last, unless an equal one is there, and answers the stored value and whether it is new.
+    /// Adds the value last, unless an equal one is present, and returns the stored value and whether it is new.
     ///
     /// Costs and the refusal are those of `insert_full_new`.
     #[tactic(auto, using(crate::proofs::Content::found_at))]
@@ -271,7 +271,7 @@ where
         Ok((borrow, new))
     }
 
-    /// Adds the value last, unless an equal one is there, and answers the stored value.
+    /// Adds the value last, unless an equal one is present, and returns the stored value.
     ///
     /// Costs and the refusal are those of `insert_full_new`.
     #[tactic(auto, using(crate::proofs::Content::found_at))]
@@ -287,9 +287,9 @@ where
 }
 
 impl<'a, B: Allocator, S: BuildHasher, A: Allocator + Copy> FrozenIndexSet<'a, String<B>, S, A> {
-    /// Adds a text that is absent last, and answers its place and its borrow: `insert_absent` without a `String`.
+    /// Adds a text that is absent last, and returns its place and its borrow: `insert_absent` without a `String`.
     ///
-    /// The caller sees to it that no equal text is there, as `get_index_of` tells. A copy of the text goes straight into
+    /// The caller makes sure that no equal text is present, as `get_index_of` tells. A copy of the text goes straight into
     /// the arena, by one hash. `AllocError` leaves the set as it was; the arena may keep a copy that nobody sees.
     pub fn insert_absent_text(&mut self, text: &str) -> Result<(usize, &'a str), AllocError>
         requires absent { position (λ k. bytes_eq text.now k.now) self.old ≡ None }
@@ -319,8 +319,8 @@ where
 {
     /// A set of the values, which keeps the first of equal ones.
     ///
-    /// Each value whose target is absent is placed in the arena; the others are given up. Two hashes a value at most.
-    /// `AllocError` comes only where the arena or the table was refused room.
+    /// Each value whose target is absent is placed in the arena; the others are dropped. Two hashes a value at most.
+    /// `AllocError` comes only where the arena or the table got no memory.
     pub fn from_iter<I: IntoIterator<Item = T>>(
         alloc: A,
         arena: &'a Bump,
@@ -377,7 +377,7 @@ where
 
     ghost index_gives = { λ s i b. slice_get s i ≡ Some b };
 
-    // The value at this place. The caller sees to it that the place is there.
+    // The value at this place. The caller makes sure that the place exists.
     fn index(&self, index: usize) -> &T::Borrow {
         &self.set[index]
     }

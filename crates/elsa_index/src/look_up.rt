@@ -1,7 +1,7 @@
 //! Finding a value in an index set by its target.
 //!
-//! The index set above asks nothing of a value but `LookUp`. Each form here hashes the value once, and never walks over
-//! the set. A reference may have any life, so a text on the stack finds a name in the arena.
+//! The index set above requires nothing of a value but `LookUp`. Each form here hashes the value once, and never walks over
+//! the set. A reference may have any lifetime, so a text on the stack finds a name in the arena.
 ghost use Rattle.std.specs.Prelude.{◌≡◌, Bool};
 ghost use Rattle.std.specs.Cmp.Lexicographic.{pointwise};
 ghost use Rattle.std.specs.Str.{bytes_eq};
@@ -86,7 +86,7 @@ impl<'a, 'b, U: Eq + Hash> LookUp<&'a [U]> for &'b [U] {
     }
 }
 
-// The place at which a set of borrows has a value, where the borrow asked with has a shorter life.
+// The place at which a set of borrows has a value, where the borrow asked with has a shorter lifetime.
 fn position_of<'b, U: Eq + Hash, S: BuildHasher, A: Allocator>(
     set: &IndexSet<&'b U, S, A>,
     value: &'b U,

@@ -23,7 +23,7 @@ pub use recorder::{CloseFault, Recorder};
 use std::alloc::AllocError;
 pub use vec_core::{VecCommand, VecReply};
 
-/// A sequential object that answers commands.
+/// A sequential object that takes commands and returns replies.
 pub trait Core {
     /// A call with its arguments.
     type Command: Copy + Eq;
@@ -40,10 +40,10 @@ pub trait Core {
     /// The state that the type opens with.
     ghost opening: { State };
 
-    /// The command, answered by the reply, takes a state to the next.
+    /// The command, with this reply, takes a state to the next.
     ghost steps: { State → Self.Command → Self.Reply → State → Type 0 };
 
-    /// Does the command and answers it. `Err` leaves the state.
+    /// Does the command and returns its reply. `Err` leaves the state.
     fn apply(&mut self, command: Self::Command) -> Result<Self::Reply, AllocError>
         ensures step { IfOk result (λ reply. steps (state self.old) command reply (state self.new)) }
         ensures err { OnErr result (state self.new ≡ state self.old) };

@@ -1,4 +1,4 @@
-//! Append-only collections for one thread, over values placed in an arena that the caller lends.
+//! Append-only collections for one thread, over values placed in an arena that the caller passes in.
 #![tactic(auto)]
 
 pub mod map;

@@ -11,7 +11,7 @@ pub(crate) fn binary_search<B: Copy + Ord>(items: &[B], target: &B) -> Result<us
     binary_search_by(items, |item: B| item.cmp(target))
 }
 
-/// A place that answered Equal, or else one between Less and Greater.
+/// A place that returned Equal, or else one between Less and Greater.
 pub(crate) fn binary_search_by<B: Copy, F: FnMut(B) -> Ordering>(
     items: &[B],
     mut order: F,
@@ -32,7 +32,7 @@ pub(crate) fn binary_search_by<B: Copy, F: FnMut(B) -> Ordering>(
     Err(left)
 }
 
-/// The same by keys: what the closure answers is compared with the key.
+/// The same by keys: what the closure returns is compared with the key.
 pub(crate) fn binary_search_by_key<B: Copy, K: Ord + Drop, F: FnMut(B) -> K>(
     items: &[B],
     key: &K,

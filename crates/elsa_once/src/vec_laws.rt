@@ -14,8 +14,8 @@ use std::cmp::Ordering;
 
 // ---- content
 
-/// A vector that is taken apart and made again has the same content, and so has the inner vector between: it answers what
-/// stood there at a place.
+/// A vector that is taken apart and made again has the same content, and so has the inner vector between: it returns what
+/// was there at a place.
 pub fn made_again<'a, T: StableDeref<'a>, A: Allocator + Copy>(
     arena: &'a Bump,
     items: FrozenVec<'a, T, A>,
@@ -29,7 +29,7 @@ pub fn made_again<'a, T: StableDeref<'a>, A: Allocator + Copy>(
     (between, FrozenVec::from_vec(arena, inner))
 }
 
-/// A push, accepted or refused, keeps what was there: the content begins as before, and a place that had an item has the same one.
+/// A push, accepted or refused, keeps the earlier content: it begins as before, and a place that had an item has the same one.
 pub fn looked_up_round_a_push<'a, T: StableDeref<'a>, A: Allocator + Copy>(
     items: &mut FrozenVec<'a, T, A>,
     place: usize,
@@ -62,7 +62,7 @@ pub fn outlives_its_vector<'a, T: StableDeref<'a>, A: Allocator + Copy>(
     Ok((borrow, later))
 }
 
-/// A clone and its source go their own ways.
+/// A clone and its source are independent of each other.
 pub fn pushed_apart<'a, T: StableDeref<'a>, A: Allocator + Copy>(
     items: &mut FrozenVec<'a, T, A>,
     one: T,
@@ -93,7 +93,7 @@ where
     one == other
 }
 
-/// Which of two vectors stands first makes no difference.
+/// Which of two vectors comes first makes no difference.
 pub fn equal_both_ways<'a, T: StableDeref<'a>, A: Allocator + Copy>(
     one: &FrozenVec<'a, T, A>,
     other: &FrozenVec<'a, T, A>,
@@ -134,7 +134,7 @@ pub fn walked<'a, T: StableDeref<'a>, A: Allocator + Copy, B: Allocator>(
     items.iter().collect(alloc)
 }
 
-/// A cursor at the end goes on after a push: it answers None before it, and then what was pushed.
+/// A cursor at the end goes on after a push: it returns None before it, and then what was pushed.
 pub fn read_on<'a, T: StableDeref<'a>, A: Allocator + Copy>(
     items: &mut FrozenVec<'a, T, A>,
     cursor: &mut Cursor,
@@ -155,7 +155,7 @@ pub fn read_on<'a, T: StableDeref<'a>, A: Allocator + Copy>(
 
 // ---- searches
 
-/// Where the closure's answers hang on the item alone, a search answers as a search of a slice does, also where the calls change the closure.
+/// Where the closure's results depend on the item alone, a search returns what a search of a slice does, also where the calls change the closure.
 pub fn place_by_order<'a, T: StableDeref<'a>, A: Allocator + Copy, F: FnMut(T::Borrow) -> Ordering>(
     items: &FrozenVec<'a, T, A>,
     order: F,

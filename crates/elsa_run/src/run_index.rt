@@ -1,6 +1,6 @@
 //! Whole runs of calls on an index map.
 //!
-//! Every list of commands is answered as the model answers it: what is held is the base with the first accepted value of each
+//! Every list of commands gets the model's reply: what is held is the base with the first accepted value of each
 //! further key.
 ghost use Rattle.std.specs.Prelude.{◌≡◌, IfOk, OnErr};
 ghost use Rattle.elsa_run.specs.IndexRun.{Step, IndexRunsTo};
@@ -14,25 +14,25 @@ use std::hash::{BuildHasher, Hash};
 /// A call on an index map, where `M` is the inner map.
 #[derive(Drop)]
 pub enum IndexCommand<K, V, M> {
-    /// `insert`, answered by `Item` or `NoMemory`.
+    /// `insert`, replied to by `Item` or `NoMemory`.
     Insert(K, V),
-    /// `insert_full`, answered by `Full` or `NoMemory`.
+    /// `insert_full`, replied to by `Full` or `NoMemory`.
     InsertFull(K, V),
-    /// `insert_new`, answered by `New` or `NoMemory`.
+    /// `insert_new`, replied to by `New` or `NoMemory`.
     InsertNew(K, V),
-    /// `insert_full_new`, answered by `FullNew` or `NoMemory`.
+    /// `insert_full_new`, replied to by `FullNew` or `NoMemory`.
     InsertFullNew(K, V),
-    /// `get`, answered by `Found`.
+    /// `get`, replied to by `Found`.
     Get(K),
-    /// `get_index_of`, answered by `Place`.
+    /// `get_index_of`, replied to by `Place`.
     IndexOf(K),
-    /// `is_empty`, answered by `Flag`.
+    /// `is_empty`, replied to by `Flag`.
     IsEmpty,
-    /// Another content in the place of what is there, as `as_mut` may leave it, answered by `Done`.
+    /// Another content in place of the present one, as `as_mut` may leave it, replied to by `Done`.
     Rebase(M),
 }
 
-/// What a call on an index map answered.
+/// The reply to a call on an index map.
 #[derive(Clone, Copy, Debug, PartialEq, Eq)]
 pub enum IndexReply<B> {
     /// The value that the key now has.
@@ -43,15 +43,15 @@ pub enum IndexReply<B> {
     New(B, bool),
     /// The key's place, the value that it now has, and whether the key was new.
     FullNew(usize, B, bool),
-    /// The value at the key, if it is there.
+    /// The value at the key, if it is present.
     Found(Option<B>),
-    /// The place of the key, if it is there.
+    /// The place of the key, if it is present.
     Place(Option<usize>),
     /// Whether there are no pairs.
     Flag(bool),
-    /// The new content stands.
+    /// The new content is in place.
     Done,
-    /// Memory for an absent key was refused. The map is as it was.
+    /// An allocation for an absent key failed. The map is as it was.
     NoMemory,
 }
 
@@ -89,7 +89,7 @@ fn apply<'a, K: Eq + Hash + Drop, V: StableDeref<'a>, S: BuildHasher + Drop, A: 
     }
 }
 
-/// Makes the calls in order and answers one reply a command, at the command's place.
+/// Makes the calls in order and returns one reply for each command, at the command's place.
 ///
 /// The room for all replies is made before the first call, so `AllocError` means that no call was made. A call that is
 /// refused gets the reply `NoMemory`, which comes only for an absent key, and the run goes on.

@@ -1,6 +1,6 @@
 //! Whole runs of calls on a map, hashed or ordered.
 //!
-//! Every list of commands is answered as the model answers it: at each key stands the base's value, or else the first
+//! Every list of commands gets the model's reply: each key has the base's value, or else the first
 //! accepted one of the epoch.
 ghost use Rattle.std.specs.Prelude.{◌≡◌, IfOk, OnErr};
 ghost use Rattle.elsa_run.specs.MapRun.{RunsTo, Step};
@@ -12,36 +12,36 @@ use std::alloc::{AllocError, Allocator};
 /// A call on a map, where `M` is the inner map.
 #[derive(Drop)]
 pub enum MapCommand<K, V, M> {
-    /// `insert`, answered by `Item` or `NoMemory`.
+    /// `insert`, replied to by `Item` or `NoMemory`.
     Insert(K, V),
-    /// `insert_new`, answered by `New` or `NoMemory`.
+    /// `insert_new`, replied to by `New` or `NoMemory`.
     InsertNew(K, V),
-    /// `get`, answered by `Found`.
+    /// `get`, replied to by `Found`.
     Get(K),
-    /// `len`, answered by `Count`.
+    /// `len`, replied to by `Count`.
     Len,
-    /// `is_empty`, answered by `Flag`.
+    /// `is_empty`, replied to by `Flag`.
     IsEmpty,
-    /// Another content in the place of what is there, as `as_mut` may leave it, answered by `Done`: a new epoch.
+    /// Another content in place of the present one, as `as_mut` may leave it, replied to by `Done`: a new epoch.
     Rebase(M),
 }
 
-/// What a call on a map answered.
+/// The reply to a call on a map.
 #[derive(Clone, Copy, Debug, PartialEq, Eq)]
 pub enum MapReply<B> {
     /// The value that the key now has.
     Item(B),
     /// The value that the key now has, and whether the key was new.
     New(B, bool),
-    /// The value at the key, if it is there.
+    /// The value at the key, if it is present.
     Found(Option<B>),
     /// The number of entries.
     Count(usize),
     /// Whether there are no entries.
     Flag(bool),
-    /// The new content stands.
+    /// The new content is in place.
     Done,
-    /// Memory for an absent key was refused. The map is as it was.
+    /// An allocation for an absent key failed. The map is as it was.
     NoMemory,
 }
 
@@ -71,10 +71,10 @@ fn answer<'a, M: MapForm<'a>>(
     }
 }
 
-/// Makes the calls in order and answers one reply for each: the reply at a place belongs to the command at that place.
+/// Makes the calls in order and returns one reply for each: the reply at a place belongs to the command at that place.
 ///
-/// The room for all replies is made first, so `Err` means that no call was made. A call that is refused memory is answered
-/// by `NoMemory`, and the run goes on.
+/// The room for all replies is made first, so `Err` means that no call was made. A call whose allocation fails gets the reply
+/// `NoMemory`, and the run goes on.
 pub fn run_map<'a, M: MapForm<'a>, A: Allocator + Copy>(
     alloc: A,
     map: &mut M,

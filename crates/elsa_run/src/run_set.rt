@@ -1,6 +1,6 @@
 //! Whole runs of calls on an index set.
 //!
-//! Every list of commands is answered as the model answers it: what is held is the base with each further value once, in the
+//! Every list of commands gets the model's reply: what is held is the base with each further value once, in the
 //! order of the first insertions.
 ghost use Rattle.std.specs.Prelude.{◌≡◌, IfOk, OnErr};
 ghost use Rattle.elsa_run.specs.SetRun.{Step, SetRunsTo};
@@ -15,25 +15,25 @@ use std::hash::{BuildHasher, Hash};
 /// A call on an index set of `B`, where `M` is the inner set.
 #[derive(Drop)]
 pub enum SetCommand<T, B, M> {
-    /// `insert`, answered by `Item` or `NoMemory`.
+    /// `insert`, replied to by `Item` or `NoMemory`.
     Insert(T),
-    /// `insert_full`, answered by `Full` or `NoMemory`.
+    /// `insert_full`, replied to by `Full` or `NoMemory`.
     InsertFull(T),
-    /// `insert_new`, answered by `New` or `NoMemory`.
+    /// `insert_new`, replied to by `New` or `NoMemory`.
     InsertNew(T),
-    /// `insert_full_new`, answered by `FullNew` or `NoMemory`.
+    /// `insert_full_new`, replied to by `FullNew` or `NoMemory`.
     InsertFullNew(T),
-    /// `get`, answered by `Found`.
+    /// `get`, replied to by `Found`.
     Get(B),
-    /// `get_index_of`, answered by `Place`.
+    /// `get_index_of`, replied to by `Place`.
     IndexOf(B),
-    /// `get_index`, answered by `Found`.
+    /// `get_index`, replied to by `Found`.
     At(usize),
-    /// Another content in the place of what is there, as `as_mut` may leave it, answered by `Done`.
+    /// Another content in place of the present one, as `as_mut` may leave it, replied to by `Done`.
     Rebase(M),
 }
 
-/// What a call on an index set answered.
+/// The reply to a call on an index set.
 #[derive(Clone, Copy, Debug, PartialEq, Eq)]
 pub enum SetReply<B> {
     /// The stored value.
@@ -44,13 +44,13 @@ pub enum SetReply<B> {
     New(B, bool),
     /// The value's place, the stored value, and whether it is new.
     FullNew(usize, B, bool),
-    /// The stored value, if it is there.
+    /// The stored value, if it is present.
     Found(Option<B>),
-    /// The place of the value, if it is there.
+    /// The place of the value, if it is present.
     Place(Option<usize>),
-    /// The new content stands.
+    /// The new content is in place.
     Done,
-    /// Memory for an absent value was refused. The set is as it was.
+    /// An allocation for an absent value failed. The set is as it was.
     NoMemory,
 }
 
@@ -95,7 +95,7 @@ where
     }
 }
 
-/// Makes the calls in order and answers one reply a command, at the command's place.
+/// Makes the calls in order and returns one reply for each command, at the command's place.
 ///
 /// The room for all replies is made before the first call, so `AllocError` means that no call was made. A call that is
 /// refused gets the reply `NoMemory`, which comes only for an absent value, and the run goes on.

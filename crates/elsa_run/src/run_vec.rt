@@ -1,6 +1,6 @@
 //! Whole runs of calls on a vector.
 //!
-//! Every list of commands is answered as the model answers it: what is held is the base, and behind it the items of the accepted pushes.
+//! Every list of commands gets the model's reply: what is held is the base, and behind it the items of the accepted pushes.
 ghost use Rattle.std.specs.Prelude.{◌≡◌, IfOk, OnErr, map};
 ghost use Rattle.elsa_run.specs.VecRun.{Answers, VecRunsTo, content_after};
 
@@ -11,38 +11,38 @@ use std::alloc::{AllocError, Allocator};
 /// A call on a vector, where `M` is the inner vector.
 #[derive(Drop)]
 pub enum VecCommand<T, M> {
-    /// `push`, answered by `Done` or `NoMemory`.
+    /// `push`, replied to by `Done` or `NoMemory`.
     Push(T),
-    /// `push_get`, answered by `Item` or `NoMemory`.
+    /// `push_get`, replied to by `Item` or `NoMemory`.
     PushGet(T),
-    /// `get`, answered by `Found`.
+    /// `get`, replied to by `Found`.
     Get(usize),
-    /// `first`, answered by `Found`.
+    /// `first`, replied to by `Found`.
     First,
-    /// `last`, answered by `Found`.
+    /// `last`, replied to by `Found`.
     Last,
-    /// `len`, answered by `Count`.
+    /// `len`, replied to by `Count`.
     Len,
-    /// `is_empty`, answered by `Flag`.
+    /// `is_empty`, replied to by `Flag`.
     IsEmpty,
-    /// Another content in the place of what is there, as `as_mut` may leave it, answered by `Done`.
+    /// Another content in place of the present one, as `as_mut` may leave it, replied to by `Done`.
     Rebase(M),
 }
 
-/// What a call on a vector answered.
+/// The reply to a call on a vector.
 #[derive(Clone, Copy, Debug, PartialEq, Eq)]
 pub enum VecReply<B> {
-    /// The item was put last, or the new content stands.
+    /// The item was put last, or the new content is in place.
     Done,
     /// The item was put last, and this is its borrow.
     Item(B),
-    /// The item at the place, if it is there.
+    /// The item at the place, if it is present.
     Found(Option<B>),
     /// How many items there are.
     Count(usize),
     /// Whether there is no item.
     Flag(bool),
-    /// Memory for a push was refused. The vector is as it was.
+    /// An allocation for a push failed. The vector is as it was.
     NoMemory,
 }
 
@@ -75,9 +75,9 @@ fn apply<'a, T: StableDeref<'a>, A: Allocator + Copy>(
     }
 }
 
-/// Makes the calls in order and answers one reply a command, at the command's place.
+/// Makes the calls in order and returns one reply for each command, at the command's place.
 ///
-/// The room for all replies is made before the first call, so `AllocError` means that no call was made. A call that is refused gets the
+/// The room for all replies is made before the first call, so `AllocError` means that no call was made. A call whose allocation fails gets the
 /// reply `NoMemory`, which comes only for a push, and the run goes on.
 pub fn run_vec<'a, T: StableDeref<'a>, A: Allocator + Copy>(
     alloc: A,

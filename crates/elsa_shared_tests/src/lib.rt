@@ -1,10 +1,14 @@
-//! Tests of the workers and of the words that ask for them, as a stranger calls them.
+//! Tests of the workers, of the words that ask for them, and of the page for callers, as a stranger calls them.
 #![tactic(auto)]
 
 #[cfg(test)]
 mod gates;
 #[cfg(test)]
 mod job_tests;
+#[cfg(test)]
+mod names;
+#[cfg(test)]
+mod names_tests;
 #[cfg(test)]
 mod shared_tests;
 #[cfg(test)]

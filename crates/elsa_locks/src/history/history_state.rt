@@ -55,7 +55,7 @@ impl<C: Core, A: Allocator + Copy> History<C, A> {
         self.entries.as_slice()
     }
 
-    /// Makes room, does the command and stores its entry; answers the entry's place with the reply.
+    /// Makes room, does the command and stores its entry; returns the entry's place with the reply.
     ///
     /// `Err` leaves the core's state and the entries.
     #[tactic(auto, using(crate::proofs::Replay::replays_more))]

@@ -8,7 +8,7 @@ use std::hash::Hash;
 /// A call on a map.
 #[derive(Clone, Copy, PartialEq, Eq)]
 pub enum MapCommand<K, V> {
-    /// The key gets the value unless it is there.
+    /// The key gets the value unless it is present.
     Insert(K, V),
     /// The same, asking also whether the key was new.
     InsertNew(K, V),
@@ -18,14 +18,14 @@ pub enum MapCommand<K, V> {
     Len,
 }
 
-/// An answer of a map.
+/// A reply of a map.
 #[derive(Clone, Copy, PartialEq, Eq)]
 pub enum MapReply<V> {
     /// To `Insert`: the value that the key has afterwards.
     Value(V),
     /// To `InsertNew`: the value that the key has afterwards, and whether the key was new.
     ValueNew(V, bool),
-    /// To `Get`: the value, if the key is there.
+    /// To `Get`: the value, if the key is present.
     Found(Option<V>),
     /// To `Len`: the number of entries.
     Count(usize),

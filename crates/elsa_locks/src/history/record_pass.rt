@@ -1,4 +1,4 @@
-//! What a caller was answered, and whether that is the history.
+//! The replies that a caller got, and whether that is the history.
 ghost use Rattle.std.specs.Prelude.{◌≡◌, ℕ, List, [], ◌∷◌, ◌++◌, length, IfOk, OnErr, MatchOption, true, false, ◌↔◌};
 ghost use Rattle.elsa_locks.specs.Receipts.{AreReceipts, EndsElsewhere, IsCall, IsTakenFrom};
 
@@ -7,7 +7,7 @@ use std::alloc::{AllocError, Allocator, Global};
 use std::marker::{Model, PhantomData};
 use std::sync::{RwLock, Wait};
 
-/// What one caller of a recorder was answered: a receipt for each of its accepted calls, in the order of the calls.
+/// The replies that one caller of a recorder got: a receipt for each of its accepted calls, in the order of the calls.
 ///
 /// Contracts see the pass's number with its receipts; a receipt is the place in the history, the command and the reply.
 #[derive(Drop)]

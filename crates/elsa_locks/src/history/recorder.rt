@@ -8,7 +8,7 @@ use super::{Core, History, RecordPass};
 use std::alloc::{AllocError, Allocator, Global};
 use std::sync::{RwLock, Wait};
 
-/// Why a recorder couldn't be closed with the passes that were handed in.
+/// Why a recorder couldn't be closed with the passes that were given.
 #[derive(Drop)]
 pub enum CloseFault<C: Core, A: Allocator = Global> {
     /// The receipts aren't this history: a receipt isn't the entry at its place and of its pass's number, an entry has no
@@ -45,10 +45,10 @@ impl<C: Core, A: Allocator + Copy> Recorder<C, A> {
         RecordPass::new(self.alloc, number)
     }
 
-    /// Does the command and answers it. The history gains one entry and the pass the receipt for it. May wait.
+    /// Does the command and returns its reply. The history gains one entry and the pass the receipt for it. May wait.
     ///
     /// The order is: make room for the receipt; take the lock; make room in the history; apply; store. `Err` where a room
-    /// or what the command needs was refused; then neither an entry nor a receipt is added.
+    /// or what the command needs couldn't be had; then neither an entry nor a receipt is added.
     pub fn call<R: Wait>(
         &self,
         rt: &R,

@@ -15,7 +15,7 @@ pub enum VecCommand<V> {
     Len,
 }
 
-/// An answer of a list.
+/// A reply of a list.
 #[derive(Clone, Copy, PartialEq, Eq)]
 pub enum VecReply<V> {
     /// To `Push`: the place of the item, counted from 0.

@@ -13,7 +13,7 @@ use std::sync::{Arc, RwLock, Wait};
 /// An ordered map that threads share, in which the first value of a key stays.
 ///
 /// Each call on `&self` takes the lock, makes the call of the same name on the [`TreeState`] behind it, and lets the
-/// lock go before it answers: look there for what is promised of that call. Reading calls share the lock, inserting
+/// lock go before it returns: look there for what is promised of that call. Reading calls share the lock, inserting
 /// ones have it alone. All of them may wait.
 #[derive(Drop)]
 pub struct FrozenBTreeMap<K: Ord, V, A: Allocator = Global> {
@@ -37,7 +37,7 @@ impl<K: Ord, V, A: Allocator + Copy> FrozenBTreeMap<K, V, A> {
 
     /// The map of the items: each key has the value of its last pair. `O(n log n)`. Takes no lock.
     ///
-    /// `Err` where an `Arc` or a growth was refused; what was collected is given up.
+    /// `Err` where the memory of an `Arc` or of a growth was refused; what was collected is dropped.
     pub fn from_iter<I: Iterator<Item = (K, V)> + Drop>(
         alloc: A,
         items: I,
@@ -54,7 +54,7 @@ impl<K: Ord, V, A: Allocator + Copy> FrozenBTreeMap<K, V, A> {
         })
     }
 
-    /// An owner of the value that the key has afterwards: its own if it is there, else the one given.
+    /// An owner of the value that the key has afterwards: its own if it is present, else the one given.
     pub fn insert(&self, rt: &impl Wait, key: K, value: V) -> Result<Arc<V, A>, AllocError>
     where
         K: Drop,
@@ -85,7 +85,7 @@ impl<K: Ord, V, A: Allocator + Copy> FrozenBTreeMap<K, V, A> {
         self.lock.read(rt).get(key)
     }
 
-    /// What the one call of `f` on the value at the key answers, or `None`, without a call, if the key is absent.
+    /// What the one call of `f` on the value at the key returns, or `None`, without a call, if the key is absent.
     ///
     /// `f` runs while this call shares the lock: an inserting call on the same map in it may wait for ever.
     pub fn map_get<R, F: FnOnce(&V) -> R>(&self, rt: &impl Wait, key: &K, f: F) -> Option<R>
@@ -121,8 +121,8 @@ impl<K: Ord, V, A: Allocator + Copy> FrozenBTreeMap<K, V, A> {
 
     /// Whether both have the same keys, with values that are equal by `==`. `O(n)`.
     ///
-    /// It copies its own content under its lock, lets that go, and compares under the other's, so a map may be compared
-    /// with itself, and two threads may compare two maps both ways round. `Err` only where the copy was refused.
+    /// It copies its own content under its lock, releases it, and compares under the other's, so a map may be compared
+    /// with itself, and two threads may compare two maps both ways round. `Err` only where the copy failed.
     pub fn equals(&self, rt: &impl Wait, other: &Self) -> Result<bool, AllocError>
     where
         K: Clone + Drop,
@@ -135,7 +135,7 @@ impl<K: Ord, V, A: Allocator + Copy> FrozenBTreeMap<K, V, A> {
 
     /// The entries, each once, ascending by key. Takes no lock, since the owner has the map alone.
     ///
-    /// `Err` gives the map up.
+    /// `Err` drops the map.
     pub fn into_tuple_vec(self) -> Result<Vec<(K, Arc<V, A>), A>, AllocError>
     where
         K: Drop,

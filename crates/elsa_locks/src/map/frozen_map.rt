@@ -12,8 +12,8 @@ use std::sync::{Arc, RwLock, Wait};
 
 /// A hashed map that threads share, in which the first value of a key stays.
 ///
-/// Each call on `&self` takes the lock, makes the call of the same name on the [`MapState`] behind it, and lets the lock
-/// go before it answers: look there for what is promised of that call. Reading calls share the lock, inserting ones
+/// Each call on `&self` takes the lock, makes the call of the same name on the [`MapState`] behind it, and releases the lock
+/// before it returns: look there for what is promised of that call. Reading calls share the lock, inserting ones
 /// have it alone. All of them may wait.
 #[derive(Drop)]
 pub struct FrozenMap<K: Eq + Hash, V, A: Allocator = Global> {
@@ -28,7 +28,7 @@ impl<K: Eq + Hash, V, A: Allocator + Copy> FrozenMap<K, V, A> {
         }
     }
 
-    /// An owner of the value that the key has afterwards: its own if it is there, else the one given.
+    /// An owner of the value that the key has afterwards: its own if it is present, else the one given.
     pub fn insert(&self, rt: &impl Wait, key: K, value: V) -> Result<Arc<V, A>, AllocError>
     where
         K: Drop,
@@ -51,7 +51,7 @@ impl<K: Eq + Hash, V, A: Allocator + Copy> FrozenMap<K, V, A> {
         self.lock.write(rt).insert_new(key, value)
     }
 
-    /// `insert` of what `f` answers, which is called only where the key is absent and room was made for it.
+    /// `insert` of what `f` returns, which is called only where the key is absent and room was made for it.
     ///
     /// `f` runs while this call has the lock alone: a call on the same map in it may wait for ever.
     pub fn insert_with<F: FnOnce() -> V>(
@@ -93,7 +93,7 @@ impl<K: Eq + Hash, V, A: Allocator + Copy> FrozenMap<K, V, A> {
         self.lock.read(rt).get(key)
     }
 
-    /// What the one call of `f` on the value at the key answers, or `None`, without a call, if the key is absent.
+    /// What the one call of `f` on the value at the key returns, or `None`, without a call, if the key is absent.
     ///
     /// `f` runs while this call shares the lock: an inserting call on the same map in it may wait for ever.
     pub fn map_get<R, F: FnOnce(&V) -> R>(&self, rt: &impl Wait, key: &K, f: F) -> Option<R>
@@ -112,7 +112,7 @@ impl<K: Eq + Hash, V, A: Allocator + Copy> FrozenMap<K, V, A> {
         self.lock.read(rt).get_copy(key)
     }
 
-    /// A copy of the value that the key has afterwards. A key that is there takes no memory.
+    /// A copy of the value that the key has afterwards. A present key takes no memory.
     pub fn get_copy_or_insert(&self, rt: &impl Wait, key: K, value: V) -> Result<V, AllocError>
     where
         K: Drop,
@@ -121,7 +121,7 @@ impl<K: Eq + Hash, V, A: Allocator + Copy> FrozenMap<K, V, A> {
         self.lock.write(rt).get_copy_or_insert(key, value)
     }
 
-    /// `get_copy_or_insert` of what `f` answers, which is called only where the key is absent and room was made for it.
+    /// `get_copy_or_insert` of what `f` returns, which is called only where the key is absent and room was made for it.
     ///
     /// `f` runs while this call has the lock alone: a call on the same map in it may wait for ever.
     pub fn get_copy_or_insert_with<F: FnOnce() -> V>(
@@ -155,7 +155,7 @@ impl<K: Eq + Hash, V, A: Allocator + Copy> FrozenMap<K, V, A> {
         self.lock.write(rt).get_copy_or_insert_with_key(key, f)
     }
 
-    /// A clone of each key, each once, in an open order. `O(n)`.
+    /// A clone of each key, each once, in no specified order. `O(n)`.
     pub fn keys_cloned(&self, rt: &impl Wait) -> Result<Vec<K, A>, AllocError>
     where
         K: Clone + Drop,
@@ -189,8 +189,8 @@ impl<K: Eq + Hash, V, A: Allocator + Copy> FrozenMap<K, V, A> {
 
     /// Whether both have the same keys, with values that are equal by `==`. `O(n)`.
     ///
-    /// It copies its own content under its lock, lets that go, and compares under the other's, so a map may be compared
-    /// with itself, and two threads may compare two maps both ways round. `Err` only where the copy was refused.
+    /// It copies its own content under its lock, releases it, and compares under the other's, so a map may be compared
+    /// with itself, and two threads may compare two maps both ways round. `Err` only where the copy failed.
     pub fn equals(&self, rt: &impl Wait, other: &Self) -> Result<bool, AllocError>
     where
         K: Clone + Drop,
@@ -201,9 +201,9 @@ impl<K: Eq + Hash, V, A: Allocator + Copy> FrozenMap<K, V, A> {
         Ok(other.lock.read(rt).same(&copied))
     }
 
-    /// The entries, each once, in an open order. Takes no lock, since the owner has the map alone.
+    /// The entries, each once, in no specified order. Takes no lock, since the owner has the map alone.
     ///
-    /// `Err` gives the map up.
+    /// `Err` drops the map.
     pub fn into_tuple_vec(self) -> Result<Vec<(K, Arc<V, A>), A>, AllocError>
     where
         K: Drop,

@@ -19,7 +19,7 @@ type Table<K, V, A> = HashMap<K, Arc<V, A>, BuildHasherDefault<FoldHasher>, A>;
 
 /// A hashed map in which the first value of a key stays. Values are shared as `Arc<V>`.
 ///
-/// Contracts see the list of its entries, in an open order, with each value in place of its `Arc`. Keys are told apart
+/// Contracts see the list of its entries, in no specified order, with each value in place of its `Arc`. Keys are told apart
 /// by `==`. `A` gives the memory of the table and of each `Arc`.
 #[derive(Drop)]
 pub struct MapState<K: Eq + Hash, V, A: Allocator = Global> {
@@ -36,7 +36,7 @@ impl<K: Eq + Hash, V, A: Allocator> Model for MapState<K, V, A> {
     ghost view = { λ s. shown s.table.entries };
 }
 
-/// The owner at the key, if it is there.
+/// The owner at the key, if it is present.
 #[tactic(auto, using(crate::proofs::Shared::lookup_shown))]
 fn find<'m, K: Eq + Hash, V, A: Allocator>(
     table: &'m Table<K, V, A>,
@@ -73,7 +73,7 @@ where
     let _ = table.insert(key, value);
 }
 
-/// Adds a value at a key that is absent, and answers one more owner of it.
+/// Adds a value at a key that is absent, and returns one more owner of it.
 fn add<K: Eq + Hash, V, A: Allocator + Copy>(
     table: &mut Table<K, V, A>,
     alloc: A,
@@ -145,7 +145,7 @@ impl<K: Eq + Hash, V, A: Allocator + Copy> MapState<K, V, A> {
 
     /// An owner of the value at the key, or `None` if the key is absent. `O(1)` hashed.
     ///
-    /// `Err` only where one more owner was refused.
+    /// `Err` only where one more owner couldn't be made.
     pub fn get(&self, key: &K) -> Result<Option<Arc<V, A>>, AllocError>
     where
         V: Drop,
@@ -170,7 +170,7 @@ impl<K: Eq + Hash, V, A: Allocator + Copy> MapState<K, V, A> {
         }
     }
 
-    /// What the one call of `f` on the value at the key answers, or `None`, without a call, if the key is absent.
+    /// What the one call of `f` on the value at the key returns, or `None`, without a call, if the key is absent.
     pub fn map_get<R, F: FnOnce(&V) -> R>(&self, key: &K, f: F) -> Option<R>
     where
         F: Drop,
@@ -186,7 +186,7 @@ impl<K: Eq + Hash, V, A: Allocator + Copy> MapState<K, V, A> {
 
     /// An owner of the value that the key has afterwards, and whether the key was new.
     ///
-    /// A key that is there keeps its value, and the key and the value handed in are given up. A new key takes one
+    /// A present key keeps its value, and the key and the value passed in are dropped. A new key takes one
     /// request for the value's `Arc`, and one more where the table has to grow. `Err` leaves the content.
     pub fn insert_new(&mut self, key: K, value: V) -> Result<(Arc<V, A>, bool), AllocError>
     where
@@ -206,7 +206,7 @@ impl<K: Eq + Hash, V, A: Allocator + Copy> MapState<K, V, A> {
         Ok((answer, true))
     }
 
-    /// An owner of the value that the key has afterwards: its own if it is there, else the one given.
+    /// An owner of the value that the key has afterwards: its own if it is present, else the one given.
     ///
     /// Existing values are never overwritten. `Err` leaves the content.
     pub fn insert(&mut self, key: K, value: V) -> Result<Arc<V, A>, AllocError>
@@ -220,10 +220,10 @@ impl<K: Eq + Hash, V, A: Allocator + Copy> MapState<K, V, A> {
         Ok(self.insert_new(key, value)?.0)
     }
 
-    /// `insert` of what `f` answers, which is called only where the key is absent.
+    /// `insert` of what `f` returns, which is called only where the key is absent.
     ///
     /// The order is: look up; make room; call `f`; make the `Arc`; share it; store. So `f` isn't called where the room
-    /// was refused, and its answer is given up where a later step was. `Err` leaves the content.
+    /// failed, and its result is dropped where a later step failed. `Err` leaves the content.
     pub fn insert_with<F: FnOnce() -> V>(&mut self, key: K, f: F) -> Result<Arc<V, A>, AllocError>
     where
         K: Drop,
@@ -268,7 +268,7 @@ impl<K: Eq + Hash, V, A: Allocator + Copy> MapState<K, V, A> {
 
     /// A copy of the value that the key has afterwards, and whether the key was new.
     ///
-    /// A key that is there takes no memory and always succeeds. `Err` leaves the content.
+    /// A present key takes no memory and always succeeds. `Err` leaves the content.
     pub(crate) fn get_copy_or_insert_new(
         &mut self,
         key: K,
@@ -291,9 +291,9 @@ impl<K: Eq + Hash, V, A: Allocator + Copy> MapState<K, V, A> {
         Ok((value, true))
     }
 
-    /// A copy of the value that the key has afterwards: its own if it is there, else the one given.
+    /// A copy of the value that the key has afterwards: its own if it is present, else the one given.
     ///
-    /// A key that is there takes no memory and always succeeds. `Err` leaves the content.
+    /// A present key takes no memory and always succeeds. `Err` leaves the content.
     pub fn get_copy_or_insert(&mut self, key: K, value: V) -> Result<V, AllocError>
     where
         K: Drop,
@@ -306,7 +306,7 @@ impl<K: Eq + Hash, V, A: Allocator + Copy> MapState<K, V, A> {
         Ok(self.get_copy_or_insert_new(key, value)?.0)
     }
 
-    /// `get_copy_or_insert` of what `f` answers, which is called only where the key is absent.
+    /// `get_copy_or_insert` of what `f` returns, which is called only where the key is absent.
     ///
     /// The order is: look up; make room; call `f`; make the `Arc`; store. `Err` leaves the content.
     pub fn get_copy_or_insert_with<F: FnOnce() -> V>(
@@ -359,7 +359,7 @@ impl<K: Eq + Hash, V, A: Allocator + Copy> MapState<K, V, A> {
         Ok(value)
     }
 
-    /// A clone of each key, each once, in an open order. `O(n)`, one request for the list besides the keys' clones.
+    /// A clone of each key, each once, in no specified order. `O(n)`, one request for the list besides the keys' clones.
     #[tactic(auto, using(crate::proofs::Shared::keys_shown))]
     pub fn keys_cloned(&self) -> Result<Vec<K, A>, AllocError>
     where
@@ -398,7 +398,7 @@ impl<K: Eq + Hash, V, A: Allocator + Copy> MapState<K, V, A> {
         self.table == other.table
     }
 
-    /// The entries, each once, in an open order. `Err` gives the map up.
+    /// The entries, each once, in no specified order. `Err` drops the map.
     pub fn into_tuple_vec(self) -> Result<Vec<(K, Arc<V, A>), A>, AllocError>
     where
         K: Drop,

@@ -36,7 +36,7 @@ impl<K: Ord, V, A: Allocator> Model for TreeState<K, V, A> {
     ghost view = { λ s. shown s.table.entries };
 }
 
-/// The owner at the key, if it is there.
+/// The owner at the key, if it is present.
 #[tactic(auto, using(crate::proofs::Shared::lookup_shown))]
 fn find<'m, K: Ord, V, A: Allocator>(table: &'m Table<K, V, A>, key: &K) -> Option<&'m Arc<V, A>>
     ensures { option_map (λ a. arc_value a.now) result ≡ value_at (eq_by_cmp K.cmp) (shown table.now.entries) key.now }
@@ -99,7 +99,7 @@ impl<K: Ord, V, A: Allocator + Copy> TreeState<K, V, A> {
 
     /// The map of the items: each key has the value of its last pair. `O(n log n)`.
     ///
-    /// `Err` where an `Arc` or a growth was refused; what was collected is given up.
+    /// `Err` where the memory of an `Arc` or of a growth was refused; what was collected is dropped.
     pub fn from_iter<I: Iterator<Item = (K, V)> + Drop>(
         alloc: A,
         items: I,
@@ -137,7 +137,7 @@ impl<K: Ord, V, A: Allocator + Copy> TreeState<K, V, A> {
 
     /// An owner of the value at the key, or `None` if the key is absent. `O(log n)`.
     ///
-    /// `Err` only where one more owner was refused.
+    /// `Err` only where one more owner couldn't be made.
     pub fn get(&self, key: &K) -> Result<Option<Arc<V, A>>, AllocError>
     where
         V: Drop,
@@ -162,7 +162,7 @@ impl<K: Ord, V, A: Allocator + Copy> TreeState<K, V, A> {
         }
     }
 
-    /// What the one call of `f` on the value at the key answers, or `None`, without a call, if the key is absent.
+    /// What the one call of `f` on the value at the key returns, or `None`, without a call, if the key is absent.
     pub fn map_get<R, F: FnOnce(&V) -> R>(&self, key: &K, f: F) -> Option<R>
     where
         F: Drop,
@@ -178,7 +178,7 @@ impl<K: Ord, V, A: Allocator + Copy> TreeState<K, V, A> {
 
     /// An owner of the value that the key has afterwards, and whether the key was new.
     ///
-    /// A key that is there keeps its value, and the key and the value handed in are given up. A new key takes one
+    /// A present key keeps its value, and the key and the value passed in are dropped. A new key takes one
     /// request for the value's `Arc`, and more where the tree has to grow. `Err` leaves the entries.
     pub fn insert_new(&mut self, key: K, value: V) -> Result<(Arc<V, A>, bool), AllocError>
     where
@@ -199,7 +199,7 @@ impl<K: Ord, V, A: Allocator + Copy> TreeState<K, V, A> {
         Ok((answer, true))
     }
 
-    /// An owner of the value that the key has afterwards: its own if it is there, else the one given.
+    /// An owner of the value that the key has afterwards: its own if it is present, else the one given.
     ///
     /// Existing values are never overwritten. `Err` leaves the entries.
     pub fn insert(&mut self, key: K, value: V) -> Result<Arc<V, A>, AllocError>
@@ -215,7 +215,7 @@ impl<K: Ord, V, A: Allocator + Copy> TreeState<K, V, A> {
 
     /// A copy of the value that the key has afterwards, and whether the key was new.
     ///
-    /// A key that is there takes no memory and always succeeds. `Err` leaves the entries.
+    /// A present key takes no memory and always succeeds. `Err` leaves the entries.
     pub(crate) fn get_copy_or_insert_new(
         &mut self,
         key: K,
@@ -265,7 +265,7 @@ impl<K: Ord, V, A: Allocator + Copy> TreeState<K, V, A> {
         *mine == *theirs
     }
 
-    /// The entries, each once, ascending by key. `Err` gives the map up.
+    /// The entries, each once, ascending by key. `Err` drops the map.
     #[tactic(auto, using(crate::proofs::Shared::sorted_shown))]
     pub fn into_tuple_vec(self) -> Result<Vec<(K, Arc<V, A>), A>, AllocError>
     where

@@ -8,8 +8,8 @@ use std::sync::{Arc, RwLock, Wait};
 
 /// A list that threads share and that only grows.
 ///
-/// Each call on `&self` takes the lock, makes the call of the same name on the [`VecState`] behind it, and lets the lock
-/// go before it answers: look there for what is promised of that call. Reading calls share the lock, pushes have it
+/// Each call on `&self` takes the lock, makes the call of the same name on the [`VecState`] behind it, and releases the lock
+/// before it returns: look there for what is promised of that call. Reading calls share the lock, pushes have it
 /// alone. All of them may wait.
 #[derive(Drop)]
 pub struct FrozenVec<V, A: Allocator = Global> {
@@ -39,7 +39,7 @@ impl<V, A: Allocator + Copy> FrozenVec<V, A> {
         self.lock.write(rt).push(value)
     }
 
-    /// Puts the item at the end, and answers one more owner of it.
+    /// Puts the item at the end, and returns one more owner of it.
     pub fn push_get(&self, rt: &impl Wait, value: V) -> Result<Arc<V, A>, AllocError>
     where
         V: Drop,
@@ -47,7 +47,7 @@ impl<V, A: Allocator + Copy> FrozenVec<V, A> {
         self.lock.write(rt).push_get(value)
     }
 
-    /// Puts the item at the end, and answers its place, counted from 0.
+    /// Puts the item at the end, and returns its place, counted from 0.
     pub fn push_get_index(&self, rt: &impl Wait, value: V) -> Result<usize, AllocError>
     where
         V: Drop,
@@ -86,8 +86,8 @@ impl<V, A: Allocator + Copy> FrozenVec<V, A> {
 
     /// Whether both have as many items, equal place by place by `==`. `O(n)`.
     ///
-    /// It copies its own content under its lock, lets that go, and compares under the other's, so a list may be compared
-    /// with itself, and two threads may compare two lists both ways round. `Err` only where the copy was refused.
+    /// It copies its own content under its lock, releases it, and compares under the other's, so a list may be compared
+    /// with itself, and two threads may compare two lists both ways round. `Err` only where the copy failed.
     pub fn equals(&self, rt: &impl Wait, other: &Self) -> Result<bool, AllocError>
     where
         V: PartialEq + Drop,
@@ -137,7 +137,7 @@ impl<'a, V, A: Allocator + Copy> Iter<'a, V, A> {
     /// An owner of the item at the walk's place, and moves on by one; `None` at the end, where the walk keeps its place
     /// and so goes on after a later push. Each call looks at the length afresh. May wait.
     ///
-    /// `Err` only where one more owner was refused; the walk keeps its place then.
+    /// `Err` only where one more owner couldn't be made; the walk keeps its place then.
     pub fn next(&mut self, rt: &impl Wait) -> Result<Option<Arc<V, A>>, AllocError>
     where
         V: Drop,

@@ -78,7 +78,7 @@ impl<V, A: Allocator + Copy> VecState<V, A> {
 
     /// An owner of the item at the place, or `None` at or past the end. `O(1)`.
     ///
-    /// `Err` only where one more owner was refused.
+    /// `Err` only where one more owner couldn't be made.
     #[tactic(auto, using(crate::proofs::Shared::get_items))]
     pub fn get(&self, place: usize) -> Result<Option<Arc<V, A>>, AllocError>
     where
@@ -116,7 +116,7 @@ impl<V, A: Allocator + Copy> VecState<V, A> {
         append(&mut self.list, item)
     }
 
-    /// Puts the item at the end, and answers one more owner of it. `Err` leaves the list.
+    /// Puts the item at the end, and returns one more owner of it. `Err` leaves the list.
     pub fn push_get(&mut self, value: V) -> Result<Arc<V, A>, AllocError>
     where
         V: Drop,
@@ -130,7 +130,7 @@ impl<V, A: Allocator + Copy> VecState<V, A> {
         Ok(answer)
     }
 
-    /// Puts the item at the end, and answers its place. `Err` leaves the list.
+    /// Puts the item at the end, and returns its place. `Err` leaves the list.
     #[tactic(auto, using(crate::proofs::Shared::length_items))]
     pub fn push_get_index(&mut self, value: V) -> Result<usize, AllocError>
     where

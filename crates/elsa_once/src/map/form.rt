@@ -33,7 +33,7 @@ pub trait MapForm<'a> {
     // The entries of an inner map.
     ghost base_entries: { Self.Base → List (Self.Key × Self.Value.Borrow) };
 
-    /// Gives `key` the value unless it has one, and answers the value that it now has and whether it was new.
+    /// Gives `key` the value unless it has one, and returns the value that it now has and whether it was new.
     fn insert_new(
         &mut self,
         key: Self::Key,
@@ -47,7 +47,7 @@ pub trait MapForm<'a> {
         ensures refused { OnErr result (entries self.new ≡ entries self.old) }
         ensures only_new { OnErr result (value_at same (entries self.old) key ≡ None) };
 
-    /// Gives `key` the value unless it has one, and answers the value that it now has.
+    /// Gives `key` the value unless it has one, and returns the value that it now has.
     fn insert(
         &mut self,
         key: Self::Key,
@@ -75,7 +75,7 @@ pub trait MapForm<'a> {
     fn is_empty(&self) -> bool
         ensures { IsTrue result ↔ (length (entries self.now) ≡ 0) };
 
-    /// Begins a new epoch with the content of `base`; what the map held is given up.
+    /// Begins a new epoch with the content of `base`; what the map held is dropped.
     fn rebase(&mut self, base: Self::Base)
         ensures { entries self.new ≡ base_entries base };
 }

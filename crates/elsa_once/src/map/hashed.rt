@@ -21,8 +21,8 @@ use std::ops::Index;
 
 /// A map in which the first value of a key stays, and a key is found by its hash.
 ///
-/// Each value is placed in the arena that the map was made over, and answered as a borrow of the arena's life: the borrow
-/// outlasts later insertions and the map itself. The table of the entries lies in memory of the allocator `A`.
+/// Each value is placed in the arena that the map was made over, and returned as a borrow with the arena's lifetime: the borrow
+/// outlasts later insertions and the map itself. The table of the entries is in memory of the allocator `A`.
 ///
 /// The default hasher is fast and has a fixed seed; where strangers choose the keys, take `RandomState` by
 /// [`with_hasher`](FrozenMap::with_hasher).
@@ -134,7 +134,7 @@ impl<'a, K: Eq + Hash, V: StableDeref<'a>, S: BuildHasher, A: Allocator + Copy> 
 
     /// The key of the map that equals `key`, with its value; `None` exactly if there is none.
     ///
-    /// The key answered is the one that was inserted, which may differ from `key` where equality isn't identity.
+    /// The key returned is the one that was inserted, which may differ from `key` where equality isn't identity.
     pub fn get_key_value(&self, key: &K) -> Option<(K, V::Borrow)>
     where
         K: Copy,
@@ -146,7 +146,7 @@ impl<'a, K: Eq + Hash, V: StableDeref<'a>, S: BuildHasher, A: Allocator + Copy> 
         }
     }
 
-    /// What `f` answers at the value of `key`. It is called once if the key is there, and never if it isn't.
+    /// What `f` returns for the value of `key`. It is called once if the key is present, and never if it is absent.
     pub fn map_get<R, F: FnOnce(V::Borrow) -> R>(&self, key: &K, f: F) -> Option<R>
     where
         F: Drop,
@@ -172,7 +172,7 @@ impl<'a, K: Eq + Hash, V: StableDeref<'a>, S: BuildHasher, A: Allocator + Copy> 
         inner_map
     }
 
-    /// The inner map, lent for writing: it may change or remove anything, and what it leaves is a new base.
+    /// The inner map, borrowed for writing: it may change or remove anything, and what it leaves is a new base.
     pub fn as_mut(&mut self) -> &mut HashMap<K, V::Borrow, S, A>
         ensures* writes_back { sem 𝓛 (lends_entries K.row V.row S.row A.row V.Borrow.row S.Hasher.row K.Hash V.HasTarget S.BuildHasher S.Hasher.Hasher A.Allocator self.entry result) }
         ensures content { result.now.entries ≡ self.old }
@@ -188,12 +188,12 @@ impl<'a, K: Eq + Hash + Drop, V: StableDeref<'a>, S: BuildHasher, A: Allocator +
     S,
     A,
 > {
-    /// Gives `key` the value, unless the map has a key that equals it, and answers the value that the key now has and
+    /// Gives `key` the value, unless the map has a key that equals it, and returns the value that the key now has and
     /// whether the key was new.
     ///
-    /// A key that is there keeps its value: `key` and `value` are given up, no memory is taken and the answer is `Ok`.
-    /// For a new key the table makes room for one entry and the value is placed in the arena; where either is refused,
-    /// the answer is `Err`, the map stays as it was, and the arena may keep a value that nobody sees.
+    /// A present key keeps its value: `key` and `value` are dropped, no memory is taken and the result is `Ok`.
+    /// For a new key the table makes room for one entry and the value is placed in the arena; where either fails,
+    /// it returns `Err`, the map stays as it was, and the arena may keep a value that nobody sees.
     ///
     /// One hash and one search, and for a new key one copy into the arena.
     pub fn insert_new(&mut self, key: K, value: V) -> Result<(V::Borrow, bool), AllocError>
@@ -222,7 +222,7 @@ impl<'a, K: Eq + Hash + Drop, V: StableDeref<'a>, S: BuildHasher, A: Allocator +
         Ok((borrow, true))
     }
 
-    /// Gives `key` the value, unless the map has a key that equals it, and answers the value that the key now has:
+    /// Gives `key` the value, unless the map has a key that equals it, and returns the value that the key now has:
     /// [`insert_new`](FrozenMap::insert_new) without its flag.
     pub fn insert(&mut self, key: K, value: V) -> Result<V::Borrow, AllocError>
         ensures present { (x : V.Borrow) → value_at K.eq self.old key ≡ Some x → (result ≡ Ok x) × (self.new ≡ self.old) }
@@ -262,7 +262,7 @@ impl<
 
     /// A map of the pairs in which, other than by insertions, the last value of a key wins.
     ///
-    /// Each value is placed in the arena. Where memory is refused, the answer is `Err` and what was collected is given up.
+    /// Each value is placed in the arena. On an allocation failure it returns `Err` and drops what was collected.
     /// Which of several equal keys the map then shows is left open.
     pub fn from_iter<I: IntoIterator<Item = (K, V)>>(
         alloc: A,
@@ -284,7 +284,7 @@ impl<
     /// A map with the same content over the same arena, whose borrows are shared. Later insertions into either leave the
     /// other as it is.
     ///
-    /// Makes the room for all entries once, and clones each key. Where memory is refused, the answer is `Err`.
+    /// Makes the room for all entries once, and clones each key. On an allocation failure it returns `Err`.
     pub fn clone(&self) -> Result<Self, AllocError>
     where
         K: Clone,
@@ -304,9 +304,9 @@ impl<
         Ok(FrozenMap::from_map(self.alloc, self.arena, copy))
     }
 
-    /// The entries as a list, each once, in an open order.
+    /// The entries as a list, each once, in no specified order.
     ///
-    /// Takes memory for the list; where that is refused, the map is given up.
+    /// Takes memory for the list; where that fails, the map is dropped.
     pub fn into_tuple_vec(self) -> Result<Vec<(K, V::Borrow), A>, AllocError>
         ensures entries { IfOk result (λ pairs. pairs.items ≡ self.entry) }
         ensures distinct { IfOk result (λ pairs. IsDistinct K.eq (keys_of pairs.items)) }

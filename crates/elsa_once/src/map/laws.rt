@@ -12,7 +12,7 @@ use bumpalo::Bump;
 use std::alloc::{AllocError, Allocator};
 use std::hash::{BuildHasher, Hash};
 
-/// An insertion, accepted or refused, keeps the value of every key that has one; the key has the answered value
+/// An insertion, accepted or refused, keeps the value of every key that has one; the key has the returned value
 /// afterwards, and the flag is true exactly where the key was new, and the content grows by one entry.
 pub fn keeps_earlier_values<'a, M: MapForm<'a>>(
     map: &mut M,
@@ -31,7 +31,7 @@ pub fn keeps_earlier_values<'a, M: MapForm<'a>>(
     map.insert_new(key, value)
 }
 
-/// Of two insertions of one key the second is told that the key wasn't new and answers the first one's value, whatever
+/// Of two insertions of one key the second is told that the key wasn't new and returns the first one's value, whatever
 /// is inserted between them, all of which the map then has: in one epoch a key is new at most once.
 pub fn is_new_once<'a, M: MapForm<'a>>(
     map: &mut M,
@@ -66,7 +66,7 @@ pub fn is_new_once<'a, M: MapForm<'a>>(
     Ok((before, after))
 }
 
-/// A hashed map made of the inner map of another has its content, and so has the inner map between: it answers what `key`
+/// A hashed map made of the inner map of another has its content, and so has the inner map between: it returns what `key`
 /// had there.
 pub fn hashed_there_and_back<
     'a,
@@ -88,7 +88,7 @@ pub fn hashed_there_and_back<
     (between, FrozenMap::from_map(alloc, arena, inner))
 }
 
-/// An ordered map made of the inner map of another has its content, and so has the inner map between: it answers what `key`
+/// An ordered map made of the inner map of another has its content, and so has the inner map between: it returns what `key`
 /// had there.
 pub fn ordered_there_and_back<'a, K: Ord, V: StableDeref<'a>, A: Allocator + Copy>(
     alloc: A,
@@ -104,7 +104,7 @@ pub fn ordered_there_and_back<'a, K: Ord, V: StableDeref<'a>, A: Allocator + Cop
     (between, FrozenBTreeMap::from_map(alloc, arena, inner))
 }
 
-/// A clone of a hashed map and its source go their own ways: after an insertion into each, each is what the source was
+/// A clone of a hashed map and its source are independent of each other: after an insertion into each, each is what the source was
 /// before, with its own insertion alone.
 pub fn hashed_inserted_apart<
     'a,
@@ -130,7 +130,7 @@ pub fn hashed_inserted_apart<
     Ok(copy)
 }
 
-/// A clone of an ordered map and its source go their own ways: after an insertion into each, each is what the source was
+/// A clone of an ordered map and its source are independent of each other: after an insertion into each, each is what the source was
 /// before, with its own insertion alone.
 pub fn ordered_inserted_apart<'a, K: Ord + Clone + Drop, V: StableDeref<'a>, A: Allocator + Copy>(
     tree: &mut FrozenBTreeMap<'a, K, V, A>,

@@ -21,10 +21,10 @@ use std::ops::Index;
 
 /// A map in which the first value of a key stays, and whose keys are in order.
 ///
-/// Each value is placed in the arena that the map was made over, and answered as a borrow of the arena's life: the borrow
-/// outlasts later insertions and the map itself. The tree of the entries lies in memory of the allocator `A`.
+/// Each value is placed in the arena that the map was made over, and returned as a borrow with the arena's lifetime: the borrow
+/// outlasts later insertions and the map itself. The tree of the entries is in memory of the allocator `A`.
 ///
-/// Keys ask for `Ord` and nothing else; two keys are one where they compare `Equal`.
+/// Keys need `Ord` and nothing else; two keys are one where they compare `Equal`.
 pub struct FrozenBTreeMap<'a, K: Ord, V: StableDeref<'a>, A: Allocator + Copy = Global> {
     alloc: A,
     arena: &'a Bump,
@@ -101,7 +101,7 @@ impl<'a, K: Ord, V: StableDeref<'a>, A: Allocator + Copy> FrozenBTreeMap<'a, K, 
         self.entries.get(key).copied()
     }
 
-    /// What `f` answers at the value of `key`. It is called once if the key is there, and never if it isn't.
+    /// What `f` returns for the value of `key`. It is called once if the key is present, and never if it is absent.
     pub fn map_get<R, F: FnOnce(V::Borrow) -> R>(&self, key: &K, f: F) -> Option<R>
     where
         F: Drop,
@@ -127,7 +127,7 @@ impl<'a, K: Ord, V: StableDeref<'a>, A: Allocator + Copy> FrozenBTreeMap<'a, K, 
         inner_map
     }
 
-    /// The inner map, lent for writing: it may change or remove anything, and what it leaves is a new base.
+    /// The inner map, borrowed for writing: it may change or remove anything, and what it leaves is a new base.
     pub fn as_mut(&mut self) -> &mut BTreeMap<K, V::Borrow, A>
         ensures* writes_back { sem 𝓛 (lends_entries K.row V.row A.row V.Borrow.row K.Ord V.HasTarget A.Allocator self.entry result) }
         ensures content { result.now.entries ≡ self.old }
@@ -137,12 +137,12 @@ impl<'a, K: Ord, V: StableDeref<'a>, A: Allocator + Copy> FrozenBTreeMap<'a, K, 
 }
 
 impl<'a, K: Ord + Drop, V: StableDeref<'a>, A: Allocator + Copy> FrozenBTreeMap<'a, K, V, A> {
-    /// Gives `key` the value, unless the map has a key that equals it, and answers the value that the key now has and
+    /// Gives `key` the value, unless the map has a key that equals it, and returns the value that the key now has and
     /// whether the key was new.
     ///
-    /// A key that is there keeps its value: `key` and `value` are given up, no memory is taken and the answer is `Ok`.
-    /// For a new key the value is placed in the arena and the tree makes room for one entry; where either is refused,
-    /// the answer is `Err`, the map stays as it was, and the arena may keep a value that nobody sees.
+    /// A present key keeps its value: `key` and `value` are dropped, no memory is taken and the result is `Ok`.
+    /// For a new key the value is placed in the arena and the tree makes room for one entry; where either fails,
+    /// it returns `Err`, the map stays as it was, and the arena may keep a value that nobody sees.
     ///
     /// One search of the tree; for a new key one more, and one copy into the arena.
     pub fn insert_new(&mut self, key: K, value: V) -> Result<(V::Borrow, bool), AllocError>
@@ -166,7 +166,7 @@ impl<'a, K: Ord + Drop, V: StableDeref<'a>, A: Allocator + Copy> FrozenBTreeMap<
         Ok((borrow, true))
     }
 
-    /// Gives `key` the value, unless the map has a key that equals it, and answers the value that the key now has:
+    /// Gives `key` the value, unless the map has a key that equals it, and returns the value that the key now has:
     /// [`insert_new`](FrozenBTreeMap::insert_new) without its flag.
     pub fn insert(&mut self, key: K, value: V) -> Result<V::Borrow, AllocError>
         ensures present { (x : V.Borrow) → value_at (eq_by_cmp K.cmp) self.old key ≡ Some x → (result ≡ Ok x) × (self.new ≡ self.old) }
@@ -195,7 +195,7 @@ impl<'a, K: Ord + Drop, V: StableDeref<'a>, A: Allocator + Copy> FrozenBTreeMap<
 
     /// A map of the pairs in which, other than by insertions, the last value of a key wins.
     ///
-    /// Each value is placed in the arena. Where memory is refused, the answer is `Err` and what was collected is given up.
+    /// Each value is placed in the arena. On an allocation failure it returns `Err` and drops what was collected.
     /// Which of several equal keys the map then shows is left open.
     pub fn from_iter<I: IntoIterator<Item = (K, V)>>(
         alloc: A,
@@ -216,7 +216,7 @@ impl<'a, K: Ord + Drop, V: StableDeref<'a>, A: Allocator + Copy> FrozenBTreeMap<
     /// A map with the same content over the same arena, whose borrows are shared. Later insertions into either leave the
     /// other as it is.
     ///
-    /// Clones each key. Where memory is refused, the answer is `Err`.
+    /// Clones each key. On an allocation failure it returns `Err`.
     pub fn clone(&self) -> Result<Self, AllocError>
     where
         K: Clone,
@@ -236,7 +236,7 @@ impl<'a, K: Ord + Drop, V: StableDeref<'a>, A: Allocator + Copy> FrozenBTreeMap<
 
     /// The entries as a list, each once, ascending by key.
     ///
-    /// Takes memory for the list; where that is refused, the map is given up.
+    /// Takes memory for the list; where that fails, the map is dropped.
     pub fn into_tuple_vec(self) -> Result<Vec<(K, V::Borrow), A>, AllocError>
         ensures entries { IfOk result (λ pairs. pairs.items ≡ self.entry) }
         ensures ascending { IfOk result (λ pairs. IsStrictlySortedBy K.cmp (keys_of pairs.items)) }

@@ -34,7 +34,7 @@ impl Cursor {
 
     /// The item at the cursor's place; the cursor then moves on by one.
     ///
-    /// At the end it answers None and keeps its place, so it goes on after a later push. Asked of a vector with fewer items than its place, it answers None.
+    /// At the end it returns None and keeps its place, so it goes on after a later push. Asked of a vector with fewer items than its place, it returns None.
     pub fn next<'a, T: StableDeref<'a>, A: Allocator + Copy>(
         &mut self,
         items: &FrozenVec<'a, T, A>,

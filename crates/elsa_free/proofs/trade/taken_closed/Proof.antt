@@ -2,15 +2,8 @@ use Rattle.std.proofs.Common.{◌≡◌, ℕ, suc, ◌+◌, ◌*◌, ◌^◌, �
 use mir.Syntax.{a_type, dcons, dnil, named}
 use mir.Val.{Val, vunit, vint, vptr, vstruct, vcons, vnil, of_list}
 use mir.MapTy.{inst_fn}
-use base.Fraction.{full_share}
-use base.Share.{three_quarters}
-use base.Growing.{latest}
 use base.Logic.{SProp, ent, wand, emp, id⊢, via, apply∗}
 use base.Fml.{Lft, Share, Fml, ftrue, fsep, fex, feq, flft, fhide}
-use types.Logic.{sem}
-use types.Growing.{latest_new}
-use types.Keyed.{tickets_from, entries_new, token as ticket_algebra}
-use types.Owned.{basic}
 use types.Kit.{‵, raw, ◌⊛◌, some, given, later, mean, at_ret, ◌$◌, ◌∵◌, !, qed, by, move, keep, drop, split, join, group, fsplit, fsplit3, fjoin, fjoin3, fpick, fpack, pick, learn, use0, use1, use2, use3, await, rewrite, feq_i, flt_i}
 use types.Run.{stop, fld, addr, lit, unit_lit, of_opd, no_more, and_then, first, blocks, exec, Calls-last, returns, enter}
 use types.ByLocal.{alloc_all, pass_all, free_all, look_at, get, get_in, through, sets, lands_last, env}
@@ -21,7 +14,6 @@ use denote.Exit.{yes, no}
 use denote.RattleType.{RattleType, owns, Valss}
 use denote.Signature.{types_at, plain}
 use denote.Builtin.{RefOf, u64, usize, unit}
-use denote.Ref.{mut_vals, mut_Tells, shr_vals, shr_Tells}
 use denote.Plain.{uint_vals, uint_Tells}
 use denote.Steps.{nothing}
 use denote.Param.{param, bounded}
@@ -30,7 +22,6 @@ use denote.Triple.Walked.{Stays, stay_dropped, walk_of, Goes-dropped}
 use Rattle.std_collections.specs.contracts.linked_list.LinkedList as LinkedList
 use Rattle.std.specs.contracts.alloc.Global as Global
 use Rattle.std.specs.contracts.impls.GlobalAllocator.TheImpl as galloc
-use Rattle.logbook.specs.Kept.{offer_owns}
 use Rattle.logbook.specs.contracts.tokens.Start as Start
 use Rattle.logbook.specs.contracts.tokens.Seen as Seen
 use Rattle.logbook.specs.contracts.tokens.Offer as Offer
@@ -40,10 +31,8 @@ use Rattle.atomic_table.proofs.Walks.{proved}
 use Rattle.elsa_free.specs.Slot.{written, blanks}
 use Rattle.elsa_free.specs.contracts.slots.rights.Blanks as Blanks
 use Rattle.elsa_free.specs.contracts.slots.rights.Written as Written
-use Rattle.elsa_free.specs.Geometry.{IsAt}
 use Rattle.elsa_free.specs.declared.event.Event.{Event as Ev}
 use Rattle.elsa_free.specs.declared.event.Event.TheVariants.{Took, Put, Copied, Gave, Seat}
-use Rattle.elsa_free.specs.SharedList.{copied, count, entry, items_of}
 use Rattle.elsa_free.specs.History.{list_of, kinds, author_of, used_of, others}
 use Rattle.elsa_free.specs.contracts.event.Event as Event
 use Rattle.elsa_free.specs.contracts.rule.OneWord as OneWord
@@ -54,16 +43,12 @@ use Rattle.elsa_free.specs.contracts.rule.Puts as Puts
 use Rattle.elsa_free.specs.contracts.trade.Held as Held
 use Rattle.elsa_free.specs.contracts.trade.Author as Author
 use Rattle.elsa_free.specs.contracts.slots.told.Told as Told
-use Rattle.elsa_free.proofs.ToldPlaces.{told_made}
-use Rattle.elsa_free.proofs.ToldTokens.{told_told}
-use Rattle.elsa_free.proofs.Logs.{copied_items, copied_length}
 use Rattle.elsa_free.specs.contracts.rule.OneWordRuleEventLog.TheImpl as rule
 use Rattle.elsa_free.specs.contracts.rule.TakesGainEventLog.TheImpl as takes
 use Rattle.elsa_free.specs.contracts.rule.LooksGainEventLog.TheImpl as looks
 use Rattle.elsa_free.specs.contracts.rule.GivesGainEventLog.TheImpl as gives
 use Rattle.elsa_free.specs.contracts.rule.PutsGainEventLog.TheImpl as puts
 use Rattle.elsa_free.specs.Rights.{logs, head, tops_of, author, position, right, Moved, kept, took, looked, gave, wrote, rights, told, all_told}
-use Rattle.elsa_free.specs.Rights.{fact as said}
 use Rattle.elsa_free.proofs.Trades as trades
 use Rattle.elsa_free.proofs.Rooms as rooms
 use Rattle.elsa_free.specs.contracts.trade.taken_closed.{ended, clauses}

@@ -1,7 +1,4 @@
 use Rattle.std.proofs.Common.{◌≡◌, ◌++◌, ◌∷◌, [], ◌+◌, ◌<◌, ◌^◌, ◌≤◌, ℕ, List, suc, length, slice_get, refl, ap, sym, ◌∙◌, arith, subst}
-use Rattle.std.proofs.lemmas.Option.{slice_get_past}
-use Rattle.std.proofs.lemmas.Result.{IfOk-weaker, MatchResult-weaker}
-use mathlib.Core.List.{IsPrefix}
 use Rattle.elsa_free.specs.declared.event.Event.TheVariants.{Seat}
 use Rattle.elsa_free.specs.SharedList.{count, entry, items_of, mine}
 use Rattle.elsa_free.specs.History.{list_of, author_of, used_of}

@@ -1,13 +1,8 @@
 use Rattle.std.proofs.Common.{◌≡◌, ◌++◌, ◌∷◌, [], ◌+◌, ◌<◌, ◌^◌, ◌≤◌, ℕ, List, suc, length, slice_get, refl, ap, sym, ◌∙◌, arith, subst}
-use Rattle.std.proofs.lemmas.Option.{slice_get_past}
 use Rattle.std.proofs.lemmas.Result.{IfOk-weaker, MatchResult-weaker}
-use mathlib.Core.List.{IsPrefix}
-use Rattle.elsa_free.specs.declared.event.Event.TheVariants.{Seat}
 use Rattle.elsa_free.specs.SharedList.{count, entry, items_of, mine}
 use Rattle.elsa_free.specs.History.{list_of, author_of, used_of}
-use Rattle.elsa_free.proofs.Logs.{items_length, list_prefix}
 use Rattle.elsa_free.proofs.Places.{appended_end, look_places, push_places}
-use Rattle.elsa_free.proofs.Closing.{looked_mine}
 use Rattle.elsa_free.proofs.lock_free.LockFreeFrozenVec.push_in.Goals as goal
 
 pub returns-clause-pushed_mine : goal.returns-clause-pushed_mine

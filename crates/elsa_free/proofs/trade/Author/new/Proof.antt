@@ -1,14 +1,6 @@
 use Rattle.std.proofs.Common.{◌≡◌, ℕ, suc, ◌+◌, ◌*◌, ◌^◌, ◌<◌, ◌≤◌, Bool, true, false, List, [], ◌∷◌, ◌++◌, length, drop as drops, slice_index_or, sym, refl, ap, ◌∙◌, subst, arith, lit<, w64, None}
-use mir.Syntax.{a_type, dcons, dnil, named}
 use mir.Val.{Val, vunit, vint, vptr, vstruct, vcons, vnil, of_list}
-use mir.MapTy.{inst_fn}
-use base.Fraction.{full_share}
-use base.Share.{three_quarters}
-use base.Growing.{latest}
 use base.Logic.{SProp, ent, wand, emp, id⊢, via, apply∗}
-use base.Fml.{Lft, Share, Fml, ftrue, fsep, fex, feq, flft, fhide}
-use types.Logic.{sem}
-use types.Growing.{latest_new}
 use types.Keyed.{tickets_from, entries_new, token as ticket_algebra}
 use types.Owned.{basic}
 use types.Kit.{‵, raw, ◌⊛◌, some, given, later, mean, at_ret, ◌$◌, ◌∵◌, !, qed, by, move, keep, drop, split, join, group, fsplit, fsplit3, fjoin, fjoin3, fpick, fpack, pick, learn, use0, use1, use2, use3, await, rewrite, feq_i, flt_i}
@@ -21,16 +13,12 @@ use denote.Exit.{yes, no}
 use denote.RattleType.{RattleType, owns, Valss}
 use denote.Signature.{types_at, plain}
 use denote.Builtin.{RefOf, u64, usize, unit}
-use denote.Ref.{mut_vals, mut_Tells, shr_vals, shr_Tells}
-use denote.Plain.{uint_vals, uint_Tells}
 use denote.Steps.{nothing}
 use denote.Param.{param, bounded}
-use denote.Struct.Tuple.{Tuple}
 use denote.Triple.Walked.{Stays, stay_dropped, walk_of, Goes-dropped}
 use Rattle.std_collections.specs.contracts.linked_list.LinkedList as LinkedList
 use Rattle.std.specs.contracts.alloc.Global as Global
 use Rattle.std.specs.contracts.impls.GlobalAllocator.TheImpl as galloc
-use Rattle.logbook.specs.Kept.{offer_owns}
 use Rattle.logbook.specs.contracts.tokens.Start as Start
 use Rattle.logbook.specs.contracts.tokens.Seen as Seen
 use Rattle.logbook.specs.contracts.tokens.Offer as Offer
@@ -41,7 +29,6 @@ use Rattle.elsa_free.specs.contracts.trade.Author.new.{ended, clauses}
 use Rattle.elsa_free.specs.contracts.trade.Author.new.Key.{name as #self}
 use Rattle.elsa_free.proofs.trade.Author.new.Statement.{statement}
 use Rattle.elsa_free.proofs.trade.Author.new.Code as code
-use Rattle.atomic_table.proofs.Walks.{leaves}
 
 pub new_spec : {M : Type 1} → statement M
 new_spec 𝓤 𝓛 𝓜 𝓡 wired =

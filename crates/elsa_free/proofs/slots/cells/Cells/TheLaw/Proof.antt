@@ -1,6 +1,5 @@
 -- A `&` to the cells holds a turn of each slot. Assumes `Logic`.
 use Rattle.std.proofs.Common.{ℕ, ◌+◌, List, [], ◌∷◌, ◌++◌}
-use Rattle.std.specs.Prelude.{Some}
 use Rattle.std.specs.Mem.{type_size}
 use seplogic.Ra.Ura.{Ura}
 use base.Logic.{ent, sep, wand, all, id⊢}

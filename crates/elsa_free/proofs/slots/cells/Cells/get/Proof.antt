@@ -4,12 +4,10 @@ use Prim.Native.Nat.{ℕ, ◌+◌, ◌*◌, ◌<◌, ◌^◌}
 use native.Mathlib.Omega.{arith}
 use mathlib.Core.List.{List, [], ◌∷◌, ◌++◌}
 use lib.ListN.{length, get_or}
-use seplogic.Ra.Ura.{Ura}
 use base.Fraction.{full_share}
 use base.Logic.{SProp, ent, sep, wand, never, emp, id⊢, apply∗}
 use base.Fml.{Lft, Share, Fml, Incl-trans, ftrue, fsep, fat, flft, finv, fbor, froom}
 use base.Before.{before}
-use contract.BorrowLft.{◌⊑◌, meet_⊑_left, meet_⊑_right}
 use contract.Monad.{fact, fact_i}
 use contract.Running.{tables}
 use contract.Shared.{Lends-one}
@@ -18,7 +16,6 @@ use mir.MapTy.{inst_fn}
 use mir.Val.{Val, vptr, vint}
 use prog.Wp.{WpFn}
 use types.Kit.{Item, ⋆, ‵, raw, ◌⊛◌, some, later, at_ret, ◌$◌, ◌∵◌, !, qed, by, move, keep, drop, use0, use1, use2, use3, split, split3, join, fsplit, fsplit3, fjoin, fpick, pick, await, rewrite, feq_i, feq_l, flt_l}
-use types.Mut.{open_ref, close_ref}
 use types.Na.{before_dup}
 use types.Part.{whole, sub, agg}
 use types.Run.{stop, fld, addr, bin, size_lit, of_opd, no_more, and_then, first, blocks, exec, returns, enter, assigns, init}
@@ -44,7 +41,6 @@ use Rattle.circular_buffer.proofs.Memory.{word_had, value_in}
 use Rattle.elsa_free.specs.Slot.{full, blank, written, memory, lent, cell, untagged, untagged_lent, cells_lent}
 use Rattle.elsa_free.specs.contracts.slots.rights.Blank as Blank
 use Rattle.elsa_free.specs.contracts.slots.rights.Written as Written
-use Rattle.elsa_free.proofs.SlotTokens.{token_val, written_made, blank_told}
 use Rattle.elsa_free.proofs.SlotTurns as turns
 use Rattle.elsa_free.proofs.CellMemory.{Cr, Bs, sz, place, One, slot_seen, room_of}
 use Rattle.elsa_free.specs.contracts.slots.cells.Cells.get as F

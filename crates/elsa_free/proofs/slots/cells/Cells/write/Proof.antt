@@ -4,7 +4,6 @@ use Prim.Native.Nat.{ℕ, ◌+◌, ◌*◌, ◌<◌, ◌^◌}
 use native.Mathlib.Omega.{arith}
 use mathlib.Core.List.{List, [], ◌∷◌, ◌++◌}
 use lib.ListN.{length, get_or}
-use seplogic.Ra.Ura.{Ura}
 use base.Fraction.{full_share}
 use base.Logic.{SProp, ent, sep, wand, never, emp, id⊢, apply∗}
 use base.Fml.{Lft, Share, Fml, Incl-trans, ftrue, fsep, fat, flft, finv, fbor, froom}
@@ -19,7 +18,6 @@ use mir.Val.{Val, vptr, vint}
 use prog.Wp.{WpFn}
 use types.Kit.{Item, ⋆, ‵, raw, ◌⊛◌, some, later, at_ret, ◌$◌, ◌∵◌, !, qed, by, move, keep, drop, use0, use1, use2, use3, split, split3, join, fsplit, fsplit3, fjoin, fpick, pick, await, rewrite, feq_i, feq_l, flt_l}
 use types.Mut.{open_ref, close_ref}
-use types.Na.{before_dup}
 use types.Part.{whole, sub, agg}
 use types.Run.{stop, fld, addr, bin, size_lit, of_opd, no_more, and_then, first, blocks, exec, returns, enter, assigns, init}
 use types.ByLocal.{alloc_all, pass_all, free_all, look_at, get, get_in, take_at, give_at, through, sets, sets_last, env}

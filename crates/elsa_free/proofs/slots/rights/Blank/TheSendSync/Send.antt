@@ -1,4 +1,3 @@
-use denote.RattleType.{RattleType}
 use denote.Param.Send.{IsSend, IsSync}
 use Rattle.elsa_free.proofs.SlotSends as sent
 use Rattle.elsa_free.specs.contracts.slots.rights.Blank.{the_row}

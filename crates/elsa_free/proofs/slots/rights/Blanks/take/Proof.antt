@@ -1,36 +1,22 @@
 use Rattle.std.proofs.Common.{◌≡◌, ℕ, ◌+◌, ◌-◌, ◌^◌, ◌<◌, Bool, true, false, List, [], ◌∷◌, ◌++◌, length, sym, refl, ap, ◌∙◌, subst, arith, lit<, w64}
 use mir.Syntax.{a_type, dcons, dnil, named}
 use mir.Val.{Val, vunit, vint, vptr, vstruct, vcons, vnil, of_list}
-use mir.MapTy.{inst_fn}
 use base.Logic.{SProp, wand, emp, id⊢, via, apply∗}
 use base.Fml.{Lft, Share, Fml, ftrue, fsep, fex, feq, flft, fhide}
-use prog.Atomic.{either}
-use types.Logic.{sem}
 use types.Kit.{‵, raw, ◌⊛◌, some, given, later, mean, at_ret, ◌$◌, ◌∵◌, !, qed, by, move, keep, drop, split, join, group, fsplit, fsplit3, fjoin, fjoin3, fpick, fpack, pick, learn, use0, use1, use2, use3, await, rewrite, feq_i, flt_i}
 use types.Run.{stop, fld, addr, lit, unit_lit, of_opd, no_more, and_then, first, blocks, exec, Calls-last, returns, enter}
 use types.ByLocal.{alloc_all, pass_all, free_all, look_at, get, get_in, through, sets, lands_last, env}
 use types.Part.{agg, sub, whole}
 use contract.Monad.{fact, fact_i}
 use contract.Running.{tables}
-use contract.Shared.{Lends-one}
 use denote.Exit.{yes, no}
 use denote.RattleType.{RattleType, owns, Valss}
 use denote.Signature.{types_at, plain}
-use denote.Builtin.{RefOf, u64, unit}
 use denote.Ref.{mut_vals, mut_Tells, shr_vals, shr_Tells}
-use denote.Plain.{uint_vals, uint_Tells}
-use denote.Memory.{hidden_shr}
-use denote.RawPtr.{block_ptr}
-use denote.Opens.{unhide}
 use denote.Steps.{nothing, opens, closes}
-use denote.Shadow.{Pure, shadow, makes_shadow}
 use denote.Param.{param, bounded}
-use denote.Struct.Tuple.{Tuple}
-use denote.Struct.Lending.{lent_out}
 use denote.Triple.Walked.{Stays, stay_dropped, stay_ref, walk_of, Goes-dropped, Goes-ref}
-use Rattle.core.proofs.atomic.Steps.{tail}
 use Rattle.atomic_table.proofs.Walks.{proved, leaves}
-use Rattle.atomic_table.proofs.Calls.{fm, found, finds, stored, has_stored, loads, stores, exchanges}
 use Rattle.elsa_free.specs.Slot.{blank, blanks}
 use Rattle.elsa_free.specs.contracts.slots.rights.Blank as Blank
 use Rattle.elsa_free.specs.contracts.slots.rights.Blanks as Blanks

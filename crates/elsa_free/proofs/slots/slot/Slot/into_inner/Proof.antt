@@ -2,10 +2,7 @@ use Rattle.std.proofs.Common.{◌≡◌, ℕ, zero, suc, ◌+◌, ◌*◌, ◌^�
 use mir.Syntax.{a_type, dcons, dnil, named}
 use mir.Val.{Val, vunit, vint, vptr, vstruct, vcons, vnil}
 use mir.MapTy.{inst_fn}
-use base.Fraction.{full_share}
 use base.Logic.{SProp, ent, sep, wand, emp, via, id⊢, apply∗, all_e}
-use base.Fml.{Lft, Share, Fml, Incl-trans, ftrue, fsep, fex, flft, finv, fbor, fobs}
-use base.Before.{before}
 use prog.Wp.{WpFn}
 use types.Logic.{sem}
 use types.Kit.{any_q, post}
@@ -16,47 +13,28 @@ use types.ByLocal.{alloc_all, pass_all, free_all, look_at, look_in_at, get, get_
 use types.Part.{agg, sub, whole}
 use types.Match.{live}
 use contract.Running.{tables}
-use contract.Monad.{fact, fact_i}
-use contract.BorrowLft.{◌⊑◌, meet_⊑_left, meet_⊑_right}
-use contract.Shared.{Lends-one}
 use denote.Exit.{yes, no}
 use denote.RattleType.{RattleType, owns}
 use denote.Signature.{types_at, plain, named_lft}
-use denote.RawPtr.{block_ptr}
 use denote.Steps.{nothing, heard, peeks, opens, closes}
-use denote.Opens.{hide, unhide}
 use denote.Laws.{Is, shows}
 use denote.Memory.{lone, cell_at, shared_of}
 use denote.Param.{param, bounded, layouts, layout}
 use denote.Param.Laws.{param_laws}
-use denote.Builtin.{RefOf, u64}
-use denote.Ref.{ShrRef, shr_vals, shr_Tells}
 use denote.Triple.Walked.{Stays, stay_dropped, walk_of, Goes-dropped}
 use Rattle.atomic_table.proofs.Walks.{proved, proved_at, leaves}
-use Rattle.atomic_table.proofs.Calls.{fm, seq_cst, found, stored, loads, stores, exchanges}
-use Rattle.core.proofs.atomic.Steps.{tail}
-use Rattle.std.specs.declared.option.Option.TheVariants.{None, Some}
 use Rattle.std.specs.contracts.option.Option.{the_row as OptionOf}
-use Rattle.core.proofs.option.Made.{Some-of, none_of}
 use Rattle.core.proofs.option.Option.TheLaws.{the_row_laws as option_laws}
-use denote.RattleType.{Valss}
-use denote.Shadow.{makes_shadow}
-use denote.Struct.Struct.{within}
-use denote.Struct.Declared.{shape, fields}
 use denote.Laws.{Typed}
-use base.Stored.{gnil, gnum}
 use base.Fml.{feq}
 use mir.Val.{of_list}
-use types.Tokens.{name_new}
 use Rattle.core.proofs.cell.Inside.{Good, one}
 use Rattle.elsa_free.specs.Slot.{Rest, resting, free}
 use Rattle.elsa_free.specs.contracts.slots.slot.Slot.{the_row}
 use Rattle.elsa_free.specs.contracts.slots.slot.Slot.TheInside as Inside
-use Rattle.elsa_free.proofs.slots.slot.Slot.TheInside.TheLaws.{the_row_laws as inside_laws}
 use Rattle.elsa_free.specs.contracts.slots.rights.Written as Written
 use Rattle.elsa_free.specs.contracts.slots.rights.Blank as Blank
 use Rattle.elsa_free.proofs.SlotTurns as steps
-use Rattle.elsa_free.proofs.SlotTokens.{token_val, written_made, blank_told, blank_made}
 use Rattle.elsa_free.specs.contracts.slots.slot.Slot.into_inner.{ended, clauses}
 use Rattle.elsa_free.specs.contracts.slots.slot.Slot.into_inner.Key.{name as #self}
 use Rattle.elsa_free.proofs.slots.slot.Slot.into_inner.Statement.{statement}

@@ -5,11 +5,9 @@ use mir.Val.{Val, vunit, vint, vptr, vstruct, vcons, vnil, of_list}
 use mir.MapTy.{inst_fn}
 use base.Logic.{SProp, emp}
 use base.Fml.{Lft, Share, Fml, ftrue, fsep, feq, fex, flft}
-use types.Logic.{sem}
 use types.Kit.{‵, raw, ◌⊛◌, given, at_ret, ◌$◌, ◌∵◌, !, qed, by, move, keep, drop, use0, use1, use2, split, join, fsplit, fsplit3, fjoin, fjoin3, fpick, fpack, learn, rewrite, feq_i}
 use types.Run.{addr, unit_lit, of_opd, no_more, and_then, returns, enter}
 use types.ByLocal.{alloc_all, pass_all, free_all, look_at, get, sets, env}
-use types.Part.{agg}
 use contract.Monad.{fact, fact_i}
 use contract.Running.{tables}
 use denote.Exit.{yes, no}
@@ -29,7 +27,6 @@ use Rattle.elsa_free.specs.Told.{Where, at_place, told, all_told}
 use Rattle.elsa_free.specs.contracts.slots.rights.Blanks as Blanks
 use Rattle.elsa_free.specs.contracts.slots.rights.Written as Written
 use Rattle.elsa_free.specs.contracts.slots.told.Told as Told
-use Rattle.elsa_free.proofs.Powers.{one_slot}
 use Rattle.elsa_free.proofs.SlotTokens.{token_val, written_told}
 use Rattle.elsa_free.proofs.ToldPlaces.{told_made, at_one, all_snoc, got, thing}
 use Rattle.elsa_free.specs.contracts.slots.told.Told.add.{ended, clauses}

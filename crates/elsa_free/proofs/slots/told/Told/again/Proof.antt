@@ -4,8 +4,6 @@ use mir.Syntax.{a_type, dcons, dnil, named}
 use mir.Val.{Val, vunit, vint, vptr, vstruct, vcons, vnil, of_list}
 use mir.MapTy.{inst_fn}
 use base.Logic.{SProp, emp}
-use base.Fml.{Lft, Share, Fml, ftrue, fsep, feq, fex, flft}
-use types.Logic.{sem}
 use types.Kit.{‵, raw, ◌⊛◌, given, at_ret, ◌$◌, ◌∵◌, !, qed, by, move, keep, drop, use0, use1, use2, split, join, fsplit, fsplit3, fjoin, fjoin3, fpick, fpack, learn, rewrite, feq_i}
 use types.Run.{addr, unit_lit, of_opd, no_more, and_then, returns, enter}
 use types.ByLocal.{alloc_all, pass_all, free_all, look_at, get, sets, env}
@@ -18,18 +16,14 @@ use denote.Signature.{types_at, plain}
 use denote.Builtin.{RefOf, RefMutOf, usize}
 use denote.Opens.{unhide}
 use denote.Param.{param, bounded}
-use denote.Plain.{uint_vals, uint_Tells}
 use denote.Ref.{mut_vals, mut_Tells, shr_vals, shr_Tells}
 use denote.Steps.{nothing, heard, opens, closes}
 use denote.Triple.Walked.{Stays, stay_dropped, stay_ref, walk_of, Goes-dropped, Goes-ref}
 use Rattle.atomic_table.proofs.Walks.{proved, proved_at, leaves}
-use Rattle.elsa_free.specs.Geometry.{IsAt}
-use Rattle.elsa_free.specs.Slot.{fact as said, written}
 use Rattle.elsa_free.specs.Told.{Where, at_place, told, all_told}
 use Rattle.elsa_free.specs.contracts.slots.rights.Blanks as Blanks
 use Rattle.elsa_free.specs.contracts.slots.rights.Written as Written
 use Rattle.elsa_free.specs.contracts.slots.told.Told as Told
-use Rattle.elsa_free.proofs.Powers.{one_slot}
 use Rattle.elsa_free.proofs.SlotTokens.{token_val, written_made}
 use Rattle.elsa_free.proofs.ToldPlaces.{told_made, at_one, all_snoc, got, thing}
 use Rattle.elsa_free.specs.contracts.slots.told.Told.again.{ended, clauses}

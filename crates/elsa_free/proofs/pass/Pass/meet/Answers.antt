@@ -1,6 +1,4 @@
-use Rattle.std.proofs.Common.{◌≡◌}
-use Rattle.elsa_free.specs.SharedList.{mine}
-use Rattle.elsa_free.proofs.lock_free.Pass.meet.Goals as goal
+use Rattle.elsa_free.proofs.pass.Pass.meet.Goals as goal
 
 pub returns-clause-apart : goal.returns-clause-apart
 returns-clause-apart g c = rw (c.replace.ensures.after, c.replace-2.ensures.after) c.met-one.ensures.apart

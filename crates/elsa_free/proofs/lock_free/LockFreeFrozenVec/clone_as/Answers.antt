@@ -3,16 +3,16 @@ use Rattle.elsa_free.specs.SharedList.{copied, count, items_of, mine}
 use Rattle.elsa_free.specs.History.{list_of}
 use Rattle.elsa_free.proofs.Logs.{copied_length, items_length}
 use Rattle.elsa_free.proofs.Places.{no_places}
-use Rattle.elsa_free.proofs.lock_free.LockFreeFrozenVec.clone_in.Goals as goal
+use Rattle.elsa_free.proofs.lock_free.LockFreeFrozenVec.clone_as.Goals as goal
 
 pub of-copy_pass-requires-clause-length : goal.of-copy_pass-requires-clause-length
 of-copy_pass-requires-clause-length g c =
-    let look = c.look_in-pass.ensures in let told = c.look_in-pass.result.2 in
-    let a = ap length c.in-Ok.ensures.items in let b = copied_length told.items in let d = ap length look.filled.1 in let e = items_length c.look_in-pass.result.0.seen in let n = look.length.0 in
-    (omega (arith, a, b, d, e, n), look.length.1)
+    let look = c.len_as-n.ensures in let told = c.evidence-told.result in
+    let a = ap length c.in_ok-shared.ensures.items in let b = copied_length told.items in let d = ap length c.evidence-told.ensures.1 in let e = items_length c.len_as-n.new.pass.seen in let n = look.length in
+    (omega (arith, a, b, d, e, n), look.limit)
 
-pub returns-clause-nothing_mine : goal.returns-clause-nothing_mine
-returns-clause-nothing_mine g c =
-    let s = c.settled-author.ensures in let z = c.new.ensures in let le = s.2 in let log = c.in-Ok.seen.log in
+pub returns-clause-clone_mine : goal.returns-clause-clone_mine
+returns-clause-clone_mine g c =
+    let s = c.settled-author.ensures in let z = c.new.ensures in let le = s.2 in let log = c.in_ok-shared.seen.log in
     let none : count (suc c.settled-author.result.name) (list_of log) ≡ 0 = ap (λ (k : ℕ). count (suc k) (list_of log)) s.0 ∙ (let n : count (suc c.new.result.name) (list_of log) ≡ 0 = omega (arith, le, z) in n) in
     rw (c.of-copy_pass.ensures) (no_places (suc c.settled-author.result.name) 0 (list_of log) none)

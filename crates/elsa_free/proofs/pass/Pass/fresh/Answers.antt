@@ -1,11 +1,8 @@
 use Rattle.std.proofs.Common.{◌≡◌, ◌≢◌, ◌++◌, ◌∷◌, [], ◌+◌, ◌<◌, ◌^◌, ◌≤◌, ℕ, List, Bool, true, false, suc, length, refl, ap, sym, ◌∙◌, arith, subst, if◌then◌else◌, nat_le}
-use mathlib.Core.List.{IsPrefix}
-use Rattle.std.proofs.lemmas.Bool.Decides.{nat_tests}
 use Rattle.elsa_free.specs.SharedList.{count, longer, mine}
 use Rattle.elsa_free.specs.History.{list_of}
-use Rattle.elsa_free.proofs.Logs.{list_prefix, prefix_of_longer}
 use Rattle.elsa_free.proofs.Places.{apart_places, look_places, no_places}
-use Rattle.elsa_free.proofs.lock_free.Pass.fresh.Goals as goal
+use Rattle.elsa_free.proofs.pass.Pass.fresh.Goals as goal
 
 pub of-requires-clause-mine : goal.of-requires-clause-mine
 of-requires-clause-mine g c = let s = c.settled.ensures in let z = c.new.ensures in let le = s.2 in let log = c.self.inside.seen.log in
