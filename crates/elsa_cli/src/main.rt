@@ -3,10 +3,10 @@
 #![tactic(auto)]
 
 use bumpalo::Bump;
-use elsa::Job;
 use elsa::command::job;
-use elsa::interner::{Counted, EngineFault, intern_engine};
+use elsa::interner::{Counted, EngineFault, intern_engine_with_hasher};
 use elsa::shared::{Gate, run_shared};
+use elsa::{Job, SeededState};
 use std::process::ExitCode;
 
 const USAGE: &str = "usage: elsa intern | elsa shared W N";
@@ -16,12 +16,16 @@ fn complain(rt: &HostRuntime, message: &str) {
     let _ = eprintln!(rt; "{message}");
 }
 
-/// Answers each line of standard input on standard output.
+/// Answers each line of standard input on standard output. Strangers choose the names, so they are hashed with a secret.
 fn intern(rt: &HostRuntime) -> ExitCode {
+    let Ok(secret) = SeededState::new(rt) else {
+        complain(rt, "fault");
+        return ExitCode::FAILURE;
+    };
     let arena = Bump::new(rt.alloc());
     let mut reader = Counted::new(rt.stdin());
     let mut writer = Counted::new(rt.stdout());
-    match intern_engine(rt.alloc(), &arena, &mut reader, &mut writer) {
+    match intern_engine_with_hasher(rt.alloc(), &arena, secret, &mut reader, &mut writer) {
         Ok(()) => ExitCode::SUCCESS,
         Err(EngineFault::Write) => {
             complain(rt, "write failed");

@@ -6,7 +6,11 @@ mod cache_tests;
 #[cfg(test)]
 mod caller_tests;
 #[cfg(test)]
+mod device_tests;
+#[cfg(test)]
 mod engine_tests;
+#[cfg(test)]
+mod hasher_tests;
 #[cfg(test)]
 mod index_tests;
 pub mod odd_keys;

@@ -54,9 +54,6 @@ parts_join (suc i) (x ∷ xs) = ap (λ t. x ∷ t) (parts_join i xs)
 pub rest_is : (xs : List ℕ) (i : ℕ) → take (length xs - i) (drop i xs) ≡ drop i xs
 rest_is xs i = rw (← length-drop i xs) (take_whole (drop i xs))
 
-pub whole_is : (xs : List ℕ) (i : ℕ) → i ≡ length xs → take i xs ≡ xs
-whole_is xs i e = rw e (take_whole xs)
-
 -- a writer failed after i bytes of a piece
 pub some_of_take : (a b c : Option (List ℕ)) (piece : List ℕ) (i : ℕ) → Appends a b (take i piece) → Keeps b c → AppendsSome a c piece
 some_of_take a b c piece i p q = (take i piece, drop i piece, parts_join i piece, appends_keeps a b c (take i piece) p q)
@@ -68,15 +65,6 @@ some_first a b xs ys s = (s.0, s.1 ++ ys, sym (append_assoc s.0 s.1 ys) ∙ ap (
 -- and all of what comes first, with a beginning of the rest
 pub some_later : (a b c : Option (List ℕ)) (xs ys : List ℕ) → Appends a b xs → AppendsSome b c ys → AppendsSome a c (xs ++ ys)
 some_later a b c xs ys p s = (xs ++ s.0, s.1, append_assoc xs s.0 s.1 ∙ ap (λ t. xs ++ t) s.2, appends_both a b c xs s.0 p s.3)
-
-pub some_from_all : (a b : Option (List ℕ)) (xs : List ℕ) → Appends a b xs → AppendsSome a b xs
-some_from_all a b xs p = (xs, [], append-nil xs, p)
-
-pub queued_all_wait : (a : Option (List ℕ)) (waited piece : List ℕ) → Queued a waited a (waited ++ piece) piece
-queued_all_wait a waited piece = ([], appends_none a, refl)
-
-pub queued_piece_waits : (a b : Option (List ℕ)) (waited piece : List ℕ) → Appends a b waited → Queued a waited b piece piece
-queued_piece_waits a b waited piece p = (waited, p, refl)
 
 pub queued_none_waits : (a b c : Option (List ℕ)) (waited piece : List ℕ) → Appends a b waited → Appends b c piece → Queued a waited c [] piece
 queued_none_waits a b c waited piece p q = (waited ++ piece, appends_both a b c waited piece p q, append-nil (waited ++ piece))

@@ -1,16 +1,16 @@
 -- Lines, tails and answers, as more bytes are read.
 use Rattle.std.proofs.Common.{◌≡◌, ◌≢◌, ℕ, suc, ◌+◌, ◌-◌, ◌<◌, take, drop, get_or, Bool, true, false, List, [], ◌∷◌, ◌++◌, length, codes, refl, append_assoc, arith, sym, ap, subst, ◌∙◌, inr, nat_eq, eqb-true}
-use borrow.Author.Tests.{eqb-false}
+use Rattle.std.proofs.lemmas.Bool.{eqb-false}
 use Rattle.std.proofs.lemmas.List.{append-nil, length-append}
 use Rattle.std.proofs.lemmas.Str.{IsCharBoundary-after_ascii}
 use Rattle.std.specs.Str.{IsUtf8, IsCharBoundary}
 use Rattle.std.proofs.lemmas.List.Elements.{All-append, All-cons, All-nil, recursion_from_All, All-from_recursion}
 use Rattle.elsa_interner.specs.Devices.{AppendsSome, Queued}
-use Rattle.elsa_interner.specs.Lines.{IsCut, Answers, AnswersAll, IsAnswered, ended, with_tail}
+use Rattle.elsa_interner.specs.Lines.{IsCut, Answers, AnswersAll, IsAnswered, ended}
 use Rattle.std.specs.Prelude.{Option, Result, Ok, Err, OnOk, OnErr}
 use Rattle.std.specs.Io.KnownBytes.{Appends}
 use Rattle.elsa_interner.specs.Feeding.{IsInside, IsSoFar, IsFinished, IsReached, IsDone, IsDoneAll, Feeds, FeedsSome, Ends, EndsSome}
-use Rattle.elsa_interner.proofs.Bytes.{appends_none, queued_nothing, queued_both, queued_some, queued_flushed, queued_flushed_some, some_first}
+use Rattle.elsa_interner.proofs.Bytes.{queued_nothing, queued_both, queued_some, queued_flushed, queued_flushed_some, some_first}
 
 pub ended_append : (ls ms : List (List ℕ)) → ended (ls ++ ms) ≡ ended ls ++ ended ms
 ended_append [] ms = refl
@@ -248,18 +248,6 @@ reached_last : (bytes written line answer : List ℕ) (names names' : List (List
 reached_last bytes written line answer names names' skips r f some =
     last_line bytes written line r.tail answer r.lines r.answers names names' (some r.tail r.so_far) r.cut r.all r.bytes_of
     (subst (λ t. Answers names t answer names') (append-nil r.tail) (finished_answers names names' line [] answer r.tail skips f r.so_far))
-
-pub ends_none : (names : List (List ℕ)) (line : List ℕ) (skips : Bool) (a : Option (List ℕ)) → ((tail : List ℕ) → IsSoFar line skips tail → tail ≡ []) → Ends names line skips a a
-ends_none names line skips a none bytes written r = (
-  [],
-  record {
-    lines = r.lines;
-    tail = r.tail;
-    cut = r.cut;
-    answered = subst (λ t. IsAnswered (with_tail r.lines t) (written ++ [])) (sym (none r.tail r.so_far)) (r.answers, names, r.all, append-nil written ∙ r.bytes_of);
-  },
-  appends_none a,
-)
 
 pub ends_line : {T E : Type 0} (res : Result T E) (names names' : List (List ℕ)) (line answer : List ℕ) (skips : Bool) (a b c : Option (List ℕ)) (v : List ℕ)
     → IsFinished names line skips [] answer names' → ((tail : List ℕ) → IsSoFar line skips tail → 0 < length tail) → Queued a [] b v (answer ++ 10 ∷ []) → OnOk res (Appends b c v) → OnOk res (Ends names line skips a c)

@@ -2,11 +2,16 @@
 //!
 //! The layer above uses [`Source`] and [`Sink`] alone. [`Counted`] makes either of a reader or writer of std.
 
-ghost use Rattle.std.specs.Prelude.{◌≡◌, ◌≤◌, ◌<◌, ℕ, List, Option, IfOk, OnOk, OnErr, length};
+ghost use Rattle.std.specs.Prelude.{◌≡◌, ◌≢◌, ◌≤◌, ◌<◌, ℕ, List, Option, IfOk, IfErr, OnOk, OnErr, length};
 ghost use Rattle.std.specs.Io.KnownBytes.{ReadConsumes, WriteAppends};
+ghost use Rattle.std.specs.IoError.{error_kind};
 ghost use Rattle.elsa_interner.specs.Devices.{FailedOnce};
 
-use std::io::{Read, Write};
+use std::io;
+use std::io::{ErrorKind, Read, Write};
+
+/// How often a call that a signal interrupts is made, at most: 2^64 - 1 times, as in std.
+const TRIES: u64 = u64::MAX;
 
 /// Says that a device failed; which way it failed is not told.
 #[derive(Clone, Copy, Debug, PartialEq, Eq)]
@@ -49,9 +54,40 @@ pub trait Sink {
         ensures err { OnErr result (FailedOnce (failures self.old) (failures self.new)) };
 }
 
+/// Reads once; a read that a signal interrupts is made again.
+fn read_uninterrupted<R: Read>(reader: &mut R, buf: &mut [u8]) -> io::Result<usize>
+    ensures within { IfOk result (λ n. n ≤ length buf.new) }
+    ensures bytes { ReadConsumes (R.remaining reader.old) (R.remaining reader.new) result buf.new }
+    ensures not_interrupted { IfErr result (λ e. error_kind e ≢ ErrorKind.Interrupted) }
+{
+    for _ in 0..TRIES {
+        match reader.read(buf) {
+            Err(e) if e.kind() == ErrorKind::Interrupted => {}
+            outcome => return outcome,
+        }
+    }
+    Err(io::Error::from(ErrorKind::TimedOut))
+}
+
+/// Writes once; a write that a signal interrupts is made again.
+fn write_uninterrupted<W: Write>(writer: &mut W, piece: &[u8]) -> io::Result<usize>
+    ensures within { IfOk result (λ n. n ≤ length piece.now) }
+    ensures bytes { WriteAppends (W.contents writer.old) (W.contents writer.new) result piece.now }
+    ensures not_interrupted { IfErr result (λ e. error_kind e ≢ ErrorKind.Interrupted) }
+{
+    for _ in 0..TRIES {
+        match writer.write(piece) {
+            Err(e) if e.kind() == ErrorKind::Interrupted => {}
+            outcome => return outcome,
+        }
+    }
+    Err(io::Error::from(ErrorKind::TimedOut))
+}
+
 /// A reader or writer of std, with a count of its failures.
 ///
-/// A failure is any `Err`, and a write that takes no byte of a piece that has some.
+/// A call that a signal interrupts is made again, and is no failure: a failure is any other `Err`, and a write that takes
+/// no byte of a piece that has some. A call that is interrupted 2^64 - 1 times, one after the other, fails too.
 #[derive(Drop)]
 pub struct Counted<D> {
     /// The reader or writer.
@@ -79,7 +115,7 @@ impl<R: Read> Source for Counted<R> {
     ghost failures = { λ c. c.failures };
 
     fn read(&mut self, buf: &mut [u8]) -> Result<usize, Failed> {
-        match self.device.read(buf) {
+        match read_uninterrupted(&mut self.device, buf) {
             Ok(n) => Ok(n),
             Err(_) => {
                 self.failures = self.failures.wrapping_add(1);
@@ -95,7 +131,7 @@ impl<W: Write> Sink for Counted<W> {
     ghost failures = { λ c. c.failures };
 
     fn write(&mut self, piece: &[u8]) -> Result<usize, Failed> {
-        match self.device.write(piece) {
+        match write_uninterrupted(&mut self.device, piece) {
             Ok(n) if n > 0 || piece.is_empty() => Ok(n),
             _ => {
                 self.failures = self.failures.wrapping_add(1);

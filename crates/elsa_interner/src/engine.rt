@@ -14,7 +14,7 @@ use bumpalo::Bump;
 use itoa::Buffer;
 use memchr::memchr;
 use std::alloc::Allocator;
-use std::hash::{BuildHasherDefault, FoldHasher};
+use std::hash::{BuildHasher, BuildHasherDefault, FoldHasher};
 
 /// How many bytes are read at once.
 const PIECE: usize = 8192;
@@ -51,23 +51,23 @@ fn cut_text(text: &str) -> Option<(&str, &str)>
 
 /// The names so far, and the line that has begun.
 #[derive(Drop)]
-struct Session<'a, A: Allocator + Copy> {
-    names: Interner<'a, BuildHasherDefault<FoldHasher>, A>,
+struct Session<'a, S: BuildHasher, A: Allocator + Copy> {
+    names: Interner<'a, S, A>,
     // What was read of the line that has begun, unless it lies whole in the piece.
     line: Vec<u8, A>,
     // Whether memory for that line was refused; its rest is then skipped.
     skips: bool,
 }
 
-impl<'a, A: Allocator + Copy> Session<'a, A> {
+impl<'a, S: BuildHasher, A: Allocator + Copy> Session<'a, S, A> {
     /// No names and no line.
-    fn new(alloc: A, arena: &'a Bump) -> Self
+    fn new(alloc: A, arena: &'a Bump, hash_builder: S) -> Self
         ensures names { result.names ≡ [] }
         ensures line { result.line.items ≡ [] }
         ensures skips { result.skips ≡ false }
     {
         Session {
-            names: Interner::new(alloc, arena),
+            names: Interner::with_hasher(alloc, arena, hash_builder),
             line: Vec::new(alloc),
             skips: false,
         }
@@ -248,6 +248,8 @@ impl<'a, A: Allocator + Copy> Session<'a, A> {
 /// Names are placed in `arena`; their table and a line longer than a read take memory of `alloc`, and nothing
 /// else takes any. Answers are written before the next read, so nobody waits for one that is known.
 ///
+/// The names are hashed without a secret: where strangers choose them, take [`intern_engine_with_hasher`].
+///
 /// After `Read` and `Endless` the answers to all lines whose byte 10 was read are written, after `Write` a
 /// beginning of the answers so far.
 pub fn intern_engine<'a, A: Allocator + Copy, R: Source, W: Sink>(
@@ -265,7 +267,39 @@ pub fn intern_engine<'a, A: Allocator + Copy, R: Source, W: Sink>(
     ensures endless { result ≡ Err EngineFault.Endless → HasAnswered (2 ^ 64 - 1) (R.left reader.old) (R.left reader.new) (W.held writer.old) (W.held writer.new) }
     ensures endless_calm { result ≡ Err EngineFault.Endless → (R.failures reader.new ≡ R.failures reader.old) × (W.failures writer.new ≡ W.failures writer.old) }
 {
-    let mut session = Session::new(alloc, arena);
+    intern_engine_with_hasher(
+        alloc,
+        arena,
+        BuildHasherDefault::<FoldHasher>::new(),
+        reader,
+        writer,
+    )
+}
+
+/// As [`intern_engine`], with the names hashed by `hash_builder`.
+pub fn intern_engine_with_hasher<
+    'a,
+    S: BuildHasher + Drop,
+    A: Allocator + Copy,
+    R: Source,
+    W: Sink,
+>(
+    alloc: A,
+    arena: &'a Bump,
+    hash_builder: S,
+    reader: &mut R,
+    writer: &mut W,
+) -> Result<(), EngineFault>
+    ensures ok { OnOk result (HasAnsweredAll (R.left reader.old) (R.left reader.new) (W.held writer.old) (W.held writer.new)) }
+    ensures calm { OnOk result ((R.failures reader.new ≡ R.failures reader.old) × (W.failures writer.new ≡ W.failures writer.old)) }
+    ensures read { result ≡ Err EngineFault.Read → HasAnswered 0 (R.left reader.old) (R.left reader.new) (W.held writer.old) (W.held writer.new) }
+    ensures read_failed { result ≡ Err EngineFault.Read → FailedOnce (R.failures reader.old) (R.failures reader.new) × (W.failures writer.new ≡ W.failures writer.old) }
+    ensures write { result ≡ Err EngineFault.Write → HasAnsweredSome (R.left reader.old) (R.left reader.new) (W.held writer.old) (W.held writer.new) }
+    ensures write_failed { result ≡ Err EngineFault.Write → FailedOnce (W.failures writer.old) (W.failures writer.new) × (R.failures reader.new ≡ R.failures reader.old) }
+    ensures endless { result ≡ Err EngineFault.Endless → HasAnswered (2 ^ 64 - 1) (R.left reader.old) (R.left reader.new) (W.held writer.old) (W.held writer.new) }
+    ensures endless_calm { result ≡ Err EngineFault.Endless → (R.failures reader.new ≡ R.failures reader.old) × (W.failures writer.new ≡ W.failures writer.old) }
+{
+    let mut session = Session::new(alloc, arena, hash_builder);
     let mut out = Pending::new();
     let mut piece = [0u8; PIECE];
     for _turn in 0..u64::MAX {

@@ -9,7 +9,7 @@ ghost use mathlib.Core.List.{IsPrefix};
 ghost use Rattle.elsa_interner.specs.Names.{Puts, IsOneToOne};
 
 pub use crate::devices::{Counted, Failed, Sink, Source};
-pub use crate::engine::{EngineFault, intern_engine};
+pub use crate::engine::{EngineFault, intern_engine, intern_engine_with_hasher};
 use bumpalo::Bump;
 use elsa_index::index_set::FrozenIndexSet;
 use std::alloc::{AllocError, Allocator, Global};

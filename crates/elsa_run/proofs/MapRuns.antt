@@ -1,13 +1,13 @@
 -- A run of a map that goes on by one command.
-use Rattle.std.proofs.Common.{◌≡◌, ◌+◌, ℕ, ◌⊎◌, inl, inr, Bool, true, false, true≢false, cond, if◌then◌else◌, List, [], ◌∷◌, ◌++◌, length, Option, None, Some, is_some, Result, Ok, is_ok, refl, sym, ap, subst, ◌∙◌, append_assoc, append-nil, map, map-id, arith}
+use Rattle.std.proofs.Common.{◌≡◌, ◌+◌, ℕ, inl, inr, Bool, true, false, true≢false, cond, if◌then◌else◌, List, [], ◌∷◌, ◌++◌, length, Option, None, Some, is_some, Result, Ok, is_ok, refl, sym, ap, subst, ◌∙◌, append_assoc, append-nil, map, map-id, arith}
 use Rattle.std.specs.Cmp.{IsEquivalence}
 use Rattle.std.specs.HashMap.Eq.{lookup_congr}
 use Rattle.std.specs.Map.{lookup}
-use Rattle.elsa_once.specs.FirstWins.{Adds, SameAt, value_at}
+use Rattle.elsa_once.specs.FirstWins.{Adds, value_at}
 use Rattle.elsa_run.specs.declared.run_map.MapCommand.{MapCommand}
 use Rattle.elsa_run.specs.declared.run_map.MapCommand.TheVariants.{Insert, InsertNew, Get, Len, IsEmpty, Rebase}
 use Rattle.elsa_run.specs.declared.run_map.MapReply.{MapReply}
-use Rattle.elsa_run.specs.declared.run_map.MapReply.TheVariants.{Item, New, Found, Count, Flag, Done, NoMemory}
+use Rattle.elsa_run.specs.declared.run_map.MapReply.TheVariants.{Item, New, Found, Count}
 use Rattle.elsa_run.specs.MapRun.{MapEpoch, Answers, Holds, InsertAnswers, InsertStep, Run, RunsTo, Step, accept, count_in, count_new, epoch_after, epoch_from, inserted, value_in}
 
 module _ {K B : Type 0} (test : K → Bool) where

@@ -1,5 +1,5 @@
 -- The runs of a vector, by the epochs of its calls.
-use Rattle.std.proofs.Common.{◌≡◌, Bool, true, false, if◌then◌else◌, List, [], ◌∷◌, ◌++◌, map, refl, sym, ap, ◌∙◌, append_assoc, append-nil, Option, None, Some, Result, Ok, is_ok, IsTrue, ◌↔◌}
+use Rattle.std.proofs.Common.{◌≡◌, Bool, if◌then◌else◌, List, [], ◌∷◌, ◌++◌, map, refl, sym, ◌∙◌, append_assoc, append-nil, Option, None, Some, Result, Ok, is_ok, IsTrue, ◌↔◌}
 use Rattle.elsa_run.specs.Runs.{Epoch, accept, epoch_from}
 use Rattle.elsa_run.specs.VecRun.{pushed_on, accepted_item, Answers, epoch_after, content_after, VecRunsTo}
 use Rattle.elsa_run.specs.declared.run_vec.VecCommand.{VecCommand}

@@ -1,6 +1,6 @@
 -- Which replies the commands of `run_vec` may get, and which epoch follows each of them. What is held is a list of targets: the base of the
 -- epoch, and behind it the items of its accepted pushes, in order.
-use Rattle.std.specs.Prelude.{◌≡◌, ◌↔◌, ◌⊎◌, ◌-◌, ℕ, Bool, true, false, List, [], ◌∷◌, ◌++◌, length, map, slice_get, Option, None, Some, IsTrue}
+use Rattle.std.specs.Prelude.{◌≡◌, ◌↔◌, ◌⊎◌, ◌-◌, ℕ, Bool, List, [], ◌++◌, length, map, slice_get, Option, None, Some, IsTrue}
 use Rattle.std.specs.Option.{option_map}
 use Rattle.elsa_run.specs.Runs.{Epoch, accept, epoch_from, RunsTo}
 use Rattle.elsa_run.specs.declared.run_vec.VecCommand.{VecCommand}

@@ -11,3 +11,7 @@ mod names;
 mod names_tests;
 #[cfg(test)]
 mod shared_tests;
+#[cfg(test)]
+mod upstream_tests;
+#[cfg(test)]
+mod walk_tests;

@@ -11,6 +11,7 @@ mod shelf;
 
 use crate::shelf::{LoadFault, Shelf};
 use bumpalo::Bump;
+use elsa::SeededState;
 use std::io;
 
 /// The file, the section and the key of a line.
@@ -21,9 +22,10 @@ fn asked(line: &str) -> Option<(&str, &str, &str)> {
 }
 
 fn main(rt: HostRuntime) -> io::Result<()> {
+    let secret = SeededState::new(&rt)?;
     let alloc = rt.alloc();
     let arena = Bump::new(alloc);
-    let mut shelf = Shelf::new(alloc, &arena);
+    let mut shelf = Shelf::new(alloc, &arena, secret);
     let mut first = None;
     for line in rt.lines(alloc) {
         let line = line?;

@@ -6,7 +6,7 @@ ghost use Rattle.example_loaded_files.specs.declared.ini.Tree.{Tree};
 
 use crate::ini::{Nodes, ParseFault, Tree};
 use bumpalo::Bump;
-use elsa::{FrozenMap, Own};
+use elsa::{FrozenMap, Own, SeededState};
 use std::alloc::{AllocError, Global};
 use std::io::ErrorKind;
 use std::rt::Files;
@@ -58,21 +58,21 @@ impl fmt::Display for LoadFault {
 #[derive(Drop)]
 pub struct Shelf<'a> {
     alloc: Global,
-    texts: FrozenMap<'a, String, String>,
+    texts: FrozenMap<'a, String, String, SeededState>,
     /// The trees that were answered.
-    pub trees: FrozenMap<'a, String, Own<Tree<'a>>>,
+    pub trees: FrozenMap<'a, String, Own<Tree<'a>>, SeededState>,
     nodes: Nodes<'a>,
 }
 
 impl<'a> Shelf<'a> {
-    /// No files. Takes no memory.
-    pub fn new(alloc: Global, arena: &'a Bump) -> Self
+    /// No files; their paths are hashed with this secret. Takes no memory.
+    pub fn new(alloc: Global, arena: &'a Bump, secret: SeededState) -> Self
         ensures { result.trees ≡ [] }
     {
         Shelf {
             alloc,
-            texts: FrozenMap::new(alloc, arena),
-            trees: FrozenMap::new(alloc, arena),
+            texts: FrozenMap::with_hasher(alloc, arena, secret),
+            trees: FrozenMap::with_hasher(alloc, arena, secret),
             nodes: Nodes::new(alloc, arena),
         }
     }

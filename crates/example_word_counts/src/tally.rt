@@ -3,6 +3,7 @@ ghost use Rattle.std.specs.Prelude.{◌≡◌, ◌++◌, ◌∷◌, [], ℕ, Som
 ghost use Rattle.std.specs.Str.{bytes_eq};
 
 use bumpalo::Bump;
+use elsa::SeededState;
 use elsa::interner::Interner;
 use std::alloc::{AllocError, Global};
 use std::marker::Model;
@@ -10,7 +11,7 @@ use std::marker::Model;
 /// Words, numbered by their first occurrence, each with its count. Contracts see the list of the words as their bytes.
 #[derive(Drop)]
 pub struct Tally<'a> {
-    words: Interner<'a>,
+    words: Interner<'a, SeededState>,
     counts: Vec<u64>,
 }
 
@@ -25,12 +26,12 @@ impl<'a> Model for Tally<'a> {
 }
 
 impl<'a> Tally<'a> {
-    /// No words. Takes no memory.
-    pub fn new(alloc: Global, arena: &'a Bump) -> Self
+    /// No words; they are hashed with this secret. Takes no memory.
+    pub fn new(alloc: Global, arena: &'a Bump, secret: SeededState) -> Self
         ensures { result ≡ [] }
     {
         Tally {
-            words: Interner::new(alloc, arena),
+            words: Interner::with_hasher(alloc, arena, secret),
             counts: Vec::new(alloc),
         }
     }

@@ -1,4 +1,4 @@
-use Rattle.std.proofs.Common.{◌≡◌, refl}
+use Rattle.std.proofs.Common.{refl}
 use Rattle.elsa_run.proofs.VecRuns.{empty_seen}
 use Rattle.elsa_run.proofs.run_vec.apply.Goals as goal
 

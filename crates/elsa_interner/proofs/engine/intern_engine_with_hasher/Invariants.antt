@@ -1,6 +1,6 @@
 use Rattle.std.proofs.Common.{◌≡◌, []}
 use Rattle.elsa_interner.proofs.Whole.{Further}
-use Rattle.elsa_interner.proofs.engine.intern_engine.Given as goal
+use Rattle.elsa_interner.proofs.engine.intern_engine_with_hasher.Given as goal
 
 abbrev pub invariant-loop-turn : goal.invariant-loop-turn
 invariant-loop-turn g l = record {

@@ -1,0 +1,256 @@
+//! The engine over devices of std that are slow, interrupted or fail at one of their calls: which fault comes, and what was written.
+ghost use Rattle.std.specs.Prelude.{◌≤◌, IfOk};
+
+use bumpalo::Bump;
+use elsa_interner::interner::{Counted, EngineFault, intern_engine};
+use std::alloc::Global;
+use std::io;
+use std::io::{ErrorKind, Read, Write};
+use std::test::Fail;
+
+const INPUT: &[u8] =
+    b"put lonely\nput best friend\nput threes a crowd\nput rando\nput facebook\nput best friend\nat 1\n";
+
+/// The answers to `INPUT`, in 24 bytes.
+const ANSWERS: &[u8] = b"0\n1\n2\n3\n4\n1\nbest friend\n";
+
+/// How a device behaves: the most bytes of a call, the call that fails, counted from 0, and whether a signal comes before each call.
+#[derive(Clone, Copy)]
+struct Habits {
+    most: usize,
+    fails_at: usize,
+    is_interrupted: bool,
+}
+
+/// No call fails, and a call takes all that there is.
+const GOOD: Habits = Habits {
+    most: 1000,
+    fails_at: 1000,
+    is_interrupted: false,
+};
+
+/// What a device has done.
+#[derive(Drop)]
+struct Device {
+    habits: Habits,
+    calls: usize,
+    interruptions: usize,
+    // Whether the last call was interrupted.
+    is_again: bool,
+}
+
+impl Device {
+    fn new(habits: Habits) -> Device {
+        Device {
+            habits,
+            calls: 0,
+            interruptions: 0,
+            is_again: false,
+        }
+    }
+
+    /// What a call with so many bytes moves.
+    fn call(&mut self, bytes: usize) -> io::Result<usize>
+        ensures { IfOk result (λ n. n ≤ bytes) }
+    {
+        if self.habits.is_interrupted && !self.is_again {
+            self.is_again = true;
+            self.interruptions = self.interruptions.wrapping_add(1);
+            return Err(io::Error::from(ErrorKind::Interrupted));
+        }
+        self.is_again = false;
+        let call = self.calls;
+        self.calls = call.wrapping_add(1);
+        if call == self.habits.fails_at {
+            return Err(io::Error::from(ErrorKind::BrokenPipe));
+        }
+        Ok(bytes.min(self.habits.most))
+    }
+}
+
+/// Gives what is left of a text.
+#[derive(Drop)]
+struct Giver<'t> {
+    left: &'t [u8],
+    device: Device,
+}
+
+impl<'t> Read for Giver<'t> {
+    fn read(&mut self, buf: &mut [u8]) -> io::Result<usize> {
+        let n = self.device.call(self.left.len().min(buf.len()))?;
+        buf[..n].copy_from_slice(&self.left[..n]);
+        self.left = &self.left[n..];
+        Ok(n)
+    }
+}
+
+/// Holds what was written.
+#[derive(Drop)]
+struct Taker {
+    held: Vec<u8>,
+    device: Device,
+}
+
+impl Write for Taker {
+    fn write(&mut self, buf: &[u8]) -> io::Result<usize> {
+        let n = self.device.call(buf.len())?;
+        self.held.extend_from_slice(&buf[..n])?;
+        Ok(n)
+    }
+
+    fn flush(&mut self) -> io::Result<()> {
+        Ok(())
+    }
+}
+
+/// What the engine answered, what was written, and the devices with their failures.
+#[derive(Drop)]
+struct Outcome {
+    result: Result<(), EngineFault>,
+    held: Vec<u8>,
+    read_failures: u64,
+    write_failures: u64,
+    interruptions: usize,
+}
+
+/// The engine on `INPUT` over such a reader and such a writer.
+fn run(alloc: Global, reader: Habits, writer: Habits) -> Outcome {
+    let arena = Bump::new(alloc);
+    let mut source = Counted::new(Giver {
+        left: INPUT,
+        device: Device::new(reader),
+    });
+    let mut sink = Counted::new(Taker {
+        held: Vec::new(alloc),
+        device: Device::new(writer),
+    });
+    let result = intern_engine(alloc, &arena, &mut source, &mut sink);
+    let seen = source.device.device.interruptions;
+    let Counted {
+        device: Taker { held, device },
+        failures,
+    } = sink;
+    Outcome {
+        result,
+        held,
+        read_failures: source.failures,
+        write_failures: failures,
+        interruptions: seen.wrapping_add(device.interruptions),
+    }
+}
+
+/// How many lines end in the bytes.
+fn lines_in(bytes: &[u8]) -> usize {
+    let mut lines: usize = 0;
+    for byte in bytes {
+        if *byte == 10 {
+            lines = lines.wrapping_add(1);
+        }
+    }
+    lines
+}
+
+/// The beginning of the answers that has so many lines.
+fn answers_to(lines: usize) -> &'static [u8] {
+    for end in 0..ANSWERS.len() {
+        if lines_in(&ANSWERS[..end]) == lines {
+            return &ANSWERS[..end];
+        }
+    }
+    ANSWERS
+}
+
+/// Whether the reader failed, once, and the answers to all lines that it gave whole were written; at none that it failed, all answers.
+fn is_read_fault(outcome: &Outcome, habits: Habits) -> bool {
+    let given = habits.most.saturating_mul(habits.fails_at);
+    // The read behind the last byte answers that there is none.
+    if given.saturating_sub(habits.most) >= INPUT.len() {
+        return outcome.result.is_ok()
+            && outcome.read_failures == 0
+            && outcome.held.as_slice() == ANSWERS;
+    }
+    let whole = lines_in(&INPUT[..given.min(INPUT.len())]);
+    outcome.result == Err(EngineFault::Read)
+        && outcome.read_failures == 1
+        && outcome.write_failures == 0
+        && outcome.held.as_slice() == answers_to(whole)
+}
+
+/// Whether the writer failed, once, and all that it took is a beginning of the answers; at none that it failed, all answers.
+fn is_write_fault(outcome: &Outcome, habits: Habits) -> bool {
+    let taken = habits.most.saturating_mul(habits.fails_at).min(24);
+    let fault = if taken == 24 {
+        Ok(())
+    } else {
+        Err(EngineFault::Write)
+    };
+    outcome.result == fault
+        && outcome.read_failures == 0
+        && outcome.write_failures == (taken < 24) as u64
+        && outcome.held.as_slice() == &ANSWERS[..taken]
+}
+
+#[test]
+fn a_reader_that_fails_at_one_call_loses_no_answer(rt: HostRuntime) -> Result<(), Fail> {
+    for most in 1..=INPUT.len() {
+        for fails_at in 0..INPUT.len() + 2 {
+            for is_interrupted in [false, true] {
+                let habits = Habits {
+                    most,
+                    fails_at,
+                    is_interrupted,
+                };
+                let outcome = run(rt.alloc(), habits, GOOD);
+                assert!(rt;
+                    is_read_fault(&outcome, habits),
+                    "{most} bytes a read, read {fails_at} fails"
+                );
+            }
+        }
+    }
+    Ok(())
+}
+
+#[test]
+fn a_writer_that_fails_at_one_call_holds_a_beginning_of_the_answers(
+    rt: HostRuntime,
+) -> Result<(), Fail> {
+    for most in 0..=25 {
+        for fails_at in 0..26 {
+            for is_interrupted in [false, true] {
+                let habits = Habits {
+                    most,
+                    fails_at,
+                    is_interrupted,
+                };
+                let outcome = run(rt.alloc(), GOOD, habits);
+                assert!(rt;
+                    is_write_fault(&outcome, habits),
+                    "{most} bytes a write, write {fails_at} fails"
+                );
+            }
+        }
+    }
+    Ok(())
+}
+
+#[test]
+fn calls_that_a_signal_interrupts_are_made_again(rt: HostRuntime) -> Result<(), Fail> {
+    for most in 1..=24 {
+        let habits = Habits {
+            most,
+            fails_at: 1000,
+            is_interrupted: true,
+        };
+        let outcome = run(rt.alloc(), habits, habits);
+        let calm = outcome.read_failures == 0 && outcome.write_failures == 0;
+        assert!(rt;
+            outcome.result.is_ok()
+                && calm
+                && outcome.interruptions > 4
+                && outcome.held.as_slice() == ANSWERS,
+            "{most} bytes a call"
+        );
+    }
+    Ok(())
+}
