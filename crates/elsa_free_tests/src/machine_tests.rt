@@ -1,6 +1,6 @@
 //! Worked rows of the geometry and of the machine, whole worlds against worlds written by hand.
-use elsa_free::geometry::{buffer_index, buffer_size, locate, prior_total_buffer_size};
-use elsa_free::machine::{Answer, Event, Items, Plan, Turn, World, run};
+use elsa_machine::geometry::{buffer_index, buffer_size, locate, prior_total_buffer_size};
+use elsa_machine::machine::{Answer, Event, Items, Plan, Turn, World, run};
 use std::alloc::{AllocError, Global};
 
 #[derive(Clone, Copy)]

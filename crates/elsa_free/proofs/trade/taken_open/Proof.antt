@@ -40,7 +40,7 @@ use Rattle.atomic_table.proofs.Walks.{proved}
 use Rattle.elsa_free.specs.Slot.{written, blanks}
 use Rattle.elsa_free.specs.contracts.slots.rights.Blanks as Blanks
 use Rattle.elsa_free.specs.contracts.slots.rights.Written as Written
-use Rattle.elsa_free.specs.Geometry.{IsAt}
+use Rattle.elsa_machine.specs.Geometry.{IsAt}
 use Rattle.elsa_free.specs.declared.event.Event.{Event as Ev}
 use Rattle.elsa_free.specs.declared.event.Event.TheVariants.{Took, Put, Copied, Gave, Seat}
 use Rattle.elsa_free.specs.SharedList.{copied, count, entry, items_of}

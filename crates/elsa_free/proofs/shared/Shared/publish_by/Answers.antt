@@ -1,7 +1,7 @@
 use Rattle.std.proofs.Common.{◌≡◌, ◌++◌, ◌∷◌, [], ◌*◌, ◌+◌, ◌-◌, ◌<◌, ◌^◌, ◌≤◌, ℕ, List, true, false, suc, length, length-append, slice_index_or, drop as drops, refl, ap, sym, ◌∙◌, arith, subst}
 use mathlib.Core.List.{IsPrefix}
 use base.Growing.{prefix_trans}
-use Rattle.elsa_free.specs.Geometry.{IsAt}
+use Rattle.elsa_machine.specs.Geometry.{IsAt}
 use Rattle.elsa_free.specs.declared.event.Entry.{Entry}
 use Rattle.elsa_free.specs.declared.event.Event.TheVariants.{Took, Put, Copied, Gave, Seat}
 use Rattle.elsa_free.specs.SharedList.{count, entry}
@@ -10,7 +10,7 @@ use Rattle.elsa_free.specs.Rights.{head, tops_of}
 use Rattle.elsa_free.proofs.WordSteps.{acquire_moves, end_moves, reads_moves, sees_moves}
 use Rattle.elsa_free.proofs.Logs.{count_prefix, held_snoc, list_prefix}
 use Rattle.elsa_free.proofs.Closing.{closing, drop_cons, gave_list, gave_word, held_word, put_count, put_list, put_word, took_list}
-use Rattle.elsa_free.proofs.Powers.{before_power}
+use Rattle.elsa_machine.proofs.GeometryLemmas.Powers.{before_power}
 use Rattle.std.proofs.lemmas.List.{append-nil}
 use Rattle.elsa_free.specs.declared.event.Event.{Event}
 use Rattle.elsa_free.specs.SharedList.{copied}

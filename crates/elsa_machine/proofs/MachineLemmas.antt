@@ -1,0 +1,13 @@
+-- What holds of the machine after each schedule.
+pub mod Cloners
+pub mod Entries
+pub mod Growth
+pub mod Kept
+pub mod Moments
+pub mod Places
+pub mod Pushers
+pub mod Readers
+pub mod Refusals
+pub mod Rules
+pub mod Runs
+pub mod Threads
