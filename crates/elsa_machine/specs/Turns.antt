@@ -106,6 +106,25 @@ IsOver Done = ⊥
 abbrev pub ReleasesNext : List Plan → Machine → Type 0
 ReleasesNext plans m = (turn : Turn) (t : Thread) → slice_get m.threads turn.thread ≡ Some t → IsOver t.phase → (turned plans m turn).world.held ≡ None
 
+-- a turn of a number beyond the plans changes nothing
+abbrev pub IgnoresOtherNumbers : List Plan → Machine → Type 0
+IgnoresOtherNumbers plans m = (turn : Turn) → length plans ≤ turn.thread → turned plans m turn ≡ m
+
+-- this thread is t before the turn and u after it
+pub record Turns (plans : List Plan) (m : Machine) (turn : Turn) (t u : Thread) : Type 0 where
+  pub before : slice_get m.threads turn.thread ≡ Some t
+  pub after : slice_get (turned plans m turn).threads turn.thread ≡ Some u
+
+-- a peek sees a length only where nobody holds, and it is the list's
+abbrev pub PeeksWhereFree : List Plan → Machine → Type 0
+PeeksWhereFree plans m = (turn : Turn) (t u : Thread) (n : ℕ) → Turns plans m turn t u → t.phase ≡ Ready → u.phase ≡ Peeked n →
+    (m.world.held ≡ None) × (n ≡ m.world.length)
+
+-- a thread that has peeked acquires at its next turn, or is to peek again
+abbrev pub PeeksAgain : List Plan → Machine → Type 0
+PeeksAgain plans m = (turn : Turn) (t u : Thread) (n : ℕ) → Turns plans m turn t u → t.phase ≡ Peeked n →
+    ((u.phase ≡ Acquired n) × ((turned plans m turn).world.held ≡ Some turn.thread)) ⊎ (u.phase ≡ Ready)
+
 -- how many of a thread's turns are such, from this machine on; whether a turn is such is read off the thread, the world
 -- before it, and its memory
 abbrev pub turns_that : (Option Thread → World → Bool → Bool) → List Plan → ℕ → Machine → List Turn → ℕ

@@ -105,6 +105,19 @@ ArePushesRight plans w = (thread : ℕ) (items : List ℕ) → slice_get plans t
 abbrev pub AreEntriesAnswered : World → Type 0
 AreEntriesAnswered w = (place : ℕ) (entry : ℕ × ℕ) → slice_get (list_of w.events) place ≡ Some entry → Contains w.answers (Pushed entry.0 place)
 
+-- an entry of the list is an item of its author's plan, which is a pusher's, and its author was answered this place for
+-- that item
+pub record IsAuthored (plans : List Plan) (w : World) (place : ℕ) (entry : ℕ × ℕ) : Type 0 where
+  pub items : List ℕ
+  pub turn : ℕ
+  pub plan_is : slice_get plans entry.0 ≡ Some (Pusher items)
+  pub item_is : slice_get items turn ≡ Some entry.1
+  pub answer_is : slice_get (answers_of entry.0 w.answers) turn ≡ Some (Pushed entry.0 place)
+
+-- each entry of the list is so
+abbrev pub AreEntriesAuthored : List Plan → World → Type 0
+AreEntriesAuthored plans w = (place : ℕ) (entry : ℕ × ℕ) → slice_get (list_of w.events) place ≡ Some entry → IsAuthored plans w place entry
+
 -- no place is answered twice: two pushes that were told one place are one push
 abbrev pub IsNoPlaceTwice : List Plan → World → Type 0
 IsNoPlaceTwice plans w = (one other : ℕ) (items others : List ℕ) (j k by of place : ℕ) → slice_get plans one ≡ Some (Pusher items) → slice_get plans other ≡ Some (Pusher others) →

@@ -5,8 +5,8 @@
 //! every schedule: so it holds at each moment of each run, since every beginning of a schedule is a schedule.
 ghost use Rattle.std.specs.Prelude.{◌≡◌, ℕ, drop, IfOk, take};
 ghost use Rattle.elsa_machine.specs.Machine.{machine_of, opening_threads, world_of};
-ghost use Rattle.elsa_machine.specs.Turns.{AreCloneRefusalsEarned, AreRefusalsEarned, AreStepsAtomic, FindBuffers, HoldsAlone, OpensAtMostItsBuffer, ReadsEnd, ReleasesNext};
-ghost use Rattle.elsa_machine.specs.Worlds.{AreClonesRight, AreEntriesAnswered, AreItemsFinal, ArePushesRight, AreReadsRight, AreWrittenOnce, Grows, HasFewSlots, HasRightHistory, HasWritesInOrder, IsNoPlaceTwice};
+ghost use Rattle.elsa_machine.specs.Turns.{AreCloneRefusalsEarned, AreRefusalsEarned, AreStepsAtomic, FindBuffers, HoldsAlone, IgnoresOtherNumbers, OpensAtMostItsBuffer, PeeksAgain, PeeksWhereFree, ReadsEnd, ReleasesNext};
+ghost use Rattle.elsa_machine.specs.Worlds.{AreClonesRight, AreEntriesAnswered, AreEntriesAuthored, AreItemsFinal, ArePushesRight, AreReadsRight, AreWrittenOnce, Grows, HasFewSlots, HasRightHistory, HasWritesInOrder, IsNoPlaceTwice};
 
 use std::alloc::{AllocError, Global};
 
@@ -109,6 +109,7 @@ pub fn run(alloc: Global, plans: &[Plan], schedule: &[Turn]) -> Result<World, Al
     // What the threads are answered.
     ensures pushes { IfOk result (λ w. ArePushesRight plans.now w) }
     ensures entries { IfOk result (λ w. AreEntriesAnswered w) }
+    ensures authors { IfOk result (λ w. AreEntriesAuthored plans.now w) }
     ensures places { IfOk result (λ w. IsNoPlaceTwice plans.now w) }
     ensures reads { IfOk result (λ w. AreReadsRight plans.now w) }
     ensures clones { IfOk result (λ w. AreClonesRight plans.now w) }
@@ -121,6 +122,9 @@ pub fn run(alloc: Global, plans: &[Plan], schedule: &[Turn]) -> Result<World, Al
     ensures opens { IfOk result (λ _. (k : ℕ) → OpensAtMostItsBuffer plans.now (machine_of plans.now (take k schedule.now))) }
     ensures alone { IfOk result (λ _. (k : ℕ) → HoldsAlone (machine_of plans.now (take k schedule.now))) }
     ensures releases { IfOk result (λ _. (k : ℕ) → ReleasesNext plans.now (machine_of plans.now (take k schedule.now))) }
+    ensures idle { IfOk result (λ _. (k : ℕ) → IgnoresOtherNumbers plans.now (machine_of plans.now (take k schedule.now))) }
+    ensures peeks { IfOk result (λ _. (k : ℕ) → PeeksWhereFree plans.now (machine_of plans.now (take k schedule.now))) }
+    ensures peeks_again { IfOk result (λ _. (k : ℕ) → PeeksAgain plans.now (machine_of plans.now (take k schedule.now))) }
     ensures reads_end { IfOk result (λ _. (k : ℕ) → ReadsEnd plans.now (take k schedule.now) (drop k schedule.now)) }
 {
     let world = world_after(alloc, plans, schedule)?;

@@ -37,11 +37,11 @@ items_more xs ys n h = rw (items_append xs ys) (take-append-le n (items_of xs) (
 abbrev pub ClonerOk : List (ℕ × ℕ) → ℕ → List ℕ → List Answer → List ℕ → Phase → Type 0
 ClonerOk list len ls xs copied Ready = (ls ≡ []) × (xs ≡ []) × (copied ≡ [])
 ClonerOk list len ls xs copied (Looked n) = (ls ≡ n ∷ []) × (xs ≡ []) × (n ≤ length list) × (length copied < n) × (copied ≡ take (length copied) (items_of list))
-ClonerOk list len ls xs copied (Peeked n) = IsClone list ls xs
-ClonerOk list len ls xs copied (Acquired n) = IsClone list ls xs
-ClonerOk list len ls xs copied (Written n) = IsClone list ls xs
-ClonerOk list len ls xs copied Denied = IsClone list ls xs
-ClonerOk list len ls xs copied Done = IsClone list ls xs
+ClonerOk list len ls xs copied (Peeked n) = ⊥
+ClonerOk list len ls xs copied (Acquired n) = ⊥
+ClonerOk list len ls xs copied (Written n) = ⊥
+ClonerOk list len ls xs copied Denied = ⊥
+ClonerOk list len ls xs copied Done = IsClone list ls xs × (length xs ≡ 1)
 
 clone_more : (list more : List (ℕ × ℕ)) (ls : List ℕ) (xs : List Answer) → IsClone list ls xs → IsClone (list ++ more) ls xs
 clone_more list more [] [] h = tt
@@ -53,11 +53,11 @@ clone_more list more ls xs h = h
 cloner_up : (list more : List (ℕ × ℕ)) (a b : ℕ) (ls : List ℕ) (xs : List Answer) (copied : List ℕ) (phase : Phase) → ClonerOk list a ls xs copied phase → ClonerOk (list ++ more) b ls xs copied phase
 cloner_up list more a b ls xs copied Ready h = h
 cloner_up list more a b ls xs copied (Looked n) h = (h.0, h.1, rw length-append (omega (arith, h.2)), h.3, rw (items_more list more (length copied) (omega (arith, h.2, h.3))) h.4)
-cloner_up list more a b ls xs copied (Peeked n) h = clone_more list more ls xs h
-cloner_up list more a b ls xs copied (Acquired n) h = clone_more list more ls xs h
-cloner_up list more a b ls xs copied (Written n) h = clone_more list more ls xs h
-cloner_up list more a b ls xs copied Denied h = clone_more list more ls xs h
-cloner_up list more a b ls xs copied Done h = clone_more list more ls xs h
+cloner_up list more a b ls xs copied (Peeked n) h = h
+cloner_up list more a b ls xs copied (Acquired n) h = h
+cloner_up list more a b ls xs copied (Written n) h = h
+cloner_up list more a b ls xs copied Denied h = h
+cloner_up list more a b ls xs copied Done h = (clone_more list more ls xs h.0, h.1)
 
 -- the same of a thread in a world
 pub record ClonerKnows (me : ℕ) (w : World) (t : Thread) : Type 0 where
@@ -92,10 +92,10 @@ next_copy w copied n ok l lt c =
 
 -- a cloner's own turn keeps it
 pub cloner_kept : (me : ℕ) (memory : Bool) (w : World) (t : Thread) (after : Moved) → WorldOk w → ClonerKnows me w t → Transition me memory w t Cloner after → ClonerKnows me after.world after.thread
-cloner_kept me memory w t _ ok k stays = k
+cloner_kept me memory w t _ ok k (stays i) = k
 cloner_kept me memory w t _ ok k (clones_none p b) =
     let q = at_cloner me w t Ready p k in
-    record { knows = rw (list_same w.events me w.length, looks_mine me w.events w.length, answers_mine me w.answers (Cloned me []) refl, q.0, q.1) (let z : w.length ≡ 0 = eqb_is w.length 0 b in (omega (arith, z), rw z refl)) }
+    record { knows = rw (list_same w.events me w.length, looks_mine me w.events w.length, answers_mine me w.answers (Cloned me []) refl, q.0, q.1) (let z : w.length ≡ 0 = eqb_is w.length 0 b in ((omega (arith, z), rw z refl), refl)) }
 cloner_kept me memory w t _ ok k (clone_looks p b) =
     let q = at_cloner me w t Ready p k in
     let nz = eqb_not w.length 0 b in
@@ -114,17 +114,17 @@ cloner_kept me memory w t _ ok k (clones {n} p m b) =
     let l : length c ≡ length t.copied + 1 = length-append t.copied (slot_item w.writes (length t.copied) ∷ []) in
     let is : length c ≡ n = eqb_is (length c) n b in
     let e : c ≡ take n (items_of (list_of w.events)) = next_copy w t.copied n ok q.2 q.3 q.4 ∙ ap (λ z. take z (items_of (list_of w.events))) (sym l ∙ is) in
-    record { knows = rw (answers_mine me w.answers (Cloned me c) refl, q.0, q.1) (q.2, e) }
+    record { knows = rw (answers_mine me w.answers (Cloned me c) refl, q.0, q.1) ((q.2, e), refl) }
 cloner_kept me memory w t _ ok k (clone_fails {n} p m) =
     let q = at_cloner me w t (Looked n) p k in
-    record { knows = rw (answers_mine me w.answers (CloneRefused me) refl, q.0, q.1) tt }
+    record { knows = rw (answers_mine me w.answers (CloneRefused me) refl, q.0, q.1) (tt, refl) }
 
 -- what a cloner was told is right in each phase
 pub clone_knows : (list : List (ℕ × ℕ)) (len : ℕ) (ls : List ℕ) (xs : List Answer) (copied : List ℕ) (phase : Phase) → ClonerOk list len ls xs copied phase → IsClone list ls xs
 clone_knows list len ls xs copied Ready h = rw (h.0, h.1) tt
 clone_knows list len ls xs copied (Looked n) h = rw (h.0, h.1) tt
-clone_knows list len ls xs copied (Peeked n) h = h
-clone_knows list len ls xs copied (Acquired n) h = h
-clone_knows list len ls xs copied (Written n) h = h
-clone_knows list len ls xs copied Denied h = h
-clone_knows list len ls xs copied Done h = h
+clone_knows list len ls xs copied (Peeked n) h = absurd h
+clone_knows list len ls xs copied (Acquired n) h = absurd h
+clone_knows list len ls xs copied (Written n) h = absurd h
+clone_knows list len ls xs copied Denied h = absurd h
+clone_knows list len ls xs copied Done h = h.0

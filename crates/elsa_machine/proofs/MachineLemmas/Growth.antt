@@ -101,7 +101,7 @@ both me v w n a by e f l = record { more = []; list_is = ap list_of e ∙ list_s
 
 -- what each turn leaves for the others
 pub grown : (me : ℕ) (memory : Bool) (w : World) (t : Thread) (plan : Plan) (after : Moved) → HolderOk w me (next_item plan t.next) t.phase → Transition me memory w t plan after → Grown me w after.world
-grown me memory w t plan _ h stays = unchanged me w w refl refl (omega arith)
+grown me memory w t plan _ h (stays i) = unchanged me w w refl refl (omega arith)
 grown me memory w t plan _ h (peeks p e f) = unchanged me w _ refl refl (omega arith)
 grown me memory w t plan _ h (acquires p e b) = unchanged me w _ refl refl (omega arith)
 grown me memory w t plan _ h (loses p e b) = unchanged me w _ refl refl (omega arith)

@@ -193,7 +193,7 @@ freed (Some u) len n b = cc
 
 -- each transition keeps all of this
 pub kept : (me : ℕ) (memory : Bool) (w : World) (t : Thread) (plan : Plan) (after : Moved) → WorldOk w → HolderOk w me (next_item plan t.next) t.phase → Transition me memory w t plan after → Kept me plan w after
-kept me memory w t plan _ ok h stays = record { world = ok; own = h; others = λ you item phase ne k. k }
+kept me memory w t plan _ ok h (stays i) = record { world = ok; own = h; others = λ you item phase ne k. k }
 kept me memory w t plan _ ok h (peeks {items} {x} p e f) =
     let k = own_at w me plan t.next Ready t.phase p h in
     record { world = ok; own = k; others = λ you item phase ne q. q }

@@ -1,31 +1,34 @@
 -- What holds at each turn.
-use Rattle.std.proofs.Common.{ℕ, suc, ◌+◌, ◌<◌, ◌≤◌, ◌≡◌, ◌⊎◌, Bool, List, [], ◌∷◌, ◌++◌, length, Option, Some, None, slice_get, slice_set, refl, arith, inl, inr, ap, sym, ◌∙◌, subst, ◌==◌, true, false, nat_lt, ◌&&◌, lt_of_not-le}
+use Rattle.std.proofs.Common.{ℕ, suc, ◌+◌, ◌<◌, ◌≤◌, ◌≡◌, ◌⊎◌, Bool, true, false, ◌&&◌, ◌==◌, nat_lt, List, [], ◌∷◌, ◌++◌, length, Option, Some, None, slice_get, slice_set, refl, arith, inl, inr, ap, sym, ◌∙◌, subst, lt_of_not-le}
 use Rattle.std.specs.Bool.{if◌then◌else◌}
 use Rattle.std.specs.List.{fold}
+use Rattle.std.specs.Prelude.{is_none, is_some, MatchBool, MatchOption}
 use Rattle.std.proofs.lemmas.List.Sums.{fold-append}
-use Rattle.std.proofs.lemmas.Option.{slice_get_within}
+use Rattle.std.proofs.lemmas.Option.{slice_get_within, slice_get_past}
+use Rattle.std.proofs.lemmas.Bool.{ltb-false}
 use Rattle.elsa_machine.specs.declared.machine.Plan.{Plan}
 use Rattle.elsa_machine.specs.declared.machine.Plan.TheVariants.{Pusher, Reader, Cloner}
 use Rattle.elsa_machine.specs.declared.machine.Turn.{Turn}
+use Rattle.elsa_machine.specs.declared.machine.Event.TheVariants.{Look}
+use Rattle.elsa_machine.specs.declared.machine.Answer.TheVariants.{Read, Cloned, CloneRefused}
 use Rattle.elsa_machine.specs.declared.machine.World.{World}
 use Rattle.elsa_machine.specs.declared.machine.turns.Phase.{Phase}
 use Rattle.elsa_machine.specs.declared.machine.turns.Phase.TheVariants.{Ready, Peeked, Acquired, Written, Denied, Looked, Done}
 use Rattle.elsa_machine.specs.declared.machine.turns.Thread.{Thread}
-use Rattle.elsa_machine.specs.Machine.{slot_item, with_answer, with_event, Moved, moved, Machine, machine_of, turned, turn_at, thread_turn, pusher_turn, reader_turn, put, opening, cloner_turn}
-use Rattle.elsa_machine.specs.declared.machine.Answer.TheVariants.{Read, Cloned, CloneRefused}
-use Rattle.elsa_machine.specs.declared.machine.Event.TheVariants.{Look}
-use Rattle.std.proofs.lemmas.Bool.{ltb-false}
+use Rattle.elsa_machine.specs.Geometry.{slots_before, IsAt}
 use Rattle.elsa_machine.specs.AtomicSteps.{Acquires, Looks, Stays}
-use Rattle.elsa_machine.specs.Geometry.{IsAt, slots_before}
-use Rattle.elsa_machine.specs.Worlds.{answers_of}
-use Rattle.elsa_machine.specs.Turns.{AreStepsAtomic, FindsItsBuffer, IsStepOf, LookerStep, FindBuffers, OpensAtMostItsBuffer, OpensItsBuffer, PusherStep, shared_of, TellsALook, IsHolding, HoldsAlone, IsOver, ReleasesNext, turns_of, ReadsEnd}
-use Rattle.elsa_machine.proofs.MachineLemmas.Rules.{transition, by_test, Transition, stays, peeks, acquires, loses, writes, opens, denies, publishes, refuses, looks, misses, reads, clones_none, clone_looks, copies, clones, clone_fails}
-use Rattle.std.specs.Prelude.{is_none, is_some, MatchBool, MatchOption}
-use Rattle.elsa_machine.proofs.GeometryLemmas.Powers.{before_power, four_mono, four_pos}
-use Rattle.elsa_machine.proofs.MachineLemmas.Kept.{freed, HolderOk, list_more, list_same, next_item, WorldOk, writes_length}
-use Rattle.elsa_machine.proofs.MachineLemmas.Growth.{entry_at, eqb_same, eqb_other}
+use Rattle.elsa_machine.specs.Machine.{slot_item, Moved, moved, with_event, with_answer, pusher_turn, reader_turn, cloner_turn, thread_turn, Machine, put, turn_at, turned, opening, machine_of}
+use Rattle.elsa_machine.specs.Worlds.{list_of, answers_of, looks_of}
+use Rattle.elsa_machine.specs.Turns.{shared_of, PusherStep, TellsALook, LookerStep, IsStepOf, AreStepsAtomic, FindsItsBuffer, FindBuffers, OpensItsBuffer, OpensAtMostItsBuffer, IsHolding, HoldsAlone, IsOver, ReleasesNext, IgnoresOtherNumbers, PeeksWhereFree, PeeksAgain, turns_of, ReadsEnd}
+use Rattle.elsa_machine.proofs.GeometryLemmas.Powers.{four_pos, four_mono, before_power}
+use Rattle.elsa_machine.proofs.MachineLemmas.Rules.{IsPusherIdle, IsIdle, Transition, by_test, transition, stays, peeks, acquires, loses, writes, opens, denies, publishes, refuses, looks, misses, reads, clones_none, clone_looks, copies, clones, clone_fails}
+use Rattle.elsa_machine.proofs.MachineLemmas.Kept.{list_more, list_same, HolderOk, next_item, WorldOk, writes_length, freed}
+use Rattle.elsa_machine.proofs.MachineLemmas.Growth.{eqb_same, eqb_other, entry_at}
+use Rattle.elsa_machine.proofs.MachineLemmas.Pushers.{IsPushing}
 use Rattle.elsa_machine.proofs.MachineLemmas.Readers.{LooksDue}
-use Rattle.elsa_machine.proofs.MachineLemmas.Runs.{Sound, sound, sound_turned, sound_run, get_set_same, get_set_other, same_or_not, turned_cases}
+use Rattle.elsa_machine.proofs.MachineLemmas.Cloners.{ClonerOk}
+use Rattle.elsa_machine.proofs.MachineLemmas.Threads.{ThreadOk}
+use Rattle.elsa_machine.proofs.MachineLemmas.Runs.{get_set_same, get_set_other, Sound, same_or_not, turned_cases, sound_turned, sound_run, sound}
 
 holding : (w : World) (me : ℕ) (item : Option ℕ) (phase : Phase) → HolderOk w me item phase → IsHolding phase → w.held ≡ Some me
 holding w me item Ready h k = absurd k
@@ -99,7 +102,7 @@ pub turned_other : (plans : List Plan) (m : Machine) (turn : Turn) (me : ℕ) �
 turned_other plans m turn me ne = turned_cases (λ n. slice_get n.threads me ≡ slice_get m.threads me) plans m turn refl (λ plan t e f. get_set_other m.threads turn.thread me _ ne)
 
 next_up : (plan : Plan) (me : ℕ) (memory : Bool) (w : World) (t : Thread) (after : Moved) → Transition me memory w t plan after → t.next ≤ after.thread.next
-next_up plan me memory w t _ stays = omega arith
+next_up plan me memory w t _ (stays i) = omega arith
 next_up plan me memory w t _ (peeks p e f) = omega arith
 next_up plan me memory w t _ (acquires p e b) = omega arith
 next_up plan me memory w t _ (loses p e b) = omega arith
@@ -321,7 +324,7 @@ granted false c e = cc
 -- which turns open a buffer
 opens_transition : (m : Machine) (turn : Turn) (t : Thread) (plan : Plan) (after : Moved) → slice_get m.threads turn.thread ≡ Some t → WorldOk m.world → HolderOk m.world turn.thread (next_item plan t.next) t.phase → Transition turn.thread turn.memory m.world t plan after →
     (after.world.opened ≡ m.world.opened) ⊎ OpensItsBuffer m turn after.world
-opens_transition m turn t plan _ te ok h stays = inl refl
+opens_transition m turn t plan _ te ok h (stays i) = inl refl
 opens_transition m turn t plan _ te ok h (peeks p e f) = inl refl
 opens_transition m turn t plan _ te ok h (acquires p e b) = inl refl
 opens_transition m turn t plan _ te ok h (loses p e b) = inl refl
@@ -347,3 +350,89 @@ opens_one plans schedule = λ turn.
     let s = sound plans schedule in
     turned_cases (λ n. (n.world.opened ≡ m.world.opened) ⊎ OpensItsBuffer m turn n.world) plans m turn (inl refl)
     (λ plan t e f. opens_transition m turn t plan _ f s.world (s.threads turn.thread plan t e f) (transition plan turn.thread turn.memory m.world t))
+
+-- after every schedule, a turn of a number beyond the plans changes nothing
+pub ignores_others : (plans : List Plan) (schedule : List Turn) → IgnoresOtherNumbers plans (machine_of plans schedule)
+ignores_others plans schedule = λ turn past.
+    let m = machine_of plans schedule in
+    ap (λ p. turn_at p (slice_get m.threads turn.thread) turn m) (slice_get_past plans turn.thread past)
+
+-- a thread after its own turn
+pub own_turn : (plans : List Plan) (m : Machine) (turn : Turn) (plan : Plan) (t : Thread) → slice_get plans turn.thread ≡ Some plan → slice_get m.threads turn.thread ≡ Some t →
+    slice_get (turned plans m turn).threads turn.thread ≡ Some (thread_turn plan turn.thread turn.memory m.world t).thread
+own_turn plans m turn plan t pe te =
+    let a = thread_turn plan turn.thread turn.memory m.world t in
+    ap (λ n. slice_get n.threads turn.thread) (turned_is plans m turn plan t pe te) ∙ get_set_same m.threads turn.thread a.thread t te
+
+-- what a transition of a thread that is Ready, and is Peeked after it, saw
+peek_sees : (plan : Plan) (me : ℕ) (memory : Bool) (w : World) (t : Thread) (after : Moved) (n : ℕ) → Transition me memory w t plan after → t.phase ≡ Ready → after.thread.phase ≡ Peeked n → (w.held ≡ None) × (n ≡ w.length)
+peek_sees plan me memory w t _ n (stays i) p q = cc
+peek_sees plan me memory w t _ n (peeks r e f) p q = (f, cc)
+peek_sees plan me memory w t _ n (acquires r e b) p q = cc
+peek_sees plan me memory w t _ n (loses r e b) p q = cc
+peek_sees plan me memory w t _ n (writes r e b) p q = cc
+peek_sees plan me memory w t _ n (opens r e b c) p q = cc
+peek_sees plan me memory w t _ n (denies r e b c) p q = cc
+peek_sees plan me memory w t _ n (publishes r e) p q = cc
+peek_sees plan me memory w t _ n (refuses r e) p q = cc
+peek_sees plan me memory w t _ n (looks r e b) p q = cc
+peek_sees plan me memory w t _ n (misses r e b) p q = cc
+peek_sees plan me memory w t _ n (reads r e) p q = cc
+peek_sees plan me memory w t _ n (clones_none r b) p q = cc
+peek_sees plan me memory w t _ n (clone_looks r b) p q = cc
+peek_sees plan me memory w t _ n (copies r k b) p q = cc
+peek_sees plan me memory w t _ n (clones r k b) p q = cc
+peek_sees plan me memory w t _ n (clone_fails r k) p q = cc
+
+-- after every schedule, a peek sees a length only where nobody holds
+pub peeks_where_free : (plans : List Plan) (schedule : List Turn) → PeeksWhereFree plans (machine_of plans schedule)
+peeks_where_free plans schedule = λ turn t u n h p q.
+    let m = machine_of plans schedule in
+    let s = sound plans schedule in
+    let plan = plan_of plans m turn.thread t s h.before in
+    let a = thread_turn plan.0 turn.thread turn.memory m.world t in
+    let is : a.thread ≡ u = let x = own_turn plans m turn plan.0 t plan.1 h.before in let y = h.after in cc in
+    peek_sees plan.0 turn.thread turn.memory m.world t a n (transition plan.0 turn.thread turn.memory m.world t) p (ap (λ v. v.phase) is ∙ q)
+
+-- a thread that has peeked has something to do
+never_idle : (plan : Plan) (me : ℕ) (w : World) (t : Thread) (n : ℕ) → ThreadOk plan me w t → t.phase ≡ Peeked n → IsIdle plan w t → ⊥
+never_idle (Pusher items) me w t n o p i =
+    let x = subst (IsPushing (slice_get items t.next)) p o.pushing in
+    subst (λ z. IsPusherIdle z w (Peeked n)) x.1 (subst (IsPusherIdle (slice_get items t.next) w) p i)
+never_idle (Reader is) me w t n o p i = subst (LooksDue is (looks_of me w.events) w.length t.next) p o.due
+never_idle Cloner me w t n o p i = subst (ClonerOk (list_of w.events) w.length (looks_of me w.events) (answers_of me w.answers) t.copied) p o.knows
+
+-- what a transition of a thread that has peeked leaves
+peek_ends : (plan : Plan) (me : ℕ) (memory : Bool) (w : World) (t : Thread) (after : Moved) (n : ℕ) → ThreadOk plan me w t → Transition me memory w t plan after → t.phase ≡ Peeked n →
+    ((after.thread.phase ≡ Acquired n) × (after.world.held ≡ Some me)) ⊎ (after.thread.phase ≡ Ready)
+peek_ends plan me memory w t _ n o (stays i) p = absurd (never_idle plan me w t n o p i)
+peek_ends plan me memory w t _ n o (peeks r e f) p = cc
+peek_ends plan me memory w t _ n o (acquires r e b) p = inl (ap Acquired (let z : Peeked _ ≡ Peeked n = sym r ∙ p in cc), refl)
+peek_ends plan me memory w t _ n o (loses r e b) p = inr refl
+peek_ends plan me memory w t _ n o (writes r e b) p = cc
+peek_ends plan me memory w t _ n o (opens r e b c) p = cc
+peek_ends plan me memory w t _ n o (denies r e b c) p = cc
+peek_ends plan me memory w t _ n o (publishes r e) p = cc
+peek_ends plan me memory w t _ n o (refuses r e) p = cc
+peek_ends plan me memory w t _ n o (looks r e b) p = cc
+peek_ends plan me memory w t _ n o (misses r e b) p = cc
+peek_ends plan me memory w t _ n o (reads r e) p = cc
+peek_ends plan me memory w t _ n o (clones_none r b) p = cc
+peek_ends plan me memory w t _ n o (clone_looks r b) p = cc
+peek_ends plan me memory w t _ n o (copies r k b) p = cc
+peek_ends plan me memory w t _ n o (clones r k b) p = cc
+peek_ends plan me memory w t _ n o (clone_fails r k) p = cc
+
+-- after every schedule, a thread that has peeked acquires at its next turn or is to peek again
+pub peeks_again : (plans : List Plan) (schedule : List Turn) → PeeksAgain plans (machine_of plans schedule)
+peeks_again plans schedule = λ turn t u n h p.
+    let m = machine_of plans schedule in
+    let s = sound plans schedule in
+    let plan = plan_of plans m turn.thread t s h.before in
+    let a = thread_turn plan.0 turn.thread turn.memory m.world t in
+    let is : a.thread ≡ u = let x = own_turn plans m turn plan.0 t plan.1 h.before in let y = h.after in cc in
+    let w : (turned plans m turn).world ≡ a.world = ap (λ z. z.world) (turned_is plans m turn plan.0 t plan.1 h.before) in
+    elim (peek_ends plan.0 turn.thread turn.memory m.world t a n (s.told turn.thread plan.0 t plan.1 h.before) (transition plan.0 turn.thread turn.memory m.world t) p) [
+      | inl e ↦ inl (ap (λ v. v.phase) (sym is) ∙ e.0, ap (λ z. z.held) w ∙ e.1)
+      | inr e ↦ inr (ap (λ v. v.phase) (sym is) ∙ e)
+    ]

@@ -1,14 +1,16 @@
 -- What a pusher was told is right, and stays so.
-use Rattle.std.proofs.Common.{ℕ, suc, ◌+◌, ◌<◌, ◌≤◌, ◌≡◌, Bool, List, [], ◌∷◌, ◌++◌, length, Some, slice_get, refl, arith, sym, ◌∙◌, subst, length-append}
+use Rattle.std.proofs.Common.{ℕ, suc, ◌+◌, ◌<◌, ◌≤◌, ◌≡◌, Bool, List, [], ◌∷◌, ◌++◌, length, Option, Some, slice_get, refl, arith, sym, ◌∙◌, subst, length-append}
 use Rattle.elsa_machine.specs.declared.machine.Plan.TheVariants.{Pusher}
 use Rattle.elsa_machine.specs.declared.machine.Answer.{Answer}
 use Rattle.elsa_machine.specs.declared.machine.Answer.TheVariants.{Pushed, Refused, Read, Cloned, CloneRefused}
 use Rattle.elsa_machine.specs.declared.machine.World.{World}
+use Rattle.elsa_machine.specs.declared.machine.turns.Phase.{Phase}
+use Rattle.elsa_machine.specs.declared.machine.turns.Phase.TheVariants.{Ready, Peeked, Acquired, Written, Denied, Looked, Done}
 use Rattle.elsa_machine.specs.declared.machine.turns.Thread.{Thread}
 use Rattle.elsa_machine.specs.Machine.{Moved}
 use Rattle.elsa_machine.specs.Worlds.{list_of, answers_of, AreOutcomes}
 use Rattle.elsa_machine.proofs.MachineLemmas.Rules.{Transition, stays, peeks, acquires, loses, writes, opens, denies, publishes, refuses}
-use Rattle.elsa_machine.proofs.MachineLemmas.Kept.{WorldOk, HolderOk, list_more}
+use Rattle.elsa_machine.proofs.MachineLemmas.Kept.{list_more, HolderOk, WorldOk}
 use Rattle.elsa_machine.proofs.MachineLemmas.Growth.{answers_mine, get_last, get_more, Grown}
 
 outcomes_more : (list more : List (ℕ × ℕ)) (t least : ℕ) (items : List ℕ) (xs : List Answer) → AreOutcomes list t least items xs → AreOutcomes (list ++ more) t least items xs
@@ -77,29 +79,41 @@ outcome_refuse list t least x (y ∷ items) (Cloned u d ∷ xs) e h = h
 outcome_refuse list t least x (y ∷ items) (CloneRefused u ∷ xs) e h = h
 outcome_refuse list t least x [] (y ∷ xs) e h = cc
 
+-- a pusher is in no phase of a reader or a cloner, and beyond Ready it has a next item
+abbrev pub IsPushing : Option ℕ → Phase → Type 0
+IsPushing item Ready = Unit {0}
+IsPushing item (Peeked n) = (x : ℕ) × (item ≡ Some x)
+IsPushing item (Acquired n) = (x : ℕ) × (item ≡ Some x)
+IsPushing item (Written n) = (x : ℕ) × (item ≡ Some x)
+IsPushing item Denied = (x : ℕ) × (item ≡ Some x)
+IsPushing item (Looked n) = ⊥
+IsPushing item Done = ⊥
+
 -- what a pusher was told so far: outcomes of its first items, at places below the length
-pub record PusherOk (items : List ℕ) (me : ℕ) (w : World) (next : ℕ) : Type 0 where
+pub record PusherOk (items : List ℕ) (me : ℕ) (w : World) (next : ℕ) (phase : Phase) : Type 0 where
   pub met : AreOutcomes (list_of w.events) me 0 items (answers_of me w.answers)
   pub count : length (answers_of me w.answers) ≡ next
   pub below : AreBelow w.length (answers_of me w.answers)
+  pub pushing : IsPushing (slice_get items next) phase
 
 -- another thread's turn keeps what a pusher was told
-pub pusher_grown : (items : List ℕ) (me you : ℕ) (v w : World) (next : ℕ) → (you ≡ me → ⊥) → Grown me v w → PusherOk items you v next → PusherOk items you w next
-pusher_grown items me you v w next ne g h = record {
+pub pusher_grown : (items : List ℕ) (me you : ℕ) (v w : World) (next : ℕ) (phase : Phase) → (you ≡ me → ⊥) → Grown me v w → PusherOk items you v next phase → PusherOk items you w next phase
+pusher_grown items me you v w next phase ne g h = record {
+  pushing = h.pushing;
   met = rw (g.told you ne, g.list_is) (outcomes_more (list_of v.events) g.more you 0 items (answers_of you v.answers) h.met);
   count = rw (g.told you ne) h.count;
   below = rw (g.told you ne) (below_up v.length w.length (answers_of you v.answers) g.length_le h.below);
 }
 
 -- a pusher's own turn
-pub pusher_kept : (me : ℕ) (memory : Bool) (w : World) (t : Thread) (items : List ℕ) (after : Moved) → WorldOk w → HolderOk w me (slice_get items t.next) t.phase → PusherOk items me w t.next → Transition me memory w t (Pusher items) after → PusherOk items me after.world after.thread.next
-pusher_kept me memory w t items _ ok h k stays = k
-pusher_kept me memory w t _ _ ok h k (peeks {items} {x} p e f) = record { met = k.met; count = k.count; below = k.below }
-pusher_kept me memory w t _ _ ok h k (acquires {items} {x} {n} p e b) = record { met = k.met; count = k.count; below = k.below }
-pusher_kept me memory w t _ _ ok h k (loses {items} {x} {n} p e b) = record { met = k.met; count = k.count; below = k.below }
-pusher_kept me memory w t _ _ ok h k (writes {items} {x} {n} p e b) = record { met = k.met; count = k.count; below = k.below }
-pusher_kept me memory w t _ _ ok h k (opens {items} {x} {n} p e b c) = record { met = k.met; count = k.count; below = k.below }
-pusher_kept me memory w t _ _ ok h k (denies {items} {x} {n} p e b c) = record { met = k.met; count = k.count; below = k.below }
+pub pusher_kept : (me : ℕ) (memory : Bool) (w : World) (t : Thread) (items : List ℕ) (after : Moved) → WorldOk w → HolderOk w me (slice_get items t.next) t.phase → PusherOk items me w t.next t.phase → Transition me memory w t (Pusher items) after → PusherOk items me after.world after.thread.next after.thread.phase
+pusher_kept me memory w t items _ ok h k (stays i) = k
+pusher_kept me memory w t _ _ ok h k (peeks {items} {x} p e f) = record { met = k.met; count = k.count; below = k.below; pushing = (x, e) }
+pusher_kept me memory w t _ _ ok h k (acquires {items} {x} {n} p e b) = record { met = k.met; count = k.count; below = k.below; pushing = (x, e) }
+pusher_kept me memory w t _ _ ok h k (loses {items} {x} {n} p e b) = record { met = k.met; count = k.count; below = k.below; pushing = tt }
+pusher_kept me memory w t _ _ ok h k (writes {items} {x} {n} p e b) = record { met = k.met; count = k.count; below = k.below; pushing = (x, e) }
+pusher_kept me memory w t _ _ ok h k (opens {items} {x} {n} p e b c) = record { met = k.met; count = k.count; below = k.below; pushing = k.pushing }
+pusher_kept me memory w t _ _ ok h k (denies {items} {x} {n} p e b c) = record { met = k.met; count = k.count; below = k.below; pushing = (x, e) }
 pusher_kept me memory w t _ _ ok h k (publishes {items} {x} {n} p e) =
     let j = subst (HolderOk w me (slice_get items t.next)) p h in
     let here : slice_get (list_of w.events ++ (me, x) ∷ []) n ≡ Some (me, x) = get_last (list_of w.events) (me, x) n (j.2 ∙ ok.counted) in
@@ -108,11 +122,13 @@ pusher_kept me memory w t _ _ ok h k (publishes {items} {x} {n} p e) =
       met = rw (list_more w.events me x, answers_mine me w.answers (Pushed me n) refl)
           (outcome_push (list_of w.events ++ (me, x) ∷ []) me 0 n x items (answers_of me w.answers) (omega arith) low (rw k.count e) here (outcomes_more (list_of w.events) ((me, x) ∷ []) me 0 items (answers_of me w.answers) k.met));
       count = rw (answers_mine me w.answers (Pushed me n) refl, length-append) (omega (arith, k.count));
+      pushing = tt;
       below = rw (answers_mine me w.answers (Pushed me n) refl) (below_push (n + 1) me n (answers_of me w.answers) (omega arith) (below_up n (n + 1) (answers_of me w.answers) (omega arith) low));
     }
 pusher_kept me memory w t _ _ ok h k (refuses {items} {x} p e) =
     record {
       met = rw (answers_mine me w.answers (Refused me) refl) (outcome_refuse (list_of w.events) me 0 x items (answers_of me w.answers) (rw k.count e) k.met);
       count = rw (answers_mine me w.answers (Refused me) refl, length-append) (omega (arith, k.count));
+      pushing = tt;
       below = rw (answers_mine me w.answers (Refused me) refl) (below_refuse w.length me (answers_of me w.answers) k.below);
     }

@@ -72,7 +72,7 @@ reader_phase is me w next was phase e h = subst (ReaderOk is me w next) e h
 
 -- a reader's own turn keeps it
 pub reader_kept : (me : ℕ) (memory : Bool) (w : World) (t : Thread) (is : List ℕ) (after : Moved) → WorldOk w → ReaderOk is me w t.next t.phase → Transition me memory w t (Reader is) after → ReaderOk is me after.world after.thread.next after.thread.phase
-reader_kept me memory w t is _ ok k stays = k
+reader_kept me memory w t is _ ok k (stays i) = k
 reader_kept me memory w t _ _ ok k (looks {is} {i} p e b) =
     let q = reader_phase is me w t.next t.phase Ready p k in
     record {

@@ -83,7 +83,7 @@ denial : (w : World) (memory : Bool) (t : Thread) (n : ℕ) → t.phase ≡ Acqu
 denial w memory t n p b c = ap (λ q. is_phase_denied q w memory) p ∙ ap (λ z. not z && not (memory && nat_lt w.opened 31)) b ∙ ap (λ z. not z) c
 
 denied_step : IsEarned is_refusal owed is_denied
-denied_step me memory w t plan _ stays = omega arith
+denied_step me memory w t plan _ (stays i) = omega arith
 denied_step me memory w t plan _ (peeks p e f) = omega arith
 denied_step me memory w t plan _ (acquires p e b) = omega arith
 denied_step me memory w t plan _ (loses p e b) = omega arith
@@ -118,7 +118,7 @@ failed : (w : World) (memory : Bool) (t : Thread) (n : ℕ) → t.phase ≡ Look
 failed w memory t n p b = ap (λ q. is_looked q && not memory) p ∙ ap not b
 
 failed_step : IsEarned is_clone_refusal none_owed is_failed_copy
-failed_step me memory w t plan _ stays = omega arith
+failed_step me memory w t plan _ (stays i) = omega arith
 failed_step me memory w t plan _ (peeks p e f) = omega arith
 failed_step me memory w t plan _ (acquires p e b) = omega arith
 failed_step me memory w t plan _ (loses p e b) = omega arith

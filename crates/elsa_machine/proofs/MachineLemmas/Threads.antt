@@ -16,13 +16,13 @@ use Rattle.elsa_machine.proofs.MachineLemmas.Cloners.{ClonerKnows, cloner_grown,
 
 -- what a thread was told, and what it knows
 abbrev pub ThreadOk : Plan → ℕ → World → Thread → Type 0
-ThreadOk (Pusher items) me w t = PusherOk items me w t.next
+ThreadOk (Pusher items) me w t = PusherOk items me w t.next t.phase
 ThreadOk (Reader is) me w t = ReaderOk is me w t.next t.phase
 ThreadOk Cloner me w t = ClonerKnows me w t
 
 -- another thread's turn keeps what a thread knows
 pub thread_grown : (plan : Plan) (me you : ℕ) (v w : World) (t : Thread) → (you ≡ me → ⊥) → Grown me v w → ThreadOk plan you v t → ThreadOk plan you w t
-thread_grown (Pusher items) me you v w t ne g h = pusher_grown items me you v w t.next ne g h
+thread_grown (Pusher items) me you v w t ne g h = pusher_grown items me you v w t.next t.phase ne g h
 thread_grown (Reader is) me you v w t ne g h = reader_grown is me you v w t.next t.phase ne g h
 thread_grown Cloner me you v w t ne g h = cloner_grown me you v w t ne g h
 
@@ -40,6 +40,6 @@ told_right Cloner me w t h = clone_knows (list_of w.events) w.length (looks_of m
 
 -- at the start no thread was told anything
 pub opening_ok : (plan : Plan) (me : ℕ) (t : Thread) → t.phase ≡ Ready → t.next ≡ 0 → t.copied ≡ [] → ThreadOk plan me opening_world t
-opening_ok (Pusher items) me t p n c = record { met = tt; count = sym n; below = tt }
+opening_ok (Pusher items) me t p n c = record { met = tt; count = sym n; below = tt; pushing = rw p tt }
 opening_ok (Reader is) me t p n c = record { met = λ k answer e. cc; count = sym n; due = rw (p, n) refl }
 opening_ok Cloner me t p n c = record { knows = rw (p, c) (refl, refl, refl) }

@@ -1,11 +1,11 @@
 use Rattle.std.proofs.Common.{drop, subst, sym, take}
 use Rattle.elsa_machine.specs.Machine.{world_of}
-use Rattle.elsa_machine.specs.Worlds.{AreClonesRight, AreEntriesAnswered, AreItemsFinal, ArePushesRight, AreReadsRight, AreWrittenOnce, Grows, HasFewSlots, HasRightHistory, HasWritesInOrder, IsNoPlaceTwice}
-use Rattle.elsa_machine.proofs.MachineLemmas.Entries.{entries_answered}
+use Rattle.elsa_machine.specs.Worlds.{AreClonesRight, AreEntriesAnswered, AreEntriesAuthored, AreItemsFinal, ArePushesRight, AreReadsRight, AreWrittenOnce, Grows, HasFewSlots, HasRightHistory, HasWritesInOrder, IsNoPlaceTwice}
+use Rattle.elsa_machine.proofs.MachineLemmas.Entries.{entries_answered, entries_authored}
 use Rattle.elsa_machine.proofs.MachineLemmas.Places.{no_place_twice}
 use Rattle.elsa_machine.proofs.MachineLemmas.Refusals.{clone_refusals_earned, refusals_earned}
 use Rattle.elsa_machine.proofs.MachineLemmas.Runs.{clones_right, few_slots, grows, history, items_final, pushes_right, reads_right, writes_in_order, written_once}
-use Rattle.elsa_machine.proofs.MachineLemmas.Moments.{alone, find_buffers, opens_one, reads_end, releases_next, steps_atomic}
+use Rattle.elsa_machine.proofs.MachineLemmas.Moments.{alone, find_buffers, ignores_others, opens_one, peeks_again, peeks_where_free, reads_end, releases_next, steps_atomic}
 use Rattle.elsa_machine.proofs.machine.run.Goals as goal
 
 pub returns-clause-history : goal.returns-clause-history
@@ -64,3 +64,15 @@ returns-clause-releases c = λ k. releases_next c.args.plans.now (take k c.args.
 
 pub returns-clause-reads_end : goal.returns-clause-reads_end
 returns-clause-reads_end c = λ k. reads_end c.args.plans.now (take k c.args.schedule.now) (drop k c.args.schedule.now)
+
+pub returns-clause-authors : goal.returns-clause-authors
+returns-clause-authors c = subst (AreEntriesAuthored c.args.plans.now) (sym c.in_ok-world.ensures) (entries_authored c.args.plans.now c.args.schedule.now)
+
+pub returns-clause-idle : goal.returns-clause-idle
+returns-clause-idle c = λ k. ignores_others c.args.plans.now (take k c.args.schedule.now)
+
+pub returns-clause-peeks : goal.returns-clause-peeks
+returns-clause-peeks c = λ k. peeks_where_free c.args.plans.now (take k c.args.schedule.now)
+
+pub returns-clause-peeks_again : goal.returns-clause-peeks_again
+returns-clause-peeks_again c = λ k. peeks_again c.args.plans.now (take k c.args.schedule.now)
