@@ -1,7 +1,9 @@
 -- What holds of the machine after each schedule.
 pub mod Cloners
+pub mod ClonesEnd
 pub mod Entries
 pub mod Growth
+pub mod Holds
 pub mod Kept
 pub mod Moments
 pub mod Places
@@ -10,4 +12,5 @@ pub mod Readers
 pub mod Refusals
 pub mod Rules
 pub mod Runs
+pub mod Solo
 pub mod Threads

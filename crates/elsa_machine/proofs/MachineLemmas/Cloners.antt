@@ -67,7 +67,7 @@ pub record ClonerKnows (me : ℕ) (w : World) (t : Thread) : Type 0 where
 pub cloner_grown : (me you : ℕ) (v w : World) (t : Thread) → (you ≡ me → ⊥) → Grown me v w → ClonerKnows you v t → ClonerKnows you w t
 cloner_grown me you v w t ne g h = record { knows = rw (g.told you ne, g.seen you ne, g.list_is) (cloner_up (list_of v.events) g.more v.length w.length (looks_of you v.events) (answers_of you v.answers) t.copied t.phase h.knows) }
 
-at_cloner : (me : ℕ) (w : World) (t : Thread) (phase : Phase) → t.phase ≡ phase → ClonerKnows me w t → ClonerOk (list_of w.events) w.length (looks_of me w.events) (answers_of me w.answers) t.copied phase
+pub at_cloner : (me : ℕ) (w : World) (t : Thread) (phase : Phase) → t.phase ≡ phase → ClonerKnows me w t → ClonerOk (list_of w.events) w.length (looks_of me w.events) (answers_of me w.answers) t.copied phase
 at_cloner me w t phase e h = subst (ClonerOk (list_of w.events) w.length (looks_of me w.events) (answers_of me w.answers) t.copied) e h.knows
 
 eqb_is : (a b : ℕ) → (a == b) ≡ true → a ≡ b

@@ -1,23 +1,24 @@
 -- What every turn keeps.
-use Rattle.std.proofs.Common.{ℕ, suc, ◌+◌, ◌*◌, ◌^◌, ◌<◌, ◌≤◌, ◌≡◌, ◌≢◌, ◌⊎◌, Bool, true, false, List, [], ◌∷◌, ◌++◌, length, Option, Some, None, slice_get, refl, arith, inl, inr, rules, ap, sym, ◌∙◌, length-append, add-suc, suc-add, add-zero, zero-add, subst, nat_lt, ◌&&◌, ◌==◌, tests}
+use Rattle.std.proofs.Common.{ℕ, suc, ◌+◌, ◌*◌, ◌^◌, ◌<◌, ◌≤◌, ◌≡◌, ◌≢◌, ◌⊎◌, Bool, true, false, ◌&&◌, ◌==◌, nat_lt, List, [], ◌∷◌, ◌++◌, length, Option, Some, None, slice_get, refl, arith, rules, tests, inl, inr, ap, sym, ◌∙◌, subst, length-append, zero-add, add-zero, suc-add, add-suc}
+use Rattle.std.specs.Prelude.{is_none}
 use Rattle.std.proofs.lemmas.List.{append-nil}
 use Rattle.std.proofs.lemmas.Bool.{ltb-true, ltb-false}
 use Rattle.elsa_machine.specs.declared.machine.Plan.{Plan}
 use Rattle.elsa_machine.specs.declared.machine.Plan.TheVariants.{Pusher, Reader, Cloner}
 use Rattle.elsa_machine.specs.declared.machine.Event.{Event}
 use Rattle.elsa_machine.specs.declared.machine.Event.TheVariants.{Append, Look}
-use Rattle.elsa_machine.specs.declared.machine.World.{World}
 use Rattle.elsa_machine.specs.declared.machine.Answer.{Answer}
 use Rattle.elsa_machine.specs.declared.machine.Answer.TheVariants.{Read, Cloned, CloneRefused}
+use Rattle.elsa_machine.specs.declared.machine.World.{World}
 use Rattle.elsa_machine.specs.declared.machine.turns.Phase.{Phase}
 use Rattle.elsa_machine.specs.declared.machine.turns.Phase.TheVariants.{Ready, Peeked, Acquired, Written, Denied, Looked, Done}
 use Rattle.elsa_machine.specs.declared.machine.turns.Thread.{Thread}
-use Rattle.elsa_machine.specs.Machine.{Moved, slot_item, with_event, with_answer}
-use Rattle.elsa_machine.specs.Worlds.{list_of, AreLooksRight, placed, HasWritesInOrder}
 use Rattle.elsa_machine.specs.Geometry.{slots_before}
+use Rattle.elsa_machine.specs.Machine.{slot_item, Moved, with_event, with_answer}
+use Rattle.elsa_machine.specs.Worlds.{list_of, AreLooksRight, placed, HasWritesInOrder}
+use Rattle.elsa_machine.specs.AtomicSteps.{}
 use Rattle.elsa_machine.proofs.GeometryLemmas.Powers.{before_power}
 use Rattle.elsa_machine.proofs.MachineLemmas.Rules.{Transition, stays, peeks, acquires, loses, writes, opens, denies, publishes, refuses, looks, misses, reads, clones_none, clone_looks, copies, clones, clone_fails}
-use Rattle.std.specs.Prelude.{is_none}
 
 -- an append puts one entry at the end of the list
 pub list_more : (es : List Event) (me x : ℕ) → list_of (es ++ Append me x ∷ []) ≡ list_of es ++ (me, x) ∷ []
@@ -270,3 +271,27 @@ kept me memory w t plan _ ok h (clones {n} p m b) =
 kept me memory w t plan _ ok h (clone_fails {n} p m) =
     let s = tell w w (CloneRefused me) (same_answer w me) in
     record { world = same_world w _ s ok.looks ok; own = own_at w me plan t.next (Looked n) t.phase p h; others = λ you item phase ne k. same_holder w _ you item phase s k }
+
+-- a thread holds after a turn only if it held before, or the turn was its own
+abbrev pub HeldFrom : ℕ → World → World → Type 0
+HeldFrom me v w = (you : ℕ) → w.held ≡ Some you → (v.held ≡ Some you) ⊎ (you ≡ me)
+
+-- each transition is so
+pub held_from : (plan : Plan) (me : ℕ) (memory : Bool) (w : World) (t : Thread) (after : Moved) → Transition me memory w t plan after → HeldFrom me w after.world
+held_from plan me memory w t _ (stays i) = λ you h. inl h
+held_from plan me memory w t _ (peeks p e f) = λ you h. inl h
+held_from plan me memory w t _ (acquires p e b) = λ you h. inr (let q : Some me ≡ Some you = h in cc)
+held_from plan me memory w t _ (loses p e b) = λ you h. inl h
+held_from plan me memory w t _ (writes p e b) = λ you h. inl h
+held_from plan me memory w t _ (opens p e b c) = λ you h. inl h
+held_from plan me memory w t _ (denies p e b c) = λ you h. inl h
+held_from plan me memory w t _ (publishes p e) = λ you h. cc
+held_from plan me memory w t _ (refuses p e) = λ you h. cc
+held_from plan me memory w t _ (looks p e b) = λ you h. inl h
+held_from plan me memory w t _ (misses p e b) = λ you h. inl h
+held_from plan me memory w t _ (reads p e) = λ you h. inl h
+held_from plan me memory w t _ (clones_none p b) = λ you h. inl h
+held_from plan me memory w t _ (clone_looks p b) = λ you h. inl h
+held_from plan me memory w t _ (copies p m b) = λ you h. inl h
+held_from plan me memory w t _ (clones p m b) = λ you h. inl h
+held_from plan me memory w t _ (clone_fails p m) = λ you h. inl h

@@ -1,8 +1,8 @@
 -- What holds after every schedule.
-use Rattle.std.proofs.Common.{ℕ, suc, zero, ◌+◌, ◌≤◌, ◌≡◌, ◌⊎◌, List, [], ◌∷◌, ◌++◌, length, Option, Some, None, slice_get, slice_set, map, refl, arith, inl, inr, ap, sym, ◌∙◌, subst, length-set, append_assoc, zero-add, take, take-append-drop, drop, get_or}
-use Rattle.std.proofs.lemmas.List.{append-nil, length-map}
-use Rattle.std.proofs.lemmas.List.Sums.{fold-append}
+use Rattle.std.proofs.Common.{get_or, ℕ, zero, suc, ◌+◌, ◌<◌, ◌≤◌, ◌≡◌, ◌⊎◌, List, [], ◌∷◌, ◌++◌, length, Option, Some, None, slice_get, slice_set, take, drop, map, refl, arith, inl, inr, ap, sym, ◌∙◌, subst, append_assoc, length-set, zero-add, take-append-drop}
 use Rattle.std.specs.List.{fold}
+use Rattle.std.proofs.lemmas.List.{length-map, append-nil}
+use Rattle.std.proofs.lemmas.List.Sums.{fold-append}
 use Rattle.std.proofs.lemmas.Option.{slice_get-get_or, slice_get_within}
 use Rattle.elsa_machine.specs.declared.machine.Plan.{Plan}
 use Rattle.elsa_machine.specs.declared.machine.Plan.TheVariants.{Pusher, Reader, Cloner}
@@ -11,13 +11,14 @@ use Rattle.elsa_machine.specs.declared.machine.World.{World}
 use Rattle.elsa_machine.specs.declared.machine.turns.Phase.{Phase}
 use Rattle.elsa_machine.specs.declared.machine.turns.Phase.TheVariants.{Ready, Peeked, Acquired, Written, Denied, Looked, Done}
 use Rattle.elsa_machine.specs.declared.machine.turns.Thread.{Thread}
-use Rattle.elsa_machine.specs.Machine.{Moved, Machine, machine_of, world_of, turned, turn_at, thread_turn, put, opening, opening_thread, opening_world, CanPublish, IsSafe, slot_item}
-use Rattle.elsa_machine.specs.Worlds.{AreItemsFinal, AreWrittenOnce, Grows, IsAtMostOne, list_of, placed, HasRightHistory, HasWritesInOrder, HasFewSlots, IsToldRight, ArePushesRight, AreReadsRight, AreClonesRight}
-use Rattle.elsa_machine.proofs.GeometryLemmas.Powers.{before_power, four_mono}
+use Rattle.elsa_machine.specs.Machine.{slot_item, Moved, thread_turn, Machine, put, turn_at, turned, opening_thread, opening_world, opening, machine_of, world_of, CanPublish, IsSafe}
+use Rattle.elsa_machine.specs.Worlds.{list_of, HasRightHistory, Grows, placed, IsAtMostOne, HasWritesInOrder, AreItemsFinal, AreWrittenOnce, HasFewSlots, ArePushesRight, AreReadsRight, AreClonesRight, IsToldRight}
+use Rattle.elsa_machine.specs.AtomicSteps.{}
+use Rattle.elsa_machine.proofs.GeometryLemmas.Powers.{four_mono, before_power}
 use Rattle.elsa_machine.proofs.MachineLemmas.Rules.{transition}
-use Rattle.elsa_machine.proofs.MachineLemmas.Growth.{entry_at, Grown, grown, get_more, slot_has}
+use Rattle.elsa_machine.proofs.MachineLemmas.Kept.{HolderOk, next_item, WorldOk, Kept, kept, HeldFrom, held_from}
+use Rattle.elsa_machine.proofs.MachineLemmas.Growth.{get_more, Grown, grown, slot_has, entry_at}
 use Rattle.elsa_machine.proofs.MachineLemmas.Threads.{ThreadOk, thread_grown, thread_kept, told_right, opening_ok}
-use Rattle.elsa_machine.proofs.MachineLemmas.Kept.{WorldOk, HolderOk, next_item, Kept, kept}
 
 -- an item that was set is there
 pub get_set_same : {A : Type 0} (xs : List A) (i : ℕ) (x y : A) → slice_get xs i ≡ Some y → slice_get (slice_set xs i x) i ≡ Some x
@@ -37,6 +38,7 @@ get_set_other (z ∷ xs) (suc i) (suc j) x ne = get_set_other xs i j x (λ e. ne
 pub record Sound (plans : List Plan) (m : Machine) : Type 0 where
   pub world : WorldOk m.world
   pub sizes : length m.threads ≡ length plans
+  pub holder : (me : ℕ) → m.world.held ≡ Some me → me < length plans
   pub threads : (i : ℕ) (plan : Plan) (t : Thread) → slice_get plans i ≡ Some plan → slice_get m.threads i ≡ Some t → HolderOk m.world i (next_item plan t.next) t.phase
   pub told : (i : ℕ) (plan : Plan) (t : Thread) → slice_get plans i ≡ Some plan → slice_get m.threads i ≡ Some t → ThreadOk plan i m.world t
 
@@ -47,10 +49,11 @@ same_or_not zero (suc j) = inr (λ e. cc)
 same_or_not (suc i) zero = inr (λ e. cc)
 same_or_not (suc i) (suc j) = elim (same_or_not i j) [ inl e ↦ inl (ap suc e) | inr ne ↦ inr (λ e. ne (omega (arith, e))) ]
 
-sound_put : (plans : List Plan) (m : Machine) (me : ℕ) (plan : Plan) (t : Thread) (after : Moved) → slice_get plans me ≡ Some plan → slice_get m.threads me ≡ Some t → Sound plans m → Kept me plan m.world after → Grown me m.world after.world → ThreadOk plan me after.world after.thread → Sound plans (put me m after)
-sound_put plans m me plan t after pe te s k gr own = record {
+sound_put : (plans : List Plan) (m : Machine) (me : ℕ) (plan : Plan) (t : Thread) (after : Moved) → slice_get plans me ≡ Some plan → slice_get m.threads me ≡ Some t → Sound plans m → Kept me plan m.world after → HeldFrom me m.world after.world → Grown me m.world after.world → ThreadOk plan me after.world after.thread → Sound plans (put me m after)
+sound_put plans m me plan t after pe te s k from gr own = record {
   world = k.world;
   sizes = length-set m.threads me after.thread ∙ s.sizes;
+  holder = λ i h. elim (from i h) [ inl e ↦ s.holder i e | inr e ↦ subst (λ j. j < length plans) (sym e) (slice_get_within plans me plan pe) ];
   threads = λ i q u qe ue. elim (same_or_not i me) [
     | inl e ↦
         let a : slice_get (slice_set m.threads me after.thread) me ≡ Some after.thread = get_set_same m.threads me after.thread t te in
@@ -98,7 +101,7 @@ pub sound_turned : (plans : List Plan) (m : Machine) (turn : Turn) → Sound pla
 sound_turned plans m turn s = turned_cases (Sound plans) plans m turn s (λ plan t e f.
     let r = transition plan turn.thread turn.memory m.world t in
     let h = s.threads turn.thread plan t e f in
-    sound_put plans m turn.thread plan t _ e f s (kept turn.thread turn.memory m.world t plan _ s.world h r) (grown turn.thread turn.memory m.world t plan _ h r)
+    sound_put plans m turn.thread plan t _ e f s (kept turn.thread turn.memory m.world t plan _ s.world h r) (held_from plan turn.thread turn.memory m.world t _ r) (grown turn.thread turn.memory m.world t plan _ h r)
     (thread_kept plan turn.thread turn.memory m.world t _ s.world h (s.told turn.thread plan t e f) r))
 
 opened_next : (plans : List Plan) (i : ℕ) (t : Thread) → slice_get (map opening_thread plans) i ≡ Some t → t.next ≡ 0
@@ -122,6 +125,7 @@ pub sound_opening : (plans : List Plan) → Sound plans (opening plans)
 sound_opening plans = record {
   world = record { looks = tt; counted = refl; slots = omega arith; room = omega arith; buffers = omega arith; free = λ q. refl; in_order = ([], refl, tt) };
   sizes = length-map plans opening_thread;
+  holder = λ me h. cc;
   threads = λ i plan t pe te. subst (HolderOk opening_world i (next_item plan t.next)) (sym (opened_thread plans i t te)) (λ q. cc);
   told = λ i plan t pe te. opening_ok plan i t (opened_thread plans i t te) (opened_next plans i t te) (opened_copied plans i t te);
 }

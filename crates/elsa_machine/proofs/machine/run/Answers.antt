@@ -5,6 +5,9 @@ use Rattle.elsa_machine.proofs.MachineLemmas.Entries.{entries_answered, entries_
 use Rattle.elsa_machine.proofs.MachineLemmas.Places.{no_place_twice}
 use Rattle.elsa_machine.proofs.MachineLemmas.Refusals.{clone_refusals_earned, refusals_earned}
 use Rattle.elsa_machine.proofs.MachineLemmas.Runs.{clones_right, few_slots, grows, history, items_final, pushes_right, reads_right, writes_in_order, written_once}
+use Rattle.elsa_machine.proofs.MachineLemmas.ClonesEnd.{clones_end}
+use Rattle.elsa_machine.proofs.MachineLemmas.Holds.{holds_end}
+use Rattle.elsa_machine.proofs.MachineLemmas.Solo.{pushes_end}
 use Rattle.elsa_machine.proofs.MachineLemmas.Moments.{alone, find_buffers, ignores_others, opens_one, peeks_again, peeks_where_free, reads_end, releases_next, steps_atomic}
 use Rattle.elsa_machine.proofs.machine.run.Goals as goal
 
@@ -76,3 +79,12 @@ returns-clause-peeks c = λ k. peeks_where_free c.args.plans.now (take k c.args.
 
 pub returns-clause-peeks_again : goal.returns-clause-peeks_again
 returns-clause-peeks_again c = λ k. peeks_again c.args.plans.now (take k c.args.schedule.now)
+
+pub returns-clause-holds_end : goal.returns-clause-holds_end
+returns-clause-holds_end c = λ k. holds_end c.args.plans.now (take k c.args.schedule.now) (drop k c.args.schedule.now)
+
+pub returns-clause-pushes_end : goal.returns-clause-pushes_end
+returns-clause-pushes_end c = λ k. pushes_end c.args.plans.now (take k c.args.schedule.now)
+
+pub returns-clause-clones_end : goal.returns-clause-clones_end
+returns-clause-clones_end c = λ k. clones_end c.args.plans.now (take k c.args.schedule.now)
