@@ -5,11 +5,13 @@ pub mod Entries
 pub mod Growth
 pub mod Holds
 pub mod Kept
+pub mod Left
 pub mod Moments
 pub mod Places
 pub mod Pushers
 pub mod Readers
 pub mod Refusals
+pub mod Rounds
 pub mod Rules
 pub mod Runs
 pub mod Solo

@@ -5,7 +5,7 @@
 //! every schedule: so it holds at each moment of each run, since every beginning of a schedule is a schedule.
 ghost use Rattle.std.specs.Prelude.{◌≡◌, ℕ, drop, IfOk, take};
 ghost use Rattle.elsa_machine.specs.Machine.{machine_of, opening_threads, world_of};
-ghost use Rattle.elsa_machine.specs.Progress.{ClonesEnd, HoldsEnd, PushesEnd};
+ghost use Rattle.elsa_machine.specs.Progress.{ClonesEnd, HoldsEnd, PlansEnd, PushesEnd};
 ghost use Rattle.elsa_machine.specs.Turns.{AreCloneRefusalsEarned, AreRefusalsEarned, AreStepsAtomic, FindBuffers, HoldsAlone, IgnoresOtherNumbers, OpensAtMostItsBuffer, PeeksAgain, PeeksWhereFree, ReadsEnd, ReleasesNext};
 ghost use Rattle.elsa_machine.specs.Worlds.{AreClonesRight, AreEntriesAnswered, AreEntriesAuthored, AreItemsFinal, ArePushesRight, AreReadsRight, AreWrittenOnce, Grows, HasFewSlots, HasRightHistory, HasWritesInOrder, IsNoPlaceTwice};
 
@@ -129,6 +129,7 @@ pub fn run(alloc: Global, plans: &[Plan], schedule: &[Turn]) -> Result<World, Al
     ensures holds_end { IfOk result (λ _. (k : ℕ) → HoldsEnd plans.now (take k schedule.now) (drop k schedule.now)) }
     ensures pushes_end { IfOk result (λ _. (k : ℕ) → PushesEnd plans.now (take k schedule.now)) }
     ensures clones_end { IfOk result (λ _. (k : ℕ) → ClonesEnd plans.now (take k schedule.now)) }
+    ensures plans_end { IfOk result (λ _. (k : ℕ) → PlansEnd plans.now (take k schedule.now) (drop k schedule.now)) }
     ensures reads_end { IfOk result (λ _. (k : ℕ) → ReadsEnd plans.now (take k schedule.now) (drop k schedule.now)) }
 {
     let world = world_after(alloc, plans, schedule)?;

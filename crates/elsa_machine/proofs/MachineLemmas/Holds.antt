@@ -27,6 +27,8 @@ use Rattle.elsa_machine.proofs.MachineLemmas.Cloners.{ClonerOk}
 use Rattle.elsa_machine.proofs.MachineLemmas.Threads.{ThreadOk}
 use Rattle.elsa_machine.proofs.MachineLemmas.Runs.{Sound, same_or_not, turned_cases, sound_turned, sound_run, sound}
 use Rattle.elsa_machine.proofs.MachineLemmas.Moments.{plan_of, held_by, turned_is, turned_other, finds, own_turn}
+use Rattle.std.proofs.lemmas.Option.{slice_get_within}
+use Rattle.elsa_machine.proofs.MachineLemmas.Left.{all_left, left_turn, left_set}
 
 -- how many turns a holder still needs
 abbrev pub hold_left : World → Phase → ℕ
@@ -150,7 +152,7 @@ pub record GoesOn (me : ℕ) (w : World) (t : Thread) (after : Moved) : Type 0 w
   pub nearer : suc (hold_left after.world after.thread.phase) ≤ hold_left w t.phase
 
 hold_step : (me : ℕ) (memory : Bool) (w : World) (t : Thread) (items : List ℕ) (after : Moved) → WorldOk w → HolderOk w me (slice_get items t.next) t.phase → IsPushing (slice_get items t.next) t.phase → IsHolding t.phase →
-    Transition me memory w t (Pusher items) after → ((after.thread.next ≡ t.next + 1) × (after.world.held ≡ None)) ⊎ GoesOn me w t after
+    Transition me memory w t (Pusher items) after → ((after.thread.next ≡ t.next + 1) × (after.world.held ≡ None) × (t.next < length items)) ⊎ GoesOn me w t after
 hold_step me memory w t items _ ok h q k (stays i) = absurd (hold_busy w (slice_get items t.next) t.phase q k i)
 hold_step me memory w t _ _ ok h q k (peeks p e f) = absurd (subst IsHolding p k)
 hold_step me memory w t _ _ ok h q k (acquires p e b) = absurd (subst IsHolding p k)
@@ -166,8 +168,8 @@ hold_step me memory w t _ _ ok h q k (opens {items} {x} {n} p e b c) =
 hold_step me memory w t _ _ ok h q k (denies {items} {x} {n} p e b c) =
     let l : hold_left w t.phase ≡ 3 = ap (hold_left w) p ∙ ap (λ z. if z then 2 else 3) b in
     inr (record { next_is = refl; holding = tt; nearer = omega (arith, l) })
-hold_step me memory w t _ _ ok h q k (publishes p e) = inl (refl, refl)
-hold_step me memory w t _ _ ok h q k (refuses p e) = inl (refl, refl)
+hold_step me memory w t _ _ ok h q k (publishes {items} {x} p e) = inl (refl, refl, slice_get_within items t.next x e)
+hold_step me memory w t _ _ ok h q k (refuses {items} {x} p e) = inl (refl, refl, slice_get_within items t.next x e)
 
 -- a turn counts for its own thread
 pub turns_mine : (me : ℕ) (turn : Turn) (rest : List Turn) → turn.thread ≡ me → turns_of me (turn ∷ rest) ≡ suc (turns_of me rest)
@@ -185,6 +187,7 @@ pub record HoldEnd (plans : List Plan) (m : Machine) (me : ℕ) (t : Thread) (re
   pub thread : Thread
   pub is_there : slice_get (fold (turned plans) m (take turns rest)).threads me ≡ Some thread
   pub next_is : thread.next ≡ t.next + 1
+  pub fewer : all_left plans (fold (turned plans) m (take turns rest)).threads < all_left plans m.threads
 
 -- a hold ends within the turns that it needs
 pub hold_ends : (plans : List Plan) (rest : List Turn) (m : Machine) (me : ℕ) (items : List ℕ) (t : Thread) → Sound plans m → slice_get plans me ≡ Some (Pusher items) → slice_get m.threads me ≡ Some t → IsHolding t.phase →
@@ -205,6 +208,7 @@ hold_ends plans (turn ∷ rest) m me items t s pe e k n =
             thread = r.thread;
             is_there = r.is_there;
             next_is = r.next_is;
+            fewer = (let f = r.fewer in let l = left_turn plans m turn s in omega (arith, f, l.0));
           }
       | inl q ↦
           let c = turns_mine me turn rest q in
@@ -221,6 +225,11 @@ hold_ends plans (turn ∷ rest) m me items t s pe e k n =
               thread = a.thread;
               is_there = g;
               next_is = x.0;
+              fewer = (
+                  let y = left_set plans m.threads turn.thread (Pusher items) t a.thread pf f in
+                  let i = ap (λ z. all_left plans z.threads) (turned_is plans m turn (Pusher items) t pf f) in
+                  omega (arith, x.0, x.2, y, i)
+                  );
             }
             | inr x ↦
                 let l : suc (hold_left m1.world a.thread.phase) ≤ hold_left m.world t.phase = subst (λ z. suc (hold_left z a.thread.phase) ≤ hold_left m.world t.phase) (sym w) x.nearer in
@@ -232,6 +241,7 @@ hold_ends plans (turn ∷ rest) m me items t s pe e k n =
                   thread = r.thread;
                   is_there = r.is_there;
                   next_is = r.next_is ∙ ap (λ z. z + 1) x.next_is;
+                  fewer = (let f = r.fewer in let l = left_turn plans m turn s in omega (arith, f, l.0));
                 }
           ]
     ]

@@ -86,7 +86,7 @@ room_left w me n item phase e ok h b small =
     lt-ltb w.opened 31 (lt_of_not-le (λ (le : 31 ≤ w.opened). let p = four_mono 31 w.opened le in omega (arith, p, y, small)))
 
 -- a free lock at another length
-lost : (held : Option ℕ) (a n : ℕ) → held ≡ None → (is_none held && (a == n)) ≡ false → (a == n) ≡ false
+pub lost : (held : Option ℕ) (a n : ℕ) → held ≡ None → (is_none held && (a == n)) ≡ false → (a == n) ≡ false
 lost held a n h b = ap (λ z. is_none z && (a == n)) (sym h) ∙ b
 
 -- a turn brings it nearer, or pushes its item

@@ -7,6 +7,7 @@ use Rattle.elsa_machine.proofs.MachineLemmas.Refusals.{clone_refusals_earned, re
 use Rattle.elsa_machine.proofs.MachineLemmas.Runs.{clones_right, few_slots, grows, history, items_final, pushes_right, reads_right, writes_in_order, written_once}
 use Rattle.elsa_machine.proofs.MachineLemmas.ClonesEnd.{clones_end}
 use Rattle.elsa_machine.proofs.MachineLemmas.Holds.{holds_end}
+use Rattle.elsa_machine.proofs.MachineLemmas.Rounds.{plans_end}
 use Rattle.elsa_machine.proofs.MachineLemmas.Solo.{pushes_end}
 use Rattle.elsa_machine.proofs.MachineLemmas.Moments.{alone, find_buffers, ignores_others, opens_one, peeks_again, peeks_where_free, reads_end, releases_next, steps_atomic}
 use Rattle.elsa_machine.proofs.machine.run.Goals as goal
@@ -88,3 +89,6 @@ returns-clause-pushes_end c = λ k. pushes_end c.args.plans.now (take k c.args.s
 
 pub returns-clause-clones_end : goal.returns-clause-clones_end
 returns-clause-clones_end c = λ k. clones_end c.args.plans.now (take k c.args.schedule.now)
+
+pub returns-clause-plans_end : goal.returns-clause-plans_end
+returns-clause-plans_end c = λ k. plans_end c.args.plans.now (take k c.args.schedule.now) (drop k c.args.schedule.now)
