@@ -1,9 +1,9 @@
 -- How a walk over the first places of a list goes on by one.
 use Rattle.std.proofs.Common.{◌≡◌, ℕ, suc, ◌+◌, ◌*◌, ◌^◌, ◌/◌, ◌<◌, ◌≤◌, List, ◌∷◌, length, drop, get_or, slice_get, Some, sym, ap, ◌∙◌, arith, add-one, drop-cons}
 use Rattle.std.proofs.lemmas.Option.{slice_get_within, get_or_from_slice_get}
-use Rattle.elsa_free.specs.Geometry.{IsAt}
+use Rattle.elsa_machine.specs.Geometry.{IsAt}
 use Rattle.elsa_free.specs.Walk.{IsWalk}
-use Rattle.elsa_free.proofs.Powers.{below, four}
+use Rattle.elsa_machine.proofs.GeometryLemmas.Powers.{below, four}
 
 -- a place that the walk has yet to give lies in a buffer that can be opened
 pub openable : (len place buffer slot buffer_len : ℕ) → IsWalk len place buffer slot buffer_len → place < len → buffer < 31

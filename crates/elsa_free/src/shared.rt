@@ -6,7 +6,7 @@ ghost use Rattle.std.specs.Prelude.{◌≡◌, ◌+◌, ◌*◌, ◌-◌, ◌^�
 ghost use lib.Pointwise.{pointwise};
 ghost use mathlib.Core.List.{IsPrefix};
 ghost use Rattle.elsa_free.specs.Ahead.{GoesOn};
-ghost use Rattle.elsa_free.specs.Geometry.{IsAt};
+ghost use Rattle.elsa_machine.specs.Geometry.{IsAt};
 ghost use Rattle.elsa_free.specs.SharedList.{Appends, BeginsABuffer, copied, count, entry};
 ghost use Rattle.elsa_free.specs.declared.event.Event.TheVariants.{Took, Put, Copied, Gave, Seat};
 ghost use Rattle.elsa_free.specs.History.{entries, list_of, is_held, kinds};
@@ -14,7 +14,7 @@ ghost use Rattle.elsa_free.specs.Rights.{head, tops_of};
 ghost use Rattle.elsa_free.specs.OneWord.{word_in, word_of};
 
 use crate::event::Event;
-use crate::geometry::{buffer_size, locate};
+use elsa_machine::geometry::{buffer_size, locate};
 use crate::iter::Iter;
 use crate::rule::{Acquire, End, Gives, Log, Look, Looks, Nothing, OneWord, Puts, See, Takes};
 use crate::slots::{Ahead, Blanks, Copied as CopiedSlots, Row, Slots, Told, Written};

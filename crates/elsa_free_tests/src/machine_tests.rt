@@ -1,6 +1,6 @@
 //! Worked rows of the geometry and of the machine, whole worlds against worlds written by hand.
-use elsa_free::geometry::{buffer_index, buffer_size, locate, prior_total_buffer_size};
-use elsa_free::machine::{Answer, Event, Items, Plan, Turn, World, run};
+use elsa_machine::geometry::{buffer_index, buffer_size, locate, prior_total_buffer_size};
+use elsa_machine::machine::{Answer, Event, Items, Plan, Turn, World, run};
 use std::alloc::{AllocError, Global};
 
 #[derive(Clone, Copy)]
@@ -237,6 +237,119 @@ fn schedules_leave_their_worlds(rt: HostRuntime) -> Result<(), AllocError> {
         let world = run(alloc, &plans, &schedule)?;
         assert_eq!(rt; world, world_of(alloc, row)?, "{}", row.name);
     }
+    Ok(())
+}
+
+#[test]
+fn threads_end_in_counted_turns(rt: HostRuntime) -> Result<(), AllocError> {
+    let alloc = rt.alloc();
+    let append = |thread, item| Event::Append { thread, item };
+    let rows = [
+        Row {
+            name: "a peek while another thread holds sees nothing",
+            plans: &[PlanRow::Pusher(&[7]), PlanRow::Pusher(&[9])],
+            turns: &[0, 0, 1, 1, 0, 0, 0, 1, 1, 1, 1],
+            refused: 99,
+            opened: 1,
+            items: &[7, 9],
+            events: &[append(0, 7), append(1, 9)],
+            answers: &[AnswerRow::Pushed(0, 0), AnswerRow::Pushed(1, 1)],
+        },
+        Row {
+            name: "turns of numbers beyond the plans, amid a push",
+            plans: &[PlanRow::Pusher(&[7])],
+            turns: &[1, 0, 2, 0, 1, 0, 1, 0, 99, 0, 1],
+            refused: 99,
+            opened: 1,
+            items: &[7],
+            events: &[append(0, 7)],
+            answers: &[AnswerRow::Pushed(0, 0)],
+        },
+        Row {
+            name: "six turns of a pusher alone, whose length is old and whose buffer is closed",
+            plans: &[PlanRow::Pusher(&[7]), PlanRow::Pusher(&[9, 8, 6])],
+            turns: &[0, 1, 1, 1, 1, 1, 1, 1, 1, 1, 1, 1, 1, 1, 0, 0, 0, 0, 0, 0],
+            refused: 99,
+            opened: 2,
+            items: &[9, 8, 6, 7],
+            events: &[append(1, 9), append(1, 8), append(1, 6), append(0, 7)],
+            answers: &[
+                AnswerRow::Pushed(1, 0),
+                AnswerRow::Pushed(1, 1),
+                AnswerRow::Pushed(1, 2),
+                AnswerRow::Pushed(0, 3),
+            ],
+        },
+        Row {
+            name: "a hold of three turns, amid another thread's",
+            plans: &[PlanRow::Pusher(&[7]), PlanRow::Cloner],
+            turns: &[0, 0, 1, 0, 1, 0, 1, 0],
+            refused: 99,
+            opened: 1,
+            items: &[7],
+            events: &[
+                Event::Look {
+                    thread: 1,
+                    length: 0,
+                },
+                append(0, 7),
+            ],
+            answers: &[AnswerRow::Cloned(1, &[]), AnswerRow::Pushed(0, 0)],
+        },
+    ];
+    for row in &rows {
+        let plans = plans_of(alloc, row.plans)?;
+        let schedule = schedule_of(alloc, row.turns, row.refused)?;
+        let world = run(alloc, &plans, &schedule)?;
+        assert_eq!(rt; world, world_of(alloc, row)?, "{}", row.name);
+    }
+    Ok(())
+}
+
+#[test]
+fn every_plan_is_done_in_rounds_without_memory(rt: HostRuntime) -> Result<(), AllocError> {
+    let alloc = rt.alloc();
+    let plans = plans_of(
+        alloc,
+        &[
+            PlanRow::Pusher(&[7]),
+            PlanRow::Reader(&[0]),
+            PlanRow::Cloner,
+        ],
+    )?;
+    let mut schedule = Vec::new(alloc);
+    for _round in 0..4 {
+        for thread in 0..3 {
+            schedule.push(Turn {
+                thread,
+                memory: false,
+            })?;
+        }
+    }
+    let row = Row {
+        name: "",
+        plans: &[],
+        turns: &[],
+        refused: 0,
+        opened: 0,
+        items: &[],
+        events: &[
+            Event::Look {
+                thread: 1,
+                length: 0,
+            },
+            Event::Look {
+                thread: 2,
+                length: 0,
+            },
+        ],
+        answers: &[
+            AnswerRow::Read(1, 0, None),
+            AnswerRow::Cloned(2, &[]),
+            AnswerRow::Refused(0),
+        ],
+    };
+    assert_eq!(rt; run(alloc, &plans, &schedule)?, world_of(alloc, &row)?);
     Ok(())
 }
 

@@ -1,5 +1,5 @@
 use Rattle.std.proofs.Common.{◌≡◌, ◌++◌, ◌∷◌, [], ◌*◌, ◌+◌, ◌-◌, ◌<◌, ◌^◌, ◌≤◌, ℕ, List, true, false, suc, length, length-append, slice_index_or, drop as drops, refl, ap, sym, ◌∙◌, arith, subst}
-use Rattle.elsa_free.specs.Geometry.{IsAt}
+use Rattle.elsa_machine.specs.Geometry.{IsAt}
 use Rattle.elsa_free.specs.declared.event.Entry.{Entry}
 use Rattle.elsa_free.specs.declared.event.Event.TheVariants.{Took, Put, Copied, Gave, Seat}
 use Rattle.elsa_free.specs.SharedList.{count, entry}
