@@ -7,4 +7,6 @@ mod lock_free_tests;
 #[cfg(test)]
 mod machine_tests;
 #[cfg(test)]
+mod pass_tests;
+#[cfg(test)]
 mod slots_tests;
