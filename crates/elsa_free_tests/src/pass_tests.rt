@@ -1,5 +1,5 @@
 //! What a pass reads of what it has seen, and the calls that return their pass.
-ghost use Rattle.std.specs.Prelude.{◌≡◌};
+ghost use Rattle.std.specs.Prelude.{◌≡◌, IfOk, Some};
 
 use elsa_free::lock_free::{LockFreeFrozenVec, Pass};
 use std::alloc::{AllocError, Allocator, Global};
@@ -140,6 +140,27 @@ fn a_clone_and_a_meeting_hand_out_what_was_seen(rt: HostRuntime) -> Result<(), F
             "of {count}"
         );
     }
+    Ok(())
+}
+
+/// Pushes, and reads the place by the pass that pushed: by the contracts alone the item stands there.
+fn push_and_read<R: Wait>(
+    rt: &R,
+    vector: &LockFreeFrozenVec<u64>,
+    item: u64,
+) -> Result<Option<u64>, AllocError>
+    ensures { IfOk result (λ read. read ≡ Some item) }
+{
+    let (answer, mut pass) = vector.push_with_pass(rt, item);
+    let place = answer?;
+    Ok(vector.get_as(&mut pass, place))
+}
+
+#[test]
+fn a_push_is_read_by_its_pass(rt: HostRuntime) -> Result<(), Fail> {
+    let vector = LockFreeFrozenVec::<u64>::new(rt.alloc())?;
+    assert!(rt; push_to(&rt, &vector, 0, 3));
+    assert_eq!(rt; push_and_read(&rt, &vector, 70), Ok(Some(70)));
     Ok(())
 }
 
