@@ -30,7 +30,7 @@ pub fn buffer_index(place: usize) -> usize
     ensures only { (buffer slot : ℕ) → IsAt place buffer slot → buffer ≡ result }
     ensures openable { result < 31 }
 {
-    (place + 1).ilog2() as usize / 2
+    ((65 - (place + 1).leading_zeros()) / 2 - 1) as usize
 }
 
 /// The buffer in which the place lies, and its slot there, counted from 0: each place has one slot, and each slot one
