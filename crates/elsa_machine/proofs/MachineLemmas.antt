@@ -8,6 +8,7 @@ pub mod Kept
 pub mod Left
 pub mod Moments
 pub mod Places
+pub mod Promises
 pub mod Pushers
 pub mod Readers
 pub mod Refusals

@@ -31,7 +31,7 @@ use Rattle.std.proofs.lemmas.Option.{slice_get_within}
 use Rattle.elsa_machine.proofs.MachineLemmas.Left.{all_left, left_turn, left_set}
 
 -- how many turns a holder still needs
-abbrev pub hold_left : World → Phase → ℕ
+abbrev pub hold_left : {A : Type 0} → World A → Phase → ℕ
 hold_left w Ready = 0
 hold_left w (Peeked n) = 0
 hold_left w (Acquired n) = if nat_lt n (slots_before w.opened) then 2 else 3
@@ -53,7 +53,7 @@ no_more false true h = omega arith
 no_more false false h = omega arith
 
 -- a holder needs three turns at most, and one at least
-pub hold_few : (w : World) (phase : Phase) → hold_left w phase ≤ 3
+pub hold_few : {A : Type 0} (w : World A) (phase : Phase) → hold_left w phase ≤ 3
 hold_few w Ready = omega arith
 hold_few w (Peeked n) = omega arith
 hold_few w (Acquired n) = (two_or_three (nat_lt n (slots_before w.opened))).1
@@ -62,7 +62,7 @@ hold_few w Denied = omega arith
 hold_few w (Looked n) = omega arith
 hold_few w Done = omega arith
 
-hold_some : (w : World) (phase : Phase) → IsHolding phase → 0 < hold_left w phase
+hold_some : {A : Type 0} (w : World A) (phase : Phase) → IsHolding phase → 0 < hold_left w phase
 hold_some w Ready k = absurd k
 hold_some w (Peeked n) k = absurd k
 hold_some w (Acquired n) k = let h = (two_or_three (nat_lt n (slots_before w.opened))).0 in omega (arith, h)
@@ -76,7 +76,7 @@ slots_mono : (o p : ℕ) → o ≤ p → slots_before o ≤ slots_before p
 slots_mono o p l = let a = before_power o in let b = before_power p in let c = four_mono o p l in omega (arith, a, b, c)
 
 -- a holder needs no more turns where more buffers are open
-hold_down : (v w : World) (phase : Phase) → v.opened ≤ w.opened → hold_left w phase ≤ hold_left v phase
+hold_down : {A : Type 0} (v w : World A) (phase : Phase) → v.opened ≤ w.opened → hold_left w phase ≤ hold_left v phase
 hold_down v w Ready l = omega arith
 hold_down v w (Peeked n) l = omega arith
 hold_down v w (Acquired n) l = no_more (nat_lt n (slots_before v.opened)) (nat_lt n (slots_before w.opened))
@@ -86,7 +86,7 @@ hold_down v w Denied l = omega arith
 hold_down v w (Looked n) l = omega arith
 hold_down v w Done l = omega arith
 
-opened_up : (plan : Plan) (me : ℕ) (memory : Bool) (w : World) (t : Thread) (after : Moved) → Transition me memory w t plan after → w.opened ≤ after.world.opened
+opened_up : {A : Type 0} (plan : Plan A) (me : ℕ) (memory : Bool) (w : World A) (t : Thread A) (after : Moved A) → Transition me memory w t plan after → w.opened ≤ after.world.opened
 opened_up plan me memory w t _ (stays i) = omega arith
 opened_up plan me memory w t _ (peeks p e f) = omega arith
 opened_up plan me memory w t _ (acquires p e b) = omega arith
@@ -106,11 +106,11 @@ opened_up plan me memory w t _ (clones p m b) = omega arith
 opened_up plan me memory w t _ (clone_fails p m) = omega arith
 
 -- a turn opens buffers and closes none
-pub turned_opened : (plans : List Plan) (m : Machine) (turn : Turn) → m.world.opened ≤ (turned plans m turn).world.opened
+pub turned_opened : {A : Type 0} (plans : List (Plan A)) (m : Machine A) (turn : Turn) → m.world.opened ≤ (turned plans m turn).world.opened
 turned_opened plans m turn = turned_cases (λ n. m.world.opened ≤ n.world.opened) plans m turn (omega arith) (λ plan t e f. opened_up plan turn.thread turn.memory m.world t _ (transition plan turn.thread turn.memory m.world t))
 
 -- a holder is a pusher with a next item
-pub holder_plan : (plan : Plan) (me : ℕ) (w : World) (t : Thread) (phase : Phase) → t.phase ≡ phase → ThreadOk plan me w t → IsHolding phase → (items : List ℕ) × (plan ≡ Pusher items)
+pub holder_plan : {A : Type 0} (plan : Plan A) (me : ℕ) (w : World A) (t : Thread A) (phase : Phase) → t.phase ≡ phase → ThreadOk plan me w t → IsHolding phase → (items : List ℕ) × (plan ≡ Pusher items)
 holder_plan (Pusher items) me w t phase p o k = (items, refl)
 holder_plan (Reader is) me w t Ready p o k = absurd k
 holder_plan (Reader is) me w t (Peeked n) p o k = absurd k
@@ -128,7 +128,7 @@ holder_plan Cloner me w t (Looked n) p o k = absurd k
 holder_plan Cloner me w t Done p o k = absurd k
 
 -- a holder always has something to do
-hold_busy : (w : World) (item : Option ℕ) (phase : Phase) → IsPushing item phase → IsHolding phase → IsPusherIdle item w phase → ⊥
+hold_busy : {A : Type 0} (w : World A) (item : Option ℕ) (phase : Phase) → IsPushing item phase → IsHolding phase → IsPusherIdle item w phase → ⊥
 hold_busy w item Ready q k i = k
 hold_busy w item (Peeked n) q k i = k
 hold_busy w item (Acquired n) q k i = subst (λ z. IsPusherIdle z w (Acquired n)) q.1 i
@@ -138,7 +138,7 @@ hold_busy w item (Looked n) q k i = k
 hold_busy w item Done q k i = k
 
 -- the place of a holder lies in the next buffer, where it isn't in an open one
-pub next_open : (w : World) (me n : ℕ) (item : Option ℕ) (phase : Phase) → phase ≡ Acquired n → WorldOk w → HolderOk w me item phase → nat_lt n (slots_before w.opened) ≡ false → nat_lt n (slots_before (w.opened + 1)) ≡ true
+pub next_open : {A : Type 0} (w : World A) (me n : ℕ) (item : Option ℕ) (phase : Phase) → phase ≡ Acquired n → WorldOk w → HolderOk w me item phase → nat_lt n (slots_before w.opened) ≡ false → nat_lt n (slots_before (w.opened + 1)) ≡ true
 next_open w me n item phase e ok h b =
     let x = (finds w me n item phase e ok h).is_next (ltb-false n (slots_before w.opened) b) in
     let y = before_power w.opened in
@@ -146,12 +146,12 @@ next_open w me n item phase e ok h b =
     lt-ltb n (slots_before (w.opened + 1)) (omega (arith, x.begins, y, z))
 
 -- a holder's turn ends its hold, or brings it one turn nearer
-pub record GoesOn (me : ℕ) (w : World) (t : Thread) (after : Moved) : Type 0 where
+pub record GoesOn {A : Type 0} (me : ℕ) (w : World A) (t : Thread A) (after : Moved A) : Type 0 where
   pub next_is : after.thread.next ≡ t.next
   pub holding : IsHolding after.thread.phase
   pub nearer : suc (hold_left after.world after.thread.phase) ≤ hold_left w t.phase
 
-hold_step : (me : ℕ) (memory : Bool) (w : World) (t : Thread) (items : List ℕ) (after : Moved) → WorldOk w → HolderOk w me (slice_get items t.next) t.phase → IsPushing (slice_get items t.next) t.phase → IsHolding t.phase →
+hold_step : {A : Type 0} (me : ℕ) (memory : Bool) (w : World A) (t : Thread A) (items : List ℕ) (after : Moved A) → WorldOk w → HolderOk w me (slice_get items t.next) t.phase → IsPushing (slice_get items t.next) t.phase → IsHolding t.phase →
     Transition me memory w t (Pusher items) after → ((after.thread.next ≡ t.next + 1) × (after.world.held ≡ None) × (t.next < length items)) ⊎ GoesOn me w t after
 hold_step me memory w t items _ ok h q k (stays i) = absurd (hold_busy w (slice_get items t.next) t.phase q k i)
 hold_step me memory w t _ _ ok h q k (peeks p e f) = absurd (subst IsHolding p k)
@@ -162,7 +162,7 @@ hold_step me memory w t _ _ ok h q k (writes {items} {x} {n} p e b) =
     inr (record { next_is = refl; holding = tt; nearer = omega (arith, l) })
 hold_step me memory w t _ _ ok h q k (opens {items} {x} {n} p e b c) =
     let l : hold_left w t.phase ≡ 3 = ap (hold_left w) p ∙ ap (λ z. if z then 2 else 3) b in
-    let v : World = record w { opened = w.opened + 1 } in
+    let v : World _ = record w { opened = w.opened + 1 } in
     let r : hold_left v t.phase ≡ 2 = ap (hold_left v) p ∙ ap (λ z. if z then 2 else 3) (next_open w me n (slice_get items t.next) t.phase p ok h b) in
     inr (record { next_is = refl; holding = k; nearer = omega (arith, l, r) })
 hold_step me memory w t _ _ ok h q k (denies {items} {x} {n} p e b c) =
@@ -180,17 +180,17 @@ pub turns_others : (me : ℕ) (turn : Turn) (rest : List Turn) → (turn.thread 
 turns_others me turn rest ne = ap (λ b. if b then suc (turns_of me rest) else turns_of me rest) (eqb_other turn.thread me ne)
 
 -- the end of a hold, so many turns on
-pub record HoldEnd (plans : List Plan) (m : Machine) (me : ℕ) (t : Thread) (rest : List Turn) : Type 0 where
+pub record HoldEnd {A : Type 0} (plans : List (Plan A)) (m : Machine A) (me : ℕ) (t : Thread A) (rest : List Turn) : Type 0 where
   pub turns : ℕ
   pub in_time : turns_of me (take turns rest) ≤ hold_left m.world t.phase
   pub is_free : (fold (turned plans) m (take turns rest)).world.held ≡ None
-  pub thread : Thread
+  pub thread : Thread A
   pub is_there : slice_get (fold (turned plans) m (take turns rest)).threads me ≡ Some thread
   pub next_is : thread.next ≡ t.next + 1
   pub fewer : all_left plans (fold (turned plans) m (take turns rest)).threads < all_left plans m.threads
 
 -- a hold ends within the turns that it needs
-pub hold_ends : (plans : List Plan) (rest : List Turn) (m : Machine) (me : ℕ) (items : List ℕ) (t : Thread) → Sound plans m → slice_get plans me ≡ Some (Pusher items) → slice_get m.threads me ≡ Some t → IsHolding t.phase →
+pub hold_ends : {A : Type 0} (plans : List (Plan A)) (rest : List Turn) (m : Machine A) (me : ℕ) (items : List ℕ) (t : Thread A) → Sound plans m → slice_get plans me ≡ Some (Pusher items) → slice_get m.threads me ≡ Some t → IsHolding t.phase →
     hold_left m.world t.phase ≤ turns_of me rest → HoldEnd plans m me t rest
 hold_ends plans [] m me items t s pe e k n = absurd (omega (arith, n, hold_some m.world t.phase k))
 hold_ends plans (turn ∷ rest) m me items t s pe e k n =
@@ -247,7 +247,7 @@ hold_ends plans (turn ∷ rest) m me items t s pe e k n =
     ]
 
 -- the thread that holds is a pusher's
-pub holder : (plans : List Plan) (m : Machine) (me : ℕ) → Sound plans m → m.world.held ≡ Some me → (items : List ℕ) × ((t : Thread) × (slice_get plans me ≡ Some (Pusher items)) × (slice_get m.threads me ≡ Some t) × IsHolding t.phase)
+pub holder : {A : Type 0} (plans : List (Plan A)) (m : Machine A) (me : ℕ) → Sound plans m → m.world.held ≡ Some me → (items : List ℕ) × ((t : Thread A) × (slice_get plans me ≡ Some (Pusher items)) × (slice_get m.threads me ≡ Some t) × IsHolding t.phase)
 holder plans m me s h =
     let t = entry_at m.threads me (omega (arith, s.sizes, s.holder me h)) in
     let p = plan_of plans m me t.0 s t.1 in
@@ -256,7 +256,7 @@ holder plans m me s h =
     (i.0, (t.0, p.1 ∙ ap Some i.1, t.1, k))
 
 -- after every schedule, a hold ends at the third turn of its thread
-pub holds_end : (plans : List Plan) (front rest : List Turn) → HoldsEnd plans front rest
+pub holds_end : {A : Type 0} (plans : List (Plan A)) (front rest : List Turn) → HoldsEnd plans front rest
 holds_end plans front rest = λ me h three.
     let m = machine_of plans front in
     let s = sound plans front in
