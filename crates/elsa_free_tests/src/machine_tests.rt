@@ -380,9 +380,9 @@ fn grown<A: Allocator + Copy>(
 }
 
 /// Whether the run is refused with this request refused, and ends as it must with the next attempt.
-fn is_refused_once(
-    budget: &Budget<Global>,
-    plans: &[Plan<&Budget<Global>>],
+fn is_refused_once<'a>(
+    budget: &'a Budget<Global>,
+    plans: &[Plan<&'a Budget<Global>>],
     schedule: &[Turn],
     number: u64,
 ) -> bool {

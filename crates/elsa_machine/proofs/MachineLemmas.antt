@@ -2,6 +2,7 @@
 pub mod Cloners
 pub mod ClonesEnd
 pub mod Entries
+pub mod Free
 pub mod Growth
 pub mod Holds
 pub mod Kept

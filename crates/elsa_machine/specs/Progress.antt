@@ -76,10 +76,10 @@ abbrev pub PlansEnd : {A : Type 0} → List (Plan A) → List Turn → List Turn
 PlansEnd plans front rest = (goes : ℕ → Bool) → ((thread : ℕ) → (world_of plans front).held ≡ Some thread → goes thread ≡ true) → All (λ turn. goes turn.thread ≡ true) rest →
     HasRounds goes plans (rounds_for plans) rest → (thread : ℕ) (plan : Plan _) → slice_get plans thread ≡ Some plan → goes thread ≡ true → IsDone thread plan (world_of plans (front ++ rest))
 
--- after the turns `front`, with the turns `rest` to come
-pub record ThreadsEnd {A : Type 0} (plans : List (Plan A)) (front rest : List Turn) : Type 0 where
-  pub holds_end : HoldsEnd plans front rest
-  pub pushes_end : PushesEnd plans front
-  pub reads_end : ReadsEnd plans front rest
-  pub clones_end : ClonesEnd plans front
-  pub plans_end : PlansEnd plans front rest
+-- after the first k turns of a schedule, with the rest to come
+pub record ThreadsEnd {A : Type 0} (plans : List (Plan A)) (schedule : List Turn) (k : ℕ) : Type 0 where
+  pub holds_end : HoldsEnd plans (take k schedule) (drop k schedule)
+  pub pushes_end : PushesEnd plans (take k schedule)
+  pub reads_end : ReadsEnd plans (take k schedule) (drop k schedule)
+  pub clones_end : ClonesEnd plans (take k schedule)
+  pub plans_end : PlansEnd plans (take k schedule) (drop k schedule)

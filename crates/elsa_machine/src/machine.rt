@@ -3,7 +3,7 @@
 //! Each turn is one step of one thread: an atomic step on the word that holds the length and the lock, or a plain step on
 //! a buffer or a slot. [`run`] answers the world that a schedule leaves, and its contract says what holds of the world of
 //! every schedule: so it holds at each moment of each run, since every beginning of a schedule is a schedule.
-ghost use Rattle.std.specs.Prelude.{◌≡◌, ℕ, drop, IfOk, take};
+ghost use Rattle.std.specs.Prelude.{◌≡◌, ℕ, IfOk, take};
 ghost use Rattle.elsa_machine.specs.Machine.{opening_threads, world_of};
 ghost use Rattle.elsa_machine.specs.Progress.{ThreadsEnd};
 ghost use Rattle.elsa_machine.specs.Turns.{IsSoundMoment};
@@ -109,7 +109,7 @@ pub fn run<A: Allocator + Copy>(
 
     // Each moment of the schedule, and when holds, pushes, reads, clones and all plans end.
     ensures moments { IfOk result (λ _. (k : ℕ) → IsSoundMoment plans.now (take k schedule.now)) }
-    ensures ends { IfOk result (λ _. (k : ℕ) → ThreadsEnd plans.now (take k schedule.now) (drop k schedule.now)) }
+    ensures ends { IfOk result (λ _. (k : ℕ) → ThreadsEnd plans.now schedule.now k) }
 {
     let world = world_after(alloc, plans, schedule)?;
     Ok(world)

@@ -67,6 +67,7 @@ pub record ClonerKnows {A : Type 0} (me : ℕ) (w : World A) (t : Thread A) : Ty
 pub cloner_grown : {A : Type 0} (me you : ℕ) (v w : World A) (t : Thread A) → (you ≡ me → ⊥) → Grown me v w → ClonerKnows you v t → ClonerKnows you w t
 cloner_grown me you v w t ne g h = record { knows = rw (g.told you ne, g.seen you ne, g.list_is) (cloner_up (list_of v.events) g.more v.length w.length (looks_of you v.events) (answers_of you v.answers) t.copied t.phase h.knows) }
 
+-- what a cloner knows, at the phase that it is in
 pub at_cloner : {A : Type 0} (me : ℕ) (w : World A) (t : Thread A) (phase : Phase) → t.phase ≡ phase → ClonerKnows me w t → ClonerOk (list_of w.events) w.length (looks_of me w.events) (answers_of me w.answers) t.copied phase
 at_cloner me w t phase e h = subst (ClonerOk (list_of w.events) w.length (looks_of me w.events) (answers_of me w.answers) t.copied) e h.knows
 

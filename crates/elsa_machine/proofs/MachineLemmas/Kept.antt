@@ -16,7 +16,6 @@ use Rattle.elsa_machine.specs.declared.machine.turns.Thread.{Thread}
 use Rattle.elsa_machine.specs.Geometry.{slots_before}
 use Rattle.elsa_machine.specs.Machine.{slot_item, Moved, with_event, with_answer}
 use Rattle.elsa_machine.specs.Worlds.{list_of, AreLooksRight, placed, HasWritesInOrder}
-use Rattle.elsa_machine.specs.AtomicSteps.{}
 use Rattle.elsa_machine.proofs.GeometryLemmas.Powers.{before_power}
 use Rattle.elsa_machine.proofs.MachineLemmas.Rules.{Transition, stays, peeks, acquires, loses, writes, opens, denies, publishes, refuses, looks, misses, reads, clones_none, clone_looks, copies, clones, clone_fails}
 
@@ -128,14 +127,6 @@ looked w me ok = (record { length_is = refl; held_is = refl; opened_is = refl; w
 
 own_at : {A : Type 0} (w : World A) (me : ℕ) (plan : Plan A) (next : ℕ) (phase was : Phase) → was ≡ phase → HolderOk w me (next_item plan next) was → HolderOk w me (next_item plan next) phase
 own_at w me plan next phase was e h = subst (HolderOk w me (next_item plan next)) e h
-
--- a turn that leaves all but answers and looks, by a thread that neither held nor holds
-pub told : {A : Type 0} (me : ℕ) (plan : Plan A) (w : World A) (after : Moved A) → Same w after.world → AreLooksRight 0 after.world.events → WorldOk w → HolderOk after.world me (next_item plan after.thread.next) after.thread.phase → Kept me plan w after
-told me plan w after s l ok h = record {
-  world = same_world w after.world s l ok;
-  own = h;
-  others = λ you item phase ne k. same_holder w after.world you item phase s k;
-}
 
 same_answer : {A : Type 0} (w : World A) (me : ℕ) → Same w w
 same_answer w me = record { length_is = refl; held_is = refl; opened_is = refl; writes_are = refl; list_is = refl }

@@ -43,6 +43,7 @@ holding w me item Done h k = absurd k
 pub plan_of : {A : Type 0} (plans : List (Plan A)) (m : Machine A) (i : ℕ) (t : Thread A) → Sound plans m → slice_get m.threads i ≡ Some t → (plan : Plan A) × (slice_get plans i ≡ Some plan)
 plan_of plans m i t s e = entry_at plans i (omega (arith, s.sizes, slice_get_within m.threads i t e))
 
+-- a thread that `held` tells is in a phase of a holder
 pub held_by : {A : Type 0} (w : World A) (me : ℕ) (item : Option ℕ) (phase : Phase) → HolderOk w me item phase → w.held ≡ Some me → IsHolding phase
 held_by w me item Ready h k = absurd (h k)
 held_by w me item (Peeked n) h k = absurd (h k)
@@ -299,6 +300,7 @@ steps_atomic plans schedule = λ turn plan t pe te.
 below_open : (n b j o : ℕ) → IsAt n b j → n < slots_before o → b < o
 below_open n b j o at less = lt_of_not-le (λ (le : o ≤ b). let p = four_mono o b le in let q = before_power o in let x = at.begins in omega arith)
 
+-- a thread that is to write finds its buffer
 pub finds : {A : Type 0} (w : World A) (me n : ℕ) (item : Option ℕ) (phase : Phase) → phase ≡ Acquired n → WorldOk w → HolderOk w me item phase → FindsItsBuffer w n
 finds w me n item phase e ok h =
     let k = subst (HolderOk w me item) e h in

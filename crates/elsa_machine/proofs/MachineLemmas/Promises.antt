@@ -1,5 +1,5 @@
 -- All that is promised of each schedule.
-use Rattle.std.proofs.Common.{List}
+use Rattle.std.proofs.Common.{ℕ, List, drop, take}
 use Rattle.elsa_machine.specs.declared.machine.Plan.{Plan}
 use Rattle.elsa_machine.specs.declared.machine.Turn.{Turn}
 use Rattle.elsa_machine.specs.Machine.{world_of}
@@ -54,11 +54,11 @@ sound_moment plans schedule = record {
 }
 
 -- of the ends
-pub all_end : {A : Type 0} (plans : List (Plan A)) (front rest : List Turn) → ThreadsEnd plans front rest
-all_end plans front rest = record {
-  holds_end = holds.holds_end plans front rest;
-  pushes_end = solo.pushes_end plans front;
-  reads_end = moments.reads_end plans front rest;
-  clones_end = clones_end.clones_end plans front;
-  plans_end = rounds.plans_end plans front rest;
+pub all_end : {A : Type 0} (plans : List (Plan A)) (schedule : List Turn) (k : ℕ) → ThreadsEnd plans schedule k
+all_end plans schedule k = record {
+  holds_end = holds.holds_end plans (take k schedule) (drop k schedule);
+  pushes_end = solo.pushes_end plans (take k schedule);
+  reads_end = moments.reads_end plans (take k schedule) (drop k schedule);
+  clones_end = clones_end.clones_end plans (take k schedule);
+  plans_end = rounds.plans_end plans (take k schedule) (drop k schedule);
 }

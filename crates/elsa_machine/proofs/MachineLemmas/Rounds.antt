@@ -1,9 +1,8 @@
 -- Where each thread that goes on has turns enough, it is done with its plan. In six rounds some pusher has one more
 -- outcome: a free lock is taken within three, and a lock that is held is released within three.
-use Rattle.std.proofs.Common.{ℕ, zero, suc, ◌+◌, ◌*◌, ◌<◌, ◌≤◌, ◌≡◌, ◌⊎◌, Bool, true, false, ◌==◌, List, [], ◌∷◌, ◌++◌, length, Option, Some, None, slice_get, take, drop, refl, arith, inl, inr, ap, sym, ◌∙◌, subst, append_assoc, true≢false, zero-add, take-append-drop}
-use Rattle.std.specs.Bool.{if◌then◌else◌}
+use Rattle.std.proofs.Common.{ℕ, zero, suc, ◌+◌, ◌*◌, ◌<◌, ◌≤◌, ◌≡◌, ◌⊎◌, Bool, true, List, [], ◌∷◌, ◌++◌, length, Option, Some, None, slice_get, take, drop, refl, arith, inl, inr, ap, sym, ◌∙◌, subst, append_assoc, zero-add, take-append-drop}
 use Rattle.std.specs.List.{fold}
-use Rattle.std.specs.Prelude.{is_none, All}
+use Rattle.std.specs.Prelude.{All}
 use Rattle.std.proofs.lemmas.List.Sums.{fold-append}
 use Rattle.std.proofs.lemmas.List.Elements.{All-take, All-drop, All-append}
 use Rattle.std.proofs.Math.Seq.{take-add, drop-drop}
@@ -21,130 +20,17 @@ use Rattle.elsa_machine.specs.Machine.{Moved, thread_turn, Machine, turned, open
 use Rattle.elsa_machine.specs.Worlds.{list_of, answers_of, looks_of, AreOutcomes, AreReads}
 use Rattle.elsa_machine.specs.Turns.{turns_of}
 use Rattle.elsa_machine.specs.Progress.{HasRounds, rounds_of, rounds_for, IsDone, PlansEnd}
-use Rattle.elsa_machine.proofs.MachineLemmas.Rules.{IsPusherIdle, IsLookerIdle, Transition, transition, stays, peeks, acquires, loses, writes, opens, denies, publishes, refuses, looks, misses, reads, clones_none, clone_looks, copies, clones, clone_fails}
-use Rattle.elsa_machine.proofs.MachineLemmas.Kept.{HolderOk, next_item, HeldFrom, held_from}
-use Rattle.elsa_machine.proofs.MachineLemmas.Growth.{eqb_same, entry_at}
-use Rattle.elsa_machine.proofs.MachineLemmas.Pushers.{IsPushing}
+use Rattle.elsa_machine.proofs.MachineLemmas.Rules.{IsLookerIdle, Transition, transition, stays, looks, misses, reads}
+use Rattle.elsa_machine.proofs.MachineLemmas.Kept.{HeldFrom, held_from}
+use Rattle.elsa_machine.proofs.MachineLemmas.Growth.{entry_at}
 use Rattle.elsa_machine.proofs.MachineLemmas.Readers.{LooksDue, ReaderOk}
 use Rattle.elsa_machine.proofs.MachineLemmas.Cloners.{ClonerOk}
 use Rattle.elsa_machine.proofs.MachineLemmas.Runs.{Sound, same_or_not, turned_cases, sound_turned, sound_opening, sound_run, sound}
-use Rattle.elsa_machine.proofs.MachineLemmas.Moments.{turned_is, turned_other, run_up, own_turn}
+use Rattle.elsa_machine.proofs.MachineLemmas.Moments.{turned_other, run_up, own_turn}
 use Rattle.elsa_machine.proofs.MachineLemmas.Left.{all_left, left_part, left_run}
 use Rattle.elsa_machine.proofs.MachineLemmas.Holds.{hold_few, turns_mine, turns_others, hold_ends, holder}
-use Rattle.elsa_machine.proofs.MachineLemmas.Solo.{lost}
 use Rattle.elsa_machine.proofs.MachineLemmas.ClonesEnd.{HasHadTurns, cloner_after}
-
--- how many turns of a pusher with an item left a free lock stays free at most, where nobody else takes it
-abbrev pub free_left : {A : Type 0} → World A → Phase → ℕ
-free_left w Ready = 2
-free_left w (Peeked n) = if w.length == n then 1 else 3
-free_left w (Acquired n) = 1
-free_left w (Written n) = 1
-free_left w Denied = 1
-free_left w (Looked n) = 1
-free_left w Done = 1
-
-one_or_three : (b : Bool) → (0 < (if b then 1 else 3)) × ((if b then 1 else 3) ≤ 3)
-one_or_three true = (omega arith, omega arith)
-one_or_three false = (omega arith, omega arith)
-
-free_few : {A : Type 0} (w : World A) (phase : Phase) → (0 < free_left w phase) × (free_left w phase ≤ 3)
-free_few w Ready = (omega arith, omega arith)
-free_few w (Peeked n) = one_or_three (w.length == n)
-free_few w (Acquired n) = (omega arith, omega arith)
-free_few w (Written n) = (omega arith, omega arith)
-free_few w Denied = (omega arith, omega arith)
-free_few w (Looked n) = (omega arith, omega arith)
-free_few w Done = (omega arith, omega arith)
-
--- where nobody holds, a pusher with an item left has something to do
-free_busy : {A : Type 0} (w : World A) (me : ℕ) (item : Option ℕ) (phase : Phase) (x : ℕ) → w.held ≡ None → IsPushing item phase → IsPusherIdle (Some x) w phase → ⊥
-free_busy w me item Ready x f q i = true≢false (sym (ap is_none f) ∙ i)
-free_busy w me item (Peeked n) x f q i = i
-free_busy w me item (Acquired n) x f q i = i
-free_busy w me item (Written n) x f q i = i
-free_busy w me item Denied x f q i = i
-free_busy w me item (Looked n) x f q i = q
-free_busy w me item Done x f q i = q
-
--- its turn takes the lock, or brings it nearer to that
-free_step : {A : Type 0} (me : ℕ) (memory : Bool) (w : World A) (t : Thread A) (items : List ℕ) (x : ℕ) (after : Moved A) → HolderOk w me (slice_get items t.next) t.phase → IsPushing (slice_get items t.next) t.phase → slice_get items t.next ≡ Some x → w.held ≡ None →
-    Transition me memory w t (Pusher items) after → after.world.held ≡ None → (after.thread.next ≡ t.next) × (suc (free_left after.world after.thread.phase) ≤ free_left w t.phase)
-free_step me memory w t items x _ h q ix f (stays i) g = absurd (free_busy w me (slice_get items t.next) t.phase x f q (subst (λ z. IsPusherIdle z w t.phase) ix i))
-free_step me memory w t _ x _ h q ix f (peeks p e b) g =
-    let l : free_left w t.phase ≡ 2 = ap (free_left w) p in
-    let r : free_left w (Peeked w.length) ≡ 1 = ap (λ z. if z then 1 else 3) (eqb_same w.length) in
-    (refl, omega (arith, l, r))
-free_step me memory w t _ x _ h q ix f (acquires p e b) g = cc
-free_step me memory w t _ x _ h q ix f (loses {items} {x = y} {n} p e b) g =
-    let l : free_left w t.phase ≡ 3 = ap (free_left w) p ∙ ap (λ z. if z then 1 else 3) (lost w.held w.length n f b) in
-    (refl, omega (arith, l))
-free_step me memory w t _ x _ h q ix f (writes {items} p e b) g = absurd (let k = (subst (HolderOk w me (slice_get items t.next)) p h).0 in cc)
-free_step me memory w t _ x _ h q ix f (opens {items} p e b c) g = absurd (let k = (subst (HolderOk w me (slice_get items t.next)) p h).0 in cc)
-free_step me memory w t _ x _ h q ix f (denies {items} p e b c) g = absurd (let k = (subst (HolderOk w me (slice_get items t.next)) p h).0 in cc)
-free_step me memory w t _ x _ h q ix f (publishes {items} p e) g = absurd (let k = (subst (HolderOk w me (slice_get items t.next)) p h).0 in cc)
-free_step me memory w t _ x _ h q ix f (refuses {items} p e) g = absurd (let k = (subst (HolderOk w me (slice_get items t.next)) p h).0 in cc)
-
--- while nobody holds, a turn leaves the length
-free_length : {A : Type 0} (plan : Plan A) (me : ℕ) (memory : Bool) (w : World A) (t : Thread A) (after : Moved A) → HolderOk w me (next_item plan t.next) t.phase → w.held ≡ None → Transition me memory w t plan after → after.world.length ≡ w.length
-free_length plan me memory w t _ h f (stays i) = refl
-free_length plan me memory w t _ h f (peeks p e b) = refl
-free_length plan me memory w t _ h f (acquires p e b) = refl
-free_length plan me memory w t _ h f (loses p e b) = refl
-free_length plan me memory w t _ h f (writes p e b) = refl
-free_length plan me memory w t _ h f (opens p e b c) = refl
-free_length plan me memory w t _ h f (denies p e b c) = refl
-free_length plan me memory w t _ h f (publishes {items} p e) = absurd (let k = (subst (HolderOk w me (slice_get items t.next)) p h).0 in cc)
-free_length plan me memory w t _ h f (refuses p e) = refl
-free_length plan me memory w t _ h f (looks p e b) = refl
-free_length plan me memory w t _ h f (misses p e b) = refl
-free_length plan me memory w t _ h f (reads p e) = refl
-free_length plan me memory w t _ h f (clones_none p b) = refl
-free_length plan me memory w t _ h f (clone_looks p b) = refl
-free_length plan me memory w t _ h f (copies p m b) = refl
-free_length plan me memory w t _ h f (clones p m b) = refl
-free_length plan me memory w t _ h f (clone_fails p m) = refl
-
-free_left_at : {A : Type 0} (v w : World A) (phase : Phase) → v.length ≡ w.length → free_left v phase ≡ free_left w phase
-free_left_at v w Ready e = refl
-free_left_at v w (Peeked n) e = ap (λ l. if l == n then 1 else 3) e
-free_left_at v w (Acquired n) e = refl
-free_left_at v w (Written n) e = refl
-free_left_at v w Denied e = refl
-free_left_at v w (Looked n) e = refl
-free_left_at v w Done e = refl
-
--- a free lock is taken, by whomever, before a pusher with an item left has had these turns
-is_taken : {A : Type 0} (plans : List (Plan A)) (rest : List Turn) (m : Machine A) (me : ℕ) (items : List ℕ) (t : Thread A) (x : ℕ) → Sound plans m → slice_get plans me ≡ Some (Pusher items) → slice_get m.threads me ≡ Some t → slice_get items t.next ≡ Some x →
-    m.world.held ≡ None → free_left m.world t.phase ≤ turns_of me rest → (turns : ℕ) × ((you : ℕ) × ((fold (turned plans) m (take turns rest)).world.held ≡ Some you))
-is_taken plans [] m me items t x s pe e ix f n = let h = (free_few m.world t.phase).0 in absurd (omega (arith, h, n))
-is_taken plans (turn ∷ rest) m me items t x s pe e ix f n =
-    let m1 = turned plans m turn in
-    let s1 = sound_turned plans m turn s in
-    let G : Type 0 = (turns : ℕ) × ((you : ℕ) × ((fold (turned plans) m (take turns (turn ∷ rest))).world.held ≡ Some you)) in
-    let F : Option ℕ → Type 0 = λ h. m1.world.held ≡ h → G in
-    (elim m1.world.held as F [
-      | Some you ↦ λ g. (1, (you, g))
-      | None ↦ λ g. elim (same_or_not turn.thread me) [
-        | inr ne ↦
-            let c = turns_others me turn rest ne in
-            let l : m1.world.length ≡ m.world.length = turned_cases (λ z. z.world.length ≡ m.world.length) plans m turn refl (λ plan u a b. free_length plan turn.thread turn.memory m.world u _ (s.threads turn.thread plan u a b) f (transition plan turn.thread turn.memory m.world u)) in
-            let d = free_left_at m1.world m.world t.phase l in
-            let r = is_taken plans rest m1 me items t x s1 pe (turned_other plans m turn me (λ q. ne (sym q)) ∙ e) ix g (omega (arith, c, d, n)) in
-            (suc r.0, (r.1.0, r.1.1))
-        | inl q ↦
-            let c = turns_mine me turn rest q in
-            let te : slice_get m.threads turn.thread ≡ Some t = subst (λ j. slice_get m.threads j ≡ Some t) (sym q) e in
-            let pf : slice_get plans turn.thread ≡ Some (Pusher items) = subst (λ j. slice_get plans j ≡ Some (Pusher items)) (sym q) pe in
-            let a = thread_turn (Pusher items) turn.thread turn.memory m.world t in
-            let w : m1.world ≡ a.world = ap (λ z. z.world) (turned_is plans m turn (Pusher items) t pf te) in
-            let there : slice_get m1.threads me ≡ Some a.thread = subst (λ j. slice_get m1.threads j ≡ Some a.thread) q (own_turn plans m turn (Pusher items) t pf te) in
-            let st = free_step turn.thread turn.memory m.world t items x a (s.threads turn.thread (Pusher items) t pf te) (s.told turn.thread (Pusher items) t pf te).pushing ix f (transition (Pusher items) turn.thread turn.memory m.world t) (ap (λ z. z.held) (sym w) ∙ g) in
-            let l : suc (free_left m1.world a.thread.phase) ≤ free_left m.world t.phase = subst (λ z. suc (free_left z a.thread.phase) ≤ free_left m.world t.phase) (sym w) st.1 in
-            let r = is_taken plans rest m1 me items a.thread x s1 pe there (ap (slice_get items) st.0 ∙ ix) g (omega (arith, c, l, n)) in
-            (suc r.0, (r.1.0, r.1.1))
-      ]
-    ]) refl
+use Rattle.elsa_machine.proofs.MachineLemmas.Free.{free_few, is_taken}
 
 -- the turns of a thread in two parts of a schedule
 pub turns_append : (me : ℕ) (xs ys : List Turn) → turns_of me (xs ++ ys) ≡ turns_of me xs + turns_of me ys

@@ -13,7 +13,6 @@ use Rattle.elsa_machine.specs.declared.machine.turns.Phase.TheVariants.{Ready, P
 use Rattle.elsa_machine.specs.declared.machine.turns.Thread.{Thread}
 use Rattle.elsa_machine.specs.Machine.{slot_item, Moved, thread_turn, Machine, put, turn_at, turned, opening_thread, opening, machine_of, world_of, CanPublish, IsSafe}
 use Rattle.elsa_machine.specs.Worlds.{list_of, HasRightHistory, Grows, placed, IsAtMostOne, HasWritesInOrder, AreItemsFinal, AreWrittenOnce, HasFewSlots, ArePushesRight, AreReadsRight, AreClonesRight, IsToldRight}
-use Rattle.elsa_machine.specs.AtomicSteps.{}
 use Rattle.elsa_machine.proofs.GeometryLemmas.Powers.{four_mono, before_power}
 use Rattle.elsa_machine.proofs.MachineLemmas.Rules.{transition}
 use Rattle.elsa_machine.proofs.MachineLemmas.Kept.{HolderOk, next_item, WorldOk, Kept, kept, HeldFrom, held_from}

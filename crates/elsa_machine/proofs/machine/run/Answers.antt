@@ -1,4 +1,4 @@
-use Rattle.std.proofs.Common.{drop, subst, sym, take}
+use Rattle.std.proofs.Common.{subst, sym, take}
 use Rattle.elsa_machine.specs.Worlds.{HasOneList, IsAnsweredFromList}
 use Rattle.elsa_machine.proofs.MachineLemmas.Promises.{all_end, answered, one_list, sound_moment}
 use Rattle.elsa_machine.proofs.machine.run.Goals as goal
@@ -13,4 +13,4 @@ pub returns-clause-moments : goal.returns-clause-moments
 returns-clause-moments g c = λ k. sound_moment c.args.plans.now (take k c.args.schedule.now)
 
 pub returns-clause-ends : goal.returns-clause-ends
-returns-clause-ends g c = λ k. all_end c.args.plans.now (take k c.args.schedule.now) (drop k c.args.schedule.now)
+returns-clause-ends g c = λ k. all_end c.args.plans.now c.args.schedule.now k
