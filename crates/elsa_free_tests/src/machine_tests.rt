@@ -1,7 +1,8 @@
 //! Worked rows of the geometry and of the machine, whole worlds against worlds written by hand.
 use elsa_machine::geometry::{buffer_index, buffer_size, locate, prior_total_buffer_size};
 use elsa_machine::machine::{Answer, Event, Items, Plan, Turn, World, run};
-use std::alloc::{AllocError, Global};
+use std::alloc::{AllocError, Allocator, Global};
+use test_alloc::Budget;
 
 #[derive(Clone, Copy)]
 enum PlanRow<'a> {
@@ -350,6 +351,72 @@ fn every_plan_is_done_in_rounds_without_memory(rt: HostRuntime) -> Result<(), Al
         ],
     };
     assert_eq!(rt; run(alloc, &plans, &schedule)?, world_of(alloc, &row)?);
+    Ok(())
+}
+
+/// Plans whose run makes each of its lists grow: the writes, the events, the answers, and what the cloner copies.
+fn growing_plans<A: Allocator + Copy>(alloc: A) -> Result<Vec<Plan<A>, A>, AllocError> {
+    let items = Items::from_vec(vec![in alloc; 1, 2, 3, 4, 5]?);
+    let indexes = Items::from_vec(vec![in alloc; 0, 4]?);
+    let mut plans = Vec::new(alloc);
+    plans.push(Plan::Pusher(items))?;
+    plans.push(Plan::Reader(indexes))?;
+    plans.push(Plan::Cloner)?;
+    Ok(plans)
+}
+
+/// A run of these plans: whether it ended as it must, `Err` where memory was refused.
+fn grown<A: Allocator + Copy>(
+    alloc: A,
+    plans: &[Plan<A>],
+    schedule: &[Turn],
+) -> Result<bool, AllocError> {
+    let world = run(alloc, plans, schedule)?;
+    let lists = (
+        world.events.as_slice().len(),
+        world.answers.as_slice().len(),
+    );
+    Ok(world.length == 5 && world.writes.as_slice().len() == 5 && lists == (8, 8))
+}
+
+/// Whether the run is refused with this request refused, and ends as it must with the next attempt.
+fn is_refused_once<'a>(
+    budget: &'a Budget<Global>,
+    plans: &[Plan<&'a Budget<Global>>],
+    schedule: &[Turn],
+    number: u64,
+) -> bool {
+    let from = budget.asked().wrapping_add(number);
+    budget.refuse(from, from.saturating_add(1));
+    let refused = grown(budget, plans, schedule).is_err();
+    budget.refuse_next(0);
+    refused && grown(budget, plans, schedule) == Ok(true)
+}
+
+#[test]
+fn each_request_of_a_run_refused_in_turn(rt: HostRuntime) -> Result<(), AllocError> {
+    let budget = Budget::<Global>::new(rt.alloc());
+    let mut turns = Vec::new(rt.alloc());
+    for (thread, count) in [(0, 22), (1, 4), (2, 6)] {
+        for _ in 0..count {
+            turns.push(thread)?;
+        }
+    }
+    let schedule = schedule_of(rt.alloc(), &turns, 99)?;
+    {
+        let plans = growing_plans(&budget)?;
+        let before = budget.asked();
+        assert_eq!(rt; grown(&budget, &plans, &schedule), Ok(true));
+        let requests = budget.asked().wrapping_sub(before);
+        assert!(rt; requests > 5);
+        for number in 0..requests {
+            assert!(rt;
+                is_refused_once(&budget, &plans, &schedule, number),
+                "at {number}"
+            );
+        }
+    }
+    assert_eq!(rt; budget.given(), budget.granted());
     Ok(())
 }
 

@@ -2,12 +2,14 @@
 pub mod Cloners
 pub mod ClonesEnd
 pub mod Entries
+pub mod Free
 pub mod Growth
 pub mod Holds
 pub mod Kept
 pub mod Left
 pub mod Moments
 pub mod Places
+pub mod Promises
 pub mod Pushers
 pub mod Readers
 pub mod Refusals

@@ -21,27 +21,27 @@ abbrev pub slot_item : List (ℕ × ℕ) → ℕ → ℕ
 slot_item writes place = fold (λ found write. if write.0 == place then write.1 else found) 0 writes
 
 -- the world and the thread after a turn
-pub record Moved : Type 0 where
-  pub world : World
-  pub thread : Thread
+pub record Moved (A : Type 0) : Type 0 where
+  pub world : World A
+  pub thread : Thread A
 
 -- both as one
-abbrev pub moved : World → Thread → Moved
+abbrev pub moved : {A : Type 0} → World A → Thread A → Moved A
 moved w t = record { world = w; thread = t }
 
 -- the world with one event more
-abbrev pub with_event : World → Event → World
+abbrev pub with_event : {A : Type 0} → World A → Event → World A
 with_event w e = record w { events = w.events ++ e ∷ [] }
 
 -- the world with one answer more
-abbrev pub with_answer : World → Answer → World
+abbrev pub with_answer : {A : Type 0} → World A → Answer A → World A
 with_answer w a = record w { answers = w.answers ++ a ∷ [] }
 
 -- a pusher's turn, where this is its next item. Ready: it peeks; if nobody holds, it takes the length as n. Peeked n: it
 -- acquires if nobody holds and the length is n, else it peeks again. Acquired n: with the buffer of n open it writes slot
 -- n; else it opens that buffer, the first that isn't open, and with no memory or at buffer 31 it is refused. Written n: it
 -- publishes and releases. Denied: it releases and leaves the list
-abbrev pub pusher_turn : ℕ → Bool → Option ℕ → World → Thread → Phase → Moved
+abbrev pub pusher_turn : {A : Type 0} → ℕ → Bool → Option ℕ → World A → Thread A → Phase → Moved A
 pusher_turn me memory (Some item) w t Ready =
     if is_none w.held then moved w (record t { phase = Peeked w.length }) else moved w t
 pusher_turn me memory (Some item) w t (Peeked n) =
@@ -64,7 +64,7 @@ pusher_turn me memory None w t phase = moved w t
 
 -- a reader's turn, where this is its next index. Ready: it looks, and is answered at once where the index isn't below the
 -- length. Looked: it reads the slot
-abbrev pub reader_turn : ℕ → Option ℕ → World → Thread → Phase → Moved
+abbrev pub reader_turn : {A : Type 0} → ℕ → Option ℕ → World A → Thread A → Phase → Moved A
 reader_turn me (Some i) w t Ready =
     if nat_lt i w.length
     then moved (with_event w (Look me w.length)) (record t { phase = Looked w.length })
@@ -76,7 +76,7 @@ reader_turn me None w t phase = moved w t
 
 -- a cloner's turn. Ready: it looks, and is answered at once where the list is empty. Looked n: it copies the next place,
 -- and is answered after place n - 1, or refused where there is no memory
-abbrev pub cloner_turn : ℕ → Bool → World → Thread → Phase → Moved
+abbrev pub cloner_turn : {A : Type 0} → ℕ → Bool → World A → Thread A → Phase → Moved A
 cloner_turn me memory w t Ready =
     if w.length == 0
     then moved (with_answer (with_event w (Look me w.length)) (Cloned me [])) (record t { phase = Done })
@@ -91,56 +91,56 @@ cloner_turn me memory w t (Looked n) =
 cloner_turn me memory w t _ = moved w t
 
 -- a thread's turn, by its plan
-abbrev pub thread_turn : Plan → ℕ → Bool → World → Thread → Moved
+abbrev pub thread_turn : {A : Type 0} → Plan A → ℕ → Bool → World A → Thread A → Moved A
 thread_turn (Pusher items) me memory w t = pusher_turn me memory (slice_get items t.next) w t t.phase
 thread_turn (Reader indexes) me memory w t = reader_turn me (slice_get indexes t.next) w t t.phase
 thread_turn Cloner me memory w t = cloner_turn me memory w t t.phase
 
 -- the world and the threads, each at its number
-pub record Machine : Type 0 where
-  pub world : World
-  pub threads : List Thread
+pub record Machine (A : Type 0) : Type 0 where
+  pub world : World A
+  pub threads : List (Thread A)
 
 -- both as one
-abbrev pub machine : World → List Thread → Machine
+abbrev pub machine : {A : Type 0} → World A → List (Thread A) → Machine A
 machine w ts = record { world = w; threads = ts }
 
 -- the machine after a turn of this thread
-abbrev pub put : ℕ → Machine → Moved → Machine
+abbrev pub put : {A : Type 0} → ℕ → Machine A → Moved A → Machine A
 put me m after = machine after.world (slice_set m.threads me after.thread)
 
 -- the turn of a number that has a plan and a thread; without them nothing changes
-abbrev pub turn_at : Option Plan → Option Thread → Turn → Machine → Machine
+abbrev pub turn_at : {A : Type 0} → Option (Plan A) → Option (Thread A) → Turn → Machine A → Machine A
 turn_at (Some plan) (Some t) turn m = put turn.thread m (thread_turn plan turn.thread turn.memory m.world t)
 turn_at (Some plan) None turn m = m
 turn_at None t turn m = m
 
 -- the machine after a turn; a number that is no thread changes nothing
-abbrev pub turned : List Plan → Machine → Turn → Machine
+abbrev pub turned : {A : Type 0} → List (Plan A) → Machine A → Turn → Machine A
 turned plans m turn = turn_at (slice_get plans turn.thread) (slice_get m.threads turn.thread) turn m
 
 -- at the start each thread is at its first item, the length is 0, nobody holds, no buffer is open, and the lists are empty
-abbrev pub opening_thread : Plan → Thread
+abbrev pub opening_thread : {A : Type 0} → Plan A → Thread A
 opening_thread plan = record { next = 0; phase = Ready; copied = [] }
 
 -- the world at the start
-abbrev pub opening_world : World
+abbrev pub opening_world : {A : Type 0} → World A
 opening_world = record { length = 0; held = None; opened = 0; writes = []; events = []; answers = [] }
 
 -- the threads at the start, one for each plan
-abbrev pub opening_threads : List Plan → List Thread
+abbrev pub opening_threads : {A : Type 0} → List (Plan A) → List (Thread A)
 opening_threads plans = map opening_thread plans
 
 -- the machine at the start
-abbrev pub opening : List Plan → Machine
+abbrev pub opening : {A : Type 0} → List (Plan A) → Machine A
 opening plans = record { world = opening_world; threads = opening_threads plans }
 
 -- the machine after a schedule
-abbrev pub machine_of : List Plan → List Turn → Machine
+abbrev pub machine_of : {A : Type 0} → List (Plan A) → List Turn → Machine A
 machine_of plans schedule = fold (turned plans) (opening plans) schedule
 
 -- the world of a schedule
-abbrev pub world_of : List Plan → List Turn → World
+abbrev pub world_of : {A : Type 0} → List (Plan A) → List Turn → World A
 world_of plans schedule = (machine_of plans schedule).world
 
 -- what keeps the numbers of the program in range: the length that a writer is to publish, and the buffers
@@ -149,6 +149,6 @@ CanPublish (Written n) = n < 2 ^ 64 - 1
 CanPublish _ = Unit {0}
 
 -- it holds of every thread, and the buffers stay below 32
-pub record IsSafe (m : Machine) : Type 0 where
+pub record IsSafe {A : Type 0} (m : Machine A) : Type 0 where
   pub buffers : m.world.opened < 32
   pub written : All (λ t. CanPublish t.phase) m.threads

@@ -3,13 +3,13 @@
 //! Each turn is one step of one thread: an atomic step on the word that holds the length and the lock, or a plain step on
 //! a buffer or a slot. [`run`] answers the world that a schedule leaves, and its contract says what holds of the world of
 //! every schedule: so it holds at each moment of each run, since every beginning of a schedule is a schedule.
-ghost use Rattle.std.specs.Prelude.{◌≡◌, ℕ, drop, IfOk, take};
-ghost use Rattle.elsa_machine.specs.Machine.{machine_of, opening_threads, world_of};
-ghost use Rattle.elsa_machine.specs.Progress.{ClonesEnd, HoldsEnd, PlansEnd, PushesEnd};
-ghost use Rattle.elsa_machine.specs.Turns.{AreCloneRefusalsEarned, AreRefusalsEarned, AreStepsAtomic, FindBuffers, HoldsAlone, IgnoresOtherNumbers, OpensAtMostItsBuffer, PeeksAgain, PeeksWhereFree, ReadsEnd, ReleasesNext};
-ghost use Rattle.elsa_machine.specs.Worlds.{AreClonesRight, AreEntriesAnswered, AreEntriesAuthored, AreItemsFinal, ArePushesRight, AreReadsRight, AreWrittenOnce, Grows, HasFewSlots, HasRightHistory, HasWritesInOrder, IsNoPlaceTwice};
+ghost use Rattle.std.specs.Prelude.{◌≡◌, ℕ, IfOk, take};
+ghost use Rattle.elsa_machine.specs.Machine.{opening_threads, world_of};
+ghost use Rattle.elsa_machine.specs.Progress.{ThreadsEnd};
+ghost use Rattle.elsa_machine.specs.Turns.{IsSoundMoment};
+ghost use Rattle.elsa_machine.specs.Worlds.{HasOneList, IsAnsweredFromList};
 
-use std::alloc::{AllocError, Global};
+use std::alloc::{AllocError, Allocator, Global};
 
 mod items;
 mod turns;
@@ -19,11 +19,11 @@ use turns::{Phase, Thread, turn};
 
 /// What a thread does. A thread is a place in the list of plans.
 #[derive(Drop, PartialEq, Eq, Debug)]
-pub enum Plan {
+pub enum Plan<A: Allocator = Global> {
     /// Pushes these items, in order.
-    Pusher(Items<u64>),
+    Pusher(Items<u64, A>),
     /// Reads these places, in order.
-    Reader(Items<usize>),
+    Reader(Items<usize, A>),
     /// Clones the list, once.
     Cloner,
 }
@@ -47,7 +47,7 @@ pub enum Event {
 
 /// What a thread is answered.
 #[derive(Drop, PartialEq, Eq, Debug)]
-pub enum Answer {
+pub enum Answer<A: Allocator = Global> {
     /// The item stands at this place.
     Pushed {
         thread: usize,
@@ -66,7 +66,7 @@ pub enum Answer {
     /// The items of the list, as it was at the look.
     Cloned {
         thread: usize,
-        items: Items<u64>,
+        items: Items<u64, A>,
     },
     /// The clone was refused memory.
     CloneRefused {
@@ -76,7 +76,7 @@ pub enum Answer {
 
 /// What a schedule leaves.
 #[derive(Drop, PartialEq, Eq, Debug)]
-pub struct World {
+pub struct World<A: Allocator = Global> {
     /// How many items are published.
     pub length: usize,
     /// The thread that holds, if one does.
@@ -84,59 +84,42 @@ pub struct World {
     /// How many buffers are open: those below this number.
     pub opened: usize,
     /// Each write of a slot, as (place, item), in order. What a slot holds is its last write.
-    pub writes: Items<(usize, u64)>,
+    pub writes: Items<(usize, u64), A>,
     /// What took effect, in order.
-    pub events: Items<Event>,
+    pub events: Items<Event, A>,
     /// What was answered, in order.
-    pub answers: Items<Answer>,
+    pub answers: Items<Answer<A>, A>,
 }
 
 /// The world that the schedule leaves: at the start the length is 0, nobody holds, no buffer is open and the lists are
 /// empty; then each turn does the next step of its thread, one after the other.
 ///
-/// `Err` only where one of the run's own lists couldn't grow; nothing of the run is left then, and plans and schedule are
-/// untouched. It waits for nobody. `O(turns * writes)` at most, since a read looks for the last write of its place.
-pub fn run(alloc: Global, plans: &[Plan], schedule: &[Turn]) -> Result<World, AllocError>
+/// `alloc` gives the memory of the run's own lists. `Err` only where one of them couldn't grow; nothing of the run is left
+/// then, and plans and schedule are untouched. It waits for nobody. `O(turns * writes)` at most, since a read looks for the last write of its place.
+pub fn run<A: Allocator + Copy>(
+    alloc: A,
+    plans: &[Plan<A>],
+    schedule: &[Turn],
+) -> Result<World<A>, AllocError>
     ensures world { IfOk result (λ w. w ≡ world_of plans.now schedule.now) }
 
-    // The list: what is published, what stands in the slots, and the open buffers.
-    ensures history { IfOk result (λ w. HasRightHistory w) }
-    ensures grows { IfOk result (λ w. (k : ℕ) → Grows (world_of plans.now (take k schedule.now)) w) }
-    ensures writes_in_order { IfOk result (λ w. HasWritesInOrder w) }
-    ensures final_items { IfOk result (λ w. AreItemsFinal w) }
-    ensures written_once { IfOk result (λ w. AreWrittenOnce w) }
-    ensures few_slots { IfOk result (λ w. HasFewSlots w) }
+    // The list only grows, the slots hold it, and each thread was answered from it.
+    ensures list { IfOk result (λ w. HasOneList plans.now schedule.now w) }
+    ensures answers { IfOk result (λ w. IsAnsweredFromList plans.now w) }
 
-    // What the threads are answered.
-    ensures pushes { IfOk result (λ w. ArePushesRight plans.now w) }
-    ensures entries { IfOk result (λ w. AreEntriesAnswered w) }
-    ensures authors { IfOk result (λ w. AreEntriesAuthored plans.now w) }
-    ensures places { IfOk result (λ w. IsNoPlaceTwice plans.now w) }
-    ensures reads { IfOk result (λ w. AreReadsRight plans.now w) }
-    ensures clones { IfOk result (λ w. AreClonesRight plans.now w) }
-    ensures refusals { IfOk result (λ _. (k : ℕ) → AreRefusalsEarned plans.now (take k schedule.now)) }
-    ensures clone_refusals { IfOk result (λ _. (k : ℕ) → AreCloneRefusalsEarned plans.now (take k schedule.now)) }
-
-    // Each moment of the schedule.
-    ensures steps { IfOk result (λ _. (k : ℕ) → AreStepsAtomic plans.now (machine_of plans.now (take k schedule.now))) }
-    ensures buffers { IfOk result (λ _. (k : ℕ) → FindBuffers (machine_of plans.now (take k schedule.now))) }
-    ensures opens { IfOk result (λ _. (k : ℕ) → OpensAtMostItsBuffer plans.now (machine_of plans.now (take k schedule.now))) }
-    ensures alone { IfOk result (λ _. (k : ℕ) → HoldsAlone (machine_of plans.now (take k schedule.now))) }
-    ensures releases { IfOk result (λ _. (k : ℕ) → ReleasesNext plans.now (machine_of plans.now (take k schedule.now))) }
-    ensures idle { IfOk result (λ _. (k : ℕ) → IgnoresOtherNumbers plans.now (machine_of plans.now (take k schedule.now))) }
-    ensures peeks { IfOk result (λ _. (k : ℕ) → PeeksWhereFree plans.now (machine_of plans.now (take k schedule.now))) }
-    ensures peeks_again { IfOk result (λ _. (k : ℕ) → PeeksAgain plans.now (machine_of plans.now (take k schedule.now))) }
-    ensures holds_end { IfOk result (λ _. (k : ℕ) → HoldsEnd plans.now (take k schedule.now) (drop k schedule.now)) }
-    ensures pushes_end { IfOk result (λ _. (k : ℕ) → PushesEnd plans.now (take k schedule.now)) }
-    ensures clones_end { IfOk result (λ _. (k : ℕ) → ClonesEnd plans.now (take k schedule.now)) }
-    ensures plans_end { IfOk result (λ _. (k : ℕ) → PlansEnd plans.now (take k schedule.now) (drop k schedule.now)) }
-    ensures reads_end { IfOk result (λ _. (k : ℕ) → ReadsEnd plans.now (take k schedule.now) (drop k schedule.now)) }
+    // Each moment of the schedule, and when holds, pushes, reads, clones and all plans end.
+    ensures moments { IfOk result (λ _. (k : ℕ) → IsSoundMoment plans.now (take k schedule.now)) }
+    ensures ends { IfOk result (λ _. (k : ℕ) → ThreadsEnd plans.now schedule.now k) }
 {
     let world = world_after(alloc, plans, schedule)?;
     Ok(world)
 }
 
-fn world_after(alloc: Global, plans: &[Plan], schedule: &[Turn]) -> Result<World, AllocError>
+fn world_after<A: Allocator + Copy>(
+    alloc: A,
+    plans: &[Plan<A>],
+    schedule: &[Turn],
+) -> Result<World<A>, AllocError>
     ensures { IfOk result (λ w. w ≡ world_of plans.now schedule.now) }
 {
     let mut world = World {
@@ -154,7 +137,10 @@ fn world_after(alloc: Global, plans: &[Plan], schedule: &[Turn]) -> Result<World
     Ok(world)
 }
 
-fn opening_threads(alloc: Global, plans: &[Plan]) -> Result<Vec<Thread>, AllocError>
+fn opening_threads<A: Allocator + Copy>(
+    alloc: A,
+    plans: &[Plan<A>],
+) -> Result<Vec<Thread<A>, A>, AllocError>
     ensures { IfOk result (λ threads. threads.items ≡ opening_threads plans.now) }
 {
     let mut threads = Vec::new(alloc);

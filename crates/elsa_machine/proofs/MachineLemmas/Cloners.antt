@@ -34,7 +34,7 @@ items_more : (xs ys : List (ℕ × ℕ)) (n : ℕ) → n ≤ length xs → take 
 items_more xs ys n h = rw (items_append xs ys) (take-append-le n (items_of xs) (items_of ys) (omega (arith, items_length xs, h)))
 
 -- what a cloner in this phase has looked at, copied and been told
-abbrev pub ClonerOk : List (ℕ × ℕ) → ℕ → List ℕ → List Answer → List ℕ → Phase → Type 0
+abbrev pub ClonerOk : {A : Type 0} → List (ℕ × ℕ) → ℕ → List ℕ → List (Answer A) → List ℕ → Phase → Type 0
 ClonerOk list len ls xs copied Ready = (ls ≡ []) × (xs ≡ []) × (copied ≡ [])
 ClonerOk list len ls xs copied (Looked n) = (ls ≡ n ∷ []) × (xs ≡ []) × (n ≤ length list) × (length copied < n) × (copied ≡ take (length copied) (items_of list))
 ClonerOk list len ls xs copied (Peeked n) = ⊥
@@ -43,14 +43,14 @@ ClonerOk list len ls xs copied (Written n) = ⊥
 ClonerOk list len ls xs copied Denied = ⊥
 ClonerOk list len ls xs copied Done = IsClone list ls xs × (length xs ≡ 1)
 
-clone_more : (list more : List (ℕ × ℕ)) (ls : List ℕ) (xs : List Answer) → IsClone list ls xs → IsClone (list ++ more) ls xs
+clone_more : {A : Type 0} (list more : List (ℕ × ℕ)) (ls : List ℕ) (xs : List (Answer A)) → IsClone list ls xs → IsClone (list ++ more) ls xs
 clone_more list more [] [] h = tt
 clone_more list more (n ∷ []) [] h = tt
 clone_more list more (n ∷ []) (Cloned u c ∷ []) h = (rw length-append (omega (arith, h.0)), rw (items_more list more n h.0) h.1)
 clone_more list more (n ∷ []) (CloneRefused u ∷ []) h = tt
 clone_more list more ls xs h = h
 
-cloner_up : (list more : List (ℕ × ℕ)) (a b : ℕ) (ls : List ℕ) (xs : List Answer) (copied : List ℕ) (phase : Phase) → ClonerOk list a ls xs copied phase → ClonerOk (list ++ more) b ls xs copied phase
+cloner_up : {A : Type 0} (list more : List (ℕ × ℕ)) (a b : ℕ) (ls : List ℕ) (xs : List (Answer A)) (copied : List ℕ) (phase : Phase) → ClonerOk list a ls xs copied phase → ClonerOk (list ++ more) b ls xs copied phase
 cloner_up list more a b ls xs copied Ready h = h
 cloner_up list more a b ls xs copied (Looked n) h = (h.0, h.1, rw length-append (omega (arith, h.2)), h.3, rw (items_more list more (length copied) (omega (arith, h.2, h.3))) h.4)
 cloner_up list more a b ls xs copied (Peeked n) h = h
@@ -60,14 +60,15 @@ cloner_up list more a b ls xs copied Denied h = h
 cloner_up list more a b ls xs copied Done h = (clone_more list more ls xs h.0, h.1)
 
 -- the same of a thread in a world
-pub record ClonerKnows (me : ℕ) (w : World) (t : Thread) : Type 0 where
+pub record ClonerKnows {A : Type 0} (me : ℕ) (w : World A) (t : Thread A) : Type 0 where
   pub knows : ClonerOk (list_of w.events) w.length (looks_of me w.events) (answers_of me w.answers) t.copied t.phase
 
 -- another thread's turn keeps what a cloner knows
-pub cloner_grown : (me you : ℕ) (v w : World) (t : Thread) → (you ≡ me → ⊥) → Grown me v w → ClonerKnows you v t → ClonerKnows you w t
+pub cloner_grown : {A : Type 0} (me you : ℕ) (v w : World A) (t : Thread A) → (you ≡ me → ⊥) → Grown me v w → ClonerKnows you v t → ClonerKnows you w t
 cloner_grown me you v w t ne g h = record { knows = rw (g.told you ne, g.seen you ne, g.list_is) (cloner_up (list_of v.events) g.more v.length w.length (looks_of you v.events) (answers_of you v.answers) t.copied t.phase h.knows) }
 
-pub at_cloner : (me : ℕ) (w : World) (t : Thread) (phase : Phase) → t.phase ≡ phase → ClonerKnows me w t → ClonerOk (list_of w.events) w.length (looks_of me w.events) (answers_of me w.answers) t.copied phase
+-- what a cloner knows, at the phase that it is in
+pub at_cloner : {A : Type 0} (me : ℕ) (w : World A) (t : Thread A) (phase : Phase) → t.phase ≡ phase → ClonerKnows me w t → ClonerOk (list_of w.events) w.length (looks_of me w.events) (answers_of me w.answers) t.copied phase
 at_cloner me w t phase e h = subst (ClonerOk (list_of w.events) w.length (looks_of me w.events) (answers_of me w.answers) t.copied) e h.knows
 
 eqb_is : (a b : ℕ) → (a == b) ≡ true → a ≡ b
@@ -80,7 +81,7 @@ below_not : (a n : ℕ) → a ≤ n → (a ≡ n → ⊥) → a < n
 below_not a n l ne = grind arith
 
 -- the next copy is the list's next item
-next_copy : (w : World) (copied : List ℕ) (n : ℕ) → WorldOk w → n ≤ length (list_of w.events) → length copied < n → copied ≡ take (length copied) (items_of (list_of w.events)) →
+next_copy : {A : Type 0} (w : World A) (copied : List ℕ) (n : ℕ) → WorldOk w → n ≤ length (list_of w.events) → length copied < n → copied ≡ take (length copied) (items_of (list_of w.events)) →
     copied ++ slot_item w.writes (length copied) ∷ [] ≡ take (length copied + 1) (items_of (list_of w.events))
 next_copy w copied n ok l lt c =
     let i = length copied in
@@ -91,7 +92,7 @@ next_copy w copied n ok l lt c =
     ap (λ x. copied ++ x ∷ []) v ∙ ap (λ z. z ++ entry.0.1 ∷ []) c ∙ sym (items_next list i entry.0 entry.1)
 
 -- a cloner's own turn keeps it
-pub cloner_kept : (me : ℕ) (memory : Bool) (w : World) (t : Thread) (after : Moved) → WorldOk w → ClonerKnows me w t → Transition me memory w t Cloner after → ClonerKnows me after.world after.thread
+pub cloner_kept : {A : Type 0} (me : ℕ) (memory : Bool) (w : World A) (t : Thread A) (after : Moved A) → WorldOk w → ClonerKnows me w t → Transition me memory w t Cloner after → ClonerKnows me after.world after.thread
 cloner_kept me memory w t _ ok k (stays i) = k
 cloner_kept me memory w t _ ok k (clones_none p b) =
     let q = at_cloner me w t Ready p k in
@@ -120,7 +121,7 @@ cloner_kept me memory w t _ ok k (clone_fails {n} p m) =
     record { knows = rw (answers_mine me w.answers (CloneRefused me) refl, q.0, q.1) (tt, refl) }
 
 -- what a cloner was told is right in each phase
-pub clone_knows : (list : List (ℕ × ℕ)) (len : ℕ) (ls : List ℕ) (xs : List Answer) (copied : List ℕ) (phase : Phase) → ClonerOk list len ls xs copied phase → IsClone list ls xs
+pub clone_knows : {A : Type 0} (list : List (ℕ × ℕ)) (len : ℕ) (ls : List ℕ) (xs : List (Answer A)) (copied : List ℕ) (phase : Phase) → ClonerOk list len ls xs copied phase → IsClone list ls xs
 clone_knows list len ls xs copied Ready h = rw (h.0, h.1) tt
 clone_knows list len ls xs copied (Looked n) h = rw (h.0, h.1) tt
 clone_knows list len ls xs copied (Peeked n) h = absurd h

@@ -33,7 +33,7 @@ HasHadTurns turns copied Denied = Unit {0}
 HasHadTurns turns copied Done = Unit {0}
 
 -- a cloner that is Ready or has looked has something to do, and it is in no phase of a pusher
-clone_busy : (me : ℕ) (w : World) (t : Thread) (phase : Phase) → ClonerOk (list_of w.events) w.length (looks_of me w.events) (answers_of me w.answers) t.copied phase → IsLookerIdle (Some 0) phase → phase ≡ Done
+clone_busy : {A : Type 0} (me : ℕ) (w : World A) (t : Thread A) (phase : Phase) → ClonerOk (list_of w.events) w.length (looks_of me w.events) (answers_of me w.answers) t.copied phase → IsLookerIdle (Some 0) phase → phase ≡ Done
 clone_busy me w t Ready o i = absurd i
 clone_busy me w t (Looked n) o i = absurd i
 clone_busy me w t (Peeked n) o i = absurd o
@@ -42,7 +42,7 @@ clone_busy me w t (Written n) o i = absurd o
 clone_busy me w t Denied o i = absurd o
 clone_busy me w t Done o i = refl
 
-clone_step : (me turns : ℕ) (memory : Bool) (w : World) (t : Thread) (after : Moved) → ClonerKnows me w t → HasHadTurns turns t.copied t.phase → Transition me memory w t Cloner after → HasHadTurns (suc turns) after.thread.copied after.thread.phase
+clone_step : {A : Type 0} (me turns : ℕ) (memory : Bool) (w : World A) (t : Thread A) (after : Moved A) → ClonerKnows me w t → HasHadTurns turns t.copied t.phase → Transition me memory w t Cloner after → HasHadTurns (suc turns) after.thread.copied after.thread.phase
 clone_step me turns memory w t _ o h (stays i) = subst (HasHadTurns (suc turns) t.copied) (sym (clone_busy me w t t.phase o.knows i)) tt
 clone_step me turns memory w t _ o h (clones_none p b) = tt
 clone_step me turns memory w t _ o h (clone_looks p b) =
@@ -57,8 +57,8 @@ clone_step me turns memory w t _ o h (clones p m b) = tt
 clone_step me turns memory w t _ o h (clone_fails p m) = tt
 
 -- the cloner after more turns
-clone_run : (plans : List Plan) (rest : List Turn) (m : Machine) (me turns : ℕ) (t : Thread) → Sound plans m → slice_get plans me ≡ Some Cloner → slice_get m.threads me ≡ Some t → HasHadTurns turns t.copied t.phase →
-    (u : Thread) × (slice_get (fold (turned plans) m rest).threads me ≡ Some u) × HasHadTurns (turns + turns_of me rest) u.copied u.phase
+clone_run : {A : Type 0} (plans : List (Plan A)) (rest : List Turn) (m : Machine A) (me turns : ℕ) (t : Thread A) → Sound plans m → slice_get plans me ≡ Some Cloner → slice_get m.threads me ≡ Some t → HasHadTurns turns t.copied t.phase →
+    (u : Thread A) × (slice_get (fold (turned plans) m rest).threads me ≡ Some u) × HasHadTurns (turns + turns_of me rest) u.copied u.phase
 clone_run plans [] m me turns t s pe e h = (t, e, subst (λ k. HasHadTurns k t.copied t.phase) (let z : turns ≡ turns + 0 = omega arith in z) h)
 clone_run plans (turn ∷ rest) m me turns t s pe e h =
     let m1 = turned plans m turn in
@@ -80,7 +80,7 @@ clone_run plans (turn ∷ rest) m me turns t s pe e h =
     ]
 
 -- a cloner after a schedule: what it knows, and how many turns it has had
-pub cloner_after : (plans : List Plan) (schedule : List Turn) (me : ℕ) → slice_get plans me ≡ Some Cloner → (u : Thread) × ClonerKnows me (world_of plans schedule) u × HasHadTurns (turns_of me schedule) u.copied u.phase
+pub cloner_after : {A : Type 0} (plans : List (Plan A)) (schedule : List Turn) (me : ℕ) → slice_get plans me ≡ Some Cloner → (u : Thread A) × ClonerKnows me (world_of plans schedule) u × HasHadTurns (turns_of me schedule) u.copied u.phase
 cloner_after plans schedule me pe =
     let m = opening plans in
     let s = sound_opening plans in
@@ -89,7 +89,7 @@ cloner_after plans schedule me pe =
     (r.0, (sound plans schedule).told me Cloner r.0 pe r.1, subst (λ k. HasHadTurns k r.0.copied r.0.phase) (zero-add (turns_of me schedule)) r.2)
 
 -- one look where there is one answer
-one_look : (list : List (ℕ × ℕ)) (ls : List ℕ) (xs : List Answer) → IsClone list ls xs → length xs ≡ 1 → (n : ℕ) × (ls ≡ n ∷ [])
+one_look : {A : Type 0} (list : List (ℕ × ℕ)) (ls : List ℕ) (xs : List (Answer A)) → IsClone list ls xs → length xs ≡ 1 → (n : ℕ) × (ls ≡ n ∷ [])
 one_look list [] [] c l = absurd (omega (arith, l))
 one_look list (n ∷ []) [] c l = absurd (omega (arith, l))
 one_look list (n ∷ []) (Cloned u d ∷ []) c l = (n, refl)
@@ -102,7 +102,7 @@ one_look list (n ∷ []) (Read u i v ∷ xs) c l = absurd c
 one_look list (n ∷ []) (Cloned u d ∷ x ∷ xs) c l = absurd c
 one_look list (n ∷ []) (CloneRefused u ∷ x ∷ xs) c l = absurd c
 
-clone_ends : (list : List (ℕ × ℕ)) (len turns : ℕ) (ls : List ℕ) (xs : List Answer) (copied : List ℕ) (phase : Phase) → ClonerOk list len ls xs copied phase → HasHadTurns turns copied phase → 0 < turns →
+clone_ends : {A : Type 0} (list : List (ℕ × ℕ)) (len turns : ℕ) (ls : List ℕ) (xs : List (Answer A)) (copied : List ℕ) (phase : Phase) → ClonerOk list len ls xs copied phase → HasHadTurns turns copied phase → 0 < turns →
     (n : ℕ) × (ls ≡ n ∷ []) × (n + 1 ≤ turns → length xs ≡ 1)
 clone_ends list len turns ls xs copied Ready o h some = absurd (omega (arith, h, some))
 clone_ends list len turns ls xs copied (Looked n) o h some = (n, o.0, λ enough. absurd (omega (arith, h, enough, o.3)))
@@ -113,7 +113,7 @@ clone_ends list len turns ls xs copied Denied o h some = absurd o
 clone_ends list len turns ls xs copied Done o h some = let l = one_look list ls xs o.0 o.1 in (l.0, l.1, λ enough. o.1)
 
 -- after every schedule, a cloner that has had a turn has looked, and is answered after enough turns
-pub clones_end : (plans : List Plan) (schedule : List Turn) → ClonesEnd plans schedule
+pub clones_end : {A : Type 0} (plans : List (Plan A)) (schedule : List Turn) → ClonesEnd plans schedule
 clones_end plans schedule = λ me pe some.
     let w = world_of plans schedule in
     let u = cloner_after plans schedule me pe in

@@ -18,14 +18,14 @@ use Rattle.elsa_machine.proofs.MachineLemmas.Threads.{ThreadOk}
 use Rattle.elsa_machine.proofs.MachineLemmas.Runs.{Sound, same_or_not, turned_cases, sound_turned, sound_opening}
 
 -- what a thread was answered stays where it is as answers are added
-told_more : (t : ℕ) (xs : List Answer) (a : Answer) (j : ℕ) (b : Answer) → slice_get (answers_of t xs) j ≡ Some b → slice_get (answers_of t (xs ++ a ∷ [])) j ≡ Some b
+told_more : {A : Type 0} (t : ℕ) (xs : List (Answer A)) (a : Answer A) (j : ℕ) (b : Answer A) → slice_get (answers_of t xs) j ≡ Some b → slice_get (answers_of t (xs ++ a ∷ [])) j ≡ Some b
 told_more t xs a j b e = elim (same_or_not (answer_thread a) t) [
   | inl q ↦ ap (λ l. slice_get l j) (answers_mine t xs a q) ∙ get_more (answers_of t xs) (a ∷ []) j b e
   | inr ne ↦ ap (λ l. slice_get l j) (answers_others t xs a ne) ∙ e
 ]
 
 -- one answer more, and the list as before
-answer_authored : (plans : List Plan) (v w : World) (a : Answer) → w.answers ≡ v.answers ++ a ∷ [] → list_of w.events ≡ list_of v.events → AreEntriesAuthored plans v → AreEntriesAuthored plans w
+answer_authored : {A : Type 0} (plans : List (Plan A)) (v w : World A) (a : Answer A) → w.answers ≡ v.answers ++ a ∷ [] → list_of w.events ≡ list_of v.events → AreEntriesAuthored plans v → AreEntriesAuthored plans w
 answer_authored plans v w a e l h = λ place entry q.
     let r = h place entry (ap (λ z. slice_get z place) (sym l) ∙ q) in
     record {
@@ -37,12 +37,12 @@ answer_authored plans v w a e l h = λ place entry q.
     }
 
 -- answers and list as before
-same_authored : (plans : List Plan) (v w : World) → w.answers ≡ v.answers → list_of w.events ≡ list_of v.events → AreEntriesAuthored plans v → AreEntriesAuthored plans w
+same_authored : {A : Type 0} (plans : List (Plan A)) (v w : World A) → w.answers ≡ v.answers → list_of w.events ≡ list_of v.events → AreEntriesAuthored plans v → AreEntriesAuthored plans w
 same_authored plans v w e l h = λ place entry q.
     let r = h place entry (ap (λ z. slice_get z place) (sym l) ∙ q) in
     record { items = r.items; turn = r.turn; plan_is = r.plan_is; item_is = r.item_is; answer_is = ap (λ z. slice_get (answers_of entry.0 z) r.turn) e ∙ r.answer_is }
 
-authored_step : (plans : List Plan) (me : ℕ) (memory : Bool) (w : World) (t : Thread) (plan : Plan) (after : Moved) → slice_get plans me ≡ Some plan → WorldOk w → HolderOk w me (next_item plan t.next) t.phase → ThreadOk plan me w t →
+authored_step : {A : Type 0} (plans : List (Plan A)) (me : ℕ) (memory : Bool) (w : World A) (t : Thread A) (plan : Plan A) (after : Moved A) → slice_get plans me ≡ Some plan → WorldOk w → HolderOk w me (next_item plan t.next) t.phase → ThreadOk plan me w t →
     Transition me memory w t plan after → AreEntriesAuthored plans w → AreEntriesAuthored plans after.world
 authored_step plans me memory w t plan _ pe ok k o (stays i) h = h
 authored_step plans me memory w t plan _ pe ok k o (peeks p e f) h = h
@@ -80,21 +80,21 @@ authored_step plans me memory w t plan _ pe ok k o (copies p m b) h = h
 authored_step plans me memory w t plan _ pe ok k o (clones p m b) h = answer_authored plans w _ (Cloned me (t.copied ++ slot_item w.writes (length t.copied) ∷ [])) refl refl h
 authored_step plans me memory w t plan _ pe ok k o (clone_fails p m) h = answer_authored plans w _ (CloneRefused me) refl refl h
 
-authored_run : (plans : List Plan) (rest : List Turn) (m : Machine) → Sound plans m → AreEntriesAuthored plans m.world → AreEntriesAuthored plans (fold (turned plans) m rest).world
+authored_run : {A : Type 0} (plans : List (Plan A)) (rest : List Turn) (m : Machine A) → Sound plans m → AreEntriesAuthored plans m.world → AreEntriesAuthored plans (fold (turned plans) m rest).world
 authored_run plans [] m s h = h
 authored_run plans (turn ∷ rest) m s h = authored_run plans rest (turned plans m turn) (sound_turned plans m turn s) (turned_cases (λ n. AreEntriesAuthored plans n.world) plans m turn h
     (λ plan t e f. authored_step plans turn.thread turn.memory m.world t plan _ e s.world (s.threads turn.thread plan t e f) (s.told turn.thread plan t e f) (transition plan turn.thread turn.memory m.world t) h))
 
 -- in the world of every schedule each entry is an item of its author's plan
-pub entries_authored : (plans : List Plan) (schedule : List Turn) → AreEntriesAuthored plans (world_of plans schedule)
+pub entries_authored : {A : Type 0} (plans : List (Plan A)) (schedule : List Turn) → AreEntriesAuthored plans (world_of plans schedule)
 entries_authored plans schedule = authored_run plans schedule (opening plans) (sound_opening plans) (λ place entry e. cc)
 
-own_first : (x a : Answer) (xs ys : List Answer) (j : ℕ) → ((k : ℕ) → slice_get ys k ≡ Some a → Contains xs a) → slice_get (x ∷ ys) j ≡ Some a → Contains (x ∷ xs) a
+own_first : {A : Type 0} (x a : Answer A) (xs ys : List (Answer A)) (j : ℕ) → ((k : ℕ) → slice_get ys k ≡ Some a → Contains xs a) → slice_get (x ∷ ys) j ≡ Some a → Contains (x ∷ xs) a
 own_first x a xs ys zero ih e = let q : x ≡ a = cc in subst (Contains (x ∷ xs)) q (0, omega arith, refl)
 own_first x a xs ys (suc j) ih e = Contains-append_right (x ∷ []) xs a (ih j e)
 
 -- what a thread was answered is among all answers
-own_answer : (t : ℕ) (xs : List Answer) (a : Answer) (j : ℕ) → slice_get (answers_of t xs) j ≡ Some a → Contains xs a
+own_answer : {A : Type 0} (t : ℕ) (xs : List (Answer A)) (a : Answer A) (j : ℕ) → slice_get (answers_of t xs) j ≡ Some a → Contains xs a
 own_answer t [] a j e = cc
 own_answer t (x ∷ xs) a j e = elim (same_or_not (answer_thread x) t) [
   | inl q ↦ own_first x a xs (answers_of t xs) j (own_answer t xs a) (ap (λ b. slice_get (if b then x ∷ answers_of t xs else answers_of t xs) j) (sym (ap (λ u. u == t) q ∙ eqb_same t)) ∙ e)
@@ -102,7 +102,7 @@ own_answer t (x ∷ xs) a j e = elim (same_or_not (answer_thread x) t) [
 ]
 
 -- in the world of every schedule each entry was answered
-pub entries_answered : (plans : List Plan) (schedule : List Turn) → AreEntriesAnswered (world_of plans schedule)
+pub entries_answered : {A : Type 0} (plans : List (Plan A)) (schedule : List Turn) → AreEntriesAnswered (world_of plans schedule)
 entries_answered plans schedule = λ place entry e.
     let w = world_of plans schedule in
     let r = entries_authored plans schedule place entry e in

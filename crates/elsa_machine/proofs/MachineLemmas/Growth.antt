@@ -26,7 +26,7 @@ pub eqb_other : (n m : ℕ) → (n ≡ m → ⊥) → (n == m) ≡ false
 eqb_other n m ne = grind arith
 
 -- an answer of this thread comes behind its earlier ones
-pub answers_mine : (t : ℕ) (xs : List Answer) (a : Answer) → answer_thread a ≡ t → answers_of t (xs ++ a ∷ []) ≡ answers_of t xs ++ a ∷ []
+pub answers_mine : {A : Type 0} (t : ℕ) (xs : List (Answer A)) (a : Answer A) → answer_thread a ≡ t → answers_of t (xs ++ a ∷ []) ≡ answers_of t xs ++ a ∷ []
 answers_mine t [] a e = rw (e, eqb_same t) refl
 answers_mine t (b ∷ xs) a e =
     let ih = answers_mine t xs a e in
@@ -34,7 +34,7 @@ answers_mine t (b ∷ xs) a e =
     [ true ↦ ap (λ l. b ∷ l) ih | false ↦ ih ]
 
 -- an answer of another thread leaves this thread's
-pub answers_others : (t : ℕ) (xs : List Answer) (a : Answer) → (answer_thread a ≡ t → ⊥) → answers_of t (xs ++ a ∷ []) ≡ answers_of t xs
+pub answers_others : {A : Type 0} (t : ℕ) (xs : List (Answer A)) (a : Answer A) → (answer_thread a ≡ t → ⊥) → answers_of t (xs ++ a ∷ []) ≡ answers_of t xs
 answers_others t [] a ne = rw (eqb_other (answer_thread a) t ne) refl
 answers_others t (b ∷ xs) a ne =
     let ih = answers_others t xs a ne in
@@ -80,27 +80,27 @@ get_more (z ∷ xs) ys zero x h = h
 get_more (z ∷ xs) ys (suc i) x h = get_more xs ys i x h
 
 -- what a turn leaves of the world for the other threads
-pub record Grown (me : ℕ) (v w : World) : Type 0 where
+pub record Grown {A : Type 0} (me : ℕ) (v w : World A) : Type 0 where
   pub more : List (ℕ × ℕ)
   pub list_is : list_of w.events ≡ list_of v.events ++ more
   pub length_le : v.length ≤ w.length
   pub told : (you : ℕ) → (you ≡ me → ⊥) → answers_of you w.answers ≡ answers_of you v.answers
   pub seen : (you : ℕ) → (you ≡ me → ⊥) → looks_of you w.events ≡ looks_of you v.events
 
-unchanged : (me : ℕ) (v w : World) → w.events ≡ v.events → w.answers ≡ v.answers → v.length ≤ w.length → Grown me v w
+unchanged : {A : Type 0} (me : ℕ) (v w : World A) → w.events ≡ v.events → w.answers ≡ v.answers → v.length ≤ w.length → Grown me v w
 unchanged me v w e a l = record { more = []; list_is = ap list_of e ∙ sym (append-nil (list_of v.events)); length_le = l; told = λ you ne. ap (answers_of you) a; seen = λ you ne. ap (looks_of you) e }
 
-answered : (me : ℕ) (v w : World) (a : Answer) → answer_thread a ≡ me → w.events ≡ v.events → w.answers ≡ v.answers ++ a ∷ [] → v.length ≤ w.length → Grown me v w
+answered : {A : Type 0} (me : ℕ) (v w : World A) (a : Answer A) → answer_thread a ≡ me → w.events ≡ v.events → w.answers ≡ v.answers ++ a ∷ [] → v.length ≤ w.length → Grown me v w
 answered me v w a by e f l = record { more = []; list_is = ap list_of e ∙ sym (append-nil (list_of v.events)); length_le = l; told = λ you ne. ap (answers_of you) f ∙ answers_others you v.answers a (λ q. ne (sym q ∙ by)); seen = λ you ne. ap (looks_of you) e }
 
-looked_at : (me : ℕ) (v w : World) (n : ℕ) → w.events ≡ v.events ++ Look me n ∷ [] → w.answers ≡ v.answers → v.length ≤ w.length → Grown me v w
+looked_at : {A : Type 0} (me : ℕ) (v w : World A) (n : ℕ) → w.events ≡ v.events ++ Look me n ∷ [] → w.answers ≡ v.answers → v.length ≤ w.length → Grown me v w
 looked_at me v w n e a l = record { more = []; list_is = ap list_of e ∙ list_same v.events me n ∙ sym (append-nil (list_of v.events)); length_le = l; told = λ you ne. ap (answers_of you) a; seen = λ you ne. ap (looks_of you) e ∙ looks_others you me v.events n (λ q. ne (sym q)) }
 
-both : (me : ℕ) (v w : World) (n : ℕ) (a : Answer) → answer_thread a ≡ me → w.events ≡ v.events ++ Look me n ∷ [] → w.answers ≡ v.answers ++ a ∷ [] → v.length ≤ w.length → Grown me v w
+both : {A : Type 0} (me : ℕ) (v w : World A) (n : ℕ) (a : Answer A) → answer_thread a ≡ me → w.events ≡ v.events ++ Look me n ∷ [] → w.answers ≡ v.answers ++ a ∷ [] → v.length ≤ w.length → Grown me v w
 both me v w n a by e f l = record { more = []; list_is = ap list_of e ∙ list_same v.events me n ∙ sym (append-nil (list_of v.events)); length_le = l; told = λ you ne. ap (answers_of you) f ∙ answers_others you v.answers a (λ q. ne (sym q ∙ by)); seen = λ you ne. ap (looks_of you) e ∙ looks_others you me v.events n (λ q. ne (sym q)) }
 
 -- what each turn leaves for the others
-pub grown : (me : ℕ) (memory : Bool) (w : World) (t : Thread) (plan : Plan) (after : Moved) → HolderOk w me (next_item plan t.next) t.phase → Transition me memory w t plan after → Grown me w after.world
+pub grown : {A : Type 0} (me : ℕ) (memory : Bool) (w : World A) (t : Thread A) (plan : Plan A) (after : Moved A) → HolderOk w me (next_item plan t.next) t.phase → Transition me memory w t plan after → Grown me w after.world
 grown me memory w t plan _ h (stays i) = unchanged me w w refl refl (omega arith)
 grown me memory w t plan _ h (peeks p e f) = unchanged me w _ refl refl (omega arith)
 grown me memory w t plan _ h (acquires p e b) = unchanged me w _ refl refl (omega arith)

@@ -16,7 +16,6 @@ use Rattle.elsa_machine.specs.declared.machine.turns.Thread.{Thread}
 use Rattle.elsa_machine.specs.Geometry.{slots_before}
 use Rattle.elsa_machine.specs.Machine.{slot_item, Moved, with_event, with_answer}
 use Rattle.elsa_machine.specs.Worlds.{list_of, AreLooksRight, placed, HasWritesInOrder}
-use Rattle.elsa_machine.specs.AtomicSteps.{}
 use Rattle.elsa_machine.proofs.GeometryLemmas.Powers.{before_power}
 use Rattle.elsa_machine.proofs.MachineLemmas.Rules.{Transition, stays, peeks, acquires, loses, writes, opens, denies, publishes, refuses, looks, misses, reads, clones_none, clone_looks, copies, clones, clone_fails}
 
@@ -50,7 +49,7 @@ placed_more p [] e = rw add-zero
 placed_more p (d ∷ es) e = rw (placed_more (suc p) es e, add-suc, ← suc-add) refl
 
 -- what the state of a thread says of the world: its number, its next item and its state
-abbrev pub HolderOk : World → ℕ → Option ℕ → Phase → Type 0
+abbrev pub HolderOk : {A : Type 0} → World A → ℕ → Option ℕ → Phase → Type 0
 HolderOk w me item Ready = w.held ≢ Some me
 HolderOk w me item (Peeked n) = w.held ≢ Some me
 HolderOk w me item (Acquired n) = (w.held ≡ Some me) × (w.writes ≡ placed 0 (list_of w.events)) × (n ≡ w.length)
@@ -60,13 +59,13 @@ HolderOk w me item (Looked n) = w.held ≢ Some me
 HolderOk w me item Done = w.held ≢ Some me
 
 -- the next item of a pusher's plan
-abbrev pub next_item : Plan → ℕ → Option ℕ
+abbrev pub next_item : {A : Type 0} → Plan A → ℕ → Option ℕ
 next_item (Pusher items) next = slice_get items next
 next_item (Reader is) next = None
 next_item Cloner next = None
 
 -- what holds of the world alone
-pub record WorldOk (w : World) : Type 0 where
+pub record WorldOk {A : Type 0} (w : World A) : Type 0 where
   pub looks : AreLooksRight 0 w.events
   pub counted : w.length ≡ length (list_of w.events)
   pub slots : slots_before w.opened ≤ 4 * w.length + 3
@@ -76,7 +75,7 @@ pub record WorldOk (w : World) : Type 0 where
   pub in_order : HasWritesInOrder w
 
 -- a world that differs in nothing that another thread's state speaks of, where that thread does not hold
-pub other : (v w : World) (me you : ℕ) (item : Option ℕ) (phase : Phase) → (w.held ≡ Some you → ⊥) → (v.held ≡ Some you → ⊥) → HolderOk v you item phase → HolderOk w you item phase
+pub other : {A : Type 0} (v w : World A) (me you : ℕ) (item : Option ℕ) (phase : Phase) → (w.held ≡ Some you → ⊥) → (v.held ≡ Some you → ⊥) → HolderOk v you item phase → HolderOk w you item phase
 other v w me you item Ready nw nv h = nw
 other v w me you item (Peeked n) nw nv h = nw
 other v w me you item (Acquired n) nw nv h = absurd (nv h.0)
@@ -86,7 +85,7 @@ other v w me you item (Looked n) nw nv h = nw
 other v w me you item Done nw nv h = nw
 
 -- two worlds that are the same but for answers and looks
-pub record Same (v w : World) : Type 0 where
+pub record Same {A : Type 0} (v w : World A) : Type 0 where
   pub length_is : w.length ≡ v.length
   pub held_is : w.held ≡ v.held
   pub opened_is : w.opened ≡ v.opened
@@ -94,7 +93,7 @@ pub record Same (v w : World) : Type 0 where
   pub list_is : list_of w.events ≡ list_of v.events
 
 -- a turn that changes answers and looks alone keeps what a thread's state says of the world
-pub same_holder : (v w : World) (me : ℕ) (item : Option ℕ) (phase : Phase) → Same v w → HolderOk v me item phase → HolderOk w me item phase
+pub same_holder : {A : Type 0} (v w : World A) (me : ℕ) (item : Option ℕ) (phase : Phase) → Same v w → HolderOk v me item phase → HolderOk w me item phase
 same_holder v w me item Ready s h = λ q. h (sym s.held_is ∙ q)
 same_holder v w me item (Peeked n) s h = λ q. h (sym s.held_is ∙ q)
 same_holder v w me item (Acquired n) s h = (s.held_is ∙ h.0, s.writes_are ∙ h.1 ∙ ap (placed 0) (sym s.list_is), h.2 ∙ sym s.length_is)
@@ -105,7 +104,7 @@ same_holder v w me item (Looked n) s h = λ q. h (sym s.held_is ∙ q)
 same_holder v w me item Done s h = λ q. h (sym s.held_is ∙ q)
 
 -- and what holds of the world alone
-pub same_world : (v w : World) → Same v w → AreLooksRight 0 w.events → WorldOk v → WorldOk w
+pub same_world : {A : Type 0} (v w : World A) → Same v w → AreLooksRight 0 w.events → WorldOk v → WorldOk w
 same_world v w s l ok = record {
   looks = l;
   counted = s.length_is ∙ ok.counted ∙ ap length (sym s.list_is);
@@ -117,31 +116,23 @@ same_world v w s l ok = record {
 }
 
 -- what a turn keeps
-pub record Kept (me : ℕ) (plan : Plan) (w : World) (after : Moved) : Type 0 where
+pub record Kept {A : Type 0} (me : ℕ) (plan : Plan A) (w : World A) (after : Moved A) : Type 0 where
   pub world : WorldOk after.world
   pub own : HolderOk after.world me (next_item plan after.thread.next) after.thread.phase
   pub others : (you : ℕ) (item : Option ℕ) (phase : Phase) → (you ≡ me → ⊥) → HolderOk w you item phase → HolderOk after.world you item phase
 
 -- a look, with or without an answer
-pub looked : (w : World) (me : ℕ) → WorldOk w → Same w (with_event w (Look me w.length)) × AreLooksRight 0 (w.events ++ Look me w.length ∷ [])
+pub looked : {A : Type 0} (w : World A) (me : ℕ) → WorldOk w → Same w (with_event w (Look me w.length)) × AreLooksRight 0 (w.events ++ Look me w.length ∷ [])
 looked w me ok = (record { length_is = refl; held_is = refl; opened_is = refl; writes_are = refl; list_is = list_same w.events me w.length }, right_look 0 w.events me w.length (omega (arith, ok.counted)) ok.looks)
 
-own_at : (w : World) (me : ℕ) (plan : Plan) (next : ℕ) (phase was : Phase) → was ≡ phase → HolderOk w me (next_item plan next) was → HolderOk w me (next_item plan next) phase
+own_at : {A : Type 0} (w : World A) (me : ℕ) (plan : Plan A) (next : ℕ) (phase was : Phase) → was ≡ phase → HolderOk w me (next_item plan next) was → HolderOk w me (next_item plan next) phase
 own_at w me plan next phase was e h = subst (HolderOk w me (next_item plan next)) e h
 
--- a turn that leaves all but answers and looks, by a thread that neither held nor holds
-pub told : (me : ℕ) (plan : Plan) (w : World) (after : Moved) → Same w after.world → AreLooksRight 0 after.world.events → WorldOk w → HolderOk after.world me (next_item plan after.thread.next) after.thread.phase → Kept me plan w after
-told me plan w after s l ok h = record {
-  world = same_world w after.world s l ok;
-  own = h;
-  others = λ you item phase ne k. same_holder w after.world you item phase s k;
-}
-
-same_answer : (w : World) (me : ℕ) → Same w w
+same_answer : {A : Type 0} (w : World A) (me : ℕ) → Same w w
 same_answer w me = record { length_is = refl; held_is = refl; opened_is = refl; writes_are = refl; list_is = refl }
 
 -- a turn of the thread that holds, or that takes what nobody holds
-taken : (v w : World) (me : ℕ) → (v.held ≡ None) ⊎ (v.held ≡ Some me) → (w.held ≡ None) ⊎ (w.held ≡ Some me) → (you : ℕ) (item : Option ℕ) (phase : Phase) → (you ≡ me → ⊥) → HolderOk v you item phase → HolderOk w you item phase
+taken : {A : Type 0} (v w : World A) (me : ℕ) → (v.held ≡ None) ⊎ (v.held ≡ Some me) → (w.held ≡ None) ⊎ (w.held ≡ Some me) → (you : ℕ) (item : Option ℕ) (phase : Phase) → (you ≡ me → ⊥) → HolderOk v you item phase → HolderOk w you item phase
 taken v w me a b you item phase ne h =
     other v w me you item phase
     (λ q. elim b [ inl e ↦ cc | inr e ↦ absurd (ne cc) ])
@@ -165,7 +156,7 @@ placed_length p [] = refl
 placed_length p (e ∷ es) = ap suc (placed_length (suc p) es)
 
 -- the writes are as many as the places of the list
-pub writes_length : (w : World) → w.length ≡ length (list_of w.events) → w.writes ≡ placed 0 (list_of w.events) → length w.writes ≡ w.length
+pub writes_length : {A : Type 0} (w : World A) → w.length ≡ length (list_of w.events) → w.writes ≡ placed 0 (list_of w.events) → length w.writes ≡ w.length
 writes_length w c h = ap length h ∙ placed_length 0 (list_of w.events) ∙ sym c
 
 below_31 : (memory : Bool) (o : ℕ) → (memory && nat_lt o 31) ≡ true → o + 1 ≤ 31
@@ -173,15 +164,15 @@ below_31 true o c = let h : o < 31 = ltb-true _ _ c in omega arith
 below_31 false o c = cc
 
 -- an answer more
-tell : (v w : World) (a : Answer) → Same v w → Same v (with_answer w a)
+tell : {A : Type 0} (v w : World A) (a : Answer A) → Same v w → Same v (with_answer w a)
 tell v w a s = record { length_is = s.length_is; held_is = s.held_is; opened_is = s.opened_is; writes_are = s.writes_are; list_is = s.list_is }
 
-published : (w : World) (me x n y : ℕ) → y ≡ x → n ≡ length (list_of w.events) → w.writes ≡ placed 0 (list_of w.events) ++ (n, y) ∷ [] → w.writes ≡ placed 0 (list_of (w.events ++ Append me x ∷ []))
+published : {A : Type 0} (w : World A) (me x n y : ℕ) → y ≡ x → n ≡ length (list_of w.events) → w.writes ≡ placed 0 (list_of w.events) ++ (n, y) ∷ [] → w.writes ≡ placed 0 (list_of (w.events ++ Append me x ∷ []))
 published w me x n y e l h =
     h ∙ rw (list_more w.events me x, placed_more 0 (list_of w.events) (me, x), zero-add, ← l, e) refl
 
 -- a turn of the thread that holds, or that takes what nobody holds, keeps what the others know
-pub held_turn : (me : ℕ) (plan : Plan) (w : World) (after : Moved) → (w.held ≡ None) ⊎ (w.held ≡ Some me) → (after.world.held ≡ None) ⊎ (after.world.held ≡ Some me) → WorldOk after.world → HolderOk after.world me (next_item plan after.thread.next) after.thread.phase → Kept me plan w after
+pub held_turn : {A : Type 0} (me : ℕ) (plan : Plan A) (w : World A) (after : Moved A) → (w.held ≡ None) ⊎ (w.held ≡ Some me) → (after.world.held ≡ None) ⊎ (after.world.held ≡ Some me) → WorldOk after.world → HolderOk after.world me (next_item plan after.thread.next) after.thread.phase → Kept me plan w after
 held_turn me plan w after a b ok h = record { world = ok; own = h; others = taken w after.world me a b }
 
 some_same : (item : Option ℕ) (x y : ℕ) → item ≡ Some x → item ≡ Some y → x ≡ y
@@ -193,7 +184,7 @@ freed None len n b = let e : len ≡ n = search (rules, tests) in (refl, sym e)
 freed (Some u) len n b = cc
 
 -- each transition keeps all of this
-pub kept : (me : ℕ) (memory : Bool) (w : World) (t : Thread) (plan : Plan) (after : Moved) → WorldOk w → HolderOk w me (next_item plan t.next) t.phase → Transition me memory w t plan after → Kept me plan w after
+pub kept : {A : Type 0} (me : ℕ) (memory : Bool) (w : World A) (t : Thread A) (plan : Plan A) (after : Moved A) → WorldOk w → HolderOk w me (next_item plan t.next) t.phase → Transition me memory w t plan after → Kept me plan w after
 kept me memory w t plan _ ok h (stays i) = record { world = ok; own = h; others = λ you item phase ne k. k }
 kept me memory w t plan _ ok h (peeks {items} {x} p e f) =
     let k = own_at w me plan t.next Ready t.phase p h in
@@ -273,11 +264,11 @@ kept me memory w t plan _ ok h (clone_fails {n} p m) =
     record { world = same_world w _ s ok.looks ok; own = own_at w me plan t.next (Looked n) t.phase p h; others = λ you item phase ne k. same_holder w _ you item phase s k }
 
 -- a thread holds after a turn only if it held before, or the turn was its own
-abbrev pub HeldFrom : ℕ → World → World → Type 0
+abbrev pub HeldFrom : {A : Type 0} → ℕ → World A → World A → Type 0
 HeldFrom me v w = (you : ℕ) → w.held ≡ Some you → (v.held ≡ Some you) ⊎ (you ≡ me)
 
 -- each transition is so
-pub held_from : (plan : Plan) (me : ℕ) (memory : Bool) (w : World) (t : Thread) (after : Moved) → Transition me memory w t plan after → HeldFrom me w after.world
+pub held_from : {A : Type 0} (plan : Plan A) (me : ℕ) (memory : Bool) (w : World A) (t : Thread A) (after : Moved A) → Transition me memory w t plan after → HeldFrom me w after.world
 held_from plan me memory w t _ (stays i) = λ you h. inl h
 held_from plan me memory w t _ (peeks p e f) = λ you h. inl h
 held_from plan me memory w t _ (acquires p e b) = λ you h. inr (let q : Some me ≡ Some you = h in cc)

@@ -9,7 +9,7 @@ use Rattle.elsa_machine.specs.Worlds.{list_of, answers_of, AreOutcomes, IsNoPlac
 use Rattle.elsa_machine.proofs.MachineLemmas.Runs.{pushes_right}
 
 -- what the list has at a place that a pusher was told, and that the place is no lower than the bound
-outcome_at : (list : List (ℕ × ℕ)) (t least : ℕ) (items : List ℕ) (xs : List Answer) (k by place : ℕ) → AreOutcomes list t least items xs → slice_get xs k ≡ Some (Pushed by place) → ((x : ℕ) × (slice_get list place ≡ Some (t, x))) × (least ≤ place)
+outcome_at : {A : Type 0} (list : List (ℕ × ℕ)) (t least : ℕ) (items : List ℕ) (xs : List (Answer A)) (k by place : ℕ) → AreOutcomes list t least items xs → slice_get xs k ≡ Some (Pushed by place) → ((x : ℕ) × (slice_get list place ≡ Some (t, x))) × (least ≤ place)
 outcome_at list t least items [] k by place h e = cc
 outcome_at list t least (x ∷ items) (Pushed u p ∷ xs) zero by place h e = let q : p ≡ place = cc in ((x, subst (λ z. slice_get list z ≡ Some (t, x)) q h.0), omega (arith, h.1, q))
 outcome_at list t least (x ∷ items) (Pushed u p ∷ xs) (suc k) by place h e = let r = outcome_at list t (suc p) items xs k by place h.2 e in (r.0, omega (arith, r.1, h.1))
@@ -24,7 +24,7 @@ outcome_at list t least [] (Read u i v ∷ xs) k by place h e = absurd h
 outcome_at list t least [] (Cloned u c ∷ xs) k by place h e = absurd h
 outcome_at list t least [] (CloneRefused u ∷ xs) k by place h e = absurd h
 
-once : (list : List (ℕ × ℕ)) (t least : ℕ) (items : List ℕ) (xs : List Answer) (j k by of place : ℕ) → AreOutcomes list t least items xs → slice_get xs j ≡ Some (Pushed by place) → slice_get xs k ≡ Some (Pushed of place) → j ≡ k
+once : {A : Type 0} (list : List (ℕ × ℕ)) (t least : ℕ) (items : List ℕ) (xs : List (Answer A)) (j k by of place : ℕ) → AreOutcomes list t least items xs → slice_get xs j ≡ Some (Pushed by place) → slice_get xs k ≡ Some (Pushed of place) → j ≡ k
 once list t least items [] j k by of place h e f = cc
 once list t least (x ∷ items) (Pushed u p ∷ xs) zero zero by of place h e f = refl
 once list t least (x ∷ items) (Pushed u p ∷ xs) zero (suc k) by of place h e f = let q : p ≡ place = cc in let r = outcome_at list t (suc p) items xs k of place h.2 f in absurd (omega (arith, r.1, q))
@@ -46,7 +46,7 @@ author_is : (found : Option (ℕ × ℕ)) (t x u y : ℕ) → found ≡ Some (t,
 author_is found t x u y e f = let p : ◌≡◌ {A = ℕ × ℕ} (t, x) (u, y) = cc in ap (λ (z : ℕ × ℕ). z.0) p
 
 -- in the world of every schedule, two pushes that were told one place are one push
-pub no_place_twice : (plans : List Plan) (schedule : List Turn) → IsNoPlaceTwice plans (world_of plans schedule)
+pub no_place_twice : {A : Type 0} (plans : List (Plan A)) (schedule : List Turn) → IsNoPlaceTwice plans (world_of plans schedule)
 no_place_twice plans schedule = λ one other items others j k by of place pe qe e f.
     let w = world_of plans schedule in
     let a = pushes_right plans schedule one items pe in

@@ -32,7 +32,7 @@ LooksDue is ls len next Denied = ⊥
 LooksDue is ls len next Done = ⊥
 
 -- what a reader was told so far, and whether it has a look to answer
-pub record ReaderOk (is : List ℕ) (me : ℕ) (w : World) (next : ℕ) (phase : Phase) : Type 0 where
+pub record ReaderOk {A : Type 0} (is : List ℕ) (me : ℕ) (w : World A) (next : ℕ) (phase : Phase) : Type 0 where
   pub met : AreReads (list_of w.events) me is (looks_of me w.events) (answers_of me w.answers)
   pub count : length (answers_of me w.answers) ≡ next
   pub due : LooksDue is (looks_of me w.events) w.length next phase
@@ -46,11 +46,11 @@ due_up is ls a b next (Written n) h k = k
 due_up is ls a b next Denied h k = k
 due_up is ls a b next Done h k = k
 
-read_grows : (list more : List (ℕ × ℕ)) (t : ℕ) (is ns : List ℕ) (k : ℕ) (a : Answer) → IsRead list t is ns k a → IsRead (list ++ more) t is ns k a
+read_grows : {A : Type 0} (list more : List (ℕ × ℕ)) (t : ℕ) (is ns : List ℕ) (k : ℕ) (a : Answer A) → IsRead list t is ns k a → IsRead (list ++ more) t is ns k a
 read_grows list more t is ns k a r = record { index = r.index; seen = r.seen; value = r.value; told = r.told; asked = r.asked; looked = r.looked; right = read_more list more r.index r.seen r.value r.right }
 
 -- another thread's turn keeps what a reader was told
-pub reader_grown : (is : List ℕ) (me you : ℕ) (v w : World) (next : ℕ) (phase : Phase) → (you ≡ me → ⊥) → Grown me v w → ReaderOk is you v next phase → ReaderOk is you w next phase
+pub reader_grown : {A : Type 0} (is : List ℕ) (me you : ℕ) (v w : World A) (next : ℕ) (phase : Phase) → (you ≡ me → ⊥) → Grown me v w → ReaderOk is you v next phase → ReaderOk is you w next phase
 reader_grown is me you v w next phase ne g h = record {
   met = rw (g.told you ne, g.seen you ne, g.list_is) (λ k a e. read_grows (list_of v.events) g.more you is (looks_of you v.events) k a (h.met k a e));
   count = rw (g.told you ne) h.count;
@@ -58,20 +58,20 @@ reader_grown is me you v w next phase ne g h = record {
 }
 
 -- a reader's looks, one more; and its reads, one more
-reads_look : (list : List (ℕ × ℕ)) (t : ℕ) (is ns : List ℕ) (xs : List Answer) (n : ℕ) → AreReads list t is ns xs → AreReads list t is (ns ++ n ∷ []) xs
+reads_look : {A : Type 0} (list : List (ℕ × ℕ)) (t : ℕ) (is ns : List ℕ) (xs : List (Answer A)) (n : ℕ) → AreReads list t is ns xs → AreReads list t is (ns ++ n ∷ []) xs
 reads_look list t is ns xs n h = λ k a e. let r = h k a e in record { index = r.index; seen = r.seen; value = r.value; told = r.told; asked = r.asked; looked = get_more ns (n ∷ []) k r.seen r.looked; right = r.right }
 
-reads_answer : (list : List (ℕ × ℕ)) (t : ℕ) (is ns : List ℕ) (xs : List Answer) (i n : ℕ) (v : Option ℕ) → slice_get is (length xs) ≡ Some i → slice_get ns (length xs) ≡ Some n → IsReadAt list i n v → AreReads list t is ns xs → AreReads list t is ns (xs ++ Read t i v ∷ [])
+reads_answer : {A : Type 0} (list : List (ℕ × ℕ)) (t : ℕ) (is ns : List ℕ) (xs : List (Answer A)) (i n : ℕ) (v : Option ℕ) → slice_get is (length xs) ≡ Some i → slice_get ns (length xs) ≡ Some n → IsReadAt list i n v → AreReads list t is ns xs → AreReads list t is ns (xs ++ Read t i v ∷ [])
 reads_answer list t is ns xs i n v e f r h = λ k a q. elim (get_push xs (Read t i v) k a q) [
   | inl p ↦ h k a p
   | inr p ↦ record { index = i; seen = n; value = v; told = sym p.1; asked = subst (λ j. slice_get is j ≡ Some i) (sym p.0) e; looked = subst (λ j. slice_get ns j ≡ Some n) (sym p.0) f; right = r }
 ]
 
-reader_phase : (is : List ℕ) (me : ℕ) (w : World) (next : ℕ) (was phase : Phase) → was ≡ phase → ReaderOk is me w next was → ReaderOk is me w next phase
+reader_phase : {A : Type 0} (is : List ℕ) (me : ℕ) (w : World A) (next : ℕ) (was phase : Phase) → was ≡ phase → ReaderOk is me w next was → ReaderOk is me w next phase
 reader_phase is me w next was phase e h = subst (ReaderOk is me w next) e h
 
 -- a reader's own turn keeps it
-pub reader_kept : (me : ℕ) (memory : Bool) (w : World) (t : Thread) (is : List ℕ) (after : Moved) → WorldOk w → ReaderOk is me w t.next t.phase → Transition me memory w t (Reader is) after → ReaderOk is me after.world after.thread.next after.thread.phase
+pub reader_kept : {A : Type 0} (me : ℕ) (memory : Bool) (w : World A) (t : Thread A) (is : List ℕ) (after : Moved A) → WorldOk w → ReaderOk is me w t.next t.phase → Transition me memory w t (Reader is) after → ReaderOk is me after.world after.thread.next after.thread.phase
 reader_kept me memory w t is _ ok k (stays i) = k
 reader_kept me memory w t _ _ ok k (looks {is} {i} p e b) =
     let q = reader_phase is me w t.next t.phase Ready p k in

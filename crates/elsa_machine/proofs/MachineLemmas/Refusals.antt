@@ -22,7 +22,7 @@ use Rattle.elsa_machine.proofs.MachineLemmas.Runs.{Sound, sound_turned, sound_op
 use Rattle.elsa_machine.proofs.MachineLemmas.Moments.{plan_of, turned_is, turned_other}
 
 -- how many of a thread's answers are such
-abbrev pub told : (Answer → Bool) → ℕ → World → ℕ
+abbrev pub told : {A : Type 0} → (Answer A → Bool) → ℕ → World A → ℕ
 told such me w = count_by such (answers_of me w.answers)
 
 -- one if the test holds, else none
@@ -30,20 +30,20 @@ abbrev pub one_if : Bool → ℕ
 one_if b = if b then 1 else 0
 
 -- one answer more of one's own
-own_answer : (such : Answer → Bool) (me : ℕ) (w : World) (a : Answer) → answer_thread a ≡ me → count_by such (answers_of me (w.answers ++ a ∷ [])) ≡ told such me w + cond (such a) 1 0
+own_answer : {A : Type 0} (such : Answer A → Bool) (me : ℕ) (w : World A) (a : Answer A) → answer_thread a ≡ me → count_by such (answers_of me (w.answers ++ a ∷ [])) ≡ told such me w + cond (such a) 1 0
 own_answer such me w a e = ap (count_by such) (answers_mine me w.answers a e) ∙ sum_by-append (λ x. cond (such x) 1 0) (answers_of me w.answers) (a ∷ []) ∙ omega arith
 
-answers_kept : (plans : List Plan) (m : Machine) (turn : Turn) (me : ℕ) → Sound plans m → (me ≡ turn.thread → ⊥) → answers_of me (turned plans m turn).world.answers ≡ answers_of me m.world.answers
+answers_kept : {A : Type 0} (plans : List (Plan A)) (m : Machine A) (turn : Turn) (me : ℕ) → Sound plans m → (me ≡ turn.thread → ⊥) → answers_of me (turned plans m turn).world.answers ≡ answers_of me m.world.answers
 answers_kept plans m turn me s ne = turned_cases (λ n. answers_of me n.world.answers ≡ answers_of me m.world.answers) plans m turn refl
     (λ plan t e f. (grown turn.thread turn.memory m.world t plan _ (s.threads turn.thread plan t e f) (transition plan turn.thread turn.memory m.world t)).told me ne)
 
 -- what a turn does: a thread has no more such answers, with those that its state still owes, than before and one for an earning turn
-abbrev pub IsEarned : (Answer → Bool) → (Phase → ℕ) → (Option Thread → World → Bool → Bool) → Type 0
-IsEarned such owed test = (me : ℕ) (memory : Bool) (w : World) (t : Thread) (plan : Plan) (after : Moved) → Transition me memory w t plan after →
+abbrev pub IsEarned : {A : Type 0} → (Answer A → Bool) → (Phase → ℕ) → (Option (Thread A) → World A → Bool → Bool) → Type 0
+IsEarned such owed test = (me : ℕ) (memory : Bool) (w : World _) (t : Thread _) (plan : Plan _) (after : Moved _) → Transition me memory w t plan after →
     told such me after.world + owed after.thread.phase ≤ told such me w + owed t.phase + one_if (test (Some t) w memory)
 
-earned_run : (such : Answer → Bool) (owed : Phase → ℕ) (test : Option Thread → World → Bool → Bool) → IsEarned such owed test →
-    (plans : List Plan) (rest : List Turn) (m : Machine) (me : ℕ) (t : Thread) → Sound plans m → slice_get m.threads me ≡ Some t →
+earned_run : {A : Type 0} (such : Answer A → Bool) (owed : Phase → ℕ) (test : Option (Thread A) → World A → Bool → Bool) → IsEarned such owed test →
+    (plans : List (Plan A)) (rest : List Turn) (m : Machine A) (me : ℕ) (t : Thread A) → Sound plans m → slice_get m.threads me ≡ Some t →
     told such me (fold (turned plans) m rest).world ≤ told such me m.world + owed t.phase + turns_that test plans me m rest
 earned_run such owed test step plans [] m me t s e = omega arith
 earned_run such owed test step plans (turn ∷ rest) m me t s e =
@@ -79,10 +79,10 @@ owed (Written n) = 0
 owed (Looked n) = 0
 owed Done = 0
 
-denial : (w : World) (memory : Bool) (t : Thread) (n : ℕ) → t.phase ≡ Acquired n → nat_lt n (slots_before w.opened) ≡ false → (memory && nat_lt w.opened 31) ≡ false → is_denied (Some t) w memory ≡ true
+denial : {A : Type 0} (w : World A) (memory : Bool) (t : Thread A) (n : ℕ) → t.phase ≡ Acquired n → nat_lt n (slots_before w.opened) ≡ false → (memory && nat_lt w.opened 31) ≡ false → is_denied (Some t) w memory ≡ true
 denial w memory t n p b c = ap (λ q. is_phase_denied q w memory) p ∙ ap (λ z. not z && not (memory && nat_lt w.opened 31)) b ∙ ap (λ z. not z) c
 
-denied_step : IsEarned is_refusal owed is_denied
+denied_step : {A : Type 0} → IsEarned {A = A} is_refusal owed is_denied
 denied_step me memory w t plan _ (stays i) = omega arith
 denied_step me memory w t plan _ (peeks p e f) = omega arith
 denied_step me memory w t plan _ (acquires p e b) = omega arith
@@ -102,7 +102,7 @@ denied_step me memory w t plan _ (clones p m b) = omega (arith, own_answer is_re
 denied_step me memory w t plan _ (clone_fails p m) = omega (arith, own_answer is_refusal me w (CloneRefused me) refl)
 
 -- after every schedule each refused push had its turn without memory
-pub refusals_earned : (plans : List Plan) (schedule : List Turn) → AreRefusalsEarned plans schedule
+pub refusals_earned : {A : Type 0} (plans : List (Plan A)) (schedule : List Turn) → AreRefusalsEarned plans schedule
 refusals_earned plans schedule = λ me plan pe.
     let m = opening plans in
     let s = sound_opening plans in
@@ -114,10 +114,10 @@ refusals_earned plans schedule = λ me plan pe.
 abbrev pub none_owed : Phase → ℕ
 none_owed phase = 0
 
-failed : (w : World) (memory : Bool) (t : Thread) (n : ℕ) → t.phase ≡ Looked n → memory ≡ false → is_failed_copy (Some t) w memory ≡ true
+failed : {A : Type 0} (w : World A) (memory : Bool) (t : Thread A) (n : ℕ) → t.phase ≡ Looked n → memory ≡ false → is_failed_copy (Some t) w memory ≡ true
 failed w memory t n p b = ap (λ q. is_looked q && not memory) p ∙ ap not b
 
-failed_step : IsEarned is_clone_refusal none_owed is_failed_copy
+failed_step : {A : Type 0} → IsEarned {A = A} is_clone_refusal none_owed is_failed_copy
 failed_step me memory w t plan _ (stays i) = omega arith
 failed_step me memory w t plan _ (peeks p e f) = omega arith
 failed_step me memory w t plan _ (acquires p e b) = omega arith
@@ -137,7 +137,7 @@ failed_step me memory w t plan _ (clones p m b) = omega (arith, own_answer is_cl
 failed_step me memory w t plan _ (clone_fails {n} p m) = let d = ap one_if (failed w memory t n p m) in omega (arith, own_answer is_clone_refusal me w (CloneRefused me) refl, d)
 
 -- after every schedule each refused clone had its turn without memory
-pub clone_refusals_earned : (plans : List Plan) (schedule : List Turn) → AreCloneRefusalsEarned plans schedule
+pub clone_refusals_earned : {A : Type 0} (plans : List (Plan A)) (schedule : List Turn) → AreCloneRefusalsEarned plans schedule
 clone_refusals_earned plans schedule = λ me plan pe.
     let m = opening plans in
     let s = sound_opening plans in

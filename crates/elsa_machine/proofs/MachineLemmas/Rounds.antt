@@ -1,9 +1,8 @@
 -- Where each thread that goes on has turns enough, it is done with its plan. In six rounds some pusher has one more
 -- outcome: a free lock is taken within three, and a lock that is held is released within three.
-use Rattle.std.proofs.Common.{ℕ, zero, suc, ◌+◌, ◌*◌, ◌<◌, ◌≤◌, ◌≡◌, ◌⊎◌, Bool, true, false, ◌==◌, List, [], ◌∷◌, ◌++◌, length, Option, Some, None, slice_get, take, drop, refl, arith, inl, inr, ap, sym, ◌∙◌, subst, append_assoc, true≢false, zero-add, take-append-drop}
-use Rattle.std.specs.Bool.{if◌then◌else◌}
+use Rattle.std.proofs.Common.{ℕ, zero, suc, ◌+◌, ◌*◌, ◌<◌, ◌≤◌, ◌≡◌, ◌⊎◌, Bool, true, List, [], ◌∷◌, ◌++◌, length, Option, Some, None, slice_get, take, drop, refl, arith, inl, inr, ap, sym, ◌∙◌, subst, append_assoc, zero-add, take-append-drop}
 use Rattle.std.specs.List.{fold}
-use Rattle.std.specs.Prelude.{is_none, All}
+use Rattle.std.specs.Prelude.{All}
 use Rattle.std.proofs.lemmas.List.Sums.{fold-append}
 use Rattle.std.proofs.lemmas.List.Elements.{All-take, All-drop, All-append}
 use Rattle.std.proofs.Math.Seq.{take-add, drop-drop}
@@ -21,130 +20,17 @@ use Rattle.elsa_machine.specs.Machine.{Moved, thread_turn, Machine, turned, open
 use Rattle.elsa_machine.specs.Worlds.{list_of, answers_of, looks_of, AreOutcomes, AreReads}
 use Rattle.elsa_machine.specs.Turns.{turns_of}
 use Rattle.elsa_machine.specs.Progress.{HasRounds, rounds_of, rounds_for, IsDone, PlansEnd}
-use Rattle.elsa_machine.proofs.MachineLemmas.Rules.{IsPusherIdle, IsLookerIdle, Transition, transition, stays, peeks, acquires, loses, writes, opens, denies, publishes, refuses, looks, misses, reads, clones_none, clone_looks, copies, clones, clone_fails}
-use Rattle.elsa_machine.proofs.MachineLemmas.Kept.{HolderOk, next_item, HeldFrom, held_from}
-use Rattle.elsa_machine.proofs.MachineLemmas.Growth.{eqb_same, entry_at}
-use Rattle.elsa_machine.proofs.MachineLemmas.Pushers.{IsPushing}
+use Rattle.elsa_machine.proofs.MachineLemmas.Rules.{IsLookerIdle, Transition, transition, stays, looks, misses, reads}
+use Rattle.elsa_machine.proofs.MachineLemmas.Kept.{HeldFrom, held_from}
+use Rattle.elsa_machine.proofs.MachineLemmas.Growth.{entry_at}
 use Rattle.elsa_machine.proofs.MachineLemmas.Readers.{LooksDue, ReaderOk}
 use Rattle.elsa_machine.proofs.MachineLemmas.Cloners.{ClonerOk}
 use Rattle.elsa_machine.proofs.MachineLemmas.Runs.{Sound, same_or_not, turned_cases, sound_turned, sound_opening, sound_run, sound}
-use Rattle.elsa_machine.proofs.MachineLemmas.Moments.{turned_is, turned_other, run_up, own_turn}
+use Rattle.elsa_machine.proofs.MachineLemmas.Moments.{turned_other, run_up, own_turn}
 use Rattle.elsa_machine.proofs.MachineLemmas.Left.{all_left, left_part, left_run}
 use Rattle.elsa_machine.proofs.MachineLemmas.Holds.{hold_few, turns_mine, turns_others, hold_ends, holder}
-use Rattle.elsa_machine.proofs.MachineLemmas.Solo.{lost}
 use Rattle.elsa_machine.proofs.MachineLemmas.ClonesEnd.{HasHadTurns, cloner_after}
-
--- how many turns of a pusher with an item left a free lock stays free at most, where nobody else takes it
-abbrev pub free_left : World → Phase → ℕ
-free_left w Ready = 2
-free_left w (Peeked n) = if w.length == n then 1 else 3
-free_left w (Acquired n) = 1
-free_left w (Written n) = 1
-free_left w Denied = 1
-free_left w (Looked n) = 1
-free_left w Done = 1
-
-one_or_three : (b : Bool) → (0 < (if b then 1 else 3)) × ((if b then 1 else 3) ≤ 3)
-one_or_three true = (omega arith, omega arith)
-one_or_three false = (omega arith, omega arith)
-
-free_few : (w : World) (phase : Phase) → (0 < free_left w phase) × (free_left w phase ≤ 3)
-free_few w Ready = (omega arith, omega arith)
-free_few w (Peeked n) = one_or_three (w.length == n)
-free_few w (Acquired n) = (omega arith, omega arith)
-free_few w (Written n) = (omega arith, omega arith)
-free_few w Denied = (omega arith, omega arith)
-free_few w (Looked n) = (omega arith, omega arith)
-free_few w Done = (omega arith, omega arith)
-
--- where nobody holds, a pusher with an item left has something to do
-free_busy : (w : World) (me : ℕ) (item : Option ℕ) (phase : Phase) (x : ℕ) → w.held ≡ None → IsPushing item phase → IsPusherIdle (Some x) w phase → ⊥
-free_busy w me item Ready x f q i = true≢false (sym (ap is_none f) ∙ i)
-free_busy w me item (Peeked n) x f q i = i
-free_busy w me item (Acquired n) x f q i = i
-free_busy w me item (Written n) x f q i = i
-free_busy w me item Denied x f q i = i
-free_busy w me item (Looked n) x f q i = q
-free_busy w me item Done x f q i = q
-
--- its turn takes the lock, or brings it nearer to that
-free_step : (me : ℕ) (memory : Bool) (w : World) (t : Thread) (items : List ℕ) (x : ℕ) (after : Moved) → HolderOk w me (slice_get items t.next) t.phase → IsPushing (slice_get items t.next) t.phase → slice_get items t.next ≡ Some x → w.held ≡ None →
-    Transition me memory w t (Pusher items) after → after.world.held ≡ None → (after.thread.next ≡ t.next) × (suc (free_left after.world after.thread.phase) ≤ free_left w t.phase)
-free_step me memory w t items x _ h q ix f (stays i) g = absurd (free_busy w me (slice_get items t.next) t.phase x f q (subst (λ z. IsPusherIdle z w t.phase) ix i))
-free_step me memory w t _ x _ h q ix f (peeks p e b) g =
-    let l : free_left w t.phase ≡ 2 = ap (free_left w) p in
-    let r : free_left w (Peeked w.length) ≡ 1 = ap (λ z. if z then 1 else 3) (eqb_same w.length) in
-    (refl, omega (arith, l, r))
-free_step me memory w t _ x _ h q ix f (acquires p e b) g = cc
-free_step me memory w t _ x _ h q ix f (loses {items} {x = y} {n} p e b) g =
-    let l : free_left w t.phase ≡ 3 = ap (free_left w) p ∙ ap (λ z. if z then 1 else 3) (lost w.held w.length n f b) in
-    (refl, omega (arith, l))
-free_step me memory w t _ x _ h q ix f (writes {items} p e b) g = absurd (let k = (subst (HolderOk w me (slice_get items t.next)) p h).0 in cc)
-free_step me memory w t _ x _ h q ix f (opens {items} p e b c) g = absurd (let k = (subst (HolderOk w me (slice_get items t.next)) p h).0 in cc)
-free_step me memory w t _ x _ h q ix f (denies {items} p e b c) g = absurd (let k = (subst (HolderOk w me (slice_get items t.next)) p h).0 in cc)
-free_step me memory w t _ x _ h q ix f (publishes {items} p e) g = absurd (let k = (subst (HolderOk w me (slice_get items t.next)) p h).0 in cc)
-free_step me memory w t _ x _ h q ix f (refuses {items} p e) g = absurd (let k = (subst (HolderOk w me (slice_get items t.next)) p h).0 in cc)
-
--- while nobody holds, a turn leaves the length
-free_length : (plan : Plan) (me : ℕ) (memory : Bool) (w : World) (t : Thread) (after : Moved) → HolderOk w me (next_item plan t.next) t.phase → w.held ≡ None → Transition me memory w t plan after → after.world.length ≡ w.length
-free_length plan me memory w t _ h f (stays i) = refl
-free_length plan me memory w t _ h f (peeks p e b) = refl
-free_length plan me memory w t _ h f (acquires p e b) = refl
-free_length plan me memory w t _ h f (loses p e b) = refl
-free_length plan me memory w t _ h f (writes p e b) = refl
-free_length plan me memory w t _ h f (opens p e b c) = refl
-free_length plan me memory w t _ h f (denies p e b c) = refl
-free_length plan me memory w t _ h f (publishes {items} p e) = absurd (let k = (subst (HolderOk w me (slice_get items t.next)) p h).0 in cc)
-free_length plan me memory w t _ h f (refuses p e) = refl
-free_length plan me memory w t _ h f (looks p e b) = refl
-free_length plan me memory w t _ h f (misses p e b) = refl
-free_length plan me memory w t _ h f (reads p e) = refl
-free_length plan me memory w t _ h f (clones_none p b) = refl
-free_length plan me memory w t _ h f (clone_looks p b) = refl
-free_length plan me memory w t _ h f (copies p m b) = refl
-free_length plan me memory w t _ h f (clones p m b) = refl
-free_length plan me memory w t _ h f (clone_fails p m) = refl
-
-free_left_at : (v w : World) (phase : Phase) → v.length ≡ w.length → free_left v phase ≡ free_left w phase
-free_left_at v w Ready e = refl
-free_left_at v w (Peeked n) e = ap (λ l. if l == n then 1 else 3) e
-free_left_at v w (Acquired n) e = refl
-free_left_at v w (Written n) e = refl
-free_left_at v w Denied e = refl
-free_left_at v w (Looked n) e = refl
-free_left_at v w Done e = refl
-
--- a free lock is taken, by whomever, before a pusher with an item left has had these turns
-is_taken : (plans : List Plan) (rest : List Turn) (m : Machine) (me : ℕ) (items : List ℕ) (t : Thread) (x : ℕ) → Sound plans m → slice_get plans me ≡ Some (Pusher items) → slice_get m.threads me ≡ Some t → slice_get items t.next ≡ Some x →
-    m.world.held ≡ None → free_left m.world t.phase ≤ turns_of me rest → (turns : ℕ) × ((you : ℕ) × ((fold (turned plans) m (take turns rest)).world.held ≡ Some you))
-is_taken plans [] m me items t x s pe e ix f n = let h = (free_few m.world t.phase).0 in absurd (omega (arith, h, n))
-is_taken plans (turn ∷ rest) m me items t x s pe e ix f n =
-    let m1 = turned plans m turn in
-    let s1 = sound_turned plans m turn s in
-    let G : Type 0 = (turns : ℕ) × ((you : ℕ) × ((fold (turned plans) m (take turns (turn ∷ rest))).world.held ≡ Some you)) in
-    let F : Option ℕ → Type 0 = λ h. m1.world.held ≡ h → G in
-    (elim m1.world.held as F [
-      | Some you ↦ λ g. (1, (you, g))
-      | None ↦ λ g. elim (same_or_not turn.thread me) [
-        | inr ne ↦
-            let c = turns_others me turn rest ne in
-            let l : m1.world.length ≡ m.world.length = turned_cases (λ z. z.world.length ≡ m.world.length) plans m turn refl (λ plan u a b. free_length plan turn.thread turn.memory m.world u _ (s.threads turn.thread plan u a b) f (transition plan turn.thread turn.memory m.world u)) in
-            let d = free_left_at m1.world m.world t.phase l in
-            let r = is_taken plans rest m1 me items t x s1 pe (turned_other plans m turn me (λ q. ne (sym q)) ∙ e) ix g (omega (arith, c, d, n)) in
-            (suc r.0, (r.1.0, r.1.1))
-        | inl q ↦
-            let c = turns_mine me turn rest q in
-            let te : slice_get m.threads turn.thread ≡ Some t = subst (λ j. slice_get m.threads j ≡ Some t) (sym q) e in
-            let pf : slice_get plans turn.thread ≡ Some (Pusher items) = subst (λ j. slice_get plans j ≡ Some (Pusher items)) (sym q) pe in
-            let a = thread_turn (Pusher items) turn.thread turn.memory m.world t in
-            let w : m1.world ≡ a.world = ap (λ z. z.world) (turned_is plans m turn (Pusher items) t pf te) in
-            let there : slice_get m1.threads me ≡ Some a.thread = subst (λ j. slice_get m1.threads j ≡ Some a.thread) q (own_turn plans m turn (Pusher items) t pf te) in
-            let st = free_step turn.thread turn.memory m.world t items x a (s.threads turn.thread (Pusher items) t pf te) (s.told turn.thread (Pusher items) t pf te).pushing ix f (transition (Pusher items) turn.thread turn.memory m.world t) (ap (λ z. z.held) (sym w) ∙ g) in
-            let l : suc (free_left m1.world a.thread.phase) ≤ free_left m.world t.phase = subst (λ z. suc (free_left z a.thread.phase) ≤ free_left m.world t.phase) (sym w) st.1 in
-            let r = is_taken plans rest m1 me items a.thread x s1 pe there (ap (slice_get items) st.0 ∙ ix) g (omega (arith, c, l, n)) in
-            (suc r.0, (r.1.0, r.1.1))
-      ]
-    ]) refl
+use Rattle.elsa_machine.proofs.MachineLemmas.Free.{free_few, is_taken}
 
 -- the turns of a thread in two parts of a schedule
 pub turns_append : (me : ℕ) (xs ys : List Turn) → turns_of me (xs ++ ys) ≡ turns_of me xs + turns_of me ys
@@ -155,20 +41,20 @@ turns_append me (turn ∷ xs) ys = elim (same_or_not turn.thread me) [
 ]
 
 -- a thread that holds goes on
-abbrev pub HolderGoes : (ℕ → Bool) → World → Type 0
+abbrev pub HolderGoes : {A : Type 0} → (ℕ → Bool) → World A → Type 0
 HolderGoes goes w = (you : ℕ) → w.held ≡ Some you → goes you ≡ true
 
-goes_turn : (goes : ℕ → Bool) (plans : List Plan) (m : Machine) (turn : Turn) → goes turn.thread ≡ true → HolderGoes goes m.world → HolderGoes goes (turned plans m turn).world
+goes_turn : {A : Type 0} (goes : ℕ → Bool) (plans : List (Plan A)) (m : Machine A) (turn : Turn) → goes turn.thread ≡ true → HolderGoes goes m.world → HolderGoes goes (turned plans m turn).world
 goes_turn goes plans m turn g h = λ you e.
     let from = turned_cases (λ n. HeldFrom turn.thread m.world n.world) plans m turn (λ z q. inl q) (λ plan t a b. held_from plan turn.thread turn.memory m.world t _ (transition plan turn.thread turn.memory m.world t)) in
     elim (from you e) [ inl q ↦ h you q | inr q ↦ ap goes q ∙ g ]
 
-goes_run : (goes : ℕ → Bool) (plans : List Plan) (rest : List Turn) (m : Machine) → All (λ turn. goes turn.thread ≡ true) rest → HolderGoes goes m.world → HolderGoes goes (fold (turned plans) m rest).world
+goes_run : {A : Type 0} (goes : ℕ → Bool) (plans : List (Plan A)) (rest : List Turn) (m : Machine A) → All (λ turn. goes turn.thread ≡ true) rest → HolderGoes goes m.world → HolderGoes goes (fold (turned plans) m rest).world
 goes_run goes plans [] m all h = h
 goes_run goes plans (turn ∷ rest) m all h = goes_run goes plans rest (turned plans m turn) (λ k d lt. all (suc k) d (omega (arith, lt))) (goes_turn goes plans m turn (all 0 turn (omega arith)) h)
 
 -- more turns leave no more items
-left_from : (plans : List Plan) (rest : List Turn) (k : ℕ) (m : Machine) → Sound plans m → all_left plans (fold (turned plans) m rest).threads ≤ all_left plans (fold (turned plans) m (take k rest)).threads
+left_from : {A : Type 0} (plans : List (Plan A)) (rest : List Turn) (k : ℕ) (m : Machine A) → Sound plans m → all_left plans (fold (turned plans) m rest).threads ≤ all_left plans (fold (turned plans) m (take k rest)).threads
 left_from plans rest k m s =
     let n = fold (turned plans) m (take k rest) in
     let j : fold (turned plans) m rest ≡ fold (turned plans) n (drop k rest) = ap (fold (turned plans) m) (sym (take-append-drop k rest)) ∙ fold-append (turned plans) m (take k rest) (drop k rest) in
@@ -177,7 +63,7 @@ left_from plans rest k m s =
     omega (arith, l.0, e)
 
 -- a held lock is released within three turns of its holder, with one item less
-less_held : (plans : List Plan) (rest : List Turn) (m : Machine) (you : ℕ) → Sound plans m → m.world.held ≡ Some you → 3 ≤ turns_of you rest → all_left plans (fold (turned plans) m rest).threads < all_left plans m.threads
+less_held : {A : Type 0} (plans : List (Plan A)) (rest : List Turn) (m : Machine A) (you : ℕ) → Sound plans m → m.world.held ≡ Some you → 3 ≤ turns_of you rest → all_left plans (fold (turned plans) m rest).threads < all_left plans m.threads
 less_held plans rest m you s h three =
     let o = holder plans m you s h in
     let few = hold_few m.world o.1.0.phase in
@@ -188,7 +74,7 @@ less_held plans rest m you s h three =
 
 -- in turns `one`, with three of a pusher that has an item left, and turns `two`, with three of each thread that goes on,
 -- an item less is left
-some_less : (goes : ℕ → Bool) (plans : List Plan) (one two : List Turn) (m : Machine) (me : ℕ) (items : List ℕ) (t : Thread) (x : ℕ) → Sound plans m → HolderGoes goes m.world → All (λ turn. goes turn.thread ≡ true) one →
+some_less : {A : Type 0} (goes : ℕ → Bool) (plans : List (Plan A)) (one two : List Turn) (m : Machine A) (me : ℕ) (items : List ℕ) (t : Thread A) (x : ℕ) → Sound plans m → HolderGoes goes m.world → All (λ turn. goes turn.thread ≡ true) one →
     slice_get plans me ≡ Some (Pusher items) → slice_get m.threads me ≡ Some t → slice_get items t.next ≡ Some x → 3 ≤ turns_of me one → ((you : ℕ) → you < length plans → goes you ≡ true → 3 ≤ turns_of you two) →
     all_left plans (fold (turned plans) m (one ++ two)).threads < all_left plans m.threads
 some_less goes plans one two m me items t x s h all pe e ix three others =
@@ -217,7 +103,7 @@ some_less goes plans one two m me items t x s h all pe e ix three others =
     ]) refl
 
 -- rounds in two parts
-split_rounds : (goes : ℕ → Bool) (plans : List Plan) (a n : ℕ) (rest : List Turn) → HasRounds goes plans (a + n) rest →
+split_rounds : {A : Type 0} (goes : ℕ → Bool) (plans : List (Plan A)) (a n : ℕ) (rest : List Turn) → HasRounds goes plans (a + n) rest →
     (k : ℕ) × ((you : ℕ) → you < length plans → goes you ≡ true → a ≤ turns_of you (take k rest)) × HasRounds goes plans n (drop k rest)
 split_rounds goes plans zero n rest h = (0, (λ you lt g. omega arith), subst (λ z. HasRounds goes plans z rest) (zero-add n) h)
 split_rounds goes plans (suc a) n rest h =
@@ -235,13 +121,13 @@ split_rounds goes plans (suc a) n rest h =
     )
 
 -- fewer rounds
-fewer_rounds : (goes : ℕ → Bool) (plans : List Plan) (a n : ℕ) (rest : List Turn) → a ≤ n → HasRounds goes plans n rest → HasRounds goes plans a rest
+fewer_rounds : {A : Type 0} (goes : ℕ → Bool) (plans : List (Plan A)) (a n : ℕ) (rest : List Turn) → a ≤ n → HasRounds goes plans n rest → HasRounds goes plans a rest
 fewer_rounds goes plans zero n rest le h = tt
 fewer_rounds goes plans (suc a) zero rest le h = absurd (omega (arith, le))
 fewer_rounds goes plans (suc a) (suc n) rest le h = (h.0, h.1, fewer_rounds goes plans a n (drop h.0 rest) (omega (arith, le)) h.2)
 
 -- in so many rounds a thread that goes on has so many turns
-rounds_turns : (goes : ℕ → Bool) (plans : List Plan) (n : ℕ) (rest : List Turn) (me : ℕ) → HasRounds goes plans n rest → me < length plans → goes me ≡ true → n ≤ turns_of me rest
+rounds_turns : {A : Type 0} (goes : ℕ → Bool) (plans : List (Plan A)) (n : ℕ) (rest : List Turn) (me : ℕ) → HasRounds goes plans n rest → me < length plans → goes me ≡ true → n ≤ turns_of me rest
 rounds_turns goes plans n rest me h lt g =
     let r = split_rounds goes plans n 0 rest (subst (λ z. HasRounds goes plans z rest) (let z : n ≡ n + 0 = omega arith in z) h) in
     let x = r.1 me lt g in
@@ -249,15 +135,15 @@ rounds_turns goes plans n rest me h lt g =
     omega (arith, x, c)
 
 -- this thread has gone beyond so many of its items or indexes
-abbrev pub HasGone : ℕ → ℕ → Machine → Type 0
-HasGone me n m = (u : Thread) × (slice_get m.threads me ≡ Some u) × (n ≤ u.next)
+abbrev pub HasGone : {A : Type 0} → ℕ → ℕ → Machine A → Type 0
+HasGone me n m = (u : Thread _) × (slice_get m.threads me ≡ Some u) × (n ≤ u.next)
 
 -- an index has an item, or lies past the end
 due_or_past : (items : List ℕ) (n : ℕ) → ((x : ℕ) × (slice_get items n ≡ Some x) × (n < length items)) ⊎ (length items ≤ n)
 due_or_past items n = elim (slice_get_cases items n).1 [ inl d ↦ inl (d.0, d.2, d.1) | inr p ↦ inr p.0 ]
 
 -- a pusher that goes on is done after six rounds for each item that is left
-pusher_done : (goes : ℕ → Bool) (plans : List Plan) (b : ℕ) (rest : List Turn) (m : Machine) (me : ℕ) (items : List ℕ) (t : Thread) → Sound plans m → HolderGoes goes m.world → All (λ turn. goes turn.thread ≡ true) rest →
+pusher_done : {A : Type 0} (goes : ℕ → Bool) (plans : List (Plan A)) (b : ℕ) (rest : List Turn) (m : Machine A) (me : ℕ) (items : List ℕ) (t : Thread A) → Sound plans m → HolderGoes goes m.world → All (λ turn. goes turn.thread ≡ true) rest →
     all_left plans m.threads ≤ b → HasRounds goes plans (6 * b) rest → slice_get plans me ≡ Some (Pusher items) → slice_get m.threads me ≡ Some t → goes me ≡ true → HasGone me (length items) (fold (turned plans) m rest)
 pusher_done goes plans zero rest m me items t s h all le rounds pe e g =
     let p = left_part plans m.threads me (Pusher items) t pe e in
@@ -318,7 +204,7 @@ reader_busy is ls len next i Denied d k = d
 reader_busy is ls len next i Done d k = d
 
 -- each turn of a reader with an index left is half a read
-read_step : (me : ℕ) (memory : Bool) (w : World) (t : Thread) (is : List ℕ) (i : ℕ) (after : Moved) → ReaderOk is me w t.next t.phase → slice_get is t.next ≡ Some i → Transition me memory w t (Reader is) after →
+read_step : {A : Type 0} (me : ℕ) (memory : Bool) (w : World A) (t : Thread A) (is : List ℕ) (i : ℕ) (after : Moved A) → ReaderOk is me w t.next t.phase → slice_get is t.next ≡ Some i → Transition me memory w t (Reader is) after →
     2 * t.next + looked_once t.phase + 1 ≤ 2 * after.thread.next + looked_once after.thread.phase
 read_step me memory w t is i _ o e (stays k) = absurd (reader_busy is (looks_of me w.events) w.length t.next i t.phase o.due (subst (λ z. IsLookerIdle z t.phase) e k))
 read_step me memory w t _ i _ o e (looks p f b) = let l = ap looked_once p in omega (arith, l)
@@ -326,7 +212,7 @@ read_step me memory w t _ i _ o e (misses p f b) = let l = ap looked_once p in o
 read_step me memory w t _ i _ o e (reads p f) = let l = looked_few t.phase in omega (arith, l)
 
 -- a reader is done after two turns for each index
-reader_done : (plans : List Plan) (rest : List Turn) (m : Machine) (me : ℕ) (is : List ℕ) (t : Thread) → Sound plans m → slice_get plans me ≡ Some (Reader is) → slice_get m.threads me ≡ Some t →
+reader_done : {A : Type 0} (plans : List (Plan A)) (rest : List Turn) (m : Machine A) (me : ℕ) (is : List ℕ) (t : Thread A) → Sound plans m → slice_get plans me ≡ Some (Reader is) → slice_get m.threads me ≡ Some t →
     2 * length is ≤ 2 * t.next + looked_once t.phase + turns_of me rest → HasGone me (length is) (fold (turned plans) m rest)
 reader_done plans [] m me is t s pe e n = let l = looked_few t.phase in (t, e, omega (arith, n, l))
 reader_done plans (turn ∷ rest) m me is t s pe e n =
@@ -348,7 +234,7 @@ reader_done plans (turn ∷ rest) m me is t s pe e n =
     ]
 
 -- no more answers than items
-outcomes_few : (list : List (ℕ × ℕ)) (t least : ℕ) (items : List ℕ) (xs : List Answer) → AreOutcomes list t least items xs → length xs ≤ length items
+outcomes_few : {A : Type 0} (list : List (ℕ × ℕ)) (t least : ℕ) (items : List ℕ) (xs : List (Answer A)) → AreOutcomes list t least items xs → length xs ≤ length items
 outcomes_few list t least items [] h = omega arith
 outcomes_few list t least (x ∷ items) (Pushed u p ∷ xs) h = let r = outcomes_few list t (suc p) items xs h.2 in omega (arith, r)
 outcomes_few list t least (x ∷ items) (Refused u ∷ xs) h = let r = outcomes_few list t least items xs h in omega (arith, r)
@@ -362,20 +248,20 @@ outcomes_few list t least [] (Cloned u c ∷ xs) h = absurd h
 outcomes_few list t least [] (CloneRefused u ∷ xs) h = absurd h
 
 -- no more answers than indexes
-reads_few : (list : List (ℕ × ℕ)) (t : ℕ) (is ls : List ℕ) (xs : List Answer) → AreReads list t is ls xs → length xs ≤ length is
+reads_few : {A : Type 0} (list : List (ℕ × ℕ)) (t : ℕ) (is ls : List ℕ) (xs : List (Answer A)) → AreReads list t is ls xs → length xs ≤ length is
 reads_few list t is ls xs h = elim (slice_get_cases xs (length is)).1 [
   | inl x ↦ let l = slice_get_within is (length is) _ (h (length is) x.0 x.2).asked in absurd (omega (arith, l))
   | inr p ↦ p.0
 ]
 
 -- a clone takes one round more than all pushes
-abbrev pub one_more : Plan → ℕ
+abbrev pub one_more : {A : Type 0} → Plan A → ℕ
 one_more Cloner = 1
 one_more (Pusher items) = 0
 one_more (Reader is) = 0
 
 -- the rounds for all plans are six for each item that is left, at least
-rounds_left : (plans : List Plan) (threads : List Thread) → 6 * all_left plans threads ≤ rounds_for plans
+rounds_left : {A : Type 0} (plans : List (Plan A)) (threads : List (Thread A)) → 6 * all_left plans threads ≤ rounds_for plans
 rounds_left [] threads = omega arith
 rounds_left (plan ∷ plans) [] = omega arith
 rounds_left (Pusher items ∷ plans) (t ∷ threads) = let r = rounds_left plans threads in omega (arith, r)
@@ -383,7 +269,7 @@ rounds_left (Reader is ∷ plans) (t ∷ threads) = let r = rounds_left plans th
 rounds_left (Cloner ∷ plans) (t ∷ threads) = let r = rounds_left plans threads in omega (arith, r)
 
 -- and one more where there is a cloner
-rounds_clone : (plans : List Plan) (threads : List Thread) (i : ℕ) → slice_get plans i ≡ Some Cloner → 6 * all_left plans threads + 1 ≤ rounds_for plans
+rounds_clone : {A : Type 0} (plans : List (Plan A)) (threads : List (Thread A)) (i : ℕ) → slice_get plans i ≡ Some Cloner → 6 * all_left plans threads + 1 ≤ rounds_for plans
 rounds_clone [] threads i e = cc
 rounds_clone (Cloner ∷ plans) [] zero e = omega arith
 rounds_clone (Cloner ∷ plans) (t ∷ threads) zero e = let r = rounds_left plans threads in omega (arith, r)
@@ -395,13 +281,13 @@ rounds_clone (Reader is ∷ plans) (t ∷ threads) (suc i) e = let r = rounds_cl
 rounds_clone (Cloner ∷ plans) (t ∷ threads) (suc i) e = let r = rounds_clone plans threads i e in omega (arith, r)
 
 -- the rounds of one plan are among those for all
-rounds_part : (plans : List Plan) (i : ℕ) (plan : Plan) → slice_get plans i ≡ Some plan → rounds_of plan ≤ rounds_for plans
+rounds_part : {A : Type 0} (plans : List (Plan A)) (i : ℕ) (plan : Plan A) → slice_get plans i ≡ Some plan → rounds_of plan ≤ rounds_for plans
 rounds_part [] i plan e = cc
 rounds_part (p ∷ plans) zero plan e = let q : p ≡ plan = cc in let r = ap rounds_of q in omega (arith, r)
 rounds_part (p ∷ plans) (suc i) plan e = let r = rounds_part plans i plan e in omega (arith, r)
 
 -- a cloner that has had more turns than the list has entries is answered
-clone_done : (list : List (ℕ × ℕ)) (len turns : ℕ) (ls : List ℕ) (xs : List Answer) (copied : List ℕ) (phase : Phase) → ClonerOk list len ls xs copied phase → HasHadTurns turns copied phase → length list + 1 ≤ turns → length xs ≡ 1
+clone_done : {A : Type 0} (list : List (ℕ × ℕ)) (len turns : ℕ) (ls : List ℕ) (xs : List (Answer A)) (copied : List ℕ) (phase : Phase) → ClonerOk list len ls xs copied phase → HasHadTurns turns copied phase → length list + 1 ≤ turns → length xs ≡ 1
 clone_done list len turns ls xs copied Ready o h enough = absurd (omega (arith, h, enough))
 clone_done list len turns ls xs copied (Looked n) o h enough = absurd (omega (arith, h, enough, o.2, o.3))
 clone_done list len turns ls xs copied (Peeked n) o h enough = absurd o
@@ -411,8 +297,8 @@ clone_done list len turns ls xs copied Denied o h enough = absurd o
 clone_done list len turns ls xs copied Done o h enough = o.1
 
 -- one thread that goes on is done
-thread_done : (plans : List Plan) (front rest : List Turn) (goes : ℕ → Bool) → HolderGoes goes (world_of plans front) → All (λ turn. goes turn.thread ≡ true) rest → HasRounds goes plans (rounds_for plans) rest →
-    (me : ℕ) (plan : Plan) → slice_get plans me ≡ Some plan → goes me ≡ true → IsDone me plan (world_of plans (front ++ rest))
+thread_done : {A : Type 0} (plans : List (Plan A)) (front rest : List Turn) (goes : ℕ → Bool) → HolderGoes goes (world_of plans front) → All (λ turn. goes turn.thread ≡ true) rest → HasRounds goes plans (rounds_for plans) rest →
+    (me : ℕ) (plan : Plan A) → slice_get plans me ≡ Some plan → goes me ≡ true → IsDone me plan (world_of plans (front ++ rest))
 thread_done plans front rest goes h all rounds me (Pusher items) pe g =
     let m = machine_of plans front in
     let s = sound plans front in
@@ -449,5 +335,5 @@ thread_done plans front rest goes h all rounds me Cloner pe g =
     clone_done (list_of w.events) w.length (turns_of me schedule) (looks_of me w.events) (answers_of me w.answers) u.0.copied u.0.phase u.1.knows u.2 (omega (arith, z.world.counted, n, l, c, a))
 
 -- after every schedule, each thread that goes on is done after enough rounds
-pub plans_end : (plans : List Plan) (front rest : List Turn) → PlansEnd plans front rest
+pub plans_end : {A : Type 0} (plans : List (Plan A)) (front rest : List Turn) → PlansEnd plans front rest
 plans_end plans front rest = λ goes h all rounds me plan pe g. thread_done plans front rest goes h all rounds me plan pe g

@@ -14,7 +14,7 @@ use Rattle.elsa_machine.specs.Geometry.{slots_before}
 use Rattle.std.specs.Prelude.{is_none}
 
 -- a pusher with this next item has nothing to do in this phase: no item is left, or somebody holds and it can't peek
-abbrev pub IsPusherIdle : Option ℕ → World → Phase → Type 0
+abbrev pub IsPusherIdle : {A : Type 0} → Option ℕ → World A → Phase → Type 0
 IsPusherIdle None w phase = Unit {0}
 IsPusherIdle (Some x) w Ready = is_none w.held ≡ false
 IsPusherIdle (Some x) w (Peeked n) = ⊥
@@ -36,14 +36,14 @@ IsLookerIdle (Some i) Denied = Unit {0}
 IsLookerIdle (Some i) Done = Unit {0}
 
 -- a thread has nothing to do
-abbrev pub IsIdle : Plan → World → Thread → Type 0
+abbrev pub IsIdle : {A : Type 0} → Plan A → World A → Thread A → Type 0
 IsIdle (Pusher items) w t = IsPusherIdle (slice_get items t.next) w t.phase
 IsIdle (Reader is) w t = IsLookerIdle (slice_get is t.next) t.phase
 IsIdle Cloner w t = IsLookerIdle (Some 0) t.phase
 
 -- a turn of a thread: for each rule, where it applies and what it leaves
-pub data Transition (me : ℕ) (memory : Bool) (w : World) (t : Thread) : Plan → Moved → Type 0 where
-  stays : {plan : Plan} → IsIdle plan w t → Transition me memory w t plan (moved w t)
+pub data Transition {A : Type 0} (me : ℕ) (memory : Bool) (w : World A) (t : Thread A) : Plan A → Moved A → Type 0 where
+  stays : {plan : Plan A} → IsIdle plan w t → Transition me memory w t plan (moved w t)
   peeks : {items : List ℕ} {x : ℕ} → t.phase ≡ Ready → slice_get items t.next ≡ Some x → w.held ≡ None →
       Transition me memory w t (Pusher items) (moved w (record t { phase = Peeked w.length }))
   acquires : {items : List ℕ} {x n : ℕ} → t.phase ≡ Peeked n → slice_get items t.next ≡ Some x → (is_none w.held && (w.length == n)) ≡ true →
@@ -83,7 +83,7 @@ by_test P true x y f g = f refl
 by_test P false x y f g = g refl
 
 -- a pusher's turn is one of these rows
-pusher_transition : (me : ℕ) (memory : Bool) (items : List ℕ) (w : World) (t : Thread) (next : Option ℕ) (phase : Phase) → slice_get items t.next ≡ next → t.phase ≡ phase → Transition me memory w t (Pusher items) (pusher_turn me memory next w t phase)
+pusher_transition : {A : Type 0} (me : ℕ) (memory : Bool) (items : List ℕ) (w : World A) (t : Thread A) (next : Option ℕ) (phase : Phase) → slice_get items t.next ≡ next → t.phase ≡ phase → Transition me memory w t (Pusher items) (pusher_turn me memory next w t phase)
 pusher_transition me memory items w t None phase e p = stays (rw e tt)
 pusher_transition me memory items w t (Some x) Ready e p =
     let P : Option ℕ → Type 0 = λ h. w.held ≡ h → Transition me memory w t (Pusher items) (if is_none h then moved w (record t { phase = Peeked w.length }) else moved w t) in
@@ -97,7 +97,7 @@ pusher_transition me memory items w t (Some x) Denied e p = refuses p e
 pusher_transition me memory items w t (Some x) (Looked n) e p = stays (rw (e, p) tt)
 pusher_transition me memory items w t (Some x) Done e p = stays (rw (e, p) tt)
 
-reader_transition : (me : ℕ) (memory : Bool) (is : List ℕ) (w : World) (t : Thread) (next : Option ℕ) (phase : Phase) → slice_get is t.next ≡ next → t.phase ≡ phase → Transition me memory w t (Reader is) (reader_turn me next w t phase)
+reader_transition : {A : Type 0} (me : ℕ) (memory : Bool) (is : List ℕ) (w : World A) (t : Thread A) (next : Option ℕ) (phase : Phase) → slice_get is t.next ≡ next → t.phase ≡ phase → Transition me memory w t (Reader is) (reader_turn me next w t phase)
 reader_transition me memory is w t None phase e p = stays (rw e tt)
 reader_transition me memory is w t (Some i) Ready e p = by_test (Transition me memory w t (Reader is)) _ _ _ (λ h. looks p e h) (λ h. misses p e h)
 reader_transition me memory is w t (Some i) (Looked n) e p = reads p e
@@ -107,7 +107,7 @@ reader_transition me memory is w t (Some i) (Written n) e p = stays (rw (e, p) t
 reader_transition me memory is w t (Some i) Denied e p = stays (rw (e, p) tt)
 reader_transition me memory is w t (Some i) Done e p = stays (rw (e, p) tt)
 
-cloner_transition : (me : ℕ) (memory : Bool) (w : World) (t : Thread) (phase : Phase) → t.phase ≡ phase → Transition me memory w t Cloner (cloner_turn me memory w t phase)
+cloner_transition : {A : Type 0} (me : ℕ) (memory : Bool) (w : World A) (t : Thread A) (phase : Phase) → t.phase ≡ phase → Transition me memory w t Cloner (cloner_turn me memory w t phase)
 cloner_transition me memory w t Ready p = by_test (Transition me memory w t Cloner) _ _ _ (λ h. clones_none p h) (λ h. clone_looks p h)
 cloner_transition me memory w t (Looked n) p =
     by_test (Transition me memory w t Cloner) _ _ _ (λ m. by_test (Transition me memory w t Cloner) _ _ _ (λ h. clones p m h) (λ h. copies p m h)) (λ m. clone_fails p m)
@@ -118,7 +118,7 @@ cloner_transition me memory w t Denied p = stays (rw p tt)
 cloner_transition me memory w t Done p = stays (rw p tt)
 
 -- each turn is one of the rows
-pub transition : (plan : Plan) (me : ℕ) (memory : Bool) (w : World) (t : Thread) → Transition me memory w t plan (thread_turn plan me memory w t)
+pub transition : {A : Type 0} (plan : Plan A) (me : ℕ) (memory : Bool) (w : World A) (t : Thread A) → Transition me memory w t plan (thread_turn plan me memory w t)
 transition (Pusher items) me memory w t = pusher_transition me memory items w t (slice_get items t.next) t.phase refl refl
 transition (Reader is) me memory w t = reader_transition me memory is w t (slice_get is t.next) t.phase refl refl
 transition Cloner me memory w t = cloner_transition me memory w t t.phase refl

@@ -28,7 +28,7 @@ use Rattle.elsa_machine.proofs.MachineLemmas.Moments.{turned_is, finds, own_turn
 use Rattle.elsa_machine.proofs.MachineLemmas.Holds.{two_or_three, next_open}
 
 -- where a pusher of item x stands that began at world v, and holds if it is beyond its peek
-abbrev pub IsOnItsWay : ℕ → World → World → Phase → Type 0
+abbrev pub IsOnItsWay : {A : Type 0} → ℕ → World A → World A → Phase → Type 0
 IsOnItsWay me v w Ready = w.held ≡ None
 IsOnItsWay me v w (Peeked n) = w.held ≡ None
 IsOnItsWay me v w (Acquired n) = n ≡ w.length
@@ -38,7 +38,7 @@ IsOnItsWay me v w (Looked n) = ⊥
 IsOnItsWay me v w Done = ⊥
 
 -- nothing was pushed or answered since the world v
-pub record OnItsWay (me x : ℕ) (items : List ℕ) (v w : World) (t : Thread) : Type 0 where
+pub record OnItsWay {A : Type 0} (me x : ℕ) (items : List ℕ) (v w : World A) (t : Thread A) : Type 0 where
   pub events_are : list_of w.events ≡ list_of v.events
   pub answers_are : w.answers ≡ v.answers
   pub length_is : w.length ≡ v.length
@@ -46,7 +46,7 @@ pub record OnItsWay (me x : ℕ) (items : List ℕ) (v w : World) (t : Thread) :
   pub on : IsOnItsWay me v w t.phase
 
 -- how many turns it still needs
-abbrev pub push_left : World → Phase → ℕ
+abbrev pub push_left : {A : Type 0} → World A → Phase → ℕ
 push_left w Ready = 5
 push_left w (Peeked n) = if w.length == n then 4 else 6
 push_left w (Acquired n) = if nat_lt n (slots_before w.opened) then 2 else 3
@@ -59,7 +59,7 @@ four_or_six : (b : Bool) → (0 < (if b then 4 else 6)) × ((if b then 4 else 6)
 four_or_six true = (omega arith, omega arith)
 four_or_six false = (omega arith, omega arith)
 
-push_few : (w : World) (phase : Phase) → (0 < push_left w phase) × (push_left w phase ≤ 6)
+push_few : {A : Type 0} (w : World A) (phase : Phase) → (0 < push_left w phase) × (push_left w phase ≤ 6)
 push_few w Ready = (omega arith, omega arith)
 push_few w (Peeked n) = four_or_six (w.length == n)
 push_few w (Acquired n) = let h = two_or_three (nat_lt n (slots_before w.opened)) in (omega (arith, h.0), omega (arith, h.1))
@@ -69,7 +69,7 @@ push_few w (Looked n) = (omega arith, omega arith)
 push_few w Done = (omega arith, omega arith)
 
 -- it always has something to do
-way_busy : (me x : ℕ) (v w : World) (phase : Phase) → IsOnItsWay me v w phase → IsPusherIdle (Some x) w phase → ⊥
+way_busy : {A : Type 0} (me x : ℕ) (v w : World A) (phase : Phase) → IsOnItsWay me v w phase → IsPusherIdle (Some x) w phase → ⊥
 way_busy me x v w Ready o i = true≢false (sym (ap is_none o) ∙ i)
 way_busy me x v w (Peeked n) o i = i
 way_busy me x v w (Acquired n) o i = i
@@ -79,7 +79,7 @@ way_busy me x v w (Looked n) o i = o
 way_busy me x v w Done o i = o
 
 -- there is a buffer for each place that may be pushed at
-room_left : (w : World) (me n : ℕ) (item : Option ℕ) (phase : Phase) → phase ≡ Acquired n → WorldOk w → HolderOk w me item phase → nat_lt n (slots_before w.opened) ≡ false → n < 2 ^ 62 - 1 → nat_lt w.opened 31 ≡ true
+room_left : {A : Type 0} (w : World A) (me n : ℕ) (item : Option ℕ) (phase : Phase) → phase ≡ Acquired n → WorldOk w → HolderOk w me item phase → nat_lt n (slots_before w.opened) ≡ false → n < 2 ^ 62 - 1 → nat_lt w.opened 31 ≡ true
 room_left w me n item phase e ok h b small =
     let x = (finds w me n item phase e ok h).is_next (ltb-false n (slots_before w.opened) b) in
     let y = x.begins in
@@ -90,7 +90,7 @@ pub lost : (held : Option ℕ) (a n : ℕ) → held ≡ None → (is_none held &
 lost held a n h b = ap (λ z. is_none z && (a == n)) (sym h) ∙ b
 
 -- a turn brings it nearer, or pushes its item
-way_step : (me x : ℕ) (v w : World) (t : Thread) (items : List ℕ) (after : Moved) → v.length < 2 ^ 62 - 1 → WorldOk w → HolderOk w me (slice_get items t.next) t.phase → OnItsWay me x items v w t → Transition me true w t (Pusher items) after →
+way_step : {A : Type 0} (me x : ℕ) (v w : World A) (t : Thread A) (items : List ℕ) (after : Moved A) → v.length < 2 ^ 62 - 1 → WorldOk w → HolderOk w me (slice_get items t.next) t.phase → OnItsWay me x items v w t → Transition me true w t (Pusher items) after →
     IsPushed me x v after.world ⊎ (OnItsWay me x items v after.world after.thread × (suc (push_left after.world after.thread.phase) ≤ push_left w t.phase))
 way_step me x v w t items _ small ok h o (stays i) = absurd (way_busy me x v w t.phase o.on (subst (λ z. IsPusherIdle z w t.phase) o.item_is i))
 way_step me x v w t _ _ small ok h o (peeks p e f) =
@@ -112,7 +112,7 @@ way_step me x v w t _ _ small ok h o (writes {items} {x = y} {n} p e b) =
     inr (record { events_are = o.events_are; answers_are = o.answers_are; length_is = o.length_is; item_is = o.item_is; on = at ∙ o.length_is }, omega (arith, l))
 way_step me x v w t _ _ small ok h o (opens {items} {x = y} {n} p e b c) =
     let at : n ≡ w.length = subst (IsOnItsWay me v w) p o.on in
-    let u : World = record w { opened = w.opened + 1 } in
+    let u : World _ = record w { opened = w.opened + 1 } in
     let l : push_left w t.phase ≡ 3 = ap (push_left w) p ∙ ap (λ z. if z then 2 else 3) b in
     let r : push_left u t.phase ≡ 2 = ap (push_left u) p ∙ ap (λ z. if z then 2 else 3) (next_open w me n (slice_get items t.next) t.phase p ok h b) in
     inr (record { events_are = o.events_are; answers_are = o.answers_are; length_is = o.length_is; item_is = o.item_is; on = subst (IsOnItsWay me v u) (sym p) at }, omega (arith, l, r))
@@ -131,7 +131,7 @@ way_step me x v w t _ _ small ok h o (publishes {items} {x = y} {n} p e) =
 way_step me x v w t _ _ small ok h o (refuses p e) = absurd (subst (IsOnItsWay me v w) p o.on)
 
 -- within the turns that it needs it has pushed
-way_run : (plans : List Plan) (n : ℕ) (m : Machine) (me x : ℕ) (items : List ℕ) (v : World) (t : Thread) → v.length < 2 ^ 62 - 1 → Sound plans m → slice_get plans me ≡ Some (Pusher items) → slice_get m.threads me ≡ Some t → OnItsWay me x items v m.world t →
+way_run : {A : Type 0} (plans : List (Plan A)) (n : ℕ) (m : Machine A) (me x : ℕ) (items : List ℕ) (v : World A) (t : Thread A) → v.length < 2 ^ 62 - 1 → Sound plans m → slice_get plans me ≡ Some (Pusher items) → slice_get m.threads me ≡ Some t → OnItsWay me x items v m.world t →
     push_left m.world t.phase ≤ n → (turns : ℕ) × (turns ≤ n) × IsPushed me x v (fold (turned plans) m (turns_alone me turns)).world
 way_run plans zero m me x items v t small s pe e o n = let h = (push_few m.world t.phase).0 in absurd (omega (arith, h, n))
 way_run plans (suc k) m me x items v t small s pe e o n =
@@ -148,7 +148,7 @@ way_run plans (suc k) m me x items v t small s pe e o n =
     ]
 
 -- a pusher that doesn't hold, and has an item left, may begin
-way_starts : (me : ℕ) (w : World) (item : Option ℕ) (phase : Phase) → w.held ≡ None → HolderOk w me item phase → IsPushing item phase → IsOnItsWay me w w phase
+way_starts : {A : Type 0} (me : ℕ) (w : World A) (item : Option ℕ) (phase : Phase) → w.held ≡ None → HolderOk w me item phase → IsPushing item phase → IsOnItsWay me w w phase
 way_starts me w item Ready f h q = f
 way_starts me w item (Peeked n) f h q = f
 way_starts me w item (Acquired n) f h q = h.2
@@ -158,7 +158,7 @@ way_starts me w item (Looked n) f h q = q
 way_starts me w item Done f h q = q
 
 -- after every schedule, a pusher that then runs alone pushes its next item in six turns
-pub pushes_end : (plans : List Plan) (front : List Turn) → PushesEnd plans front
+pub pushes_end : {A : Type 0} (plans : List (Plan A)) (front : List Turn) → PushesEnd plans front
 pushes_end plans front = λ me x items pe item free small.
     let m = machine_of plans front in
     let s = sound plans front in

@@ -2,24 +2,24 @@
 ghost use Rattle.std.specs.Prelude.{◌≡◌, ◌∷◌, ◌++◌, [], List, OnErr, OnOk};
 ghost use Rattle.std.specs.Cmp.Lexicographic.{pointwise, lists_per, lists_equiv};
 
-use std::alloc::{AllocError, Global};
+use std::alloc::{AllocError, Allocator, Global};
 use std::marker::Model;
 
 /// A vector that contracts see as the list of its items. Two are equal exactly if they have equal items in the same order.
 #[derive(Drop, Debug)]
-pub struct Items<T> {
-    inner: Vec<T>,
+pub struct Items<T, A: Allocator = Global> {
+    inner: Vec<T, A>,
 }
 
-impl<T> Model for Items<T> {
+impl<T, A: Allocator> Model for Items<T, A> {
     ghost Value = { List T };
 
     ghost view = { λ s. s.inner.items };
 }
 
-impl<T> Items<T> {
+impl<T, A: Allocator> Items<T, A> {
     /// An empty list. It takes no memory.
-    pub fn new(alloc: Global) -> Self
+    pub fn new(alloc: A) -> Self
         ensures { result ≡ [] }
     {
         Items {
@@ -28,14 +28,14 @@ impl<T> Items<T> {
     }
 
     /// The list of a vector's items, in order. It takes no memory.
-    pub fn from_vec(items: Vec<T>) -> Self
+    pub fn from_vec(items: Vec<T, A>) -> Self
         ensures { result ≡ items.items }
     {
         Items { inner: items }
     }
 
     /// The vector of the items, in order. It takes no memory.
-    pub fn into_vec(self) -> Vec<T>
+    pub fn into_vec(self) -> Vec<T, A>
         ensures { result.items ≡ self }
     {
         let Items { inner } = self;
@@ -50,7 +50,7 @@ impl<T> Items<T> {
     }
 }
 
-impl<T: Drop> Items<T> {
+impl<T: Drop, A: Allocator> Items<T, A> {
     /// Puts an item at the end. `Err` where the list couldn't grow; it is then as before, and the item is given up.
     /// `O(1)` amortised.
     pub fn push(&mut self, item: T) -> Result<(), AllocError>
@@ -62,7 +62,7 @@ impl<T: Drop> Items<T> {
     }
 }
 
-impl<T: PartialEq> PartialEq for Items<T> {
+impl<T: PartialEq, A: Allocator> PartialEq for Items<T, A> {
     ghost eq = { pointwise T.eq };
 
     ghost laws = { lists_per T.laws };
@@ -72,6 +72,6 @@ impl<T: PartialEq> PartialEq for Items<T> {
     }
 }
 
-impl<T: Eq> Eq for Items<T> {
+impl<T: Eq, A: Allocator> Eq for Items<T, A> {
     ghost laws = { lists_equiv T.Eq.laws };
 }

@@ -7,7 +7,7 @@ ghost use Rattle.elsa_machine.specs.Machine.{CanPublish, cloner_turn, machine, m
 
 use crate::geometry::prior_total_buffer_size;
 use crate::machine::{Answer, Event, Items, Plan, Turn, World};
-use std::alloc::{AllocError, Global};
+use std::alloc::{AllocError, Allocator};
 
 /// Where a thread stands with its next item, index or clone. The lengths and places count items.
 #[derive(Clone, Copy)]
@@ -30,12 +30,12 @@ pub enum Phase {
 
 /// A thread of the machine.
 #[derive(Drop)]
-pub struct Thread {
+pub struct Thread<A: Allocator> {
     /// How many of its items or indexes are answered.
     pub next: usize,
     pub phase: Phase,
     /// What a cloner has copied so far.
-    pub copied: Items<u64>,
+    pub copied: Items<u64, A>,
 }
 
 /// What the slot of the place holds: the item of its last write, 0 where there is none.
@@ -51,13 +51,13 @@ fn slot_item(writes: &[(usize, u64)], place: usize) -> u64
     found
 }
 
-impl World {
+impl<A: Allocator + Copy> World<A> {
     fn pusher_turn(
         &mut self,
         me: usize,
         memory: bool,
         next: Option<u64>,
-        thread: &mut Thread,
+        thread: &mut Thread<A>,
     ) -> Result<(), AllocError>
         requires buffers { self.old.opened < 32 }
         requires written { CanPublish thread.old.phase }
@@ -117,7 +117,7 @@ impl World {
         &mut self,
         me: usize,
         next: Option<usize>,
-        thread: &mut Thread,
+        thread: &mut Thread<A>,
     ) -> Result<(), AllocError>
         requires counted { IsSome next → thread.old.next < 2 ^ 64 - 1 }
         ensures { OnOk result (moved self.new thread.new ≡ reader_turn me next self.old thread.old thread.old.phase) }
@@ -159,10 +159,10 @@ impl World {
 
     fn cloner_turn(
         &mut self,
-        alloc: Global,
+        alloc: A,
         me: usize,
         memory: bool,
-        thread: &mut Thread,
+        thread: &mut Thread<A>,
     ) -> Result<(), AllocError>
         ensures { OnOk result (moved self.new thread.new ≡ cloner_turn me memory self.old thread.old thread.old.phase) }
     {
@@ -203,10 +203,10 @@ impl World {
 
     fn thread_turn(
         &mut self,
-        alloc: Global,
-        plan: &Plan,
+        alloc: A,
+        plan: &Plan<A>,
         turn: Turn,
-        thread: &mut Thread,
+        thread: &mut Thread<A>,
     ) -> Result<(), AllocError>
         requires buffers { self.old.opened < 32 }
         requires written { CanPublish thread.old.phase }
@@ -227,11 +227,11 @@ impl World {
 }
 
 /// Does the next step of the turn's thread. A number that is no thread changes nothing.
-pub fn turn(
-    alloc: Global,
-    plans: &[Plan],
-    world: &mut World,
-    threads: &mut [Thread],
+pub fn turn<A: Allocator + Copy>(
+    alloc: A,
+    plans: &[Plan<A>],
+    world: &mut World<A>,
+    threads: &mut [Thread<A>],
     turn: Turn,
 ) -> Result<(), AllocError>
     requires buffers { world.old.opened < 32 }
