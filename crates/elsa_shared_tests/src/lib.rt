@@ -2,6 +2,8 @@
 #![tactic(auto)]
 
 #[cfg(test)]
+mod form_tests;
+#[cfg(test)]
 mod gates;
 #[cfg(test)]
 mod job_tests;
