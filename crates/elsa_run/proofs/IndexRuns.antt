@@ -1,8 +1,6 @@
 -- One step of a run of an index map, from what an epoch holds to what the next epoch holds.
 use Rattle.std.proofs.Common.{◌≡◌, ℕ, Bool, true, false, List, [], ◌∷◌, ◌++◌, length, position, map, refl, sym, ap, ◌∙◌, append-nil, Option, None, Some, MatchOption, Result, Ok, is_ok, if◌then◌else◌, inl, inr}
 use Rattle.std.specs.Cmp.{IsEquivalence}
-use Rattle.std.specs.List.{list_any}
-use Rattle.std.specs.Map.{keys_of}
 use Rattle.std.specs.Option.{option_map}
 use Rattle.elsa_index.specs.Content.{place_of, value_of, Inserted, InsertedNew}
 use Rattle.elsa_run.specs.Runs.{Epoch, held, accept}
