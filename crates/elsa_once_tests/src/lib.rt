@@ -8,4 +8,6 @@ mod map_tests;
 #[cfg(test)]
 mod refusals;
 #[cfg(test)]
+mod search_tests;
+#[cfg(test)]
 mod vec_tests;
