@@ -9,10 +9,18 @@ mod caller_tests;
 mod engine_tests;
 #[cfg(test)]
 mod index_tests;
+#[cfg(test)]
+mod lines_refused;
+#[cfg(test)]
+mod map_refusals;
+#[cfg(test)]
+mod no_memory;
 pub mod odd_keys;
 #[cfg(test)]
 mod refusals;
 #[cfg(test)]
 mod run_map_tests;
+#[cfg(test)]
+mod run_refusals;
 #[cfg(test)]
 mod run_vec_tests;
