@@ -13,10 +13,6 @@ use Rattle.elsa_index.specs.Content.{place_of, value_of, Grows, Inserted, Insert
 use Rattle.elsa_index.specs.Equality.{same_map, same_set, same_map_decides, same_set_decides}
 use Rattle.elsa_index.proofs.Content.{no_value, place_of_last, value_of_last}
 
--- what grows twice grows
-pub grows_on : {X : Type 0} (xs ys zs : List X) → Grows xs ys → Grows ys zs → Grows xs zs
-grows_on xs ys zs (more, first) (later, second) = (more ++ later, second ∙ ap (λ l. l ++ later) first ∙ append_assoc xs more later)
-
 -- a place that a test finds is found in what the list grows to
 place_kept : {X : Type 0} (t : X → Bool) (xs ys : List X) (i : ℕ) → position t xs ≡ Some i → position t (xs ++ ys) ≡ Some i
 place_kept t xs ys i e = grind (arith, common_steps, prefix_len-append, length-append)

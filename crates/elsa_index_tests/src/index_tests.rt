@@ -7,6 +7,7 @@ use elsa_index::index_laws::{
 };
 use elsa_index::index_map::FrozenIndexMap;
 use elsa_index::index_set::FrozenIndexSet;
+use elsa_once::map::{FrozenBTreeMap, FrozenMap};
 use elsa_once::stable::Own;
 use elsa_run::run::{run_index, run_set};
 use elsa_run::run_index::{IndexCommand, IndexReply};
@@ -106,7 +107,7 @@ fn pairs_of<'a>(map: &Texts<'a>) -> [Option<(u32, &'a str)>; 3] {
 }
 
 #[test]
-fn a_clone_goes_its_own_way(rt: HostRuntime) -> Result<(), Fail> {
+fn insertions_into_a_clone_leave_its_source(rt: HostRuntime) -> Result<(), Fail> {
     let arena = Bump::new(rt.alloc());
     let mut map = collected(rt.alloc(), &arena, &[(1, "a")])?;
     let copy = clone_and_part(&mut map, (2, "b"), (3, "c"))?;
@@ -329,7 +330,7 @@ fn found<'a>(
 }
 
 #[test]
-fn sets(rt: HostRuntime) -> Result<(), Fail> {
+fn a_set_finds_by_owner_text_and_place(rt: HostRuntime) -> Result<(), Fail> {
     let alloc = rt.alloc();
     let arena = Bump::new(alloc);
     let mut ab = set_of(alloc, &arena, &["a", "b", "a"])?;
@@ -408,7 +409,7 @@ fn laws_of_a_set(alloc: Global, arena: &Bump) -> Result<bool, AllocError> {
 }
 
 #[test]
-fn laws(rt: HostRuntime) -> Result<(), Fail> {
+fn the_laws_of_index_forms_answer_places_and_flags(rt: HostRuntime) -> Result<(), Fail> {
     let arena = Bump::new(rt.alloc());
     assert!(rt; laws_of_a_map(rt.alloc(), &arena)? && laws_of_a_set(rt.alloc(), &arena)?);
     Ok(())
@@ -469,10 +470,67 @@ fn folded_at<'a>(map: &Folded<'a>, key: &'a str) -> (Option<usize>, Option<&'a s
 }
 
 #[test]
-fn keys_that_fold_case(rt: HostRuntime) -> Result<(), Fail> {
+fn an_index_map_shows_the_first_of_equal_keys(rt: HostRuntime) -> Result<(), Fail> {
     let arena = Bump::new(rt.alloc());
     let mut map: Folded<'_> = FrozenIndexMap::new(rt.alloc(), &arena);
     let answers = [map.insert(Fold("AB"), "x")?, map.insert(Fold("ab"), "y")?];
     assert!(rt; answers == ["x", "x"] && folded_at(&map, "aB") == (Some(0), Some("AB")));
+    Ok(())
+}
+
+type HashedFolds<'a> = FrozenMap<'a, Fold<'a>, &'a str>;
+
+// The key shown and its value.
+fn hashed_pair<'a>(map: &HashedFolds<'a>, key: &'a str) -> Option<(&'a str, &'a str)> {
+    let (shown, value) = map.get_key_value(&Fold(key))?;
+    Some((shown.0, value))
+}
+
+#[test]
+fn a_hashed_map_shows_the_first_of_equal_keys(rt: HostRuntime) -> Result<(), Fail> {
+    let arena = Bump::new(rt.alloc());
+    let mut map: HashedFolds<'_> = FrozenMap::new(rt.alloc(), &arena);
+    let answers = [map.insert(Fold("AB"), "x")?, map.insert(Fold("ab"), "y")?];
+    assert!(rt; answers == ["x", "x"] && map.len() == 1);
+    assert!(rt; hashed_pair(&map, "aB") == Some(("AB", "x")) && hashed_pair(&map, "a").is_none());
+    Ok(())
+}
+
+type OrderedFolds<'a> = FrozenBTreeMap<'a, Fold<'a>, &'a str>;
+
+// The pairs of a map of these, as the map gives them up.
+fn ordered_folds<'a>(
+    alloc: Global,
+    arena: &'a Bump,
+    pairs: [(&'a str, &'a str); 4],
+) -> Result<Vec<(Fold<'a>, &'a str)>, AllocError> {
+    let mut map: OrderedFolds<'a> = FrozenBTreeMap::new(alloc, arena);
+    for (key, value) in pairs {
+        map.insert(Fold(key), value)?;
+    }
+    map.into_tuple_vec()
+}
+
+// Whether these are the pairs, with the keys as they are written.
+fn are_shown(pairs: &[(Fold<'_>, &str)], want: &[(&str, &str)]) -> bool {
+    let mut place = 0usize;
+    for pair in pairs {
+        if want.get(place) != Some(&(pair.0.0, pair.1)) {
+            return false;
+        }
+        place = place.saturating_add(1);
+    }
+    place == want.len()
+}
+
+#[test]
+fn an_ordered_map_shows_the_first_of_equal_keys(rt: HostRuntime) -> Result<(), Fail> {
+    let arena = Bump::new(rt.alloc());
+    let pairs = ordered_folds(
+        rt.alloc(),
+        &arena,
+        [("b", "z"), ("AB", "x"), ("ab", "y"), ("B", "w")],
+    )?;
+    assert!(rt; are_shown(pairs.as_slice(), [("AB", "x"), ("b", "z")].as_slice()));
     Ok(())
 }

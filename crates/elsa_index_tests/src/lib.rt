@@ -13,11 +13,19 @@ mod engine_tests;
 mod hasher_tests;
 #[cfg(test)]
 mod index_tests;
+#[cfg(test)]
+mod lines_refused;
+#[cfg(test)]
+mod map_refusals;
+#[cfg(test)]
+mod no_memory;
 pub mod odd_keys;
 #[cfg(test)]
 mod refusals;
 #[cfg(test)]
 mod run_map_tests;
+#[cfg(test)]
+mod run_refusals;
 #[cfg(test)]
 mod run_vec_tests;
 #[cfg(test)]

@@ -1,253 +1,122 @@
-//! Scripts of 32 calls on the index forms in which each request for memory, the tables' and the arena's, is refused in turn.
+//! Scripts of 32 calls on the index set, the interner and the cache: each request for memory, the tables', the owners' and the arena's, is
+//! refused in turn.
 use bumpalo::Bump;
-use elsa_index::index_map::FrozenIndexMap;
 use elsa_index::index_set::FrozenIndexSet;
-use elsa_once::stable::Own;
+use elsa_interner::cache::{LoadFault, ResourceCache};
+use elsa_interner::interner::Interner;
 use std::alloc::{AllocError, Global};
 use std::hash::{BuildHasherDefault, FoldHasher};
 use std::test::Fail;
 use test_alloc::Budget;
-use test_script::{Family, Script, goes_through, requests_refused_in_turn};
+use test_script::{Family, Script, Squeeze, WORDS, goes_through, leave_room, refuse_each_in_turn};
 
 type Heap<'b> = &'b Budget<Global>;
+
+type Text<'b> = String<Heap<'b>>;
 
 type Hasher = BuildHasherDefault<FoldHasher>;
 
 const CALLS: usize = 32;
 
-// The number of no call.
-const NONE: usize = usize::MAX;
-
-// An arena that refuses its next placing.
-fn exhaust(arena: &Bump) {
-    arena.set_allocation_limit(Some(0));
-    for _ in 0..100_000 {
-        if arena.try_alloc(0u64).is_err() {
-            return;
-        }
-    }
-}
-
-// ---- the map
-
-type Map<'a, 'b> = FrozenIndexMap<'a, usize, Own<usize>, Hasher, Heap<'b>>;
-
-// An even call gives a new key, its number, itself as its value, by each insertion in turn; the odd ones ask for a key again, clone, list or
-// collect. The arena refuses the call `refused` once.
-#[derive(Drop)]
-struct MapCalls<'a, 'b> {
-    heap: Heap<'b>,
-    arena: &'a Bump,
-    map: Map<'a, 'b>,
-    refused: usize,
-}
-
-impl Script for MapCalls<'_, '_> {
-    fn call(&mut self, number: usize) -> Result<bool, AllocError> {
-        if number == self.refused {
-            self.refused = NONE;
-            exhaust(self.arena);
-        }
-        let outcome = map_call(self.heap, self.arena, &mut self.map, number);
-        self.arena.set_allocation_limit(None);
-        outcome
-    }
-
-    fn holds(&self, number: usize) -> bool {
-        map_has(&self.map, number)
-    }
-}
-
-fn map_call<'a, 'b>(
-    heap: Heap<'b>,
-    arena: &'a Bump,
-    map: &mut Map<'a, 'b>,
-    number: usize,
-) -> Result<bool, AllocError> {
-    match number % 8 {
-        0 => map_insert(map, number),
-        1 => Ok(map_again(map, number - 1)),
-        2 => map_full(map, number),
-        3 => map_clone(map, number),
-        4 => map_new(map, number),
-        5 => map_listed(map, number),
-        6 => map_full_new(map, number),
-        _ => map_collected(heap, arena),
-    }
-}
-
-fn map_insert(map: &mut Map<'_, '_>, key: usize) -> Result<bool, AllocError> {
-    Ok(*map.insert(key, Own(key))? == key)
-}
-
-// A key that is there is answered whatever is refused.
-fn map_again(map: &mut Map<'_, '_>, key: usize) -> bool {
-    matches!(map.insert_full(key, Own(99)), Ok((place, value)) if place == key / 2 && *value == key)
-}
-
-fn map_full(map: &mut Map<'_, '_>, key: usize) -> Result<bool, AllocError> {
-    let (place, value) = map.insert_full(key, Own(key))?;
-    Ok(place == key / 2 && *value == key)
-}
-
-fn map_new(map: &mut Map<'_, '_>, key: usize) -> Result<bool, AllocError> {
-    let (value, new) = map.insert_new(key, Own(key))?;
-    Ok(*value == key && new)
-}
-
-fn map_full_new(map: &mut Map<'_, '_>, key: usize) -> Result<bool, AllocError> {
-    let (place, value, new) = map.insert_full_new(key, Own(key))?;
-    Ok(place == key / 2 && *value == key && new)
-}
-
-fn map_clone(map: &Map<'_, '_>, number: usize) -> Result<bool, AllocError> {
-    Ok(map_has(&map.clone()?, number))
-}
-
-fn map_listed(map: &Map<'_, '_>, number: usize) -> Result<bool, AllocError> {
-    Ok(map.clone()?.into_tuple_vec()?.len() == number.div_ceil(2))
-}
-
-fn map_collected(heap: Heap<'_>, arena: &Bump) -> Result<bool, AllocError> {
-    let pairs = [(0, Own(0)), (2, Own(9)), (2, Own(2)), (4, Own(4))];
-    let made: Map<'_, '_> = FrozenIndexMap::from_iter(heap, arena, Hasher::new(), pairs)?;
-    Ok(map_has(&made, 6))
-}
-
-// The key at the place, if its value is the same.
-fn map_at(map: &Map<'_, '_>, place: usize) -> Option<usize> {
-    let (key, value) = map.get_index(place)?;
-    if key == *value { Some(key) } else { None }
-}
-
-// Whether the even numbers below this are the keys, in order, and their own values.
-fn map_has(map: &Map<'_, '_>, number: usize) -> bool {
-    let count = number.div_ceil(2);
-    for place in 0..count {
-        if map_at(map, place) != Some(place.wrapping_mul(2)) {
-            return false;
-        }
-    }
-    map.get_index(count).is_none()
-}
-
-#[derive(Drop)]
-struct Maps {
-    refused: usize,
-}
-
-impl Family for Maps {
-    fn goes_over(&self, alloc: Global, heap: &Budget<Global>) -> bool {
-        let arena = Bump::new(alloc);
-        let mut script = MapCalls {
-            heap,
-            arena: &arena,
-            map: FrozenIndexMap::new(heap, &arena),
-            refused: self.refused,
-        };
-        goes_through(&mut script, CALLS)
-    }
-}
-
-#[test]
-fn an_index_map(rt: HostRuntime) -> Result<(), Fail> {
-    let asked = requests_refused_in_turn(rt.alloc(), &Maps { refused: NONE });
-    assert!(rt; asked.unwrap_or(0) > 10);
-    let open = Budget::new(rt.alloc());
-    for refused in 0..CALLS {
-        assert!(rt;
-            Maps { refused }.goes_over(rt.alloc(), &open),
-            "at {refused}"
-        );
-    }
-    Ok(())
+fn word(place: usize) -> &'static str {
+    WORDS[place % 16]
 }
 
 // ---- the set
 
-type Set<'a, 'b> = FrozenIndexSet<'a, Own<usize>, Hasher, Heap<'b>>;
+type Set<'a, 'b> = FrozenIndexSet<'a, Text<'b>, Hasher, Heap<'b>>;
 
-// An even call adds its number, by each insertion in turn; the odd ones ask for a value again, clone or collect.
+// An even call adds the next word, by each of the six insertions in turn; of the odd ones the first adds the last word again, the second
+// clones, and the third collects.
 #[derive(Drop)]
 struct SetCalls<'a, 'b> {
     heap: Heap<'b>,
     arena: &'a Bump,
     set: Set<'a, 'b>,
-    refused: usize,
 }
 
 impl Script for SetCalls<'_, '_> {
     fn call(&mut self, number: usize) -> Result<bool, AllocError> {
-        if number == self.refused {
-            self.refused = NONE;
-            exhaust(self.arena);
+        match number % 6 {
+            1 => added_again(&mut self.set, self.heap, number / 2),
+            3 => cloned(&self.set, number.div_ceil(2)),
+            5 => collected(self.heap, self.arena),
+            _ => added(&mut self.set, self.heap, number / 2),
         }
-        let outcome = set_call(self.heap, self.arena, &mut self.set, number);
-        self.arena.set_allocation_limit(None);
-        outcome
     }
 
     fn holds(&self, number: usize) -> bool {
-        set_has(&self.set, number)
+        has_words(&self.set, number.div_ceil(2))
     }
 }
 
-fn set_call<'a, 'b>(
-    heap: Heap<'b>,
-    arena: &'a Bump,
-    set: &mut Set<'a, 'b>,
-    number: usize,
+fn added<'b>(set: &mut Set<'_, 'b>, heap: Heap<'b>, place: usize) -> Result<bool, AllocError> {
+    if set.get_index_of(&word(place)).is_some() {
+        return Ok(false);
+    }
+    match place % 6 {
+        0 => absent_text(set, place),
+        1 => absent(set, String::from_str(heap, word(place))?, place),
+        way => inserted(set, String::from_str(heap, word(place))?, place, way),
+    }
+}
+
+fn absent_text(set: &mut Set<'_, '_>, place: usize) -> Result<bool, AllocError> {
+    let text = word(place);
+    if set.get_index_of(&text).is_some() {
+        return Ok(false);
+    }
+    Ok(set.insert_absent_text(text)? == (place, text))
+}
+
+fn absent<'b>(set: &mut Set<'_, 'b>, text: Text<'b>, place: usize) -> Result<bool, AllocError> {
+    if set.get_index_of(&text).is_some() {
+        return Ok(false);
+    }
+    Ok(set.insert_absent(text)? == (place, word(place)))
+}
+
+fn inserted<'b>(
+    set: &mut Set<'_, 'b>,
+    text: Text<'b>,
+    place: usize,
+    way: usize,
 ) -> Result<bool, AllocError> {
-    match number % 8 {
-        0 => set_insert(set, number),
-        1 => Ok(set_again(set, number - 1)),
-        2 => set_full(set, number),
-        3 => set_clone(set, number),
-        4 => set_new(set, number),
-        6 => set_full_new(set, number),
-        _ => set_collected(heap, arena),
+    match way {
+        2 => Ok(set.insert(text)? == word(place)),
+        3 => Ok(set.insert_full(text)? == (place, word(place))),
+        4 => Ok(set.insert_new(text)? == (word(place), true)),
+        _ => Ok(set.insert_full_new(text)? == (place, word(place), true)),
     }
 }
 
-fn set_insert(set: &mut Set<'_, '_>, value: usize) -> Result<bool, AllocError> {
-    Ok(*set.insert(Own(value))? == value)
+fn added_again<'b>(
+    set: &mut Set<'_, 'b>,
+    heap: Heap<'b>,
+    place: usize,
+) -> Result<bool, AllocError> {
+    let text = String::from_str(heap, word(place))?;
+    Ok(set.insert_full_new(text)? == (place, word(place), false))
 }
 
-// A value that is there is answered whatever is refused.
-fn set_again(set: &mut Set<'_, '_>, value: usize) -> bool {
-    matches!(set.insert_full(Own(value)), Ok((place, there)) if place == value / 2 && *there == value)
+fn cloned(set: &Set<'_, '_>, count: usize) -> Result<bool, AllocError> {
+    Ok(has_words(&set.clone()?, count))
 }
 
-fn set_full(set: &mut Set<'_, '_>, value: usize) -> Result<bool, AllocError> {
-    let (place, there) = set.insert_full(Own(value))?;
-    Ok(place == value / 2 && *there == value)
+fn collected(heap: Heap<'_>, arena: &Bump) -> Result<bool, AllocError> {
+    let texts = [
+        String::from_str(heap, word(0))?,
+        String::from_str(heap, word(1))?,
+        String::from_str(heap, word(0))?,
+    ];
+    let made: Set<'_, '_> = FrozenIndexSet::from_iter(heap, arena, Hasher::new(), texts)?;
+    Ok(has_words(&made, 2))
 }
 
-fn set_new(set: &mut Set<'_, '_>, value: usize) -> Result<bool, AllocError> {
-    let (there, new) = set.insert_new(Own(value))?;
-    Ok(*there == value && new)
-}
-
-fn set_full_new(set: &mut Set<'_, '_>, value: usize) -> Result<bool, AllocError> {
-    let (place, there, new) = set.insert_full_new(Own(value))?;
-    Ok(place == value / 2 && *there == value && new)
-}
-
-fn set_clone(set: &Set<'_, '_>, number: usize) -> Result<bool, AllocError> {
-    Ok(set_has(&set.clone()?, number))
-}
-
-fn set_collected(heap: Heap<'_>, arena: &Bump) -> Result<bool, AllocError> {
-    let values = [Own(0), Own(2), Own(2), Own(4)];
-    let made: Set<'_, '_> = FrozenIndexSet::from_iter(heap, arena, Hasher::new(), values)?;
-    Ok(set_has(&made, 6))
-}
-
-// Whether the even numbers below this are the values, in order.
-fn set_has(set: &Set<'_, '_>, number: usize) -> bool {
-    let count = number.div_ceil(2);
+// Whether the first words, so many, are the values, in order.
+fn has_words(set: &Set<'_, '_>, count: usize) -> bool {
     for place in 0..count {
-        if set.get_index(place).copied() != Some(place.wrapping_mul(2)) {
+        if set.get_index(place) != Some(word(place)) {
             return false;
         }
     }
@@ -255,32 +124,276 @@ fn set_has(set: &Set<'_, '_>, number: usize) -> bool {
 }
 
 #[derive(Drop)]
-struct Sets {
-    refused: usize,
-}
+struct Sets;
 
 impl Family for Sets {
-    fn goes_over(&self, alloc: Global, heap: &Budget<Global>) -> bool {
+    fn calls(&self) -> usize {
+        CALLS
+    }
+
+    fn placings(&self, number: usize) -> usize {
+        match number % 6 {
+            0 | 2 | 4 => 1,
+            5 => 2,
+            _ => 0,
+        }
+    }
+
+    fn goes_over(&self, alloc: Global, heap: &Budget<Global>, squeezed: Squeeze) -> Option<u64> {
         let arena = Bump::new(alloc);
         let mut script = SetCalls {
             heap,
             arena: &arena,
             set: FrozenIndexSet::new(heap, &arena),
-            refused: self.refused,
         };
-        goes_through(&mut script, CALLS)
+        goes_through(&mut script, CALLS, heap, &arena, squeezed)
     }
 }
 
 #[test]
-fn an_index_set(rt: HostRuntime) -> Result<(), Fail> {
-    let asked = requests_refused_in_turn(rt.alloc(), &Sets { refused: NONE });
-    assert!(rt; asked.unwrap_or(0) > 10);
-    let open = Budget::new(rt.alloc());
-    for refused in 0..CALLS {
+fn a_refused_call_leaves_the_index_set_as_it_was(rt: HostRuntime) -> Result<(), Fail> {
+    let refused = refuse_each_in_turn(rt.alloc(), &Sets)?;
+    assert!(rt; refused.requests > 40 && refused.placings == 26);
+    Ok(())
+}
+
+// ---- the interner
+
+// An even call puts the next word, an odd one puts the last one again.
+#[derive(Drop)]
+struct Puts<'a, 'b> {
+    names: Interner<'a, Hasher, Heap<'b>>,
+}
+
+impl Script for Puts<'_, '_> {
+    fn call(&mut self, number: usize) -> Result<bool, AllocError> {
+        Ok(self.names.put(word(number / 2))? == number / 2)
+    }
+
+    fn holds(&self, number: usize) -> bool {
+        has_names(&self.names, number.div_ceil(2))
+    }
+}
+
+// Whether the first words, so many, are the names, and no other word is one.
+fn has_names(names: &Interner<'_, Hasher, Heap<'_>>, count: usize) -> bool {
+    for place in 0..16 {
+        let there = place < count;
+        let name = if there { Some(word(place)) } else { None };
+        let number = if there { Some(place) } else { None };
+        if names.at(place) != name || names.find(word(place)) != number {
+            return false;
+        }
+    }
+    names.len() == count && names.at(usize::MAX).is_none()
+}
+
+#[derive(Drop)]
+struct Interners;
+
+impl Family for Interners {
+    fn calls(&self) -> usize {
+        CALLS
+    }
+
+    fn placings(&self, number: usize) -> usize {
+        1 - number % 2
+    }
+
+    fn goes_over(&self, alloc: Global, heap: &Budget<Global>, squeezed: Squeeze) -> Option<u64> {
+        let arena = Bump::new(alloc);
+        let mut script = Puts {
+            names: Interner::new(heap, &arena),
+        };
+        goes_through(&mut script, CALLS, heap, &arena, squeezed)
+    }
+}
+
+#[test]
+fn a_refused_put_adds_no_name(rt: HostRuntime) -> Result<(), Fail> {
+    let refused = refuse_each_in_turn(rt.alloc(), &Interners)?;
+    assert!(rt; refused.requests > 3 && refused.placings == 16);
+    Ok(())
+}
+
+// ---- the cache
+
+// What is made of a text is its first character; a call of the loader is counted.
+fn first_at<'a>(
+    cache: &mut ResourceCache<'a, Heap<'_>>,
+    alloc: Global,
+    path: &'a str,
+    loads: &mut u64,
+) -> Result<&'a str, LoadFault> {
+    let resource = cache.get_resource(path, |path| {
+        *loads = loads.saturating_add(1);
+        match String::from_str(alloc, path) {
+            Ok(text) => Ok(text),
+            Err(_) => Err(LoadFault::Memory),
+        }
+    })?;
+    Ok(resource.get())
+}
+
+// An even call asks for the next word's resource, and an odd one for all before again; the text of a path is the path.
+#[derive(Drop)]
+struct Resources<'a, 'b> {
+    alloc: Global,
+    cache: ResourceCache<'a, Heap<'b>>,
+    loads: u64,
+}
+
+impl Script for Resources<'_, '_> {
+    fn call(&mut self, number: usize) -> Result<bool, AllocError> {
+        if number % 2 == 1 {
+            return Ok(are_kept(&mut self.cache, self.alloc, number.div_ceil(2)));
+        }
+        match first_at(
+            &mut self.cache,
+            self.alloc,
+            word(number / 2),
+            &mut self.loads,
+        ) {
+            Ok(first) => Ok(is_first(first, number / 2)),
+            Err(LoadFault::Memory) => Err(AllocError),
+            Err(LoadFault::NotFound) => Ok(false),
+        }
+    }
+
+    // Each path was loaded once, but for one whose text was refused.
+    fn holds(&self, number: usize) -> bool {
+        let paths = number.div_ceil(2) as u64;
+        paths <= self.loads && self.loads <= paths + 1
+    }
+}
+
+fn is_first(first: &str, place: usize) -> bool {
+    word(place).starts_with(first) && first.len() == 1
+}
+
+// Whether the first words, so many, have their resources, without a load.
+fn are_kept(cache: &mut ResourceCache<'_, Heap<'_>>, alloc: Global, count: usize) -> bool {
+    let mut loads = 0;
+    for place in 0..count {
+        let is_kept =
+            matches!(first_at(cache, alloc, word(place), &mut loads), Ok(first) if is_first(first, place));
+        if !is_kept {
+            return false;
+        }
+    }
+    loads == 0
+}
+
+#[derive(Drop)]
+struct Caches;
+
+impl Family for Caches {
+    fn calls(&self) -> usize {
+        CALLS
+    }
+
+    // A text of eight bytes and a resource of sixteen.
+    fn placings(&self, number: usize) -> usize {
+        if number % 2 == 0 { 3 } else { 0 }
+    }
+
+    fn goes_over(&self, alloc: Global, heap: &Budget<Global>, squeezed: Squeeze) -> Option<u64> {
+        let arena = Bump::new(alloc);
+        let mut script = Resources {
+            alloc,
+            cache: ResourceCache::new(heap, &arena),
+            loads: 0,
+        };
+        goes_through(&mut script, CALLS, heap, &arena, squeezed)
+    }
+}
+
+#[test]
+fn a_refused_load_is_made_again_and_loses_no_other(rt: HostRuntime) -> Result<(), Fail> {
+    let refused = refuse_each_in_turn(rt.alloc(), &Caches)?;
+    assert!(rt; refused.requests > 4 && refused.placings == 48);
+    Ok(())
+}
+
+// What is refused of the memory that one load takes.
+#[derive(Clone, Copy, Debug)]
+enum Refusal {
+    // The request of this number. The texts' table makes the first half of them, and the resources' the rest.
+    Request(u64),
+    // What no longer fits into this many times eight bytes of the arena: the text takes one of them, and its resource two.
+    Room(usize),
+}
+
+fn refuse(refusal: Refusal, heap: Heap<'_>, arena: &Bump) {
+    match refusal {
+        Refusal::Request(number) => heap.refuse(number, number.saturating_add(1)),
+        Refusal::Room(room) => leave_room(arena, room),
+    }
+}
+
+// What a load whose text begins with `a` answers where memory is refused so, what the next one answers, whose text begins with `b`, and how
+// often the loader was called by the first and by both.
+fn loads_after(alloc: Global, refusal: Refusal) -> (Option<LoadFault>, Option<char>, u64, u64) {
+    let (heap, arena) = (Budget::new(alloc), Bump::new(alloc));
+    let mut cache = ResourceCache::new(&heap, &arena);
+    let mut loads = 0;
+    refuse(refusal, &heap, &arena);
+    let first = load(&mut cache, alloc, "aardvark", &mut loads).err();
+    let once = loads;
+    heap.refuse_next(0);
+    arena.set_allocation_limit(None);
+    let second = load(&mut cache, alloc, "bandicot", &mut loads).ok();
+    (first, second, once, loads)
+}
+
+fn load(
+    cache: &mut ResourceCache<'_, Heap<'_>>,
+    alloc: Global,
+    text: &str,
+    loads: &mut u64,
+) -> Result<char, LoadFault> {
+    let resource = cache.get_resource("path", |_| {
+        *loads = loads.saturating_add(1);
+        match String::from_str(alloc, text) {
+            Ok(text) => Ok(text),
+            Err(_) => Err(LoadFault::Memory),
+        }
+    })?;
+    match resource.get().chars().next() {
+        Some(first) => Ok(first),
+        None => Err(LoadFault::NotFound),
+    }
+}
+
+// Whether a load is refused so, and the next one then calls the loader if `again`, and else takes the text that the first one gained.
+fn is_refused(alloc: Global, refusal: Refusal, again: bool) -> bool {
+    let (first, loads) = if again { ('b', 2) } else { ('a', 1) };
+    loads_after(alloc, refusal) == (Some(LoadFault::Memory), Some(first), 1, loads)
+}
+
+// How many requests a load makes.
+fn requests_of_a_load(alloc: Global) -> u64 {
+    let (heap, arena) = (Budget::new(alloc), Bump::new(alloc));
+    let mut cache = ResourceCache::new(&heap, &arena);
+    let mut loads = 0;
+    let is_loaded = load(&mut cache, alloc, "aardvark", &mut loads) == Ok('a');
+    if is_loaded { heap.asked() } else { 0 }
+}
+
+#[test]
+fn a_text_gained_by_a_refused_load_is_not_loaded_again(rt: HostRuntime) -> Result<(), Fail> {
+    let requests = requests_of_a_load(rt.alloc());
+    assert!(rt; requests > 1 && requests % 2 == 0);
+    for number in 0..requests {
         assert!(rt;
-            Sets { refused }.goes_over(rt.alloc(), &open),
-            "at {refused}"
+            is_refused(rt.alloc(), Refusal::Request(number), number < requests / 2),
+            "at request {number}"
+        );
+    }
+    for (room, again) in [(0, true), (1, false), (2, false)] {
+        assert!(rt;
+            is_refused(rt.alloc(), Refusal::Room(room), again),
+            "with room for {room}"
         );
     }
     Ok(())

@@ -5,7 +5,6 @@ use Rattle.std.specs.List.{IsDistinct, AllByRecursion}
 use Rattle.std.proofs.lemmas.Map.Made.{is_some-lookup}
 use Rattle.std.proofs.lemmas.List.{length-map}
 use Rattle.std.proofs.lemmas.Bool.{cases_lt}
-use Rattle.std.proofs.lemmas.Bool.Decides.{nat_tests}
 use Rattle.elsa_locks.specs.FirstWins.{value_at, HasCount}
 use Rattle.elsa_locks.specs.Receipts.{receipts_for, receipts_at, receipt_count, AreReceipts}
 use Rattle.elsa_locks.proofs.Receipts.{each_below, test_at, test_off}

@@ -2,7 +2,6 @@
 use Rattle.std.proofs.Common.{◌≡◌, ◌+◌, ◌-◌, ◌<◌, ◌≤◌, ◌==◌, ◌⊎◌, ◌≢◌, inl, inr, ℕ, suc, zero, Bool, true, false, cond, List, [], ◌∷◌, ◌++◌, length, slice_get, get_or, set, take, add-one, take_all, IsSomeAnd, Some, None, refl, sym, ap, subst, ◌∙◌, arith, length-append}
 use Rattle.std.specs.List.{AllByRecursion}
 use Rattle.std.proofs.lemmas.Option.{slice_get-get_or}
-use Rattle.std.proofs.lemmas.Grind.{common_steps}
 use Rattle.std.proofs.lemmas.Bool.{cases_lt}
 use Rattle.std.proofs.lemmas.Bool.Decides.{nat_tests, Decides-eqb}
 use Rattle.elsa_locks.specs.Receipts.{receipts_for, receipts_at, Rises, IsCall, IsAtPlace, AreReceipts, EndsElsewhere, IsTakenFrom}
@@ -48,9 +47,6 @@ rises_snoc [] r h b = (tt, tt)
 rises_snoc (s ∷ rs) r h b = (all_join (λ q. s.0 < q.0) rs (r ∷ []) h.0 (b.0, tt), rises_snoc rs r h.1 b.1)
 
 -- ---- counts
-same_test : (n : ℕ) → (n == n) ≡ true
-same_test n = (Decides-eqb n n).1 refl
-
 for_append : {C R : Type 0} (i : ℕ) (rs ss : List (ℕ × C × R)) → receipts_for i (rs ++ ss) ≡ receipts_for i rs + receipts_for i ss
 for_append i [] ss = omega arith
 for_append i (r ∷ rs) ss = let e : receipts_for i (rs ++ ss) ≡ receipts_for i rs + receipts_for i ss = for_append i rs ss in omega arith
@@ -300,9 +296,6 @@ take_front {X} xs (suc j) x p e =
     let E : ℕ → Type 0 = λ m. slice_get xs m ≡ Some x in
     let F : ℕ → Type 0 = λ m. take m xs ++ x ∷ [] ≡ take (suc j) xs in
     subst F (sym k) (take_step xs j x (subst E k e))
-
-pub take_none : {X : Type 0} (P : List X → Type 0) (xs : List X) (n : ℕ) → n ≤ 0 → P (take n xs) → P []
-take_none P xs n l h = let z : n ≡ 0 = omega arith in let Q : ℕ → Type 0 = λ m. P (take m xs) in subst Q z h
 
 pub take_start : {X : Type 0} (P : List X → Type 0) (xs : List X) (n : ℕ) → n ≤ 0 → P [] → P (take n xs)
 take_start P xs n l h = let z : n ≡ 0 = omega arith in let Q : ℕ → Type 0 = λ m. P (take m xs) in subst Q (sym z) h

@@ -2,9 +2,15 @@
 #![tactic(auto)]
 
 #[cfg(test)]
+mod harness;
+#[cfg(test)]
 mod lists;
 #[cfg(test)]
 mod maps;
+#[cfg(test)]
+mod no_memory;
+#[cfg(test)]
+mod recorder_refusals;
 #[cfg(test)]
 mod recordings;
 #[cfg(test)]

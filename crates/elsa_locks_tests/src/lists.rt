@@ -84,7 +84,7 @@ fn is_cloned(rt: &impl Wait, list: &Numbers) -> Result<bool, AllocError> {
 }
 
 #[test]
-fn a_clone_goes_its_own_way(rt: HostRuntime) -> Result<(), Fail> {
+fn pushes_into_a_clone_leave_its_source(rt: HostRuntime) -> Result<(), Fail> {
     let mut list: Numbers = FrozenVec::new(rt.alloc());
     let empty = list.is_empty(&rt);
     list.push(&rt, 7)?;

@@ -114,21 +114,3 @@ module _ {F B R : Type 0} (step : F → B → R → F → Type 0) (low high : R)
     few = one_more (length items) (length known.calls) (r - l) (omega arith) known.halved;
     bracket = p;
   }
-
--- an empty range ends the search
-pub searched_at_end : {F B R : Type 0} (step : F → B → R → F → Type 0) (low high : R) (items : List B) (start now : F) (l r : ℕ) → Narrowed step low high items start now l r → r ≤ l
-    → Searched step items start (λ calls. IsBetween (length items) (Answered calls) low high l)
-searched_at_end step low high items start now l r known h = record {
-  calls = known.calls;
-  end = now;
-  in_turn = known.in_turn;
-  none_twice = known.none_twice;
-  few = known.few;
-  bracket = (
-    let within = known.within in let ordered = known.ordered in omega arith,
-    known.below,
-    λ p. (let e : r ≡ l = (let ordered = known.ordered in omega arith) in
-        let P : ℕ → Type 0 = λ x. x < length items → Answered known.calls x high in
-        subst P e known.above p),
-  );
-}

@@ -8,6 +8,8 @@ mod map_tests;
 #[cfg(test)]
 mod refusals;
 #[cfg(test)]
+mod search_tests;
+#[cfg(test)]
 mod vec_tests;
 #[cfg(test)]
 mod walks;

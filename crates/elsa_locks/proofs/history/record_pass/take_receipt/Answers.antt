@@ -1,6 +1,4 @@
 use Rattle.std.proofs.Common.{◌≡◌, ◌<◌, ◌≤◌, ℕ, List, length, arith, refl, sym, add-one}
-use Rattle.std.specs.List.{AllByRecursion}
-use Rattle.elsa_locks.specs.Receipts.{EndsElsewhere}
 use Rattle.elsa_locks.proofs.Receipts.{take_yes, take_no, receipts_none, all_taken, all_take_more, here}
 use Rattle.elsa_locks.proofs.history.record_pass.take_receipt.Goals as goal
 

@@ -1,0 +1,107 @@
+//! Calls that take no memory: an insertion of a copy where the key is there, and every call whose answer is no `Result`, on a state and behind
+//! its lock. The memory is refused, and the state has each size up to sixteen, so that its table is full at some.
+use elsa_locks::map::{FrozenMap, MapState};
+use std::alloc::{AllocError, Global};
+use std::sync::Wait;
+use std::test::Fail;
+use test_alloc::Budget;
+
+type Heap<'b> = &'b Budget<Global>;
+
+type State<'b> = MapState<usize, usize, Heap<'b>>;
+
+type Map<'b> = FrozenMap<usize, usize, Heap<'b>>;
+
+// The number of calls on each.
+const CALLS: usize = 7;
+
+// The numbers below the size, each its own value.
+fn filled(heap: Heap<'_>, size: usize) -> Result<State<'_>, AllocError> {
+    let mut state = MapState::new(heap);
+    for number in 0..size {
+        let _ = *state.insert(number, number)?;
+    }
+    Ok(state)
+}
+
+fn filled_map<'b>(rt: &impl Wait, heap: Heap<'b>, size: usize) -> Result<Map<'b>, AllocError> {
+    let map: Map<'b> = FrozenMap::new(heap);
+    for number in 0..size {
+        let _ = *map.insert(rt, number, number)?;
+    }
+    Ok(map)
+}
+
+// Whether the call of this number answers what it must where `last` is the last number.
+fn state_answers(state: &mut State<'_>, number: usize, last: usize) -> bool {
+    match number {
+        0 => state.get_copy_or_insert(last, 99) == Ok(last),
+        1 => state.get_copy_or_insert_with(last, || 99) == Ok(last),
+        2 => state.get_copy_or_insert_with_key(last, |_| 99) == Ok(last),
+        3 => state.get_copy(&last) == Some(last) && state.get_copy(&99).is_none(),
+        4 => state.map_get(&last, |value| *value) == Some(last),
+        5 => state.len() == last.wrapping_add(1) && !state.is_empty(),
+        _ => state.same(state),
+    }
+}
+
+fn map_answers(rt: &impl Wait, map: &Map<'_>, number: usize, last: usize) -> bool {
+    match number {
+        0 => map.get_copy_or_insert(rt, last, 99) == Ok(last),
+        1 => map.get_copy_or_insert_with(rt, last, || 99) == Ok(last),
+        2 => map.get_copy_or_insert_with_key(rt, last, |_| 99) == Ok(last),
+        3 => map.get_copy(rt, &last) == Some(last) && map.get_copy(rt, &99).is_none(),
+        4 => map.map_get(rt, &last, |value| *value) == Some(last),
+        5 => map.len(rt) == last.wrapping_add(1),
+        _ => !map.is_empty(rt),
+    }
+}
+
+// The first call on a state of this size that answers wrongly or asks for memory.
+fn state_asks(heap: Heap<'_>, size: usize) -> Option<usize> {
+    heap.refuse_next(0);
+    let Ok(mut state) = filled(heap, size) else {
+        return Some(CALLS);
+    };
+    heap.refuse_next(u64::MAX);
+    for number in 0..CALLS {
+        let asked = heap.asked();
+        if !state_answers(&mut state, number, size.saturating_sub(1)) || heap.asked() != asked {
+            return Some(number);
+        }
+    }
+    None
+}
+
+fn map_asks(rt: &impl Wait, heap: Heap<'_>, size: usize) -> Option<usize> {
+    heap.refuse_next(0);
+    let Ok(map) = filled_map(rt, heap, size) else {
+        return Some(CALLS);
+    };
+    heap.refuse_next(u64::MAX);
+    for number in 0..CALLS {
+        let asked = heap.asked();
+        if !map_answers(rt, &map, number, size.saturating_sub(1)) || heap.asked() != asked {
+            return Some(number);
+        }
+    }
+    None
+}
+
+#[test]
+fn a_copy_that_is_there_is_answered_without_memory(rt: HostRuntime) -> Result<(), Fail> {
+    let heap = Budget::new(rt.alloc());
+    for size in 1..17 {
+        assert!(rt;
+            state_asks(&heap, size) == None,
+            "state of {size}: {:?}",
+            state_asks(&heap, size)
+        );
+        assert!(rt;
+            map_asks(&rt, &heap, size) == None,
+            "map of {size}: {:?}",
+            map_asks(&rt, &heap, size)
+        );
+    }
+    Ok(())
+}
