@@ -3,7 +3,8 @@
 //! The locked forms take their lock for one call each; a call that may wait takes the right to wait. Reads of a [`LockFreeFrozenVec`] wait
 //! for nobody. [`history`] has the recorder, [`machine`] every schedule of the concurrent vector.
 pub use elsa_free::lock_free::{LockFreeFrozenVec, Pass};
-pub use elsa_free::{geometry, lock_free, machine, slots};
+pub use elsa_free::{lock_free, slots};
 pub use elsa_locks::map::{FrozenBTreeMap, FrozenMap};
 pub use elsa_locks::vec::{FrozenVec, Iter};
 pub use elsa_locks::{history, map, vec};
+pub use elsa_machine::{geometry, machine};

@@ -1,4 +1,4 @@
-//! Numbers that look like chance, the same as those that upstream's side draws.
+//! Numbers that look like chance, the same as those that upstream's side draws, and places by chance or in order.
 
 /// The draws of one thread.
 #[derive(Clone, Copy)]
@@ -19,5 +19,51 @@ impl Draws {
             .wrapping_mul(6364136223846793005)
             .wrapping_add(1442695040888963407);
         self.state >> 33
+    }
+}
+
+/// How many places there are to read: a power of two, so that none is drawn by a division.
+pub const STOCK: u64 = 1 << 17;
+
+/// Places below `STOCK`, one after the other.
+pub trait Places: Drop {
+    fn new(thread: usize) -> Self;
+
+    fn next(&mut self) -> usize;
+}
+
+/// Places by chance.
+#[derive(Clone, Copy)]
+pub struct Random {
+    draws: Draws,
+}
+
+impl Places for Random {
+    fn new(thread: usize) -> Random {
+        Random {
+            draws: Draws::new(thread),
+        }
+    }
+
+    fn next(&mut self) -> usize {
+        (self.draws.next() & (STOCK - 1)) as usize
+    }
+}
+
+/// Places from the first to the last, again and again.
+#[derive(Clone, Copy)]
+pub struct InOrder {
+    place: u64,
+}
+
+impl Places for InOrder {
+    fn new(_thread: usize) -> InOrder {
+        InOrder { place: 0 }
+    }
+
+    fn next(&mut self) -> usize {
+        let place = self.place & (STOCK - 1);
+        self.place = place + 1;
+        place as usize
     }
 }

@@ -1,8 +1,8 @@
 -- Where the places of a copy lie, and how its list and its rights move by one place.
 use Rattle.std.proofs.Common.{◌≡◌, ℕ, zero, suc, ◌+◌, ◌-◌, ◌*◌, ◌^◌, ◌<◌, ◌≤◌, List, [], ◌∷◌, ◌++◌, length, take, drop, slice_get, slice_index_or, Option, Some, None, sym, refl, ap, ◌∙◌, arith}
 use lib.Seq.{drop-cons, take-suc}
-use Rattle.elsa_free.specs.Geometry.{IsAt, size_of, slots_before}
-use Rattle.elsa_free.proofs.Powers.{before_power, four_suc, four_mono}
+use Rattle.elsa_machine.specs.Geometry.{IsAt, size_of, slots_before}
+use Rattle.elsa_machine.proofs.GeometryLemmas.Powers.{before_power, four_suc, four_mono}
 
 -- the buffers that can be opened end below 2 ^ 62
 pub ends_below : (b : ℕ) → b < 31 → slots_before b + size_of b < 2 ^ 62

@@ -10,8 +10,9 @@ use types.Tokens.{res_dup}
 use denote.Steps.{nothing}
 use denote.RattleType.{RattleType}
 use Rattle.elsa_free.specs.Slot.{written, blanks}
-use Rattle.elsa_free.specs.Geometry.{IsAt}
-use Rattle.elsa_free.proofs.Powers.{one_slot, four_suc, four_pos}
+use Rattle.elsa_machine.specs.Geometry.{IsAt}
+use Rattle.elsa_machine.proofs.GeometryLemmas.OneToOne.{one_slot}
+use Rattle.elsa_machine.proofs.GeometryLemmas.Powers.{four_suc, four_pos}
 use Rattle.elsa_free.specs.Rights.{fact, Where, Room, closed, opened, at_place, told, Fits, room, going, rights}
 
 starts : (n b : ℕ) → n + 1 ≡ 4 ^ b → IsAt n b 0

@@ -8,7 +8,7 @@ use types.Kit.{‵, use0, ◌⊛◌, ◌$◌, ◌∵◌, !, qed, move, keep, dro
 use types.Tokens.{res_dup}
 use denote.Steps.{nothing}
 use denote.RattleType.{RattleType}
-use Rattle.elsa_free.specs.Geometry.{IsAt}
+use Rattle.elsa_machine.specs.Geometry.{IsAt}
 use denote.Shadow.{makes_shadow}
 use denote.Struct.Struct.{Struct}
 use denote.Struct.Owning.{shape}

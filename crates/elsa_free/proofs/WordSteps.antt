@@ -8,7 +8,7 @@ use Rattle.logbook.specs.Pages.{Cell, cell, keeps, no_nib, step, Moves, Goes}
 use Rattle.elsa_free.specs.declared.event.Event.{Event}
 use Rattle.elsa_free.specs.declared.event.Event.TheVariants.{Took, Put, Copied, Gave, Seat}
 use Rattle.elsa_free.specs.declared.event.Entry.{Entry}
-use Rattle.elsa_free.specs.AtomicSteps.{bit, Acquires as IsAcquire, Looks as IsLook, Publishes as IsPublish, Releases as IsRelease}
+use Rattle.elsa_machine.specs.AtomicSteps.{bit, Acquires as IsAcquire, Looks as IsLook, Publishes as IsPublish, Releases as IsRelease}
 use Rattle.elsa_free.specs.History.{list_of, entries, takes, is_held, shared_by}
 use Rattle.elsa_free.specs.Rights.{Moved}
 use Rattle.elsa_free.specs.OneWord.{IsKept, Sees, Reads, Acquires, Ends, word_of}

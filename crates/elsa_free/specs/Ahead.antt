@@ -1,6 +1,6 @@
 -- How a list goes on behind its first places: the rights to write the slots from there on, and to open the further buffers.
 use Rattle.std.specs.Prelude.{ℕ, suc, ◌≡◌, ◌+◌, ◌^◌, ◌<◌, List, drop, length, slice_index_or, Option, Some, None}
-use Rattle.elsa_free.specs.Geometry.{IsAt, size_of}
+use Rattle.elsa_machine.specs.Geometry.{IsAt, size_of}
 use Rattle.elsa_free.specs.declared.slots.rights.Written.{Written}
 
 -- the place n is the first of a buffer that nobody has opened; tops names the slots of the buffers

@@ -4,7 +4,7 @@ use Rattle.std.specs.Prelude.{ℕ, ◌≡◌, ◌+◌, ◌*◌, Bool, true, fals
 use Rattle.elsa_free.specs.declared.event.Entry.{Entry}
 use Rattle.elsa_free.specs.declared.event.Event.{Event}
 use Rattle.elsa_free.specs.declared.event.Event.TheVariants.{Took, Put, Copied, Gave, Seat}
-use Rattle.elsa_free.specs.AtomicSteps.{Shared}
+use Rattle.elsa_machine.specs.AtomicSteps.{Shared}
 use Rattle.elsa_free.specs.SharedList.{copied}
 
 module _ {T : Type 0} where

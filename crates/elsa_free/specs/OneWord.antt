@@ -4,7 +4,7 @@ use Rattle.std.specs.Prelude.{ℕ, ◌≡◌, ◌+◌, ◌*◌, ◌<◌, ◌≤�
 use mathlib.Core.List.{IsPrefix}
 use Rattle.logbook.specs.Pages.{Cell, Step, View, Book, Named}
 use Rattle.elsa_free.specs.declared.event.Event.{Event}
-use Rattle.elsa_free.specs.AtomicSteps as steps
+use Rattle.elsa_machine.specs.AtomicSteps as steps
 use Rattle.elsa_free.specs.History.{list_of, is_held, shared_by}
 
 -- the vector's word is the first of its book

@@ -13,12 +13,12 @@ use types.Keyed.{ticket, tickets_from}
 use denote.RattleType.{RattleType}
 use Rattle.elsa_free.specs.Slot.{written, blanks}
 pub use Rattle.elsa_free.specs.Told.{Where, at_place, told, all_told}
-use Rattle.elsa_free.specs.Geometry.{IsAt}
+use Rattle.elsa_machine.specs.Geometry.{IsAt}
 use Rattle.elsa_free.specs.declared.event.Entry.{Entry}
 use Rattle.elsa_free.specs.declared.event.Event.{Event}
 use Rattle.elsa_free.specs.declared.event.Event.TheVariants.{Took, Put, Copied, Gave, Seat}
 use Rattle.elsa_free.specs.SharedList.{count, items_of}
-use Rattle.elsa_free.specs.AtomicSteps.{Acquires as IsAcquire, Looks as IsLook, Publishes as IsPublish, Releases as IsRelease}
+use Rattle.elsa_machine.specs.AtomicSteps.{Acquires as IsAcquire, Looks as IsLook, Publishes as IsPublish, Releases as IsRelease}
 use Rattle.elsa_free.specs.History.{list_of, is_held, shared_by, kinds, author_of, used_of, others}
 
 abbrev pub logs : Order (List ℕ)

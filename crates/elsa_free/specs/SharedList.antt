@@ -3,8 +3,8 @@
 use Rattle.std.specs.Prelude.{ℕ, suc, ◌≡◌, ◌+◌, ◌<◌, ◌≤◌, ◌==◌, Bool, true, false, List, [], ◌∷◌, ◌++◌, length, map, if◌then◌else◌, Contains, nat_le}
 use mathlib.Core.List.{IsPrefix}
 use Rattle.logbook.specs.Pages.{Book}
-pub use Rattle.elsa_free.specs.AtomicSteps.{bit}
-use Rattle.elsa_free.specs.Geometry.{slots_before}
+pub use Rattle.elsa_machine.specs.AtomicSteps.{bit}
+use Rattle.elsa_machine.specs.Geometry.{slots_before}
 use Rattle.elsa_free.specs.declared.event.Entry.{Entry}
 
 -- which vector a pass is of

@@ -1,10 +1,14 @@
--- Where a walk over the first places of a list stands: at a place and the slot in which it lies, or at the end.
-use Rattle.std.specs.Prelude.{ℕ, ◌≡◌, ◌<◌, ◌≤◌, ◌^◌}
-use Rattle.elsa_free.specs.Geometry.{IsAt, size_of}
+-- Where a walk over the first places of a list stands.
+use Rattle.std.specs.Prelude.{ℕ, ◌≡◌, ◌+◌, ◌<◌, ◌≤◌, ◌^◌}
+use Rattle.elsa_machine.specs.Geometry.{size_of}
+use Rattle.elsa_free.specs.declared.iter.Position.{Position}
 
--- the walk goes over `len` places, and `place` comes next, which lies in this slot of a buffer with so many slots
-pub record IsWalk (len place buffer slot buffer_len : ℕ) : Type 0 where
+-- A walk over `len` places stands at one of them, or behind the last. The place lies `slot` slots behind the first of its
+-- buffer, `rest` places of this buffer come next, and `left` after them, in further buffers
+pub record IsWalk (len : ℕ) (at : Position) : Type 0 where
   pub limit : len < 2 ^ 62
-  pub within : place ≤ len
-  pub lies : IsAt place buffer slot
-  pub whole : buffer_len ≡ size_of buffer
+  pub count : at.place + (at.rest + at.left) ≡ len
+  pub begins : at.place + 1 ≡ 4 ^ at.buffer + at.slot
+  pub whole : at.buffer_len ≡ size_of at.buffer
+  pub within : at.slot + at.rest ≤ size_of at.buffer
+  pub goes_on : 0 < at.left → at.slot + at.rest ≡ size_of at.buffer

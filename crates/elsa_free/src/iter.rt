@@ -1,23 +1,83 @@
 //! A walk over what a pass has seen of a vector, buffer by buffer.
-ghost use Rattle.std.specs.Prelude.{◌≡◌, ◌≤◌, ◌<◌, ◌^◌, IfSome, Some, length};
+ghost use Rattle.std.specs.Prelude.{◌≡◌, ◌+◌, ◌<◌, ◌^◌, IfSome, Some, length};
 ghost use Rattle.std.specs.Iterator.{UpTo, YieldsFirst, item_count};
 ghost use Rattle.std.specs.Iterator.SizeHint.{IsWithinCount};
+ghost use Rattle.elsa_free.specs.Walk.{IsWalk};
 
 use crate::slots::{Row, Slots, Told};
 use std::alloc::{Allocator, Global};
 use std::marker::Model;
 
-/// The items that a pass has seen of a vector, in order. A clause sees those that are left.
-///
-/// The place that comes next is kept with its buffer and slot, so no place is located anew, and no item takes an atomic step.
-pub struct Iter<'a, T, A: Allocator = Global> {
-    slots: &'a Slots<T, A>,
-    told: Told<T, Row<T, A>>,
-    len: usize,
+/// The place that comes next with the slot in which it lies, how many places of its buffer come from there on, and how many
+/// in further buffers.
+#[derive(Clone, Copy)]
+pub struct Position {
     place: usize,
     buffer: usize,
     slot: usize,
     buffer_len: usize,
+    rest: usize,
+    left: usize,
+}
+
+impl Position {
+    /// The first of `len` places.
+    fn first(len: usize) -> Position
+        requires { len < 2 ^ 62 }
+        ensures { IsWalk len result × (result.place ≡ 0) }
+    {
+        let rest = len.min(3);
+        Position {
+            place: 0,
+            buffer: 0,
+            slot: 0,
+            buffer_len: 3,
+            rest,
+            left: len - rest,
+        }
+    }
+
+    /// The same place, as the first of the next buffer.
+    fn next_buffer(self, _len: usize) -> Position
+        requires { IsWalk _len self × (self.rest ≡ 0) × (0 < self.left) }
+        ensures { IsWalk _len result × (0 < result.rest) × (result.place ≡ self.place) }
+    {
+        let buffer_len = 4 * self.buffer_len;
+        let rest = self.left.min(buffer_len);
+        Position {
+            place: self.place,
+            buffer: self.buffer + 1,
+            slot: 0,
+            buffer_len,
+            rest,
+            left: self.left - rest,
+        }
+    }
+
+    /// The next place of the buffer, or the end of the buffer.
+    fn next_slot(self, _len: usize) -> Position
+        requires { IsWalk _len self × (0 < self.rest) }
+        ensures { IsWalk _len result × (result.place ≡ self.place + 1) }
+    {
+        Position {
+            place: self.place + 1,
+            buffer: self.buffer,
+            slot: self.slot + 1,
+            buffer_len: self.buffer_len,
+            rest: self.rest - 1,
+            left: self.left,
+        }
+    }
+}
+
+/// The items that a pass has seen of a vector, in order. A clause sees those that are left.
+///
+/// The place that comes next is kept with its slot, so no place is located anew, and no item takes an atomic step.
+pub struct Iter<'a, T, A: Allocator = Global> {
+    slots: &'a Slots<T, A>,
+    told: Told<T, Row<T, A>>,
+    len: usize,
+    at: Position,
 }
 
 impl<'a, T, A: Allocator> Model for Iter<'a, T, A> {
@@ -26,9 +86,9 @@ impl<'a, T, A: Allocator> Model for Iter<'a, T, A> {
 
     ghost Value = { List T };
 
-    ghost view = { λ it. drop it.place it.told.items };
+    ghost view = { λ it. drop it.at.place it.told.items };
 
-    ghost invariant = { λ it. (it.told.tops ≡ it.slots.now) × (it.len ≡ length it.told.items) × IsWalk it.len it.place it.buffer it.slot it.buffer_len };
+    ghost invariant = { λ it. (it.told.tops ≡ it.slots.now) × (it.len ≡ length it.told.items) × IsWalk it.len it.at };
 }
 
 impl<'a, T, A: Allocator> Iter<'a, T, A> {
@@ -44,10 +104,7 @@ impl<'a, T, A: Allocator> Iter<'a, T, A> {
             slots,
             told,
             len,
-            place: 0,
-            buffer: 0,
-            slot: 0,
-            buffer_len: 3,
+            at: Position::first(len),
         }
     }
 }
@@ -60,20 +117,18 @@ impl<'a, T: Copy + Drop, A: Allocator + Copy> Iterator for Iter<'a, T, A> {
     ghost remaining = { item_count (λ left. left) };
 
     fn next(&mut self) -> Option<T> {
-        if self.place >= self.len {
-            return None;
+        let mut at = self.at;
+        if at.rest == 0 {
+            if at.left == 0 {
+                return None;
+            }
+            at = at.next_buffer(self.len);
         }
-        let (row, item) = self.told.at(self.place, self.buffer, self.slot);
-        let answer = self.slots.read(self.buffer, self.slot, &row, &item);
+        let (row, item) = self.told.at(at.place, at.buffer, at.slot);
+        let answer = self.slots.read(at.buffer, at.slot, &row, &item);
         row.unused();
         item.unused();
-        self.place += 1;
-        self.slot += 1;
-        if self.slot == self.buffer_len {
-            self.buffer += 1;
-            self.slot = 0;
-            self.buffer_len *= 4;
-        }
+        self.at = at.next_slot(self.len);
         Some(answer)
     }
 
@@ -82,7 +137,7 @@ impl<'a, T: Copy + Drop, A: Allocator + Copy> Iterator for Iter<'a, T, A> {
         ensures upper { IfSome result.1 (UpTo (item_count (λ left. left) self.now)) }
         ensures exact { result ≡ (length self.now, Some (length self.now)) }
     {
-        let left = self.len - self.place;
+        let left = self.at.rest + self.at.left;
         (left, Some(left))
     }
 }
@@ -93,10 +148,7 @@ impl<'a, T, A: Allocator> Drop for Iter<'a, T, A> {
             slots: _,
             told,
             len: _,
-            place: _,
-            buffer: _,
-            slot: _,
-            buffer_len: _,
+            at: _,
         } = self;
         told.unused();
     }

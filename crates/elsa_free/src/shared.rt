@@ -6,15 +6,16 @@ ghost use Rattle.std.specs.Prelude.{◌≡◌, ◌+◌, ◌*◌, ◌-◌, ◌^�
 ghost use lib.Pointwise.{pointwise};
 ghost use mathlib.Core.List.{IsPrefix};
 ghost use Rattle.elsa_free.specs.Ahead.{GoesOn};
-ghost use Rattle.elsa_free.specs.Geometry.{IsAt};
+ghost use Rattle.elsa_machine.specs.Geometry.{IsAt};
 ghost use Rattle.elsa_free.specs.SharedList.{Appends, BeginsABuffer, copied, count, entry};
 ghost use Rattle.elsa_free.specs.declared.event.Event.TheVariants.{Took, Put, Copied, Gave, Seat};
 ghost use Rattle.elsa_free.specs.History.{entries, list_of, is_held, kinds};
 ghost use Rattle.elsa_free.specs.Rights.{head, tops_of};
 ghost use Rattle.elsa_free.specs.OneWord.{word_in, word_of};
+ghost use Rattle.crossbeam_utils.specs.Padded.{padded_value};
 
 use crate::event::Event;
-use crate::geometry::{buffer_size, locate};
+use elsa_machine::geometry::{buffer_size, locate};
 use crate::iter::Iter;
 use crate::rule::{Acquire, End, Gives, Log, Look, Looks, Nothing, OneWord, Puts, See, Takes};
 use crate::slots::{Ahead, Blanks, Copied as CopiedSlots, Row, Slots, Told, Written};
@@ -22,6 +23,7 @@ use crate::trade::{
     Author, Held, copying_closed, copying_open, given, giving, looking, published, publishing,
     start, taken_closed, taken_open, taking,
 };
+use crossbeam_utils::CachePadded;
 use logbook::{Gained, Offer, Seen, Word};
 use std::alloc::{AllocError, Allocator};
 use std::hint::spin_loop;
@@ -32,12 +34,14 @@ use std::thread::yield_now;
 pub type Known<T, A> = Seen<Event<T>, Log<T>, OneWord<Row<T, A>>>;
 
 /// The slots, the word, and what is known of every history of it: that it begins.
+///
+/// The word stands alone on its cache lines: a pusher changes it all the time, and a read of what was seen needs the slots alone.
 #[derive(Drop)]
 pub struct Shared<T, A: Allocator> {
     pub(crate) slots: Slots<T, A>,
-    pub(crate) word: Word<Event<T>, Log<T>, OneWord<Row<T, A>>>,
+    pub(crate) word: CachePadded<Word<Event<T>, Log<T>, OneWord<Row<T, A>>>>,
     pub(crate) first: Known<T, A>,
-    ghost word_is: { word ≡ word_in first.book },
+    ghost word_is: { padded_value word ≡ word_in first.book },
     ghost tops_are: { tops_of first.names ≡ slots },
     ghost all: { length slots ≡ 31 },
     ghost empty: { first.log ≡ [] },
@@ -58,7 +62,7 @@ impl<T: Copy + Drop, A: Allocator + Copy> Shared<T, A> {
         let (first, mut one, _two) = Seen::open(start, 1, 0);
         let shared = Shared {
             slots,
-            word: Word::tracked(1, &mut one),
+            word: CachePadded::new(Word::tracked(1, &mut one)),
             first,
         };
         let seen = shared.first.again();
@@ -84,7 +88,7 @@ impl<T: Copy + Drop, A: Allocator + Copy> Shared<T, A> {
         let (first, mut one, _two) = Seen::open(start, 1, 0);
         let shared = Shared {
             slots,
-            word: Word::tracked(1, &mut one),
+            word: CachePadded::new(Word::tracked(1, &mut one)),
             first,
         };
         let seen = shared.publish_copies(held, told, ahead, n);

@@ -4,7 +4,7 @@
 //! to it ([`Blank`]), and who may read it shows evidence, for good, that it was written ([`Written`]). Neither has bytes.
 //! This is the only module with raw pointers. The layer above may use this: a read gives what the one write put there.
 ghost use Rattle.std.specs.Prelude.{◌≡◌, ℕ, ◌<◌, List, length, slice_index_or, IfOk, IfErr};
-ghost use Rattle.elsa_free.specs.Geometry.{size_of};
+ghost use Rattle.elsa_machine.specs.Geometry.{size_of};
 
 mod cells;
 mod copy;
@@ -13,8 +13,8 @@ mod row;
 mod slot;
 mod told;
 
-use crate::geometry::buffer_size;
 pub use copy::{Ahead, Copied};
+use elsa_machine::geometry::buffer_size;
 pub use rights::{Blank, Blanks, Written};
 pub use row::Row;
 use slot::Slot;

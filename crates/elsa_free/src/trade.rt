@@ -6,7 +6,7 @@ ghost use base.Stored.{coded_list, coded_ℕ};
 ghost use base.Share.{three_quarters};
 ghost use base.Growing.{latest};
 ghost use Rattle.elsa_free.specs.Ahead.{IsClosedAt, IsOpenAt};
-ghost use Rattle.elsa_free.specs.Geometry.{IsAt};
+ghost use Rattle.elsa_machine.specs.Geometry.{IsAt};
 ghost use Rattle.elsa_free.specs.declared.event.Event.TheVariants.{Took, Put, Copied, Gave, Seat};
 ghost use Rattle.elsa_free.specs.declared.event.Entry.{Entry};
 ghost use Rattle.elsa_free.specs.History.{list_of, kinds, author_of, used_of, others};

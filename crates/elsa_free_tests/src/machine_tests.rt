@@ -1,7 +1,8 @@
 //! Worked rows of the geometry and of the machine, whole worlds against worlds written by hand.
-use elsa_free::geometry::{buffer_index, buffer_size, locate, prior_total_buffer_size};
-use elsa_free::machine::{Answer, Event, Items, Plan, Turn, World, run};
-use std::alloc::{AllocError, Global};
+use elsa_machine::geometry::{buffer_index, buffer_size, locate, prior_total_buffer_size};
+use elsa_machine::machine::{Answer, Event, Items, Plan, Turn, World, run};
+use std::alloc::{AllocError, Allocator, Global};
+use test_alloc::Budget;
 
 #[derive(Clone, Copy)]
 enum PlanRow<'a> {
@@ -237,6 +238,185 @@ fn schedules_leave_their_worlds(rt: HostRuntime) -> Result<(), AllocError> {
         let world = run(alloc, &plans, &schedule)?;
         assert_eq!(rt; world, world_of(alloc, row)?, "{}", row.name);
     }
+    Ok(())
+}
+
+#[test]
+fn threads_end_in_counted_turns(rt: HostRuntime) -> Result<(), AllocError> {
+    let alloc = rt.alloc();
+    let append = |thread, item| Event::Append { thread, item };
+    let rows = [
+        Row {
+            name: "a peek while another thread holds sees nothing",
+            plans: &[PlanRow::Pusher(&[7]), PlanRow::Pusher(&[9])],
+            turns: &[0, 0, 1, 1, 0, 0, 0, 1, 1, 1, 1],
+            refused: 99,
+            opened: 1,
+            items: &[7, 9],
+            events: &[append(0, 7), append(1, 9)],
+            answers: &[AnswerRow::Pushed(0, 0), AnswerRow::Pushed(1, 1)],
+        },
+        Row {
+            name: "turns of numbers beyond the plans, amid a push",
+            plans: &[PlanRow::Pusher(&[7])],
+            turns: &[1, 0, 2, 0, 1, 0, 1, 0, 99, 0, 1],
+            refused: 99,
+            opened: 1,
+            items: &[7],
+            events: &[append(0, 7)],
+            answers: &[AnswerRow::Pushed(0, 0)],
+        },
+        Row {
+            name: "six turns of a pusher alone, whose length is old and whose buffer is closed",
+            plans: &[PlanRow::Pusher(&[7]), PlanRow::Pusher(&[9, 8, 6])],
+            turns: &[0, 1, 1, 1, 1, 1, 1, 1, 1, 1, 1, 1, 1, 1, 0, 0, 0, 0, 0, 0],
+            refused: 99,
+            opened: 2,
+            items: &[9, 8, 6, 7],
+            events: &[append(1, 9), append(1, 8), append(1, 6), append(0, 7)],
+            answers: &[
+                AnswerRow::Pushed(1, 0),
+                AnswerRow::Pushed(1, 1),
+                AnswerRow::Pushed(1, 2),
+                AnswerRow::Pushed(0, 3),
+            ],
+        },
+        Row {
+            name: "a hold of three turns, amid another thread's",
+            plans: &[PlanRow::Pusher(&[7]), PlanRow::Cloner],
+            turns: &[0, 0, 1, 0, 1, 0, 1, 0],
+            refused: 99,
+            opened: 1,
+            items: &[7],
+            events: &[
+                Event::Look {
+                    thread: 1,
+                    length: 0,
+                },
+                append(0, 7),
+            ],
+            answers: &[AnswerRow::Cloned(1, &[]), AnswerRow::Pushed(0, 0)],
+        },
+    ];
+    for row in &rows {
+        let plans = plans_of(alloc, row.plans)?;
+        let schedule = schedule_of(alloc, row.turns, row.refused)?;
+        let world = run(alloc, &plans, &schedule)?;
+        assert_eq!(rt; world, world_of(alloc, row)?, "{}", row.name);
+    }
+    Ok(())
+}
+
+#[test]
+fn every_plan_is_done_in_rounds_without_memory(rt: HostRuntime) -> Result<(), AllocError> {
+    let alloc = rt.alloc();
+    let plans = plans_of(
+        alloc,
+        &[
+            PlanRow::Pusher(&[7]),
+            PlanRow::Reader(&[0]),
+            PlanRow::Cloner,
+        ],
+    )?;
+    let mut schedule = Vec::new(alloc);
+    for _round in 0..4 {
+        for thread in 0..3 {
+            schedule.push(Turn {
+                thread,
+                memory: false,
+            })?;
+        }
+    }
+    let row = Row {
+        name: "",
+        plans: &[],
+        turns: &[],
+        refused: 0,
+        opened: 0,
+        items: &[],
+        events: &[
+            Event::Look {
+                thread: 1,
+                length: 0,
+            },
+            Event::Look {
+                thread: 2,
+                length: 0,
+            },
+        ],
+        answers: &[
+            AnswerRow::Read(1, 0, None),
+            AnswerRow::Cloned(2, &[]),
+            AnswerRow::Refused(0),
+        ],
+    };
+    assert_eq!(rt; run(alloc, &plans, &schedule)?, world_of(alloc, &row)?);
+    Ok(())
+}
+
+/// Plans whose run makes each of its lists grow: the writes, the events, the answers, and what the cloner copies.
+fn growing_plans<A: Allocator + Copy>(alloc: A) -> Result<Vec<Plan<A>, A>, AllocError> {
+    let items = Items::from_vec(vec![in alloc; 1, 2, 3, 4, 5]?);
+    let indexes = Items::from_vec(vec![in alloc; 0, 4]?);
+    let mut plans = Vec::new(alloc);
+    plans.push(Plan::Pusher(items))?;
+    plans.push(Plan::Reader(indexes))?;
+    plans.push(Plan::Cloner)?;
+    Ok(plans)
+}
+
+/// A run of these plans: whether it ended as it must, `Err` where memory was refused.
+fn grown<A: Allocator + Copy>(
+    alloc: A,
+    plans: &[Plan<A>],
+    schedule: &[Turn],
+) -> Result<bool, AllocError> {
+    let world = run(alloc, plans, schedule)?;
+    let lists = (
+        world.events.as_slice().len(),
+        world.answers.as_slice().len(),
+    );
+    Ok(world.length == 5 && world.writes.as_slice().len() == 5 && lists == (8, 8))
+}
+
+/// Whether the run is refused with this request refused, and ends as it must with the next attempt.
+fn is_refused_once<'a>(
+    budget: &'a Budget<Global>,
+    plans: &[Plan<&'a Budget<Global>>],
+    schedule: &[Turn],
+    number: u64,
+) -> bool {
+    let from = budget.asked().wrapping_add(number);
+    budget.refuse(from, from.saturating_add(1));
+    let refused = grown(budget, plans, schedule).is_err();
+    budget.refuse_next(0);
+    refused && grown(budget, plans, schedule) == Ok(true)
+}
+
+#[test]
+fn each_request_of_a_run_refused_in_turn(rt: HostRuntime) -> Result<(), AllocError> {
+    let budget = Budget::<Global>::new(rt.alloc());
+    let mut turns = Vec::new(rt.alloc());
+    for (thread, count) in [(0, 22), (1, 4), (2, 6)] {
+        for _ in 0..count {
+            turns.push(thread)?;
+        }
+    }
+    let schedule = schedule_of(rt.alloc(), &turns, 99)?;
+    {
+        let plans = growing_plans(&budget)?;
+        let before = budget.asked();
+        assert_eq!(rt; grown(&budget, &plans, &schedule), Ok(true));
+        let requests = budget.asked().wrapping_sub(before);
+        assert!(rt; requests > 5);
+        for number in 0..requests {
+            assert!(rt;
+                is_refused_once(&budget, &plans, &schedule, number),
+                "at {number}"
+            );
+        }
+    }
+    assert_eq!(rt; budget.given(), budget.granted());
     Ok(())
 }
 

@@ -2,13 +2,14 @@
 //!
 //! A new key goes last, and a present key keeps its place and its value. The layers above use the list of pairs that
 //! the contracts speak of, and `rebase`.
-ghost use Rattle.std.specs.Prelude.{◌≡◌, ◌++◌, ◌∷◌, ◌↔◌, [], ℕ, List, length, false, None, Ok, Some, slice_get, IfOk, IfSome, IsSome, IsSomeAnd, IsTrue, MatchOption, OnOk, OnErr, cond};
+ghost use Rattle.std.specs.Prelude.{◌≡◌, ◌++◌, ◌∷◌, ◌↔◌, [], ℕ, List, length, false, None, Ok, Some, slice_get, IfOk, IfSome, IsSome, IsSomeAnd, IsTrue, MatchOption, OnOk, OnErr, cond, is_some};
 ghost use Rattle.std.specs.Cmp;
 ghost use Rattle.std.specs.Cmp.{partial_equiv_from_equiv};
 ghost use Rattle.std.specs.HashMap.Eq.{hash_map_eq_symm, hash_map_eq_trans, hash_map_eq_refl};
 ghost use Rattle.std.specs.Iterator.{Drains, IsFinite};
 ghost use Rattle.std.specs.List.{IsDistinct};
-ghost use Rattle.std.specs.Map.{keys_of, lookup};
+ghost use Rattle.std.specs.Map.{keys_of, lookup, values_of};
+ghost use Rattle.std.specs.Map.Iter.{ShowsInOrder, ShowsInReverse, deref, deref_pair};
 ghost use Rattle.std.specs.Option.{option_map, ForSome};
 ghost use Rattle.indexmap.specs.IndexMap.{insert_entry};
 ghost use Rattle.elsa_index.specs.Content.{place_of, value_of, Inserted, InsertedNew, IsCloneOf, CollectsTargets};
@@ -17,7 +18,7 @@ ghost use Rattle.elsa_index.specs.Equality.{as_map, same_map, AgreeAtEachKey};
 use bumpalo::Bump;
 use elsa_once::stable::StableDeref;
 use indexmap::IndexMap;
-use indexmap::map::Entry;
+use indexmap::map::{Entry, Iter, Keys, Values};
 use std::alloc::{AllocError, Allocator, Global};
 use std::hash::{BuildHasher, BuildHasherDefault, FoldHasher, Hash};
 use std::marker::{Model, PhantomData};
@@ -169,6 +170,54 @@ impl<'a, K: Eq + Hash, V: StableDeref<'a>, S: BuildHasher, A: Allocator + Copy> 
         }
     }
 
+    /// Whether a key of the map equals this one. It takes no memory. `O(1)`: one hash.
+    pub fn contains_key(&self, key: &K) -> bool
+        ensures { result ≡ is_some (value_of K.eq self.now key.now) }
+    {
+        self.map.contains_key(key)
+    }
+
+    /// How many pairs there are. It takes no memory.
+    pub fn len(&self) -> usize
+        ensures count { result ≡ length self.now }
+
+        // No two keys of a map are equal.
+        ensures distinct { IsDistinct K.eq (keys_of self.now) }
+    {
+        self.map.len()
+    }
+
+    /// Each pair once, as a key and its value's borrow, in the order of the first insertions; from the back, in reverse. It takes no
+    /// memory. `O(1)`, and so is each pair.
+    ///
+    /// No insertion can be made while it walks.
+    pub fn iter(&self) -> Iter<'_, K, V::Borrow>
+        ensures rest { result ≡ self.now }
+        ensures runs { ShowsInOrder (deref_pair {K = K} {X = V.Borrow}) }
+        ensures runs_back { ShowsInReverse (deref_pair {K = K} {X = V.Borrow}) }
+    {
+        self.map.iter()
+    }
+
+    /// Each key once, in the order of the first insertions; from the back, in reverse. Costs as [`iter`](FrozenIndexMap::iter).
+    pub fn keys(&self) -> Keys<'_, K, V::Borrow>
+        ensures rest { result ≡ keys_of self.now }
+        ensures runs { ShowsInOrder (deref {X = K}) }
+        ensures runs_back { ShowsInReverse (deref {X = K}) }
+    {
+        self.map.keys()
+    }
+
+    /// The value's borrow of each pair, in the order of the first insertions; from the back, in reverse. Costs as
+    /// [`iter`](FrozenIndexMap::iter).
+    pub fn values(&self) -> Values<'_, K, V::Borrow>
+        ensures rest { result ≡ values_of self.now }
+        ensures runs { ShowsInOrder (deref {X = V.Borrow}) }
+        ensures runs_back { ShowsInReverse (deref {X = V.Borrow}) }
+    {
+        self.map.values()
+    }
+
     /// Whether there are no pairs. It takes no memory.
     #[tactic(auto, using(std::proofs::lemmas::List::nil_from_length))]
     pub fn is_empty(&self) -> bool
@@ -177,7 +226,7 @@ impl<'a, K: Eq + Hash, V: StableDeref<'a>, S: BuildHasher, A: Allocator + Copy> 
         // No two keys of a map are equal.
         ensures distinct { IsDistinct K.eq (keys_of self.now) }
     {
-        self.map.len() == 0
+        self.len() == 0
     }
 }
 

@@ -1,8 +1,9 @@
 //! A set whose values keep the order of their first insertions.
-ghost use Rattle.std.specs.Prelude.{◌≡◌, ◌++◌, ◌∷◌, ◌<◌, ◌^◌, ◌↔◌, [], ℕ, List, length, None, Some, slice_get, position, find, IfOk, IfSome, OnOk, OnErr, IsTrue};
+ghost use Rattle.std.specs.Prelude.{◌≡◌, ◌++◌, ◌∷◌, ◌<◌, ◌^◌, ◌↔◌, [], ℕ, List, length, None, Some, slice_get, position, find, IfOk, IfSome, OnOk, OnErr, IsTrue, is_some};
 ghost use Rattle.std.specs.Cmp.{partial_equiv_from_equiv};
 ghost use Rattle.std.specs.Iterator.{Drains, IsFinite};
 ghost use Rattle.std.specs.List.{IsDistinct};
+ghost use Rattle.std.specs.Map.Iter.{ShowsInOrder, ShowsInReverse, deref};
 ghost use Rattle.std.specs.Option.{option_map};
 ghost use Rattle.std.specs.Str.{bytes_eq};
 ghost use Rattle.elsa_index.specs.Content.{SetInserted, SetInsertedNew, SetCollects};
@@ -12,6 +13,7 @@ use crate::look_up::LookUp;
 use bumpalo::Bump;
 use elsa_once::stable::StableDeref;
 use indexmap::IndexSet;
+use indexmap::set::Iter;
 use std::alloc::{AllocError, Allocator, Global};
 use std::hash::{BuildHasher, BuildHasherDefault, FoldHasher, Hash};
 use std::marker::{Model, PhantomData};
@@ -94,6 +96,43 @@ where
         ensures { result ≡ position (Q.finds value.now) self.now }
     {
         value.position(&self.set)
+    }
+
+    /// Whether the set has the target of `value`. It takes no memory. `O(1)`: one hash.
+    pub fn contains<Q: LookUp<T::Borrow>>(&self, value: &Q) -> bool
+        ensures { result ≡ is_some (position (Q.finds value.now) self.now) }
+    {
+        self.get_index_of(value).is_some()
+    }
+
+    /// How many values there are. It takes no memory.
+    pub fn len(&self) -> usize
+        ensures count { result ≡ length self.now }
+
+        // No two values of a set are equal.
+        ensures distinct { IsDistinct T.Borrow.eq self.now }
+    {
+        self.set.len()
+    }
+
+    /// Whether there are no values. It takes no memory.
+    #[tactic(auto, using(std::proofs::lemmas::List::nil_from_length))]
+    pub fn is_empty(&self) -> bool
+        ensures { IsTrue result ↔ (self.now ≡ []) }
+    {
+        self.len() == 0
+    }
+
+    /// Each value's borrow once, in the order of the first insertions; from the back, in reverse. It takes no memory. `O(1)`, and so is
+    /// each value.
+    ///
+    /// No insertion can be made while it walks.
+    pub fn iter(&self) -> Iter<'_, T::Borrow>
+        ensures rest { result ≡ self.now }
+        ensures runs { ShowsInOrder (deref {X = T.Borrow}) }
+        ensures runs_back { ShowsInReverse (deref {X = T.Borrow}) }
+    {
+        self.set.iter()
     }
 
     /// The value at the place `index`, `None` exactly if there is no such place.

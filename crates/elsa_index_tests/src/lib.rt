@@ -20,3 +20,5 @@ mod refusals;
 mod run_map_tests;
 #[cfg(test)]
 mod run_vec_tests;
+#[cfg(test)]
+mod walks;

@@ -9,3 +9,5 @@ mod map_tests;
 mod refusals;
 #[cfg(test)]
 mod vec_tests;
+#[cfg(test)]
+mod walks;

@@ -12,6 +12,8 @@ mod names;
 #[cfg(test)]
 mod names_tests;
 #[cfg(test)]
+mod shared_names;
+#[cfg(test)]
 mod shared_tests;
 #[cfg(test)]
 mod upstream_tests;

@@ -1,8 +1,14 @@
-//! The page for callers' function, run.
+//! The functions of the page for callers, run.
 use crate::names::number_of;
+use crate::shared_names;
+use crate::shared_names::Numbers;
 use bumpalo::Bump;
-use elsa::{FrozenMap, FrozenVec};
+use elsa::{FrozenMap, FrozenVec, sync};
+use std::alloc::{AllocError, Global};
+use std::sync::Wait;
+use std::sync::atomic::{AtomicU64, Ordering};
 use std::test::*;
+use std::thread;
 
 /// A name keeps its first number, whoever holds the text that asks; a place in the arena is taken once for each name.
 #[test]
@@ -16,5 +22,40 @@ fn a_name_keeps_its_first_number(rt: HostRuntime) -> Result<(), Fail> {
         assert_eq!(rt; *number, kept);
     }
     assert_eq!(rt; texts.len(), 2);
+    Ok(())
+}
+
+const NAMES: [&str; 4] = ["lonely", "best friend", "lonely", "third"];
+
+/// The sum of the numbers of the names, and of their squares: what any order of the threads leaves.
+fn sums<R: Wait>(rt: &R, alloc: Global, names: &Numbers) -> Result<(u64, u64), AllocError> {
+    let mut sum = 0u64;
+    let mut squares = 0u64;
+    for name in NAMES {
+        let number = shared_names::number_of(rt, alloc, names, name)?;
+        sum = sum.wrapping_add(number);
+        squares = squares.wrapping_add(number.wrapping_mul(number));
+    }
+    Ok((sum, squares))
+}
+
+/// Two threads number the same names: both are told the same numbers, and three names take three of them.
+#[test]
+fn two_threads_give_a_name_one_number(rt: HostRuntime) -> Result<(), Fail> {
+    let names = Numbers {
+        numbers: sync::FrozenMap::new(rt.alloc()),
+        next: AtomicU64::new(0),
+    };
+    let alloc = rt.alloc();
+    let (one, two) = thread::join(
+        &rt,
+        || sums(&rt, alloc, &names),
+        || sums(&rt, alloc, &names),
+    );
+    assert!(rt; one.is_ok() && one == two);
+    assert_eq!(rt;
+        (names.numbers.len(&rt), names.next.load(Ordering::SeqCst)),
+        (3, 3)
+    );
     Ok(())
 }

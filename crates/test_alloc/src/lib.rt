@@ -5,12 +5,26 @@
 //! with `refuse(n, u64::MAX)`, since some code asks again for less where it was refused once. After the last drop
 //! `given` equals `granted` exactly if each block came back.
 //!
+//! To look at a thread in the midst of a call, a test lets its request stand still by `halt_next`, waits until it `is_halted`,
+//! and lets it go on by `go_on`.
+//!
 //! The counts are atomic words, so threads may share one budget. No contract says what a word holds: what this crate
 //! promises by proof is that it is an allocator, and the numbers are there to be compared in tests.
 #![tactic(auto)]
 
 use std::alloc::{AllocError, Allocator};
 use std::sync::atomic::{AtomicU64, Ordering};
+use std::thread;
+
+/// The states of a budget's halt: requests go on, the next one is to stand still, one stands still.
+const GOES: u64 = 0;
+
+const HALTS: u64 = 1;
+
+const HALTED: u64 = 2;
+
+/// How often a request that stands still looks whether it may go on, before it goes on by itself.
+const TURNS: u64 = 10_000_000;
 
 /// How many requests were granted.
 #[derive(Drop)]
@@ -26,6 +40,7 @@ struct Meter {
     asked: AtomicU64,
     refused: AtomicU64,
     given: AtomicU64,
+    halt: AtomicU64,
 }
 
 /// An allocator that hands requests on to `B`, but for those of a window, which it refuses.
@@ -50,6 +65,7 @@ impl<B: Allocator> Budget<B> {
                 asked: AtomicU64::new(0),
                 refused: AtomicU64::new(0),
                 given: AtomicU64::new(0),
+                halt: AtomicU64::new(GOES),
             },
             granted: Count {
                 count: AtomicU64::new(0),
@@ -68,6 +84,21 @@ impl<B: Allocator> Budget<B> {
     pub fn refuse_next(&self, count: u64) {
         let asked = self.asked();
         self.refuse(asked, asked.saturating_add(count));
+    }
+
+    /// Lets the next request stand still until `go_on`, or until it has looked ten million times.
+    pub fn halt_next(&self) {
+        self.meter.halt.store(HALTS, Ordering::SeqCst);
+    }
+
+    /// Whether a request stands still.
+    pub fn is_halted(&self) -> bool {
+        self.meter.halt.load(Ordering::SeqCst) == HALTED
+    }
+
+    /// Lets requests go on.
+    pub fn go_on(&self) {
+        self.meter.halt.store(GOES, Ordering::SeqCst);
     }
 
     /// The number of requests so far, refused ones among them.
@@ -91,8 +122,24 @@ impl<B: Allocator> Budget<B> {
     }
 }
 
+/// Stands still where the budget is told to.
+fn halts(meter: &Meter) {
+    if meter.halt.load(Ordering::SeqCst) != HALTS {
+        return;
+    }
+    meter.halt.store(HALTED, Ordering::SeqCst);
+    for _ in 0..TURNS {
+        if meter.halt.load(Ordering::SeqCst) == GOES {
+            return;
+        }
+        thread::yield_now();
+    }
+    meter.halt.store(GOES, Ordering::SeqCst);
+}
+
 /// Counts one more request, and says whether its number lies in the window.
 fn refuses(meter: &Meter) -> bool {
+    halts(meter);
     let number = meter.asked.fetch_add(1, Ordering::SeqCst);
     let refused = meter.from.load(Ordering::SeqCst) <= number
         && number < meter.to.load(Ordering::SeqCst);

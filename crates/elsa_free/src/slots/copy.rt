@@ -1,13 +1,13 @@
 // Copies of the first places, buffer by buffer.
 ghost use Rattle.std.specs.Prelude.{◌≡◌, ◌+◌, ◌^◌, ◌<◌, ◌≤◌, drop, take, length, slice_index_or, IfOk};
 ghost use Rattle.elsa_free.specs.Ahead.{GoesOn};
-ghost use Rattle.elsa_free.specs.Geometry.{IsAt, size_of, slots_before};
+ghost use Rattle.elsa_machine.specs.Geometry.{IsAt, size_of, slots_before};
 
 use super::rights::{Blank, Blanks, Written};
 use super::row::Row;
 use super::told::Told;
 use super::{BUFFERS, Slots};
-use crate::geometry::{buffer_size, locate, prior_total_buffer_size};
+use elsa_machine::geometry::{buffer_size, locate, prior_total_buffer_size};
 use std::alloc::{AllocError, Allocator, Global};
 
 /// How many places there are: all slots of all buffers.

@@ -2,7 +2,7 @@
 ghost use Rattle.std.specs.Prelude.{◌≡◌, ℕ, ◌*◌, ◌^◌, ◌<◌, List, [], ◌∷◌, ◌++◌, Some, length, slice_get, slice_index_or};
 ghost use base.Stored.{coded_list, coded_ℕ};
 ghost use denote.Sharing.{said};
-ghost use Rattle.elsa_free.specs.Geometry.{IsAt};
+ghost use Rattle.elsa_machine.specs.Geometry.{IsAt};
 ghost use Rattle.elsa_free.specs.Told.{all_told};
 
 use super::rights::Written;

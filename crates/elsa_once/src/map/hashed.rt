@@ -1,10 +1,11 @@
 //! The map that finds a key by its hash.
-ghost use Rattle.std.specs.Prelude.{◌≡◌, ◌+◌, ◌↔◌, [], ◌∷◌, List, Bool, false, true, None, IfOk, IsNone, IsSome, IsSomeAnd, IsTrue, MatchOption, OnErr, OnOk, Some, if◌then◌else◌, length};
+ghost use Rattle.std.specs.Prelude.{◌≡◌, ◌+◌, ◌↔◌, [], ◌∷◌, List, Bool, false, true, None, IfOk, IsNone, IsSome, IsSomeAnd, IsTrue, MatchOption, OnErr, OnOk, Some, if◌then◌else◌, is_some, length};
 ghost use Rattle.std.specs.Borrow.{sem};
 ghost use Rattle.std.specs.Iterator.{Drains, IsFinite};
 ghost use Rattle.std.specs.List.{IsDistinct};
 ghost use Rattle.std.specs.List.Sorted.{IsPermutation};
-ghost use Rattle.std.specs.Map.{keys_of};
+ghost use Rattle.std.specs.Map.{keys_of, values_of};
+ghost use Rattle.std.specs.Map.Iter.{ShowsInOrder, deref, deref_pair};
 ghost use Rattle.std.specs.Option.{ForSome};
 ghost use Rattle.elsa_once.specs.FirstWins.{Adds, HoldsLast, SameAt, entry_at, same_values, value_at};
 ghost use Rattle.elsa_once.specs.MapLent.{lends_entries};
@@ -14,7 +15,7 @@ use crate::stable::StableDeref;
 use bumpalo::Bump;
 use std::alloc::{AllocError, Allocator, Global};
 use std::collections::HashMap;
-use std::collections::hash_map::Entry;
+use std::collections::hash_map::{Entry, Iter, Keys, Values};
 use std::hash::{BuildHasher, BuildHasherDefault, FoldHasher, Hash};
 use std::marker::{Model, PhantomData};
 use std::ops::Index;
@@ -157,6 +158,40 @@ impl<'a, K: Eq + Hash, V: StableDeref<'a>, S: BuildHasher, A: Allocator + Copy> 
             Some(value) => Some(f(*value)),
             None => None,
         }
+    }
+
+    /// Whether a key of the map equals `key`. Takes no memory; one hash and one search.
+    pub fn contains_key(&self, key: &K) -> bool
+        ensures { result ≡ is_some (value_at K.eq self.now key.now) }
+    {
+        self.entries.contains_key(key)
+    }
+
+    /// Each entry once, as a key and its value's borrow, in no specified order. Takes no memory; `O(1)`, and so is each entry.
+    ///
+    /// No insertion can be made while it walks.
+    pub fn iter(&self) -> Iter<'_, K, V::Borrow>
+        ensures rest { result ≡ self.now }
+        ensures runs { ShowsInOrder (deref_pair {K = K} {X = V.Borrow}) }
+    {
+        self.entries.iter()
+    }
+
+    /// Each key once, in the order in which [`iter`](FrozenMap::iter) gives the entries. Takes no memory; `O(1)`, and so is each key.
+    pub fn keys(&self) -> Keys<'_, K, V::Borrow>
+        ensures rest { result ≡ keys_of self.now }
+        ensures runs { ShowsInOrder (deref {X = K}) }
+    {
+        self.entries.keys()
+    }
+
+    /// The value's borrow of each entry, in the order in which [`iter`](FrozenMap::iter) gives the entries. Takes no memory; `O(1)`,
+    /// and so is each value.
+    pub fn values(&self) -> Values<'_, K, V::Borrow>
+        ensures rest { result ≡ values_of self.now }
+        ensures runs { ShowsInOrder (deref {X = V.Borrow}) }
+    {
+        self.entries.values()
     }
 
     /// The inner map, with each key's borrow. Takes no memory.

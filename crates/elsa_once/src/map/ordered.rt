@@ -1,11 +1,13 @@
 //! The map that keeps its keys in order.
-ghost use Rattle.std.specs.Prelude.{◌≡◌, ◌+◌, ◌↔◌, [], List, Bool, false, true, None, IfOk, IsSome, IsSomeAnd, IsTrue, MatchOption, OnErr, OnOk, Some, if◌then◌else◌, length};
+ghost use Rattle.std.specs.Prelude.{◌≡◌, ◌+◌, ◌↔◌, [], List, Bool, false, true, None, IfOk, IsSome, IsSomeAnd, IsTrue, MatchOption, OnErr, OnOk, Some, if◌then◌else◌, ◌-◌, is_some, length, slice_get};
 ghost use Rattle.std.specs.BTreeMap.{insert_entry};
+ghost use Rattle.std.specs.BTreeMap.Range.{IsLeBy, IsLtBy, entries_between};
 ghost use Rattle.std.specs.Borrow.{sem};
 ghost use Rattle.std.specs.Cmp.{eq_by_cmp_equiv};
 ghost use Rattle.std.specs.Iterator.{Drains, IsFinite};
 ghost use Rattle.std.specs.List.Sorted.{IsStrictlySortedBy};
-ghost use Rattle.std.specs.Map.{keys_of};
+ghost use Rattle.std.specs.Map.{keys_of, values_of};
+ghost use Rattle.std.specs.Map.Iter.{ShowsInOrder, ShowsInReverse, deref, deref_pair};
 ghost use Rattle.std.specs.Option.{ForSome};
 ghost use Rattle.std.specs.Ordering.{eq_by_cmp};
 ghost use Rattle.elsa_once.specs.FirstWins.{Adds, HoldsLast, SameAt, same_values, value_at};
@@ -16,8 +18,9 @@ use crate::stable::StableDeref;
 use bumpalo::Bump;
 use std::alloc::{AllocError, Allocator, Global};
 use std::collections::BTreeMap;
+use std::collections::btree_map::{Iter, Keys, Range, Values};
 use std::marker::{Model, PhantomData};
-use std::ops::Index;
+use std::ops::{Index, RangeBounds};
 
 /// A map in which the first value of a key stays, and whose keys are in order.
 ///
@@ -110,6 +113,80 @@ impl<'a, K: Ord, V: StableDeref<'a>, A: Allocator + Copy> FrozenBTreeMap<'a, K, 
     {
         match self.get(key) {
             Some(value) => Some(f(value)),
+            None => None,
+        }
+    }
+
+    /// Whether a key of the map equals `key`. Takes no memory; one search of the tree.
+    pub fn contains_key(&self, key: &K) -> bool
+        ensures { result ≡ is_some (value_at (eq_by_cmp K.cmp) self.now key.now) }
+    {
+        self.get(key).is_some()
+    }
+
+    /// Each entry once, as a key and its value's borrow, ascending by key; from the back, descending. Takes no memory; `O(log n)`, and
+    /// each entry `O(1)` on average.
+    ///
+    /// No insertion can be made while it walks.
+    pub fn iter(&self) -> Iter<'_, K, V::Borrow>
+        ensures rest { result ≡ self.now }
+        ensures runs { ShowsInOrder (deref_pair {K = K} {X = V.Borrow}) }
+        ensures runs_back { ShowsInReverse (deref_pair {K = K} {X = V.Borrow}) }
+    {
+        self.entries.iter()
+    }
+
+    /// Each key once, ascending; from the back, descending. Costs as [`iter`](FrozenBTreeMap::iter).
+    pub fn keys(&self) -> Keys<'_, K, V::Borrow>
+        ensures rest { result ≡ keys_of self.now }
+        ensures runs { ShowsInOrder (deref {X = K}) }
+        ensures runs_back { ShowsInReverse (deref {X = K}) }
+    {
+        self.entries.keys()
+    }
+
+    /// The value's borrow of each entry, ascending by key; from the back, descending. Costs as [`iter`](FrozenBTreeMap::iter).
+    pub fn values(&self) -> Values<'_, K, V::Borrow>
+        ensures rest { result ≡ values_of self.now }
+        ensures runs { ShowsInOrder (deref {X = V.Borrow}) }
+        ensures runs_back { ShowsInReverse (deref {X = V.Borrow}) }
+    {
+        self.entries.values()
+    }
+
+    /// The entries whose keys are in the range, ascending; from the back, descending. Takes no memory; `O(log n)`, and each entry
+    /// `O(1)` on average.
+    ///
+    /// The range must not begin behind its end, as `5..3` does.
+    pub fn range<R: RangeBounds<K> + Drop>(&self, range: R) -> Range<'_, K, V::Borrow>
+        requires { R.is_forward range (IsLeBy K.cmp) (IsLtBy K.cmp) }
+        ensures between { R.has_bounds range → result ≡ entries_between K.cmp (R.start_bound range) (R.end_bound range) self.now }
+        ensures runs { ShowsInOrder (deref_pair {K = K} {X = V.Borrow}) }
+        ensures runs_back { ShowsInReverse (deref_pair {K = K} {X = V.Borrow}) }
+    {
+        self.entries.range(range)
+    }
+
+    /// The entry with the least key, `None` exactly if the map is empty. Takes no memory; `O(log n)`.
+    pub fn first_key_value(&self) -> Option<(K, V::Borrow)>
+    where
+        K: Copy,
+        ensures { result ≡ slice_get self.now 0 }
+    {
+        match self.entries.first_key_value() {
+            Some((key, value)) => Some((*key, *value)),
+            None => None,
+        }
+    }
+
+    /// The entry with the greatest key, `None` exactly if the map is empty. Takes no memory; `O(log n)`.
+    pub fn last_key_value(&self) -> Option<(K, V::Borrow)>
+    where
+        K: Copy,
+        ensures { result ≡ slice_get self.now (length self.now - 1) }
+    {
+        match self.entries.last_key_value() {
+            Some((key, value)) => Some((*key, *value)),
             None => None,
         }
     }

@@ -4,7 +4,6 @@ use mir.Val.{Val, vunit, vint, vptr, vstruct, vcons, vnil, of_list}
 use mir.MapTy.{inst_fn}
 use base.Logic.{SProp, ent, wand, emp, id⊢, via, apply∗}
 use base.Fml.{Lft, Share, Fml, ftrue, fsep, fex, feq, flft, fhide}
-use types.Keyed.{tickets_from, entries_new, token as ticket_algebra}
 use types.Kit.{‵, raw, ◌⊛◌, some, given, later, mean, at_ret, ◌$◌, ◌∵◌, !, qed, by, move, keep, drop, split, join, group, fsplit, fsplit3, fjoin, fjoin3, fpick, fpack, pick, learn, use0, use1, use2, use3, await, rewrite, feq_i, flt_i}
 use types.Run.{stop, fld, addr, lit, unit_lit, of_opd, no_more, and_then, first, blocks, exec, Calls-last, returns, enter}
 use types.ByLocal.{alloc_all, pass_all, free_all, look_at, get, get_in, through, sets, lands_last, env}
@@ -32,7 +31,6 @@ use Rattle.atomic_table.proofs.Walks.{proved}
 use Rattle.elsa_free.specs.contracts.slots.rights.Blanks as Blanks
 use Rattle.elsa_free.specs.contracts.slots.rights.Written as Written
 use Rattle.elsa_free.specs.declared.event.Event.{Event as Ev}
-use Rattle.elsa_free.specs.declared.event.Event.TheVariants.{Took, Put, Copied, Gave, Seat}
 use Rattle.elsa_free.specs.SharedList.{copied, count, entry, items_of}
 use Rattle.elsa_free.specs.History.{list_of, kinds, author_of, used_of, others}
 use Rattle.elsa_free.specs.contracts.event.Event as Event
@@ -52,13 +50,11 @@ use Rattle.elsa_free.specs.contracts.rule.PutsGainEventLog.TheImpl as puts
 use Rattle.elsa_free.specs.Rights.{logs, head, tops_of, author, position, right, Moved, kept, took, looked, gave, wrote, rights, told, all_told}
 use Rattle.elsa_free.proofs.Trades as trades
 use Rattle.elsa_free.proofs.Rooms as rooms
-use mathlib.Core.List.{IsPrefix}
 use denote.Memory.{hidden_shr}
 use denote.Opens.{unhide}
 use denote.Struct.Lending.{lent_out}
 use Rattle.core.specs.contracts.marker.PhantomData as marker
 use Rattle.logbook.specs.Kept.{rules, seen_owns}
-use Rattle.elsa_free.proofs.Logs.{count_prefix}
 use Rattle.elsa_free.proofs.Settled.{hands, rule_gives}
 use Rattle.elsa_free.proofs.ToldPlaces.{told_made}
 use Rattle.elsa_free.specs.contracts.trade.evidence.{ended, clauses}

@@ -1,5 +1,5 @@
 use Rattle.std.proofs.Common.{◌≡◌, ◌++◌, ◌∷◌, [], ◌*◌, ◌+◌, ◌-◌, ◌<◌, ◌^◌, ◌≤◌, ℕ, List, true, false, suc, length, length-append, slice_index_or, drop as drops, refl, ap, sym, ◌∙◌, arith, subst}
-use Rattle.elsa_free.specs.Geometry.{IsAt}
+use Rattle.elsa_machine.specs.Geometry.{IsAt}
 use Rattle.elsa_free.specs.declared.event.Entry.{Entry}
 use Rattle.elsa_free.specs.declared.event.Event.TheVariants.{Took, Put, Copied, Gave, Seat}
 use Rattle.elsa_free.specs.SharedList.{count, entry}
@@ -16,7 +16,7 @@ publishing-offer-requires g c =
     (c.requires.held.0, c.requires.held.1, subst (λ (k : ℕ). IsAt k c.args.buffer j) c.requires.n.0 c.requires.at, c.requires.row.1, c.requires.row.0, cc all, c.requires.slots.1, c.write-written.ensures.0)
 
 pub compare_exchange-requires : goal.compare_exchange-requires
-compare_exchange-requires g c = let h = c.args.self.now.word_is in let offer = c.publishing-offer.ensures in let pen = c.no_pen-pen.ensures in
+compare_exchange-requires g c = let h = c.deref.ensures ∙ c.args.self.now.word_is in let offer = c.publishing-offer.ensures in let pen = c.no_pen-pen.ensures in
     let v = c.args.seen.log in let n = c.args.n in let x : Entry g.row.T.Denot = entry (suc c.args.author.name) c.write-written.result.value in
     let low : length (list_of (v ++ Put x ∷ [])) < 2 ^ 62 = let l = ap length (put_list v (v ++ Put x ∷ []) x refl) in let a = length-append (list_of v) (x ∷ []) in let r = c.requires.n.0 in let s = c.requires.n.1 in omega (arith, l, a, r, s) in (
       ap (λ w. w.tracked) h,

@@ -8,7 +8,7 @@ use Rattle.elsa_free.specs.History.{list_of, kinds, is_held, author_of, used_of}
 use Rattle.elsa_free.specs.Rights.{head, tops_of}
 use Rattle.elsa_free.proofs.Logs.{count_prefix, held_snoc, list_prefix}
 use Rattle.elsa_free.proofs.Closing.{closing, drop_cons, gave_list, gave_word, held_word, put_count, put_list, put_word, took_list}
-use Rattle.elsa_free.proofs.Powers.{before_power}
+use Rattle.elsa_machine.proofs.GeometryLemmas.Powers.{before_power}
 use Rattle.elsa_free.proofs.shared.Shared.push.Goals as goal
 
 pub release-seen-requires-clause-held : goal.release-seen-requires-clause-held

@@ -6,7 +6,7 @@ use Rattle.elsa_free.proofs.Closing.{closing, drop_cons, gave_list, gave_word, h
 use Rattle.elsa_free.proofs.shared.Shared.release.Goals as goal
 
 pub compare_exchange-requires : goal.compare_exchange-requires
-compare_exchange-requires g c = let h = c.args.self.now.word_is in let offer = c.giving-offer.ensures in let pen = c.no_pen-pen.ensures in
+compare_exchange-requires g c = let h = c.deref.ensures ∙ c.args.self.now.word_is in let offer = c.giving-offer.ensures in let pen = c.no_pen-pen.ensures in
     let v = c.args.seen.log in let n = c.args.n in
     let low : length (list_of (v ++ Gave ∷ [])) < 2 ^ 62 = let l = ap length (gave_list v (v ++ Gave ∷ []) refl) in let r = c.requires.n.0 in let s = c.requires.n.1 in omega (arith, l, r, s) in (
       ap (λ w. w.tracked) h,

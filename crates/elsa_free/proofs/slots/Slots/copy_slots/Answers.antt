@@ -1,5 +1,5 @@
 use Rattle.std.proofs.Common.{◌≡◌, ◌+◌, ◌<◌, ◌^◌, List, ◌∷◌, ◌++◌, [], length, drop, take, slice_get, sym, ap, ◌∙◌, arith}
-use Rattle.elsa_free.specs.Geometry.{size_of, slots_before}
+use Rattle.elsa_machine.specs.Geometry.{size_of, slots_before}
 use Rattle.elsa_free.proofs.CopyPlaces.{ends_below, other_rights, one_more}
 use Rattle.elsa_free.proofs.slots.Slots.copy_slots.Goals as goal
 

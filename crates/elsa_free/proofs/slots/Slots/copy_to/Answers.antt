@@ -1,5 +1,5 @@
 use Rattle.std.proofs.Common.{◌≡◌, suc, ◌+◌, ◌<◌, drop, take, length, sym, ap, ◌∙◌, arith}
-use Rattle.elsa_free.specs.Geometry.{size_of, slots_before}
+use Rattle.elsa_machine.specs.Geometry.{size_of, slots_before}
 use Rattle.elsa_free.proofs.CopyPlaces.{whole_below, behind, other_rights}
 use Rattle.elsa_free.proofs.slots.Slots.copy_to.Goals as goal
 

@@ -1,5 +1,5 @@
 use Rattle.std.proofs.Common.{◌≡◌, drop, take}
-use Rattle.elsa_free.specs.Geometry.{slots_before}
+use Rattle.elsa_machine.specs.Geometry.{slots_before}
 use Rattle.elsa_free.proofs.slots.Slots.copy_to.Given as goal
 
 abbrev pub invariant-loop-buffer : goal.invariant-loop-buffer

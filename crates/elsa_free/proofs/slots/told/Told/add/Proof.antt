@@ -21,7 +21,7 @@ use denote.Ref.{mut_vals, mut_Tells, shr_vals, shr_Tells}
 use denote.Steps.{nothing, heard, opens, closes}
 use denote.Triple.Walked.{Stays, stay_dropped, stay_ref, walk_of, Goes-dropped, Goes-ref}
 use Rattle.atomic_table.proofs.Walks.{proved, proved_at, leaves}
-use Rattle.elsa_free.specs.Geometry.{IsAt}
+use Rattle.elsa_machine.specs.Geometry.{IsAt}
 use Rattle.elsa_free.specs.Slot.{fact as said, written}
 use Rattle.elsa_free.specs.Told.{Where, at_place, told, all_told}
 use Rattle.elsa_free.specs.contracts.slots.rights.Blanks as Blanks

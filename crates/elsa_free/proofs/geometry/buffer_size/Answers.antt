@@ -1,6 +1,0 @@
-use Rattle.std.proofs.Common.{◌*◌, ◌^◌, ◌≤◌, arith, pow_mono}
-use Rattle.elsa_free.proofs.Powers.{four}
-use Rattle.elsa_free.proofs.geometry.buffer_size.Goals as goal
-
-pub returns : goal.returns
-returns c = let e = four c.args.buffer in let h = c.requires in let p : 2 ^ (2 * c.args.buffer) ≤ 2 ^ 62 = pow_mono (let z : 2 * c.args.buffer ≤ 62 = omega arith in z) in omega arith

@@ -1,5 +1,0 @@
-use Rattle.elsa_free.proofs.Powers.{places_and_slots}
-use Rattle.elsa_free.proofs.geometry.locate.Goals as goal
-
-pub returns-clause-one_to_one : goal.returns-clause-one_to_one
-returns-clause-one_to_one c = places_and_slots

@@ -1,6 +1,0 @@
-use Rattle.std.proofs.Common.{◌≡◌, map, take}
-use Rattle.elsa_free.specs.Machine.{opening_thread}
-use Rattle.elsa_free.proofs.machine.opening_threads.Given as goal
-
-abbrev pub invariant-loop-plan : goal.invariant-loop-plan
-invariant-loop-plan l = l.threads.items ≡ map opening_thread (take l._plan-index l.plans)

@@ -1,6 +1,0 @@
-use Rattle.std.proofs.Common.{◌≡◌, take}
-use Rattle.elsa_free.specs.Machine.{slot_item}
-use Rattle.elsa_free.proofs.machine.turns.slot_item.Given as goal
-
-abbrev pub invariant-loop-write : goal.invariant-loop-write
-invariant-loop-write l = l.found ≡ slot_item (take l.write-index l.writes) l.place

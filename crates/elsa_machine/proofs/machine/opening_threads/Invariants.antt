@@ -1,0 +1,6 @@
+use Rattle.std.proofs.Common.{◌≡◌, map, take}
+use Rattle.elsa_machine.specs.Machine.{opening_thread}
+use Rattle.elsa_machine.proofs.machine.opening_threads.Given as goal
+
+abbrev pub invariant-loop-plan : goal.invariant-loop-plan
+invariant-loop-plan g l = l.threads.items ≡ map opening_thread (take l._plan-index l.plans)
