@@ -15,7 +15,6 @@ ghost use Rattle.elsa_free.specs.OneWord.{word_in, word_of};
 ghost use Rattle.crossbeam_utils.specs.Padded.{padded_value};
 
 use crate::event::Event;
-use elsa_machine::geometry::{buffer_size, locate};
 use crate::iter::Iter;
 use crate::rule::{Acquire, End, Gives, Log, Look, Looks, Nothing, OneWord, Puts, See, Takes};
 use crate::slots::{Ahead, Blanks, Copied as CopiedSlots, Row, Slots, Told, Written};
@@ -24,6 +23,7 @@ use crate::trade::{
     start, taken_closed, taken_open, taking,
 };
 use crossbeam_utils::CachePadded;
+use elsa_machine::geometry::{buffer_size, locate};
 use logbook::{Gained, Offer, Seen, Word};
 use std::alloc::{AllocError, Allocator};
 use std::hint::spin_loop;
