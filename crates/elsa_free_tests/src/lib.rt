@@ -7,6 +7,8 @@ mod lock_free_tests;
 #[cfg(test)]
 mod machine_tests;
 #[cfg(test)]
+mod no_memory;
+#[cfg(test)]
 mod pass_tests;
 #[cfg(test)]
 mod slots_tests;

@@ -1,0 +1,67 @@
+//! Calls of the concurrent vector that take no memory: the budget's count of requests stands still, with every buffer full.
+use elsa_free::lock_free::{LockFreeFrozenVec, Pass};
+use std::alloc::{AllocError, Global};
+use std::sync::Wait;
+use std::test::*;
+use test_alloc::Budget;
+
+type Heap<'b> = &'b Budget<Global>;
+
+type Numbers<'b> = LockFreeFrozenVec<u64, Heap<'b>>;
+
+/// A vector of so many numbers. Its next push opens a buffer where `count` is 0, 3, 15 or 63.
+fn filled<'b, R: Wait>(rt: &R, heap: Heap<'b>, count: u64) -> Result<Numbers<'b>, AllocError> {
+    let numbers = LockFreeFrozenVec::new(heap)?;
+    for number in 0..count {
+        numbers.push(rt, number)?;
+    }
+    Ok(numbers)
+}
+
+/// The reads by a pass: places, the length, and all that was seen.
+fn reads<'b>(numbers: &Numbers<'b>, pass: &mut Pass<u64, Heap<'b>>) -> usize {
+    let mut found = numbers.len_as(pass);
+    for place in [0, 1, 62, usize::MAX] {
+        found = found.wrapping_add(numbers.get_as(pass, place).is_some() as usize);
+    }
+    for _number in numbers.iter_as(pass) {
+        found = found.wrapping_add(1);
+    }
+    found
+}
+
+/// The reads without a pass, and those that return one.
+fn plain_reads(numbers: &Numbers<'_>) -> bool {
+    let (length, _pass) = numbers.len_with_pass();
+    let (first, _pass) = numbers.get_with_pass(0);
+    numbers.len() == length && numbers.is_empty() == first.is_none() && numbers.get(0) == first
+}
+
+/// Whether a vector equals itself, by passes that then meet.
+fn meets(numbers: &Numbers<'_>) -> bool {
+    let mut one = numbers.pass();
+    let mut two = numbers.pass();
+    let equal = numbers.equals_as(&mut one, numbers, &mut two);
+    one.meet(&mut two);
+    equal && numbers.equals(numbers)
+}
+
+/// Whether none of these calls takes memory, while every request would be refused.
+fn takes_none<R: Wait>(rt: &R, heap: &Budget<Global>, count: u64) -> Result<bool, AllocError> {
+    let numbers = filled(rt, heap, count)?;
+    let mut pass = numbers.pass();
+    let asked = heap.asked();
+    heap.refuse(asked, u64::MAX);
+    let found = reads(&numbers, &mut pass);
+    let well = plain_reads(&numbers) && meets(&numbers) && found >= count as usize;
+    Ok(well && heap.asked() == asked)
+}
+
+#[test]
+fn reads_of_the_concurrent_vector_take_no_memory(rt: HostRuntime) -> Result<(), Fail> {
+    for count in [0, 1, 3, 15, 63] {
+        let heap = Budget::new(rt.alloc());
+        assert!(rt; takes_none(&rt, &heap, count)?, "at {count}");
+    }
+    Ok(())
+}
