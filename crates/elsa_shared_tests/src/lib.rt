@@ -2,6 +2,8 @@
 #![tactic(auto)]
 
 #[cfg(test)]
+mod base_form_tests;
+#[cfg(test)]
 mod form_tests;
 #[cfg(test)]
 mod gates;
