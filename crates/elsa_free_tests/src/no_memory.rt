@@ -1,5 +1,5 @@
 //! Calls of the concurrent vector that take no memory: the budget's count of requests stands still, with every buffer full.
-use elsa_free::lock_free::{LockFreeFrozenVec, Pass};
+use elsa_free::lock_free::LockFreeFrozenVec;
 use std::alloc::{AllocError, Global};
 use std::sync::Wait;
 use std::test::*;
@@ -18,16 +18,22 @@ fn filled<'b, R: Wait>(rt: &R, heap: Heap<'b>, count: u64) -> Result<Numbers<'b>
     Ok(numbers)
 }
 
-/// The reads by a pass: places, the length, and all that was seen.
-fn reads<'b>(numbers: &Numbers<'b>, pass: &mut Pass<u64, Heap<'b>>) -> usize {
-    let mut found = numbers.len_as(pass);
-    for place in [0, 1, 62, usize::MAX] {
-        found = found.wrapping_add(numbers.get_as(pass, place).is_some() as usize);
+/// The reads by a pass: the length, places, and all that was seen.
+fn reads(numbers: &Numbers<'_>) -> usize {
+    let mut pass = numbers.pass();
+    let length = numbers.len_as(&mut pass);
+    let first = numbers.get_as(&mut pass, 0);
+    let last = numbers.get_as(&mut pass, length.saturating_sub(1));
+    let none = numbers.get_as(&mut pass, usize::MAX);
+    let mut walked = 0usize;
+    for _number in numbers.iter_as(&pass) {
+        walked = walked.wrapping_add(1);
     }
-    for _number in numbers.iter_as(pass) {
-        found = found.wrapping_add(1);
+    if first.is_some() == last.is_some() && none.is_none() {
+        walked
+    } else {
+        usize::MAX
     }
-    found
 }
 
 /// The reads without a pass, and those that return one.
@@ -49,11 +55,9 @@ fn meets(numbers: &Numbers<'_>) -> bool {
 /// Whether none of these calls takes memory, while every request would be refused.
 fn takes_none<R: Wait>(rt: &R, heap: &Budget<Global>, count: u64) -> Result<bool, AllocError> {
     let numbers = filled(rt, heap, count)?;
-    let mut pass = numbers.pass();
     let asked = heap.asked();
     heap.refuse(asked, u64::MAX);
-    let found = reads(&numbers, &mut pass);
-    let well = plain_reads(&numbers) && meets(&numbers) && found >= count as usize;
+    let well = reads(&numbers) == count as usize && plain_reads(&numbers) && meets(&numbers);
     Ok(well && heap.asked() == asked)
 }
 
