@@ -5,28 +5,40 @@ use elsa::cache::{LoadFault, ResourceCache};
 use elsa::interner::Interner;
 use elsa::run::{VecCommand, VecReply, run_vec};
 use elsa::{
-    FrozenBTreeMap, FrozenIndexMap, FrozenIndexSet, FrozenMap, FrozenVec, MapForm, SeededState,
-    StableDeref,
+    FrozenBTreeMap, FrozenIndexMap, FrozenIndexSet, FrozenMap, FrozenVec, MapForm, Own,
+    SeededState, StableDeref,
 };
 use std::alloc::{AllocError, Global};
 use std::hash::BuildHasherDefault;
 use std::test::Fail;
 
-/// Whether a vector is collected, searched by an item, taken apart, made again, indexed and emptied.
-fn is_vector_of_borrows(alloc: Global) -> Result<bool, AllocError> {
-    let arena = Bump::new(alloc);
-    let given: Vec<&str> = Vec::from_array(alloc, ["b", "d"])?;
-    let made: FrozenVec<'_, &str> = FrozenVec::from_iter(alloc, &arena, given.into_iter())?;
-    let place = made.binary_search(&"d");
-    let mut again: FrozenVec<'_, &str> = FrozenVec::from_vec(&arena, made.into_vec());
-    let held = again.len() == 2 && again[1] == "d" && again.get_unchecked(0) == "b";
-    again.as_mut().clear();
-    Ok(place == Ok(1) && held && again.is_empty())
+/// A vector of these texts, collected, taken apart and made again.
+fn made_again<'a>(
+    alloc: Global,
+    arena: &'a Bump,
+    texts: [&'a str; 2],
+) -> Result<FrozenVec<'a, &'a str>, AllocError> {
+    let made: FrozenVec<'a, &'a str> = FrozenVec::from_iter(alloc, arena, texts.into_iter())?;
+    Ok(FrozenVec::from_vec(arena, made.into_vec()))
+}
+
+/// Whether a vector of "b" and "d" is searched by an item and indexed.
+fn is_found<'a>(texts: &FrozenVec<'a, &'a str>) -> bool {
+    let held = texts.len() == 2 && texts[1] == "d" && texts.get_unchecked(0) == "b";
+    held && texts.binary_search(&"d") == Ok(1)
+}
+
+/// Whether a vector is emptied through its inner one.
+fn is_emptied<'a>(mut texts: FrozenVec<'a, &'a str>) -> bool {
+    texts.as_mut().clear();
+    texts.is_empty()
 }
 
 #[test]
 fn forms_of_a_vector_of_borrows(rt: HostRuntime) -> Result<(), Fail> {
-    assert!(rt; is_vector_of_borrows(rt.alloc())?);
+    let arena = Bump::new(rt.alloc());
+    let texts = made_again(rt.alloc(), &arena, ["b", "d"])?;
+    assert!(rt; is_found(&texts) && is_emptied(texts));
     Ok(())
 }
 
@@ -61,31 +73,46 @@ fn forms_of_inner_maps(rt: HostRuntime) -> Result<(), Fail> {
     Ok(())
 }
 
-/// Whether the index forms are collected, taken apart and given another base, and whether what is absent goes last.
-fn are_index_forms(alloc: Global) -> Result<bool, AllocError> {
-    let arena = Bump::new(alloc);
-    let pairs: Vec<(u64, &str)> = Vec::from_array(alloc, [(7, "x"), (5, "y")])?;
-    let map: FrozenIndexMap<'_, u64, &str> = FrozenIndexMap::from_iter(
+/// The place of the key 5 in a map of these pairs, collected, taken apart and made again.
+fn place_of_five<'a>(
+    alloc: Global,
+    arena: &'a Bump,
+    pairs: [(u64, Own<u64>); 2],
+) -> Result<Option<usize>, AllocError> {
+    let map: FrozenIndexMap<'a, u64, Own<u64>> = FrozenIndexMap::from_iter(
         alloc,
-        &arena,
+        arena,
         BuildHasherDefault::new(),
-        pairs,
+        pairs.into_iter(),
     )?;
-    let again: FrozenIndexMap<'_, u64, &str> = FrozenIndexMap::from_map(&arena, map.into_map());
-    let mut set: FrozenIndexSet<'_, String> = FrozenIndexSet::new(alloc, &arena);
-    let absent = set.get_index_of(&"fox").is_none();
-    let added = if absent {
-        set.insert_absent_text("fox")?
-    } else {
-        (9, "")
-    };
-    let made: FrozenIndexSet<'_, String> = FrozenIndexSet::from_set(&arena, set.into_set());
-    Ok(added == (0, "fox") && again.get_index_of(&5) == Some(1) && made.get(&"fox") == Some("fox"))
+    let again: FrozenIndexMap<'a, u64, Own<u64>> = FrozenIndexMap::from_map(arena, map.into_map());
+    Ok(again.get_index_of(&5))
+}
+
+/// Whether a text that is absent goes last in a set.
+fn adds<'a>(set: &mut FrozenIndexSet<'a, String>, text: &str) -> Result<bool, AllocError> {
+    if set.get_index_of(&text).is_some() {
+        return Ok(false);
+    }
+    let (place, kept) = set.insert_absent_text(text)?;
+    Ok(place == 0 && kept == text)
+}
+
+/// Whether a set is taken apart and made again.
+fn is_made_again<'a>(arena: &'a Bump, set: FrozenIndexSet<'a, String>) -> bool {
+    let made: FrozenIndexSet<'a, String> = FrozenIndexSet::from_set(arena, set.into_set());
+    made.get(&"fox").is_some()
 }
 
 #[test]
 fn forms_of_inner_index_forms(rt: HostRuntime) -> Result<(), Fail> {
-    assert!(rt; are_index_forms(rt.alloc())?);
+    let arena = Bump::new(rt.alloc());
+    let mut set: FrozenIndexSet<'_, String> = FrozenIndexSet::new(rt.alloc(), &arena);
+    assert_eq!(rt;
+        place_of_five(rt.alloc(), &arena, [(7, Own(1)), (5, Own(2))])?,
+        Some(1)
+    );
+    assert!(rt; adds(&mut set, "fox")? && is_made_again(&arena, set));
     Ok(())
 }
 
