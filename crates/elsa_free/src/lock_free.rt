@@ -35,7 +35,7 @@ impl<T, A: Allocator> Model for LockFreeFrozenVec<T, A> {
 
 impl<T: Copy + Drop, A: Allocator + Copy> LockFreeFrozenVec<T, A> {
     /// An empty vector, which takes its memory from `alloc`. It takes a little memory at once, for the row of its buffers, and
-    /// where that is refused it answers `Err`. `O(1)`.
+    /// where that is refused it returns `Err`. `O(1)`.
     pub fn new(alloc: A) -> Result<Self, AllocError> {
         Ok(LockFreeFrozenVec {
             shared: Shared::new(alloc)?,
@@ -71,7 +71,7 @@ impl<T: Copy + Drop, A: Allocator + Copy> LockFreeFrozenVec<T, A> {
         (Pass::of(seen, author, length), answer)
     }
 
-    /// Pushes an item and answers its place. It waits while another thread pushes.
+    /// Pushes an item and returns its place. It waits while another thread pushes.
     ///
     /// `Err` adds nothing: memory for the buffer that begins at this length was refused, or the length is `2^62 - 1`, the
     /// greatest. The vector can be used as before, and the same push may succeed later. `O(1)`, with a buffer four times as
@@ -111,7 +111,7 @@ impl<T: Copy + Drop, A: Allocator + Copy> LockFreeFrozenVec<T, A> {
         (Pass::of(seen, author, n), n)
     }
 
-    /// How many items the vector has, by one look. It takes no lock and no memory, and never waits. `O(1)`.
+    /// How many items the vector has, by one atomic read of the length. It takes no lock and no memory, and never waits. `O(1)`.
     pub fn len_as(&self, pass: &mut Pass<T, A>) -> usize
         requires of { pass.old.vector ≡ self.now }
         ensures same { IsSamePass pass.old pass.new }
@@ -168,9 +168,9 @@ impl<T: Copy + Drop, A: Allocator + Copy> LockFreeFrozenVec<T, A> {
         self.shared.items(pass.evidence(), pass.seen_len())
     }
 
-    /// A vector of its own with the items seen by one look, which have no author there, and a pass that has seen it whole.
+    /// A vector of its own with the items seen by one read of the length, which have no author there, and a pass that has seen it whole.
     ///
-    /// The look comes first, and the places below its length alone are copied, buffer by buffer, so it can be made amid pushes.
+    /// The length is read first, and the places below its length alone are copied, buffer by buffer, so it can be made amid pushes.
     /// It takes no lock and never waits. `Err`: memory for a buffer was refused, and all that was taken is given back. `O(n)`.
     pub fn clone_as(&self, pass: &mut Pass<T, A>) -> Result<(Self, Pass<T, A>), AllocError>
         requires of { pass.old.vector ≡ self.now }
@@ -235,7 +235,7 @@ impl<T: Copy + Drop, A: Allocator + Copy> LockFreeFrozenVec<T, A> {
         answer
     }
 
-    /// [`get_as`](Self::get_as) with a pass of its own, by one look.
+    /// [`get_as`](Self::get_as) with a pass of its own, by one read of the length.
     pub fn get_with_pass(&self, place: usize) -> (Option<T>, Pass<T, A>)
         ensures of { (result.1.vector ≡ self.now) × (mine result.1 ≡ []) }
         ensures item { result.0 ≡ slice_get (items_of result.1.seen) place }
@@ -246,7 +246,7 @@ impl<T: Copy + Drop, A: Allocator + Copy> LockFreeFrozenVec<T, A> {
         (answer, pass)
     }
 
-    /// The answer of [`get_with_pass`](Self::get_with_pass) alone. It is promised that at or above the greatest length,
+    /// The result of [`get_with_pass`](Self::get_with_pass) alone. It is promised that at or above the greatest length,
     /// `2^62 - 1`, it is `None`.
     pub fn get(&self, place: usize) -> Option<T>
         ensures limit { IfSome result (λ _. place + 1 < 2 ^ 62) }
@@ -275,7 +275,7 @@ impl<T: Copy + Drop, A: Allocator + Copy> LockFreeFrozenVec<T, A> {
         answer
     }
 
-    /// Whether the vector has no item, by one look, of which nothing is promised: [`len_with_pass`](Self::len_with_pass)
+    /// Whether the vector has no item, by one read of the length, of which nothing is promised: [`len_with_pass`](Self::len_with_pass)
     /// tells it with its pass. It takes no lock and no memory, and never waits. `O(1)`.
     pub fn is_empty(&self) -> bool {
         self.len() == 0
@@ -312,7 +312,7 @@ impl<T: Copy + Drop + PartialEq, A: Allocator + Copy> LockFreeFrozenVec<T, A> {
         equal
     }
 
-    /// [`equals_as`](Self::equals_as) with passes of its own, which are returned beside the answer.
+    /// [`equals_as`](Self::equals_as) with passes of its own, which are returned beside the result.
     pub fn equals_with_passes(&self, other: &Self) -> (bool, Pass<T, A>, Pass<T, A>)
         ensures of { (result.1.vector ≡ self.now) × (mine result.1 ≡ []) }
         ensures other_of { (result.2.vector ≡ other.now) × (mine result.2 ≡ []) }
@@ -324,7 +324,7 @@ impl<T: Copy + Drop + PartialEq, A: Allocator + Copy> LockFreeFrozenVec<T, A> {
         (equal, pass, other_pass)
     }
 
-    /// The answer of [`equals_with_passes`](Self::equals_with_passes) alone, of which nothing is promised without its passes.
+    /// The result of [`equals_with_passes`](Self::equals_with_passes) alone, of which nothing is promised without its passes.
     pub fn equals(&self, other: &Self) -> bool {
         let (equal, _pass, _other_pass) = self.equals_with_passes(other);
         equal
