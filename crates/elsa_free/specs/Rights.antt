@@ -1,8 +1,8 @@
--- What lies in the rule of a vector beside its history, and what each step hands out and takes back.
--- The right to go on lies in the rule while nobody holds; most of it goes to the holder, with the rights to open further
+-- What the rule of a vector owns beside its history, and what a thread gains at each step.
+-- The right to end a hold is the rule's while nobody holds; most of it goes to the holder, with the rights to open further
 -- buffers and to write the slots from the length on, and comes back at the step that releases. For each place below the
 -- length the rule has the evidence that its slot was written with the list's item, and for each entry that has an author
--- a ticket of that author. Nothing else is traded.
+-- a ticket of that author. Nothing else is exchanged.
 use Rattle.std.specs.Prelude.{ℕ, zero, suc, ◌≡◌, ◌+◌, ◌*◌, ◌^◌, ◌<◌, ◌≤◌, ◌⊎◌, Bool, true, false, List, [], ◌∷◌, ◌++◌, length, drop, slice_index_or}
 use base.Fraction.{full_share}
 use base.Share.{quarter, three_quarters}
@@ -11,48 +11,50 @@ use base.Fml.{Share, Fml, ftrue, fsep, fex}
 use base.Growing.{Order, prefixes, latest}
 use types.Keyed.{ticket, tickets_from}
 use denote.RattleType.{RattleType}
-use Rattle.elsa_free.specs.Slot.{written, blanks}
-pub use Rattle.elsa_free.specs.Told.{Where, at_place, told, all_told}
+use Rattle.elsa_free.specs.Slot.{written, write_rights}
+pub use Rattle.elsa_free.specs.WrittenPrefix.{Location, place_written_at, place_written, prefix_written}
 use Rattle.elsa_machine.specs.Geometry.{IsAt}
 use Rattle.elsa_free.specs.declared.event.Entry.{Entry}
 use Rattle.elsa_free.specs.declared.event.Event.{Event}
-use Rattle.elsa_free.specs.declared.event.Event.TheVariants.{Took, Put, Copied, Gave, Seat}
+use Rattle.elsa_free.specs.declared.event.Event.TheVariants.{Acquired, Published, Cloned, Released, OfferOf}
 use Rattle.elsa_free.specs.SharedList.{count, items_of}
 use Rattle.elsa_machine.specs.AtomicSteps.{Acquires as IsAcquire, Looks as IsLook, Publishes as IsPublish, Releases as IsRelease}
 use Rattle.elsa_free.specs.History.{list_of, is_held, shared_by, kinds, author_of, used_of, others}
 
+-- the histories of kinds, by how they grow
 abbrev pub logs : Order (List ℕ)
 logs = prefixes coded_ℕ
 
--- the name under which the right to go on stands
+-- the name of the right to end a hold
 abbrev pub head : List ℕ → ℕ
 head [] = 0
 head (n ∷ ns) = n
 
 -- the names of the slots that hold the buffers
-abbrev pub tops_of : List ℕ → List ℕ
-tops_of [] = []
-tops_of (n ∷ ns) = ns
+abbrev pub buffer_slots_of : List ℕ → List ℕ
+buffer_slots_of [] = []
+buffer_slots_of (n ∷ ns) = ns
 
--- how much of the right to go on lies in the rule
+-- how much of the right to end a hold the rule owns
 abbrev pub part : Bool → Share
 part true = quarter
 part false = full_share
 
+-- a plain fact, as what is owned
 abbrev pub fact : Type 0 → Fml
 fact φ = fex φ (λ _. ftrue)
 
--- where the list goes on: in a buffer that nobody has opened, or at a slot of an open one
-pub data Room (B : Type 0) : Type 0 where
-  closed : ℕ → Room B
-  opened : ℕ → ℕ → B → Room B
+-- where the next place is: at the begin of a buffer that nobody has opened, or at a slot of an open one
+pub data Tail (B : Type 0) : Type 0 where
+  at_new_buffer : ℕ → Tail B
+  in_buffer : ℕ → ℕ → B → Tail B
 
 -- what a pass owns: all its tickets but those of the entries that it has pushed
 abbrev pub author : ℕ → ℕ → Fml
 author a n = tickets_from a n
 
 module _ {T : Type 0} where
-  -- the history stands here, by this share of the right to go on
+  -- this is the history, by this share of the right to end a hold
   abbrev pub at_log : Share → List ℕ → List (Event T) → Fml
   at_log q names log = latest logs q (head names) (kinds log)
 
@@ -69,61 +71,67 @@ module _ {T : Type 0} where
   one_ticket pre zero = ftrue
   one_ticket pre (suc a) = fex ℕ (λ k. fsep (ticket a k) (fact (count (suc a) pre ≤ k)))
 
+  -- a ticket for each of these entries, behind the entries `pre`
   abbrev pub tickets : List (Entry T) → List (Entry T) → Fml
   tickets pre [] = ftrue
   tickets pre (e ∷ es) = fsep (one_ticket pre e.author) (tickets (pre ++ e ∷ []) es)
 
-  -- How a step moves the history, by what it asks, and which atomic step that is. The answer is the history before. A
-  -- holder's last step is offered whether its exchange succeeds or not. The items of a clone are published while no other
-  -- thread has the vector
-  abbrev pub Moved : Event T → List (Event T) → List (Event T) → List (Event T) → Type 0
-  Moved Took xs ys r = (r ≡ xs) × ((ys ≡ xs ++ Took ∷ []) × IsAcquire (length (list_of xs)) (shared_by xs) (shared_by ys))
-  Moved (Put x) xs ys r = (r ≡ xs) × ((ys ≡ xs) ⊎ ((ys ≡ xs ++ Put x ∷ []) × IsPublish x (shared_by xs) (shared_by ys)))
-  Moved (Copied cs) xs ys r = (r ≡ xs) × ((ys ≡ xs) ⊎ ((ys ≡ xs ++ Copied cs ∷ []) × (is_held xs ≡ true)))
-  Moved Gave xs ys r = (r ≡ xs) × ((ys ≡ xs) ⊎ ((ys ≡ xs ++ Gave ∷ []) × IsRelease (shared_by xs) (shared_by ys)))
-  Moved (Seat a n) xs ys r = (r ≡ xs) × ((ys ≡ xs) × IsLook (length (list_of xs)) (shared_by xs) (shared_by ys))
+  -- How a step moves the history, by the event of its offer, and which atomic step that is. Its result is the history before. A
+  -- holder's last step is offered whether its exchange succeeds or not. The items of a clone are published into an empty
+  -- list, while no other thread has the vector
+  abbrev pub IsStep : Event T → List (Event T) → List (Event T) → List (Event T) → Type 0
+  IsStep Acquired xs ys r = (r ≡ xs) × ((ys ≡ xs ++ Acquired ∷ []) × IsAcquire (length (list_of xs)) (shared_by xs) (shared_by ys))
+  IsStep (Published x) xs ys r = (r ≡ xs) × ((ys ≡ xs) ⊎ ((ys ≡ xs ++ Published x ∷ []) × IsPublish x (shared_by xs) (shared_by ys)))
+  IsStep (Cloned cs) xs ys r = (r ≡ xs) × ((ys ≡ xs) ⊎ ((ys ≡ xs ++ Cloned cs ∷ []) × (is_held xs ≡ true) × (list_of xs ≡ [])))
+  IsStep Released xs ys r = (r ≡ xs) × ((ys ≡ xs) ⊎ ((ys ≡ xs ++ Released ∷ []) × IsRelease (shared_by xs) (shared_by ys)))
+  IsStep (OfferOf a n) xs ys r = (r ≡ xs) × ((ys ≡ xs) × IsLook (length (list_of xs)) (shared_by xs) (shared_by ys))
 
   -- what the pass of an offer learns of its own entries: it has no more than it pushed
   abbrev pub OnlyPushed : List (Event T) → List (Event T) → Type 0
   OnlyPushed about r = count (suc (author_of about)) (list_of r) ≤ used_of about
 
 -- T is the item's type, B that of a buffer, and ids the slots of a buffer
-module _ (T B : RattleType) (ids : B.Denot → List ℕ) where
-  abbrev pub Fits : ℕ → Room B.Denot → Type 0
-  Fits n (closed b) = n + 1 ≡ 4 ^ b
-  Fits n (opened b j row) = IsAt n b j × (0 < j) × (length (ids row) ≡ 3 * 4 ^ b)
+module _ (T B : RattleType) (slot_names : B.Denot → List ℕ) where
+  -- the next place is the place n
+  abbrev pub IsTailAt : ℕ → Tail B.Denot → Type 0
+  IsTailAt n (at_new_buffer b) = n + 1 ≡ 4 ^ b
+  IsTailAt n (in_buffer b j opened) = IsAt n b j × (0 < j) × (length (slot_names opened) ≡ 3 * 4 ^ b)
 
-  abbrev pub room : List ℕ → Room B.Denot → Fml
-  room tops (closed b) = blanks (drop b tops)
-  room tops (opened b j row) = fsep (written B (slice_index_or tops b 0) row) (fsep (blanks (drop j (ids row))) (blanks (drop (suc b) tops)))
+  -- the rights to append there
+  abbrev pub tail_rights : List ℕ → Tail B.Denot → Fml
+  tail_rights buffer_slots (at_new_buffer b) = write_rights (drop b buffer_slots)
+  tail_rights buffer_slots (in_buffer b j opened) = fsep (written B (slice_index_or buffer_slots b 0) opened) (fsep (write_rights (drop j (slot_names opened))) (write_rights (drop (suc b) buffer_slots)))
 
-  abbrev pub going : List ℕ → ℕ → Room B.Denot → Fml
-  going tops n r = fsep (fact (Fits n r)) (room tops r)
+  -- the same, for the place n
+  abbrev pub tail_owns : List ℕ → ℕ → Tail B.Denot → Fml
+  tail_owns buffer_slots n r = fsep (fact (IsTailAt n r)) (tail_rights buffer_slots r)
 
   -- the rights to open the further buffers, and to write the slots from n on
-  abbrev pub rights : List ℕ → ℕ → Fml
-  rights tops n = fex (Room B.Denot) (going tops n)
+  abbrev pub rights_from : List ℕ → ℕ → Fml
+  rights_from buffer_slots n = fex (Tail B.Denot) (tail_owns buffer_slots n)
 
-  abbrev pub spare : Bool → List ℕ → ℕ → Fml
-  spare true tops n = ftrue
-  spare false tops n = rights tops n
+  -- the rule has the rights to append while nobody holds
+  abbrev pub free_rights : Bool → List ℕ → ℕ → Fml
+  free_rights true buffer_slots n = ftrue
+  free_rights false buffer_slots n = rights_from buffer_slots n
 
-  -- all that lies in the rule
-  abbrev pub kept : List ℕ → List (Event T.Denot) → Fml
-  kept names log = fsep (fsep (position names log) (spare (is_held log) (tops_of names) (length (list_of log))))
-      (fsep (all_told T B ids (tops_of names) 0 (items_of (list_of log))) (tickets [] (list_of log)))
+  -- all that the rule owns
+  abbrev pub rule_owns : List ℕ → List (Event T.Denot) → Fml
+  rule_owns names log = fsep (fsep (position names log) (free_rights (is_held log) (buffer_slots_of names) (length (list_of log))))
+      (fsep (prefix_written T B slot_names (buffer_slots_of names) 0 (items_of (list_of log))) (tickets [] (list_of log)))
 
-  -- What a step hands out. To who takes the right: the right, and the rights to write on;
-  abbrev pub took : List ℕ → List (Event T.Denot) → Fml
-  took names r = fsep (right names (r ++ Took ∷ [])) (rights (tops_of names) (length (list_of r)))
+  -- What a thread gains at each step. At an acquire: the right to end the hold, and the rights to write from the length on;
+  abbrev pub acquire_gain : List ℕ → List (Event T.Denot) → Fml
+  acquire_gain names r = fsep (right names (r ++ Acquired ∷ [])) (rights_from (buffer_slots_of names) (length (list_of r)))
 
-  -- to who looks: the evidence for all that is seen, and the pass's tickets back;
-  abbrev pub looked : List ℕ → List (Event T.Denot) → List (Event T.Denot) → Fml
-  looked names about r = fsep (all_told T B ids (tops_of names) 0 (items_of (list_of r))) (fsep (author (author_of about) (used_of about)) (fact (OnlyPushed about r)))
+  -- at a read of the length: the evidence for the whole list, and the pass's tickets back;
+  abbrev pub read_gain : List ℕ → List (Event T.Denot) → List (Event T.Denot) → Fml
+  read_gain names about r = fsep (prefix_written T B slot_names (buffer_slots_of names) 0 (items_of (list_of r))) (fsep (author (author_of about) (used_of about)) (fact (OnlyPushed about r)))
 
-  -- to who ends a hold: the pass's tickets back, with one fewer where it published an entry, and that the history was as it knew
-  abbrev pub gave : List (Event T.Denot) → List (Event T.Denot) → Fml
-  gave about r = fsep (author (author_of about) (used_of about)) (fact ((length r ≡ length (others about)) × OnlyPushed about r))
+  -- at the end of a hold: the pass's tickets back, with one fewer where it published an entry, and that the history was as it knew
+  abbrev pub release_gain : List (Event T.Denot) → List (Event T.Denot) → Fml
+  release_gain about r = fsep (author (author_of about) (used_of about)) (fact ((length r ≡ length (others about)) × OnlyPushed about r))
 
-  abbrev pub wrote : List (Event T.Denot) → List (Event T.Denot) → Fml
-  wrote about r = fsep (author (author_of about) (suc (used_of about))) (fact ((length r ≡ length (others about)) × OnlyPushed about r))
+  -- at a publish, one ticket fewer comes back
+  abbrev pub publish_gain : List (Event T.Denot) → List (Event T.Denot) → Fml
+  publish_gain about r = fsep (author (author_of about) (suc (used_of about))) (fact ((length r ≡ length (others about)) × OnlyPushed about r))

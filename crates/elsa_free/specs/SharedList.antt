@@ -1,6 +1,6 @@
 -- The list that all threads of a vector share: entries of an author and an item, which only grows at its end.
 -- A pass has seen a beginning of it. There is no buffer, no lock, no pointer and no word of memory in it.
-use Rattle.std.specs.Prelude.{ℕ, suc, ◌≡◌, ◌+◌, ◌<◌, ◌≤◌, ◌==◌, Bool, true, false, List, [], ◌∷◌, ◌++◌, length, map, if◌then◌else◌, Contains, nat_le}
+use Rattle.std.specs.Prelude.{ℕ, suc, ◌≡◌, ◌+◌, ◌≤◌, ◌==◌, List, [], ◌∷◌, ◌++◌, length, map, if◌then◌else◌, Contains, nat_le}
 use mathlib.Core.List.{IsPrefix}
 use Rattle.logbook.specs.Pages.{Book}
 pub use Rattle.elsa_machine.specs.AtomicSteps.{bit}
@@ -12,6 +12,7 @@ abbrev pub Vector : Type 0
 Vector = Book × List ℕ
 
 module _ {T : Type 0} where
+  -- the item of an entry
   abbrev pub item_of : Entry T → T
   item_of e = e.item
 
@@ -19,6 +20,7 @@ module _ {T : Type 0} where
   abbrev pub items_of : List (Entry T) → List T
   items_of es = map item_of es
 
+  -- an author's entry
   abbrev pub entry : ℕ → T → Entry T
   entry author item = record { author = author; item = item }
 
@@ -56,6 +58,10 @@ module _ {T : Type 0} where
   abbrev pub IsSamePass : View T → View T → Type 0
   IsSamePass before after = (after.vector ≡ before.vector) × (after.author ≡ before.author)
 
+  -- the same pass later, which has seen as much or more, and whose own places are as before
+  abbrev pub Continues : View T → View T → Type 0
+  Continues before after = IsSamePass before after × IsPrefix before.seen after.seen × (mine after ≡ mine before)
+
   -- the longer of two lists, the first where they are as long
   abbrev pub longer : List (Entry T) → List (Entry T) → List (Entry T)
   longer xs ys = if nat_le (length ys) (length xs) then xs else ys
@@ -64,6 +70,6 @@ module _ {T : Type 0} where
 abbrev pub Apart : List ℕ → List ℕ → Type 0
 Apart xs ys = (n : ℕ) → Contains xs n → Contains ys n → ⊥
 
--- at this length the list goes on in a new buffer, or can't go on
+-- at this length a new buffer begins, or the list is full
 abbrev pub BeginsABuffer : ℕ → Type 0
 BeginsABuffer place = (buffer : ℕ) × (buffer ≤ 31) × (place ≡ slots_before buffer)

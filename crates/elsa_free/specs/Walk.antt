@@ -1,9 +1,9 @@
--- Where a walk over the first places of a list stands.
+-- The position of a walk over the first places of a list.
 use Rattle.std.specs.Prelude.{ℕ, ◌≡◌, ◌+◌, ◌<◌, ◌≤◌, ◌^◌}
 use Rattle.elsa_machine.specs.Geometry.{size_of}
 use Rattle.elsa_free.specs.declared.iter.Position.{Position}
 
--- A walk over `len` places stands at one of them, or behind the last. The place lies `slot` slots behind the first of its
+-- A walk over `len` places is at one of them, or behind the last. The place is `slot` slots behind the first of its
 -- buffer, `rest` places of this buffer come next, and `left` after them, in further buffers
 pub record IsWalk (len : ℕ) (at : Position) : Type 0 where
   pub limit : len < 2 ^ 62

@@ -8,11 +8,11 @@ pub struct Entry<T> {
     pub item: T,
 }
 
-/// What a step adds to the history. `Seat` stands in none: an offer names its pass by it.
+/// What a step adds to the history. `OfferOf` is in no history: an offer says by it whose it is, as author and used tickets.
 pub enum Event<T> {
-    Took,
-    Put(Entry<T>),
-    Copied(LinkedList<T, Global>),
-    Gave,
-    Seat(u64, u64),
+    Acquired,
+    Published(Entry<T>),
+    Cloned(LinkedList<T, Global>),
+    Released,
+    OfferOf(u64, u64),
 }

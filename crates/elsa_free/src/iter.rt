@@ -4,11 +4,11 @@ ghost use Rattle.std.specs.Iterator.{UpTo, YieldsFirst, item_count};
 ghost use Rattle.std.specs.Iterator.SizeHint.{IsWithinCount};
 ghost use Rattle.elsa_free.specs.Walk.{IsWalk};
 
-use crate::slots::{Row, Slots, Told};
+use crate::slots::{Buffer, Slots, WrittenPrefix};
 use std::alloc::{Allocator, Global};
 use std::marker::Model;
 
-/// The place that comes next with the slot in which it lies, how many places of its buffer come from there on, and how many
+/// The next place and its slot, how many places of its buffer come from there on, and how many
 /// in further buffers.
 #[derive(Clone, Copy)]
 pub struct Position {
@@ -75,7 +75,7 @@ impl Position {
 /// The place that comes next is kept with its slot, so no place is located anew, and no item takes an atomic step.
 pub struct Iter<'a, T, A: Allocator = Global> {
     slots: &'a Slots<T, A>,
-    told: Told<T, Row<T, A>>,
+    prefix: WrittenPrefix<T, Buffer<T, A>>,
     len: usize,
     at: Position,
 }
@@ -86,23 +86,24 @@ impl<'a, T, A: Allocator> Model for Iter<'a, T, A> {
 
     ghost Value = { List T };
 
-    ghost view = { λ it. drop it.at.place it.told.items };
+    ghost view = { λ it. drop it.at.place it.prefix.items };
 
-    ghost invariant = { λ it. (it.told.tops ≡ it.slots.now) × (it.len ≡ length it.told.items) × IsWalk it.len it.at };
+    ghost invariant = { λ it. (it.prefix.buffer_slots ≡ it.slots.now) × (it.len ≡ length it.prefix.items) × IsWalk it.len it.at };
 }
 
 impl<'a, T, A: Allocator> Iter<'a, T, A> {
     pub(crate) fn new(
         slots: &'a Slots<T, A>,
-        told: Told<T, Row<T, A>>,
+        prefix: WrittenPrefix<T, Buffer<T, A>>,
         len: usize,
     ) -> Iter<'a, T, A>
-        requires { (told.tops ≡ slots.now) × (len ≡ length told.items) × (len < 2 ^ 62) }
-        ensures { result ≡ told.items }
+        requires { (prefix.buffer_slots ≡ slots.now) × (len ≡ length prefix.items)
+            × (len < 2 ^ 62) }
+        ensures { result ≡ prefix.items }
     {
         Iter {
             slots,
-            told,
+            prefix,
             len,
             at: Position::first(len),
         }
@@ -124,10 +125,10 @@ impl<'a, T: Copy + Drop, A: Allocator + Copy> Iterator for Iter<'a, T, A> {
             }
             at = at.next_buffer(self.len);
         }
-        let (row, item) = self.told.at(at.place, at.buffer, at.slot);
-        let answer = self.slots.read(at.buffer, at.slot, &row, &item);
-        row.unused();
-        item.unused();
+        let (opened, item) = self.prefix.at(at.place, at.buffer, at.slot);
+        let answer = self.slots.read(at.buffer, at.slot, &opened, &item);
+        opened.discard();
+        item.discard();
         self.at = at.next_slot(self.len);
         Some(answer)
     }
@@ -146,10 +147,10 @@ impl<'a, T, A: Allocator> Drop for Iter<'a, T, A> {
     fn drop(self) {
         let Self {
             slots: _,
-            told,
+            prefix,
             len: _,
             at: _,
         } = self;
-        told.unused();
+        prefix.discard();
     }
 }

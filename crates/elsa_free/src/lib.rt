@@ -2,11 +2,18 @@
 //! itself.
 #![tactic(auto)]
 
+/// Spends ghost tokens, each named with its type: what they own goes where the function's proof says. It does nothing when it runs.
+macro_rules! spend {
+    ($($token:ident: $kind:ident),+) => {
+        $(let $kind { marker: _ } = $token;)+
+    };
+}
+
+mod atomic_list;
 mod event;
 mod iter;
 pub mod lock_free;
 mod pass;
 mod rule;
-mod shared;
 pub mod slots;
-mod trade;
+mod tokens;

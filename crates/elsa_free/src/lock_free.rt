@@ -4,17 +4,17 @@
 //! only grows, and the places at which it pushed are its own for good. What a pass has seen it reads without an atomic step.
 //!
 //! Each call has three forms. `push_as` takes the caller's pass. `push_with_pass` makes a pass and returns it beside the
-//! answer: its clauses say the answer in terms of what that pass has seen, and by [`Pass::meet`] the caller ties it to other
-//! answers. `push` lets that pass go, so its contract keeps only what can be said without one: limits of places and lengths.
+//! result: its clauses relate the result to what that pass has seen, and by [`Pass::meet`] the caller relates it to other
+//! results. `push` drops that pass, so its contract keeps only what can be said without one: limits of places and lengths.
 ghost use Rattle.std.specs.Prelude.{◌≡◌, ◌≤◌, ◌<◌, ◌^◌, ◌+◌, [], ◌∷◌, ◌++◌, length, slice_get, IfOk, IfErr, IfSome, Some, suc};
 ghost use mathlib.Core.List.{IsPrefix};
-ghost use Rattle.elsa_free.specs.SharedList.{Appends, BeginsABuffer, IsSamePass, copied, entry, items_of, mine};
+ghost use Rattle.elsa_free.specs.SharedList.{Appends, BeginsABuffer, Continues, IsSamePass, copied, entry, items_of, mine};
 ghost use lib.Pointwise.{pointwise};
 
+use crate::atomic_list::AtomicList;
 pub use crate::iter::Iter;
 pub use crate::pass::Pass;
-use crate::shared::Shared;
-use crate::trade::{Author, looked, settled};
+use crate::tokens::{Author, bounded_by_tickets, take_read};
 use std::alloc::{AllocError, Allocator, Global};
 use std::marker::Model;
 use std::sync::Wait;
@@ -22,7 +22,7 @@ use std::sync::Wait;
 /// An append-only vector of `Copy` items, which threads push to and read at once. A clause sees which vector it is.
 #[derive(Drop)]
 pub struct LockFreeFrozenVec<T, A: Allocator = Global> {
-    shared: Shared<T, A>,
+    list: AtomicList<T, A>,
 }
 
 impl<T, A: Allocator> Model for LockFreeFrozenVec<T, A> {
@@ -30,15 +30,15 @@ impl<T, A: Allocator> Model for LockFreeFrozenVec<T, A> {
 
     ghost Value = { Vector };
 
-    ghost view = { λ v. (v.shared.first.book, v.shared.first.names) };
+    ghost view = { λ v. (v.list.first.book, v.list.first.names) };
 }
 
 impl<T: Copy + Drop, A: Allocator + Copy> LockFreeFrozenVec<T, A> {
-    /// An empty vector, which takes its memory from `alloc`. It takes a little memory at once, for the row of its buffers, and
-    /// where that is refused it returns `Err`. `O(1)`.
+    /// An empty vector, which takes its memory from `alloc`. It takes a little memory at once, for the table of its buffers,
+    /// and returns `Err` if that allocation fails. `O(1)`.
     pub fn new(alloc: A) -> Result<Self, AllocError> {
         Ok(LockFreeFrozenVec {
-            shared: Shared::new(alloc)?,
+            list: AtomicList::new(alloc)?,
         })
     }
 
@@ -48,7 +48,7 @@ impl<T: Copy + Drop, A: Allocator + Copy> LockFreeFrozenVec<T, A> {
         ensures nothing_seen { result.seen ≡ [] }
         ensures nothing_mine { mine result ≡ [] }
     {
-        Pass::of(self.shared.first.again(), Author::new(), 0)
+        Pass::of(self.list.first.again(), Author::new(), 0)
     }
 
     fn push_in<R: Wait>(
@@ -58,22 +58,27 @@ impl<T: Copy + Drop, A: Allocator + Copy> LockFreeFrozenVec<T, A> {
         item: T,
     ) -> (Pass<T, A>, Result<usize, AllocError>)
         requires { pass.vector ≡ self.now }
+
+        // The pass is the same, later.
         ensures same { IsSamePass pass result.0 }
         ensures seen { IsPrefix pass.seen result.0.seen }
-        ensures pushed { IfOk result.1 (λ i. Appends pass.seen result.0.seen i (entry pass.author item)) }
+
+        // On success its item is at the end. On refusal it has pushed nothing.
+        ensures pushed { IfOk result.1 (λ i.
+            Appends pass.seen result.0.seen i (entry pass.author item)) }
         ensures pushed_mine { IfOk result.1 (λ i. mine result.0 ≡ mine pass ++ i ∷ []) }
         ensures limit { IfOk result.1 (λ i. i + 1 < 2 ^ 62) }
         ensures refused { IfErr result.1 (λ e. BeginsABuffer (length result.0.seen)) }
         ensures refused_mine { IfErr result.1 (λ e. mine result.0 ≡ mine pass) }
     {
         let (seen, author, length) = pass.parts();
-        let (seen, author, length, answer) = self.shared.push(rt, seen, author, length, item);
+        let (seen, author, length, answer) = self.list.push(rt, seen, author, length, item);
         (Pass::of(seen, author, length), answer)
     }
 
     /// Pushes an item and returns its place. It waits while another thread pushes.
     ///
-    /// `Err` adds nothing: memory for the buffer that begins at this length was refused, or the length is `2^62 - 1`, the
+    /// `Err` adds nothing: the allocation of the buffer that begins at this length failed, or the length is `2^62 - 1`, the
     /// greatest. The vector can be used as before, and the same push may succeed later. `O(1)`, with a buffer four times as
     /// large as the one before where one begins.
     pub fn push_as<R: Wait>(
@@ -83,11 +88,18 @@ impl<T: Copy + Drop, A: Allocator + Copy> LockFreeFrozenVec<T, A> {
         item: T,
     ) -> Result<usize, AllocError>
         requires of { pass.old.vector ≡ self.now }
+
+        // The pass is the same, later.
         ensures same { IsSamePass pass.old pass.new }
         ensures seen { IsPrefix pass.old.seen pass.new.seen }
-        ensures pushed { IfOk result (λ i. Appends pass.old.seen pass.new.seen i (entry pass.old.author item)) }
+
+        // On success its item is at the end.
+        ensures pushed { IfOk result (λ i.
+            Appends pass.old.seen pass.new.seen i (entry pass.old.author item)) }
         ensures pushed_mine { IfOk result (λ i. mine pass.new ≡ mine pass.old ++ i ∷ []) }
         ensures limit { IfOk result (λ i. i + 1 < 2 ^ 62) }
+
+        // On refusal it has pushed nothing, and a buffer begins at the length.
         ensures refused { IfErr result (λ e. BeginsABuffer (length pass.new.seen)) }
         ensures refused_mine { IfErr result (λ e. mine pass.new ≡ mine pass.old) }
     {
@@ -97,7 +109,7 @@ impl<T: Copy + Drop, A: Allocator + Copy> LockFreeFrozenVec<T, A> {
         answer
     }
 
-    fn look_in(&self, pass: Pass<T, A>) -> (Pass<T, A>, usize)
+    fn read_length_in(&self, pass: Pass<T, A>) -> (Pass<T, A>, usize)
         requires { pass.vector ≡ self.now }
         ensures same { IsSamePass pass result.0 }
         ensures seen { IsPrefix pass.seen result.0.seen }
@@ -105,23 +117,21 @@ impl<T: Copy + Drop, A: Allocator + Copy> LockFreeFrozenVec<T, A> {
         ensures length { (result.1 ≡ length result.0.seen) × (result.1 < 2 ^ 62) }
     {
         let (seen, author, _length) = pass.parts();
-        let (n, seen, gained) = self.shared.look(seen, author);
-        let (author, told) = looked(gained);
-        told.unused();
+        let (n, seen, gained) = self.list.read_length(seen, author);
+        let (author, prefix) = take_read(gained);
+        prefix.discard();
         (Pass::of(seen, author, n), n)
     }
 
     /// How many items the vector has, by one atomic read of the length. It takes no lock and no memory, and never waits. `O(1)`.
     pub fn len_as(&self, pass: &mut Pass<T, A>) -> usize
         requires of { pass.old.vector ≡ self.now }
-        ensures same { IsSamePass pass.old pass.new }
-        ensures seen { IsPrefix pass.old.seen pass.new.seen }
-        ensures mine { mine pass.new ≡ mine pass.old }
+        ensures continues { Continues pass.old pass.new }
         ensures length { result ≡ length pass.new.seen }
         ensures limit { result < 2 ^ 62 }
     {
         let before = std::mem::replace(pass, self.pass());
-        let (after, answer) = self.look_in(before);
+        let (after, answer) = self.read_length_in(before);
         drop(std::mem::replace(pass, after));
         answer
     }
@@ -132,21 +142,19 @@ impl<T: Copy + Drop, A: Allocator + Copy> LockFreeFrozenVec<T, A> {
         requires seen { (place < length pass.now.seen) × (length pass.now.seen < 2 ^ 62) }
         ensures { slice_get (items_of pass.now.seen) place ≡ Some result }
     {
-        let told = pass.evidence();
-        let item = self.shared.item(&told, place);
-        told.unused();
+        let prefix = pass.evidence();
+        let item = self.list.item(&prefix, place);
+        prefix.discard();
         item
     }
 
     /// The item at a place: `None` exactly if the place is at or above the length of what the pass has then seen.
     ///
     /// A place that the pass has seen is read at once, with no atomic step: what other threads do meanwhile doesn't slow it.
-    /// For a place at or above that the pass first looks, by one load. It takes no lock and no memory, and never waits. `O(1)`.
+    /// For a place at or above that it first reads the length, by one load. It takes no lock and no memory, and never waits. `O(1)`.
     pub fn get_as(&self, pass: &mut Pass<T, A>, place: usize) -> Option<T>
         requires of { pass.old.vector ≡ self.now }
-        ensures same { IsSamePass pass.old pass.new }
-        ensures seen { IsPrefix pass.old.seen pass.new.seen }
-        ensures mine { mine pass.new ≡ mine pass.old }
+        ensures continues { Continues pass.old pass.new }
         ensures item { result ≡ slice_get (items_of pass.new.seen) place }
         ensures limit { IfSome result (λ _. place + 1 < 2 ^ 62) }
     {
@@ -159,36 +167,35 @@ impl<T: Copy + Drop, A: Allocator + Copy> LockFreeFrozenVec<T, A> {
         None
     }
 
-    /// The items that the pass has seen, in order and each once. It looks at nothing: no atomic step, no lock and no memory.
+    /// The items that the pass has seen, in order and each once. It reads no length: no atomic step, no lock and no memory.
     /// `O(1)`, and so is each item. Pushes that the pass hasn't seen are not among them; [`len_as`](Self::len_as) sees them.
     pub fn iter_as<'a>(&'a self, pass: &Pass<T, A>) -> Iter<'a, T, A>
         requires of { pass.now.vector ≡ self.now }
         ensures items { result ≡ items_of pass.now.seen }
     {
-        self.shared.items(pass.evidence(), pass.seen_len())
+        self.list.items(pass.evidence(), pass.seen_len())
     }
 
-    /// A vector of its own with the items seen by one read of the length, which have no author there, and a pass that has seen it whole.
+    /// An independent vector with the items seen by one read of the length, which have no author there, and a pass of it. Its list is
+    /// what that pass has seen: no other thread has it, and nothing else was published.
     ///
     /// The length is read first, and the places below its length alone are copied, buffer by buffer, so it can be made amid pushes.
-    /// It takes no lock and never waits. `Err`: memory for a buffer was refused, and all that was taken is given back. `O(n)`.
+    /// It takes no lock and never waits. `Err`: an allocation failed, and all memory that was taken is given back. `O(n)`.
     pub fn clone_as(&self, pass: &mut Pass<T, A>) -> Result<(Self, Pass<T, A>), AllocError>
         requires of { pass.old.vector ≡ self.now }
-        ensures same { IsSamePass pass.old pass.new }
-        ensures seen { IsPrefix pass.old.seen pass.new.seen }
-        ensures mine { mine pass.new ≡ mine pass.old }
+        ensures continues { Continues pass.old pass.new }
         ensures clone_of { IfOk result (λ r. r.1.vector ≡ r.0) }
         ensures clone_items { IfOk result (λ r. r.1.seen ≡ copied (items_of pass.new.seen)) }
         ensures clone_mine { IfOk result (λ r. mine r.1 ≡ []) }
     {
         let n = self.len_as(pass);
-        let told = pass.evidence();
-        let copy = self.shared.copy(n, &told);
-        told.unused();
-        let (shared, seen) = copy?;
-        let author = settled(&seen, Author::new());
+        let prefix = pass.evidence();
+        let copy = self.list.copy(n, &prefix);
+        prefix.discard();
+        let (list, seen) = copy?;
+        let author = bounded_by_tickets(&seen, Author::new());
         let copy_pass = Pass::of(seen, author, n);
-        Ok((LockFreeFrozenVec { shared }, copy_pass))
+        Ok((LockFreeFrozenVec { list }, copy_pass))
     }
 
     /// [`clone_as`](Self::clone_as) with a pass of its own: the clone, the pass that saw what was copied, and the clone's pass.
@@ -215,10 +222,12 @@ impl<T: Copy + Drop, A: Allocator + Copy> LockFreeFrozenVec<T, A> {
         item: T,
     ) -> (Result<usize, AllocError>, Pass<T, A>)
         ensures of { result.1.vector ≡ self.now }
-        ensures pushed { IfOk result.0 (λ i. Appends [] result.1.seen i (entry result.1.author item)) }
+        ensures pushed { IfOk result.0 (λ i.
+            Appends [] result.1.seen i (entry result.1.author item)) }
         ensures pushed_mine { IfOk result.0 (λ i. mine result.1 ≡ i ∷ []) }
         ensures limit { IfOk result.0 (λ i. i + 1 < 2 ^ 62) }
-        ensures refused { IfErr result.0 (λ e. BeginsABuffer (length result.1.seen) × (mine result.1 ≡ [])) }
+        ensures refused { IfErr result.0 (λ e.
+            BeginsABuffer (length result.1.seen) × (mine result.1 ≡ [])) }
     {
         let mut pass = self.pass();
         self.len_as(&mut pass);
@@ -283,8 +292,8 @@ impl<T: Copy + Drop, A: Allocator + Copy> LockFreeFrozenVec<T, A> {
 }
 
 impl<T: Copy + Drop + PartialEq, A: Allocator + Copy> LockFreeFrozenVec<T, A> {
-    /// Whether two vectors have equal items in order: it looks at this one, then at the other, and compares what the two looks
-    /// saw. It takes no lock and no memory, and never waits. `O(n)`.
+    /// Whether two vectors have equal items in order: it reads the length of this one, then of the other, and
+    /// compares what the two passes have then seen. It takes no lock and no memory, and never waits. `O(n)`.
     pub fn equals_as(
         &self,
         pass: &mut Pass<T, A>,
@@ -292,9 +301,8 @@ impl<T: Copy + Drop + PartialEq, A: Allocator + Copy> LockFreeFrozenVec<T, A> {
         other_pass: &mut Pass<T, A>,
     ) -> bool
         requires of { (pass.old.vector ≡ self.now) × (other_pass.old.vector ≡ other.now) }
-        ensures same { IsSamePass pass.old pass.new × IsSamePass other_pass.old other_pass.new }
-        ensures seen { IsPrefix pass.old.seen pass.new.seen × IsPrefix other_pass.old.seen other_pass.new.seen }
-        ensures mine { (mine pass.new ≡ mine pass.old) × (mine other_pass.new ≡ mine other_pass.old) }
+        ensures continues { Continues pass.old pass.new }
+        ensures other_continues { Continues other_pass.old other_pass.new }
         ensures equal { result ≡ pointwise T.eq (items_of pass.new.seen) (items_of other_pass.new.seen) }
     {
         let n = self.len_as(pass);
@@ -302,13 +310,13 @@ impl<T: Copy + Drop + PartialEq, A: Allocator + Copy> LockFreeFrozenVec<T, A> {
         if n != other_n {
             return false;
         }
-        let told = pass.evidence();
-        let other_told = other_pass.evidence();
+        let prefix = pass.evidence();
+        let other_prefix = other_pass.evidence();
         let equal = self
-            .shared
-            .has_items_of(&told, &other.shared, &other_told, n);
-        told.unused();
-        other_told.unused();
+            .list
+            .has_items_of(&prefix, &other.list, &other_prefix, n);
+        prefix.discard();
+        other_prefix.discard();
         equal
     }
 

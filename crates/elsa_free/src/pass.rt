@@ -4,18 +4,18 @@ ghost use Rattle.std.specs.Prelude.{◌≡◌, ◌≢◌, ◌≤◌, ◌<◌, �
 ghost use mathlib.Core.List.{IsPrefix};
 ghost use Rattle.elsa_free.specs.SharedList.{Apart, IsSamePass, count, items_of, longer, mine};
 ghost use Rattle.elsa_free.specs.History.{list_of};
-ghost use Rattle.elsa_free.specs.Rights.{tops_of};
+ghost use Rattle.elsa_free.specs.Rights.{buffer_slots_of};
 
-use crate::shared::Known;
-use crate::slots::{Row, Told};
-use crate::trade::{Author, apart, evidence, settled};
+use crate::atomic_list::SeenHistory;
+use crate::slots::{Buffer, WrittenPrefix};
+use crate::tokens::{Author, apart, bounded_by_tickets, evidence};
 use std::alloc::{Allocator, Global};
 use std::marker::Model;
 
 /// What a thread has seen of a vector, and the right to push under its name. A clause sees the vector that it is of, its number
 /// as an author, and the list that it has seen.
 pub struct Pass<T, A: Allocator = Global> {
-    seen: Known<T, A>,
+    seen: SeenHistory<T, A>,
     author: Author,
     seen_length: usize,
 }
@@ -33,10 +33,14 @@ impl<T, A: Allocator> Model for Pass<T, A> {
 }
 
 impl<T, A: Allocator> Pass<T, A> {
-    pub(crate) fn of(seen: Known<T, A>, author: Author, seen_length: usize) -> Pass<T, A>
+    pub(crate) fn of(seen: SeenHistory<T, A>, author: Author, seen_length: usize) -> Pass<T, A>
         requires mine { count (suc author.name) (list_of seen.log) ≡ author.used }
         requires length { (seen_length ≡ length (list_of seen.log)) × (seen_length < 2 ^ 62) }
-        ensures { result ≡ record { vector = (seen.book, seen.names); author = suc author.name; seen = list_of seen.log } }
+        ensures { result ≡ record {
+          vector = (seen.book, seen.names);
+          author = suc author.name;
+          seen = list_of seen.log;
+        } }
     {
         Pass {
             seen,
@@ -45,8 +49,12 @@ impl<T, A: Allocator> Pass<T, A> {
         }
     }
 
-    pub(crate) fn parts(self) -> (Known<T, A>, Author, usize)
-        ensures is { self ≡ record { vector = (result.0.book, result.0.names); author = suc result.1.name; seen = list_of result.0.log } }
+    pub(crate) fn parts(self) -> (SeenHistory<T, A>, Author, usize)
+        ensures is { self ≡ record {
+          vector = (result.0.book, result.0.names);
+          author = suc result.1.name;
+          seen = list_of result.0.log;
+        } }
         ensures mine { count (suc result.1.name) (list_of result.0.log) ≡ result.1.used }
         ensures length { (result.2 ≡ length (list_of result.0.log)) × (result.2 < 2 ^ 62) }
     {
@@ -62,16 +70,17 @@ impl<T, A: Allocator> Pass<T, A> {
 impl<T, A: Allocator> Pass<T, A> {
     /// Another pass of the same vector, which has seen as much and has pushed nothing.
     fn fresh(&self) -> Pass<T, A>
-        ensures { (result.vector ≡ self.now.vector) × (result.seen ≡ self.now.seen) × (mine result ≡ []) }
+        ensures { (result.vector ≡ self.now.vector) × (result.seen ≡ self.now.seen)
+            × (mine result ≡ []) }
     {
         Pass::of(
             self.seen.again(),
-            settled(&self.seen, Author::new()),
+            bounded_by_tickets(&self.seen, Author::new()),
             self.seen_len(),
         )
     }
 
-    /// How many items the pass has seen. It looks at nothing: no atomic step. `O(1)`.
+    /// How many items the pass has seen, by no atomic step. `O(1)`.
     pub fn seen_len(&self) -> usize
         ensures length { result ≡ length self.now.seen }
         ensures limit { result < 2 ^ 62 }
@@ -80,14 +89,15 @@ impl<T, A: Allocator> Pass<T, A> {
     }
 
     /// The evidence for all that the pass has seen. It has no bytes, and takes no atomic step.
-    pub(crate) fn evidence(&self) -> Told<T, Row<T, A>>
-        ensures { (result.tops ≡ tops_of self.now.vector.1) × (result.items ≡ items_of self.now.seen) }
+    pub(crate) fn evidence(&self) -> WrittenPrefix<T, Buffer<T, A>>
+        ensures { (result.buffer_slots ≡ buffer_slots_of self.now.vector.1)
+            × (result.items ≡ items_of self.now.seen) }
     {
         evidence(&self.seen)
     }
 
     /// Two passes are two authors.
-    fn told_apart(self, other: Pass<T, A>) -> (Pass<T, A>, Pass<T, A>)
+    fn known_apart(self, other: Pass<T, A>) -> (Pass<T, A>, Pass<T, A>)
         ensures { (result.0 ≡ self) × (result.1 ≡ other) × (self.author ≢ other.author) }
     {
         let (seen, author, length) = self.parts();
@@ -110,20 +120,25 @@ impl<T, A: Allocator> Pass<T, A> {
         let (seen, author, _length) = self.parts();
         let mut both = seen;
         both.learn(&longer.seen);
-        let author = settled(&longer.seen, author);
+        let author = bounded_by_tickets(&longer.seen, author);
         drop(both);
         Pass::of(longer.seen.again(), author, longer.seen_length)
     }
 
     fn met(self, other: Pass<T, A>) -> (Pass<T, A>, Pass<T, A>)
         requires { self.vector ≡ other.vector }
+
+        // Each pass is the same, later.
         ensures same { IsSamePass self result.0 × IsSamePass other result.1 }
         ensures seen { IsPrefix self.seen result.0.seen × IsPrefix other.seen result.1.seen }
-        ensures longer { (result.0.seen ≡ longer self.seen other.seen) × (result.1.seen ≡ longer self.seen other.seen) }
+
+        // Both have seen the longer list. Their places stay, and none is of both.
+        ensures longer { (result.0.seen ≡ longer self.seen other.seen)
+            × (result.1.seen ≡ longer self.seen other.seen) }
         ensures mine { (mine result.0 ≡ mine self) × (mine result.1 ≡ mine other) }
         ensures apart { Apart (mine result.0) (mine result.1) }
     {
-        let (one, two) = self.told_apart(other);
+        let (one, two) = self.known_apart(other);
         if two.seen_len() <= one.seen_len() {
             let two = two.raised(&one);
             (one, two)
@@ -137,9 +152,15 @@ impl<T, A: Allocator> Pass<T, A> {
     /// and no atomic step, and never waits. `O(1)`.
     pub fn meet(&mut self, other: &mut Pass<T, A>)
         requires of { self.old.vector ≡ other.old.vector }
+
+        // Each pass is the same, later.
         ensures same { IsSamePass self.old self.new × IsSamePass other.old other.new }
-        ensures seen { IsPrefix self.old.seen self.new.seen × IsPrefix other.old.seen other.new.seen }
-        ensures longer { (self.new.seen ≡ longer self.old.seen other.old.seen) × (other.new.seen ≡ longer self.old.seen other.old.seen) }
+        ensures seen { IsPrefix self.old.seen self.new.seen
+            × IsPrefix other.old.seen other.new.seen }
+
+        // Both have seen the longer list. Their places stay, and none is of both.
+        ensures longer { (self.new.seen ≡ longer self.old.seen other.old.seen)
+            × (other.new.seen ≡ longer self.old.seen other.old.seen) }
         ensures mine { (mine self.new ≡ mine self.old) × (mine other.new ≡ mine other.old) }
         ensures apart { Apart (mine self.new) (mine other.new) }
     {
@@ -160,6 +181,6 @@ impl<T, A: Allocator> Drop for Pass<T, A> {
     fn drop(self) {
         let (seen, author, _length) = self.parts();
         drop(seen);
-        author.unused();
+        author.discard();
     }
 }

@@ -1,12 +1,12 @@
-//! The rule of a vector, over `logbook`: what holds between any two atomic steps, what each step hands out, and what it tells.
+//! The rule of a vector, over `logbook`: what holds between any two atomic steps, and what a thread gains at each step.
 use crate::event::Event;
-use crate::slots::Shelf;
+use crate::slots::HasSlots;
 use logbook::{Gain, Plain, Play, Rule};
 use std::alloc::Global;
 use std::collections::LinkedList;
 use std::marker::PhantomData;
 
-/// What a step answers: the history before it.
+/// What a step returns: the history before it.
 pub type Log<T> = LinkedList<Event<T>, Global>;
 
 /// The rule of a vector whose buffers are `B`.
@@ -14,10 +14,10 @@ pub struct OneWord<B> {
     buffers: PhantomData<B>,
 }
 
-impl<T, B: Shelf> Rule<Event<T>, Log<T>> for OneWord<B> {
+impl<T, B: HasSlots> Rule<Event<T>, Log<T>> for OneWord<B> {
     ghost use Rattle.std.specs.Prelude.{[]};
     ghost use Rattle.elsa_free.specs.OneWord.{IsKept};
-    ghost use Rattle.elsa_free.specs.Rights.{Moved, kept};
+    ghost use Rattle.elsa_free.specs.Rights.{IsStep, rule_owns};
 
     ghost holds = { λ cells log. IsKept cells log };
 
@@ -27,53 +27,53 @@ impl<T, B: Shelf> Rule<Event<T>, Log<T>> for OneWord<B> {
 
     ghost shows = { λ log. log };
 
-    ghost keeps = { λ names log. kept T.row B.row B.ids names log };
+    ghost keeps = { λ names log. rule_owns T.row B.row B.slot_names names log };
 
-    ghost moves = { λ ask before after answer. Moved ask before after answer };
+    ghost moves = { λ ask before after answer. IsStep ask before after answer };
 }
 
-/// Who takes the right has the holder's part of it, and the rights to write on.
-pub struct Takes<B> {
+/// An acquire gains the right to end the hold, and the rights to write from the length on.
+pub struct AcquireGain<B> {
     buffers: PhantomData<B>,
 }
 
-impl<T, B: Shelf> Gain<Event<T>, Log<T>> for Takes<B> {
-    ghost use Rattle.elsa_free.specs.Rights.{took};
+impl<T, B: HasSlots> Gain<Event<T>, Log<T>> for AcquireGain<B> {
+    ghost use Rattle.elsa_free.specs.Rights.{acquire_gain};
 
-    ghost after = { λ names about answer. took T.row B.row B.ids names answer };
+    ghost after = { λ names about answer. acquire_gain T.row B.row B.slot_names names answer };
 }
 
-/// Who looks has the evidence for all that is seen.
-pub struct Looks<B> {
+/// A read of the length gains the evidence that each place of the list was written.
+pub struct ReadGain<B> {
     buffers: PhantomData<B>,
 }
 
-impl<T, B: Shelf> Gain<Event<T>, Log<T>> for Looks<B> {
-    ghost use Rattle.elsa_free.specs.Rights.{looked};
+impl<T, B: HasSlots> Gain<Event<T>, Log<T>> for ReadGain<B> {
+    ghost use Rattle.elsa_free.specs.Rights.{read_gain};
 
-    ghost after = { λ names about answer. looked T.row B.row B.ids names about answer };
+    ghost after = { λ names about answer. read_gain T.row B.row B.slot_names names about answer };
 }
 
-/// Who gives the right back learns that the history was as it knew.
-pub struct Gives<B> {
+/// A release gains the author's right back, and that the history was the known one.
+pub struct ReleaseGain<B> {
     buffers: PhantomData<B>,
 }
 
-impl<T, B: Shelf> Gain<Event<T>, Log<T>> for Gives<B> {
-    ghost use Rattle.elsa_free.specs.Rights.{gave};
+impl<T, B: HasSlots> Gain<Event<T>, Log<T>> for ReleaseGain<B> {
+    ghost use Rattle.elsa_free.specs.Rights.{release_gain};
 
-    ghost after = { λ names about answer. gave T.row B.row B.ids about answer };
+    ghost after = { λ names about answer. release_gain T.row B.row B.slot_names about answer };
 }
 
-/// So does who publishes an entry.
-pub struct Puts<B> {
+/// A publish gains the same, with one ticket fewer.
+pub struct PublishGain<B> {
     buffers: PhantomData<B>,
 }
 
-impl<T, B: Shelf> Gain<Event<T>, Log<T>> for Puts<B> {
-    ghost use Rattle.elsa_free.specs.Rights.{wrote};
+impl<T, B: HasSlots> Gain<Event<T>, Log<T>> for PublishGain<B> {
+    ghost use Rattle.elsa_free.specs.Rights.{publish_gain};
 
-    ghost after = { λ names about answer. wrote T.row B.row B.ids about answer };
+    ghost after = { λ names about answer. publish_gain T.row B.row B.slot_names about answer };
 }
 
 /// Nothing is gained.
@@ -85,34 +85,34 @@ impl<T> Gain<Event<T>, Log<T>> for Nothing {
     ghost after = { λ names about answer. ftrue };
 }
 
-/// A look that trades nothing, by an offer that has its answer already.
-pub struct See;
+/// A read of the word that exchanges nothing with the rule, by an offer that has its result already.
+pub struct PlainRead;
 
-impl<T> Plain<(), Event<T>, Log<T>> for See {
+impl<T> Plain<(), Event<T>, Log<T>> for PlainRead {
     ghost use Rattle.std.specs.Prelude.{Some, []};
-    ghost use Rattle.elsa_free.specs.declared.event.Event.TheVariants.{Gave};
+    ghost use Rattle.elsa_free.specs.declared.event.Event.TheVariants.{Released};
 
-    ghost ask = { λ n. Gave };
+    ghost ask = { λ n. Released };
 
     ghost state = { λ n. Some [] };
 }
 
-impl<T> Play<Event<T>, Log<T>> for See {
+impl<T> Play<Event<T>, Log<T>> for PlainRead {
     ghost use Rattle.elsa_free.specs.OneWord.{Sees};
 
     ghost then = { Sees };
 }
 
-/// A look.
-pub struct Look;
+/// A read of the length.
+pub struct ReadLength;
 
-impl<T> Play<Event<T>, Log<T>> for Look {
+impl<T> Play<Event<T>, Log<T>> for ReadLength {
     ghost use Rattle.elsa_free.specs.OneWord.{Reads};
 
     ghost then = { Reads };
 }
 
-/// The step that takes the right.
+/// The exchange that acquires the word.
 pub struct Acquire;
 
 impl<T> Play<Event<T>, Log<T>> for Acquire {
@@ -121,10 +121,10 @@ impl<T> Play<Event<T>, Log<T>> for Acquire {
     ghost then = { Acquires };
 }
 
-/// The step that gives it back, with or without new entries.
-pub struct End;
+/// The exchange that ends the hold, with or without new entries.
+pub struct EndHold;
 
-impl<T> Play<Event<T>, Log<T>> for End {
+impl<T> Play<Event<T>, Log<T>> for EndHold {
     ghost use Rattle.elsa_free.specs.OneWord.{Ends};
 
     ghost then = { Ends };

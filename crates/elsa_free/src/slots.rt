@@ -1,33 +1,33 @@
 //! The memory of a vector: 31 buffers of slots, each opened once, each slot written once and then read by any thread.
 //!
-//! No slot has a tag or a word, and opening a buffer touches none of its memory: who may write a slot holds the one right
-//! to it ([`Blank`]), and who may read it shows evidence, for good, that it was written ([`Written`]). Neither has bytes.
+//! No slot has a tag or a word, and opening a buffer touches none of its memory: to write a slot takes the one right
+//! to it ([`WriteRight`]), and to read it takes lasting evidence that it was written ([`Written`]). Neither has bytes.
 //! This is the only module with raw pointers. The layer above may use this: a read gives what the one write put there.
 ghost use Rattle.std.specs.Prelude.{◌≡◌, ℕ, ◌<◌, List, length, slice_index_or, IfOk, IfErr};
 ghost use Rattle.elsa_machine.specs.Geometry.{size_of};
 
+mod buffer;
 mod cells;
 mod copy;
 mod rights;
-mod row;
 mod slot;
-mod told;
+mod written_prefix;
 
+pub use buffer::Buffer;
 pub use copy::{Ahead, Copied};
 use elsa_machine::geometry::buffer_size;
-pub use rights::{Blank, Blanks, Written};
-pub use row::Row;
+pub use rights::{WriteRight, WriteRights, Written};
 use slot::Slot;
 use std::alloc::{AllocError, Allocator, Global};
 use std::marker::Model;
-pub use told::{Shelf, Told};
+pub use written_prefix::{HasSlots, WrittenPrefix};
 
 /// How many buffers can be opened.
 pub const BUFFERS: usize = 31;
 
-/// The buffers. A clause sees the names of their 31 rows, in order.
+/// The buffers. A clause sees the names of the 31 slots that hold them, in order.
 pub struct Slots<T, A: Allocator = Global> {
-    buffers: Vec<Slot<Row<T, A>>, A>,
+    buffers: Vec<Slot<Buffer<T, A>>, A>,
     alloc: A,
 }
 
@@ -40,13 +40,13 @@ impl<T, A: Allocator> Model for Slots<T, A> {
 }
 
 impl<T: Copy, A: Allocator + Copy> Slots<T, A> {
-    /// No buffer is open. The rights to open them come with it. Takes memory for 31 rows.
-    pub fn new(alloc: A) -> Result<(Slots<T, A>, Blanks), AllocError>
+    /// No buffer is open. Also returns the rights to open them. Takes memory for the table of 31 buffers.
+    pub fn new(alloc: A) -> Result<(Slots<T, A>, WriteRights), AllocError>
         ensures rights { IfOk result (λ r. r.1.of ≡ r.0) }
         ensures count { IfOk result (λ r. length r.0 ≡ 31) }
     {
         let mut buffers = Vec::with_capacity(alloc, BUFFERS)?;
-        let mut rights = Blanks::none();
+        let mut rights = WriteRights::none();
         for _ in 0..BUFFERS {
             let (slot, right) = Slot::new();
             buffers.push_reserved(slot);
@@ -55,39 +55,50 @@ impl<T: Copy, A: Allocator + Copy> Slots<T, A> {
         Ok((Slots { buffers, alloc }, rights))
     }
 
-    /// A row of `len` free slots, and the rights to write them. Takes memory for `len` items, and touches none of it.
-    pub fn row(&self, len: usize) -> Result<(Row<T, A>, Blanks), AllocError>
+    /// A buffer of `len` free slots, and the rights to write them. Takes memory for `len` items, and touches none of it.
+    pub fn new_buffer(&self, len: usize) -> Result<(Buffer<T, A>, WriteRights), AllocError>
         ensures { IfOk result (λ r. (length r.0 ≡ len) × (r.1.of ≡ r.0)) }
     {
-        Row::new(self.alloc, len)
+        Buffer::new(self.alloc, len)
     }
 
-    /// Opens a buffer, with this row. Cannot fail.
-    pub fn fill(&self, buffer: usize, row: Row<T, A>, right: Blank) -> Written<Row<T, A>>
+    /// Opens a buffer, with this memory. Cannot fail.
+    pub fn fill(
+        &self,
+        buffer: usize,
+        fresh: Buffer<T, A>,
+        right: WriteRight,
+    ) -> Written<Buffer<T, A>>
         requires { (buffer < 31) × (right.of ≡ slice_index_or self.now buffer 0) }
-        ensures { (result.of ≡ slice_index_or self.now buffer 0) × (result.value ≡ row) }
+        ensures { (result.of ≡ slice_index_or self.now buffer 0) × (result.value ≡ fresh) }
     {
-        self.buffers[buffer].write(row, right)
+        self.buffers[buffer].write(fresh, right)
     }
 
-    /// Opens a buffer, with a row of all its slots. Where memory is refused, the right to open it comes back.
-    pub fn open(&self, buffer: usize, right: Blank) -> Result<(Written<Row<T, A>>, Blanks), Blank>
+    /// Opens a buffer, with memory for all its slots. On an allocation failure it returns the right to open it.
+    pub fn open(
+        &self,
+        buffer: usize,
+        right: WriteRight,
+    ) -> Result<(Written<Buffer<T, A>>, WriteRights), WriteRight>
         requires { (buffer < 31) × (right.of ≡ slice_index_or self.now buffer 0) }
-        ensures opened { IfOk result (λ r. (r.0.of ≡ slice_index_or self.now buffer 0) × (length r.0.value ≡ size_of buffer) × (r.1.of ≡ r.0.value)) }
+        ensures opened { IfOk result (λ r.
+            (r.0.of ≡ slice_index_or self.now buffer 0) × (length r.0.value ≡ size_of buffer)
+            × (r.1.of ≡ r.0.value)) }
         ensures given_back { IfErr result (λ r. r.of ≡ right.of) }
     {
-        match self.row(buffer_size(buffer)) {
-            Ok((row, rights)) => Ok((self.fill(buffer, row, right), rights)),
+        match self.new_buffer(buffer_size(buffer)) {
+            Ok((fresh, rights)) => Ok((self.fill(buffer, fresh, right), rights)),
             Err(_) => Err(right),
         }
     }
 
-    /// An open buffer's row.
-    fn row_at<'a>(&'a self, buffer: usize, row: &Written<Row<T, A>>) -> &'a Row<T, A>
-        requires { (buffer < 31) × (row.now.of ≡ slice_index_or self.now buffer 0) }
-        ensures { result.now ≡ row.now.value }
+    /// An open buffer's memory.
+    fn buffer_at<'a>(&'a self, buffer: usize, opened: &Written<Buffer<T, A>>) -> &'a Buffer<T, A>
+        requires { (buffer < 31) × (opened.now.of ≡ slice_index_or self.now buffer 0) }
+        ensures { result.now ≡ opened.now.value }
     {
-        self.buffers[buffer].value(row)
+        self.buffers[buffer].value(opened)
     }
 
     /// Writes a slot of an open buffer, and spends the one right to. Cannot fail.
@@ -96,23 +107,31 @@ impl<T: Copy, A: Allocator + Copy> Slots<T, A> {
         buffer: usize,
         slot: usize,
         item: T,
-        row: &Written<Row<T, A>>,
-        right: Blank,
+        opened: &Written<Buffer<T, A>>,
+        right: WriteRight,
     ) -> Written<T>
-        requires row { (buffer < 31) × (row.now.of ≡ slice_index_or self.now buffer 0) }
-        requires slot { (slot < length row.now.value) × (right.of ≡ slice_index_or row.now.value slot 0) }
-        ensures { (result.of ≡ slice_index_or row.now.value slot 0) × (result.value ≡ item) }
+        requires opened { (buffer < 31) × (opened.now.of ≡ slice_index_or self.now buffer 0) }
+        requires slot { (slot < length opened.now.value)
+            × (right.of ≡ slice_index_or opened.now.value slot 0) }
+        ensures { (result.of ≡ slice_index_or opened.now.value slot 0) × (result.value ≡ item) }
     {
-        self.row_at(buffer, row).write(slot, item, right)
+        self.buffer_at(buffer, opened).write(slot, item, right)
     }
 
-    /// The item that a slot holds, for whoever shows that it was written. No lock, and no atomic step.
-    pub fn read(&self, buffer: usize, slot: usize, row: &Written<Row<T, A>>, item: &Written<T>) -> T
-        requires row { (buffer < 31) × (row.now.of ≡ slice_index_or self.now buffer 0) }
-        requires slot { (slot < length row.now.value) × (item.now.of ≡ slice_index_or row.now.value slot 0) }
+    /// The item that a slot holds, given evidence that it was written. No lock, and no atomic step.
+    pub fn read(
+        &self,
+        buffer: usize,
+        slot: usize,
+        opened: &Written<Buffer<T, A>>,
+        item: &Written<T>,
+    ) -> T
+        requires opened { (buffer < 31) × (opened.now.of ≡ slice_index_or self.now buffer 0) }
+        requires slot { (slot < length opened.now.value)
+            × (item.now.of ≡ slice_index_or opened.now.value slot 0) }
         ensures { result ≡ item.now.value }
     {
-        *self.row_at(buffer, row).get(slot, item)
+        *self.buffer_at(buffer, opened).get(slot, item)
     }
 }
 

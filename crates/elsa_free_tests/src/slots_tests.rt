@@ -1,43 +1,43 @@
 //! The slots, over an allocator that refuses and counts.
 ghost use Rattle.std.specs.Prelude.{◌≡◌, length, slice_index_or, IfSome};
 
-use elsa_free::slots::{Ahead, Blank, Blanks, Copied, Row, Slots, Told};
+use elsa_free::slots::{Ahead, Buffer, Copied, Slots, WriteRight, WriteRights, WrittenPrefix};
 use std::alloc::Global;
 use std::process::Abort;
 use std::test::*;
 use test_alloc::Budget;
 
 /// The right that came back where the first buffer was refused.
-fn refused<'a>(slots: &Slots<u64, &'a Budget<Global>>, right: Blank) -> Option<Blank>
+fn refused<'a>(slots: &Slots<u64, &'a Budget<Global>>, right: WriteRight) -> Option<WriteRight>
     requires { (right.of ≡ slice_index_or slots.now 0 0) × (length slots.now ≡ 31) }
     ensures { IfSome result (λ r. r.of ≡ right.of) }
 {
     match slots.open(0, right) {
         Err(right) => Some(right),
-        Ok((row, rights)) => {
-            row.unused();
-            rights.unused();
+        Ok((opened, rights)) => {
+            opened.discard();
+            rights.discard();
             None
         }
     }
 }
 
 /// What the first slot holds once its buffer was opened and 7 written to it.
-fn first_of_opened<'a>(slots: &Slots<u64, &'a Budget<Global>>, right: Blank) -> Option<u64>
+fn first_of_opened<'a>(slots: &Slots<u64, &'a Budget<Global>>, right: WriteRight) -> Option<u64>
     requires { (right.of ≡ slice_index_or slots.now 0 0) × (length slots.now ≡ 31) }
 {
     match slots.open(0, right) {
-        Ok((row, rights)) => {
+        Ok((opened, rights)) => {
             let mut rights = rights;
-            let written = slots.write(0, 0, 7, &row, rights.take());
-            let item = slots.read(0, 0, &row, &written);
-            rights.unused();
-            row.unused();
-            written.unused();
+            let written = slots.write(0, 0, 7, &opened, rights.take());
+            let item = slots.read(0, 0, &opened, &written);
+            rights.discard();
+            opened.discard();
+            written.discard();
             Some(item)
         }
         Err(right) => {
-            right.unused();
+            right.discard();
             None
         }
     }
@@ -46,10 +46,10 @@ fn first_of_opened<'a>(slots: &Slots<u64, &'a Budget<Global>>, right: Blank) -> 
 #[test]
 fn an_open_that_is_refused_and_the_same_open(rt: HostRuntime) -> Result<(), Fail> {
     let budget = Budget::new(rt.alloc());
-    let (slots, mut tops) = Slots::<u64, &Budget<Global>>::new(&budget)?;
+    let (slots, mut further) = Slots::<u64, &Budget<Global>>::new(&budget)?;
     let asked = budget.asked();
-    let right = tops.take();
-    tops.unused();
+    let right = further.take();
+    further.discard();
     budget.refuse_next(1);
     let Some(right) = refused(&slots, right) else {
         panic!(rt; "a request was granted that the budget refuses");
@@ -64,27 +64,27 @@ fn an_open_that_is_refused_and_the_same_open(rt: HostRuntime) -> Result<(), Fail
 /// Evidence of two items, 5 and 6, in the first buffer.
 fn two_items<'a>(
     slots: &Slots<u64, &'a Budget<Global>>,
-    tops: Blanks,
-) -> Option<Told<u64, Row<u64, &'a Budget<Global>>>>
-    requires { (tops.of ≡ slots.now) × (length slots.now ≡ 31) }
-    ensures { IfSome result (λ t. (t.tops ≡ slots.now) × (length t.items ≡ 2)) }
+    further: WriteRights,
+) -> Option<WrittenPrefix<u64, Buffer<u64, &'a Budget<Global>>>>
+    requires { (further.of ≡ slots.now) × (length slots.now ≡ 31) }
+    ensures { IfSome result (λ t. (t.buffer_slots ≡ slots.now) × (length t.items ≡ 2)) }
 {
-    let mut told = Told::none(&tops);
-    let mut tops = tops;
-    let right = tops.take();
-    tops.unused();
+    let mut prefix = WrittenPrefix::none(&further);
+    let mut further = further;
+    let right = further.take();
+    further.discard();
     match slots.open(0, right) {
-        Ok((row, rights)) => {
+        Ok((opened, rights)) => {
             let mut rights = rights;
-            told.add(0, 0, &row, slots.write(0, 0, 5, &row, rights.take()));
-            told.add(0, 1, &row, slots.write(0, 1, 6, &row, rights.take()));
-            rights.unused();
-            row.unused();
-            Some(told)
+            prefix.add(0, 0, &opened, slots.write(0, 0, 5, &opened, rights.take()));
+            prefix.add(0, 1, &opened, slots.write(0, 1, 6, &opened, rights.take()));
+            rights.discard();
+            opened.discard();
+            Some(prefix)
         }
         Err(right) => {
-            right.unused();
-            told.unused();
+            right.discard();
+            prefix.discard();
             None
         }
     }
@@ -93,53 +93,53 @@ fn two_items<'a>(
 /// The second item of a copy of the first two, if the memory was to be had.
 fn second_of_a_copy<'a>(
     slots: &Slots<u64, &'a Budget<Global>>,
-    told: &Told<u64, Row<u64, &'a Budget<Global>>>,
+    prefix: &WrittenPrefix<u64, Buffer<u64, &'a Budget<Global>>>,
 ) -> Option<u64>
-    requires { (told.now.tops ≡ slots.now) × (length told.now.items ≡ 2) }
+    requires { (prefix.now.buffer_slots ≡ slots.now) × (length prefix.now.items ≡ 2) }
 {
     let Ok(
         Copied {
             slots: copy,
-            told: seen,
+            prefix: seen,
             ahead,
         },
-    ) = slots.copy_below(2, told)
+    ) = slots.copy_below(2, prefix)
     else {
         return None;
     };
-    let (row, item) = seen.at(1, 0, 1);
-    let second = copy.read(0, 1, &row, &item);
-    row.unused();
-    item.unused();
-    seen.unused();
+    let (opened, item) = seen.at(1, 0, 1);
+    let second = copy.read(0, 1, &opened, &item);
+    opened.discard();
+    item.discard();
+    seen.discard();
     let Ahead {
-        row,
+        opened,
         slots: rights,
         further,
     } = ahead;
-    if let Some(row) = row {
-        row.unused();
+    if let Some(opened) = opened {
+        opened.discard();
     }
-    rights.unused();
-    further.unused();
+    rights.discard();
+    further.discard();
     Some(second)
 }
 
 #[test]
 fn a_copy_with_each_request_refused(rt: HostRuntime) -> Result<(), Fail> {
     let budget = Budget::new(rt.alloc());
-    let (slots, tops) = Slots::<u64, &Budget<Global>>::new(&budget)?;
-    let Some(told) = two_items(&slots, tops) else {
+    let (slots, further) = Slots::<u64, &Budget<Global>>::new(&budget)?;
+    let Some(prefix) = two_items(&slots, further) else {
         panic!(rt; "a request was refused that the budget allows");
     };
     for refused in 0..2u64 {
         let number = budget.asked().wrapping_add(refused);
         budget.refuse(number, number.wrapping_add(1));
-        assert_eq!(rt; second_of_a_copy(&slots, &told), None, "at {refused}");
+        assert_eq!(rt; second_of_a_copy(&slots, &prefix), None, "at {refused}");
     }
     budget.refuse_next(0);
-    assert_eq!(rt; second_of_a_copy(&slots, &told), Some(6));
-    told.unused();
+    assert_eq!(rt; second_of_a_copy(&slots, &prefix), Some(6));
+    prefix.discard();
     drop(slots);
     assert_eq!(rt; budget.given(), budget.granted());
     Ok(())

@@ -1,4 +1,4 @@
-//! Where the places of a vector lie: in buffers that grow by four, so that no item ever moves.
+//! Where the places of a vector are: in buffers that grow by four, so that no item ever moves.
 //!
 //! Buffer `b` has `3 * 4^b` slots and begins at place `4^b - 1`. The layers above use [`locate`] to find a slot, and that
 //! each place has one slot and each slot one place.
@@ -23,7 +23,7 @@ pub fn prior_total_buffer_size(buffer: usize) -> usize
     (1 << (2 * buffer)) - 1
 }
 
-/// The buffer in which the place lies, always below 31. `O(1)`, without memory.
+/// The buffer of the place, always below 31. `O(1)`, without memory.
 pub fn buffer_index(place: usize) -> usize
     requires { place < 2 ^ 62 - 1 }
     ensures at { IsAt place result (place - slots_before result) }
@@ -33,7 +33,7 @@ pub fn buffer_index(place: usize) -> usize
     ((65 - (place + 1).leading_zeros()) / 2 - 1) as usize
 }
 
-/// The buffer in which the place lies, and its slot there, counted from 0: each place has one slot, and each slot one
+/// The buffer of the place, and its slot there, counted from 0: each place has one slot, and each slot one
 /// place. `O(1)`, without memory.
 pub fn locate(place: usize) -> (usize, usize)
     requires { place < 2 ^ 62 - 1 }

@@ -1,7 +1,7 @@
 //! A machine that runs pushers, readers and cloners of one vector over any schedule, one turn after the other.
 //!
 //! Each turn is one step of one thread: an atomic step on the word that holds the length and the lock, or a plain step on
-//! a buffer or a slot. [`run`] answers the world that a schedule leaves, and its contract says what holds of the world of
+//! a buffer or a slot. [`run`] returns the world that a schedule leaves, and its contract says what holds of the world of
 //! every schedule: so it holds at each moment of each run, since every beginning of a schedule is a schedule.
 ghost use Rattle.std.specs.Prelude.{◌≡◌, ℕ, IfOk, take};
 ghost use Rattle.elsa_machine.specs.Machine.{opening_threads, world_of};
@@ -48,7 +48,7 @@ pub enum Event {
 /// What a thread is answered.
 #[derive(Drop, PartialEq, Eq, Debug)]
 pub enum Answer<A: Allocator = Global> {
-    /// The item stands at this place.
+    /// The item is at this place.
     Pushed {
         thread: usize,
         place: usize,
@@ -95,7 +95,7 @@ pub struct World<A: Allocator = Global> {
 /// empty; then each turn does the next step of its thread, one after the other.
 ///
 /// `alloc` gives the memory of the run's own lists. `Err` only where one of them couldn't grow; nothing of the run is left
-/// then, and plans and schedule are untouched. It waits for nobody. `O(turns * writes)` at most, since a read looks for the last write of its place.
+/// then, and plans and schedule are untouched. It never waits. `O(turns * writes)` at most, since a read looks for the last write of its place.
 pub fn run<A: Allocator + Copy>(
     alloc: A,
     plans: &[Plan<A>],

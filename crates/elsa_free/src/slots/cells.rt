@@ -6,7 +6,7 @@ ghost use base.Stored.{coded_list, coded_ℕ};
 ghost use denote.RawPtr.{Ptr};
 ghost use Rattle.elsa_free.specs.Slot.{cells_own, cells_lent, deed_owns};
 
-use super::rights::{Blank, Blanks, Written};
+use super::rights::{WriteRight, WriteRights, Written};
 use std::alloc::{AllocError, Allocator};
 use std::marker::{Model, PhantomData, Send, Sync};
 use std::mem::{align_of, size_of};
@@ -72,9 +72,11 @@ unsafe impl<T, A: Allocator> Sync for Deed<T, A> {}
 pub(super) fn allocate<T, A: Allocator>(
     alloc: &A,
     len: usize,
-) -> Result<(Base<T>, Cells<T>, Deed<T, A>, Blanks), AllocError>
+) -> Result<(Base<T>, Cells<T>, Deed<T, A>, WriteRights), AllocError>
     requires { FitsInBlock T.row len }
-    ensures { IfOk result (λ r. (r.1.at ≡ r.0.ptr) × (length r.1.names ≡ len) × (r.2.at ≡ r.0.ptr) × (r.2.len ≡ len) × (r.2.alloc ≡ alloc.now) × (r.3.of ≡ r.1.names)) }
+    ensures { IfOk result (λ r.
+        (r.1.at ≡ r.0.ptr) × (length r.1.names ≡ len) × (r.2.at ≡ r.0.ptr) × (r.2.len ≡ len)
+        × (r.2.alloc ≡ alloc.now) × (r.3.of ≡ r.1.names)) }
 {
     match alloc.allocate(len * size_of::<T>(), align_of::<T>()) {
         Ok(block) => {
@@ -85,7 +87,7 @@ pub(super) fn allocate<T, A: Allocator>(
                 base,
                 Cells { mark: PhantomData },
                 Deed { mark: PhantomData },
-                Blanks {
+                WriteRights {
                     marker: PhantomData,
                 },
             ))
@@ -94,7 +96,7 @@ pub(super) fn allocate<T, A: Allocator>(
     }
 }
 
-/// Gives the block back. What its slots hold is let go.
+/// Gives the block back. What its slots hold is forgotten.
 pub(super) fn deallocate<T, A: Allocator>(
     alloc: &A,
     base: Base<T>,
@@ -102,7 +104,8 @@ pub(super) fn deallocate<T, A: Allocator>(
     cells: Cells<T>,
     deed: Deed<T, A>,
 )
-    requires { (cells.at ≡ base.ptr) × (length cells.names ≡ len) × (deed.at ≡ base.ptr) × (deed.len ≡ len) × (deed.alloc ≡ alloc.now) }
+    requires { (cells.at ≡ base.ptr) × (length cells.names ≡ len) × (deed.at ≡ base.ptr)
+        × (deed.len ≡ len) × (deed.alloc ≡ alloc.now) }
 {
     let Cells { mark: _ } = cells;
     let Deed { mark: _ } = deed;
@@ -113,11 +116,18 @@ pub(super) fn deallocate<T, A: Allocator>(
 
 impl<T> Cells<T> {
     /// Writes a slot, and spends the right to.
-    pub(super) fn write(&self, base: Base<T>, index: usize, item: T, right: Blank) -> Written<T>
-        requires { (base.ptr ≡ self.now.at) × (index < length self.now.names) × (right.of ≡ slice_index_or self.now.names index 0) }
+    pub(super) fn write(
+        &self,
+        base: Base<T>,
+        index: usize,
+        item: T,
+        right: WriteRight,
+    ) -> Written<T>
+        requires { (base.ptr ≡ self.now.at) × (index < length self.now.names)
+            × (right.of ≡ slice_index_or self.now.names index 0) }
         ensures { (result.of ≡ slice_index_or self.now.names index 0) × (result.value ≡ item) }
     {
-        let Blank { marker: _ } = right;
+        let WriteRight { marker: _ } = right;
         unsafe {
             base.ptr.add(index).write(item);
             Written {
@@ -126,9 +136,10 @@ impl<T> Cells<T> {
         }
     }
 
-    /// What a slot holds, for whoever shows that it was written.
+    /// What a slot holds, given evidence that it was written.
     pub(super) fn get<'a>(&'a self, base: Base<T>, index: usize, written: &Written<T>) -> &'a T
-        requires { (base.ptr ≡ self.now.at) × (index < length self.now.names) × (written.now.of ≡ slice_index_or self.now.names index 0) }
+        requires { (base.ptr ≡ self.now.at) × (index < length self.now.names)
+            × (written.now.of ≡ slice_index_or self.now.names index 0) }
         ensures { result.now ≡ written.now.value }
     {
         unsafe { &*base.ptr.add(index) }

@@ -3,9 +3,9 @@ ghost use Rattle.std.specs.Prelude.{◌≡◌, ◌+◌, ◌^◌, ◌<◌, ◌≤
 ghost use Rattle.elsa_free.specs.Ahead.{GoesOn};
 ghost use Rattle.elsa_machine.specs.Geometry.{IsAt, size_of, slots_before};
 
-use super::rights::{Blank, Blanks, Written};
-use super::row::Row;
-use super::told::Told;
+use super::buffer::Buffer;
+use super::rights::{WriteRight, WriteRights, Written};
+use super::written_prefix::WrittenPrefix;
 use super::{BUFFERS, Slots};
 use elsa_machine::geometry::{buffer_size, locate, prior_total_buffer_size};
 use std::alloc::{AllocError, Allocator, Global};
@@ -13,7 +13,7 @@ use std::alloc::{AllocError, Allocator, Global};
 /// How many places there are: all slots of all buffers.
 const PLACES: usize = (1 << 62) - 1;
 
-/// How many buffers lie wholly below the place `n`, and in which slot of the next one it lies.
+/// How many buffers are wholly below the place `n`, and in which slot of the next one it is.
 fn whole_buffers(n: usize) -> (usize, usize)
     requires { n < 2 ^ 62 }
     ensures at { IsAt n result.0 result.1 }
@@ -23,49 +23,56 @@ fn whole_buffers(n: usize) -> (usize, usize)
     if n < PLACES { locate(n) } else { (BUFFERS, 0) }
 }
 
-/// How a list goes on behind the places that were copied: where the next place lies in an open buffer, the evidence of that
-/// buffer and the rights to its further slots; and the rights to open the further buffers.
+/// What it takes to append behind the copied places: if the next place is in an open buffer, the evidence of that buffer and
+/// the rights to its further slots; and the rights to open the further buffers.
 pub struct Ahead<T, A: Allocator = Global> {
-    pub row: Option<Written<Row<T, A>>>,
-    pub slots: Blanks,
-    pub further: Blanks,
+    pub opened: Option<Written<Buffer<T, A>>>,
+    pub slots: WriteRights,
+    pub further: WriteRights,
 }
 
-/// A copy of the first places, the evidence that they were written, and the rights to go on behind them.
+/// A copy of the first places, the evidence that they were written, and the rights to append behind them.
 pub struct Copied<T, A: Allocator = Global> {
     pub slots: Slots<T, A>,
-    pub told: Told<T, Row<T, A>>,
+    pub prefix: WrittenPrefix<T, Buffer<T, A>>,
     pub ahead: Ahead<T, A>,
 }
 
 impl<T: Copy, A: Allocator + Copy> Slots<T, A> {
-    /// Copies the first `count` slots of a buffer into a row.
+    /// Copies the first `count` slots of a buffer into another.
     fn copy_slots(
         &self,
         buffer: usize,
         count: usize,
-        told: &Told<T, Row<T, A>>,
-        row: &Row<T, A>,
-        seen: &Written<Row<T, A>>,
-        rights: &mut Blanks,
-        copied: &mut Told<T, Row<T, A>>,
+        prefix: &WrittenPrefix<T, Buffer<T, A>>,
+        into: &Buffer<T, A>,
+        opened: &Written<Buffer<T, A>>,
+        rights: &mut WriteRights,
+        copied: &mut WrittenPrefix<T, Buffer<T, A>>,
     )
         requires buffer { (buffer < 31) × (count ≤ size_of buffer) }
-        requires from { (told.now.tops ≡ self.now) × (slots_before buffer + count ≤ length told.now.items) }
-        requires row { (row.now ≡ seen.now.value) × (length seen.now.value ≡ size_of buffer) × (seen.now.of ≡ slice_index_or copied.old.tops buffer 0) }
-        requires rights { rights.old.of ≡ row.now }
-        requires copied { copied.old.items ≡ take (slots_before buffer) told.now.items }
-        ensures copied { (copied.new.tops ≡ copied.old.tops) × (copied.new.items ≡ take (slots_before buffer + count) told.now.items) }
-        ensures left { rights.new.of ≡ drop count row.now }
+
+        // The places that are copied were written; the target is open, with the rights to its slots.
+        requires from { (prefix.now.buffer_slots ≡ self.now)
+            × (slots_before buffer + count ≤ length prefix.now.items) }
+        requires into { (into.now ≡ opened.now.value) × (length opened.now.value ≡ size_of buffer)
+            × (opened.now.of ≡ slice_index_or copied.old.buffer_slots buffer 0) }
+        requires rights { rights.old.of ≡ into.now }
+
+        // The copied places are those before the buffer, and then those of it too.
+        requires copied { copied.old.items ≡ take (slots_before buffer) prefix.now.items }
+        ensures copied { (copied.new.buffer_slots ≡ copied.old.buffer_slots)
+            × (copied.new.items ≡ take (slots_before buffer + count) prefix.now.items) }
+        ensures left { rights.new.of ≡ drop count into.now }
     {
         let begin = prior_total_buffer_size(buffer);
         for slot in 0..count {
-            let (source, item) = told.at(begin + slot, buffer, slot);
+            let (source, item) = prefix.at(begin + slot, buffer, slot);
             let value = self.read(buffer, slot, &source, &item);
-            source.unused();
-            item.unused();
-            let written = row.write(slot, value, rights.take());
-            copied.add(buffer, slot, seen, written);
+            source.discard();
+            item.discard();
+            let written = into.write(slot, value, rights.take());
+            copied.add(buffer, slot, opened, written);
         }
     }
 
@@ -74,29 +81,37 @@ impl<T: Copy, A: Allocator + Copy> Slots<T, A> {
         &self,
         buffer: usize,
         count: usize,
-        told: &Told<T, Row<T, A>>,
+        prefix: &WrittenPrefix<T, Buffer<T, A>>,
         target: &Slots<T, A>,
-        right: Blank,
-        copied: &mut Told<T, Row<T, A>>,
-    ) -> Result<(Written<Row<T, A>>, Blanks), AllocError>
+        right: WriteRight,
+        copied: &mut WrittenPrefix<T, Buffer<T, A>>,
+    ) -> Result<(Written<Buffer<T, A>>, WriteRights), AllocError>
         requires buffer { (buffer < 31) × (count ≤ size_of buffer) }
-        requires from { (told.now.tops ≡ self.now) × (slots_before buffer + count ≤ length told.now.items) }
-        requires to { (right.of ≡ slice_index_or target.now buffer 0) × (copied.old.tops ≡ target.now) }
-        requires copied { copied.old.items ≡ take (slots_before buffer) told.now.items }
-        ensures same { copied.new.tops ≡ copied.old.tops }
-        ensures copied { IfOk result (λ r. copied.new.items ≡ take (slots_before buffer + count) told.now.items) }
-        ensures row { IfOk result (λ r. (r.0.of ≡ slice_index_or target.now buffer 0) × (length r.0.value ≡ size_of buffer)) }
+
+        // The places that are copied were written; the right opens the target's buffer.
+        requires from { (prefix.now.buffer_slots ≡ self.now)
+            × (slots_before buffer + count ≤ length prefix.now.items) }
+        requires to { (right.of ≡ slice_index_or target.now buffer 0)
+            × (copied.old.buffer_slots ≡ target.now) }
+        requires copied { copied.old.items ≡ take (slots_before buffer) prefix.now.items }
+
+        // The copied places are those of the buffer too; the rest of its slots can be written.
+        ensures same { copied.new.buffer_slots ≡ copied.old.buffer_slots }
+        ensures copied { IfOk result (λ r.
+            copied.new.items ≡ take (slots_before buffer + count) prefix.now.items) }
+        ensures opened { IfOk result (λ r.
+            (r.0.of ≡ slice_index_or target.now buffer 0) × (length r.0.value ≡ size_of buffer)) }
         ensures left { IfOk result (λ r. r.1.of ≡ drop count r.0.value) }
     {
         match target.open(buffer, right) {
-            Ok((seen, rights)) => {
+            Ok((opened, rights)) => {
                 let mut rights = rights;
-                let row = target.row_at(buffer, &seen);
-                self.copy_slots(buffer, count, told, row, &seen, &mut rights, copied);
-                Ok((seen, rights))
+                let into = target.buffer_at(buffer, &opened);
+                self.copy_slots(buffer, count, prefix, into, &opened, &mut rights, copied);
+                Ok((opened, rights))
             }
             Err(right) => {
-                right.unused();
+                right.discard();
                 Err(AllocError)
             }
         }
@@ -107,76 +122,90 @@ impl<T: Copy, A: Allocator + Copy> Slots<T, A> {
     fn copy_to(
         &self,
         n: usize,
-        told: &Told<T, Row<T, A>>,
+        prefix: &WrittenPrefix<T, Buffer<T, A>>,
         target: &Slots<T, A>,
-        tops: Blanks,
-    ) -> Result<(Told<T, Row<T, A>>, Ahead<T, A>), AllocError>
+        further: WriteRights,
+    ) -> Result<(WrittenPrefix<T, Buffer<T, A>>, Ahead<T, A>), AllocError>
         requires limit { n < 2 ^ 62 }
-        requires written { (told.now.tops ≡ self.now) × (n ≤ length told.now.items) }
-        requires target { (tops.of ≡ target.now) × (length target.now ≡ 31) }
-        ensures copied { IfOk result (λ r. (r.0.tops ≡ target.now) × (r.0.items ≡ take n told.now.items)) }
-        ensures ahead { IfOk result (λ r. GoesOn target.now n r.1.row r.1.slots.of r.1.further.of) }
+        requires written { (prefix.now.buffer_slots ≡ self.now) × (n ≤ length prefix.now.items) }
+        requires target { (further.of ≡ target.now) × (length target.now ≡ 31) }
+        ensures copied { IfOk result (λ r.
+            (r.0.buffer_slots ≡ target.now) × (r.0.items ≡ take n prefix.now.items)) }
+        ensures ahead { IfOk result (λ r.
+            GoesOn target.now n r.1.opened r.1.slots.of r.1.further.of) }
     {
         let (whole, left) = whole_buffers(n);
-        let mut copied = Told::none(&tops);
-        let mut further = tops;
+        let mut copied = WrittenPrefix::none(&further);
+        let mut further = further;
         for buffer in 0..whole {
             let right = further.take();
             let count = buffer_size(buffer);
-            let Ok((row, slots)) = self.copy_buffer(buffer, count, told, target, right, &mut copied)
-            else {
-                further.unused();
-                copied.unused();
+            let Ok((opened, slots)) = self.copy_buffer(
+                buffer,
+                count,
+                prefix,
+                target,
+                right,
+                &mut copied,
+            ) else {
+                further.discard();
+                copied.discard();
                 return Err(AllocError);
             };
-            row.unused();
-            slots.unused();
+            opened.discard();
+            slots.discard();
         }
         if left == 0 {
-            let slots = Blanks::none();
-            let row = None;
+            let slots = WriteRights::none();
+            let opened = None;
             return Ok((
                 copied,
                 Ahead {
-                    row,
+                    opened,
                     slots,
                     further,
                 },
             ));
         }
         let right = further.take();
-        let Ok((row, slots)) = self.copy_buffer(whole, left, told, target, right, &mut copied)
+        let Ok((opened, slots)) = self.copy_buffer(whole, left, prefix, target, right, &mut copied)
         else {
-            further.unused();
-            copied.unused();
+            further.discard();
+            copied.discard();
             return Err(AllocError);
         };
-        let row = Some(row);
+        let opened = Some(opened);
         Ok((
             copied,
             Ahead {
-                row,
+                opened,
                 slots,
                 further,
             },
         ))
     }
 
-    /// A copy of the places below `n`, in buffers of its own. Every place below `n` was written, as `told` shows; no place
+    /// A copy of the places below `n`, in buffers of its own. Every place below `n` was written, as `prefix` shows; no place
     /// from `n` on is read. Takes memory for the buffers that these places need; on Err what was opened is given back.
     /// Takes no lock. One copy for each place.
     pub fn copy_below(
         &self,
         n: usize,
-        told: &Told<T, Row<T, A>>,
+        prefix: &WrittenPrefix<T, Buffer<T, A>>,
     ) -> Result<Copied<T, A>, AllocError>
         requires limit { n < 2 ^ 62 }
-        requires written { (told.now.tops ≡ self.now) × (n ≤ length told.now.items) }
-        ensures copied { IfOk result (λ c. (c.told.tops ≡ c.slots) × (c.told.items ≡ take n told.now.items)) }
-        ensures ahead { IfOk result (λ c. GoesOn c.slots n c.ahead.row c.ahead.slots.of c.ahead.further.of) }
+        requires written { (prefix.now.buffer_slots ≡ self.now) × (n ≤ length prefix.now.items) }
+        ensures copied { IfOk result (λ c.
+            (c.prefix.buffer_slots ≡ c.slots) × (c.prefix.items ≡ take n prefix.now.items)) }
+        ensures ahead { IfOk result (λ c.
+            GoesOn c.slots n c.ahead.opened c.ahead.slots.of c.ahead.further.of) }
     {
-        let (slots, tops) = Slots::new(self.alloc)?;
-        let (told, ahead) = self.copy_to(n, told, &slots, tops)?;
-        Ok(Copied { slots, told, ahead })
+        let (slots, further) = Slots::new(self.alloc)?;
+        let (prefix, ahead) = self.copy_to(n, prefix, &slots, further)?;
+        Ok(Copied {
+            slots,
+            prefix,
+            ahead,
+        })
     }
 }

@@ -2,28 +2,28 @@
 ghost use Rattle.std.specs.Prelude.{◌≡◌, ◌<◌, ℕ, List, [], ◌∷◌, ◌++◌, length};
 ghost use base.Stored.{coded_list, coded_ℕ};
 ghost use denote.Sharing.{said};
-ghost use Rattle.elsa_free.specs.Slot.{blank, blanks, written};
+ghost use Rattle.elsa_free.specs.Slot.{write_right, write_rights, written};
 
 use std::marker::{Model, PhantomData};
 
 /// The right to write the slot `of`, once. It has no bytes.
-pub struct Blank {
+pub struct WriteRight {
     pub(crate) marker: PhantomData<()>,
     pub ghost of: { ℕ },
 }
 
-impl Model for Blank {
-    ghost also_owns = { λ b. blank b.of };
+impl Model for WriteRight {
+    ghost also_owns = { λ b. write_right b.of };
 }
 
 /// The rights to write the slots `of`, in their order. They have no bytes.
-pub struct Blanks {
+pub struct WriteRights {
     pub(crate) marker: PhantomData<()>,
     pub ghost of: { List ℕ } by { coded_list coded_ℕ },
 }
 
-impl Model for Blanks {
-    ghost also_owns = { λ b. blanks b.of };
+impl Model for WriteRights {
+    ghost also_owns = { λ b. write_rights b.of };
 }
 
 /// Evidence, for good, that the slot `of` holds `value`. It has no bytes.
@@ -39,42 +39,42 @@ impl<T> Model for Written<T> {
     ghost also_shares = { λ w _ κ. said (written T.row w.of w.value) κ };
 }
 
-impl Blank {
-    /// Gives the right up: the slot will never be written.
-    pub fn unused(self) {
+impl WriteRight {
+    /// Discards the right: the slot will never be written.
+    pub fn discard(self) {
         let Self { marker: _ } = self;
     }
 }
 
-impl Blanks {
+impl WriteRights {
     /// The rights to no slot.
-    pub fn none() -> Blanks
+    pub fn none() -> WriteRights
         ensures { result.of ≡ [] }
     {
-        Blanks {
+        WriteRights {
             marker: PhantomData,
         }
     }
 
-    /// Puts a right behind these.
-    pub fn add(&mut self, one: Blank)
+    /// Adds a right at the end.
+    pub fn add(&mut self, one: WriteRight)
         ensures { self.new.of ≡ self.old.of ++ one.of ∷ [] }
     {
-        let Blank { marker: _ } = one;
+        let WriteRight { marker: _ } = one;
     }
 
     /// Takes the first right.
-    pub fn take(&mut self) -> Blank
+    pub fn take(&mut self) -> WriteRight
         requires { 0 < length self.old.of }
         ensures { self.old.of ≡ result.of ∷ self.new.of }
     {
-        Blank {
+        WriteRight {
             marker: PhantomData,
         }
     }
 
-    /// Gives the rights up: their slots will never be written.
-    pub fn unused(self) {
+    /// Discards the rights: their slots will never be written.
+    pub fn discard(self) {
         let Self { marker: _ } = self;
     }
 }
@@ -89,15 +89,15 @@ impl<T> Written<T> {
         }
     }
 
-    /// Lets the evidence go.
-    pub fn unused(self) {
+    /// Discards the evidence.
+    pub fn discard(self) {
         let Self { marker: _ } = self;
     }
 }
 
-unsafe impl Send for Blank {}
+unsafe impl Send for WriteRight {}
 
-unsafe impl Send for Blanks {}
+unsafe impl Send for WriteRights {}
 
 unsafe impl<T> Send for Written<T> {}
 

@@ -4,7 +4,7 @@ ghost use base.Fml.{fsep, fex};
 ghost use base.Stored.{coded_ℕ};
 ghost use Rattle.elsa_free.specs.Slot.{Rest, resting, tagged_shared};
 
-use super::rights::{Blank, Written};
+use super::rights::{WriteRight, Written};
 use std::marker::{Model, Move, Owns, PhantomData};
 use std::mem::align_of;
 
@@ -27,23 +27,23 @@ impl<T> Move for Slot<T> {
 
 impl<T> Slot<T> {
     /// An empty slot, and the right to write it.
-    pub fn new() -> (Slot<T>, Blank)
+    pub fn new() -> (Slot<T>, WriteRight)
         ensures { result.1.of ≡ result.0 }
     {
         (
             Slot { value: None },
-            Blank {
+            WriteRight {
                 marker: PhantomData,
             },
         )
     }
 
     /// Writes the slot, and spends the right to.
-    pub fn write(&self, value: T, right: Blank) -> Written<T>
+    pub fn write(&self, value: T, right: WriteRight) -> Written<T>
         requires { right.of ≡ self.now }
         ensures { (result.of ≡ self.now) × (result.value ≡ value) }
     {
-        let Blank { marker: _ } = right;
+        let WriteRight { marker: _ } = right;
         let slot = self as *const Slot<T>;
         unsafe {
             std::ptr::write(&raw const (*slot).value as *mut Option<T>, Some(value));
@@ -53,13 +53,13 @@ impl<T> Slot<T> {
         }
     }
 
-    /// The value, for whoever shows that there is one.
+    /// The value, given evidence that there is one.
     pub fn value<'a>(&'a self, written: &Written<T>) -> &'a T
         requires { written.now.of ≡ self.now }
         ensures { result.now ≡ written.now.value }
     {
         let slot = self as *const Slot<T>;
-        // An `Option`'s tag is its first byte, so its value lies its own alignment further on. The tag isn't read.
+        // An `Option`'s tag is its first byte, so its value is its own alignment further on. The tag isn't read.
         unsafe { &*((&raw const (*slot).value as *const u8).add(align_of::<T>()) as *const T) }
     }
 

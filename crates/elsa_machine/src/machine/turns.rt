@@ -9,7 +9,7 @@ use crate::geometry::prior_total_buffer_size;
 use crate::machine::{Answer, Event, Items, Plan, Turn, World};
 use std::alloc::{AllocError, Allocator};
 
-/// Where a thread stands with its next item, index or clone. The lengths and places count items.
+/// Where a thread is with its next item, index or clone. The lengths and places count items.
 #[derive(Clone, Copy)]
 pub enum Phase {
     /// Nothing of it is done.
@@ -62,7 +62,8 @@ impl<A: Allocator + Copy> World<A> {
         requires buffers { self.old.opened < 32 }
         requires written { CanPublish thread.old.phase }
         requires counted { IsSome next → thread.old.next < 2 ^ 64 - 1 }
-        ensures { OnOk result (moved self.new thread.new ≡ pusher_turn me memory next self.old thread.old thread.old.phase) }
+        ensures { OnOk result (moved self.new thread.new ≡
+            pusher_turn me memory next self.old thread.old thread.old.phase) }
     {
         let Some(item) = next else {
             return Ok(());
@@ -120,7 +121,8 @@ impl<A: Allocator + Copy> World<A> {
         thread: &mut Thread<A>,
     ) -> Result<(), AllocError>
         requires counted { IsSome next → thread.old.next < 2 ^ 64 - 1 }
-        ensures { OnOk result (moved self.new thread.new ≡ reader_turn me next self.old thread.old thread.old.phase) }
+        ensures { OnOk result (moved self.new thread.new ≡
+            reader_turn me next self.old thread.old thread.old.phase) }
     {
         let Some(index) = next else {
             return Ok(());
@@ -164,7 +166,8 @@ impl<A: Allocator + Copy> World<A> {
         memory: bool,
         thread: &mut Thread<A>,
     ) -> Result<(), AllocError>
-        ensures { OnOk result (moved self.new thread.new ≡ cloner_turn me memory self.old thread.old thread.old.phase) }
+        ensures { OnOk result (moved self.new thread.new ≡
+            cloner_turn me memory self.old thread.old thread.old.phase) }
     {
         match thread.phase {
             Phase::Ready => {
@@ -210,7 +213,8 @@ impl<A: Allocator + Copy> World<A> {
     ) -> Result<(), AllocError>
         requires buffers { self.old.opened < 32 }
         requires written { CanPublish thread.old.phase }
-        ensures { OnOk result (moved self.new thread.new ≡ thread_turn plan.now turn.thread turn.memory self.old thread.old) }
+        ensures { OnOk result (moved self.new thread.new ≡
+            thread_turn plan.now turn.thread turn.memory self.old thread.old) }
     {
         match plan {
             Plan::Pusher(items) => {
@@ -236,7 +240,8 @@ pub fn turn<A: Allocator + Copy>(
 ) -> Result<(), AllocError>
     requires buffers { world.old.opened < 32 }
     requires written { All (λ t. CanPublish t.phase) threads.old }
-    ensures { OnOk result (machine world.new threads.new ≡ turned plans.now (machine world.old threads.old) turn) }
+    ensures { OnOk result (machine world.new threads.new ≡
+        turned plans.now (machine world.old threads.old) turn) }
 {
     if turn.thread < plans.len() && turn.thread < threads.len() {
         world.thread_turn(alloc, &plans[turn.thread], turn, &mut threads[turn.thread])

@@ -1,5 +1,5 @@
-use Rattle.std.proofs.Common.{◌+◌, ◌<◌, Fits, w64, arith}
-use Rattle.elsa_free.proofs.Walks.{openable}
+use Rattle.std.proofs.Common.{arith}
+use Rattle.elsa_free.proofs.ListLemmas.Walks.{openable}
 use Rattle.elsa_free.proofs.iter.Position.next_buffer.Goals as goal
 
 pub overflow_add-result : goal.overflow_add-result

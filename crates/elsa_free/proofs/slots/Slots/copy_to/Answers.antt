@@ -1,6 +1,6 @@
 use Rattle.std.proofs.Common.{◌≡◌, suc, ◌+◌, ◌<◌, drop, take, length, sym, ap, ◌∙◌, arith}
-use Rattle.elsa_machine.specs.Geometry.{size_of, slots_before}
-use Rattle.elsa_free.proofs.CopyPlaces.{whole_below, behind, other_rights}
+use Rattle.elsa_machine.specs.Geometry.{slots_before}
+use Rattle.elsa_free.proofs.ListLemmas.Copies.{whole_below, behind, other_rights}
 use Rattle.elsa_free.proofs.slots.Slots.copy_to.Goals as goal
 
 pub copy_buffer-requires-clause-from : goal.copy_buffer-requires-clause-from
@@ -12,7 +12,7 @@ pub returns-then-left-eq0-clause-copied : goal.returns-then-left-eq0-clause-copi
 returns-then-left-eq0-clause-copied g c =
     let w = c.whole_buffers-whole in let all = behind c.args.n w.result.0 w.result.1 w.ensures.at in let low = c.loop-buffer.auto.buffer-end in let high = c.loop-buffer-test.false in let none = c.if-left-eq0.true in
     let last : c.loop-buffer.buffer ≡ w.result.0 = omega (arith, low, high) in let begin = ap slots_before last in let n : slots_before c.loop-buffer.buffer ≡ c.args.n = omega (arith, all, begin, none) in
-    (c.loop-buffer.invariant.0, c.loop-buffer.invariant.1 ∙ ap (λ k. take k c.args.told.now.items) n)
+    (c.loop-buffer.invariant.0, c.loop-buffer.invariant.1 ∙ ap (λ k. take k c.args.prefix.now.items) n)
 
 pub copy_buffer-requires-2-clause-from : goal.copy_buffer-requires-2-clause-from
 copy_buffer-requires-2-clause-from g c =
@@ -22,7 +22,7 @@ copy_buffer-requires-2-clause-from g c =
 pub returns-clause-copied : goal.returns-clause-copied
 returns-clause-copied g c =
     let w = c.whole_buffers-whole in let all = behind c.args.n w.result.0 w.result.1 w.ensures.at in
-    (c.copy_buffer-2.ensures.same ∙ c.loop-buffer.invariant.0, c.in-Ok-copy_buffer.ensures.copied ∙ ap (λ k. take k c.args.told.now.items) all)
+    (c.copy_buffer-2.ensures.same ∙ c.loop-buffer.invariant.0, c.in-Ok-copy_buffer.ensures.copied ∙ ap (λ k. take k c.args.prefix.now.items) all)
 
 pub returns-clause-ahead : goal.returns-clause-ahead
 returns-clause-ahead g c =
@@ -35,8 +35,8 @@ returns-clause-ahead g c =
       slot = w.result.1;
       place = w.ensures.at;
       later = later;
-      evidence = c.in-Ok-copy_buffer.ensures.row.0;
-      whole = c.in-Ok-copy_buffer.ensures.row.1;
+      evidence = c.in-Ok-copy_buffer.ensures.opened.0;
+      whole = c.in-Ok-copy_buffer.ensures.opened.1;
       left = c.in-Ok-copy_buffer.ensures.left;
       rights = rest ∙ ap (λ k. drop k c.args.target.now) (let z : w.result.0 + 1 ≡ suc w.result.0 = omega arith in z);
     }

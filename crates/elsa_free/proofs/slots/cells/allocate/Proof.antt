@@ -43,11 +43,10 @@ use types.Run.{bin}
 use denote.Builtin.{usize}
 use Rattle.core.proofs.mem.Param.{El, R, elτ}
 use Rattle.std_alloc.proofs.RawLayout.{as_written}
-use Rattle.elsa_free.specs.Slot.{blanks, slots}
-use Rattle.elsa_free.specs.contracts.slots.rights.Blanks as Blanks
-use Rattle.elsa_free.proofs.SlotTokens.{blanks_made}
+use Rattle.elsa_free.specs.contracts.slots.rights.WriteRights as WriteRights
+use Rattle.elsa_free.proofs.SlotLemmas.Tokens.{rights_made}
 use Rattle.circular_buffer.proofs.Memory.{word_made}
-use Rattle.elsa_free.proofs.CellMemory.{Cr, Bs, Mark, sz, mark, mark_made, four_val, four_of, Opened, Fresh, made_free}
+use Rattle.elsa_free.proofs.SlotLemmas.Memory.{Cr, Bs, Mark, sz, mark, mark_made, four_val, four_of, Fresh, made_free}
 use base.Fml.{Incl-trans}
 use mir.Syntax.{ty_array}
 use prog.Memory.{Memory, align, capped}
@@ -99,7 +98,7 @@ module _ (E : El) (Z : Al) where
   stayed = (stay_dropped (RefOf (0 ∷ []) tt (plain (λ _. P E Z)) (λ _. tt)) yes, (stay_dropped (plain (λ _. usize)) yes, tt))
 
   abbrev Four : RattleType
-  Four = Tuple (Bs E ∷ Cr E ∷ Dd ∷ Blanks.the_row ∷ [])
+  Four = Tuple (Bs E ∷ Cr E ∷ Dd ∷ WriteRights.the_row ∷ [])
 
   abbrev Out : RattleType
   Out = RS.the_row Four AE.the_row
@@ -163,12 +162,12 @@ module _ (E : El) (Z : Al) {M : Type 1} {𝓤 : Ura M} (𝓛 : Logic 𝓤) (at_m
       move ! (1 ∷ []) $ use0 𝓛 (‵ ((Mark E).own_val (tt, tt) (mark ∷ []))) (mark_made E 𝓛) $ fjoin ! $ move ! (1 ∷ []) $
       as_written ! (ty_array (elτ E) len) b o $ use1 𝓛 (later (‵ (Fresh E 𝓛 b len o))) (made_free E 𝓛 b len o) $ await ! tt $ fpick ! (λ γs. fsplit3 ! $ fpick ! (λ long. drop ! $
       let cells : (Cr E).Denot = record { mark = record {}; at = p; names = γs } in
-      let rights : Blanks.the_row.Denot = record { marker = record {}; of = γs } in
+      let rights : WriteRights.the_row.Denot = record { marker = record {}; of = γs } in
       -- [the rights; the slots; the deed; the token; the others]
-      use1 𝓛 (‵ (Blanks.the_row.own_val rights (mark ∷ []))) (blanks_made 𝓛 γs) $ move ! (1 ∷ []) $
+      use1 𝓛 (‵ (WriteRights.the_row.own_val rights (mark ∷ []))) (rights_made 𝓛 γs) $ move ! (1 ∷ []) $
       flt_i ! (length γs * s) (2 ^ 63) (subst (λ k. k * s < 2 ^ 63) (sym long) small) $ fjoin ! $
       use0 𝓛 (‵ ((Mark E).own_val (tt, tt) (mark ∷ []))) (mark_made E 𝓛) $ fjoin ! $ word_made ! p $ move ! (3 ∷ 2 ∷ []) $ join ! $ move ! (1 ∷ 2 ∷ 0 ∷ []) $
-      use3 𝓛 (‵ ((Four E Z).own_val (base, cells, deed, rights) (made ∷ []))) (four_of 𝓛 (Bs E) (Cr E) (Dd E Z) Blanks.the_row base cells deed rights (word p) mark mark mark) $
+      use3 𝓛 (‵ ((Four E Z).own_val (base, cells, deed, rights) (made ∷ []))) (four_of 𝓛 (Bs E) (Cr E) (Dd E Z) WriteRights.the_row base cells deed rights (word p) mark mark mark) $
       use1 𝓛 (‵ ((Out E Z).own_val (Ok (base, cells, deed, rights)) (live 0 (vcons made vnil) ∷ []))) (ok_of 𝓛 (Four E Z) AE.the_row (base, cells, deed, rights) made) $
       returns ! (look_at ! 0 refl) $ free_all ! refl $ keep ! (0 ∷ 1 ∷ 2 ∷ []) $ by ! (exits (Ok (base, cells, deed, rights)) (live 0 (vcons made vnil)) (refl, long, refl, refl, refl, refl)))))
       (λ e.

@@ -41,7 +41,7 @@ use Rattle.core.proofs.mem.Param.{El, R, elτ}
 use Rattle.std_alloc.proofs.RawLayout.{as_raw}
 use Rattle.elsa_free.specs.Slot.{cells_own, deed_owns}
 use Rattle.circular_buffer.proofs.Memory.{word_had}
-use Rattle.elsa_free.proofs.CellMemory.{Cr, Bs, sz, mark, mark_had, to_room}
+use Rattle.elsa_free.proofs.SlotLemmas.Memory.{Cr, Bs, sz, mark, mark_had, to_room}
 use base.Fml.{Incl-trans}
 use lib.Dec.{T}
 use lib.ListN.{length}

@@ -2,8 +2,8 @@
 use Rattle.std.proofs.Common.{ℕ, ◌+◌, List, [], ◌∷◌, ◌++◌}
 use Rattle.std.specs.Mem.{type_size}
 use seplogic.Ra.Ura.{Ura}
-use base.Logic.{ent, sep, wand, all, id⊢}
-use base.Fml.{Lft, GName, Incl, Incl-trans, Fml, ftrue, ffalse, fsep, fex}
+use base.Logic.{ent, sep, wand, all}
+use base.Fml.{Lft, GName, Incl, Incl-trans, Fml, ftrue, ffalse, fsep}
 use contract.BorrowLft.{meet_⊑_left}
 use types.Logic.{Logic, sem}
 use types.Kit.{mean, ‵, raw, ◌⊛◌, some, ◌$◌, ◌∵◌, !, qed, fpick, fpack, show, frame, each, assume, done}
@@ -18,7 +18,7 @@ use denote.Struct.Laws.{field_copy}
 use denote.Struct.Lending.{of_Lends, Lends, Lends-both, Lends-nothing, Lends-said, Lends-false}
 use Rattle.core.specs.contracts.marker.PhantomData as marker
 use Rattle.elsa_free.specs.Slot.{Rest, resting, at_rest, shared, untagged, untagged_lent, slots, slots_lent, fit, cells_own, cells_lent}
-use Rattle.elsa_free.proofs.SlotTurns.{shared_laws, made}
+use Rattle.elsa_free.proofs.SlotLemmas.Life.{shared_laws, made}
 use Rattle.elsa_free.specs.contracts.slots.cells.Cells as C
 use Rattle.elsa_free.proofs.slots.cells.Cells.TheLaw.Statement.{statement}
 

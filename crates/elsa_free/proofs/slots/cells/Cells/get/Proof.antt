@@ -5,23 +5,23 @@ use native.Mathlib.Omega.{arith}
 use mathlib.Core.List.{List, [], ◌∷◌, ◌++◌}
 use lib.ListN.{length, get_or}
 use base.Fraction.{full_share}
-use base.Logic.{SProp, ent, sep, wand, never, emp, id⊢, apply∗}
-use base.Fml.{Lft, Share, Fml, Incl-trans, ftrue, fsep, fat, flft, finv, fbor, froom}
+use base.Logic.{SProp, ent, wand, never, emp, id⊢, apply∗}
+use base.Fml.{Lft, Share, Fml, ftrue, fsep, fat, flft}
 use base.Before.{before}
 use contract.Monad.{fact, fact_i}
 use contract.Running.{tables}
 use contract.Shared.{Lends-one}
-use mir.Syntax.{named, w64}
+use mir.Syntax.{w64}
 use mir.MapTy.{inst_fn}
 use mir.Val.{Val, vptr, vint}
 use prog.Wp.{WpFn}
-use types.Kit.{Item, ⋆, ‵, raw, ◌⊛◌, some, later, at_ret, ◌$◌, ◌∵◌, !, qed, by, move, keep, drop, use0, use1, use2, use3, split, split3, join, fsplit, fsplit3, fjoin, fpick, pick, await, rewrite, feq_i, feq_l, flt_l}
+use types.Kit.{Item, ⋆, ‵, raw, ◌⊛◌, some, later, at_ret, ◌$◌, ◌∵◌, !, qed, by, move, keep, drop, use0, use1, use2, use3, split, join, fsplit, fjoin, fpick, pick, await, rewrite, feq_i, feq_l, flt_l}
 use types.Na.{before_dup}
-use types.Part.{whole, sub, agg}
-use types.Run.{stop, fld, addr, bin, size_lit, of_opd, no_more, and_then, first, blocks, exec, returns, enter, assigns, init}
+use types.Part.{whole, sub}
+use types.Run.{stop, fld, addr, bin, size_lit, of_opd, first, blocks, exec, returns, enter}
 use types.ByLocal.{alloc_all, pass_all, free_all, look_at, get, get_in, take_at, give_at, through, sets, sets_last, env}
 use denote.Exit.{yes, no}
-use denote.RattleType.{RattleType, owns}
+use denote.RattleType.{owns}
 use denote.Memory.{hidden_shr, shared_of}
 use denote.Param.{layout}
 use denote.Param.Laws.{param_laws}
@@ -32,17 +32,15 @@ use denote.Opens.{hide, unhide}
 use denote.Steps.{nothing, heard}
 use denote.Triple.Walked.{Stays, stay_dropped, walk_of, Goes-dropped}
 use Rattle.atomic_table.proofs.Walks.{proved_at, leaves}
-use Rattle.core.proofs.cell.Inside.{Good, one}
-use Rattle.core.proofs.mem.Param.{El, R, args, elτ}
+use Rattle.core.proofs.mem.Param.{El, R, args}
 use Rattle.core.proofs.ptr.Rows.{times_below, one_below}
 use Rattle.std_alloc.proofs.VecSteps.Shapes.{after}
 use Rattle.std_alloc.proofs.RcSteps.{word, word-Good}
-use Rattle.circular_buffer.proofs.Memory.{word_had, value_in}
-use Rattle.elsa_free.specs.Slot.{full, blank, written, memory, lent, cell, untagged, untagged_lent, cells_lent}
-use Rattle.elsa_free.specs.contracts.slots.rights.Blank as Blank
+use Rattle.circular_buffer.proofs.Memory.{word_had}
+use Rattle.elsa_free.specs.Slot.{full, written, lent, cell, untagged, untagged_lent, cells_lent}
 use Rattle.elsa_free.specs.contracts.slots.rights.Written as Written
-use Rattle.elsa_free.proofs.SlotTurns as turns
-use Rattle.elsa_free.proofs.CellMemory.{Cr, Bs, sz, place, One, slot_seen, room_of}
+use Rattle.elsa_free.proofs.SlotLemmas.Life as turns
+use Rattle.elsa_free.proofs.SlotLemmas.Memory.{Cr, Bs, sz, One, slot_seen}
 use Rattle.elsa_free.specs.contracts.slots.cells.Cells.get as F
 use Rattle.elsa_free.specs.contracts.slots.cells.Cells.get.Key.{name as #self}
 use Rattle.elsa_free.proofs.slots.cells.Cells.get.Statement.{statement}

@@ -5,31 +5,30 @@ use native.Mathlib.Omega.{arith}
 use mathlib.Core.List.{List, [], ◌∷◌, ◌++◌}
 use lib.ListN.{length, get_or}
 use base.Fraction.{full_share}
-use base.Logic.{SProp, ent, sep, wand, never, emp, id⊢, apply∗}
-use base.Fml.{Lft, Share, Fml, Incl-trans, ftrue, fsep, fat, flft, finv, fbor, froom}
-use base.Before.{before}
+use base.Logic.{SProp, ent, wand, never, emp, id⊢, apply∗}
+use base.Fml.{Lft, Share, Fml, Incl-trans, ftrue, fat, flft, finv, fbor, froom}
 use contract.BorrowLft.{◌⊑◌, meet_⊑_left, meet_⊑_right}
 use contract.Monad.{fact, fact_i}
 use contract.Running.{tables}
 use contract.Shared.{Lends-one}
-use mir.Syntax.{named, w64}
+use mir.Syntax.{w64}
 use mir.MapTy.{inst_fn}
 use mir.Val.{Val, vptr, vint}
 use prog.Wp.{WpFn}
-use types.Kit.{Item, ⋆, ‵, raw, ◌⊛◌, some, later, at_ret, ◌$◌, ◌∵◌, !, qed, by, move, keep, drop, use0, use1, use2, use3, split, split3, join, fsplit, fsplit3, fjoin, fpick, pick, await, rewrite, feq_i, feq_l, flt_l}
+use types.Kit.{Item, ⋆, ‵, raw, ◌⊛◌, some, later, at_ret, ◌$◌, ◌∵◌, !, qed, by, move, keep, drop, use0, use1, use2, use3, split, split3, join, fsplit, fsplit3, fjoin, fpick, pick, await, rewrite, feq_l, flt_l}
 use types.Mut.{open_ref, close_ref}
 use types.Part.{whole, sub, agg}
-use types.Run.{stop, fld, addr, bin, size_lit, of_opd, no_more, and_then, first, blocks, exec, returns, enter, assigns, init}
+use types.Run.{stop, fld, bin, size_lit, of_opd, no_more, and_then, first, blocks, exec, returns, enter, assigns, init}
 use types.ByLocal.{alloc_all, pass_all, free_all, look_at, get, get_in, take_at, give_at, through, sets, sets_last, env}
 use denote.Exit.{yes, no}
 use denote.RattleType.{RattleType, owns}
-use denote.Memory.{hidden_shr, shared_of}
+use denote.Memory.{hidden_shr}
 use denote.Param.{layout}
 use denote.Param.Laws.{param_laws}
 use denote.RawPtr.{Ptr, in_a_block}
 use denote.Builtin.{RefOf, usize}
 use denote.Signature.{types_at, plain}
-use denote.Opens.{hide, unhide}
+use denote.Opens.{unhide}
 use denote.Steps.{nothing, heard}
 use denote.Triple.Walked.{Stays, stay_dropped, walk_of, Goes-dropped}
 use Rattle.atomic_table.proofs.Walks.{proved_at, leaves}
@@ -39,12 +38,12 @@ use Rattle.core.proofs.ptr.Rows.{times_below, one_below}
 use Rattle.std_alloc.proofs.VecSteps.Shapes.{after}
 use Rattle.std_alloc.proofs.RcSteps.{word, word-Good}
 use Rattle.circular_buffer.proofs.Memory.{word_had, value_in}
-use Rattle.elsa_free.specs.Slot.{full, blank, written, memory, lent, cell, untagged, untagged_lent, cells_lent}
-use Rattle.elsa_free.specs.contracts.slots.rights.Blank as Blank
+use Rattle.elsa_free.specs.Slot.{write_right, written, cell, untagged, untagged_lent, cells_lent}
+use Rattle.elsa_free.specs.contracts.slots.rights.WriteRight as WriteRight
 use Rattle.elsa_free.specs.contracts.slots.rights.Written as Written
-use Rattle.elsa_free.proofs.SlotTokens.{token_val, written_made, blank_told}
-use Rattle.elsa_free.proofs.SlotTurns as turns
-use Rattle.elsa_free.proofs.CellMemory.{Cr, Bs, sz, place, One, slot_seen, room_of}
+use Rattle.elsa_free.proofs.SlotLemmas.Tokens.{token_val, written_made, right_value}
+use Rattle.elsa_free.proofs.SlotLemmas.Life as turns
+use Rattle.elsa_free.proofs.SlotLemmas.Memory.{Cr, Bs, sz, place, One, slot_seen, room_of}
 use Rattle.elsa_free.specs.contracts.slots.cells.Cells.write as F
 use Rattle.elsa_free.specs.contracts.slots.cells.Cells.write.Key.{name as #self}
 use Rattle.elsa_free.proofs.slots.cells.Cells.write.Statement.{statement}
@@ -55,17 +54,17 @@ pub write_spec : {M : Type 1} → statement M
 write_spec 𝓤 𝓛 𝓜 𝓡 wired T L =
     let E : El = record { row = T; laws = L } in let H = 𝓛.H in let A = 𝓛.A in let 𝓣 = tables 𝓤 H 𝓜 𝓡 𝓡.env in let En = F.ended T in let LR = param_laws 0 T L in
     let fn = inst_fn (args E) code.function in let c = F.clauses T 𝓛 𝓜.mem 𝓡.returns in let S : RattleType = Written.the_row (R E) in
-    let self = RefOf (0 ∷ []) tt (plain (λ _. Cr E)) (λ _. tt) in let base_slot = plain (λ _. Bs E) in let index_slot = plain (λ _. usize) in let item_slot = plain (λ _. R E) in let right_slot = plain (λ _. Blank.the_row) in
+    let self = RefOf (0 ∷ []) tt (plain (λ _. Cr E)) (λ _. tt) in let base_slot = plain (λ _. Bs E) in let index_slot = plain (λ _. usize) in let item_slot = plain (λ _. R E) in let right_slot = plain (λ _. WriteRight.the_row) in
     let hs : Stays En.signature.params En.kept = (stay_dropped self yes, (stay_dropped base_slot no, (stay_dropped index_slot yes, (stay_dropped item_slot no, (stay_dropped right_slot yes, tt))))) in
     proved_at 𝓛 En hs c 𝓜 𝓡 (Goes-dropped 𝓛 2 self yes (λ κs x f. refl), (Goes-dropped 𝓛 2 base_slot no (λ κs x f. refl), (Goes-dropped 𝓛 2 index_slot yes (λ κs x f. refl), (Goes-dropped 𝓛 2 item_slot no (λ κs x f. refl), (Goes-dropped 𝓛 2 right_slot yes (λ κs x f. refl), tt)))))
     (#self (args E)) fn (code.unfolded 𝓤 H 𝓜 𝓡 wired (T, tt))
     (λ y are. let κs = y.0.0 in let qs = y.0.1 in let a = y.0.3 in let vss = y.0.4 in
     let rb : ℕ = a.0.ref_ptr.0 in let ro : ℕ = a.0.ref_ptr.1 in let d = a.0.now in let base = a.1.0 in let index : ℕ = a.1.1.0 in let x : T.Denot = a.1.1.1.0 in let h : ℕ = a.1.1.1.1.0.of in
     let κ : Lft = κs.0 in let q : Share = qs.0 in let τ : Lft = κs.1.0 in let r : Share = qs.1.0 in let γ : ℕ = get_or d.names index 0 in
-    let got = one (layout T) vss.1.1.1.0 ((LR.lawful 𝓛).typed x vss.1.1.1.0 are.1.1.1.0) in let w : Val = got.0 in let good : Good (layout T) w = got.2 in let e4 = blank_told vss.1.1.1.1.0 are.1.1.1.1.0.0 in
+    let got = one (layout T) vss.1.1.1.0 ((LR.lawful 𝓛).typed x vss.1.1.1.0 are.1.1.1.0) in let w : Val = got.0 in let good : Good (layout T) w = got.2 in let e4 = right_value vss.1.1.1.1.0 are.1.1.1.1.0.0 in
     let Post : Val → SProp 𝓤 = (walk_of 𝓛 En hs c).post y in
     let Asks : Type 0 = (base.ptr ≡ d.at) × (index < length d.names) × (h ≡ γ) in
-    let Had : List Val → List (Item 𝓤) = λ us. ‵ (hidden_shr (Cr E) κ d rb ro) ∷ ‵ (blank h) ∷ ‵ ((R E).own_val x us) ∷ ‵ (flft κ q) ∷ ‵ (flft τ r) ∷ ‵ ftrue ∷ [] in
+    let Had : List Val → List (Item 𝓤) = λ us. ‵ (hidden_shr (Cr E) κ d rb ro) ∷ ‵ (write_right h) ∷ ‵ ((R E).own_val x us) ∷ ‵ (flft κ q) ∷ ‵ (flft τ r) ∷ ‵ ftrue ∷ [] in
     qed 𝓛 (((‵ (flft κ q) ⊛ ‵ (flft τ r) ⊛ ‵ ftrue) ⊛ ‵ (owns (types_at En.signature.params κs) a vss)) ∷ raw (fact 𝓤 (τ ⊑ T.lives)) ∷ raw (fact 𝓤 Asks) ∷ []) ∵
     keep ! (1 ∷ 2 ∷ 0 ∷ []) $ heard ! (τ ⊑ T.lives) (λ inc. heard ! Asks (λ asked. split ! $ split3 ! $ move ! (3 ∷ []) $ fsplit ! $ fsplit ! $ feq_l ! (λ e0. move ! (1 ∷ []) $ fsplit ! $ word_had ! base.ptr vss.1.0 (λ e1.
     fsplit ! $ fsplit ! $ feq_l ! (λ e2. flt_l ! (λ fits. fsplit ! $ move ! (1 ∷ []) $ fsplit ! $ fsplit ! $ keep ! (4 ∷ 1 ∷ 3 ∷ 5 ∷ 6 ∷ 7 ∷ []) $
@@ -83,7 +82,7 @@ write_spec 𝓤 𝓛 𝓜 𝓡 wired T L =
     take_at ! 2 $ rewrite ! 0 (λ (z : Ptr). ‵ (fat full_share (layout (Bs E)) (l 2) 0 (word z))) (asked.0 ∙ e) refl $ give_at ! 2 $
     move ! (2 ∷ 5 ∷ []) $ use2 𝓛 (later (some (λ (u : Share). ‵ (flft α u) ⊛ raw (wand 𝓤 (A.lft α u) (H.⇛ (A.lft κ q)))))) (Lends-one 𝓛 𝓜 𝓡 κ α q) $ await ! tt $ pick ! (λ u. split ! $
     -- [the turn's token; the way back; the invariant, twice; the right; the value; T's token; the other]
-    rewrite ! 4 (λ (k : ℕ). ‵ (blank k)) asked.2 refl $ move ! (2 ∷ 0 ∷ 4 ∷ []) $
+    rewrite ! 4 (λ (k : ℕ). ‵ (write_right k)) asked.2 refl $ move ! (2 ∷ 0 ∷ 4 ∷ []) $
     let Won : Fml = turns.Right (R E) own lend γ 𝓛 t in use3 𝓛 (later (‵ Won ⊛ ‵ (flft α u))) (turns.claims (R E) own lend γ 𝓛 t u) $ await ! tt $ split ! $ fsplit3 ! $ move ! (1 ∷ []) $ fpick ! (λ old. move ! (0 ∷ 2 ∷ 3 ∷ []) $
     open_ref ! tt (place E) {x = old} {b = b} {o = at} $ use1 𝓛 (‵ (froom (elτ E) b at)) (room_of E 𝓛 b at old) $
     -- [the room; the open borrow; obs; auth; the slot's name; the way back; the invariant; the value; T's token; the other]

@@ -5,7 +5,7 @@ use denote.Param.Shared.{copy_shared}
 use denote.Struct.Laws.{field_copy}
 use denote.Struct.Lending.{of_Lends}
 use Rattle.elsa_free.specs.Slot.{written, mark, full}
-use Rattle.elsa_free.proofs.SlotTokens.{lends_twice, said_laws}
+use Rattle.elsa_free.proofs.SlotLemmas.Tokens.{lends_twice, said_laws}
 use Rattle.std.specs.contracts.marker.PhantomData as P
 use Rattle.elsa_free.specs.contracts.slots.rights.Written as C
 use Rattle.elsa_free.proofs.slots.rights.Written.TheLaw.Statement.{statement}

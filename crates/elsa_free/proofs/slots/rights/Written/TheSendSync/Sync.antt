@@ -1,6 +1,6 @@
 use denote.RattleType.{RattleType}
-use denote.Param.Send.{IsSend, IsSync}
-use Rattle.elsa_free.proofs.SlotSends as sent
+use denote.Param.Send.{IsSync}
+use Rattle.elsa_free.proofs.SlotLemmas.Send as sent
 use Rattle.elsa_free.specs.contracts.slots.rights.Written.{the_row}
 
 pub sync : (T : RattleType) → IsSync (the_row T)

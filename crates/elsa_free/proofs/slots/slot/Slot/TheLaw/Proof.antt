@@ -1,10 +1,10 @@
 -- A `&` to a `Slot` is made of a borrow of it: the slot takes a turn. Assumes `Logic`.
-use Rattle.std.proofs.Common.{◌≡◌, ℕ, zero, ◌+◌, List, [], ◌∷◌, ◌++◌}
+use Rattle.std.proofs.Common.{ℕ, zero, List, [], ◌∷◌, ◌++◌}
 use seplogic.Ra.Ura.{Ura}
 use base.Fraction.{full_share}
 use base.Logic.{ent, sep, wand, all, all_e, apply∗, id⊢}
-use base.Fml.{Lft, GName, Incl, Incl-refl, Incl-trans, Fml, fsep, fex}
-use contract.BorrowLft.{⊑_meet, ⊑_static, meet_⊑_left}
+use base.Fml.{GName, Incl-trans, Fml, fsep, fex}
+use contract.BorrowLft.{meet_⊑_left}
 use types.Logic.{Logic, sem}
 use types.Kit.{mean, ‵, raw, ◌⊛◌, some, ◌$◌, ◌∵◌, !, qed, by, move, use1, use2, split, fsplit, fjoin, fpick, fpack, pick, show, frame, each, assume, done}
 use denote.RattleType.{RattleType, Denots}
@@ -20,7 +20,7 @@ use Rattle.std.specs.contracts.option.Option.{the_row as OptionOf}
 use Rattle.core.proofs.option.Option.TheLaws.{the_row_laws as option_laws}
 use Rattle.elsa_free.specs.contracts.slots.slot.Slot as C
 use Rattle.elsa_free.specs.Slot.{Rest, resting, field, tagged, tagged_lent}
-use Rattle.elsa_free.proofs.SlotTurns.{option_lives, shared_laws, made}
+use Rattle.elsa_free.proofs.SlotLemmas.Life.{option_lives, shared_laws, made}
 use Rattle.elsa_free.proofs.slots.slot.Slot.TheLaw.Statement.{statement}
 
 module _ (T : RattleType) (L : Laws T) {M : Type 1} {𝓤 : Ura M} (𝓛 : Logic 𝓤) (γ : GName) (b o : ℕ) where

@@ -1,40 +1,31 @@
-use Rattle.std.proofs.Common.{◌≡◌, ℕ, zero, suc, ◌+◌, ◌*◌, ◌^◌, ◌<◌, ◌≤◌, List, [], ◌∷◌, ◌++◌, Bool, sym, refl, ap, ◌∙◌, subst, arith, lit<, w64, eqb→eq}
-use mir.Syntax.{a_type, dcons, dnil, named}
-use mir.Val.{Val, vunit, vint, vptr, vstruct, vcons, vnil}
+use Rattle.std.proofs.Common.{◌≡◌, List, [], ◌∷◌, ◌++◌, sym, refl, ap, ◌∙◌, subst}
+use mir.Syntax.{a_type}
+use mir.Val.{Val, vstruct, vcons, vnil}
 use mir.MapTy.{inst_fn}
-use base.Logic.{SProp, ent, sep, wand, emp, via, id⊢, apply∗, all_e}
+use base.Logic.{SProp, ent, sep}
 use prog.Wp.{WpFn}
 use types.Logic.{sem}
-use types.Kit.{any_q, post}
-use prog.Wp.{Wp, after_seq, after_block}
-use types.Kit.{Item, mean, ‵, raw, ◌⊛◌, some, given, later, at_ret, ◌$◌, ◌∵◌, !, qed, by, move, keep, drop, use0, use1, use2, use3, split, split3, join, group, fsplit, fsplit3, fjoin, fjoin3, fpick, fpack, pick, learn, check, show, frame, each, assume, suffices, await, updating, now, rewrite, settle, feq_i, feq_l, flt_i, flt_l, done}
-use types.Run.{stop, from, fld, load, addr, lit, unit_lit, of_opd, bin, no_more, and_then, first, blocks, branches, exec, calls, Calls-last, returns, enter, assigns, store_raw, look_raw}
-use types.ByLocal.{alloc_all, pass_all, free_all, look_at, look_in_at, get, get_in, through, sets, sets_last, lands_as, lands_last, is, env}
-use types.Part.{agg, sub, whole}
-use types.Match.{live}
+use types.Kit.{‵, raw, ◌⊛◌, ◌$◌, ◌∵◌, !, qed, by, keep, drop, split, fsplit, fjoin, fpick, rewrite, feq_l}
+use types.Run.{stop, fld, of_opd, returns, enter}
+use types.ByLocal.{alloc_all, pass_all, free_all, look_at, get, get_in, sets}
+use types.Part.{sub, whole}
 use contract.Running.{tables}
-use denote.Exit.{yes, no}
+use denote.Exit.{no}
 use denote.RattleType.{RattleType, owns}
-use denote.Signature.{types_at, plain, named_lft}
-use denote.Steps.{nothing, heard, peeks, opens, closes}
+use denote.Signature.{types_at, plain}
+use denote.Steps.{nothing, peeks}
 use denote.Laws.{Is, shows}
-use denote.Memory.{lone, cell_at, shared_of}
-use denote.Param.{param, bounded, layouts, layout}
+use denote.Memory.{lone}
+use denote.Param.{param, layouts}
 use denote.Param.Laws.{param_laws}
 use denote.Triple.Walked.{Stays, stay_dropped, walk_of, Goes-dropped}
-use Rattle.atomic_table.proofs.Walks.{proved, proved_at, leaves}
+use Rattle.atomic_table.proofs.Walks.{proved_at, leaves}
 use Rattle.std.specs.contracts.option.Option.{the_row as OptionOf}
 use Rattle.core.proofs.option.Option.TheLaws.{the_row_laws as option_laws}
 use denote.Laws.{Typed}
-use base.Fml.{feq}
 use mir.Val.{of_list}
-use Rattle.core.proofs.cell.Inside.{Good, one}
-use Rattle.elsa_free.specs.Slot.{Rest, resting, free}
+use Rattle.core.proofs.cell.Inside.{one}
 use Rattle.elsa_free.specs.contracts.slots.slot.Slot.{the_row}
-use Rattle.elsa_free.specs.contracts.slots.slot.Slot.TheInside as Inside
-use Rattle.elsa_free.specs.contracts.slots.rights.Written as Written
-use Rattle.elsa_free.specs.contracts.slots.rights.Blank as Blank
-use Rattle.elsa_free.proofs.SlotTurns as steps
 use Rattle.elsa_free.specs.contracts.slots.slot.Slot.into_inner.{ended, clauses}
 use Rattle.elsa_free.specs.contracts.slots.slot.Slot.into_inner.Key.{name as #self}
 use Rattle.elsa_free.proofs.slots.slot.Slot.into_inner.Statement.{statement}

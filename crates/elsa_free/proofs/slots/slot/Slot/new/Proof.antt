@@ -1,47 +1,42 @@
-use Rattle.std.proofs.Common.{◌≡◌, ℕ, zero, suc, ◌+◌, ◌*◌, ◌^◌, ◌<◌, ◌≤◌, List, [], ◌∷◌, ◌++◌, Bool, sym, refl, ap, ◌∙◌, subst, arith, lit<, w64, eqb→eq}
-use mir.Syntax.{a_type, dcons, dnil, named}
-use mir.Val.{Val, vunit, vint, vptr, vstruct, vcons, vnil}
+use Rattle.std.proofs.Common.{◌≡◌, List, [], ◌∷◌, ◌++◌, refl}
+use mir.Syntax.{a_type}
+use mir.Val.{Val, vstruct, vcons, vnil}
 use mir.MapTy.{inst_fn}
-use base.Logic.{SProp, ent, sep, wand, emp, via, id⊢, apply∗, all_e}
-use base.Fml.{Lft, Share, Fml, Incl-trans, ftrue, fsep, fex, flft, finv, fbor, fobs}
-use types.Kit.{any_q, post}
-use types.Kit.{Item, mean, ‵, raw, ◌⊛◌, some, given, later, at_ret, ◌$◌, ◌∵◌, !, qed, by, move, keep, drop, use0, use1, use2, use3, split, split3, join, group, fsplit, fsplit3, fjoin, fjoin3, fpick, fpack, pick, learn, check, show, frame, each, assume, suffices, await, updating, now, rewrite, settle, feq_i, feq_l, flt_i, flt_l, done}
-use types.Run.{stop, from, fld, load, addr, lit, unit_lit, of_opd, bin, no_more, and_then, first, blocks, branches, exec, calls, Calls-last, returns, enter, assigns, store_raw, look_raw}
-use types.ByLocal.{alloc_all, pass_all, free_all, look_at, look_in_at, get, get_in, through, sets, sets_last, lands_as, lands_last, is, env}
-use types.Part.{agg, sub, whole}
+use base.Logic.{SProp, emp, id⊢}
+use base.Fml.{ftrue, fsep, fex}
+use types.Kit.{‵, raw, ◌⊛◌, ◌$◌, ◌∵◌, !, qed, by, move, keep, use0, use1, split, fjoin, fpack, feq_i}
+use types.Run.{lit, no_more, and_then, returns, enter}
+use types.ByLocal.{alloc_all, pass_all, free_all, look_at, get, sets}
+use types.Part.{agg}
 use types.Match.{live}
 use contract.Running.{tables}
 use contract.Monad.{fact, fact_i}
-use denote.Exit.{yes, no}
 use denote.RattleType.{RattleType, owns}
-use denote.Signature.{types_at, plain, named_lft}
-use denote.Steps.{nothing, heard, peeks, opens, closes}
+use denote.Signature.{types_at}
+use denote.Steps.{nothing, peeks}
 use denote.Laws.{Is, shows}
-use denote.Param.{param, bounded, layouts, layout}
+use denote.Param.{param, layouts}
 use denote.Param.Laws.{param_laws}
-use denote.Triple.Walked.{Stays, stay_dropped, walk_of, Goes-dropped}
-use Rattle.atomic_table.proofs.Walks.{proved, proved_at, leaves}
-use Rattle.std.specs.declared.option.Option.TheVariants.{None, Some}
+use denote.Triple.Walked.{Stays, walk_of}
+use Rattle.atomic_table.proofs.Walks.{proved, leaves}
+use Rattle.std.specs.declared.option.Option.TheVariants.{None}
 use Rattle.std.specs.contracts.option.Option.{the_row as OptionOf}
-use Rattle.core.proofs.option.Made.{Some-of, none_of}
+use Rattle.core.proofs.option.Made.{none_of}
 use Rattle.core.proofs.option.Option.TheLaws.{the_row_laws as option_laws}
 use denote.RattleType.{Valss}
 use denote.Struct.Struct.{within}
 use denote.Struct.Declared.{shape, fields}
 use denote.Laws.{Typed}
-use base.Stored.{gnil, gnum}
+use base.Stored.{gnil}
 use base.Fml.{feq}
 use mir.Val.{of_list}
 use types.Tokens.{name_new}
-use Rattle.core.proofs.cell.Inside.{Good, one}
 use Rattle.elsa_free.specs.Slot.{Rest, resting, free}
 use Rattle.elsa_free.specs.contracts.slots.slot.Slot.{the_row}
 use Rattle.elsa_free.specs.contracts.slots.slot.Slot.TheInside as Inside
 use Rattle.elsa_free.proofs.slots.slot.Slot.TheInside.TheLaws.{the_row_laws as inside_laws}
-use Rattle.elsa_free.specs.contracts.slots.rights.Written as Written
-use Rattle.elsa_free.specs.contracts.slots.rights.Blank as Blank
-use Rattle.elsa_free.proofs.SlotTurns as steps
-use Rattle.elsa_free.proofs.SlotTokens.{token_val, written_made, blank_told, blank_made}
+use Rattle.elsa_free.specs.contracts.slots.rights.WriteRight as WriteRight
+use Rattle.elsa_free.proofs.SlotLemmas.Tokens.{token_val, right_made}
 use Rattle.elsa_free.specs.contracts.slots.slot.Slot.new.{ended, clauses}
 use Rattle.elsa_free.specs.contracts.slots.slot.Slot.new.Key.{name as #self}
 use Rattle.elsa_free.proofs.slots.slot.Slot.new.Statement.{statement}
@@ -67,11 +62,11 @@ new_spec 𝓤 𝓛 𝓜 𝓡 wired T L =
     fpack ! (Rest T.Denot) (λ s. fsep (S.own_val (at s) (v ∷ [])) (resting R γ s)) s₀ $ let fits : Type 0 = denote.Laws.Typed (the_row R).mir (v ∷ []) in
     use0 𝓛 (‵ (fex fits (λ _. ftrue))) (fact_i 𝓤 fits (emp 𝓤) good) $ fjoin ! $
     -- [the slot; its right; the tokens]
-    move ! (1 ∷ []) $ use1 𝓛 (‵ (Blank.the_row.own_val (record { marker = record {}; of = γ }) (token_val ∷ []))) (blank_made 𝓛 γ) $
+    move ! (1 ∷ []) $ use1 𝓛 (‵ (WriteRight.the_row.own_val (record { marker = record {}; of = γ }) (token_val ∷ []))) (right_made 𝓛 γ) $
     sets ! (agg ! (and_then ! (lit ! tt) (no_more !))) refl ((LO.lawful 𝓛).typed None (none ∷ []) is-none).0 $ sets ! (agg ! (and_then ! (get ! refl) (no_more !))) refl good.0 $
     sets ! (agg ! (no_more !)) refl (tt, tt) $ sets ! (agg ! (and_then ! (get ! refl) (no_more !))) refl (tt, (tt, tt)) $
     sets ! (agg ! (and_then ! (get ! refl) (and_then ! (get ! refl) (no_more !)))) refl (tt, (good.0.1, ((tt, tt), tt))) $
-    let u : Val = vstruct (vcons v (vcons token_val vnil)) in let Rs : List RattleType = the_row R ∷ Blank.the_row ∷ [] in let p : Blank.the_row.Denot = record { marker = record {}; of = γ } in
+    let u : Val = vstruct (vcons v (vcons token_val vnil)) in let Rs : List RattleType = the_row R ∷ WriteRight.the_row ∷ [] in let p : WriteRight.the_row.Denot = record { marker = record {}; of = γ } in
     nothing ! $ move ! (1 ∷ 0 ∷ []) $ fjoin ! $ move ! (1 ∷ 0 ∷ []) $ fjoin ! $
     feq_i ! (List Val) (u ∷ []) (u ∷ []) refl $ fjoin ! $ fpack ! (Valss Rs) (λ vss. fsep (feq (List Val) (u ∷ []) (vstruct (of_list (vss.0 ++ (vss.1.0 ++ []))) ∷ [])) (owns Rs (γ, (p, tt)) vss)) (v ∷ [], (token_val ∷ [], tt)) $
     use0 𝓛 (raw (fact 𝓤 (γ ≡ γ))) (fact_i 𝓤 (γ ≡ γ) (emp 𝓤) refl) $ nothing ! $

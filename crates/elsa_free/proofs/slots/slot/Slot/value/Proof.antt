@@ -33,7 +33,7 @@ use Rattle.core.proofs.option.Option.TheLaws.{the_row_laws as option_laws}
 use Rattle.elsa_free.specs.Slot.{field, tagged, tagged_lent, cell, written, lent}
 use Rattle.elsa_free.specs.contracts.slots.slot.Slot.{the_row}
 use Rattle.elsa_free.specs.contracts.slots.rights.Written as Written
-use Rattle.elsa_free.proofs.SlotTurns as steps
+use Rattle.elsa_free.proofs.SlotLemmas.Life as steps
 use Rattle.elsa_free.specs.contracts.slots.slot.Slot.value.{ended, clauses}
 use Rattle.elsa_free.specs.contracts.slots.slot.Slot.value.Key.{name as #self}
 use Rattle.elsa_free.proofs.slots.slot.Slot.value.Statement.{statement}
@@ -71,7 +71,7 @@ value_spec {M} 𝓤 𝓛 𝓜 𝓡 wired T L =
     use1 𝓛 (‵ (before κ α) ⊛ ‵ (before κ α)) (types.Na.before_dup 𝓛 κ α) $ split ! $
     enter ! 𝓣.C 𝓣.Λ fn (vptr b o ∷ p ∷ []) Post $ alloc_all ! (λ l. pass_all ! refl ((tt, tt), ((tt, tt), tt)) $ let Ev = env fn.locals l in
     move ! (0 ∷ 3 ∷ []) $ use2 𝓛 (later (some (λ (s : Share). ‵ (flft α s) ⊛ raw (wand 𝓤 (A.lft α s) (H.⇛ (A.lft κ q)))))) (Lends-one 𝓛 𝓜 𝓡 κ α q) $ await ! tt $ pick ! (λ s. split ! $
-    let L' : Fml = lent R (tagged R b o) (tagged_lent R b o) t (Rattle.elsa_free.specs.Slot.full x) in let Told : Type 0 = x ≡ x in let at : ℕ = capped (align (layout T)) + e in
+    let L' : Fml = lent R (tagged R b o) (tagged_lent R b o) t (Rattle.elsa_free.specs.Slot.full x) in let WrittenPrefix : Type 0 = x ≡ x in let at : ℕ = capped (align (layout T)) + e in
     -- [the turn's token; the way back; before; the invariant; the others; written]
     sets ! (addr ! (through ! refl (stop !))) refl (tt, tt) $ move ! (3 ∷ 0 ∷ 5 ∷ []) $
     use3 𝓛 (later (‵ L' ⊛ ‵ (flft α s))) (steps.finds R (tagged R b o) (tagged_lent R b o) γ 𝓛 t (λ z. LO.shr_laws (Some z) b e) s x) $ await ! tt $ split ! $
@@ -81,5 +81,5 @@ value_spec {M} 𝓤 𝓛 𝓜 𝓡 wired T L =
     rewrite ! 0 (λ (k : ℕ). ‵ (shared_of R x b k κ)) (past (layout T) e) refl $ hide ! $ feq_i ! (List Val) (vptr b at ∷ []) (vptr b at ∷ []) refl $ fjoin ! $
     first ! $ blocks ! $ sets ! (addr ! (through ! refl (fld ! refl (stop !)))) refl (tt, tt) $ sets ! (bin ! (get ! refl) (align_word !) tt) refl (tt, tt) $
     sets ! (of_opd ! (get ! refl)) refl (tt, tt) $ sets_last ! (addr ! (through ! refl (stop !))) refl (tt, tt) $ exec ! 𝓣.C 𝓣.Λ Ev (tail (tail fn.body)) (at_ret Ev Post) $ sets ! (of_opd ! (get ! refl)) refl (tt, tt) $
-    use0 𝓛 (raw (fact 𝓤 Told)) (fact_i 𝓤 Told (emp 𝓤) refl) $ nothing ! $ nothing ! $ fjoin ! $ nothing ! $ fjoin ! $
+    use0 𝓛 (raw (fact 𝓤 WrittenPrefix)) (fact_i 𝓤 WrittenPrefix (emp 𝓤) refl) $ nothing ! $ nothing ! $ fjoin ! $ nothing ! $ fjoin ! $
     returns ! (look_at ! 0 refl) $ free_all ! refl $ keep ! (3 ∷ 0 ∷ 2 ∷ 1 ∷ []) $ by ! (leaves 𝓛 En hs c y (vptr b at) (record { ref_ptr = (b, at); now = x }) (tt, (tt, tt)) (tt, (tt, tt))))))))

@@ -1,17 +1,15 @@
-use Rattle.std.proofs.Common.{◌≡◌, ℕ, zero, suc, ◌+◌, ◌*◌, ◌^◌, ◌<◌, ◌≤◌, List, [], ◌∷◌, ◌++◌, Bool, sym, refl, ap, ◌∙◌, subst, arith, lit<, w64, eqb→eq}
-use mir.Syntax.{a_type, dcons, dnil, named}
-use mir.Val.{Val, vunit, vint, vptr, vstruct, vcons, vnil}
+use Rattle.std.proofs.Common.{◌≡◌, ℕ, List, [], ◌∷◌, sym, refl, subst}
+use mir.Syntax.{a_type}
+use mir.Val.{Val, vptr, vcons, vnil}
 use mir.MapTy.{inst_fn}
 use base.Fraction.{full_share}
-use base.Logic.{SProp, ent, sep, wand, emp, via, id⊢, apply∗, all_e}
-use base.Fml.{Lft, Share, Fml, Incl-trans, ftrue, fsep, fex, flft, finv, fbor, fobs}
+use base.Logic.{SProp, ent, wand, emp, apply∗}
+use base.Fml.{Lft, Share, Fml, Incl-trans, ftrue, flft, finv, fbor}
 use prog.Wp.{WpFn}
-use types.Kit.{any_q, post}
-use prog.Wp.{Wp, after_seq, after_block}
-use types.Kit.{Item, mean, ‵, raw, ◌⊛◌, some, given, later, at_ret, ◌$◌, ◌∵◌, !, qed, by, move, keep, drop, use0, use1, use2, use3, split, split3, join, group, fsplit, fsplit3, fjoin, fjoin3, fpick, fpack, pick, learn, check, show, frame, each, assume, suffices, await, updating, now, rewrite, settle, feq_i, feq_l, flt_i, flt_l, done}
-use types.Run.{stop, from, fld, load, addr, lit, unit_lit, of_opd, bin, no_more, and_then, first, blocks, branches, exec, calls, Calls-last, returns, enter, assigns, store_raw, look_raw}
-use types.ByLocal.{alloc_all, pass_all, free_all, look_at, look_in_at, get, get_in, through, sets, sets_last, lands_as, lands_last, is, env}
-use types.Part.{agg, sub, whole}
+use types.Kit.{‵, raw, ◌⊛◌, some, later, at_ret, ◌$◌, ◌∵◌, !, qed, by, move, keep, drop, use0, use1, use2, use3, split, split3, join, fsplit, fsplit3, fjoin, fpick, pick, await, rewrite}
+use types.Run.{stop, fld, addr, lit, of_opd, no_more, and_then, first, blocks, exec, returns, enter, assigns, store_raw}
+use types.ByLocal.{alloc_all, pass_all, free_all, look_at, get, through, sets, sets_last, env}
+use types.Part.{agg}
 use types.Match.{live}
 use contract.Running.{tables}
 use contract.Monad.{fact, fact_i}
@@ -19,29 +17,28 @@ use contract.BorrowLft.{◌⊑◌, meet_⊑_left, meet_⊑_right}
 use contract.Shared.{Lends-one}
 use denote.Exit.{yes, no}
 use denote.RattleType.{RattleType, owns}
-use denote.Signature.{types_at, plain, named_lft}
+use denote.Signature.{types_at, plain}
 use denote.Steps.{nothing, heard, peeks, opens, closes}
-use denote.Opens.{hide, unhide}
+use denote.Opens.{unhide}
 use denote.Laws.{Is, shows}
-use denote.Memory.{lone, cell_at, shared_of}
-use denote.Param.{param, bounded, layouts, layout}
+use denote.Memory.{lone, cell_at}
+use denote.Param.{param, layouts, layout}
 use denote.Param.Laws.{param_laws}
-use denote.Builtin.{RefOf, u64}
+use denote.Builtin.{RefOf}
 use denote.Triple.Walked.{Stays, stay_dropped, walk_of, Goes-dropped}
-use Rattle.atomic_table.proofs.Walks.{proved, proved_at, leaves}
+use Rattle.atomic_table.proofs.Walks.{proved_at, leaves}
 use Rattle.core.proofs.atomic.Steps.{tail}
-use Rattle.std.specs.declared.option.Option.TheVariants.{None, Some}
+use Rattle.std.specs.declared.option.Option.TheVariants.{Some}
 use Rattle.std.specs.contracts.option.Option.{the_row as OptionOf}
-use Rattle.core.proofs.option.Made.{Some-of, none_of}
+use Rattle.core.proofs.option.Made.{Some-of}
 use Rattle.core.proofs.option.Option.TheLaws.{the_row_laws as option_laws}
 use Rattle.core.proofs.cell.Inside.{Good, one}
-use Rattle.elsa_free.specs.Slot.{Rest, Turn, field, tagged, tagged_lent, kept, cell, written, blank, tie, lent, memory, resting, free}
+use Rattle.elsa_free.specs.Slot.{field, tagged, tagged_lent, cell, written, write_right}
 use Rattle.elsa_free.specs.contracts.slots.slot.Slot.{the_row}
-use Rattle.elsa_free.specs.contracts.slots.slot.Slot.TheInside as Inside
 use Rattle.elsa_free.specs.contracts.slots.rights.Written as Written
-use Rattle.elsa_free.specs.contracts.slots.rights.Blank as Blank
-use Rattle.elsa_free.proofs.SlotTurns as steps
-use Rattle.elsa_free.proofs.SlotTokens.{token_val, written_made, blank_told, blank_made}
+use Rattle.elsa_free.specs.contracts.slots.rights.WriteRight as WriteRight
+use Rattle.elsa_free.proofs.SlotLemmas.Life as steps
+use Rattle.elsa_free.proofs.SlotLemmas.Tokens.{token_val, written_made, right_value}
 use Rattle.elsa_free.specs.contracts.slots.slot.Slot.write.{ended, clauses}
 use Rattle.elsa_free.specs.contracts.slots.slot.Slot.write.Key.{name as #self}
 use Rattle.elsa_free.proofs.slots.slot.Slot.write.Statement.{statement}
@@ -51,7 +48,7 @@ pub write_spec : {M : Type 1} → statement M
 write_spec 𝓤 𝓛 𝓜 𝓡 wired T L =
     let H = 𝓛.H in let A = 𝓛.A in let 𝓣 = tables 𝓤 H 𝓜 𝓡 𝓡.env in let R : RattleType = param 0 T in let O : RattleType = OptionOf R in let LO = option_laws R (param_laws 0 T L) in let En = ended T in
     let inst = layouts (a_type ∷ []) (T, tt) in let fn = inst_fn inst code.function in let c = clauses T 𝓛 𝓜.mem 𝓡.returns in
-    let self = RefOf (0 ∷ []) tt (plain (λ _. the_row R)) (λ _. tt) in let right = plain (λ _. Blank.the_row) in let hs : Stays En.signature.params En.kept = (stay_dropped self yes, (stay_dropped (plain (λ _. R)) no, (stay_dropped right yes, tt))) in
+    let self = RefOf (0 ∷ []) tt (plain (λ _. the_row R)) (λ _. tt) in let right = plain (λ _. WriteRight.the_row) in let hs : Stays En.signature.params En.kept = (stay_dropped self yes, (stay_dropped (plain (λ _. R)) no, (stay_dropped right yes, tt))) in
     proved_at 𝓛 En hs c 𝓜 𝓡 (Goes-dropped 𝓛 2 self yes (λ κs x f. refl), (Goes-dropped 𝓛 2 (plain (λ _. R)) no (λ κs x f. refl), (Goes-dropped 𝓛 2 right yes (λ κs x f. refl), tt))) (#self inst) fn (code.unfolded 𝓤 H 𝓜 𝓡 wired (T, tt))
     (λ y₀ are. let κs = y₀.0.0 in let qs = y₀.0.1 in let a = y₀.0.3 in
     let b : ℕ = a.0.ref_ptr.0 in let o : ℕ = a.0.ref_ptr.1 in let γ : ℕ = a.0.now in let κ : Lft = κs.0 in let q : Share = qs.0 in let τ : Lft = κs.1.0 in let r : Share = qs.1.0 in
@@ -59,17 +56,17 @@ write_spec 𝓤 𝓛 𝓜 𝓡 wired T L =
     let At : List Val × (List Val × (List Val × Unit {0})) → (walk_of 𝓛 En hs c).Ghost = λ vss. ((κs, qs, y₀.0.2, a, vss), y₀.1) in
     let y : (walk_of 𝓛 En hs c).Ghost = At (vptr b o ∷ [], (w₀ ∷ [], (token_val ∷ [], tt))) in let Post : Val → SProp 𝓤 = (walk_of 𝓛 En hs c).post y in let other : Fml = ftrue in let S : RattleType = Written.the_row R in
     subst (λ (vss : List Val × (List Val × (List Val × Unit {0}))). ent 𝓤 ((walk_of 𝓛 En hs c).pre (At vss)) (WpFn 𝓤 H 𝓣.C 𝓣.Λ fn ((walk_of 𝓛 En hs c).args (At vss)) ((walk_of 𝓛 En hs c).post (At vss))))
-    (λ i. (sym are.0.0 i, (sym got₀.1 i, (sym (blank_told y₀.0.4.1.1.0 are.1.1.0.0) i, tt)))) (
+    (λ i. (sym are.0.0 i, (sym got₀.1 i, (sym (right_value y₀.0.4.1.1.0 are.1.1.0.0) i, tt)))) (
     qed 𝓛 (((‵ (flft κ q) ⊛ ‵ (flft τ r) ⊛ ‵ other) ⊛ ‵ (owns (types_at En.signature.params κs) a y.0.4)) ∷ raw (fact 𝓤 (τ ⊑ T.lives)) ∷ raw (fact 𝓤 (h ≡ γ)) ∷ []) ∵
     keep ! (1 ∷ 2 ∷ 0 ∷ []) $ heard ! (τ ⊑ T.lives) (λ inc. heard ! (h ≡ γ) (λ same. split ! $ split3 ! $ move ! (3 ∷ []) $ fsplit3 ! $ fsplit ! $ move ! (3 ∷ []) $ fsplit ! $ fsplit ! $ keep ! (4 ∷ 6 ∷ 7 ∷ 8 ∷ 5 ∷ 1 ∷ []) $ unhide ! $ fpick ! (λ t. let α : Lft = t.0 in let I : Fml = cell R (tagged R b o) (tagged_lent R b o) γ t in let e : ℕ = field R b o in fsplit ! $
     move ! (1 ∷ []) $ use1 𝓛 (‵ (finv (fbor α I)) ⊛ ‵ (finv (fbor α I))) (𝓛.invs.inv_dup (fbor α I)) $ split ! $
     enter ! 𝓣.C 𝓣.Λ fn (vptr b o ∷ w₀ ∷ token_val ∷ []) Post $ alloc_all ! (λ l. pass_all ! refl ((tt, tt), (good₀, ((tt, (tt, tt)), tt))) $ let Ev = env fn.locals l in
     move ! (2 ∷ 3 ∷ []) $ use2 𝓛 (later (some (λ (s : Share). ‵ (flft α s) ⊛ raw (wand 𝓤 (A.lft α s) (H.⇛ (A.lft κ q)))))) (Lends-one 𝓛 𝓜 𝓡 κ α q) $ await ! tt $ pick ! (λ s. split ! $ let Back : SProp 𝓤 = H.⇛ (A.lft κ q) in
     -- [the turn's token; the way back; the invariant, twice; T's token; the other; the value; the right]
-    sets ! (addr ! (through ! refl (stop !))) refl (tt, tt) $ rewrite ! 7 (λ (k : ℕ). ‵ (blank k)) same refl $ move ! (2 ∷ 0 ∷ 7 ∷ []) $
+    sets ! (addr ! (through ! refl (stop !))) refl (tt, tt) $ rewrite ! 7 (λ (k : ℕ). ‵ (write_right k)) same refl $ move ! (2 ∷ 0 ∷ 7 ∷ []) $
     let Won : Fml = steps.Right R (tagged R b o) (tagged_lent R b o) γ 𝓛 t in use3 𝓛 (later (‵ Won ⊛ ‵ (flft α s))) (steps.claims R (tagged R b o) (tagged_lent R b o) γ 𝓛 t s) $ await ! tt $ split ! $ move ! (1 ∷ []) $
     -- [the turn's token; what was won; the way back; the invariant; T's token; the other; the value]
-    let made : S.Denot = record { marker = record {}; of = γ; value = x } in let Told : Type 0 = (γ ≡ γ) × (x ≡ x) in
+    let made : S.Denot = record { marker = record {}; of = γ; value = x } in let WrittenPrefix : Type 0 = (γ ≡ γ) × (x ≡ x) in
     move ! (6 ∷ []) $ use1 𝓛 (‵ (O.own_val (Some x) (w ∷ []))) (Some-of 𝓛 R x w₀) $
     peeks ! O (Is O) (shows 𝓛 O) (Some x) (w ∷ []) (λ is-w. let good = ((LO.lawful 𝓛).typed (Some x) (w ∷ []) is-w).0 in move ! (2 ∷ []) $ fsplit3 ! $ move ! (1 ∷ []) $ fpick ! (λ old. move ! (0 ∷ 2 ∷ 4 ∷ []) $
     opens ! tt O b e (λ vs. move ! (1 ∷ []) $ peeks ! O (Is O) (shows 𝓛 O) old vs (λ is-old. let got = one (lone O.mir) vs ((LO.lawful 𝓛).typed old vs is-old) in drop ! $
@@ -87,5 +84,5 @@ write_spec 𝓤 𝓛 𝓜 𝓡 wired T L =
     use1 𝓛 (‵ (S.own_val made (token_val ∷ []))) (written_made 𝓛 R γ x) $
     sets ! (agg ! (no_more !)) refl (tt, tt) $ sets_last ! (agg ! (and_then ! (get ! refl) (no_more !))) refl (tt, (tt, tt)) $
     exec ! 𝓣.C 𝓣.Λ Ev (tail (tail fn.body)) (at_ret Ev Post) $ sets ! (of_opd ! (get ! refl)) refl (tt, (tt, tt)) $
-    use0 𝓛 (raw (fact 𝓤 Told)) (fact_i 𝓤 Told (emp 𝓤) (refl, refl)) $ nothing ! $ nothing ! $ fjoin ! $ nothing ! $ fjoin ! $ nothing ! $ fjoin ! $
+    use0 𝓛 (raw (fact 𝓤 WrittenPrefix)) (fact_i 𝓤 WrittenPrefix (emp 𝓤) (refl, refl)) $ nothing ! $ nothing ! $ fjoin ! $ nothing ! $ fjoin ! $ nothing ! $ fjoin ! $
     returns ! (look_at ! 0 refl) $ free_all ! refl $ keep ! (3 ∷ 0 ∷ 2 ∷ 1 ∷ []) $ by ! (leaves 𝓛 En hs c y token_val made (tt, (tt, (tt, tt))) (tt, (tt, (tt, tt)))))))))))))))

@@ -1,0 +1,4 @@
+-- What holds of lists, and of the places of a vector's buffers.
+pub mod Copies
+pub mod Pointwise
+pub mod Walks

@@ -1,0 +1,10 @@
+-- What holds of a vector's history under its rule, and what each atomic step offers and gains.
+pub mod AuthorBound
+pub mod AuthorPlaces
+pub mod History
+pub mod HoldEnd
+pub mod Keyless
+pub mod Offers
+pub mod Steps
+pub mod Tails
+pub mod Tickets

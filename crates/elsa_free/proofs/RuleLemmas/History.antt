@@ -1,0 +1,101 @@
+-- What an event behind a history does to it.
+use Rattle.std.proofs.Common.{◌≡◌, ℕ, suc, ◌+◌, ◌≤◌, ◌-◌, ◌==◌, Bool, false, List, [], ◌∷◌, ◌++◌, length, refl, ap, sym, ◌∙◌, arith, length-append, append_assoc}
+use Rattle.std.proofs.lemmas.List.{append-nil, length-map, map-append}
+use Rattle.elsa_free.specs.declared.event.Entry.{Entry}
+use Rattle.elsa_free.specs.declared.event.Event.{Event}
+use Rattle.elsa_free.specs.declared.event.Event.TheVariants.{Acquired, Published, Cloned, Released, OfferOf}
+use Rattle.std.proofs.lemmas.Bool.Decides.{nat_tests}
+use mathlib.Core.List.{IsPrefix}
+use Rattle.elsa_free.specs.SharedList.{bit, copied, count, item_of, items_of}
+use Rattle.elsa_free.specs.History.{list_of, entries, begins_hold, held_from, kind, kinds}
+
+-- how long the list is, by the kinds alone
+abbrev ones : List ℕ → ℕ
+ones [] = 0
+ones (k ∷ ks) = (bit (k == 1) + (k - 4)) + ones ks
+
+module _ {T : Type 0} where
+  pub held_snoc : (b : Bool) (xs : List (Event T)) (e : Event T) → held_from b (xs ++ e ∷ []) ≡ begins_hold e
+  held_snoc b [] e = refl
+  held_snoc b (x ∷ xs) e = held_snoc (begins_hold x) xs e
+
+  pub list_snoc : (xs : List (Event T)) (e : Event T) → list_of (xs ++ e ∷ []) ≡ list_of xs ++ entries e
+  list_snoc [] e = append-nil (entries e)
+  list_snoc (x ∷ xs) e = ap (λ (l : List (Entry T)). entries x ++ l) (list_snoc xs e) ∙ sym (append_assoc (entries x) (list_of xs) (entries e))
+
+  pub count_snoc : (a : ℕ) (pre : List (Entry T)) (e : Entry T) → count a (pre ++ e ∷ []) ≡ count a pre + bit (e.author == a)
+  count_snoc a [] e = omega arith
+  count_snoc a (x ∷ pre) e = let h = count_snoc a pre e in omega arith
+
+  pub kinds_snoc : (xs : List (Event T)) (e : Event T) → kinds (xs ++ e ∷ []) ≡ kinds xs ++ kind e ∷ []
+  kinds_snoc [] e = refl
+  kinds_snoc (x ∷ xs) e = ap (λ (l : List ℕ). kind x ∷ l) (kinds_snoc xs e)
+
+  pub kinds_length : (xs : List (Event T)) → length (kinds xs) ≡ length xs
+  kinds_length [] = refl
+  kinds_length (x ∷ xs) = ap suc (kinds_length xs)
+
+  pub kinds_prefix : (xs : List (Event T)) (e : Event T) → IsPrefix (kinds xs) (kinds (xs ++ e ∷ []))
+  kinds_prefix xs e = (kind e ∷ [], sym (kinds_snoc xs e))
+
+  pub copied_length : (xs : List T) → length (copied xs) ≡ length xs
+  copied_length [] = refl
+  copied_length (x ∷ xs) = ap suc (copied_length xs)
+
+  pub copied_items : (xs : List T) → items_of (copied xs) ≡ xs
+  copied_items [] = refl
+  copied_items (x ∷ xs) = ap (λ (l : List T). x ∷ l) (copied_items xs)
+
+  pub items_append : (xs ys : List (Entry T)) → items_of (xs ++ ys) ≡ items_of xs ++ items_of ys
+  items_append xs ys = map-append item_of xs ys
+
+  pub items_length : (xs : List (Entry T)) → length (items_of xs) ≡ length xs
+  items_length xs = length-map xs item_of
+
+  one_kind : (e : Event T) → bit (kind e == 1) + (kind e - 4) ≡ length (entries e)
+  one_kind Acquired = refl
+  one_kind (Published x) = refl
+  one_kind Released = refl
+  one_kind (OfferOf a n) = refl
+  one_kind (Cloned xs) = let other : (4 + length xs == 1) ≡ false = grind (arith, nat_tests) in let b = ap bit other in let h = copied_length xs in omega (arith, b, h)
+
+  ones_are : (xs : List (Event T)) → ones (kinds xs) ≡ length (list_of xs)
+  ones_are [] = refl
+  ones_are (e ∷ xs) = let h = ones_are xs in let k = one_kind e in omega (arith, length-append (entries e) (list_of xs))
+
+  pub kinds_list : (xs ys : List (Event T)) → kinds xs ≡ kinds ys → length (list_of xs) ≡ length (list_of ys)
+  kinds_list xs ys e = let a = ones_are xs in let b = ones_are ys in let c = ap ones e in omega arith
+
+  pub kinds_same : (xs ys : List (Event T)) → kinds xs ≡ kinds ys → length xs ≡ length ys
+  kinds_same xs ys e = let a = kinds_length xs in let b = kinds_length ys in let c = ap length e in omega arith
+
+-- a beginning that is as long is the whole
+pub prefix_whole : {A : Type 0} (xs ys : List A) → IsPrefix xs ys → length ys ≤ length xs → xs ≡ ys
+prefix_whole [] [] p le = refl
+prefix_whole [] (y ∷ ys) p le = absurd (omega arith)
+prefix_whole (x ∷ xs) [] p le = absurd (cc (p.1))
+prefix_whole (x ∷ xs) (y ∷ ys) p le =
+    let rest = prefix_whole xs ys (p.0, cc (p.1)) (omega arith) in cc (p.1, rest)
+
+module _ {T : Type 0} where
+  pub list_append : (xs ys : List (Event T)) → list_of (xs ++ ys) ≡ list_of xs ++ list_of ys
+  list_append [] ys = refl
+  list_append (x ∷ xs) ys = ap (λ (l : List (Entry T)). entries x ++ l) (list_append xs ys) ∙ sym (append_assoc (entries x) (list_of xs) (list_of ys))
+
+  pub list_prefix : (xs ys : List (Event T)) → IsPrefix xs ys → IsPrefix (list_of xs) (list_of ys)
+  list_prefix xs ys p = (list_of p.0, sym (list_append xs p.0) ∙ ap list_of p.1)
+
+  pub count_append : (a : ℕ) (xs ys : List (Entry T)) → count a (xs ++ ys) ≡ count a xs + count a ys
+  count_append a [] ys = omega arith
+  count_append a (x ∷ xs) ys = let h = count_append a xs ys in omega arith
+
+  pub count_prefix : (a : ℕ) (xs ys : List (Event T)) → IsPrefix xs ys → count a (list_of xs) ≤ count a (list_of ys)
+  count_prefix a xs ys p = let q = list_prefix xs ys p in let h = count_append a (list_of xs) q.0 in let e = ap (count a) q.1 in omega arith
+
+-- of two beginnings of one list the shorter is one of the longer
+pub prefix_of_longer : {A : Type 0} (xs ys zs : List A) → IsPrefix xs zs → IsPrefix ys zs → length xs ≤ length ys → IsPrefix xs ys
+prefix_of_longer [] ys zs p q le = (ys, refl)
+prefix_of_longer (x ∷ xs) [] zs p q le = absurd (omega arith)
+prefix_of_longer (x ∷ xs) (y ∷ ys) [] p q le = absurd (cc (p.1))
+prefix_of_longer (x ∷ xs) (y ∷ ys) (z ∷ zs) p q le =
+    let rest = prefix_of_longer xs ys zs (p.0, cc (p.1)) (q.0, cc (q.1)) (omega arith) in (rest.0, cc (p.1, q.1, rest.1))

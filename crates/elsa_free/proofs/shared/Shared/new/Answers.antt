@@ -1,7 +1,0 @@
-use Rattle.std.proofs.Common.{refl, arith}
-use Rattle.elsa_free.specs.contracts.slots.row.Row as Row
-use Rattle.elsa_free.proofs.Calm.{kept_calm}
-use Rattle.elsa_free.proofs.shared.Shared.new.Goals as goal
-
-pub open-first-requires : goal.open-first-requires
-open-first-requires g c = (record { words = refl; small = omega arith }, kept_calm g.row.T (Row.the_row g.row.T g.row.A g.A.Allocator) (λ r. r) c.start-start.result.0.names, c.start-start.ensures.0)

@@ -1,0 +1,352 @@
+//! Tokens: what the lock holder and a pass own, and the offers by which they exchange it with the rule. None has bytes.
+//!
+//! Each function here has a manual proof: it takes tokens apart and makes others of them, and does nothing when it runs.
+ghost use Rattle.std.specs.Prelude.{◌≡◌, ◌≢◌, ◌+◌, ◌*◌, ◌^◌, ◌<◌, ◌≤◌, ◌∷◌, ◌++◌, ℕ, suc, List, [], length, drop, slice_get, slice_index_or, None, Some};
+ghost use base.Stored.{coded_list, coded_ℕ};
+ghost use base.Share.{three_quarters};
+ghost use base.Growing.{latest};
+ghost use Rattle.elsa_free.specs.Ahead.{IsClosedAt, IsOpenAt};
+ghost use Rattle.elsa_machine.specs.Geometry.{IsAt};
+ghost use Rattle.elsa_free.specs.declared.event.Event.TheVariants.{Acquired, Published, Cloned, Released, OfferOf};
+ghost use Rattle.elsa_free.specs.declared.event.Entry.{Entry};
+ghost use Rattle.elsa_free.specs.History.{list_of, kinds, author_of, used_of, others};
+ghost use Rattle.elsa_free.specs.SharedList.{count, entry, items_of};
+ghost use Rattle.elsa_free.specs.Rights.{logs, head, buffer_slots_of, author, OnlyPushed};
+
+use crate::event::Event;
+use crate::rule::{AcquireGain, Log, OneWord, PublishGain, ReadGain, ReleaseGain};
+use crate::slots::{HasSlots, WriteRights, Written, WrittenPrefix};
+use logbook::{Gained, Offer, Seen, Start};
+use std::marker::{Model, PhantomData};
+use std::sync::Wait;
+
+/// The right to end the hold, at a history of these kinds of events. It has no bytes.
+pub struct Held {
+    pub(crate) marker: PhantomData<()>,
+    pub ghost name: { ℕ },
+    pub ghost kinds: { List ℕ } by { coded_list coded_ℕ },
+}
+
+impl Model for Held {
+    ghost also_owns = { λ h. latest logs three_quarters h.name h.kinds };
+}
+
+/// The right to append as an author: all its tickets from `used` on.
+pub struct Author {
+    pub(crate) marker: PhantomData<()>,
+    pub ghost name: { ℕ },
+    pub ghost used: { ℕ },
+}
+
+impl Model for Author {
+    ghost also_owns = { λ a. author a.name a.used };
+}
+
+/// A book with an empty list for these buffers, held by its maker. The evidence, of some places or none, names the buffers.
+pub fn start<T, B: HasSlots>(
+    prefix: WrittenPrefix<T, B>,
+) -> (
+    Start<Event<T>, Log<T>, OneWord<B>>,
+    Held,
+    WrittenPrefix<T, B>,
+)
+    ensures { (result.0.shown ≡ []) × (buffer_slots_of result.0.names ≡ prefix.buffer_slots)
+        × (result.1.name ≡ head result.0.names) × (result.1.kinds ≡ [])
+        × (result.2.buffer_slots ≡ prefix.buffer_slots) × (result.2.items ≡ prefix.items) }
+{
+    spend!(prefix: WrittenPrefix);
+    (
+        Start {
+            marker: PhantomData,
+        },
+        Held {
+            marker: PhantomData,
+        },
+        WrittenPrefix {
+            marker: PhantomData,
+        },
+    )
+}
+
+impl Author {
+    /// A new author, which has pushed nothing.
+    pub fn new() -> Author
+        ensures { result.used ≡ 0 }
+    {
+        Author {
+            marker: PhantomData,
+        }
+    }
+}
+
+/// An offer to acquire the word. It takes the right to wait, so that no read of the length can make one.
+pub fn offer_acquire<R: Wait, T, B: HasSlots>(
+    _rt: &R,
+    seen: &Seen<Event<T>, Log<T>, OneWord<B>>,
+) -> Offer<Event<T>, Log<T>, OneWord<B>, AcquireGain<B>>
+    ensures { (result.names ≡ seen.now.names) × (result.ask ≡ Acquired) × (result.about ≡ [])
+        × (result.state ≡ None) }
+{
+    acquire_offer(seen)
+}
+
+fn acquire_offer<T, B: HasSlots>(
+    seen: &Seen<Event<T>, Log<T>, OneWord<B>>,
+) -> Offer<Event<T>, Log<T>, OneWord<B>, AcquireGain<B>>
+    ensures { (result.names ≡ seen.now.names) × (result.ask ≡ Acquired) × (result.about ≡ [])
+        × (result.state ≡ None) }
+{
+    Offer {
+        marker: PhantomData,
+    }
+}
+
+/// What an acquire gained, if the next place begins a buffer that nobody has opened.
+pub fn take_acquired_closed<T, B: HasSlots>(
+    right: Gained<Event<T>, Log<T>, AcquireGain<B>>,
+    _buffer: usize,
+) -> (Held, WriteRights)
+    requires { length (list_of right.answer) + 1 ≡ 4 ^ _buffer }
+    ensures { (result.0.name ≡ head right.names)
+        × (result.0.kinds ≡ kinds (right.answer ++ Acquired ∷ []))
+        × (result.1.of ≡ drop _buffer (buffer_slots_of right.names)) }
+{
+    spend!(right: Gained);
+    (
+        Held {
+            marker: PhantomData,
+        },
+        WriteRights {
+            marker: PhantomData,
+        },
+    )
+}
+
+/// What an acquire gained, if the next place is in an open buffer.
+pub fn take_acquired_open<T, B: HasSlots>(
+    right: Gained<Event<T>, Log<T>, AcquireGain<B>>,
+    _buffer: usize,
+    _slot: usize,
+) -> (Held, Written<B>, WriteRights, WriteRights)
+    requires { IsAt (length (list_of right.answer)) _buffer _slot × (0 < _slot) }
+    ensures { (result.0.name ≡ head right.names)
+        × (result.0.kinds ≡ kinds (right.answer ++ Acquired ∷ []))
+        × (result.1.of ≡ slice_index_or (buffer_slots_of right.names) _buffer 0)
+        × (length (B.slot_names result.1.value) ≡ 3 * 4 ^ _buffer)
+        × (result.2.of ≡ drop _slot (B.slot_names result.1.value))
+        × (result.3.of ≡ drop (suc _buffer) (buffer_slots_of right.names)) }
+{
+    spend!(right: Gained);
+    (
+        Held {
+            marker: PhantomData,
+        },
+        Written {
+            marker: PhantomData,
+        },
+        WriteRights {
+            marker: PhantomData,
+        },
+        WriteRights {
+            marker: PhantomData,
+        },
+    )
+}
+
+/// An offer to release the word and leave the list.
+pub fn offer_release<T, B: HasSlots>(
+    seen: &Seen<Event<T>, Log<T>, OneWord<B>>,
+    held: Held,
+    further: WriteRights,
+    author: Author,
+    _buffer: usize,
+) -> Offer<Event<T>, Log<T>, OneWord<B>, ReleaseGain<B>>
+    requires { (held.name ≡ head seen.now.names) × (held.kinds ≡ kinds seen.now.log)
+        × (further.of ≡ drop _buffer (buffer_slots_of seen.now.names))
+        × (length (list_of seen.now.log) + 1 ≡ 4 ^ _buffer) }
+    ensures { (result.names ≡ seen.now.names) × (result.ask ≡ Released)
+        × (result.about ≡ OfferOf author.name author.used ∷ seen.now.log) × (result.state ≡ None) }
+{
+    spend!(held: Held, further: WriteRights, author: Author);
+    Offer {
+        marker: PhantomData,
+    }
+}
+
+/// An offer to publish an item.
+pub fn offer_publish<T, B: HasSlots>(
+    seen: &Seen<Event<T>, Log<T>, OneWord<B>>,
+    held: Held,
+    opened: Written<B>,
+    slots: WriteRights,
+    further: WriteRights,
+    author: Author,
+    item: Written<T>,
+    _buffer: usize,
+    _slot: usize,
+) -> Offer<Event<T>, Log<T>, OneWord<B>, PublishGain<B>>
+    requires { (held.name ≡ head seen.now.names) × (held.kinds ≡ kinds seen.now.log)
+        × IsAt (length (list_of seen.now.log)) _buffer _slot
+        × (length (B.slot_names opened.value) ≡ 3 * 4 ^ _buffer)
+        × (opened.of ≡ slice_index_or (buffer_slots_of seen.now.names) _buffer 0)
+        × (slots.of ≡ drop (suc _slot) (B.slot_names opened.value))
+        × (further.of ≡ drop (suc _buffer) (buffer_slots_of seen.now.names))
+        × (item.of ≡ slice_index_or (B.slot_names opened.value) _slot 0) }
+    ensures { (result.names ≡ seen.now.names)
+        × (result.ask ≡ Published (entry (suc author.name) item.value))
+        × (result.about ≡ OfferOf author.name author.used ∷ seen.now.log) × (result.state ≡ None) }
+{
+    spend!(held: Held, opened: Written, slots: WriteRights, further: WriteRights, author: Author, item: Written);
+    Offer {
+        marker: PhantomData,
+    }
+}
+
+/// An offer to publish the items of a clone, if the next place begins a buffer that nobody has opened.
+pub fn offer_clone_closed<T, B: HasSlots>(
+    seen: &Seen<Event<T>, Log<T>, OneWord<B>>,
+    held: Held,
+    prefix: WrittenPrefix<T, B>,
+    further: WriteRights,
+    author: Author,
+) -> Offer<Event<T>, Log<T>, OneWord<B>, ReleaseGain<B>>
+    requires { (held.name ≡ head seen.now.names) × (held.kinds ≡ [])
+        × (prefix.buffer_slots ≡ buffer_slots_of seen.now.names)
+        × IsClosedAt (buffer_slots_of seen.now.names) (length prefix.items) further.of }
+    ensures { (result.names ≡ seen.now.names) × (result.ask ≡ Cloned prefix.items)
+        × (result.about ≡ OfferOf author.name author.used ∷ []) × (result.state ≡ None) }
+{
+    spend!(held: Held, prefix: WrittenPrefix, further: WriteRights, author: Author);
+    Offer {
+        marker: PhantomData,
+    }
+}
+
+/// The same, if the next place is in an open buffer.
+pub fn offer_clone_open<T, B: HasSlots>(
+    seen: &Seen<Event<T>, Log<T>, OneWord<B>>,
+    held: Held,
+    prefix: WrittenPrefix<T, B>,
+    opened: Written<B>,
+    slots: WriteRights,
+    further: WriteRights,
+    author: Author,
+) -> Offer<Event<T>, Log<T>, OneWord<B>, ReleaseGain<B>>
+    requires { (held.name ≡ head seen.now.names) × (held.kinds ≡ [])
+        × (prefix.buffer_slots ≡ buffer_slots_of seen.now.names)
+        × IsOpenAt (buffer_slots_of seen.now.names) (length prefix.items)
+        opened.of (B.slot_names opened.value) slots.of further.of }
+    ensures { (result.names ≡ seen.now.names) × (result.ask ≡ Cloned prefix.items)
+        × (result.about ≡ OfferOf author.name author.used ∷ []) × (result.state ≡ None) }
+{
+    spend!(held: Held, prefix: WrittenPrefix, opened: Written, slots: WriteRights, further: WriteRights, author: Author);
+    Offer {
+        marker: PhantomData,
+    }
+}
+
+/// What a release gained: the author, and that the history was as long as the known one.
+pub fn take_released<T, B: HasSlots>(gained: Gained<Event<T>, Log<T>, ReleaseGain<B>>) -> Author
+    ensures { (result.name ≡ author_of gained.about) × (result.used ≡ used_of gained.about)
+        × (length gained.answer ≡ length (others gained.about))
+        × (OnlyPushed gained.about gained.answer) }
+{
+    spend!(gained: Gained);
+    Author {
+        marker: PhantomData,
+    }
+}
+
+/// What a publish gained: the same, with one ticket fewer.
+pub fn take_published<T, B: HasSlots>(gained: Gained<Event<T>, Log<T>, PublishGain<B>>) -> Author
+    ensures { (result.name ≡ author_of gained.about) × (result.used ≡ suc (used_of gained.about))
+        × (length gained.answer ≡ length (others gained.about))
+        × (OnlyPushed gained.about gained.answer) }
+{
+    spend!(gained: Gained);
+    Author {
+        marker: PhantomData,
+    }
+}
+
+/// An offer to read the length.
+pub fn offer_read<T, B: HasSlots>(
+    seen: &Seen<Event<T>, Log<T>, OneWord<B>>,
+    author: Author,
+) -> Offer<Event<T>, Log<T>, OneWord<B>, ReadGain<B>>
+    ensures { (result.names ≡ seen.now.names) × (result.ask ≡ OfferOf author.name author.used)
+        × (result.about ≡ OfferOf author.name author.used ∷ []) × (result.state ≡ None) }
+{
+    spend!(author: Author);
+    Offer {
+        marker: PhantomData,
+    }
+}
+
+/// What a read gained: the author, which has no entries beyond those it pushed, and the evidence for the whole list.
+pub fn take_read<T, B: HasSlots>(
+    gained: Gained<Event<T>, Log<T>, ReadGain<B>>,
+) -> (Author, WrittenPrefix<T, B>)
+    ensures { (result.0.name ≡ author_of gained.about) × (result.0.used ≡ used_of gained.about)
+        × OnlyPushed gained.about gained.answer
+        × (result.1.buffer_slots ≡ buffer_slots_of gained.names)
+        × (result.1.items ≡ items_of (list_of gained.answer)) }
+{
+    spend!(gained: Gained);
+    (
+        Author {
+            marker: PhantomData,
+        },
+        WrittenPrefix {
+            marker: PhantomData,
+        },
+    )
+}
+
+/// A history that was seen has no more entries of an author than it pushed.
+pub fn bounded_by_tickets<T, B: HasSlots>(
+    seen: &Seen<Event<T>, Log<T>, OneWord<B>>,
+    author: Author,
+) -> Author
+    ensures { (result.name ≡ author.name) × (result.used ≡ author.used)
+        × (count (suc author.name) (list_of seen.now.log) ≤ author.used) }
+{
+    spend!(author: Author);
+    Author {
+        marker: PhantomData,
+    }
+}
+
+/// A history that was seen shows, for good, that each place of its list was written. It takes no atomic step.
+pub fn evidence<T, B: HasSlots>(_seen: &Seen<Event<T>, Log<T>, OneWord<B>>) -> WrittenPrefix<T, B>
+    ensures { (result.buffer_slots ≡ buffer_slots_of _seen.now.names)
+        × (result.items ≡ items_of (list_of _seen.now.log)) }
+{
+    WrittenPrefix {
+        marker: PhantomData,
+    }
+}
+
+/// Two authors have two names.
+pub fn apart(one: Author, other: Author) -> (Author, Author)
+    ensures { (result.0.name ≡ one.name) × (result.0.used ≡ one.used) × (result.1.name ≡ other.name)
+        × (result.1.used ≡ other.used) × (one.name ≢ other.name) }
+{
+    spend!(one: Author, other: Author);
+    (
+        Author {
+            marker: PhantomData,
+        },
+        Author {
+            marker: PhantomData,
+        },
+    )
+}
+
+impl Author {
+    pub fn discard(self) {
+        let Self { marker: _ } = self;
+    }
+}
+
+unsafe impl Send for Author {}
