@@ -4,7 +4,8 @@
 //! for nobody. [`history`] has the recorder, [`machine`] every schedule of the concurrent vector.
 pub use elsa_free::lock_free::{LockFreeFrozenVec, Pass};
 pub use elsa_free::{lock_free, slots};
+pub use elsa_history as history;
 pub use elsa_locks::map::{FrozenBTreeMap, FrozenMap};
 pub use elsa_locks::vec::{FrozenVec, Iter};
-pub use elsa_locks::{history, map, vec};
+pub use elsa_locks::{map, vec};
 pub use elsa_machine::{geometry, machine};

@@ -1,9 +1,6 @@
 pub mod Clones
 pub mod Collected
-pub mod Counts
 pub mod Equals
 pub mod Items
 pub mod Ordered
-pub mod Receipts
-pub mod Replay
 pub mod Shared

@@ -7,12 +7,10 @@
 //!
 //! - [`map`]: hashed and ordered maps whose first insertion wins.
 //! - [`vec`]: a list that only grows.
-//! - [`history`]: any sequential object under a lock, with a history of all calls of all threads that replays.
 //!
 //! Calls that may wait for the lock take the right to wait, `rt`. A call that may need memory returns a `Result`; at
 //! `Err` the content is as before.
 #![tactic(auto)]
 
-pub mod history;
 pub mod map;
 pub mod vec;

@@ -8,7 +8,11 @@ mod lists;
 #[cfg(test)]
 mod maps;
 #[cfg(test)]
+mod marks;
+#[cfg(test)]
 mod no_memory;
+#[cfg(test)]
+mod overlaps;
 #[cfg(test)]
 mod recorder_refusals;
 #[cfg(test)]

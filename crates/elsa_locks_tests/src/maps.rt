@@ -1,4 +1,5 @@
 //! Worked rows of the locked maps, a state without a lock, and nine threads at one map.
+use crate::marks::Mark;
 use elsa_locks::map::{FrozenBTreeMap, FrozenMap, MapState};
 use std::alloc::{AllocError, Global};
 use std::cell::Cell;
@@ -161,6 +162,22 @@ fn has_text(rt: &impl Wait, map: &Owners, place: usize) -> Result<bool, AllocErr
     }
 }
 
+// Inserts the number behind the place with its text, waits until all nine are in, and says whether the next thread's is found.
+fn insert_beside_the_others(
+    rt: &impl Wait,
+    alloc: Global,
+    map: &Owners,
+    arrived: &Mark,
+    place: usize,
+) -> bool {
+    if !insert_text(rt, alloc, map, place) {
+        return false;
+    }
+    arrived.raise_by_one();
+    let next = if place >= 8 { 0 } else { place + 1 };
+    arrived.comes_to(9) && matches!(has_text(rt, map, next), Ok(true))
+}
+
 fn have_all_inserted(all: &[bool]) -> bool {
     for done in all {
         if !*done {
@@ -174,8 +191,14 @@ fn have_all_inserted(all: &[bool]) -> bool {
 fn nine_threads_find_what_the_others_inserted(rt: HostRuntime) -> Result<(), Fail> {
     let alloc: Global = rt.alloc();
     let map: Owners = FrozenMap::new(alloc);
-    let (shared, handle) = (&map, &rt);
-    let all = thread::map_indices(&rt, alloc, 9, &|i| insert_text(handle, alloc, shared, i))?;
+    let mark = Mark::new();
+    let (shared, handle, arrived) = (&map, &rt, &mark);
+    let all = thread::map_indices(
+        &rt,
+        alloc,
+        9,
+        &|i| insert_beside_the_others(handle, alloc, shared, arrived, i),
+    )?;
     assert!(rt; have_all_inserted(all.as_slice()));
     for place in 0..9usize {
         assert!(rt; has_text(&rt, &map, 8 - place)?);

@@ -1,7 +1,7 @@
 //! The recorder over cores on a budget: with each request for memory refused in turn, inside the core or around it, a refused call adds neither
 //! an entry nor a receipt, and the receipts are the history.
 use crate::harness::{Family, Script, goes_through, refuse_each_in_turn};
-use elsa_locks::history::{Core, MapCommand, MapReply, RecordPass, Recorder, VecCommand, VecReply};
+use elsa_history::{Core, MapCommand, MapReply, RecordPass, Recorder, VecCommand, VecReply};
 use elsa_locks::map::{MapState, TreeState};
 use elsa_locks::vec::VecState;
 use std::alloc::{AllocError, Global};

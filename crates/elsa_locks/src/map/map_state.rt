@@ -269,11 +269,7 @@ impl<K: Eq + Hash, V, A: Allocator + Copy> MapState<K, V, A> {
     /// A copy of the value that the key has afterwards, and whether the key was new.
     ///
     /// A present key takes no memory and always succeeds. `Err` leaves the content.
-    pub(crate) fn get_copy_or_insert_new(
-        &mut self,
-        key: K,
-        value: V,
-    ) -> Result<(V, bool), AllocError>
+    pub fn get_copy_or_insert_new(&mut self, key: K, value: V) -> Result<(V, bool), AllocError>
     where
         K: Drop,
         V: Copy,

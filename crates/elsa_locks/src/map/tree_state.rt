@@ -151,7 +151,7 @@ impl<K: Ord, V, A: Allocator + Copy> TreeState<K, V, A> {
     }
 
     /// A copy of the value at the key, or `None` if the key is absent. `O(log n)`. Takes no memory.
-    pub(crate) fn get_copy(&self, key: &K) -> Option<V>
+    pub fn get_copy(&self, key: &K) -> Option<V>
     where
         V: Copy,
         ensures { result ≡ value_at (eq_by_cmp K.cmp) self.now key.now }
@@ -216,11 +216,7 @@ impl<K: Ord, V, A: Allocator + Copy> TreeState<K, V, A> {
     /// A copy of the value that the key has afterwards, and whether the key was new.
     ///
     /// A present key takes no memory and always succeeds. `Err` leaves the entries.
-    pub(crate) fn get_copy_or_insert_new(
-        &mut self,
-        key: K,
-        value: V,
-    ) -> Result<(V, bool), AllocError>
+    pub fn get_copy_or_insert_new(&mut self, key: K, value: V) -> Result<(V, bool), AllocError>
     where
         K: Drop,
         V: Copy,

@@ -94,7 +94,7 @@ impl<V, A: Allocator + Copy> VecState<V, A> {
 
     /// A copy of the item at the place, or `None` at or past the end. `O(1)`. Takes no memory.
     #[tactic(auto, using(crate::proofs::Shared::get_items))]
-    pub(crate) fn get_copy(&self, place: usize) -> Option<V>
+    pub fn get_copy(&self, place: usize) -> Option<V>
     where
         V: Copy,
         ensures { result ≡ slice_get self.now place }

@@ -1,4 +1,4 @@
-use Rattle.std.proofs.Common.{◌≡◌, ℕ, Bool, true, false, true≢false, length, sym, ◌∙◌, ap, arith}
+use Rattle.std.proofs.Common.{◌≡◌, length, sym, ◌∙◌, arith}
 use Rattle.std.specs.Cmp.Lexicographic.{as_long}
 use Rattle.elsa_locks.proofs.Ordered.{agrees, compared, never, pointwise_shown}
 use Rattle.elsa_locks.proofs.Shared.{sorted_shown, length_shown}

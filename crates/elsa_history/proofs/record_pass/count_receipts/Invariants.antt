@@ -1,0 +1,12 @@
+use Rattle.std.proofs.Common.{◌≡◌, ◌+◌, ◌≤◌, ◌↔◌, length, take}
+use Rattle.elsa_history.specs.Receipts.{AreOf, receipt_count}
+use Rattle.elsa_history.proofs.record_pass.count_receipts.Given as goal
+
+abbrev pub invariant-loop-left : goal.invariant-loop-left
+invariant-loop-left g l =
+    (l.count + l.left ≤ length l.entries)
+    × (receipt_count l.passes.items + l.count ≡ receipt_count l.fn.passes.items)
+    × (AreOf g.C.Command.PartialEq.eq g.C.Reply.PartialEq.eq l.passes.items (take l.left l.entries) ↔ AreOf g.C.Command.PartialEq.eq g.C.Reply.PartialEq.eq l.fn.passes.items l.entries)
+
+abbrev pub decreases-loop-left : goal.decreases-loop-left
+decreases-loop-left g l = l.left

@@ -1,0 +1,4 @@
+pub mod MapStep
+pub mod Receipts
+pub mod Replay
+pub mod VecStep

@@ -1,0 +1,55 @@
+//! The list as a core of a recorder: its calls as commands and replies.
+
+use crate::Core;
+use elsa_locks::vec::VecState;
+use std::alloc::{AllocError, Allocator};
+
+/// A call on a list.
+#[derive(Clone, Copy, PartialEq, Eq)]
+pub enum VecCommand<V> {
+    /// Puts the item at the end.
+    Push(V),
+    /// Asks for the item at the place.
+    Get(usize),
+    /// Asks for the number of items.
+    Len,
+}
+
+/// A reply of a list.
+#[derive(Clone, Copy, PartialEq, Eq)]
+pub enum VecReply<V> {
+    /// To `Push`: the place of the item, counted from 0.
+    Place(usize),
+    /// To `Get`: the item, if there is one at the place.
+    Found(Option<V>),
+    /// To `Len`: the number of items.
+    Count(usize),
+}
+
+impl<V: Copy + Eq, A: Allocator + Copy> Core for VecState<V, A> {
+    ghost use Rattle.std.specs.Prelude.{List, []};
+    ghost use Rattle.elsa_history.specs.VecStep.{VecStep};
+
+    type Command = VecCommand<V>;
+
+    type Reply = VecReply<V>;
+
+    ghost State = { List V };
+
+    ghost state = { λ s. s };
+
+    ghost opening = { [] };
+
+    ghost steps = { VecStep };
+
+    fn apply(&mut self, command: VecCommand<V>) -> Result<VecReply<V>, AllocError> {
+        match command {
+            VecCommand::Push(value) => {
+                let place = self.push_get_index(value)?;
+                Ok(VecReply::Place(place))
+            }
+            VecCommand::Get(place) => Ok(VecReply::Found(self.get_copy(place))),
+            VecCommand::Len => Ok(VecReply::Count(self.len())),
+        }
+    }
+}

@@ -1,6 +1,0 @@
-use Rattle.std.proofs.Common.{◌≡◌, [], take}
-use Rattle.std.specs.List.{AllByRecursion}
-use Rattle.elsa_locks.proofs.history.record_pass.are_empty.Given as goal
-
-abbrev pub invariant-loop-i : goal.invariant-loop-i
-invariant-loop-i g l = AllByRecursion (λ p. p.1 ≡ []) (take l.i l.passes.items)

@@ -1,0 +1,474 @@
+//! Locked calls that overlap: a reader finds what another thread puts beside it, pushers alternate and are told the places of their own items, and
+//! a call holds its lock for as long as it must and no longer.
+ghost use Rattle.std.specs.Prelude.{nat_eq};
+ghost use Rattle.std.specs.Cmp.{nat_eq_equiv, on_equiv, partial_equiv_from_equiv};
+
+use crate::marks::{CALLS, Mark};
+use elsa_locks::map::{FrozenBTreeMap, FrozenMap};
+use elsa_locks::vec::FrozenVec;
+use std::alloc::Global;
+use std::sync::Wait;
+use std::test::Fail;
+use std::thread;
+use std::thread::Threads;
+
+type Hashed = FrozenMap<u64, u64>;
+
+type Ordered = FrozenBTreeMap<u64, u64>;
+
+type List = FrozenVec<u64>;
+
+// ---- absent, and then present
+
+// A shared collection that is empty, and then holds 6.
+trait Shelf {
+    // Puts the 6.
+    fn put<R: Wait>(&self, rt: &R) -> bool;
+
+    // The 6, if it is there.
+    fn find<R: Wait>(&self, rt: &R) -> Option<u64>;
+}
+
+impl Shelf for Hashed {
+    fn put<R: Wait>(&self, rt: &R) -> bool {
+        self.insert(rt, 1, 6).is_ok()
+    }
+
+    fn find<R: Wait>(&self, rt: &R) -> Option<u64> {
+        self.get_copy(rt, &1)
+    }
+}
+
+impl Shelf for Ordered {
+    fn put<R: Wait>(&self, rt: &R) -> bool {
+        self.insert(rt, 1, 6).is_ok()
+    }
+
+    fn find<R: Wait>(&self, rt: &R) -> Option<u64> {
+        self.map_get(rt, &1, |value| *value)
+    }
+}
+
+impl Shelf for List {
+    fn put<R: Wait>(&self, rt: &R) -> bool {
+        self.push(rt, 6).is_ok()
+    }
+
+    fn find<R: Wait>(&self, rt: &R) -> Option<u64> {
+        match self.get(rt, 0) {
+            Ok(Some(item)) => Some(*item),
+            _ => None,
+        }
+    }
+}
+
+// Whether the shelf is found empty and, after the other thread was asked, with its 6.
+fn sees_it_come<R: Wait, S: Shelf>(rt: &R, shelf: &S, asked: &Mark) -> bool {
+    if shelf.find(rt).is_some() {
+        return false;
+    }
+    asked.raise(1);
+    for _ in 0..CALLS {
+        if shelf.find(rt) == Some(6) {
+            return true;
+        }
+        thread::yield_now();
+    }
+    false
+}
+
+fn puts_when_asked<R: Wait, S: Shelf>(rt: &R, shelf: &S, asked: &Mark) -> bool {
+    asked.comes_to(1) && shelf.put(rt)
+}
+
+fn is_seen_to_come<R: Threads + Wait + Sync, S: Shelf + Sync>(rt: &R, shelf: &S) -> bool {
+    let mark = Mark::new();
+    let asked = &mark;
+    let (saw, put) = thread::join(
+        rt,
+        || sees_it_come(rt, shelf, asked),
+        || puts_when_asked(rt, shelf, asked),
+    );
+    saw && put
+}
+
+#[test]
+fn a_reader_finds_what_another_thread_puts_beside_it(rt: HostRuntime) -> Result<(), Fail> {
+    let hashed: Hashed = FrozenMap::new(rt.alloc());
+    let ordered: Ordered = FrozenBTreeMap::new(rt.alloc());
+    let list: List = FrozenVec::new(rt.alloc());
+    assert!(rt; is_seen_to_come(&rt, &hashed) && is_seen_to_come(&rt, &ordered));
+    assert!(rt; is_seen_to_come(&rt, &list));
+    Ok(())
+}
+
+// ---- pushers in step
+
+const ROUNDS: u64 = 20_000;
+
+fn has(rt: &impl Wait, list: &List, place: usize, item: u64) -> bool {
+    match list.get(rt, place) {
+        Ok(Some(there)) => *there == item,
+        _ => false,
+    }
+}
+
+// Whether a push of this round is told one of the round's two places, at which its own item is.
+fn is_told_its_place(rt: &impl Wait, list: &List, round: u64, item: u64) -> bool {
+    match list.push_get_index(rt, item) {
+        Ok(place) => (place / 2) as u64 == round && has(rt, list, place, item),
+        Err(_) => false,
+    }
+}
+
+// Pushes once a round, each when the other has pushed in the round before.
+fn pushes_in_step<R: Wait>(rt: &R, list: &List, mine: &Mark, other: &Mark, number: u64) -> bool {
+    for round in 0..ROUNDS {
+        let item = round.wrapping_mul(2).wrapping_add(number);
+        if !other.comes_to(round) || !is_told_its_place(rt, list, round, item) {
+            return false;
+        }
+        mine.raise(round + 1);
+    }
+    true
+}
+
+// A place that is read under one lock, for an item that goes in under another, is the other's in some round.
+#[test]
+fn pushers_in_step_are_told_the_places_of_their_own_items(rt: HostRuntime) -> Result<(), Fail> {
+    let list: List = FrozenVec::new(rt.alloc());
+    let marks = (Mark::new(), Mark::new());
+    let (shared, handle) = (&list, &rt);
+    let (one, two) = (&marks.0, &marks.1);
+    let (a, b) = thread::join(
+        &rt,
+        || pushes_in_step(handle, shared, one, two, 0),
+        || pushes_in_step(handle, shared, two, one, 1),
+    );
+    assert!(rt; a && b);
+    Ok(())
+}
+
+// ---- a comparison beside a call on its first collection
+
+// What a comparison and another thread tell each other.
+#[derive(Drop)]
+struct Visit {
+    compares: Mark,
+    changed: Mark,
+    saw: Mark,
+}
+
+impl Visit {
+    fn new() -> Visit {
+        Visit {
+            compares: Mark::new(),
+            changed: Mark::new(),
+            saw: Mark::new(),
+        }
+    }
+
+    // Waits, in a comparison, until the other thread has changed the first collection.
+    fn receive(&self) {
+        self.compares.raise(1);
+        if self.changed.comes_to(1) {
+            self.saw.raise(1);
+        }
+    }
+}
+
+// A number whose `==` waits for another thread.
+#[derive(Clone, Copy)]
+struct Watched<'v> {
+    number: u64,
+    visit: &'v Visit,
+}
+
+impl PartialEq for Watched<'_> {
+    ghost eq = { λ a b. nat_eq a.number b.number };
+
+    ghost laws = { partial_equiv_from_equiv (on_equiv (λ a. a.number) nat_eq_equiv) };
+
+    fn eq(&self, other: &Self) -> bool {
+        self.visit.receive();
+        self.number == other.number
+    }
+}
+
+// A shared collection of watched numbers.
+trait Compared {
+    // Puts the number at the end, or at itself.
+    fn put<R: Wait>(&self, rt: &R, number: u64) -> bool;
+
+    fn is_equal<R: Wait>(&self, rt: &R, other: &Self) -> bool;
+}
+
+#[derive(Drop)]
+struct WatchedList<'v> {
+    list: FrozenVec<Watched<'v>>,
+    visit: &'v Visit,
+}
+
+impl<'v> Compared for WatchedList<'v> {
+    fn put<R: Wait>(&self, rt: &R, number: u64) -> bool {
+        let visit = self.visit;
+        self.list.push(rt, Watched { number, visit }).is_ok()
+    }
+
+    fn is_equal<R: Wait>(&self, rt: &R, other: &Self) -> bool {
+        matches!(self.list.equals(rt, &other.list), Ok(true))
+    }
+}
+
+#[derive(Drop)]
+struct WatchedMap<'v> {
+    map: FrozenMap<u64, Watched<'v>>,
+    visit: &'v Visit,
+}
+
+impl<'v> Compared for WatchedMap<'v> {
+    fn put<R: Wait>(&self, rt: &R, number: u64) -> bool {
+        let visit = self.visit;
+        self.map
+            .insert(rt, number, Watched { number, visit })
+            .is_ok()
+    }
+
+    fn is_equal<R: Wait>(&self, rt: &R, other: &Self) -> bool {
+        matches!(self.map.equals(rt, &other.map), Ok(true))
+    }
+}
+
+#[derive(Drop)]
+struct WatchedTree<'v> {
+    map: FrozenBTreeMap<u64, Watched<'v>>,
+    visit: &'v Visit,
+}
+
+impl<'v> Compared for WatchedTree<'v> {
+    fn put<R: Wait>(&self, rt: &R, number: u64) -> bool {
+        let visit = self.visit;
+        self.map
+            .insert(rt, number, Watched { number, visit })
+            .is_ok()
+    }
+
+    fn is_equal<R: Wait>(&self, rt: &R, other: &Self) -> bool {
+        matches!(self.map.equals(rt, &other.map), Ok(true))
+    }
+}
+
+// Puts one more number into the collection while the comparison goes on.
+fn changes_it<R: Wait, C: Compared>(rt: &R, first: &C, visit: &Visit) -> bool {
+    let good = visit.compares.comes_to(1) && first.put(rt, 8);
+    visit.changed.raise(1);
+    good
+}
+
+// Whether both are equal as they were, and a call on the first was answered while they were compared.
+fn is_free_while_compared<R: Threads + Wait + Sync, C: Compared + Sync>(
+    rt: &R,
+    first: &C,
+    second: &C,
+    visit: &Visit,
+) -> bool {
+    if !first.put(rt, 7) || !second.put(rt, 7) {
+        return false;
+    }
+    let (equal, changed) = thread::join(
+        rt,
+        || first.is_equal(rt, second),
+        || changes_it(rt, first, visit),
+    );
+    equal && changed && visit.saw.is_at(1)
+}
+
+fn list_is_free<R: Threads + Wait + Sync>(rt: &R, alloc: Global) -> bool {
+    let visit = Visit::new();
+    let (one, two) = (FrozenVec::new(alloc), FrozenVec::new(alloc));
+    let visit = &visit;
+    is_free_while_compared(
+        rt,
+        &WatchedList { list: one, visit },
+        &WatchedList { list: two, visit },
+        visit,
+    )
+}
+
+fn map_is_free<R: Threads + Wait + Sync>(rt: &R, alloc: Global) -> bool {
+    let visit = Visit::new();
+    let (one, two) = (FrozenMap::new(alloc), FrozenMap::new(alloc));
+    let visit = &visit;
+    is_free_while_compared(
+        rt,
+        &WatchedMap { map: one, visit },
+        &WatchedMap { map: two, visit },
+        visit,
+    )
+}
+
+fn tree_is_free<R: Threads + Wait + Sync>(rt: &R, alloc: Global) -> bool {
+    let visit = Visit::new();
+    let (one, two) = (FrozenBTreeMap::new(alloc), FrozenBTreeMap::new(alloc));
+    let visit = &visit;
+    is_free_while_compared(
+        rt,
+        &WatchedTree { map: one, visit },
+        &WatchedTree { map: two, visit },
+        visit,
+    )
+}
+
+// A comparison that holds its own lock while it has the other's lets no call on its own collection in.
+#[test]
+fn a_comparison_holds_no_lock_of_its_own_beside_the_other(rt: HostRuntime) -> Result<(), Fail> {
+    assert!(rt; list_is_free(&rt, rt.alloc()));
+    assert!(rt; map_is_free(&rt, rt.alloc()) && tree_is_free(&rt, rt.alloc()));
+    Ok(())
+}
+
+// ---- closures under the lock
+
+// What a closure and a thread that makes a call beside it tell each other.
+#[derive(Drop)]
+struct Hold {
+    runs: Mark,
+    asks: Mark,
+    answered: Mark,
+    held: Mark,
+}
+
+impl Hold {
+    fn new() -> Hold {
+        Hold {
+            runs: Mark::new(),
+            asks: Mark::new(),
+            answered: Mark::new(),
+            held: Mark::new(),
+        }
+    }
+
+    // In the closure: notes whether the other thread's call stays unanswered while it runs.
+    fn run(&self) {
+        self.runs.raise(1);
+        if self.asks.comes_to(1) && !self.answered.comes_soon(1) {
+            self.held.raise(1);
+        }
+    }
+
+    // In the closure, which makes a 6.
+    fn make(&self) -> u64 {
+        self.run();
+        6
+    }
+}
+
+// A call of a locked map that takes a closure, and a call that must wait for it.
+trait Holding {
+    // Makes the call with a closure, and says whether it answered 6.
+    fn holds<R: Wait>(&self, rt: &R, hold: &Hold) -> bool;
+
+    // Makes the call beside it.
+    fn asks<R: Wait>(&self, rt: &R);
+}
+
+// The calls of a hashed map that make a value under the lock, by number; beside them a read.
+#[derive(Drop)]
+struct Making {
+    map: Hashed,
+    call: u64,
+}
+
+impl Making {
+    fn of(alloc: Global, call: u64) -> Making {
+        Making {
+            map: FrozenMap::new(alloc),
+            call,
+        }
+    }
+}
+
+fn is_six<E>(made: Result<u64, E>) -> bool
+where
+    E: Drop,
+{
+    match made {
+        Ok(value) => value == 6,
+        Err(_) => false,
+    }
+}
+
+impl Holding for Making {
+    fn holds<R: Wait>(&self, rt: &R, hold: &Hold) -> bool {
+        match self.call {
+            0 => matches!(self.map.insert_with(rt, 1, || hold.make()), Ok(value) if *value == 6),
+            1 => {
+                matches!(self.map.insert_with_key(rt, 1, |_| hold.make()), Ok(value) if *value == 6)
+            }
+            2 => is_six(self.map.get_copy_or_insert_with(rt, 1, || hold.make())),
+            _ => is_six(self.map.get_copy_or_insert_with_key(rt, 1, |_| hold.make())),
+        }
+    }
+
+    fn asks<R: Wait>(&self, rt: &R) {
+        let _ = self.map.get_copy(rt, &2);
+    }
+}
+
+// Reading with a closure; beside it an insertion.
+impl Holding for Hashed {
+    fn holds<R: Wait>(&self, rt: &R, hold: &Hold) -> bool {
+        self.map_get(rt, &1, |_| hold.make()) == Some(6)
+    }
+
+    fn asks<R: Wait>(&self, rt: &R) {
+        let _ = self.insert(rt, 2, 9);
+    }
+}
+
+impl Holding for Ordered {
+    fn holds<R: Wait>(&self, rt: &R, hold: &Hold) -> bool {
+        self.map_get(rt, &1, |_| hold.make()) == Some(6)
+    }
+
+    fn asks<R: Wait>(&self, rt: &R) {
+        let _ = self.insert(rt, 2, 9);
+    }
+}
+
+// Makes the other call while the closure runs.
+fn asks_beside<R: Wait, H: Holding>(rt: &R, map: &H, hold: &Hold) -> bool {
+    if !hold.runs.comes_to(1) {
+        return false;
+    }
+    hold.asks.raise(1);
+    map.asks(rt);
+    hold.answered.raise(1);
+    true
+}
+
+// Whether the call beside the closure waited for it.
+fn is_held<R: Threads + Wait + Sync, H: Holding + Sync>(rt: &R, map: &H) -> bool {
+    let own = Hold::new();
+    let hold = &own;
+    let (made, asked) = thread::join(rt, || map.holds(rt, hold), || asks_beside(rt, map, hold));
+    made && asked && hold.held.is_at(1)
+}
+
+// A closure that is called outside the lock lets another thread's call be answered while it runs.
+#[test]
+fn a_closure_that_makes_a_value_runs_under_the_lock(rt: HostRuntime) -> Result<(), Fail> {
+    for call in 0..4u64 {
+        assert!(rt; is_held(&rt, &Making::of(rt.alloc(), call)));
+    }
+    Ok(())
+}
+
+#[test]
+fn a_closure_that_reads_a_value_runs_under_the_lock(rt: HostRuntime) -> Result<(), Fail> {
+    let hashed: Hashed = FrozenMap::new(rt.alloc());
+    let ordered: Ordered = FrozenBTreeMap::new(rt.alloc());
+    assert!(rt; hashed.put(&rt) && ordered.put(&rt));
+    assert!(rt; is_held(&rt, &hashed) && is_held(&rt, &ordered));
+    Ok(())
+}
