@@ -1,5 +1,5 @@
 -- What stays of a content that grows, and what one insertion leaves.
-use Rattle.std.proofs.Common.{◌≡◌, ℕ, ◌+◌, Bool, true, false, true≢false, List, [], ◌∷◌, ◌++◌, length, position, slice_get, refl, sym, ap, ◌∙◌, append_assoc, append-nil, arith, Option, None, Some, MatchOption, ◌↔◌, IsPermutation}
+use Rattle.std.proofs.Common.{◌≡◌, ℕ, ◌+◌, Bool, true, false, true≢false, List, [], ◌∷◌, ◌++◌, length, position, slice_get, refl, sym, ap, ◌∙◌, append-nil, arith, Option, None, Some, MatchOption, ◌↔◌, IsPermutation}
 use Rattle.std.specs.Cmp.{IsEquivalence}
 use Rattle.std.specs.List.{IsDistinct}
 use Rattle.std.specs.Map.{keys_of, lookup}

@@ -3,6 +3,7 @@
 //! A new key goes last, and a present key keeps its place and its value. The layers above use the list of pairs that
 //! the contracts speak of, and `rebase`.
 ghost use Rattle.std.specs.Prelude.{◌≡◌, ◌++◌, ◌∷◌, ◌↔◌, [], ℕ, List, length, false, None, Ok, Some, slice_get, IfOk, IfSome, IsSome, IsSomeAnd, IsTrue, MatchOption, OnOk, OnErr, cond, is_some};
+ghost use Rattle.std.specs.Borrow.{Bor};
 ghost use Rattle.std.specs.Cmp;
 ghost use Rattle.std.specs.Cmp.{partial_equiv_from_equiv};
 ghost use Rattle.std.specs.HashMap.Eq.{hash_map_eq_symm, hash_map_eq_trans, hash_map_eq_refl};
@@ -328,6 +329,72 @@ impl<
     }
 }
 
+impl<'a, V: StableDeref<'a>, S: BuildHasher, A: Allocator + Copy> FrozenIndexMap<
+    'a,
+    &'a str,
+    V,
+    S,
+    A,
+> {
+    /// The value of the key that reads as `key` does, `None` exactly if there is none.
+    ///
+    /// It takes no memory. `O(1)`: one hash.
+    pub fn get_text(&self, key: &str) -> Option<V::Borrow>
+        ensures { result ≡ value_of ⟦<&'a str as PartialEq>⟧.eq self.now key.entry }
+    {
+        let found = self.map.get(key)?;
+        Some(*found)
+    }
+
+    // The place and the value of the key that reads as `key` does.
+    fn get_full_text(&self, key: &str) -> Option<(usize, V::Borrow)>
+        ensures place { option_map (λ r. r.0) result ≡ place_of ⟦<&'a str as PartialEq>⟧.eq self.now key.entry }
+        ensures value { option_map (λ r. r.1) result ≡ value_of ⟦<&'a str as PartialEq>⟧.eq self.now key.entry }
+    {
+        let (place, _, found) = self.map.get_full(key)?;
+        Some((place, *found))
+    }
+
+    /// Adds the pair last, unless a key of the map reads as `key` does, and returns the place of that text and the value that it
+    /// now has: [`insert_full`](FrozenIndexMap::insert_full) by a text of any lifetime.
+    ///
+    /// It looks first, by one hash: where the text is present, the given value is dropped, no memory is taken and nothing changes.
+    /// Otherwise the text is copied into the arena, and the pair inserted by one more hash. `AllocError` comes only for an
+    /// absent text and leaves the map as it was; the arena may keep a text or a value that nobody sees.
+    pub fn insert_full_text(
+        &mut self,
+        key: &str,
+        value: V,
+    ) -> Result<(usize, V::Borrow), AllocError>
+        ensures present { (x : V.Borrow) → value_of ⟦<&'a str as PartialEq>⟧.eq self.old key.entry ≡ Some x → (i : ℕ) × (place_of ⟦<&'a str as PartialEq>⟧.eq self.old key.entry ≡ Some i) × (result ≡ Ok (i, x)) × (self.new ≡ self.old) }
+        ensures accepted { IfOk result (λ r. (k : Bor (List ℕ)) × (k.now ≡ key.now) × Inserted ⟦<&'a str as PartialEq>⟧.eq V.target V.shown self.old k value r.0 r.1 self.new) }
+        ensures refused { OnErr result (self.new ≡ self.old) }
+        ensures only_new { OnErr result (place_of ⟦<&'a str as PartialEq>⟧.eq self.old key.entry ≡ None) }
+        ensures stands { IfOk result (λ r. value_of ⟦<&'a str as PartialEq>⟧.eq self.new key.entry ≡ Some r.1) }
+        ensures stands_at { IfOk result (λ r. place_of ⟦<&'a str as PartialEq>⟧.eq self.new key.entry ≡ Some r.0) }
+    {
+        if let Some(found) = self.get_full_text(key) {
+            return Ok(found);
+        }
+        let placed = self.arena.try_alloc_str(key)?;
+        self.insert_full(placed, value)
+    }
+
+    /// Adds the pair last, unless a key of the map reads as `key` does, and returns the value that this text now has.
+    ///
+    /// Costs and the refusal are those of `insert_full_text`.
+    pub fn insert_text(&mut self, key: &str, value: V) -> Result<V::Borrow, AllocError>
+        ensures present { (x : V.Borrow) → value_of ⟦<&'a str as PartialEq>⟧.eq self.old key.entry ≡ Some x → (result ≡ Ok x) × (self.new ≡ self.old) }
+        ensures accepted { IfOk result (λ b. (i : ℕ) × (k : Bor (List ℕ)) × (k.now ≡ key.now) × Inserted ⟦<&'a str as PartialEq>⟧.eq V.target V.shown self.old k value i b self.new) }
+        ensures refused { OnErr result (self.new ≡ self.old) }
+        ensures only_new { OnErr result (place_of ⟦<&'a str as PartialEq>⟧.eq self.old key.entry ≡ None) }
+        ensures stands { IfOk result (λ b. value_of ⟦<&'a str as PartialEq>⟧.eq self.new key.entry ≡ Some b) }
+    {
+        let (_, borrow) = self.insert_full_text(key, value)?;
+        Ok(borrow)
+    }
+}
+
 impl<
     'a,
     K: Eq + Hash + Drop,
@@ -412,7 +479,7 @@ impl<'a, K: Eq + Hash, V: StableDeref<'a>, S: BuildHasher, A: Allocator + Copy> 
     S,
     A,
 > {
-    ghost use Rattle.std.specs.Borrow.{sem};
+    ghost use Rattle.std.specs.Borrow.{Bor, sem};
     ghost use Rattle.elsa_index.specs.MapLent.{lends_pairs};
 
     /// The pairs, to write: a new base begins with what is left in them. It takes no memory.

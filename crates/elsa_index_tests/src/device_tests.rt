@@ -190,25 +190,47 @@ fn is_write_fault(outcome: &Outcome, habits: Habits) -> bool {
         && outcome.held.as_slice() == &ANSWERS[..taken]
 }
 
+/// Whether a reader of so many bytes a call, whose call `fails_at` fails, loses no answer, interrupted or not.
+fn stands_reads(alloc: Global, most: usize, fails_at: usize) -> bool {
+    for is_interrupted in [false, true] {
+        let habits = Habits {
+            most,
+            fails_at,
+            is_interrupted,
+        };
+        if !is_read_fault(&run(alloc, habits, GOOD), habits) {
+            return false;
+        }
+    }
+    true
+}
+
 #[test]
 fn a_reader_that_fails_at_one_call_loses_no_answer(rt: HostRuntime) -> Result<(), Fail> {
     for most in 1..=INPUT.len() {
         for fails_at in 0..INPUT.len() + 2 {
-            for is_interrupted in [false, true] {
-                let habits = Habits {
-                    most,
-                    fails_at,
-                    is_interrupted,
-                };
-                let outcome = run(rt.alloc(), habits, GOOD);
-                assert!(rt;
-                    is_read_fault(&outcome, habits),
-                    "{most} bytes a read, read {fails_at} fails"
-                );
-            }
+            assert!(rt;
+                stands_reads(rt.alloc(), most, fails_at),
+                "{most} bytes a read, read {fails_at} fails"
+            );
         }
     }
     Ok(())
+}
+
+/// Whether a writer of so many bytes a call, whose call `fails_at` fails, holds a beginning of the answers, interrupted or not.
+fn stands_writes(alloc: Global, most: usize, fails_at: usize) -> bool {
+    for is_interrupted in [false, true] {
+        let habits = Habits {
+            most,
+            fails_at,
+            is_interrupted,
+        };
+        if !is_write_fault(&run(alloc, GOOD, habits), habits) {
+            return false;
+        }
+    }
+    true
 }
 
 #[test]
@@ -217,21 +239,22 @@ fn a_writer_that_fails_at_one_call_holds_a_beginning_of_the_answers(
 ) -> Result<(), Fail> {
     for most in 0..=25 {
         for fails_at in 0..26 {
-            for is_interrupted in [false, true] {
-                let habits = Habits {
-                    most,
-                    fails_at,
-                    is_interrupted,
-                };
-                let outcome = run(rt.alloc(), GOOD, habits);
-                assert!(rt;
-                    is_write_fault(&outcome, habits),
-                    "{most} bytes a write, write {fails_at} fails"
-                );
-            }
+            assert!(rt;
+                stands_writes(rt.alloc(), most, fails_at),
+                "{most} bytes a write, write {fails_at} fails"
+            );
         }
     }
     Ok(())
+}
+
+/// Whether nothing failed, more than four calls were interrupted, and all answers were written.
+fn is_interrupted_alone(outcome: &Outcome) -> bool {
+    outcome.result.is_ok()
+        && outcome.read_failures == 0
+        && outcome.write_failures == 0
+        && outcome.interruptions > 4
+        && outcome.held.as_slice() == ANSWERS
 }
 
 #[test]
@@ -242,13 +265,8 @@ fn calls_that_a_signal_interrupts_are_made_again(rt: HostRuntime) -> Result<(), 
             fails_at: 1000,
             is_interrupted: true,
         };
-        let outcome = run(rt.alloc(), habits, habits);
-        let calm = outcome.read_failures == 0 && outcome.write_failures == 0;
         assert!(rt;
-            outcome.result.is_ok()
-                && calm
-                && outcome.interruptions > 4
-                && outcome.held.as_slice() == ANSWERS,
+            is_interrupted_alone(&run(rt.alloc(), habits, habits)),
             "{most} bytes a call"
         );
     }

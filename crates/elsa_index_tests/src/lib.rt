@@ -1,4 +1,4 @@
-//! Tests of the index forms, the runs, the interner and the cache as a stranger calls it: worked cases, odd but lawful keys, hostile lines, devices that fail, and memory refused.
+//! Tests of the index forms, the runs, the interner and the cache as a stranger calls it: worked cases, odd but lawful keys, hostile lines, and devices that fail.
 #![tactic(auto)]
 
 #[cfg(test)]
@@ -13,19 +13,11 @@ mod engine_tests;
 mod hasher_tests;
 #[cfg(test)]
 mod index_tests;
-#[cfg(test)]
-mod lines_refused;
-#[cfg(test)]
-mod map_refusals;
-#[cfg(test)]
-mod no_memory;
 pub mod odd_keys;
 #[cfg(test)]
-mod refusals;
+mod parsed_cache_tests;
 #[cfg(test)]
 mod run_map_tests;
-#[cfg(test)]
-mod run_refusals;
 #[cfg(test)]
 mod run_vec_tests;
 #[cfg(test)]

@@ -8,6 +8,7 @@ ghost use Rattle.std.specs.String.{string_bytes};
 ghost use Rattle.elsa_once.specs.FirstWins.{Adds, Keeps, value_at};
 ghost use Rattle.elsa_interner.specs.Cached.{Cached, first_character};
 
+pub use crate::parsed_cache::{CacheFault, ParsedCache};
 use bumpalo::Bump;
 use elsa_once::map::FrozenMap;
 use elsa_once::stable::Own;

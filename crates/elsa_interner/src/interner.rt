@@ -2,7 +2,9 @@
 //!
 //! [`Interner`] finds a name by its hash. [`intern_engine`] runs one over a reader's lines; it is generic over
 //! [`Source`] and [`Sink`], which [`Counted`] makes of any reader and writer of std.
-ghost use Rattle.std.specs.Prelude.{◌≡◌, ℕ, [], List, length, None, Some, slice_get, position, IfOk, OnErr};
+ghost use Rattle.std.specs.Prelude.{◌≡◌, ◌↔◌, ℕ, [], List, length, None, Some, slice_get, position, map, is_some, IfOk, IsTrue, OnErr};
+ghost use Rattle.std.specs.Borrow.{Bor};
+ghost use Rattle.std.specs.Map.Iter.{ShowsInOrder, ShowsInReverse, deref};
 ghost use Rattle.std.specs.Option.{option_map};
 ghost use Rattle.std.specs.Str.{bytes_eq};
 ghost use mathlib.Core.List.{IsPrefix};
@@ -12,6 +14,7 @@ pub use crate::devices::{Counted, Failed, Sink, Source};
 pub use crate::engine::{EngineFault, intern_engine, intern_engine_with_hasher};
 use bumpalo::Bump;
 use elsa_index::index_set::FrozenIndexSet;
+use indexmap::set::Iter;
 use std::alloc::{AllocError, Allocator, Global};
 use std::hash::{BuildHasher, BuildHasherDefault, FoldHasher};
 use std::marker::Model;
@@ -95,6 +98,31 @@ impl<'a, S: BuildHasher, A: Allocator + Copy> Interner<'a, S, A> {
         ensures one_to_one { IsOneToOne self.now }
     {
         self.count
+    }
+
+    /// Whether there are no names. Takes no memory. `O(1)`.
+    pub fn is_empty(&self) -> bool
+        ensures { IsTrue result ↔ (length self.now ≡ 0) }
+    {
+        self.len() == 0
+    }
+
+    /// Whether `put` kept this name. Takes no memory. `O(1)` hashed.
+    pub fn contains(&self, text: &str) -> bool
+        ensures { result ≡ is_some (position (bytes_eq text.now) self.now) }
+    {
+        self.find(text).is_some()
+    }
+
+    /// Each name once, in the order of the numbers; from the back, in reverse. Takes no memory. `O(1)`, and so is each name.
+    ///
+    /// No name can be put while it walks; `enumerate` gives the numbers.
+    pub fn iter(&self) -> Iter<'_, &'a str>
+        ensures names { map (λ name. name.now) result ≡ self.now }
+        ensures runs { ShowsInOrder (deref {X = Bor (List ℕ)}) }
+        ensures runs_back { ShowsInReverse (deref {X = Bor (List ℕ)}) }
+    {
+        self.names.iter()
     }
 
     /// The number of a name, which is kept if it is new and then has the number that [`Interner::len`] was.

@@ -7,6 +7,7 @@ pub mod devices;
 pub mod digits;
 pub mod engine;
 pub mod interner;
+mod parsed_cache;
 mod pending;
 pub mod plain_interner;
 mod reply;

@@ -10,6 +10,8 @@ mod refusals;
 #[cfg(test)]
 mod search_tests;
 #[cfg(test)]
+mod text_keys;
+#[cfg(test)]
 mod vec_tests;
 #[cfg(test)]
 mod walks;

@@ -33,7 +33,7 @@ fn main(rt: HostRuntime) -> io::Result<()> {
             println!(rt; "FILE SECTION KEY, please")?;
             continue;
         };
-        let tree = match shelf.tree(&rt, String::from_str(alloc, file)?) {
+        let tree = match shelf.tree(&rt, file) {
             Ok(tree) => tree,
             Err(fault) => {
                 println!(rt; "{file}: {fault}")?;
@@ -47,7 +47,7 @@ fn main(rt: HostRuntime) -> io::Result<()> {
         println!(rt; "{file}: {value}")?;
         first = first.or(Some(value));
     }
-    println!(rt; "{} files stay loaded", shelf.trees.len())?;
+    println!(rt; "{} files stay loaded", shelf.files.len())?;
     drop(shelf);
     println!(rt; "the first answer was {}", first.unwrap_or("none"))
 }

@@ -6,8 +6,9 @@ ghost use Rattle.example_loaded_files.specs.declared.ini.Tree.{Tree};
 
 use crate::ini::{Nodes, ParseFault, Tree};
 use bumpalo::Bump;
-use elsa::{FrozenMap, Own, SeededState};
-use std::alloc::{AllocError, Global};
+use elsa::SeededState;
+use elsa::cache::{CacheFault, ParsedCache};
+use std::alloc::Global;
 use std::io::ErrorKind;
 use std::rt::Files;
 use std::{fmt, fs, io};
@@ -23,12 +24,6 @@ pub enum LoadFault {
     Unreadable,
     /// Memory was refused, or the text isn't a tree.
     Parse(ParseFault),
-}
-
-impl From<AllocError> for LoadFault {
-    fn from(_: AllocError) -> LoadFault {
-        LoadFault::Parse(ParseFault::Memory)
-    }
 }
 
 impl From<io::Error> for LoadFault {
@@ -58,56 +53,47 @@ impl fmt::Display for LoadFault {
 #[derive(Drop)]
 pub struct Shelf<'a> {
     alloc: Global,
-    texts: FrozenMap<'a, String, String, SeededState>,
-    /// The trees that were answered.
-    pub trees: FrozenMap<'a, String, Own<Tree<'a>>, SeededState>,
+    /// The texts that were read, and the trees that were made of them.
+    pub files: ParsedCache<'a, Tree<'a>, SeededState>,
     nodes: Nodes<'a>,
 }
 
 impl<'a> Shelf<'a> {
     /// No files; their paths are hashed with this secret. Takes no memory.
     pub fn new(alloc: Global, arena: &'a Bump, secret: SeededState) -> Self
-        ensures { result.trees ≡ [] }
+        ensures { result.files.resources ≡ [] }
     {
         Shelf {
             alloc,
-            texts: FrozenMap::with_hasher(alloc, arena, secret),
-            trees: FrozenMap::with_hasher(alloc, arena, secret),
+            files: ParsedCache::with_hashers(alloc, arena, secret, secret),
             nodes: Nodes::new(alloc, arena),
         }
     }
 
-    /// The text of a file, which is read where it isn't here.
-    fn text<R: Files + AllocGlobal>(&mut self, rt: &R, path: &String) -> Result<&'a str, LoadFault>
-        ensures { self.new.trees ≡ self.old.trees }
-    {
-        if let Some(text) = self.texts.get(path) {
-            return Ok(text);
-        }
-        let text = fs::read_to_string(rt, path.as_str())?;
-        Ok(self.texts.insert(path.clone()?, text)?)
-    }
-
-    /// The tree of a file. The file is read and parsed where its tree isn't here, and never again once a tree was answered.
+    /// The tree of a file. The file is read where its text isn't here, and parsed where its tree isn't.
     ///
-    /// Err leaves the trees as they were.
+    /// `Err` leaves the trees as they were.
     pub fn tree<R: Files + AllocGlobal>(
         &mut self,
         rt: &R,
-        path: String,
+        path: &str,
     ) -> Result<&'a Tree<'a>, LoadFault>
-        ensures present { (tree : Bor Tree) → lookup (⟦<String as PartialEq>⟧.eq path) self.old.trees ≡ Some tree → (result ≡ Ok tree) × (self.new.trees ≡ self.old.trees) }
-        ensures stays { IfOk result (λ tree. lookup (⟦<String as PartialEq>⟧.eq path) self.new.trees ≡ Some tree) }
-        ensures refused { OnErr result (self.new.trees ≡ self.old.trees) }
+        ensures present { (tree : Bor Tree) → lookup (⟦<&'a str as PartialEq>⟧.eq path.entry) self.old.files.resources ≡ Some tree → (result ≡ Ok tree) × (self.new.files ≡ self.old.files) }
+        ensures stays { IfOk result (λ tree. lookup (⟦<&'a str as PartialEq>⟧.eq path.entry) self.new.files.resources ≡ Some tree) }
+        ensures refused { OnErr result (self.new.files.resources ≡ self.old.files.resources) }
     {
-        if let Some(tree) = self.trees.get(&path) {
-            return Ok(tree);
+        let alloc = self.alloc;
+        let nodes = &mut self.nodes;
+        let tree = self.files.get_or_parse(
+            path,
+            |path| fs::read_to_string(rt, path),
+            |text| nodes.parse(alloc, text),
+        );
+        match tree {
+            Ok(tree) => Ok(tree),
+            Err(CacheFault::Load(error)) => Err(LoadFault::from(error)),
+            Err(CacheFault::Parse(fault)) => Err(LoadFault::Parse(fault)),
+            Err(CacheFault::Memory) => Err(LoadFault::Parse(ParseFault::Memory)),
         }
-        let text = self.text(rt, &path)?;
-        let tree = match self.nodes.parse(self.alloc, text) {
-            Ok(tree) => tree,
-            Err(fault) => return Err(LoadFault::Parse(fault)),
-        };
-        Ok(self.trees.insert(path, Own(tree))?)
     }
 }

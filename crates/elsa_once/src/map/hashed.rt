@@ -273,6 +273,38 @@ impl<'a, K: Eq + Hash + Drop, V: StableDeref<'a>, S: BuildHasher, A: Allocator +
     }
 }
 
+impl<'a, V: StableDeref<'a>, S: BuildHasher, A: Allocator + Copy> FrozenMap<'a, &'a str, V, S, A> {
+    /// The value at the text `key`, or `None` exactly if no key of the map reads the same. Takes no memory; one hash and one search.
+    pub fn get_text(&self, key: &str) -> Option<V::Borrow>
+        ensures { result ≡ value_at ⟦<&'a str as PartialEq>⟧.eq self.now key.entry }
+    {
+        let found = self.entries.get(key)?;
+        Some(*found)
+    }
+
+    /// Gives the text `key` the value, unless a key of the map reads the same, and returns the value that the text now has:
+    /// [`insert`](FrozenMap::insert) by a text of any lifetime.
+    ///
+    /// A present text keeps its value: `value` is dropped, no memory is taken and the result is `Ok`, after one hash and one search.
+    /// A new one is copied into the arena and inserted there, which takes one more hash. Where either fails, it returns `Err`, the
+    /// map stays as it was, and the arena may keep a text or a value that nobody sees.
+    pub fn insert_text(&mut self, key: &str, value: V) -> Result<V::Borrow, AllocError>
+        ensures present { (x : V.Borrow) → value_at ⟦<&'a str as PartialEq>⟧.eq self.old key.entry ≡ Some x → (result ≡ Ok x) × (self.new ≡ self.old) }
+        ensures stands { IfOk result (λ b. value_at ⟦<&'a str as PartialEq>⟧.eq self.new key.entry ≡ Some b) }
+        ensures new_target { value_at ⟦<&'a str as PartialEq>⟧.eq self.old key.entry ≡ None → IfOk result (λ b. V.shown b ≡ V.target value) }
+        ensures new_content { value_at ⟦<&'a str as PartialEq>⟧.eq self.old key.entry ≡ None → IfOk result (λ b. Adds ⟦<&'a str as PartialEq>⟧.eq (value_at ⟦<&'a str as PartialEq>⟧.eq self.old) (value_at ⟦<&'a str as PartialEq>⟧.eq self.new) key.entry b) }
+        ensures new_length { value_at ⟦<&'a str as PartialEq>⟧.eq self.old key.entry ≡ None → OnOk result (length self.new ≡ length self.old + 1) }
+        ensures refused { OnErr result (self.new ≡ self.old) }
+        ensures only_new { OnErr result (value_at ⟦<&'a str as PartialEq>⟧.eq self.old key.entry ≡ None) }
+    {
+        if let Some(found) = self.get_text(key) {
+            return Ok(found);
+        }
+        let placed = self.arena.try_alloc_str(key)?;
+        self.insert(placed, value)
+    }
+}
+
 impl<
     'a,
     K: Eq + Hash + Drop,

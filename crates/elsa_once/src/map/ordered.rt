@@ -323,6 +323,38 @@ impl<'a, K: Ord + Drop, V: StableDeref<'a>, A: Allocator + Copy> FrozenBTreeMap<
     }
 }
 
+impl<'a, V: StableDeref<'a>, A: Allocator + Copy> FrozenBTreeMap<'a, &'a str, V, A> {
+    /// The value at the text `key`, or `None` exactly if no key of the map reads the same. Takes no memory; one search.
+    pub fn get_text(&self, key: &str) -> Option<V::Borrow>
+        ensures { result ≡ value_at (eq_by_cmp ⟦<&'a str as Ord>⟧.cmp) self.now key.entry }
+    {
+        let found = self.entries.get(key)?;
+        Some(*found)
+    }
+
+    /// Gives the text `key` the value, unless a key of the map reads the same, and returns the value that the text now has:
+    /// [`insert`](FrozenBTreeMap::insert) by a text of any lifetime.
+    ///
+    /// A present text keeps its value: `value` is dropped, no memory is taken and the result is `Ok`, after one search.
+    /// A new one is copied into the arena and inserted there, which takes two more searches. Where either fails, it returns `Err`, the
+    /// map stays as it was, and the arena may keep a text or a value that nobody sees.
+    pub fn insert_text(&mut self, key: &str, value: V) -> Result<V::Borrow, AllocError>
+        ensures present { (x : V.Borrow) → value_at (eq_by_cmp ⟦<&'a str as Ord>⟧.cmp) self.old key.entry ≡ Some x → (result ≡ Ok x) × (self.new ≡ self.old) }
+        ensures stands { IfOk result (λ b. value_at (eq_by_cmp ⟦<&'a str as Ord>⟧.cmp) self.new key.entry ≡ Some b) }
+        ensures new_target { value_at (eq_by_cmp ⟦<&'a str as Ord>⟧.cmp) self.old key.entry ≡ None → IfOk result (λ b. V.shown b ≡ V.target value) }
+        ensures new_content { value_at (eq_by_cmp ⟦<&'a str as Ord>⟧.cmp) self.old key.entry ≡ None → IfOk result (λ b. Adds (eq_by_cmp ⟦<&'a str as Ord>⟧.cmp) (value_at (eq_by_cmp ⟦<&'a str as Ord>⟧.cmp) self.old) (value_at (eq_by_cmp ⟦<&'a str as Ord>⟧.cmp) self.new) key.entry b) }
+        ensures new_length { value_at (eq_by_cmp ⟦<&'a str as Ord>⟧.cmp) self.old key.entry ≡ None → OnOk result (length self.new ≡ length self.old + 1) }
+        ensures refused { OnErr result (self.new ≡ self.old) }
+        ensures only_new { OnErr result (value_at (eq_by_cmp ⟦<&'a str as Ord>⟧.cmp) self.old key.entry ≡ None) }
+    {
+        if let Some(found) = self.get_text(key) {
+            return Ok(found);
+        }
+        let placed = self.arena.try_alloc_str(key)?;
+        self.insert(placed, value)
+    }
+}
+
 impl<'a, 'q, K: Ord, V: StableDeref<'a>, A: Allocator + Copy> Index<&'q K>
     for FrozenBTreeMap<'a, K, V, A> {
     type Output = V::Borrow;

@@ -1,0 +1,195 @@
+//! A cache of what a parser makes of loaded texts, which borrows from them.
+//!
+//! It stands on the contract of `FrozenMap` alone: the first value of a key stays.
+ghost use Rattle.std.specs.Prelude.{◌≡◌, [], List, ℕ, false, None, Some, Ok, Err, IfOk, IfSome, OnErr, length};
+ghost use Rattle.std.specs.Borrow.{Bor};
+ghost use Rattle.std.specs.Fn.{FnOnceReturnsAt};
+ghost use Rattle.std.specs.String.{string_bytes};
+ghost use Rattle.elsa_once.specs.FirstWins.{value_at};
+ghost use Rattle.elsa_interner.specs.Cached.{Cached};
+
+use bumpalo::Bump;
+use elsa_once::map::FrozenMap;
+use elsa_once::stable::Own;
+use std::alloc::{Allocator, Global};
+use std::hash::{BuildHasher, BuildHasherDefault, FoldHasher};
+use std::marker::Model;
+
+/// Why a path has no value.
+#[derive(Clone, Copy, Debug, PartialEq, Eq)]
+pub enum CacheFault<L, P> {
+    /// The loader's error. Nothing changed.
+    Load(L),
+    /// The parser's error. The path has its text now; nothing else changed.
+    Parse(P),
+    /// Memory was refused. The values are as they were; the texts are, or have this path's text.
+    Memory,
+}
+
+/// Texts by path, and what was made of them, which may borrow from its text. Both lie in the arena.
+pub struct ParsedCache<
+    'a,
+    T: Copy + 'a,
+    S: BuildHasher = BuildHasherDefault<FoldHasher>,
+    A: Allocator + Copy = Global,
+> {
+    texts: FrozenMap<'a, &'a str, String, S, A>,
+    values: FrozenMap<'a, &'a str, Own<T>, S, A>,
+}
+
+impl<'a, T: Copy + 'a, S: BuildHasher, A: Allocator + Copy> Model for ParsedCache<'a, T, S, A> {
+    ghost use Rattle.std.specs.Prelude.{List, ℕ};
+    ghost use Rattle.std.specs.Borrow.{Bor};
+    ghost use Rattle.elsa_interner.specs.Cached.{Cached};
+
+    ghost Value = { Cached (Bor (List ℕ)) (Bor (List ℕ)) (Bor T) };
+
+    ghost view = { λ c. record { texts = c.texts; resources = c.values } };
+}
+
+impl<'a, T: Copy + 'a, S: BuildHasher + Drop, A: Allocator + Copy> Drop
+    for ParsedCache<'a, T, S, A> {
+    fn drop(self) {
+        let ParsedCache {
+            texts: _texts,
+            values: _values,
+        } = self;
+    }
+}
+
+impl<'a, T: Copy + 'a, A: Allocator + Copy> ParsedCache<'a, T, BuildHasherDefault<FoldHasher>, A> {
+    /// A cache without paths, over `arena` for the texts and values and `alloc` for the tables. Takes no memory.
+    ///
+    /// The paths are hashed without a secret; where strangers choose them, take [`with_hashers`](ParsedCache::with_hashers).
+    pub fn new(alloc: A, arena: &'a Bump) -> Self
+        ensures texts { result.texts ≡ [] }
+        ensures values { result.resources ≡ [] }
+    {
+        ParsedCache::with_hashers(
+            alloc,
+            arena,
+            BuildHasherDefault::new(),
+            BuildHasherDefault::new(),
+        )
+    }
+}
+
+impl<'a, T: Copy + 'a, S: BuildHasher, A: Allocator + Copy> ParsedCache<'a, T, S, A> {
+    /// A cache without paths, whose two tables hash by `texts` and `values`. Takes no memory.
+    pub fn with_hashers(alloc: A, arena: &'a Bump, texts: S, values: S) -> Self
+        ensures texts { result.texts ≡ [] }
+        ensures values { result.resources ≡ [] }
+    {
+        ParsedCache {
+            texts: FrozenMap::with_hasher(alloc, arena, texts),
+            values: FrozenMap::with_hasher(alloc, arena, values),
+        }
+    }
+
+    /// The value of the path, `None` exactly if it has none. Takes no memory; one hash.
+    pub fn get(&self, path: &str) -> Option<&'a T>
+        ensures { result ≡ value_at ⟦<&'a str as PartialEq>⟧.eq self.now.resources path.entry }
+    {
+        self.values.get_text(path)
+    }
+
+    /// The text of the path, `None` exactly if it has none. Takes no memory; one hash.
+    pub fn text(&self, path: &str) -> Option<&'a str>
+        ensures { result ≡ value_at ⟦<&'a str as PartialEq>⟧.eq self.now.texts path.entry }
+    {
+        self.texts.get_text(path)
+    }
+
+    /// The number of paths that have a value.
+    pub fn len(&self) -> usize
+        ensures { result ≡ length self.now.resources }
+    {
+        self.values.len()
+    }
+
+    // The text of the path: the one that is there, or else the loader's, which is kept. `None` where memory was refused.
+    fn load<L, F: FnOnce(&str) -> Result<String, L>>(
+        &mut self,
+        path: &str,
+        load: F,
+    ) -> Result<Option<&'a str>, L>
+    where
+        F: Drop,
+        requires loader { value_at ⟦<&'a str as PartialEq>⟧.eq self.old.texts path ≡ None → F.IsAlwaysCallable load }
+        ensures present { (t : Bor (List ℕ)) → value_at ⟦<&'a str as PartialEq>⟧.eq self.old.texts path.entry ≡ Some t → (result ≡ Ok (Some t)) × (self.new ≡ self.old) }
+        ensures loaded { (t : Bor (List ℕ)) → value_at ⟦<&'a str as PartialEq>⟧.eq self.old.texts path.entry ≡ None → value_at ⟦<&'a str as PartialEq>⟧.eq self.new.texts path.entry ≡ Some t → (s : _) × FnOnceReturnsAt F.FnOnce load path.now (Ok s) × (t.now ≡ string_bytes s) }
+        ensures stays { IfOk result (λ o. IfSome o (λ t. value_at ⟦<&'a str as PartialEq>⟧.eq self.new.texts path.entry ≡ Some t)) }
+        ensures others { (q : Bor (List ℕ)) → ⟦<&'a str as PartialEq>⟧.eq path.entry q ≡ false → value_at ⟦<&'a str as PartialEq>⟧.eq self.new.texts q ≡ value_at ⟦<&'a str as PartialEq>⟧.eq self.old.texts q }
+        ensures values { self.new.resources ≡ self.old.resources }
+        ensures no_memory { result ≡ Ok None → (self.new ≡ self.old) × (value_at ⟦<&'a str as PartialEq>⟧.eq self.old.texts path.entry ≡ None) }
+        ensures no_room { result ≡ Ok None → (s : _) × FnOnceReturnsAt F.FnOnce load path.now (Ok s) }
+        ensures not_loaded { (e : L) → result ≡ Err e → (self.new ≡ self.old) × FnOnceReturnsAt F.FnOnce load path.now (Err e) }
+    {
+        if let Some(text) = self.texts.get_text(path) {
+            return Ok(Some(text));
+        }
+        let loaded = load(path)?;
+        let Ok(text) = self.texts.insert_text(path, loaded) else {
+            return Ok(None);
+        };
+        Ok(Some(text))
+    }
+
+    /// The value of the path: the one that it has, or else what `parse` makes of its text, which is the one that it has, or else
+    /// what `load` returns for the path.
+    ///
+    /// So neither is called for a path that has a value, and the loader isn't for one that has a text; each is called once at most.
+    /// A path with a value takes no memory and one hash. A new one takes two copies of the path, the text and the value in the
+    /// arena, room in two tables, and six hashes.
+    pub fn get_or_parse<
+        L,
+        P,
+        F: FnOnce(&str) -> Result<String, L>,
+        G: FnOnce(&'a str) -> Result<T, P>,
+    >(&mut self, path: &str, load: F, parse: G) -> Result<&'a T, CacheFault<L, P>>
+    where
+        F: Drop,
+        G: Drop,
+        requires loader { value_at ⟦<&'a str as PartialEq>⟧.eq self.old.resources path ≡ None → value_at ⟦<&'a str as PartialEq>⟧.eq self.old.texts path ≡ None → F.IsAlwaysCallable load }
+        requires parser { value_at ⟦<&'a str as PartialEq>⟧.eq self.old.resources path ≡ None → G.IsAlwaysCallable parse }
+
+        // A value that is there.
+        ensures present { (v : Bor T) → value_at ⟦<&'a str as PartialEq>⟧.eq self.old.resources path.entry ≡ Some v → (result ≡ Ok v) × (self.new ≡ self.old) }
+
+        // A value that is made now: of the text that the path has then, which is the loader's if it is new.
+        ensures made { value_at ⟦<&'a str as PartialEq>⟧.eq self.old.resources path.entry ≡ None → IfOk result (λ v. (t : Bor (List ℕ)) × (value_at ⟦<&'a str as PartialEq>⟧.eq self.new.texts path.entry ≡ Some t) × G.post parse t (Ok v.now)) }
+        ensures loaded { (t : Bor (List ℕ)) → value_at ⟦<&'a str as PartialEq>⟧.eq self.old.texts path.entry ≡ None → value_at ⟦<&'a str as PartialEq>⟧.eq self.new.texts path.entry ≡ Some t → (s : _) × FnOnceReturnsAt F.FnOnce load path.now (Ok s) × (t.now ≡ string_bytes s) }
+
+        // What stays.
+        ensures stays { IfOk result (λ v. value_at ⟦<&'a str as PartialEq>⟧.eq self.new.resources path.entry ≡ Some v) }
+        ensures text_stays { (t : Bor (List ℕ)) → value_at ⟦<&'a str as PartialEq>⟧.eq self.old.texts path.entry ≡ Some t → value_at ⟦<&'a str as PartialEq>⟧.eq self.new.texts path.entry ≡ Some t }
+        ensures other_texts { (q : Bor (List ℕ)) → ⟦<&'a str as PartialEq>⟧.eq path.entry q ≡ false → value_at ⟦<&'a str as PartialEq>⟧.eq self.new.texts q ≡ value_at ⟦<&'a str as PartialEq>⟧.eq self.old.texts q }
+        ensures other_values { (q : Bor (List ℕ)) → ⟦<&'a str as PartialEq>⟧.eq path.entry q ≡ false → value_at ⟦<&'a str as PartialEq>⟧.eq self.new.resources q ≡ value_at ⟦<&'a str as PartialEq>⟧.eq self.old.resources q }
+
+        // Refusals: by whom, and what each leaves.
+        ensures refused { OnErr result (self.new.resources ≡ self.old.resources) }
+        ensures not_loaded { (e : L) → result ≡ Err (CacheFault.Load e) → (self.new ≡ self.old) × FnOnceReturnsAt F.FnOnce load path.now (Err e) }
+        ensures not_parsed { (e : P) → result ≡ Err (CacheFault.Parse e) → (t : Bor (List ℕ)) × (value_at ⟦<&'a str as PartialEq>⟧.eq self.new.texts path.entry ≡ Some t) × G.post parse t (Err e) }
+
+        // Memory was refused for the text where the path has none, else for the value.
+        ensures no_text { result ≡ Err CacheFault.Memory → value_at ⟦<&'a str as PartialEq>⟧.eq self.new.texts path.entry ≡ None → (s : _) × FnOnceReturnsAt F.FnOnce load path.now (Ok s) }
+        ensures no_value { (t : Bor (List ℕ)) → result ≡ Err CacheFault.Memory → value_at ⟦<&'a str as PartialEq>⟧.eq self.new.texts path.entry ≡ Some t → (v : T) × G.post parse t (Ok v) }
+    {
+        if let Some(value) = self.values.get_text(path) {
+            return Ok(value);
+        }
+        let text = match self.load(path, load) {
+            Ok(Some(text)) => text,
+            Ok(None) => return Err(CacheFault::Memory),
+            Err(fault) => return Err(CacheFault::Load(fault)),
+        };
+        let value = match parse(text) {
+            Ok(value) => value,
+            Err(fault) => return Err(CacheFault::Parse(fault)),
+        };
+        let Ok(kept) = self.values.insert_text(path, Own(value)) else {
+            return Err(CacheFault::Memory);
+        };
+        Ok(kept)
+    }
+}
