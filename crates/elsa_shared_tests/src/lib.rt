@@ -8,15 +8,31 @@ mod form_tests;
 #[cfg(test)]
 mod gates;
 #[cfg(test)]
+mod index_form_tests;
+#[cfg(test)]
 mod job_tests;
+#[cfg(test)]
+mod locked_form_tests;
+#[cfg(test)]
+mod map_form_tests;
 #[cfg(test)]
 mod names;
 #[cfg(test)]
 mod names_tests;
 #[cfg(test)]
+mod pass_form_tests;
+#[cfg(test)]
+mod run_form_tests;
+#[cfg(test)]
+mod search_form_tests;
+#[cfg(test)]
 mod shared_names;
 #[cfg(test)]
 mod shared_tests;
+#[cfg(test)]
+mod state_form_tests;
+#[cfg(test)]
+mod text_key_tests;
 #[cfg(test)]
 mod upstream_tests;
 #[cfg(test)]

@@ -3,25 +3,28 @@ use crate::names::number_of;
 use crate::shared_names;
 use crate::shared_names::Numbers;
 use bumpalo::Bump;
-use elsa::{FrozenMap, FrozenVec, sync};
+use elsa::{FrozenMap, sync};
 use std::alloc::{AllocError, Global};
 use std::sync::Wait;
 use std::sync::atomic::{AtomicU64, Ordering};
 use std::test::*;
 use std::thread;
 
-/// A name keeps its first number, whoever holds the text that asks; a place in the arena is taken once for each name.
+/// A name keeps its first number, whoever holds the text that asks, and the next new name has the next number.
 #[test]
 fn a_name_keeps_its_first_number(rt: HostRuntime) -> Result<(), Fail> {
     let arena = Bump::new(rt.alloc());
-    let mut texts = FrozenVec::new(rt.alloc(), &arena);
     let mut numbers = FrozenMap::new(rt.alloc(), &arena);
-    for (name, given, kept) in [("lonely", 3, 3), ("best friend", 5, 5), ("lonely", 7, 3)] {
+    for (name, kept) in [
+        ("lonely", 0),
+        ("best friend", 1),
+        ("lonely", 0),
+        ("third", 2),
+    ] {
         let asked = String::from_str(rt.alloc(), name)?;
-        let number = number_of(rt.alloc(), &mut texts, &mut numbers, &asked, given)?;
+        let number = number_of(&mut numbers, &asked)?;
         assert_eq!(rt; *number, kept);
     }
-    assert_eq!(rt; texts.len(), 2);
     Ok(())
 }
 

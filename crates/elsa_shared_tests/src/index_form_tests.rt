@@ -1,0 +1,154 @@
+//! The forms of calls that docs/CALLING.md lists for index maps and sets of numbers, through `elsa` and `bumpalo` alone: each proved and run.
+use bumpalo::Bump;
+use elsa::{FrozenIndexMap, FrozenIndexSet, LookUp, Own, StableDeref};
+use std::alloc::{AllocError, Global};
+use std::hash::BuildHasherDefault;
+use std::test::Fail;
+
+// ---- the map
+
+type Map<'a> = FrozenIndexMap<'a, u64, Own<u64>>;
+
+/// Gives 7 the value 1 and 5 the value 2, and says whether 7 kept its first value.
+fn fills<'a>(map: &mut Map<'a>) -> Result<bool, AllocError> {
+    let (value, is_new) = map.insert_new(7, Own(1))?;
+    map.insert(5, Own(2))?;
+    Ok(is_new && *value == 1 && *map.insert(7, Own(3))? == 1)
+}
+
+/// Whether the map answers by the key 5.
+fn has_five<'a>(map: &Map<'a>) -> bool {
+    let full = map.get_full(&5) == Some((1, 5, &2)) && map.contains_key(&5);
+    full && map.map_get(&5, |value| *value) == Some(2) && map.get(&5).is_some() && *map[&5] == 2
+}
+
+/// The digits of the keys in order, from the back and alone, and those of the values.
+fn digits<'a>(map: &Map<'a>) -> [u64; 4] {
+    let mut digits = [0u64; 4];
+    for (key, _value) in map.iter() {
+        digits[0] = digits[0].wrapping_mul(10).wrapping_add(*key);
+    }
+    for (key, _value) in map.iter().rev() {
+        digits[1] = digits[1].wrapping_mul(10).wrapping_add(*key);
+    }
+    for key in map.keys() {
+        digits[2] = digits[2].wrapping_mul(10).wrapping_add(*key);
+    }
+    for value in map.values() {
+        digits[3] = digits[3].wrapping_mul(10).wrapping_add(**value);
+    }
+    digits
+}
+
+/// Whether a clone is equal, is no longer so without content, and begins anew with the map's.
+fn is_made_anew<'a>(map: Map<'a>) -> Result<bool, AllocError> {
+    let mut copy = map.clone()?;
+    let is_equal = copy == map && copy.len() == 2;
+    copy.as_mut().clear();
+    let is_emptied = copy.is_empty() && copy != map;
+    copy.rebase(map.into_map());
+    let pairs = copy.into_tuple_vec()?;
+    Ok(is_equal && is_emptied && pairs.as_slice() == [(7, &1), (5, &2)].as_slice())
+}
+
+#[test]
+fn forms_of_an_index_map_of_numbers(rt: HostRuntime) -> Result<(), Fail> {
+    let arena = Bump::new(rt.alloc());
+    let mut map: Map<'_> = FrozenIndexMap::with_hasher(
+        rt.alloc(),
+        &arena,
+        BuildHasherDefault::new(),
+    );
+    assert!(rt; fills(&mut map)? && has_five(&map));
+    assert!(rt; digits(&map) == [75, 57, 75, 12] && is_made_anew(map)?);
+    Ok(())
+}
+
+// ---- the set
+
+type Set<'a> = FrozenIndexSet<'a, Own<u64>>;
+
+/// Puts 7 and 5 into the set, and says whether 5 was new once.
+fn adds<'a>(set: &mut Set<'a>) -> Result<bool, AllocError> {
+    let first = *set.insert(Own(7))?;
+    let (_value, is_new) = set.insert_new(Own(5))?;
+    let (place, value, is_new_again) = set.insert_full_new(Own(5))?;
+    Ok(first == 7 && is_new && place == 1 && *value == 5 && !is_new_again)
+}
+
+/// Whether 9 goes last, where it is absent.
+fn adds_nine<'a>(set: &mut Set<'a>) -> Result<bool, AllocError> {
+    if set.get_index_of(&Own(9)).is_some() {
+        return Ok(false);
+    }
+    let (place, value) = set.insert_absent(Own(9))?;
+    Ok(place == 2 && *value == 9 && set.len() == 3)
+}
+
+/// Whether the set answers by the value 5 and by the first place.
+fn has_both<'a>(set: &Set<'a>) -> bool {
+    let full = set.get_full(&Own(5)) == Some((1, &5)) && set.contains(&Own(5));
+    full && set.get_index(0).is_some() && *set[0] == 7
+}
+
+/// The digits of the values in order, and from the back.
+fn set_digits<'a>(set: &Set<'a>) -> [u64; 2] {
+    let mut digits = [0u64; 2];
+    for value in set.iter() {
+        digits[0] = digits[0].wrapping_mul(10).wrapping_add(**value);
+    }
+    for value in set.iter().rev() {
+        digits[1] = digits[1].wrapping_mul(10).wrapping_add(**value);
+    }
+    digits
+}
+
+/// Whether a clone is equal, is no longer so without content, and begins anew with the set's.
+fn is_set_anew<'a>(set: Set<'a>) -> Result<bool, AllocError> {
+    let mut copy = set.clone()?;
+    let is_equal = copy == set;
+    copy.as_mut().clear();
+    let is_emptied = copy.is_empty() && copy != set;
+    copy.rebase(set.into_set());
+    Ok(is_equal && is_emptied && copy.len() == 3)
+}
+
+#[test]
+fn forms_of_an_index_set_of_numbers(rt: HostRuntime) -> Result<(), Fail> {
+    let arena = Bump::new(rt.alloc());
+    let mut set: Set<'_> = FrozenIndexSet::with_hasher(
+        rt.alloc(),
+        &arena,
+        BuildHasherDefault::new(),
+    );
+    assert!(rt; adds(&mut set)? && adds_nine(&mut set)? && has_both(&set));
+    assert!(rt; set_digits(&set) == [759, 957] && is_set_anew(set)?);
+    Ok(())
+}
+
+// ---- what the collections call
+
+/// Whether 5 is at the second place of a set that is collected of 7, 5 and 7, and asked from inside.
+fn is_at_the_second(alloc: Global) -> Result<bool, AllocError> {
+    let arena = Bump::new(alloc);
+    let values = [Own(7u64), Own(5), Own(7)];
+    let set: Set<'_> = FrozenIndexSet::from_iter(alloc, &arena, BuildHasherDefault::new(), values)?;
+    let inner = set.into_set();
+    Ok(Own(5).position(&inner) == Some(1) && inner.len() == 2)
+}
+
+/// Whether a number is placed.
+fn is_placed(alloc: Global) -> bool {
+    let arena = Bump::new(alloc);
+    let placed = match Own(8u64).place(&arena) {
+        Ok(placed) => *placed,
+        Err(_) => 0,
+    };
+    placed == 8
+}
+
+#[test]
+fn forms_of_placing_and_looking_up(rt: HostRuntime) -> Result<(), Fail> {
+    assert!(rt; is_at_the_second(rt.alloc())? && is_placed(rt.alloc()));
+    Ok(())
+}

@@ -1,0 +1,151 @@
+//! The forms of calls that docs/CALLING.md lists for growing a vector, for maps of numbers, their walks and their inner maps, through `elsa` and `bumpalo`
+//! alone: each proved and run.
+use bumpalo::Bump;
+use elsa::{FrozenBTreeMap, FrozenMap, FrozenVec, MapForm, Own, StableDeref};
+use std::alloc::{AllocError, Global};
+use std::hash::BuildHasherDefault;
+use std::test::Fail;
+
+/// Whether a vector has an iterator's items behind its own, and no other.
+fn is_extended(alloc: Global) -> Result<bool, AllocError> {
+    let arena = Bump::new(alloc);
+    let mut numbers: FrozenVec<'_, Own<u64>> = FrozenVec::new(alloc, &arena);
+    numbers.push(Own(7))?;
+    numbers.extend([Own(8), Own(9)].into_iter())?;
+    Ok(numbers.get_copy(2) == Some(9) && numbers.contains(&&8) && !numbers.contains(&&6))
+}
+
+#[test]
+fn forms_of_a_vector_that_grows(rt: HostRuntime) -> Result<(), Fail> {
+    assert!(rt; is_extended(rt.alloc())?);
+    Ok(())
+}
+
+/// What the maps are collected from: of the key 1 the last value stays.
+const PAIRS: [(u64, Own<u64>); 4] = [(3, Own(30)), (1, Own(11)), (2, Own(20)), (1, Own(10))];
+
+// ---- the hashed map
+
+type Hashed<'a> = FrozenMap<'a, u64, Own<u64>>;
+
+/// The sums over the entries, the keys and the values, by the three walks.
+fn sums<'a>(map: &Hashed<'a>) -> [u64; 3] {
+    let mut sums = [0u64; 3];
+    for (key, value) in map.iter() {
+        sums[0] = sums[0].wrapping_add(*key).wrapping_add(**value);
+    }
+    for key in map.keys() {
+        sums[1] = sums[1].wrapping_add(*key);
+    }
+    for value in map.values() {
+        sums[2] = sums[2].wrapping_add(**value);
+    }
+    sums
+}
+
+/// Whether the map has 20 at the key 2, and no key 4.
+fn has_twenty<'a>(map: &Hashed<'a>) -> bool {
+    map.contains_key(&2) && map.get(&2).is_some() && *map[&2] == 20 && !map.contains_key(&4)
+}
+
+/// Whether the map is emptied through its inner one.
+fn is_emptied<'a>(mut map: Hashed<'a>) -> bool {
+    map.as_mut().clear();
+    map.is_empty()
+}
+
+#[test]
+fn forms_of_a_hashed_map_of_numbers(rt: HostRuntime) -> Result<(), Fail> {
+    let arena = Bump::new(rt.alloc());
+    let map = FrozenMap::from_iter(rt.alloc(), &arena, BuildHasherDefault::new(), PAIRS)?;
+    assert!(rt; sums(&map) == [66, 6, 60] && has_twenty(&map) && is_emptied(map));
+    Ok(())
+}
+
+// ---- the ordered map
+
+type Ordered<'a> = FrozenBTreeMap<'a, u64, Own<u64>>;
+
+/// The digits of the keys by entries, from the back, alone, and between 2 and 4, and the sum of the values.
+fn digits<'a>(map: &Ordered<'a>) -> [u64; 5] {
+    let mut digits = [0u64; 5];
+    for (key, _value) in map.iter() {
+        digits[0] = digits[0].wrapping_mul(10).wrapping_add(*key);
+    }
+    for (key, _value) in map.iter().rev() {
+        digits[1] = digits[1].wrapping_mul(10).wrapping_add(*key);
+    }
+    for key in map.keys() {
+        digits[2] = digits[2].wrapping_mul(10).wrapping_add(*key);
+    }
+    for (key, _value) in map.range(2..4) {
+        digits[3] = digits[3].wrapping_mul(10).wrapping_add(*key);
+    }
+    for value in map.values() {
+        digits[4] = digits[4].wrapping_add(**value);
+    }
+    digits
+}
+
+/// Whether the map's ends are the keys 1 and 3.
+fn has_ends<'a>(map: &Ordered<'a>) -> bool {
+    map.first_key_value() == Some((1, &10)) && map.last_key_value() == Some((3, &30))
+}
+
+/// Whether the map has 20 at the key 2, and no key 4.
+fn has_twenty_in_order<'a>(map: &Ordered<'a>) -> bool {
+    let asked = map.contains_key(&2) && !map.contains_key(&4);
+    asked && map.map_get(&2, |value| *value) == Some(20) && map.get(&2).is_some() && *map[&2] == 20
+}
+
+/// Whether the key 4 is new once, and the map is then emptied through its inner one.
+fn is_new_once<'a>(mut map: Ordered<'a>) -> Result<bool, AllocError> {
+    let (first, is_new) = map.insert_new(4, Own(40))?;
+    let (again, is_new_again) = map.insert_new(4, Own(41))?;
+    let kept = map.len() == 4 && *first == 40 && *again == 40;
+    map.as_mut().clear();
+    Ok(kept && is_new && !is_new_again && map.is_empty())
+}
+
+#[test]
+fn forms_of_an_ordered_map_of_numbers(rt: HostRuntime) -> Result<(), Fail> {
+    let arena = Bump::new(rt.alloc());
+    let map = FrozenBTreeMap::from_iter(rt.alloc(), &arena, PAIRS)?;
+    assert!(rt; digits(&map) == [123, 321, 123, 23, 60] && has_ends(&map));
+    assert!(rt; has_twenty_in_order(&map) && is_new_once(map)?);
+    Ok(())
+}
+
+// ---- either map
+
+/// Whether a map of either form has one key behind an insertion, and none behind a base that is empty.
+fn is_form<'a, V: StableDeref<'a>, M: MapForm<'a, Key = u64, Value = V>>(
+    map: &mut M,
+    value: V,
+    base: M::Base,
+) -> Result<bool, AllocError> {
+    let before = map.is_empty();
+    map.insert(1, value)?;
+    let one = map.len() == 1 && map.get(&1).is_some();
+    map.rebase(base);
+    Ok(before && one && map.is_empty())
+}
+
+/// Whether both maps are such forms.
+fn are_forms(alloc: Global) -> Result<bool, AllocError> {
+    let arena = Bump::new(alloc);
+    let mut hashed: Hashed<'_> = FrozenMap::with_hasher(alloc, &arena, BuildHasherDefault::new());
+    let mut ordered: Ordered<'_> = FrozenBTreeMap::new(alloc, &arena);
+    let base: Hashed<'_> = FrozenMap::new(alloc, &arena);
+    let tree: Ordered<'_> = FrozenBTreeMap::new(alloc, &arena);
+    Ok(
+        is_form(&mut hashed, Own(1), base.into_map())?
+            && is_form(&mut ordered, Own(2), tree.into_map())?,
+    )
+}
+
+#[test]
+fn forms_of_code_over_both_maps(rt: HostRuntime) -> Result<(), Fail> {
+    assert!(rt; are_forms(rt.alloc())?);
+    Ok(())
+}

@@ -1,0 +1,106 @@
+//! The forms of calls that docs/CALLING.md lists for the concurrent vector and its passes, through `elsa` alone: each proved and run.
+ghost use Rattle.std.specs.Prelude.{◌≡◌};
+
+use elsa::sync::{LockFreeFrozenVec, Pass};
+use std::alloc::AllocError;
+use std::sync::Wait;
+use std::test::Fail;
+
+type Vector = LockFreeFrozenVec<u64>;
+
+/// Whether a pass pushes 7 to the first place, and has then seen it.
+fn pushes(rt: &impl Wait, vector: &Vector, pass: &mut Pass<u64>) -> bool
+    requires { pass.old.vector ≡ vector.now }
+    ensures { pass.new.vector ≡ pass.old.vector }
+{
+    vector.push_as(rt, pass, 7) == Ok(0) && pass.seen_len() == 1
+}
+
+/// Whether a pass reads 7 at the first of one place.
+fn reads(vector: &Vector, pass: &mut Pass<u64>) -> bool
+    requires { pass.old.vector ≡ vector.now }
+    ensures { pass.new.vector ≡ pass.old.vector }
+{
+    vector.get_as(pass, 0) == Some(7) && vector.len_as(pass) == 1
+}
+
+/// Whether what a pass has seen is 7 alone.
+fn walks(vector: &Vector, pass: &Pass<u64>) -> bool
+    requires { pass.now.vector ≡ vector.now }
+{
+    let mut items = vector.iter_as(pass);
+    items.next() == Some(7) && items.next().is_none()
+}
+
+/// Whether a clone by a pass has 7 alone, and is equal.
+fn is_cloned(vector: &Vector, pass: &mut Pass<u64>) -> Result<bool, AllocError>
+    requires { pass.old.vector ≡ vector.now }
+    ensures { pass.new.vector ≡ pass.old.vector }
+{
+    let (copy, mut copy_pass) = vector.clone_as(pass)?;
+    Ok(walks(&copy, &copy_pass) && vector.equals_as(pass, &copy, &mut copy_pass))
+}
+
+/// Whether a pass that has seen nothing has seen one item where it met one that has.
+fn meets(vector: &Vector, pass: &mut Pass<u64>) -> bool
+    requires { pass.old.vector ≡ vector.now }
+{
+    let mut other = vector.pass();
+    let nothing = other.seen_len() == 0;
+    other.meet(pass);
+    nothing && other.seen_len() == 1
+}
+
+/// Whether a pass does each of its calls.
+fn is_passed(rt: &impl Wait, vector: &Vector) -> Result<bool, AllocError> {
+    let mut pass = vector.pass();
+    let seen = pushes(rt, vector, &mut pass) && reads(vector, &mut pass) && walks(vector, &pass);
+    Ok(seen && is_cloned(vector, &mut pass)? && meets(vector, &mut pass))
+}
+
+#[test]
+fn forms_of_a_pass(rt: HostRuntime) -> Result<(), Fail> {
+    let vector: Vector = LockFreeFrozenVec::new(rt.alloc())?;
+    assert!(rt; is_passed(&rt, &vector)?);
+    Ok(())
+}
+
+/// Whether the calls that return their pass saw the push of 7.
+fn return_their_pass(rt: &impl Wait, vector: &Vector) -> bool {
+    let (place, pushed) = vector.push_with_pass(rt, 7);
+    let (item, got) = vector.get_with_pass(0);
+    let (length, counted) = vector.len_with_pass();
+    let seen = pushed.seen_len() == 1 && got.seen_len() == 1 && counted.seen_len() == 1;
+    seen && place == Ok(0) && item == Some(7) && length == 1
+}
+
+/// Whether a clone and a comparison that return their passes saw one item each.
+fn return_both_passes(vector: &Vector) -> Result<bool, AllocError> {
+    let (copy, pass, copy_pass) = vector.clone_with_passes()?;
+    let (is_equal, one, other) = vector.equals_with_passes(&copy);
+    let cloned = pass.seen_len() == 1 && copy_pass.seen_len() == 1;
+    Ok(cloned && is_equal && one.seen_len() == 1 && other.seen_len() == 1)
+}
+
+#[test]
+fn forms_of_calls_that_return_a_pass(rt: HostRuntime) -> Result<(), Fail> {
+    let vector: Vector = LockFreeFrozenVec::new(rt.alloc())?;
+    assert!(rt; return_their_pass(&rt, &vector) && return_both_passes(&vector)?);
+    Ok(())
+}
+
+/// Whether the calls without a pass see the push of 7.
+fn is_read(rt: &impl Wait, vector: &Vector) -> Result<bool, AllocError> {
+    let before = vector.is_empty();
+    let place = vector.push(rt, 7)?;
+    let copy = vector.clone()?;
+    let equal = vector.equals(&copy);
+    Ok(before && place == 0 && equal && copy.get(0) == Some(7) && copy.len() == 1)
+}
+
+#[test]
+fn forms_of_calls_without_a_pass(rt: HostRuntime) -> Result<(), Fail> {
+    let vector: Vector = LockFreeFrozenVec::new(rt.alloc())?;
+    assert!(rt; is_read(&rt, &vector)?);
+    Ok(())
+}

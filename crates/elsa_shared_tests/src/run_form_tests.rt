@@ -1,0 +1,113 @@
+//! The forms of calls that docs/CALLING.md lists for the engine and for runs of each form, through `elsa` and `bumpalo` alone: each proved and run.
+use bumpalo::Bump;
+use elsa::interner::{Counted, EngineFault, Interner, intern_engine, intern_engine_with_hasher};
+use elsa::run::{
+    IndexCommand, IndexReply, MapCommand, MapReply, SetCommand, SetReply, run_index, run_map,
+    run_set,
+};
+use elsa::{FrozenBTreeMap, FrozenIndexMap, FrozenIndexSet, FrozenMap, Own, SeededState};
+use std::alloc::{AllocError, Global};
+use std::test::Fail;
+
+/// What the engine does on two lines, hashing its names by the secret, if there is one, and how many bytes it wrote.
+fn engine(alloc: Global, secret: Option<SeededState>) -> (Result<(), EngineFault>, usize) {
+    let arena = Bump::new(alloc);
+    let mut reader = Counted::new(b"put fox\nat 0\n".as_slice());
+    let mut bytes: Vec<u8> = Vec::new(alloc);
+    let mut writer = Counted::new(&mut bytes);
+    let outcome = match secret {
+        Some(secret) => intern_engine_with_hasher(alloc, &arena, secret, &mut reader, &mut writer),
+        None => intern_engine(alloc, &arena, &mut reader, &mut writer),
+    };
+    drop(writer);
+    (outcome, bytes.len())
+}
+
+/// Whether an interner has the name that it was given.
+fn is_named(alloc: Global) -> Result<bool, AllocError> {
+    let arena = Bump::new(alloc);
+    let mut names = Interner::new(alloc, &arena);
+    Ok(names.put("fox")? == 0 && names.at(0) == Some("fox"))
+}
+
+#[test]
+fn forms_of_the_engine(rt: HostRuntime) -> Result<(), Fail> {
+    let secret = SeededState::with_seed(1, 2);
+    for state in [None, Some(secret)] {
+        assert!(rt; engine(rt.alloc(), state) == (Ok(()), 6));
+    }
+    assert!(rt; is_named(rt.alloc())?);
+    Ok(())
+}
+
+/// Whether the replies are those of both maps.
+fn are_of_a_map(replies: &[MapReply<&u64>]) -> bool {
+    replies
+        == [
+            MapReply::New(&1, true),
+            MapReply::Item(&1),
+            MapReply::Count(1),
+        ]
+        .as_slice()
+}
+
+/// Whether a run on a hashed map is answered.
+fn runs_hashed(alloc: Global) -> Result<bool, AllocError> {
+    let arena = Bump::new(alloc);
+    let mut map: FrozenMap<'_, u64, Own<u64>> = FrozenMap::new(alloc, &arena);
+    let commands = Vec::from_array(
+        alloc,
+        [
+            MapCommand::InsertNew(7, Own(1)),
+            MapCommand::Insert(7, Own(2)),
+            MapCommand::Len,
+        ],
+    )?;
+    Ok(are_of_a_map(run_map(alloc, &mut map, commands)?.as_slice()))
+}
+
+/// Whether a run on an ordered map is answered.
+fn runs_ordered(alloc: Global) -> Result<bool, AllocError> {
+    let arena = Bump::new(alloc);
+    let mut map: FrozenBTreeMap<'_, u64, Own<u64>> = FrozenBTreeMap::new(alloc, &arena);
+    let commands = Vec::from_array(
+        alloc,
+        [
+            MapCommand::InsertNew(7, Own(1)),
+            MapCommand::Insert(7, Own(2)),
+            MapCommand::Len,
+        ],
+    )?;
+    Ok(are_of_a_map(run_map(alloc, &mut map, commands)?.as_slice()))
+}
+
+/// Whether a run on an index map is answered.
+fn runs_index_map(alloc: Global) -> Result<bool, AllocError> {
+    let arena = Bump::new(alloc);
+    let mut map: FrozenIndexMap<'_, u64, Own<u64>> = FrozenIndexMap::new(alloc, &arena);
+    let commands = Vec::from_array(
+        alloc,
+        [
+            IndexCommand::InsertFull(7, Own(1)),
+            IndexCommand::IndexOf(7),
+        ],
+    )?;
+    let replies = run_index(alloc, &mut map, commands)?;
+    Ok(replies.as_slice() == [IndexReply::Full(0, &1), IndexReply::Place(Some(0))].as_slice())
+}
+
+/// Whether a run on an index set is answered.
+fn runs_index_set(alloc: Global) -> Result<bool, AllocError> {
+    let arena = Bump::new(alloc);
+    let mut set: FrozenIndexSet<'_, Own<u64>> = FrozenIndexSet::new(alloc, &arena);
+    let commands = Vec::from_array(alloc, [SetCommand::InsertFull(Own(7)), SetCommand::At(0)])?;
+    let replies = run_set(alloc, &mut set, commands)?;
+    Ok(replies.as_slice() == [SetReply::Full(0, &7), SetReply::Found(Some(&7))].as_slice())
+}
+
+#[test]
+fn forms_of_runs(rt: HostRuntime) -> Result<(), Fail> {
+    assert!(rt; runs_hashed(rt.alloc())? && runs_ordered(rt.alloc())?);
+    assert!(rt; runs_index_map(rt.alloc())? && runs_index_set(rt.alloc())?);
+    Ok(())
+}

@@ -1,0 +1,38 @@
+//! The searches that docs/CALLING.md names for a closure with a state, through `elsa` and `bumpalo` alone.
+use bumpalo::Bump;
+use elsa::FrozenVec;
+use elsa::vec_laws::{place_by_order, place_by_test};
+use std::alloc::{AllocError, Global};
+use std::test::*;
+
+fn by_length<'a>(alloc: Global, arena: &'a Bump) -> Result<FrozenVec<'a, &'a str>, AllocError> {
+    FrozenVec::from_iter(alloc, arena, ["a", "bb", "ccc", "dddd"].into_iter())
+}
+
+/// The place of a text of this length, and where the texts below it end; each search counts its calls.
+fn places<'a>(
+    texts: &FrozenVec<'a, &'a str>,
+    length: usize,
+    calls: &mut u32,
+) -> (Result<usize, usize>, usize) {
+    let found = place_by_order(texts, |text| {
+        *calls = calls.saturating_add(1);
+        text.len().cmp(&length)
+    });
+    let end = place_by_test(texts, |text| {
+        *calls = calls.saturating_add(1);
+        text.len() < length
+    });
+    (found, end)
+}
+
+#[test]
+fn searches_by_closures_with_a_state(rt: HostRuntime) -> Result<(), Fail> {
+    let arena = Bump::new(rt.alloc());
+    let texts = by_length(rt.alloc(), &arena)?;
+    let mut calls = 0;
+    assert_eq!(rt; places(&texts, 3, &mut calls), (Ok(2), 2));
+    assert_eq!(rt; places(&texts, 5, &mut calls), (Err(4), 4));
+    assert!(rt; calls >= 4 && calls <= 12);
+    Ok(())
+}

@@ -1,0 +1,128 @@
+//! Text keys of the three maps, the cache of what a parser makes and the walk over names, through `elsa` and `bumpalo` alone.
+use bumpalo::Bump;
+use elsa::cache::{CacheFault, ParsedCache};
+use elsa::interner::Interner;
+use elsa::{FrozenBTreeMap, FrozenIndexMap, FrozenMap, Own};
+use std::alloc::{AllocError, Global};
+use std::test::*;
+
+/// The value that a name has in each map after it was given these two, by texts that end with the call.
+fn kept<'a>(
+    alloc: Global,
+    hashed: &mut FrozenMap<'a, &'a str, Own<u64>>,
+    ordered: &mut FrozenBTreeMap<'a, &'a str, Own<u64>>,
+    indexed: &mut FrozenIndexMap<'a, &'a str, Own<u64>>,
+    value: u64,
+) -> Result<[u64; 3], AllocError> {
+    let name = String::from_str(alloc, "best friend")?;
+    let name = name.as_str();
+    Ok([
+        *hashed.insert_text(name, Own(value))?,
+        *ordered.insert_text(name, Own(value))?,
+        *indexed.insert_text(name, Own(value))?,
+    ])
+}
+
+/// What each map has at a name.
+fn found<'a>(
+    hashed: &FrozenMap<'a, &'a str, Own<u64>>,
+    ordered: &FrozenBTreeMap<'a, &'a str, Own<u64>>,
+    indexed: &FrozenIndexMap<'a, &'a str, Own<u64>>,
+    name: &str,
+) -> [Option<u64>; 3] {
+    [
+        hashed.get_text(name).copied(),
+        ordered.get_text(name).copied(),
+        indexed.get_text(name).copied(),
+    ]
+}
+
+#[test]
+fn a_text_keeps_its_first_value_in_each_map(rt: HostRuntime) -> Result<(), Fail> {
+    let alloc = rt.alloc();
+    let arena = Bump::new(alloc);
+    let mut hashed = FrozenMap::new(alloc, &arena);
+    let mut ordered = FrozenBTreeMap::new(alloc, &arena);
+    let mut indexed = FrozenIndexMap::new(alloc, &arena);
+    for value in [7, 8] {
+        let kept = kept(alloc, &mut hashed, &mut ordered, &mut indexed, value)?;
+        assert_eq!(rt; kept, [7; 3]);
+    }
+    assert_eq!(rt;
+        found(&hashed, &ordered, &indexed, "best friend"),
+        [Some(7); 3]
+    );
+    assert_eq!(rt; found(&hashed, &ordered, &indexed, "lonely"), [None; 3]);
+    Ok(())
+}
+
+/// The places of these texts in an index map that is given them in order.
+fn places(alloc: Global, texts: [&str; 4]) -> Result<[usize; 4], AllocError> {
+    let arena = Bump::new(alloc);
+    let mut map: FrozenIndexMap<'_, &str, Own<u64>> = FrozenIndexMap::new(alloc, &arena);
+    let mut places = [99; 4];
+    for (at, text) in texts.into_iter().enumerate() {
+        let (place, _) = map.insert_full_text(text, Own(0))?;
+        places[at] = place;
+    }
+    Ok(places)
+}
+
+#[test]
+fn a_text_has_the_place_of_its_first_insertion(rt: HostRuntime) -> Result<(), Fail> {
+    let places = places(rt.alloc(), ["b", "a", "b", "c"])?;
+    assert_eq!(rt; places, [0, 1, 0, 2]);
+    Ok(())
+}
+
+/// The lengths of the two halves of a text, which is loaded as this, or why there are none.
+fn lengths<'a>(
+    alloc: Global,
+    cache: &mut ParsedCache<'a, (&'a str, &'a str)>,
+    file: &str,
+) -> Result<(usize, usize), CacheFault<AllocError, ()>> {
+    let halves = cache.get_or_parse(
+        "path",
+        |_| String::from_str(alloc, file),
+        |text| text.split_once(' ').ok_or(()),
+    )?;
+    Ok((halves.0.len(), halves.1.len()))
+}
+
+#[test]
+fn a_loaded_text_is_parsed_once(rt: HostRuntime) -> Result<(), Fail> {
+    let arena = Bump::new(rt.alloc());
+    let mut cache = ParsedCache::new(rt.alloc(), &arena);
+    for file in ["left right", "another text"] {
+        assert_eq!(rt; lengths(rt.alloc(), &mut cache, file), Ok((4, 5)));
+    }
+    assert_eq!(rt; cache.text("path"), Some("left right"));
+    assert_eq!(rt; cache.get("path").copied(), Some(("left", "right")));
+    Ok(())
+}
+
+/// The lengths of the names in the order of the walk and from the back, as the digits of numbers.
+fn walked<'a>(names: &Interner<'a>) -> (usize, usize) {
+    let mut front = 0usize;
+    for name in names.iter() {
+        front = front.wrapping_mul(10).wrapping_add(name.len());
+    }
+    let mut back = 0usize;
+    for name in names.iter().rev() {
+        back = back.wrapping_mul(10).wrapping_add(name.len());
+    }
+    (front, back)
+}
+
+#[test]
+fn names_are_walked_in_the_order_of_their_numbers(rt: HostRuntime) -> Result<(), Fail> {
+    let arena = Bump::new(rt.alloc());
+    let mut names = Interner::new(rt.alloc(), &arena);
+    assert!(rt; names.is_empty() && !names.contains("bb"));
+    for name in ["ccc", "a", "bb", "a"] {
+        names.put(name)?;
+    }
+    assert!(rt; !names.is_empty() && names.contains("bb") && !names.contains("b"));
+    assert_eq!(rt; walked(&names), (312, 213));
+    Ok(())
+}
