@@ -12,6 +12,7 @@ ghost use Rattle.elsa_free.specs.SharedList.{Appends, BeginsABuffer, Continues, 
 ghost use lib.Pointwise.{pointwise};
 
 use crate::atomic_list::AtomicList;
+pub use crate::handle::Handle;
 pub use crate::iter::Iter;
 pub use crate::pass::Pass;
 use crate::tokens::{Author, bounded_by_tickets, take_read};
@@ -49,6 +50,15 @@ impl<T: Copy + Drop, A: Allocator + Copy> LockFreeFrozenVec<T, A> {
         ensures nothing_mine { mine result ≡ [] }
     {
         Pass::of(self.list.first.again(), Author::new(), 0)
+    }
+
+    /// The vector with a new pass of it, which has seen nothing and has pushed nothing. It takes no memory and no atomic step.
+    pub fn handle(&self) -> Handle<'_, T, A>
+        ensures of { result.vector ≡ self.now }
+        ensures nothing_seen { result.seen ≡ [] }
+        ensures nothing_mine { mine result ≡ [] }
+    {
+        Handle::of(self, self.pass())
     }
 
     fn push_in<R: Wait>(
