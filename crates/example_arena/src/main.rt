@@ -11,7 +11,7 @@ mod meadow;
 use crate::meadow::{Animal, Meadow};
 use bumpalo::Bump;
 use std::alloc::{AllocError, Global};
-use std::io;
+use std::io::{self, BufRead, BufReader};
 
 /// What a line asks for can't be done.
 enum Fault<'t> {
@@ -80,7 +80,7 @@ fn main(rt: HostRuntime) -> io::Result<()> {
     let arena = Bump::new(alloc);
     let mut meadow = Meadow::new(alloc, &arena);
     let mut newest = None;
-    for line in rt.lines(alloc) {
+    for line in BufReader::new(alloc, rt.reader())?.lines(alloc) {
         let line = line?;
         match add(alloc, &mut meadow, line.as_str()) {
             Ok(animal) => {

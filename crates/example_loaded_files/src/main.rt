@@ -12,7 +12,7 @@ mod shelf;
 use crate::shelf::{LoadFault, Shelf};
 use bumpalo::Bump;
 use elsa::SeededState;
-use std::io;
+use std::io::{self, BufRead, BufReader};
 
 /// The file, the section and the key of a line.
 fn asked(line: &str) -> Option<(&str, &str, &str)> {
@@ -27,7 +27,7 @@ fn main(rt: HostRuntime) -> io::Result<()> {
     let arena = Bump::new(alloc);
     let mut shelf = Shelf::new(alloc, &arena, secret);
     let mut first = None;
-    for line in rt.lines(alloc) {
+    for line in BufReader::new(alloc, rt.reader())?.lines(alloc) {
         let line = line?;
         let Some((file, section, key)) = asked(line.as_str()) else {
             println!(rt; "FILE SECTION KEY, please")?;

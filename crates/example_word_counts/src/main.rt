@@ -11,14 +11,14 @@ mod tally;
 use crate::tally::Tally;
 use bumpalo::Bump;
 use elsa::SeededState;
-use std::io;
+use std::io::{self, BufRead, BufReader};
 
 fn main(rt: HostRuntime) -> io::Result<()> {
     let secret = SeededState::new(&rt)?;
     let alloc = rt.alloc();
     let arena = Bump::new(alloc);
     let mut tally = Tally::new(alloc, &arena, secret);
-    for line in rt.lines(alloc) {
+    for line in BufReader::new(alloc, rt.reader())?.lines(alloc) {
         for part in line?.as_str().split_whitespace() {
             let word = part.trim_matches(|c: char| !c.is_alphabetic());
             if !word.is_empty() {
