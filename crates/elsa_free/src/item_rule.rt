@@ -32,14 +32,14 @@ impl<T> ItemRule<T> for AnyItems {
     }
 }
 
-/// Only an item that the list doesn't hold may come, so that no item is at two places.
+/// Only an item that is equal to none of the list may come, so that no item is at two places.
 pub struct DistinctItems;
 
-impl<T> ItemRule<T> for DistinctItems {
+impl<T: Eq> ItemRule<T> for DistinctItems {
     ghost use Rattle.std.specs.Prelude.{true};
     ghost use Rattle.elsa_free.specs.Distinct.{IsAbsent};
 
-    ghost is_new = { λ xs x. IsAbsent xs x };
+    ghost is_new = { λ xs x. IsAbsent T.eq xs x };
 
     ghost distinct = { true };
 

@@ -104,7 +104,7 @@ impl<T: Copy + Drop, A: Allocator + Copy> LockFreeFrozenVec<T, A> {
     }
 }
 
-impl<T: Copy + Drop, A: Allocator + Copy> LockFreeFrozenVec<T, A, DistinctItems> {
+impl<T: Copy + Drop + Eq, A: Allocator + Copy> LockFreeFrozenVec<T, A, DistinctItems> {
     /// An empty vector that never holds an item twice. It takes memory as [`new`](LockFreeFrozenVec::new) does.
     pub fn distinct(alloc: A) -> Result<Self, AllocError> {
         LockFreeFrozenVec::with_rule(alloc)

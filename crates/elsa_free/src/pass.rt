@@ -187,19 +187,19 @@ impl<T, A: Allocator, K: ItemRule<T>> Pass<T, A, K> {
     }
 }
 
-impl<T, A: Allocator> Pass<T, A, DistinctItems> {
-    /// An item has one place in what a pass has seen. It does nothing when it runs.
+impl<T: Eq, A: Allocator> Pass<T, A, DistinctItems> {
+    /// Equal items of what a pass has seen are at one place. It does nothing when it runs.
     pub fn one_to_one(&self)
-        ensures { IsOneToOne (items_of self.now.seen) }
+        ensures { IsOneToOne T.eq (items_of self.now.seen) }
     {
         obeys_rule(&self.seen);
     }
 
-    /// An item has one place in what two passes of a vector have seen, whether they met or not, since each has seen a
+    /// Equal items of what two passes of a vector have seen are at one place, whether they met or not, since each has seen a
     /// beginning of one list. It does nothing when it runs.
     pub fn same_place(&self, other: &Pass<T, A, DistinctItems>)
         requires of { self.now.vector ≡ other.now.vector }
-        ensures { AgreeOnPlaces (items_of self.now.seen) (items_of other.now.seen) }
+        ensures { AgreeOnPlaces T.eq (items_of self.now.seen) (items_of other.now.seen) }
     {
         let mut both = self.seen.again();
         both.learn(&other.seen);

@@ -1,5 +1,6 @@
 -- Lists whose every item was new when it came: their beginnings, one item more, and that no item is at two places.
-use Rattle.std.proofs.Common.{◌≡◌, ℕ, zero, suc, ◌<◌, ◌⊎◌, inl, inr, List, [], ◌∷◌, ◌++◌, take, refl, ap, sym, subst, arith, Some, slice_get}
+use Rattle.std.proofs.Common.{◌≡◌, ◌∙◌, Bool, ℕ, zero, suc, ◌<◌, ◌⊎◌, inl, inr, List, [], ◌∷◌, ◌++◌, take, refl, ap, sym, subst, arith, Some, slice_get}
+use Rattle.std.proofs.lemmas.List.{append-nil}
 use mathlib.Core.List.{IsPrefix}
 use Rattle.elsa_free.specs.Distinct.{AgreeOnPlaces, EachIsNew, IsAbsent, IsOneToOne}
 
@@ -55,15 +56,20 @@ module _ {A : Type 0} where
     pub none_is_new : EachIsNew is_new []
     none_is_new i x e = absurd (cc e)
 
-  -- where each item was absent when it came, no item is at two places
-  pub one_to_one : (xs : List A) → EachIsNew IsAbsent xs → IsOneToOne xs
-  one_to_one xs all i j x at_i at_j = elim (order i j) [
-    | inl s ↦ s
-    | inr t ↦ elim t [ inl l ↦ absurd (all j x at_j i (get_below xs i j x l at_i)) | inr r ↦ absurd (all i x at_i j (get_below xs j i x r at_j)) ]
-  ]
+  module _ (equal : A → A → Bool) (symm : (x y : A) → equal x y ≡ equal y x) where
+    -- two beginnings of a list whose every item was absent when it came
+    pub agree_on_places : (xs ys zs : List A) → IsPrefix xs zs → IsPrefix ys zs → EachIsNew (IsAbsent equal) zs → AgreeOnPlaces equal xs ys
+    agree_on_places xs ys zs p q all i j x y at_i at_j same =
+        let whole_i : slice_get zs i ≡ Some x = subst (λ (l : List A). slice_get l i ≡ Some x) p.1 (get_before xs p.0 i x at_i) in
+        let whole_j : slice_get zs j ≡ Some y = subst (λ (l : List A). slice_get l j ≡ Some y) q.1 (get_before ys q.0 j y at_j) in
+        elim (order i j) [
+          | inl s ↦ s
+          | inr t ↦ elim t [
+            | inl l ↦ absurd (cc (sym same ∙ (symm x y ∙ all j y whole_j i x (get_below zs i j x l whole_i))))
+            | inr r ↦ absurd (cc (sym same ∙ all i x whole_i j y (get_below zs j i y r whole_j)))
+          ]
+        ]
 
-  -- two beginnings of a list in which no item is at two places
-  pub agree_on_places : (xs ys zs : List A) → IsPrefix xs zs → IsPrefix ys zs → EachIsNew IsAbsent zs → AgreeOnPlaces xs ys
-  agree_on_places xs ys zs p q all i j x at_i at_j =
-      let both = one_to_one zs all in
-      both i j x (subst (λ (l : List A). slice_get l i ≡ Some x) p.1 (get_before xs p.0 i x at_i)) (subst (λ (l : List A). slice_get l j ≡ Some x) q.1 (get_before ys q.0 j x at_j))
+    -- such a list is one to one
+    pub one_to_one : (xs : List A) → EachIsNew (IsAbsent equal) xs → IsOneToOne equal xs
+    one_to_one xs all = agree_on_places xs xs xs ([], append-nil xs) ([], append-nil xs) all
