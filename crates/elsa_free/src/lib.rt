@@ -11,6 +11,7 @@ macro_rules! spend {
 
 mod atomic_list;
 mod event;
+mod handle;
 pub mod item_rule;
 mod iter;
 pub mod lock_free;

@@ -12,6 +12,7 @@ ghost use Rattle.elsa_free.specs.SharedList.{Appends, BeginsABuffer, Continues, 
 ghost use lib.Pointwise.{pointwise};
 
 use crate::atomic_list::AtomicList;
+pub use crate::handle::Handle;
 use crate::item_rule::{AnyItems, DistinctItems, ItemRule};
 pub use crate::iter::Iter;
 pub use crate::pass::Pass;
@@ -39,6 +40,15 @@ impl<T: Copy + Drop, A: Allocator + Copy> LockFreeFrozenVec<T, A> {
     /// and returns `Err` if that allocation fails. `O(1)`.
     pub fn new(alloc: A) -> Result<Self, AllocError> {
         LockFreeFrozenVec::with_rule(alloc)
+    }
+
+    /// The vector with a new pass of it, which has seen nothing and has pushed nothing. It takes no memory and no atomic step.
+    pub fn handle(&self) -> Handle<'_, T, A>
+        ensures of { result.vector ≡ self.now }
+        ensures nothing_seen { result.seen ≡ [] }
+        ensures nothing_mine { mine result ≡ [] }
+    {
+        Handle::of(self, self.pass())
     }
 
     /// Pushes an item and returns its place. It waits while another thread pushes.

@@ -64,10 +64,14 @@ impl<C: Core, A: Allocator + Copy> History<C, A> {
         number: u64,
         command: C::Command,
     ) -> Result<(usize, C::Reply), AllocError>
+        // The entry goes last, and what it says is what the core did.
         ensures place { IfOk result (λ r. r.0 ≡ length self.old.1) }
         ensures stored { IfOk result (λ r. self.new.1 ≡ self.old.1 ++ (number, command, r.1) ∷ []) }
         ensures recorded { IfOk result (λ r. IsRecorded C.steps C.opening r.0 (number, command, r.1)) }
-        ensures step { IfOk result (λ r. C.steps (C.state self.old.0) command r.1 (C.state self.new.0)) }
+        ensures step { IfOk result (λ r.
+            C.steps (C.state self.old.0) command r.1 (C.state self.new.0)) }
+
+        // A refusal leaves state and entries.
         ensures err_state { OnErr result (C.state self.new.0 ≡ C.state self.old.0) }
         ensures err_entries { OnErr result (self.new.1 ≡ self.old.1) }
     {

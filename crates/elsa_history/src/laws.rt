@@ -19,9 +19,17 @@ pub fn recorded_alone<C: Core + Drop, A: Allocator + Copy, R: Wait>(
 ) -> Result<Result<History<C, A>, CloseFault<C, A>>, AllocError>
     requires { C.state core ≡ C.opening }
     ensures one { IfOk result (λ closed. IfOk closed (λ h. length h.1 ≡ 1)) }
-    ensures call { IfOk result (λ closed. IfOk closed (λ h. (place : ℕ) × (reply : C.Reply) × AreReceipts C.Command.eq C.Reply.eq ((number, (place, command, reply) ∷ []) ∷ []) h.1)) }
-    ensures legal { IfOk result (λ closed. IfOk closed (λ h. Replays C.steps C.opening h.1 (C.state h.0))) }
-    ensures fault { IfOk result (λ closed. IfErr closed (λ f. (h : C × List (ℕ × C.Command × C.Reply)) × ((f ≡ CloseFault.MissingPass h) ⊎ (f ≡ CloseFault.ForeignPass h)) × Replays C.steps C.opening h.1 (C.state h.0))) }
+    ensures call { IfOk result (λ closed.
+        IfOk closed (λ h.
+        (place : ℕ) × (reply : C.Reply)
+        × AreReceipts C.Command.eq C.Reply.eq ((number, (place, command, reply) ∷ []) ∷ []) h.1)) }
+    ensures legal { IfOk result (λ closed.
+        IfOk closed (λ h. Replays C.steps C.opening h.1 (C.state h.0))) }
+    ensures fault { IfOk result (λ closed.
+        IfErr closed (λ f.
+        (h : C × List (ℕ × C.Command × C.Reply))
+        × ((f ≡ CloseFault.MissingPass h) ⊎ (f ≡ CloseFault.ForeignPass h))
+        × Replays C.steps C.opening h.1 (C.state h.0))) }
 {
     let recorder = Recorder::new(alloc, core);
     let mut pass = recorder.pass(number);

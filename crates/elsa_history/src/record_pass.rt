@@ -59,7 +59,9 @@ impl<C: Core, A: Allocator + Copy> RecordPass<C, A> {
         lock: &RwLock<History<C, A>>,
         command: C::Command,
     ) -> Result<C::Reply, AllocError>
-        ensures ok { IfOk result (λ reply. (place : ℕ) × (self.new ≡ (self.old.0, self.old.1 ++ (place, command, reply) ∷ [])) × IsRecorded C.steps C.opening place (self.old.0, command, reply)) }
+        ensures ok { IfOk result (λ reply.
+            (place : ℕ) × (self.new ≡ (self.old.0, self.old.1 ++ (place, command, reply) ∷ []))
+            × IsRecorded C.steps C.opening place (self.old.0, command, reply)) }
         ensures err { OnErr result (self.new ≡ self.old) }
     {
         self.receipts.reserve(1)?;
@@ -78,7 +80,8 @@ impl<C: Core, A: Allocator + Copy> RecordPass<C, A> {
 
     /// Takes the last receipt, if it is for the place.
     fn take_last(&mut self, place: usize) -> Option<(C::Command, C::Reply)>
-        ensures { MatchOption result ((self.new ≡ self.old) × EndsElsewhere place self.old.1) (λ call. IsTakenFrom place call self.old self.new) }
+        ensures { MatchOption result ((self.new ≡ self.old) × EndsElsewhere place self.old.1) (
+            λ call. IsTakenFrom place call self.old self.new) }
     {
         let Some(last) = self.receipts.last() else {
             return None;
@@ -100,8 +103,10 @@ fn is_call<C: Core>(
     call: (C::Command, C::Reply),
     entry: &(u64, C::Command, C::Reply),
 ) -> bool
-    ensures same { result ≡ true → IsCall C.Command.eq C.Reply.eq number (place, call.0, call.1) entry.now }
-    ensures other { result ≡ false → IsCall C.Command.eq C.Reply.eq number (place, call.0, call.1) entry.now → ⊥ }
+    ensures same { result ≡ true →
+        IsCall C.Command.eq C.Reply.eq number (place, call.0, call.1) entry.now }
+    ensures other { result ≡ false →
+        IsCall C.Command.eq C.Reply.eq number (place, call.0, call.1) entry.now → ⊥ }
 {
     if entry.0 != number {
         return false;
@@ -129,11 +134,20 @@ fn take_receipt<C: Core, A: Allocator + Copy>(
     place: usize,
     entry: &(u64, C::Command, C::Reply),
 ) -> Found
-    ensures taken { result ≡ Found.Taken → (before : List (ℕ × C.Command × C.Reply)) → length before ≡ place → (AreOf C.Command.eq C.Reply.eq passes.new.items before ↔ AreOf C.Command.eq C.Reply.eq passes.old.items (before ++ entry.now ∷ [])) }
-    ensures count { result ≡ Found.Taken → receipt_count passes.new.items + 1 ≡ receipt_count passes.old.items }
-    ensures nowhere { result ≡ Found.Nowhere → (before : List (ℕ × C.Command × C.Reply)) → length before ≡ place → (AreOf C.Command.eq C.Reply.eq passes.old.items before ↔ AreOf C.Command.eq C.Reply.eq passes.old.items (before ++ entry.now ∷ [])) }
+    ensures taken { result ≡ Found.Taken → (before : List (ℕ × C.Command × C.Reply)) →
+        length before ≡ place →
+        (AreOf C.Command.eq C.Reply.eq passes.new.items before
+        ↔ AreOf C.Command.eq C.Reply.eq passes.old.items (before ++ entry.now ∷ [])) }
+    ensures count { result ≡ Found.Taken →
+        receipt_count passes.new.items + 1 ≡ receipt_count passes.old.items }
+    ensures nowhere { result ≡ Found.Nowhere → (before : List (ℕ × C.Command × C.Reply)) →
+        length before ≡ place →
+        (AreOf C.Command.eq C.Reply.eq passes.old.items before
+        ↔ AreOf C.Command.eq C.Reply.eq passes.old.items (before ++ entry.now ∷ [])) }
     ensures same { result ≡ Found.Nowhere → passes.new.items ≡ passes.old.items }
-    ensures wrong { result ≡ Found.Wrong → (before : List (ℕ × C.Command × C.Reply)) → length before ≡ place → AreOf C.Command.eq C.Reply.eq passes.old.items (before ++ entry.now ∷ []) → ⊥ }
+    ensures wrong { result ≡ Found.Wrong → (before : List (ℕ × C.Command × C.Reply)) →
+        length before ≡ place →
+        AreOf C.Command.eq C.Reply.eq passes.old.items (before ++ entry.now ∷ []) → ⊥ }
 {
     for i in 0..passes.len() {
         let pass = &mut passes[i];

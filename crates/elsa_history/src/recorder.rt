@@ -60,7 +60,9 @@ impl<C: Core, A: Allocator + Copy> Recorder<C, A> {
         pass: &mut RecordPass<C, A>,
         command: C::Command,
     ) -> Result<C::Reply, AllocError>
-        ensures ok { IfOk result (λ reply. (place : ℕ) × (pass.new ≡ (pass.old.0, pass.old.1 ++ (place, command, reply) ∷ [])) × IsRecorded C.steps C.opening place (pass.old.0, command, reply)) }
+        ensures ok { IfOk result (λ reply.
+            (place : ℕ) × (pass.new ≡ (pass.old.0, pass.old.1 ++ (place, command, reply) ∷ []))
+            × IsRecorded C.steps C.opening place (pass.old.0, command, reply)) }
         ensures err { OnErr result (pass.new ≡ pass.old) }
     {
         pass.call(rt, &self.lock, command)
@@ -77,9 +79,16 @@ impl<C: Core, A: Allocator + Copy> Recorder<C, A> {
         ensures legal { IfOk result (λ h. Replays C.steps C.opening h.1 (C.state h.0)) }
 
         // The history is legal, and the receipts aren't that history: an entry has none, or they aren't even of it.
-        ensures fault { IfErr result (λ f. (h : C × List (ℕ × C.Command × C.Reply)) × ((f ≡ CloseFault.MissingPass h) ⊎ (f ≡ CloseFault.ForeignPass h)) × Replays C.steps C.opening h.1 (C.state h.0)) }
-        ensures missing { IfErr result (λ f. (h : C × List (ℕ × C.Command × C.Reply)) → f ≡ CloseFault.MissingPass h → AreOf C.Command.eq C.Reply.eq passes.items h.1 × LacksAReceipt passes.items h.1) }
-        ensures foreign { IfErr result (λ f. (h : C × List (ℕ × C.Command × C.Reply)) → f ≡ CloseFault.ForeignPass h → AreOf C.Command.eq C.Reply.eq passes.items h.1 → ⊥) }
+        ensures fault { IfErr result (λ f.
+            (h : C × List (ℕ × C.Command × C.Reply))
+            × ((f ≡ CloseFault.MissingPass h) ⊎ (f ≡ CloseFault.ForeignPass h))
+            × Replays C.steps C.opening h.1 (C.state h.0)) }
+        ensures missing { IfErr result (λ f.
+            (h : C × List (ℕ × C.Command × C.Reply)) → f ≡ CloseFault.MissingPass h →
+            AreOf C.Command.eq C.Reply.eq passes.items h.1 × LacksAReceipt passes.items h.1) }
+        ensures foreign { IfErr result (λ f.
+            (h : C × List (ℕ × C.Command × C.Reply)) → f ≡ CloseFault.ForeignPass h →
+            AreOf C.Command.eq C.Reply.eq passes.items h.1 → ⊥) }
     {
         let Recorder { lock, alloc: _ } = self;
         let history = lock.into_inner();

@@ -10,6 +10,7 @@ use Rattle.std.proofs.lemmas.Map.Made.{is_some-lookup}
 use Rattle.elsa_locks.specs.FirstWins.{value_at, IsKeys}
 use Rattle.elsa_locks.specs.Shared.{shown}
 
+-- a clone of each entry, whose key equals the key and whose owner shows the same, has the same content
 pub copied : {K V Z : Type 0} (eq : K → K → Bool) (C : K → K → Type 0) → IsEquivalence eq → ((a b : K) → C a b → eq a b ≡ true) → (q : K) (es fs : List (K × Arc V Z)) → AllZip (λ p r. C p.0 r.0 × (arc_value r.1 ≡ arc_value p.1)) es fs → lookup (eq q) (shown fs) ≡ lookup (eq q) (shown es)
 copied eq C laws clones q [] [] h = refl
 copied eq C laws clones q [] (f ∷ fs) h = absurd h

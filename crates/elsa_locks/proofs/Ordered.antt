@@ -24,6 +24,7 @@ right_of false b h = absurd (true≢false (sym h))
 both_of : (a b : Bool) → a ≡ true → b ≡ true → (a && b) ≡ true
 both_of a b h k = rw (h, k) refl
 
+-- what is false isn't true
 pub never : {X : Type 0} → false ≡ true → X
 never h = absurd (true≢false (sym h))
 
@@ -42,6 +43,7 @@ module _ {K V : Type 0} {R : K → K → Ordering} (o : IsTotalOrder R) (KE : K 
   choice true x y r s h k = h
   choice false x y r s h k = k
 
+  -- lists that are equal place by place agree at each key
   pub agrees : (es fs : List (K × V)) → pointwise (λ p q. KE p.0 q.0 && E p.1 q.1) es fs ≡ true → (q : K) → option_eq E (lookup (eq_by_cmp R q) es) (lookup (eq_by_cmp R q) fs) ≡ true
   agrees [] [] h q = refl
   agrees [] (f ∷ fs) h q = never h
@@ -98,6 +100,7 @@ module _ {K V : Type 0} {R : K → K → Ordering} (o : IsTotalOrder R) (KE : K 
       (both_of _ _ (ties e.0 f.0 ∙ ap is_eq l) (values_at e f es fs l (h e.0)))
       (rest (λ q. tails_at e f es fs q (eq_by_cmp R q e.0) l s t refl (h q)))
 
+  -- lists that ascend and agree at each key are equal place by place
   pub compared : (es fs : List (K × V)) → IsStrictlySortedBy R (keys_of es) → IsStrictlySortedBy R (keys_of fs) → ((q : K) → option_eq E (lookup (eq_by_cmp R q) es) (lookup (eq_by_cmp R q) fs) ≡ true) → pointwise (λ p q. KE p.0 q.0 && E p.1 q.1) es fs ≡ true
   unfolding IsStrictlySortedBy
   compared [] [] s t h = refl

@@ -8,6 +8,8 @@ mod form_tests;
 #[cfg(test)]
 mod gates;
 #[cfg(test)]
+mod handle_tests;
+#[cfg(test)]
 mod index_form_tests;
 #[cfg(test)]
 mod job_tests;

@@ -2,38 +2,34 @@
 ghost use Rattle.std.specs.Prelude.{◌≡◌, ◌+◌, ◌<◌, ◌^◌, IfNone, IfSome, map, slice_get};
 ghost use mathlib.Core.List.{IsPrefix};
 
-use elsa::sync::{LockFreeFrozenVec, Pass};
+use elsa::sync::{Handle, LockFreeFrozenVec};
 
-/// A place in a vector, from which it is read on, and what was seen of the vector.
+/// A vector with what was seen of it, and the place from which it is read on.
 #[derive(Drop)]
 pub struct Follower<'v> {
-    feed: &'v LockFreeFrozenVec<u64>,
-    /// What was seen.
-    pub pass: Pass<u64>,
+    /// The vector, and what was seen.
+    pub feed: Handle<'v, u64>,
     /// The place of the next item, counted from 0.
     pub place: usize,
-    ghost of_the_feed: { pass.vector ≡ feed.now },
 }
 
 impl<'v> Follower<'v> {
     /// A follower at the first place that has seen nothing. Takes no memory.
     pub fn new(feed: &'v LockFreeFrozenVec<u64>) -> Follower<'v> {
-        let pass = feed.pass();
         Follower {
-            feed,
-            pass,
+            feed: feed.handle(),
             place: 0,
         }
     }
 
     /// The next item, or `None` where there is none for now. Takes no memory, no lock and no right to wait.
     pub fn next(&mut self) -> Option<u64>
-        ensures item { result ≡ slice_get (map (λ e. e.item) self.new.pass.seen) self.old.place }
-        ensures grows { IsPrefix self.old.pass.seen self.new.pass.seen }
+        ensures item { result ≡ slice_get (map (λ e. e.item) self.new.feed.seen) self.old.place }
+        ensures grows { IsPrefix self.old.feed.seen self.new.feed.seen }
         ensures moves { IfSome result (λ _. self.old.place < 2 ^ 62 → self.new.place ≡ self.old.place + 1) }
         ensures stays { IfNone result (self.new.place ≡ self.old.place) }
     {
-        let item = self.feed.get_as(&mut self.pass, self.place)?;
+        let item = self.feed.get(self.place)?;
         self.place = self.place.saturating_add(1);
         Some(item)
     }

@@ -1,8 +1,8 @@
 //! A concurrent vector with a reader that never waits.
 //!
-//! One thread pushes readings while another follows. A push may wait for another push, so the pusher takes the right to wait; a look takes no
+//! One thread pushes readings while another follows. A push may wait for another push, so the pusher takes the right to wait; a read takes no
 //! lock and no right to wait, so the type of [`Follower::next`](follower::Follower::next) says that it never waits. What a
-//! [`Pass`](elsa::sync::Pass) has seen is a beginning of the one list that all threads share, and only grows, whatever the schedule. The
+//! [`Handle`](elsa::sync::Handle) has seen is a beginning of the one list that all threads share, and only grows, whatever the schedule. The
 //! program prints the same whatever the schedule: what the follower missed while the pusher ran it reads afterwards.
 #![tactic(auto)]
 
@@ -17,8 +17,8 @@ use std::{io, thread};
 /// How many readings there are.
 const READINGS: u64 = 1000;
 
-/// How often the follower looks, while there may be more.
-const LOOKS: u64 = 20_000;
+/// How often the follower reads on, while there may be more.
+const TRIES: u64 = 20_000;
 
 /// The reading at a time: it rises from 0 to 6 and begins anew.
 fn reading(time: u64) -> u64 {
@@ -27,9 +27,9 @@ fn reading(time: u64) -> u64 {
 
 /// Pushes all readings, in order.
 fn push_all<R: Wait>(rt: &R, feed: &LockFreeFrozenVec<u64>) -> Result<(), AllocError> {
-    let mut pass = feed.pass();
+    let mut feed = feed.handle();
     for time in 0..READINGS {
-        feed.push_as(rt, &mut pass, reading(time))?;
+        feed.push(rt, reading(time))?;
     }
     Ok(())
 }
@@ -41,10 +41,10 @@ struct Total {
     sum: u64,
 }
 
-/// Reads on until all readings were seen or enough looks were made.
-fn follow(follower: &mut Follower<'_>, seen: Total, looks: u64) -> Total {
+/// Reads on until all readings were seen or it has read on often enough.
+fn follow(follower: &mut Follower<'_>, seen: Total, tries: u64) -> Total {
     let mut total = seen;
-    for _ in 0..looks {
+    for _ in 0..tries {
         if let Some(item) = follower.next() {
             total.count = total.count.saturating_add(1);
             total.sum = total.sum.saturating_add(item);
@@ -64,7 +64,7 @@ fn main(rt: HostRuntime) -> io::Result<()> {
         &rt,
         || push_all(&rt, shared),
         || {
-            let total = follow(&mut follower, Total { count: 0, sum: 0 }, LOOKS);
+            let total = follow(&mut follower, Total { count: 0, sum: 0 }, TRIES);
             (follower, total)
         },
     );

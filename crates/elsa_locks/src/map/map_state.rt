@@ -42,7 +42,8 @@ fn find<'m, K: Eq + Hash, V, A: Allocator>(
     table: &'m Table<K, V, A>,
     key: &K,
 ) -> Option<&'m Arc<V, A>>
-    ensures { option_map (λ a. arc_value a.now) result ≡ value_at K.eq (shown table.now.entries) key.now }
+    ensures { option_map (λ a. arc_value a.now) result
+        ≡ value_at K.eq (shown table.now.entries) key.now }
 {
     table.get(key)
 }
@@ -67,7 +68,8 @@ where
     V: Drop,
     requires room { 0 < spare table.old }
     requires absent { value_at K.eq (shown table.old.entries) key ≡ None }
-    ensures content { IsInserted K.eq (shown table.old.entries) key (arc_value value) (shown table.new.entries) }
+    ensures content { IsInserted K.eq (shown table.old.entries) key (arc_value value)
+        (shown table.new.entries) }
     ensures length { length (shown table.new.entries) ≡ length (shown table.old.entries) + 1 }
 {
     let _ = table.insert(key, value);
@@ -85,9 +87,13 @@ where
     V: Drop,
     requires room { 0 < spare table.old }
     requires absent { value_at K.eq (shown table.old.entries) key ≡ None }
+
+    // The value is at the key, in one entry more. A refusal leaves the table.
     ensures answer { IfOk result (λ a. arc_value a ≡ value) }
-    ensures content { OnOk result (IsInserted K.eq (shown table.old.entries) key value (shown table.new.entries)) }
-    ensures length { OnOk result (length (shown table.new.entries) ≡ length (shown table.old.entries) + 1) }
+    ensures content { OnOk result (
+        IsInserted K.eq (shown table.old.entries) key value (shown table.new.entries)) }
+    ensures length { OnOk result (
+        length (shown table.new.entries) ≡ length (shown table.old.entries) + 1) }
     ensures err { OnErr result (table.new ≡ table.old) }
 {
     let made = Arc::new(alloc, value)?;
@@ -107,8 +113,10 @@ where
     K: Drop,
     requires room { 0 < spare table.old }
     requires absent { value_at K.eq (shown table.old.entries) key ≡ None }
-    ensures content { OnOk result (IsInserted K.eq (shown table.old.entries) key value (shown table.new.entries)) }
-    ensures length { OnOk result (length (shown table.new.entries) ≡ length (shown table.old.entries) + 1) }
+    ensures content { OnOk result (
+        IsInserted K.eq (shown table.old.entries) key value (shown table.new.entries)) }
+    ensures length { OnOk result (
+        length (shown table.new.entries) ≡ length (shown table.old.entries) + 1) }
     ensures err { OnErr result (table.new ≡ table.old) }
 {
     let made = Arc::new(alloc, value)?;
@@ -175,7 +183,8 @@ impl<K: Eq + Hash, V, A: Allocator + Copy> MapState<K, V, A> {
     where
         F: Drop,
         requires { IfSome (value_at K.eq self.now key.now) (FnOnceTakesAt F.FnOnce f) }
-        ensures called { IfSome result (λ r. IfSome (value_at K.eq self.now key.now) (λ v. FnOnceReturnsAt F.FnOnce f v r)) }
+        ensures called { IfSome result (λ r.
+            IfSome (value_at K.eq self.now key.now) (λ v. FnOnceReturnsAt F.FnOnce f v r)) }
         ensures there { is_some result ≡ is_some (value_at K.eq self.now key.now) }
     {
         match find(&self.table, key) {
@@ -230,7 +239,8 @@ impl<K: Eq + Hash, V, A: Allocator + Copy> MapState<K, V, A> {
         V: Drop,
         F: Drop,
         requires { value_at K.eq self.old key ≡ None → F.pre f }
-        ensures answer { IfOk result (λ a. UnwrapsOrElse (value_at K.eq self.old key) (F.post f) (arc_value a)) }
+        ensures answer { IfOk result (λ a.
+            UnwrapsOrElse (value_at K.eq self.old key) (F.post f) (arc_value a)) }
         ensures content { IfOk result (λ a. IsInserted K.eq self.old key (arc_value a) self.new) }
         ensures err { OnErr result (IsSameContent K.eq self.old self.new) }
     {
@@ -253,7 +263,9 @@ impl<K: Eq + Hash, V, A: Allocator + Copy> MapState<K, V, A> {
         V: Drop,
         F: Drop,
         requires { value_at K.eq self.old key ≡ None → FnOnceTakesAt F.FnOnce f key }
-        ensures answer { IfOk result (λ a. UnwrapsOrElse (value_at K.eq self.old key) (FnOnceReturnsAt F.FnOnce f key) (arc_value a)) }
+        ensures answer { IfOk result (λ a.
+            UnwrapsOrElse (value_at K.eq self.old key) (FnOnceReturnsAt F.FnOnce f key)
+            (arc_value a)) }
         ensures content { IfOk result (λ a. IsInserted K.eq self.old key (arc_value a) self.new) }
         ensures err { OnErr result (IsSameContent K.eq self.old self.new) }
     {
@@ -340,7 +352,8 @@ impl<K: Eq + Hash, V, A: Allocator + Copy> MapState<K, V, A> {
         V: Copy,
         F: Drop,
         requires { value_at K.eq self.old key ≡ None → FnOnceTakesAt F.FnOnce f key }
-        ensures answer { IfOk result (UnwrapsOrElse (value_at K.eq self.old key) (FnOnceReturnsAt F.FnOnce f key)) }
+        ensures answer { IfOk result (
+            UnwrapsOrElse (value_at K.eq self.old key) (FnOnceReturnsAt F.FnOnce f key)) }
         ensures content { IfOk result (λ v. IsInserted K.eq self.old key v self.new) }
         ensures err { OnErr result (IsSameContent K.eq self.old self.new) }
         ensures err_only_if_absent { OnErr result (value_at K.eq self.old key ≡ None) }

@@ -39,7 +39,8 @@ impl<K: Ord, V, A: Allocator> Model for TreeState<K, V, A> {
 /// The owner at the key, if it is present.
 #[tactic(auto, using(crate::proofs::Shared::lookup_shown))]
 fn find<'m, K: Ord, V, A: Allocator>(table: &'m Table<K, V, A>, key: &K) -> Option<&'m Arc<V, A>>
-    ensures { option_map (λ a. arc_value a.now) result ≡ value_at (eq_by_cmp K.cmp) (shown table.now.entries) key.now }
+    ensures { option_map (λ a. arc_value a.now) result
+        ≡ value_at (eq_by_cmp K.cmp) (shown table.now.entries) key.now }
 {
     table.get(key)
 }
@@ -55,8 +56,11 @@ where
     K: Drop,
     V: Drop,
     requires { value_at (eq_by_cmp K.cmp) (shown table.old.entries) key ≡ None }
-    ensures content { OnOk result (IsInserted (eq_by_cmp K.cmp) (shown table.old.entries) key (arc_value value) (shown table.new.entries)) }
-    ensures length { OnOk result (length (shown table.new.entries) ≡ length (shown table.old.entries) + 1) }
+    ensures content { OnOk result (
+        IsInserted (eq_by_cmp K.cmp) (shown table.old.entries) key (arc_value value)
+        (shown table.new.entries)) }
+    ensures length { OnOk result (
+        length (shown table.new.entries) ≡ length (shown table.old.entries) + 1) }
     ensures err { OnErr result (table.new.entries ≡ table.old.entries) }
 {
     table.insert(key, value)?;
@@ -73,7 +77,10 @@ fn put<K: Ord, V, A: Allocator + Copy>(
 where
     K: Drop,
     V: Drop,
-    ensures { OnOk result ((q : K) → value_at (eq_by_cmp K.cmp) (shown table.new.entries) q ≡ (if eq_by_cmp K.cmp key q then Some (arc_value value) else value_at (eq_by_cmp K.cmp) (shown table.old.entries) q)) }
+    ensures { OnOk result (
+        (q : K) →
+        value_at (eq_by_cmp K.cmp) (shown table.new.entries) q
+        ≡ (if eq_by_cmp K.cmp key q then Some (arc_value value) else value_at (eq_by_cmp K.cmp) (shown table.old.entries) q)) }
 {
     table.insert(key, value)?;
     Ok(())
@@ -109,7 +116,9 @@ impl<K: Ord, V, A: Allocator + Copy> TreeState<K, V, A> {
         V: Drop,
         requires can { I.can_next items }
         requires ends { IsFinite (I.remaining items) }
-        ensures { IfOk result (λ m. (pairs : List (K × V)) × Drains I.next_gives items pairs × IsCollected (eq_by_cmp K.cmp) pairs m) }
+        ensures { IfOk result (λ m.
+            (pairs : List (K × V)) × Drains I.next_gives items pairs
+            × IsCollected (eq_by_cmp K.cmp) pairs m) }
     {
         let mut table = BTreeMap::new(alloc);
         for (key, value) in items {
@@ -141,8 +150,10 @@ impl<K: Ord, V, A: Allocator + Copy> TreeState<K, V, A> {
     pub fn get(&self, key: &K) -> Result<Option<Arc<V, A>>, AllocError>
     where
         V: Drop,
-        ensures answer { IfOk result (λ a. option_map arc_value a ≡ value_at (eq_by_cmp K.cmp) self.now key.now) }
-        ensures err_only_if_there { OnErr result (is_some (value_at (eq_by_cmp K.cmp) self.now key.now) ≡ true) }
+        ensures answer { IfOk result (λ a.
+            option_map arc_value a ≡ value_at (eq_by_cmp K.cmp) self.now key.now) }
+        ensures err_only_if_there { OnErr result (
+            is_some (value_at (eq_by_cmp K.cmp) self.now key.now) ≡ true) }
     {
         match find(&self.table, key) {
             Some(value) => Ok(Some(value.clone()?)),
@@ -167,7 +178,9 @@ impl<K: Ord, V, A: Allocator + Copy> TreeState<K, V, A> {
     where
         F: Drop,
         requires { IfSome (value_at (eq_by_cmp K.cmp) self.now key.now) (FnOnceTakesAt F.FnOnce f) }
-        ensures called { IfSome result (λ r. IfSome (value_at (eq_by_cmp K.cmp) self.now key.now) (λ v. FnOnceReturnsAt F.FnOnce f v r)) }
+        ensures called { IfSome result (λ r.
+            IfSome (value_at (eq_by_cmp K.cmp) self.now key.now) (λ v.
+            FnOnceReturnsAt F.FnOnce f v r)) }
         ensures there { is_some result ≡ is_some (value_at (eq_by_cmp K.cmp) self.now key.now) }
     {
         match find(&self.table, key) {
@@ -184,7 +197,8 @@ impl<K: Ord, V, A: Allocator + Copy> TreeState<K, V, A> {
     where
         K: Drop,
         V: Drop,
-        ensures answer { IfOk result (λ a. value_at (eq_by_cmp K.cmp) self.new key ≡ Some (arc_value a.0)) }
+        ensures answer { IfOk result (λ a.
+            value_at (eq_by_cmp K.cmp) self.new key ≡ Some (arc_value a.0)) }
         ensures new { IfOk result (λ a. IsTrue a.1 ↔ (value_at (eq_by_cmp K.cmp) self.old key ≡ None)) }
         ensures content { OnOk result (IsInserted (eq_by_cmp K.cmp) self.old key value self.new) }
         ensures length { IfOk result (λ a. length self.new ≡ length self.old + (if a.1 then 1 else 0)) }
@@ -206,7 +220,8 @@ impl<K: Ord, V, A: Allocator + Copy> TreeState<K, V, A> {
     where
         K: Drop,
         V: Drop,
-        ensures answer { IfOk result (λ a. value_at (eq_by_cmp K.cmp) self.new key ≡ Some (arc_value a)) }
+        ensures answer { IfOk result (λ a.
+            value_at (eq_by_cmp K.cmp) self.new key ≡ Some (arc_value a)) }
         ensures content { OnOk result (IsInserted (eq_by_cmp K.cmp) self.old key value self.new) }
         ensures err { OnErr result (self.new ≡ self.old) }
     {

@@ -35,7 +35,8 @@ fn append<V, A: Allocator + Copy>(
 ) -> Result<(), AllocError>
 where
     V: Drop,
-    ensures ok { OnOk result (shown_items list.new.items ≡ shown_items list.old.items ++ arc_value value ∷ []) }
+    ensures ok { OnOk result (
+        shown_items list.new.items ≡ shown_items list.old.items ++ arc_value value ∷ []) }
     ensures err { OnErr result (list.new.items ≡ list.old.items) }
 {
     list.push(value)?;

@@ -1,0 +1,99 @@
+//! A handle of the concurrent vector, through `elsa` alone: each of its calls, and a histogram that four threads feed.
+ghost use Rattle.std.specs.Prelude.{◌≡◌, ◌≤◌, length};
+
+use elsa::sync::{Handle, LockFreeFrozenVec, Pass};
+use std::alloc::AllocError;
+use std::sync::Wait;
+use std::test::Fail;
+use std::thread;
+
+type Vector = LockFreeFrozenVec<u64>;
+
+/// Whether a handle of an empty vector reads what it pushed, and counts it.
+fn pushes_and_reads(rt: &impl Wait, handle: &mut Handle<'_, u64>) -> bool
+    ensures { handle.new.vector ≡ handle.old.vector }
+{
+    let none = handle.get(0).is_none() && handle.seen_len() == 0;
+    none && handle.push(rt, 7) == Ok(0) && handle.get(0) == Some(7) && handle.len() == 1
+}
+
+/// Whether what a handle has seen is 7 alone.
+fn walks(handle: &Handle<'_, u64>) -> bool {
+    let mut items = handle.iter();
+    items.next() == Some(7) && items.next().is_none()
+}
+
+/// Whether a clone has seen 7 alone, and is equal.
+fn is_cloned(handle: &mut Handle<'_, u64>) -> Result<bool, AllocError>
+    ensures { handle.new.vector ≡ handle.old.vector }
+{
+    let (copy, pass) = handle.clone_vector()?;
+    let mut copied = Handle::of(&copy, pass);
+    Ok(walks(&copied) && handle.equals(&mut copied))
+}
+
+/// Whether a handle that has seen nothing has seen one item where it met one that has.
+fn meets(vector: &Vector, pass: Pass<u64>) -> bool
+    requires { pass.vector ≡ vector.now }
+{
+    let mut one = Handle::of(vector, pass);
+    let mut other = one.vector().handle();
+    other.meet(&mut one);
+    other.seen_len() == 1 && walks(&other)
+}
+
+#[test]
+fn a_handle_does_each_of_its_calls(rt: HostRuntime) -> Result<(), Fail> {
+    let vector: Vector = LockFreeFrozenVec::new(rt.alloc())?;
+    let mut handle = vector.handle();
+    assert!(rt; pushes_and_reads(&rt, &mut handle) && walks(&handle));
+    assert!(rt; is_cloned(&mut handle)?);
+    assert!(rt; meets(&vector, handle.into_pass()));
+    Ok(())
+}
+
+/// How many samples each thread has.
+const SAMPLES: u64 = 250;
+
+/// The sample of a thread at a time: of thread 0 all are 0, of thread 3 they take turns from 0 to 3.
+fn sample(thread: u64, time: u64) -> u64 {
+    time % thread.saturating_add(1)
+}
+
+/// Pushes all samples of a thread.
+fn feed(rt: &impl Wait, samples: &Vector, thread: u64) -> Result<(), AllocError> {
+    let mut samples = samples.handle();
+    for time in 0..SAMPLES {
+        samples.push(rt, sample(thread, time))?;
+    }
+    Ok(())
+}
+
+/// How many of the samples that were seen are in a bucket.
+fn in_bucket(samples: &Handle<'_, u64>, bucket: u64) -> usize
+    ensures { result ≤ length samples.now.seen }
+{
+    samples.iter().filter(|sample| *sample == bucket).count()
+}
+
+#[test]
+fn a_histogram_that_four_threads_feed(rt: HostRuntime) -> Result<(), Fail> {
+    let samples: Vector = LockFreeFrozenVec::new(rt.alloc())?;
+    let shared = &samples;
+    let ((one, two), (three, four)) = thread::join(
+        &rt,
+        || thread::join(&rt, || feed(&rt, shared, 0), || feed(&rt, shared, 1)),
+        || thread::join(&rt, || feed(&rt, shared, 2), || feed(&rt, shared, 3)),
+    );
+    one?;
+    two?;
+    three?;
+    four?;
+    let mut seen = samples.handle();
+    assert_eq!(rt; seen.len(), 1000);
+    // of 250: all, 125, 84 and 63 are 0; 125, 83 and 63 are 1; 83 and 62 are 2; 62 are 3
+    for (bucket, count) in [(0, 522), (1, 271), (2, 145), (3, 62), (4, 0)] {
+        assert_eq!(rt; in_bucket(&seen, bucket), count);
+    }
+    Ok(())
+}
