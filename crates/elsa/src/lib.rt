@@ -9,7 +9,7 @@ pub use elsa_index::index_map::FrozenIndexMap;
 pub use elsa_index::index_set::FrozenIndexSet;
 pub use elsa_index::look_up::LookUp;
 pub use elsa_index::{index_laws, index_map, index_set, look_up};
-pub use elsa_interner::{cache, interner};
+pub use elsa_interner::cache;
 pub use elsa_once::map::{FrozenBTreeMap, FrozenMap, MapForm};
 pub use elsa_once::stable::{Own, StableDeref};
 pub use elsa_once::vec::FrozenVec;
@@ -17,6 +17,7 @@ pub use elsa_once::{map, stable, vec, vec_laws};
 pub use elsa_run::run;
 
 pub mod command;
+pub mod interner;
 pub mod shared;
 pub mod sync;
 mod words;

@@ -1,4 +1,5 @@
 -- What holds of lists, and of the places of a vector's buffers.
 pub mod Copies
+pub mod Options
 pub mod Pointwise
 pub mod Walks

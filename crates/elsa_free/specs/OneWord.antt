@@ -5,7 +5,9 @@ use mathlib.Core.List.{IsPrefix}
 use Rattle.logbook.specs.Pages.{Cell, Step, View, Book, Named}
 use Rattle.elsa_free.specs.declared.event.Event.{Event}
 use Rattle.elsa_machine.specs.AtomicSteps as steps
+use Rattle.elsa_free.specs.Distinct.{EachIsNew}
 use Rattle.elsa_free.specs.History.{list_of, is_held, shared_by}
+use Rattle.elsa_free.specs.SharedList.{items_of}
 
 -- the vector's word is the first of its book
 abbrev pub word_in : Book → Named
@@ -16,10 +18,12 @@ module _ {T : Type 0} where
   abbrev pub word_of : List (Event T) → ℕ
   word_of log = steps.word_of (shared_by log)
 
-  -- the rule: the word says how long the list is and whether a thread holds, and a second word that nobody uses stays 0
-  pub record IsKept (cells : List Cell) (log : List (Event T)) : Type 0 where
+  -- the rule: the word says how long the list is and whether a thread holds, and a second word that nobody uses stays 0. Each
+  -- item of the list was new to those before it, by the vector's rule for items
+  pub record IsKept (is_new : List T → T → Type 0) (cells : List Cell) (log : List (Event T)) : Type 0 where
     pub words : cells ≡ (word_of log, true) ∷ (0, true) ∷ []
     pub small : length (list_of log) < 2 ^ 62
+    pub each_is_new : EachIsNew is_new (items_of (list_of log))
 
   -- a read of the word: the history so far was seen
   abbrev pub Sees : Step (Event T) → View (Event T) (List (Event T)) → ℕ → View (Event T) (List (Event T)) → Type 0

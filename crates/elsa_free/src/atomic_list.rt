@@ -2,12 +2,13 @@
 //!
 //! The word is twice the length, and one more while a thread holds. A read of the length is one load. A push acquires the
 //! word by one exchange, opens a buffer or not, writes the slot of the length, and publishes by a second exchange, which releases too.
-ghost use Rattle.std.specs.Prelude.{◌≡◌, ◌+◌, ◌*◌, ◌-◌, ◌^◌, ◌<◌, ◌≤◌, ◌%◌, [], ◌∷◌, ◌++◌, length, true, None, Some, IfSome, IfOk, IfErr, List, ℕ, suc, drop, slice_get, slice_index_or};
+ghost use Rattle.std.specs.Prelude.{◌≡◌, ◌+◌, ◌*◌, ◌-◌, ◌^◌, ◌<◌, ◌≤◌, ◌%◌, [], ◌∷◌, ◌++◌, length, true, None, Some, IfSome, IfNone, IfOk, IfErr, List, ℕ, suc, drop, take, slice_get, slice_index_or};
 ghost use lib.Pointwise.{pointwise};
 ghost use mathlib.Core.List.{IsPrefix};
 ghost use Rattle.elsa_free.specs.Ahead.{GoesOn};
+ghost use Rattle.elsa_free.specs.Distinct.{EachIsNew};
 ghost use Rattle.elsa_machine.specs.Geometry.{IsAt};
-ghost use Rattle.elsa_free.specs.SharedList.{Appends, BeginsABuffer, copied, count, entry};
+ghost use Rattle.elsa_free.specs.SharedList.{Appends, BeginsABuffer, copied, count, entry, items_of};
 ghost use Rattle.elsa_free.specs.declared.event.Event.TheVariants.{Acquired, Published, Cloned, Released, OfferOf};
 ghost use Rattle.elsa_free.specs.History.{entries, list_of, is_held, kinds};
 ghost use Rattle.elsa_free.specs.Rights.{head, buffer_slots_of};
@@ -16,6 +17,7 @@ ghost use Rattle.elsa_free.specs.OneWord.{word_in, word_of};
 ghost use Rattle.crossbeam_utils.specs.Padded.{padded_value};
 
 use crate::event::Event;
+use crate::item_rule::{AnyItems, ItemRule};
 use crate::iter::Iter;
 use crate::rule::{
     Acquire, AcquireGain, EndHold, Log, Nothing, OneWord, PlainRead, PublishGain, ReadGain,
@@ -23,8 +25,9 @@ use crate::rule::{
 };
 use crate::slots::{Ahead, Buffer, Copied, Slots, WriteRights, Written, WrittenPrefix};
 use crate::tokens::{
-    Author, Held, offer_acquire, offer_clone_closed, offer_clone_open, offer_publish, offer_read,
-    offer_release, start, take_acquired_closed, take_acquired_open, take_published, take_released,
+    Author, Held, bounded_by_tickets, offer_acquire, offer_clone_closed, offer_clone_open,
+    offer_publish, offer_read, offer_release, start, take_acquired_closed, take_acquired_open,
+    take_published, take_released,
 };
 use crossbeam_utils::CachePadded;
 use elsa_machine::geometry::{buffer_size, locate};
@@ -35,20 +38,31 @@ use std::sync::Wait;
 use std::thread::yield_now;
 
 /// What is known of a vector's history.
-pub type SeenHistory<T, A> = Seen<Event<T>, Log<T>, OneWord<Buffer<T, A>>>;
+pub type SeenHistory<T, A, K> = Seen<Event<T>, Log<T>, OneWord<Buffer<T, A>, K>>;
 
 /// The slots, the word, and what is known of every history of it: that it begins.
 ///
 /// The word has cache lines of its own: a pusher changes it all the time, and a read of what was seen needs the slots alone.
 #[derive(Drop)]
-pub struct AtomicList<T, A: Allocator> {
+pub struct AtomicList<T, A: Allocator, K: ItemRule<T>> {
     slots: Slots<T, A>,
-    word: CachePadded<Word<Event<T>, Log<T>, OneWord<Buffer<T, A>>>>,
-    pub(crate) first: SeenHistory<T, A>,
+    word: CachePadded<Word<Event<T>, Log<T>, OneWord<Buffer<T, A>, K>>>,
+    pub(crate) first: SeenHistory<T, A, K>,
     ghost word_is: { padded_value word ≡ word_in first.book },
     ghost buffer_slots_are: { buffer_slots_of first.names ≡ slots },
     ghost all: { length slots ≡ 31 },
     ghost empty: { first.log ≡ [] },
+}
+
+/// What holds of a history that was seen: each item of its list was new to those before it, and the list is below the limit. It
+/// does nothing when it runs.
+pub fn obeys_rule<T, A: Allocator, K: ItemRule<T>>(seen: &SeenHistory<T, A, K>)
+    ensures new { EachIsNew K.is_new (items_of (list_of seen.now.log)) }
+    ensures limit { length (list_of seen.now.log) < 2 ^ 62 }
+{
+    let mut known = seen.again();
+    known.learn(seen);
+    drop(known);
 }
 
 /// The greatest length: buffer 31, which would come next, is never opened.
@@ -57,9 +71,9 @@ const LIMIT: usize = (1 << 62) - 1;
 /// How often a pusher reads a word that another thread holds before it yields.
 const TRIES: u32 = 64;
 
-impl<T: Copy + Drop, A: Allocator + Copy> AtomicList<T, A> {
+impl<T: Copy + Drop, A: Allocator + Copy, K: ItemRule<T>> AtomicList<T, A, K> {
     /// An empty list: one that is filled with nothing.
-    pub fn new(alloc: A) -> Result<AtomicList<T, A>, AllocError> {
+    pub fn new(alloc: A) -> Result<AtomicList<T, A, K>, AllocError> {
         let (slots, further) = Slots::new(alloc)?;
         let prefix = WrittenPrefix::none(&further);
         let ahead = Ahead {
@@ -78,7 +92,7 @@ impl<T: Copy + Drop, A: Allocator + Copy> AtomicList<T, A> {
         &self,
         n: usize,
         prefix: &WrittenPrefix<T, Buffer<T, A>>,
-    ) -> Result<(AtomicList<T, A>, SeenHistory<T, A>), AllocError>
+    ) -> Result<(AtomicList<T, A, AnyItems>, SeenHistory<T, A, AnyItems>), AllocError>
         requires prefix { (prefix.now.buffer_slots ≡ buffer_slots_of self.now.first.names)
             × (n ≡ length prefix.now.items) × (n < 2 ^ 62) }
         ensures of { IfOk result (λ r. IsOf r.1 r.0.first) }
@@ -99,10 +113,11 @@ impl<T: Copy + Drop, A: Allocator + Copy> AtomicList<T, A> {
         prefix: WrittenPrefix<T, Buffer<T, A>>,
         ahead: Ahead<T, A>,
         n: usize,
-    ) -> (AtomicList<T, A>, SeenHistory<T, A>)
+    ) -> (AtomicList<T, A, K>, SeenHistory<T, A, K>)
         requires slots { length slots ≡ 31 }
         requires prefix { (prefix.buffer_slots ≡ slots) × (n ≡ length prefix.items) × (n < 2 ^ 62) }
         requires ahead { GoesOn slots n ahead.opened ahead.slots.of ahead.further.of }
+        requires new { EachIsNew K.is_new prefix.items }
 
         // The history of the new list is that these items were published.
         ensures of { IsOf result.1 result.0.first }
@@ -127,12 +142,13 @@ impl<T: Copy + Drop, A: Allocator + Copy> AtomicList<T, A> {
         prefix: WrittenPrefix<T, Buffer<T, A>>,
         ahead: Ahead<T, A>,
         n: usize,
-    ) -> SeenHistory<T, A>
+    ) -> SeenHistory<T, A, K>
         requires held { (held.name ≡ head self.now.first.names) × (held.kinds ≡ []) }
         requires prefix { (prefix.buffer_slots ≡ buffer_slots_of self.now.first.names)
             × (n ≡ length prefix.items) × (n < 2 ^ 62) }
         requires ahead { GoesOn (buffer_slots_of self.now.first.names) n
             ahead.opened ahead.slots.of ahead.further.of }
+        requires new { EachIsNew K.is_new prefix.items }
 
         // The history is that these items were published.
         ensures of { IsOf result self.now.first }
@@ -162,13 +178,14 @@ impl<T: Copy + Drop, A: Allocator + Copy> AtomicList<T, A> {
     /// Ends the first hold by an offer of `n` items.
     fn publish_by(
         &self,
-        seen: SeenHistory<T, A>,
-        offer: Offer<Event<T>, Log<T>, OneWord<Buffer<T, A>>, ReleaseGain<Buffer<T, A>>>,
+        seen: SeenHistory<T, A, K>,
+        offer: Offer<Event<T>, Log<T>, OneWord<Buffer<T, A>, K>, ReleaseGain<Buffer<T, A>>>,
         n: usize,
-    ) -> SeenHistory<T, A>
+    ) -> SeenHistory<T, A, K>
         requires of { IsOf seen self.now.first × (seen.log ≡ []) }
         requires offer { (offer.names ≡ seen.names) × (offer.state ≡ None) }
-        requires ask { (xs : List T) × (offer.ask ≡ Cloned xs) × (n ≡ length xs) × (n < 2 ^ 62) }
+        requires ask { (xs : List T) × (offer.ask ≡ Cloned xs) × (n ≡ length xs) × (n < 2 ^ 62)
+            × EachIsNew K.is_new xs }
         requires about { (a : ℕ) × (k : ℕ) × (offer.about ≡ OfferOf a k ∷ []) }
 
         // The history is what the offer asked.
@@ -192,12 +209,13 @@ impl<T: Copy + Drop, A: Allocator + Copy> AtomicList<T, A> {
     }
 
     /// The word, by a load that exchanges nothing with the rule.
-    fn load(&self, seen: &mut SeenHistory<T, A>) -> u64
+    fn load(&self, seen: &mut SeenHistory<T, A, K>) -> u64
         requires { seen.old.book ≡ self.now.first.book }
         ensures same { IsOf seen.new seen.old }
         ensures seen { IsPrefix seen.old.log seen.new.log }
+        ensures word { result ≡ word_of seen.new.log }
     {
-        let mut offer: Offer<Event<T>, Log<T>, OneWord<Buffer<T, A>>, Nothing> = seen.plain::<
+        let mut offer: Offer<Event<T>, Log<T>, OneWord<Buffer<T, A>, K>, Nothing> = seen.plain::<
             Nothing,
             (),
             PlainRead,
@@ -209,7 +227,7 @@ impl<T: Copy + Drop, A: Allocator + Copy> AtomicList<T, A> {
     fn try_acquire<R: Wait>(
         &self,
         rt: &R,
-        seen: &mut SeenHistory<T, A>,
+        seen: &mut SeenHistory<T, A, K>,
         found: &mut u64,
     ) -> Option<Gained<Event<T>, Log<T>, AcquireGain<Buffer<T, A>>>>
         requires book { seen.old.book ≡ self.now.first.book }
@@ -220,6 +238,7 @@ impl<T: Copy + Drop, A: Allocator + Copy> AtomicList<T, A> {
             (found.new ≡ found.old) × (r.names ≡ seen.old.names)
             × (seen.new.log ≡ r.answer ++ Acquired ∷ [])
             × (2 * length (list_of r.answer) ≡ found.old) × (length (list_of r.answer) < 2 ^ 62)) }
+        ensures changed { IfNone result (found.new ≡ word_of seen.new.log) }
     {
         let mut offer = offer_acquire(rt, seen);
         let mut pen = seen.no_pen();
@@ -244,7 +263,7 @@ impl<T: Copy + Drop, A: Allocator + Copy> AtomicList<T, A> {
     fn acquire<R: Wait>(
         &self,
         rt: &R,
-        seen: &mut SeenHistory<T, A>,
+        seen: &mut SeenHistory<T, A, K>,
         guess: usize,
     ) -> (usize, Gained<Event<T>, Log<T>, AcquireGain<Buffer<T, A>>>)
         requires book { seen.old.book ≡ self.now.first.book }
@@ -273,17 +292,53 @@ impl<T: Copy + Drop, A: Allocator + Copy> AtomicList<T, A> {
         unreachable!()
     }
 
+    /// Acquires the word at the length `n` alone. `Err` is the length of a list that is longer. It waits while another thread holds
+    /// the word at this length.
+    fn acquire_at<R: Wait>(
+        &self,
+        rt: &R,
+        seen: &mut SeenHistory<T, A, K>,
+        n: usize,
+    ) -> Result<Gained<Event<T>, Log<T>, AcquireGain<Buffer<T, A>>>, usize>
+        requires book { seen.old.book ≡ self.now.first.book }
+        requires at { n ≤ length (list_of seen.old.log) }
+
+        // The history grows. Acquired, it ends with the acquire at this length; else its list is longer.
+        ensures same { IsOf seen.new seen.old }
+        ensures seen { IsPrefix seen.old.log seen.new.log }
+        ensures right { IfOk result (λ r.
+            (r.names ≡ seen.old.names) × (seen.new.log ≡ r.answer ++ Acquired ∷ [])
+            × (length (list_of r.answer) ≡ n)) }
+        ensures longer { IfErr result (λ m. (m ≡ length (list_of seen.new.log)) × (n < m)) }
+    {
+        let mut found = self.load(seen);
+        let mut tries: u32 = 0;
+        for _ in rt.forever() {
+            let length = found as usize / 2;
+            if length != n {
+                return Err(length);
+            }
+            if found % 2 == 1 {
+                tries = wait_a_little(tries);
+                found = self.load(seen);
+            } else if let Some(right) = self.try_acquire(rt, seen, &mut found) {
+                return Ok(right);
+            }
+        }
+        unreachable!()
+    }
+
     /// Releases the word and leaves the list.
     fn release<R: Wait>(
         &self,
         _rt: &R,
-        seen: SeenHistory<T, A>,
+        seen: SeenHistory<T, A, K>,
         held: Held,
         further: WriteRights,
         author: Author,
         n: usize,
         buffer: usize,
-    ) -> (SeenHistory<T, A>, Author)
+    ) -> (SeenHistory<T, A, K>, Author)
 
         // The holder, the rights that it gives back, and the length.
         requires of { IsOf seen self.now.first }
@@ -318,7 +373,7 @@ impl<T: Copy + Drop, A: Allocator + Copy> AtomicList<T, A> {
     fn publish<R: Wait>(
         &self,
         _rt: &R,
-        seen: SeenHistory<T, A>,
+        seen: SeenHistory<T, A, K>,
         held: Held,
         opened: Written<Buffer<T, A>>,
         slots: WriteRights,
@@ -328,7 +383,7 @@ impl<T: Copy + Drop, A: Allocator + Copy> AtomicList<T, A> {
         buffer: usize,
         slot: usize,
         item: T,
-    ) -> (SeenHistory<T, A>, Author)
+    ) -> (SeenHistory<T, A, K>, Author)
 
         // The holder, the open buffer, and the rights to the slot and to all behind it.
         requires of { IsOf seen self.now.first }
@@ -342,6 +397,7 @@ impl<T: Copy + Drop, A: Allocator + Copy> AtomicList<T, A> {
         requires n { (n ≡ length (list_of seen.log)) × (n + 1 < 2 ^ 62) }
         requires at { IsAt n buffer slot }
         requires mine { author.used ≤ count (suc author.name) (list_of seen.log) }
+        requires new { K.is_new (items_of (list_of seen.log)) item }
 
         // The list has one entry more, and the author one ticket fewer.
         ensures same { IsOf result.0 seen × (result.1.name ≡ author.name)
@@ -369,19 +425,27 @@ impl<T: Copy + Drop, A: Allocator + Copy> AtomicList<T, A> {
         (seen, take_published(offer.into_gain()))
     }
 
-    /// A push, tried first at the length `guess`. Returns the length after it, and the place of the item or `Err` if the
-    /// allocation of its buffer failed.
-    pub fn push<R: Wait>(
+    /// Appends an item, and releases the word that was acquired at the length `n`. Returns the length after it, and the place of
+    /// the item or `Err` if the allocation of its buffer failed.
+    fn append<R: Wait>(
         &self,
         rt: &R,
-        seen: SeenHistory<T, A>,
+        seen: SeenHistory<T, A, K>,
+        right: Gained<Event<T>, Log<T>, AcquireGain<Buffer<T, A>>>,
         author: Author,
-        guess: usize,
+        n: usize,
         item: T,
-    ) -> (SeenHistory<T, A>, Author, usize, Result<usize, AllocError>)
+    ) -> (
+        SeenHistory<T, A, K>,
+        Author,
+        usize,
+        Result<usize, AllocError>,
+    )
         requires of { IsOf seen self.now.first }
-        requires mine { count (suc author.name) (list_of seen.log) ≡ author.used }
-        requires guess { guess < 2 ^ 62 }
+        requires right { (right.names ≡ seen.names) × (seen.log ≡ right.answer ++ Acquired ∷ []) }
+        requires length { (n ≡ length (list_of right.answer)) × (n < 2 ^ 62) }
+        requires mine { author.used ≤ count (suc author.name) (list_of seen.log) }
+        requires new { K.is_new (items_of (list_of seen.log)) item }
 
         // What the author has seen grows, and its entries are its own.
         ensures same { IsOf result.0 seen × (result.1.name ≡ author.name) }
@@ -391,13 +455,12 @@ impl<T: Copy + Drop, A: Allocator + Copy> AtomicList<T, A> {
 
         // On success the item is at the end. On refusal the list ends where a buffer begins.
         ensures pushed { IfOk result.3 (λ i.
-            (result.1.used ≡ suc author.used)
-            × Appends (list_of seen.log) (list_of result.0.log) i (entry (suc author.name) item)) }
+            (i ≡ n) × (result.1.used ≡ suc author.used)
+            × (list_of result.0.log ≡ list_of seen.log ++ entry (suc author.name) item ∷ [])) }
         ensures refused { IfErr result.3 (λ e.
-            (result.1.used ≡ author.used) × BeginsABuffer (length (list_of result.0.log))) }
+            (result.1.used ≡ author.used) × (list_of result.0.log ≡ list_of seen.log)
+            × BeginsABuffer (length (list_of result.0.log))) }
     {
-        let mut seen = seen;
-        let (n, right) = self.acquire(rt, &mut seen, guess);
         if n == LIMIT {
             let (held, further) = take_acquired_closed(right, 31);
             let (seen, author) = self.release(rt, seen, held, further, author, n, 31);
@@ -428,6 +491,96 @@ impl<T: Copy + Drop, A: Allocator + Copy> AtomicList<T, A> {
         }
     }
 
+    /// A push, tried first at the length `guess`. Returns the length after it, and the place of the item or `Err` if the
+    /// allocation of its buffer failed.
+    pub fn push<R: Wait>(
+        &self,
+        rt: &R,
+        seen: SeenHistory<T, A, K>,
+        author: Author,
+        guess: usize,
+        item: T,
+    ) -> (
+        SeenHistory<T, A, K>,
+        Author,
+        usize,
+        Result<usize, AllocError>,
+    )
+        requires of { IsOf seen self.now.first }
+        requires mine { count (suc author.name) (list_of seen.log) ≡ author.used }
+        requires guess { guess < 2 ^ 62 }
+        requires new { (xs : List T) → K.is_new xs item }
+
+        // What the author has seen grows, and its entries are its own.
+        ensures same { IsOf result.0 seen × (result.1.name ≡ author.name) }
+        ensures seen { IsPrefix (list_of seen.log) (list_of result.0.log) }
+        ensures mine { count (suc author.name) (list_of result.0.log) ≡ result.1.used }
+        ensures length { (result.2 ≡ length (list_of result.0.log)) × (result.2 < 2 ^ 62) }
+
+        // On success the item is at the end. On refusal the list ends where a buffer begins.
+        ensures pushed { IfOk result.3 (λ i.
+            (result.1.used ≡ suc author.used)
+            × Appends (list_of seen.log) (list_of result.0.log) i (entry (suc author.name) item)) }
+        ensures refused { IfErr result.3 (λ e.
+            (result.1.used ≡ author.used) × BeginsABuffer (length (list_of result.0.log))) }
+    {
+        let mut seen = seen;
+        let (n, right) = self.acquire(rt, &mut seen, guess);
+        self.append(rt, seen, right, author, n, item)
+    }
+
+    /// A push at the place `n` alone, by a thread that has seen the places before it. Returns the length after it, and the place
+    /// of the item, or `None` if the list was longer, or `Err` if the allocation of its buffer failed.
+    pub fn push_at<R: Wait>(
+        &self,
+        rt: &R,
+        seen: SeenHistory<T, A, K>,
+        author: Author,
+        n: usize,
+        item: T,
+    ) -> (
+        SeenHistory<T, A, K>,
+        Author,
+        usize,
+        Result<Option<usize>, AllocError>,
+    )
+        requires of { IsOf seen self.now.first }
+        requires mine { count (suc author.name) (list_of seen.log) ≡ author.used }
+        requires at { (n ≤ length (list_of seen.log)) × (n < 2 ^ 62) }
+        requires new { K.is_new (take n (items_of (list_of seen.log))) item }
+
+        // What the author has seen grows, and its entries are its own.
+        ensures same { IsOf result.0 seen × (result.1.name ≡ author.name) }
+        ensures seen { IsPrefix (list_of seen.log) (list_of result.0.log) }
+        ensures mine { count (suc author.name) (list_of result.0.log) ≡ result.1.used }
+        ensures length { (result.2 ≡ length (list_of result.0.log)) × (result.2 < 2 ^ 62) }
+
+        // On success the item is at the end, of the list that was seen. Else the list was longer, or a buffer begins at `n`.
+        ensures pushed { IfOk result.3 (λ a. IfSome a (λ i.
+            (i ≡ n) × (length (list_of seen.log) ≡ n) × (result.1.used ≡ suc author.used)
+            × (list_of result.0.log ≡ list_of seen.log ++ entry (suc author.name) item ∷ []))) }
+        ensures longer { IfOk result.3 (λ a. IfNone a
+            ((result.1.used ≡ author.used) × (n < length (list_of result.0.log)))) }
+        ensures refused { IfErr result.3 (λ e.
+            (result.1.used ≡ author.used) × (length (list_of result.0.log) ≡ n) × BeginsABuffer n) }
+    {
+        let mut seen = seen;
+        match self.acquire_at(rt, &mut seen, n) {
+            Ok(right) => {
+                let (seen, author, length, answer) = self.append(rt, seen, right, author, n, item);
+                match answer {
+                    Ok(place) => (seen, author, length, Ok(Some(place))),
+                    Err(error) => (seen, author, length, Err(error)),
+                }
+            }
+            Err(length) => {
+                obeys_rule(&seen);
+                let author = bounded_by_tickets(&seen, author);
+                (seen, author, length, Ok(None))
+            }
+        }
+    }
+
     /// One item of what is known to be written. It takes no atomic step.
     pub fn item(&self, prefix: &WrittenPrefix<T, Buffer<T, A>>, place: usize) -> T
         requires prefix { prefix.now.buffer_slots ≡ buffer_slots_of self.now.first.names }
@@ -454,11 +607,11 @@ impl<T: Copy + Drop, A: Allocator + Copy> AtomicList<T, A> {
     /// The length of the list, by one load, with the evidence for all of it.
     pub fn read_length(
         &self,
-        seen: SeenHistory<T, A>,
+        seen: SeenHistory<T, A, K>,
         author: Author,
     ) -> (
         usize,
-        SeenHistory<T, A>,
+        SeenHistory<T, A, K>,
         Gained<Event<T>, Log<T>, ReadGain<Buffer<T, A>>>,
     )
         requires { IsOf seen self.now.first }
@@ -478,12 +631,12 @@ impl<T: Copy + Drop, A: Allocator + Copy> AtomicList<T, A> {
     }
 }
 
-impl<T: Copy + Drop + PartialEq, A: Allocator + Copy> AtomicList<T, A> {
+impl<T: Copy + Drop + PartialEq, A: Allocator + Copy, K: ItemRule<T>> AtomicList<T, A, K> {
     /// Whether what is known to be written in this vector and in another are `n` equal items each, one by one.
     pub fn has_items_of(
         &self,
         prefix: &WrittenPrefix<T, Buffer<T, A>>,
-        other: &AtomicList<T, A>,
+        other: &AtomicList<T, A, K>,
         other_prefix: &WrittenPrefix<T, Buffer<T, A>>,
         n: usize,
     ) -> bool

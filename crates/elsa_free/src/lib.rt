@@ -12,6 +12,7 @@ macro_rules! spend {
 mod atomic_list;
 mod event;
 mod handle;
+pub mod item_rule;
 mod iter;
 pub mod lock_free;
 mod pass;

@@ -6,13 +6,14 @@
 //! Each call has three forms. `push_as` takes the caller's pass. `push_with_pass` makes a pass and returns it beside the
 //! result: its clauses relate the result to what that pass has seen, and by [`Pass::meet`] the caller relates it to other
 //! results. `push` drops that pass, so its contract keeps only what can be said without one: limits of places and lengths.
-ghost use Rattle.std.specs.Prelude.{◌≡◌, ◌≤◌, ◌<◌, ◌^◌, ◌+◌, [], ◌∷◌, ◌++◌, length, slice_get, IfOk, IfErr, IfSome, Some, suc};
+ghost use Rattle.std.specs.Prelude.{◌≡◌, ◌≤◌, ◌<◌, ◌^◌, ◌+◌, [], ◌∷◌, ◌++◌, length, slice_get, IfOk, IfErr, IfSome, IfNone, List, Some, suc, take};
 ghost use mathlib.Core.List.{IsPrefix};
 ghost use Rattle.elsa_free.specs.SharedList.{Appends, BeginsABuffer, Continues, IsSamePass, copied, entry, items_of, mine};
 ghost use lib.Pointwise.{pointwise};
 
 use crate::atomic_list::AtomicList;
 pub use crate::handle::Handle;
+use crate::item_rule::{AnyItems, DistinctItems, ItemRule};
 pub use crate::iter::Iter;
 pub use crate::pass::Pass;
 use crate::tokens::{Author, bounded_by_tickets, take_read};
@@ -22,11 +23,11 @@ use std::sync::Wait;
 
 /// An append-only vector of `Copy` items, which threads push to and read at once. A clause sees which vector it is.
 #[derive(Drop)]
-pub struct LockFreeFrozenVec<T, A: Allocator = Global> {
-    list: AtomicList<T, A>,
+pub struct LockFreeFrozenVec<T, A: Allocator = Global, K: ItemRule<T> = AnyItems> {
+    list: AtomicList<T, A, K>,
 }
 
-impl<T, A: Allocator> Model for LockFreeFrozenVec<T, A> {
+impl<T, A: Allocator, K: ItemRule<T>> Model for LockFreeFrozenVec<T, A, K> {
     ghost use Rattle.elsa_free.specs.SharedList.{Vector};
 
     ghost Value = { Vector };
@@ -38,18 +39,7 @@ impl<T: Copy + Drop, A: Allocator + Copy> LockFreeFrozenVec<T, A> {
     /// An empty vector, which takes its memory from `alloc`. It takes a little memory at once, for the table of its buffers,
     /// and returns `Err` if that allocation fails. `O(1)`.
     pub fn new(alloc: A) -> Result<Self, AllocError> {
-        Ok(LockFreeFrozenVec {
-            list: AtomicList::new(alloc)?,
-        })
-    }
-
-    /// A pass that has seen nothing of this vector and has pushed nothing. It takes no memory and no atomic step.
-    pub fn pass(&self) -> Pass<T, A>
-        ensures of { result.vector ≡ self.now }
-        ensures nothing_seen { result.seen ≡ [] }
-        ensures nothing_mine { mine result ≡ [] }
-    {
-        Pass::of(self.list.first.again(), Author::new(), 0)
+        LockFreeFrozenVec::with_rule(alloc)
     }
 
     /// The vector with a new pass of it, which has seen nothing and has pushed nothing. It takes no memory and no atomic step.
@@ -59,31 +49,6 @@ impl<T: Copy + Drop, A: Allocator + Copy> LockFreeFrozenVec<T, A> {
         ensures nothing_mine { mine result ≡ [] }
     {
         Handle::of(self, self.pass())
-    }
-
-    fn push_in<R: Wait>(
-        &self,
-        rt: &R,
-        pass: Pass<T, A>,
-        item: T,
-    ) -> (Pass<T, A>, Result<usize, AllocError>)
-        requires { pass.vector ≡ self.now }
-
-        // The pass is the same, later.
-        ensures same { IsSamePass pass result.0 }
-        ensures seen { IsPrefix pass.seen result.0.seen }
-
-        // On success its item is at the end. On refusal it has pushed nothing.
-        ensures pushed { IfOk result.1 (λ i.
-            Appends pass.seen result.0.seen i (entry pass.author item)) }
-        ensures pushed_mine { IfOk result.1 (λ i. mine result.0 ≡ mine pass ++ i ∷ []) }
-        ensures limit { IfOk result.1 (λ i. i + 1 < 2 ^ 62) }
-        ensures refused { IfErr result.1 (λ e. BeginsABuffer (length result.0.seen)) }
-        ensures refused_mine { IfErr result.1 (λ e. mine result.0 ≡ mine pass) }
-    {
-        let (seen, author, length) = pass.parts();
-        let (seen, author, length, answer) = self.list.push(rt, seen, author, length, item);
-        (Pass::of(seen, author, length), answer)
     }
 
     /// Pushes an item and returns its place. It waits while another thread pushes.
@@ -119,112 +84,6 @@ impl<T: Copy + Drop, A: Allocator + Copy> LockFreeFrozenVec<T, A> {
         answer
     }
 
-    fn read_length_in(&self, pass: Pass<T, A>) -> (Pass<T, A>, usize)
-        requires { pass.vector ≡ self.now }
-        ensures same { IsSamePass pass result.0 }
-        ensures seen { IsPrefix pass.seen result.0.seen }
-        ensures mine { mine result.0 ≡ mine pass }
-        ensures length { (result.1 ≡ length result.0.seen) × (result.1 < 2 ^ 62) }
-    {
-        let (seen, author, _length) = pass.parts();
-        let (n, seen, gained) = self.list.read_length(seen, author);
-        let (author, prefix) = take_read(gained);
-        prefix.discard();
-        (Pass::of(seen, author, n), n)
-    }
-
-    /// How many items the vector has, by one atomic read of the length. It takes no lock and no memory, and never waits. `O(1)`.
-    pub fn len_as(&self, pass: &mut Pass<T, A>) -> usize
-        requires of { pass.old.vector ≡ self.now }
-        ensures continues { Continues pass.old pass.new }
-        ensures length { result ≡ length pass.new.seen }
-        ensures limit { result < 2 ^ 62 }
-    {
-        let before = std::mem::replace(pass, self.pass());
-        let (after, answer) = self.read_length_in(before);
-        drop(std::mem::replace(pass, after));
-        answer
-    }
-
-    /// The item at a place that the pass has seen.
-    fn seen_item(&self, pass: &Pass<T, A>, place: usize) -> T
-        requires of { pass.now.vector ≡ self.now }
-        requires seen { (place < length pass.now.seen) × (length pass.now.seen < 2 ^ 62) }
-        ensures { slice_get (items_of pass.now.seen) place ≡ Some result }
-    {
-        let prefix = pass.evidence();
-        let item = self.list.item(&prefix, place);
-        prefix.discard();
-        item
-    }
-
-    /// The item at a place: `None` exactly if the place is at or above the length of what the pass has then seen.
-    ///
-    /// A place that the pass has seen is read at once, with no atomic step: what other threads do meanwhile doesn't slow it.
-    /// For a place at or above that it first reads the length, by one load. It takes no lock and no memory, and never waits. `O(1)`.
-    pub fn get_as(&self, pass: &mut Pass<T, A>, place: usize) -> Option<T>
-        requires of { pass.old.vector ≡ self.now }
-        ensures continues { Continues pass.old pass.new }
-        ensures item { result ≡ slice_get (items_of pass.new.seen) place }
-        ensures limit { IfSome result (λ _. place + 1 < 2 ^ 62) }
-    {
-        if place < pass.seen_len() {
-            return Some(self.seen_item(pass, place));
-        }
-        if place < self.len_as(pass) {
-            return Some(self.seen_item(pass, place));
-        }
-        None
-    }
-
-    /// The items that the pass has seen, in order and each once. It reads no length: no atomic step, no lock and no memory.
-    /// `O(1)`, and so is each item. Pushes that the pass hasn't seen are not among them; [`len_as`](Self::len_as) sees them.
-    pub fn iter_as<'a>(&'a self, pass: &Pass<T, A>) -> Iter<'a, T, A>
-        requires of { pass.now.vector ≡ self.now }
-        ensures items { result ≡ items_of pass.now.seen }
-    {
-        self.list.items(pass.evidence(), pass.seen_len())
-    }
-
-    /// An independent vector with the items seen by one read of the length, which have no author there, and a pass of it. Its list is
-    /// what that pass has seen: no other thread has it, and nothing else was published.
-    ///
-    /// The length is read first, and the places below its length alone are copied, buffer by buffer, so it can be made amid pushes.
-    /// It takes no lock and never waits. `Err`: an allocation failed, and all memory that was taken is given back. `O(n)`.
-    pub fn clone_as(&self, pass: &mut Pass<T, A>) -> Result<(Self, Pass<T, A>), AllocError>
-        requires of { pass.old.vector ≡ self.now }
-        ensures continues { Continues pass.old pass.new }
-        ensures clone_of { IfOk result (λ r. r.1.vector ≡ r.0) }
-        ensures clone_items { IfOk result (λ r. r.1.seen ≡ copied (items_of pass.new.seen)) }
-        ensures clone_mine { IfOk result (λ r. mine r.1 ≡ []) }
-    {
-        let n = self.len_as(pass);
-        let prefix = pass.evidence();
-        let copy = self.list.copy(n, &prefix);
-        prefix.discard();
-        let (list, seen) = copy?;
-        let author = bounded_by_tickets(&seen, Author::new());
-        let copy_pass = Pass::of(seen, author, n);
-        Ok((LockFreeFrozenVec { list }, copy_pass))
-    }
-
-    /// [`clone_as`](Self::clone_as) with a pass of its own: the clone, the pass that saw what was copied, and the clone's pass.
-    pub fn clone_with_passes(&self) -> Result<(Self, Pass<T, A>, Pass<T, A>), AllocError>
-        ensures of { IfOk result (λ r. (r.1.vector ≡ self.now) × (r.2.vector ≡ r.0)) }
-        ensures items { IfOk result (λ r. r.2.seen ≡ copied (items_of r.1.seen)) }
-        ensures mine { IfOk result (λ r. (mine r.1 ≡ []) × (mine r.2 ≡ [])) }
-    {
-        let mut pass = self.pass();
-        let (copy, copy_pass) = self.clone_as(&mut pass)?;
-        Ok((copy, pass, copy_pass))
-    }
-
-    /// The clone of [`clone_with_passes`](Self::clone_with_passes) alone, of which nothing is promised without its passes.
-    pub fn clone(&self) -> Result<Self, AllocError> {
-        let (copy, _pass, _copy_pass) = self.clone_with_passes()?;
-        Ok(copy)
-    }
-
     /// [`push_as`](Self::push_as) with a pass of its own, whose only place is the one that is returned.
     pub fn push_with_pass<R: Wait>(
         &self,
@@ -253,9 +112,252 @@ impl<T: Copy + Drop, A: Allocator + Copy> LockFreeFrozenVec<T, A> {
         let (answer, _pass) = self.push_with_pass(rt, item);
         answer
     }
+}
+
+impl<T: Copy + Drop + Eq, A: Allocator + Copy> LockFreeFrozenVec<T, A, DistinctItems> {
+    /// An empty vector that never holds an item twice. It takes memory as [`new`](LockFreeFrozenVec::new) does.
+    pub fn distinct(alloc: A) -> Result<Self, AllocError> {
+        LockFreeFrozenVec::with_rule(alloc)
+    }
+}
+
+impl<T: Copy + Drop, A: Allocator + Copy, K: ItemRule<T>> LockFreeFrozenVec<T, A, K> {
+    /// An empty vector that takes items by the rule `K`. It takes memory as [`new`](LockFreeFrozenVec::new) does.
+    pub fn with_rule(alloc: A) -> Result<Self, AllocError> {
+        Ok(LockFreeFrozenVec {
+            list: AtomicList::new(alloc)?,
+        })
+    }
+
+    /// Whether the vector never holds an item twice: it was made by [`distinct`](LockFreeFrozenVec::distinct). It takes no memory
+    /// and no atomic step.
+    pub fn is_distinct(&self) -> bool
+        ensures { result ≡ K.distinct }
+    {
+        K::is_distinct()
+    }
+
+    /// A pass that has seen nothing of this vector and has pushed nothing. It takes no memory and no atomic step.
+    pub fn pass(&self) -> Pass<T, A, K>
+        ensures of { result.vector ≡ self.now }
+        ensures nothing_seen { result.seen ≡ [] }
+        ensures nothing_mine { mine result ≡ [] }
+    {
+        Pass::of(self.list.first.again(), Author::new(), 0)
+    }
+
+    fn push_in<R: Wait>(
+        &self,
+        rt: &R,
+        pass: Pass<T, A, K>,
+        item: T,
+    ) -> (Pass<T, A, K>, Result<usize, AllocError>)
+        requires of { pass.vector ≡ self.now }
+        requires new { (xs : List T) → K.is_new xs item }
+
+        // The pass is the same, later.
+        ensures same { IsSamePass pass result.0 }
+        ensures seen { IsPrefix pass.seen result.0.seen }
+
+        // On success its item is at the end. On refusal it has pushed nothing.
+        ensures pushed { IfOk result.1 (λ i.
+            Appends pass.seen result.0.seen i (entry pass.author item)) }
+        ensures pushed_mine { IfOk result.1 (λ i. mine result.0 ≡ mine pass ++ i ∷ []) }
+        ensures limit { IfOk result.1 (λ i. i + 1 < 2 ^ 62) }
+        ensures refused { IfErr result.1 (λ e. BeginsABuffer (length result.0.seen)) }
+        ensures refused_mine { IfErr result.1 (λ e. mine result.0 ≡ mine pass) }
+    {
+        let (seen, author, length) = pass.parts();
+        let (seen, author, length, answer) = self.list.push(rt, seen, author, length, item);
+        (Pass::of(seen, author, length), answer)
+    }
+
+    fn push_at_in<R: Wait>(
+        &self,
+        rt: &R,
+        pass: Pass<T, A, K>,
+        n: usize,
+        item: T,
+    ) -> (Pass<T, A, K>, Result<Option<usize>, AllocError>)
+        requires of { pass.vector ≡ self.now }
+        requires at { n ≤ length pass.seen }
+        requires new { K.is_new (take n (items_of pass.seen)) item }
+
+        // The pass is the same, later.
+        ensures same { IsSamePass pass result.0 }
+        ensures seen { IsPrefix pass.seen result.0.seen }
+
+        // On success its item is at the end of what it had seen.
+        ensures pushed { IfOk result.1 (λ a. IfSome a (λ i.
+            (i ≡ n) × (length pass.seen ≡ n)
+            × (result.0.seen ≡ pass.seen ++ entry pass.author item ∷ []))) }
+        ensures pushed_mine { IfOk result.1 (λ a. IfSome a (λ i.
+            mine result.0 ≡ mine pass ++ i ∷ [])) }
+
+        // Else it has pushed nothing: the list was longer, or a buffer begins at this place.
+        ensures longer { IfOk result.1 (λ a. IfNone a
+            ((n < length result.0.seen) × (mine result.0 ≡ mine pass))) }
+        ensures refused { IfErr result.1 (λ e. (length result.0.seen ≡ n) × BeginsABuffer n) }
+        ensures refused_mine { IfErr result.1 (λ e. mine result.0 ≡ mine pass) }
+    {
+        let (seen, author, _length) = pass.parts();
+        let (seen, author, length, answer) = self.list.push_at(rt, seen, author, n, item);
+        (Pass::of(seen, author, length), answer)
+    }
+
+    /// Pushes an item at the place `n` alone: at another length it pushes nothing and returns `None`. By that a thread that has
+    /// looked at all places below `n` appends what none of them holds. It waits while another thread pushes at this length.
+    ///
+    /// `Err` adds nothing: the allocation of the buffer that begins at `n` failed, or `n` is `2^62 - 1`, the greatest length. The
+    /// vector can be used as before, and the same push may succeed later. `O(1)`, with a buffer four times as large as the one
+    /// before where one begins.
+    pub fn push_at_as<R: Wait>(
+        &self,
+        rt: &R,
+        pass: &mut Pass<T, A, K>,
+        n: usize,
+        item: T,
+    ) -> Result<Option<usize>, AllocError>
+        requires of { pass.old.vector ≡ self.now }
+        requires at { n ≤ length pass.old.seen }
+        requires new { K.is_new (take n (items_of pass.old.seen)) item }
+
+        // The pass is the same, later.
+        ensures same { IsSamePass pass.old pass.new }
+        ensures seen { IsPrefix pass.old.seen pass.new.seen }
+
+        // On success its item is at the end of what it had seen.
+        ensures pushed { IfOk result (λ a. IfSome a (λ i.
+            (i ≡ n) × (length pass.old.seen ≡ n)
+            × (pass.new.seen ≡ pass.old.seen ++ entry pass.old.author item ∷ []))) }
+        ensures pushed_mine { IfOk result (λ a. IfSome a (λ i.
+            mine pass.new ≡ mine pass.old ++ i ∷ [])) }
+
+        // Else it has pushed nothing: the list was longer, or a buffer begins at this place.
+        ensures longer { IfOk result (λ a. IfNone a
+            ((n < length pass.new.seen) × (mine pass.new ≡ mine pass.old))) }
+        ensures refused { IfErr result (λ e. (length pass.new.seen ≡ n) × BeginsABuffer n) }
+        ensures refused_mine { IfErr result (λ e. mine pass.new ≡ mine pass.old) }
+    {
+        let before = std::mem::replace(pass, self.pass());
+        let (after, answer) = self.push_at_in(rt, before, n, item);
+        drop(std::mem::replace(pass, after));
+        answer
+    }
+
+    fn read_length_in(&self, pass: Pass<T, A, K>) -> (Pass<T, A, K>, usize)
+        requires { pass.vector ≡ self.now }
+        ensures same { IsSamePass pass result.0 }
+        ensures seen { IsPrefix pass.seen result.0.seen }
+        ensures mine { mine result.0 ≡ mine pass }
+        ensures length { (result.1 ≡ length result.0.seen) × (result.1 < 2 ^ 62) }
+    {
+        let (seen, author, _length) = pass.parts();
+        let (n, seen, gained) = self.list.read_length(seen, author);
+        let (author, prefix) = take_read(gained);
+        prefix.discard();
+        (Pass::of(seen, author, n), n)
+    }
+
+    /// How many items the vector has, by one atomic read of the length. It takes no lock and no memory, and never waits. `O(1)`.
+    pub fn len_as(&self, pass: &mut Pass<T, A, K>) -> usize
+        requires of { pass.old.vector ≡ self.now }
+        ensures continues { Continues pass.old pass.new }
+        ensures length { result ≡ length pass.new.seen }
+        ensures limit { result < 2 ^ 62 }
+    {
+        let before = std::mem::replace(pass, self.pass());
+        let (after, answer) = self.read_length_in(before);
+        drop(std::mem::replace(pass, after));
+        answer
+    }
+
+    /// The item at a place that the pass has seen.
+    fn seen_item(&self, pass: &Pass<T, A, K>, place: usize) -> T
+        requires of { pass.now.vector ≡ self.now }
+        requires seen { (place < length pass.now.seen) × (length pass.now.seen < 2 ^ 62) }
+        ensures { slice_get (items_of pass.now.seen) place ≡ Some result }
+    {
+        let prefix = pass.evidence();
+        let item = self.list.item(&prefix, place);
+        prefix.discard();
+        item
+    }
+
+    /// The item at a place: `None` exactly if the place is at or above the length of what the pass has then seen.
+    ///
+    /// A place that the pass has seen is read at once, with no atomic step: what other threads do meanwhile doesn't slow it.
+    /// For a place at or above that it first reads the length, by one load. It takes no lock and no memory, and never waits. `O(1)`.
+    pub fn get_as(&self, pass: &mut Pass<T, A, K>, place: usize) -> Option<T>
+        requires of { pass.old.vector ≡ self.now }
+        ensures continues { Continues pass.old pass.new }
+        ensures item { result ≡ slice_get (items_of pass.new.seen) place }
+        ensures limit { IfSome result (λ _. place + 1 < 2 ^ 62) }
+    {
+        if place < pass.seen_len() {
+            return Some(self.seen_item(pass, place));
+        }
+        if place < self.len_as(pass) {
+            return Some(self.seen_item(pass, place));
+        }
+        None
+    }
+
+    /// The items that the pass has seen, in order and each once. It reads no length: no atomic step, no lock and no memory.
+    /// `O(1)`, and so is each item. Pushes that the pass hasn't seen are not among them; [`len_as`](Self::len_as) sees them.
+    pub fn iter_as<'a>(&'a self, pass: &Pass<T, A, K>) -> Iter<'a, T, A>
+        requires of { pass.now.vector ≡ self.now }
+        ensures items { result ≡ items_of pass.now.seen }
+    {
+        self.list.items(pass.evidence(), pass.seen_len())
+    }
+
+    /// An independent vector with the items seen by one read of the length, which have no author there, and a pass of it. Its list is
+    /// what that pass has seen: no other thread has it, and nothing else was published.
+    ///
+    /// The length is read first, and the places below its length alone are copied, buffer by buffer, so it can be made amid pushes.
+    /// It takes no lock and never waits. `Err`: an allocation failed, and all memory that was taken is given back. `O(n)`.
+    pub fn clone_as(
+        &self,
+        pass: &mut Pass<T, A, K>,
+    ) -> Result<(LockFreeFrozenVec<T, A>, Pass<T, A>), AllocError>
+        requires of { pass.old.vector ≡ self.now }
+        ensures continues { Continues pass.old pass.new }
+        ensures clone_of { IfOk result (λ r. r.1.vector ≡ r.0) }
+        ensures clone_items { IfOk result (λ r. r.1.seen ≡ copied (items_of pass.new.seen)) }
+        ensures clone_mine { IfOk result (λ r. mine r.1 ≡ []) }
+    {
+        let n = self.len_as(pass);
+        let prefix = pass.evidence();
+        let copy = self.list.copy(n, &prefix);
+        prefix.discard();
+        let (list, seen) = copy?;
+        let author = bounded_by_tickets(&seen, Author::new());
+        let copy_pass = Pass::of(seen, author, n);
+        Ok((LockFreeFrozenVec { list }, copy_pass))
+    }
+
+    /// [`clone_as`](Self::clone_as) with a pass of its own: the clone, the pass that saw what was copied, and the clone's pass.
+    pub fn clone_with_passes(
+        &self,
+    ) -> Result<(LockFreeFrozenVec<T, A>, Pass<T, A, K>, Pass<T, A>), AllocError>
+        ensures of { IfOk result (λ r. (r.1.vector ≡ self.now) × (r.2.vector ≡ r.0)) }
+        ensures items { IfOk result (λ r. r.2.seen ≡ copied (items_of r.1.seen)) }
+        ensures mine { IfOk result (λ r. (mine r.1 ≡ []) × (mine r.2 ≡ [])) }
+    {
+        let mut pass = self.pass();
+        let (copy, copy_pass) = self.clone_as(&mut pass)?;
+        Ok((copy, pass, copy_pass))
+    }
+
+    /// The clone of [`clone_with_passes`](Self::clone_with_passes) alone, of which nothing is promised without its passes.
+    pub fn clone(&self) -> Result<LockFreeFrozenVec<T, A>, AllocError> {
+        let (copy, _pass, _copy_pass) = self.clone_with_passes()?;
+        Ok(copy)
+    }
 
     /// [`get_as`](Self::get_as) with a pass of its own, by one read of the length.
-    pub fn get_with_pass(&self, place: usize) -> (Option<T>, Pass<T, A>)
+    pub fn get_with_pass(&self, place: usize) -> (Option<T>, Pass<T, A, K>)
         ensures of { (result.1.vector ≡ self.now) × (mine result.1 ≡ []) }
         ensures item { result.0 ≡ slice_get (items_of result.1.seen) place }
         ensures limit { IfSome result.0 (λ _. place + 1 < 2 ^ 62) }
@@ -275,7 +377,7 @@ impl<T: Copy + Drop, A: Allocator + Copy> LockFreeFrozenVec<T, A> {
     }
 
     /// [`len_as`](Self::len_as) with a pass of its own.
-    pub fn len_with_pass(&self) -> (usize, Pass<T, A>)
+    pub fn len_with_pass(&self) -> (usize, Pass<T, A, K>)
         ensures of { (result.1.vector ≡ self.now) × (mine result.1 ≡ []) }
         ensures length { result.0 ≡ length result.1.seen }
         ensures limit { result.0 < 2 ^ 62 }
@@ -301,14 +403,14 @@ impl<T: Copy + Drop, A: Allocator + Copy> LockFreeFrozenVec<T, A> {
     }
 }
 
-impl<T: Copy + Drop + PartialEq, A: Allocator + Copy> LockFreeFrozenVec<T, A> {
+impl<T: Copy + Drop + PartialEq, A: Allocator + Copy, K: ItemRule<T>> LockFreeFrozenVec<T, A, K> {
     /// Whether two vectors have equal items in order: it reads the length of this one, then of the other, and
     /// compares what the two passes have then seen. It takes no lock and no memory, and never waits. `O(n)`.
     pub fn equals_as(
         &self,
-        pass: &mut Pass<T, A>,
+        pass: &mut Pass<T, A, K>,
         other: &Self,
-        other_pass: &mut Pass<T, A>,
+        other_pass: &mut Pass<T, A, K>,
     ) -> bool
         requires of { (pass.old.vector ≡ self.now) × (other_pass.old.vector ≡ other.now) }
         ensures continues { Continues pass.old pass.new }
@@ -331,7 +433,7 @@ impl<T: Copy + Drop + PartialEq, A: Allocator + Copy> LockFreeFrozenVec<T, A> {
     }
 
     /// [`equals_as`](Self::equals_as) with passes of its own, which are returned beside the result.
-    pub fn equals_with_passes(&self, other: &Self) -> (bool, Pass<T, A>, Pass<T, A>)
+    pub fn equals_with_passes(&self, other: &Self) -> (bool, Pass<T, A, K>, Pass<T, A, K>)
         ensures of { (result.1.vector ≡ self.now) × (mine result.1 ≡ []) }
         ensures other_of { (result.2.vector ≡ other.now) × (mine result.2 ≡ []) }
         ensures equal { result.0 ≡ pointwise T.eq (items_of result.1.seen) (items_of result.2.seen) }

@@ -3,10 +3,12 @@
 ghost use Rattle.std.specs.Prelude.{◌≡◌, ◌≢◌, ◌≤◌, ◌<◌, ◌^◌, [], length, suc};
 ghost use mathlib.Core.List.{IsPrefix};
 ghost use Rattle.elsa_free.specs.SharedList.{Apart, IsSamePass, count, items_of, longer, mine};
+ghost use Rattle.elsa_free.specs.Distinct.{AgreeOnPlaces, EachIsNew, IsOneToOne};
 ghost use Rattle.elsa_free.specs.History.{list_of};
 ghost use Rattle.elsa_free.specs.Rights.{buffer_slots_of};
 
-use crate::atomic_list::SeenHistory;
+use crate::atomic_list::{SeenHistory, obeys_rule};
+use crate::item_rule::{AnyItems, DistinctItems, ItemRule};
 use crate::slots::{Buffer, WrittenPrefix};
 use crate::tokens::{Author, apart, bounded_by_tickets, evidence};
 use std::alloc::{Allocator, Global};
@@ -14,13 +16,13 @@ use std::marker::Model;
 
 /// What a thread has seen of a vector, and the right to push under its name. A clause sees the vector that it is of, its number
 /// as an author, and the list that it has seen.
-pub struct Pass<T, A: Allocator = Global> {
-    seen: SeenHistory<T, A>,
+pub struct Pass<T, A: Allocator = Global, K: ItemRule<T> = AnyItems> {
+    seen: SeenHistory<T, A, K>,
     author: Author,
     seen_length: usize,
 }
 
-impl<T, A: Allocator> Model for Pass<T, A> {
+impl<T, A: Allocator, K: ItemRule<T>> Model for Pass<T, A, K> {
     ghost use Rattle.std.specs.Prelude.{◌≡◌, ◌≢◌, ◌≤◌, ◌<◌, ◌^◌, length, suc};
     ghost use Rattle.elsa_free.specs.SharedList.{View, count};
     ghost use Rattle.elsa_free.specs.History.{list_of};
@@ -32,8 +34,12 @@ impl<T, A: Allocator> Model for Pass<T, A> {
     ghost invariant = { λ p. (count (suc p.author.name) (list_of p.seen.log) ≡ p.author.used) × (p.seen_length ≡ length (list_of p.seen.log)) × (p.seen_length < 2 ^ 62) };
 }
 
-impl<T, A: Allocator> Pass<T, A> {
-    pub(crate) fn of(seen: SeenHistory<T, A>, author: Author, seen_length: usize) -> Pass<T, A>
+impl<T, A: Allocator, K: ItemRule<T>> Pass<T, A, K> {
+    pub(crate) fn of(
+        seen: SeenHistory<T, A, K>,
+        author: Author,
+        seen_length: usize,
+    ) -> Pass<T, A, K>
         requires mine { count (suc author.name) (list_of seen.log) ≡ author.used }
         requires length { (seen_length ≡ length (list_of seen.log)) × (seen_length < 2 ^ 62) }
         ensures { result ≡ record {
@@ -49,7 +55,7 @@ impl<T, A: Allocator> Pass<T, A> {
         }
     }
 
-    pub(crate) fn parts(self) -> (SeenHistory<T, A>, Author, usize)
+    pub(crate) fn parts(self) -> (SeenHistory<T, A, K>, Author, usize)
         ensures is { self ≡ record {
           vector = (result.0.book, result.0.names);
           author = suc result.1.name;
@@ -67,9 +73,9 @@ impl<T, A: Allocator> Pass<T, A> {
     }
 }
 
-impl<T, A: Allocator> Pass<T, A> {
+impl<T, A: Allocator, K: ItemRule<T>> Pass<T, A, K> {
     /// Another pass of the same vector, which has seen as much and has pushed nothing.
-    fn fresh(&self) -> Pass<T, A>
+    fn fresh(&self) -> Pass<T, A, K>
         ensures { (result.vector ≡ self.now.vector) × (result.seen ≡ self.now.seen)
             × (mine result ≡ []) }
     {
@@ -88,6 +94,13 @@ impl<T, A: Allocator> Pass<T, A> {
         self.seen_length
     }
 
+    /// What the vector's rule for items says of all that the pass has seen. It does nothing when it runs.
+    pub fn obeys_rule(&self)
+        ensures { EachIsNew K.is_new (items_of self.now.seen) }
+    {
+        obeys_rule(&self.seen);
+    }
+
     /// The evidence for all that the pass has seen. It has no bytes, and takes no atomic step.
     pub(crate) fn evidence(&self) -> WrittenPrefix<T, Buffer<T, A>>
         ensures { (result.buffer_slots ≡ buffer_slots_of self.now.vector.1)
@@ -97,7 +110,7 @@ impl<T, A: Allocator> Pass<T, A> {
     }
 
     /// Two passes are two authors.
-    fn known_apart(self, other: Pass<T, A>) -> (Pass<T, A>, Pass<T, A>)
+    fn known_apart(self, other: Pass<T, A, K>) -> (Pass<T, A, K>, Pass<T, A, K>)
         ensures { (result.0 ≡ self) × (result.1 ≡ other) × (self.author ≢ other.author) }
     {
         let (seen, author, length) = self.parts();
@@ -110,7 +123,7 @@ impl<T, A: Allocator> Pass<T, A> {
     }
 
     /// The pass with what a longer one has seen.
-    fn raised(self, longer: &Pass<T, A>) -> Pass<T, A>
+    fn raised(self, longer: &Pass<T, A, K>) -> Pass<T, A, K>
         requires of { self.vector ≡ longer.now.vector }
         requires shorter { length self.seen ≤ length longer.now.seen }
         ensures same { IsSamePass self result }
@@ -125,7 +138,7 @@ impl<T, A: Allocator> Pass<T, A> {
         Pass::of(longer.seen.again(), author, longer.seen_length)
     }
 
-    fn met(self, other: Pass<T, A>) -> (Pass<T, A>, Pass<T, A>)
+    fn met(self, other: Pass<T, A, K>) -> (Pass<T, A, K>, Pass<T, A, K>)
         requires { self.vector ≡ other.vector }
 
         // Each pass is the same, later.
@@ -150,7 +163,7 @@ impl<T, A: Allocator> Pass<T, A> {
 
     /// Both passes take the longer of what they have seen. Their own places stay, and no place is of both. It takes no memory
     /// and no atomic step, and never waits. `O(1)`.
-    pub fn meet(&mut self, other: &mut Pass<T, A>)
+    pub fn meet(&mut self, other: &mut Pass<T, A, K>)
         requires of { self.old.vector ≡ other.old.vector }
 
         // Each pass is the same, later.
@@ -174,10 +187,31 @@ impl<T, A: Allocator> Pass<T, A> {
     }
 }
 
-// What a pass has is history that was seen and tickets: no reference, and nothing of one thread.
-unsafe impl<T, A: Allocator> Send for Pass<T, A> {}
+impl<T: Eq, A: Allocator> Pass<T, A, DistinctItems> {
+    /// Equal items of what a pass has seen are at one place. It does nothing when it runs.
+    pub fn one_to_one(&self)
+        ensures { IsOneToOne T.eq (items_of self.now.seen) }
+    {
+        obeys_rule(&self.seen);
+    }
 
-impl<T, A: Allocator> Drop for Pass<T, A> {
+    /// Equal items of what two passes of a vector have seen are at one place, whether they met or not, since each has seen a
+    /// beginning of one list. It does nothing when it runs.
+    pub fn same_place(&self, other: &Pass<T, A, DistinctItems>)
+        requires of { self.now.vector ≡ other.now.vector }
+        ensures { AgreeOnPlaces T.eq (items_of self.now.seen) (items_of other.now.seen) }
+    {
+        let mut both = self.seen.again();
+        both.learn(&other.seen);
+        obeys_rule(&both);
+        drop(both);
+    }
+}
+
+// What a pass has is history that was seen and tickets: no reference, and nothing of one thread.
+unsafe impl<T, A: Allocator, K: ItemRule<T>> Send for Pass<T, A, K> {}
+
+impl<T, A: Allocator, K: ItemRule<T>> Drop for Pass<T, A, K> {
     fn drop(self) {
         let (seen, author, _length) = self.parts();
         drop(seen);

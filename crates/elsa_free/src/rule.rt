@@ -1,5 +1,6 @@
 //! The rule of a vector, over `logbook`: what holds between any two atomic steps, and what a thread gains at each step.
 use crate::event::Event;
+use crate::item_rule::ItemRule;
 use crate::slots::HasSlots;
 use logbook::{Gain, Plain, Play, Rule};
 use std::alloc::Global;
@@ -9,17 +10,18 @@ use std::marker::PhantomData;
 /// What a step returns: the history before it.
 pub type Log<T> = LinkedList<Event<T>, Global>;
 
-/// The rule of a vector whose buffers are `B`.
-pub struct OneWord<B> {
+/// The rule of a vector whose buffers are `B`, and which takes items by the rule `K`.
+pub struct OneWord<B, K> {
     buffers: PhantomData<B>,
+    items: PhantomData<K>,
 }
 
-impl<T, B: HasSlots> Rule<Event<T>, Log<T>> for OneWord<B> {
+impl<T, B: HasSlots, K: ItemRule<T>> Rule<Event<T>, Log<T>> for OneWord<B, K> {
     ghost use Rattle.std.specs.Prelude.{[]};
     ghost use Rattle.elsa_free.specs.OneWord.{IsKept};
     ghost use Rattle.elsa_free.specs.Rights.{IsStep, rule_owns};
 
-    ghost holds = { λ cells log. IsKept cells log };
+    ghost holds = { λ cells log. IsKept K.is_new cells log };
 
     ghost first = { [] };
 

@@ -14,6 +14,7 @@ ghost use Rattle.elsa_free.specs.SharedList.{count, entry, items_of};
 ghost use Rattle.elsa_free.specs.Rights.{logs, head, buffer_slots_of, author, OnlyPushed};
 
 use crate::event::Event;
+use crate::item_rule::ItemRule;
 use crate::rule::{AcquireGain, Log, OneWord, PublishGain, ReadGain, ReleaseGain};
 use crate::slots::{HasSlots, WriteRights, Written, WrittenPrefix};
 use logbook::{Gained, Offer, Seen, Start};
@@ -43,10 +44,10 @@ impl Model for Author {
 }
 
 /// A book with an empty list for these buffers, held by its maker. The evidence, of some places or none, names the buffers.
-pub fn start<T, B: HasSlots>(
+pub fn start<T, B: HasSlots, K: ItemRule<T>>(
     prefix: WrittenPrefix<T, B>,
 ) -> (
-    Start<Event<T>, Log<T>, OneWord<B>>,
+    Start<Event<T>, Log<T>, OneWord<B, K>>,
     Held,
     WrittenPrefix<T, B>,
 )
@@ -80,19 +81,19 @@ impl Author {
 }
 
 /// An offer to acquire the word. It takes the right to wait, so that no read of the length can make one.
-pub fn offer_acquire<R: Wait, T, B: HasSlots>(
+pub fn offer_acquire<R: Wait, T, B: HasSlots, K: ItemRule<T>>(
     _rt: &R,
-    seen: &Seen<Event<T>, Log<T>, OneWord<B>>,
-) -> Offer<Event<T>, Log<T>, OneWord<B>, AcquireGain<B>>
+    seen: &Seen<Event<T>, Log<T>, OneWord<B, K>>,
+) -> Offer<Event<T>, Log<T>, OneWord<B, K>, AcquireGain<B>>
     ensures { (result.names ≡ seen.now.names) × (result.ask ≡ Acquired) × (result.about ≡ [])
         × (result.state ≡ None) }
 {
     acquire_offer(seen)
 }
 
-fn acquire_offer<T, B: HasSlots>(
-    seen: &Seen<Event<T>, Log<T>, OneWord<B>>,
-) -> Offer<Event<T>, Log<T>, OneWord<B>, AcquireGain<B>>
+fn acquire_offer<T, B: HasSlots, K: ItemRule<T>>(
+    seen: &Seen<Event<T>, Log<T>, OneWord<B, K>>,
+) -> Offer<Event<T>, Log<T>, OneWord<B, K>, AcquireGain<B>>
     ensures { (result.names ≡ seen.now.names) × (result.ask ≡ Acquired) × (result.about ≡ [])
         × (result.state ≡ None) }
 {
@@ -154,13 +155,13 @@ pub fn take_acquired_open<T, B: HasSlots>(
 }
 
 /// An offer to release the word and leave the list.
-pub fn offer_release<T, B: HasSlots>(
-    seen: &Seen<Event<T>, Log<T>, OneWord<B>>,
+pub fn offer_release<T, B: HasSlots, K: ItemRule<T>>(
+    seen: &Seen<Event<T>, Log<T>, OneWord<B, K>>,
     held: Held,
     further: WriteRights,
     author: Author,
     _buffer: usize,
-) -> Offer<Event<T>, Log<T>, OneWord<B>, ReleaseGain<B>>
+) -> Offer<Event<T>, Log<T>, OneWord<B, K>, ReleaseGain<B>>
     requires { (held.name ≡ head seen.now.names) × (held.kinds ≡ kinds seen.now.log)
         × (further.of ≡ drop _buffer (buffer_slots_of seen.now.names))
         × (length (list_of seen.now.log) + 1 ≡ 4 ^ _buffer) }
@@ -174,8 +175,8 @@ pub fn offer_release<T, B: HasSlots>(
 }
 
 /// An offer to publish an item.
-pub fn offer_publish<T, B: HasSlots>(
-    seen: &Seen<Event<T>, Log<T>, OneWord<B>>,
+pub fn offer_publish<T, B: HasSlots, K: ItemRule<T>>(
+    seen: &Seen<Event<T>, Log<T>, OneWord<B, K>>,
     held: Held,
     opened: Written<B>,
     slots: WriteRights,
@@ -184,7 +185,7 @@ pub fn offer_publish<T, B: HasSlots>(
     item: Written<T>,
     _buffer: usize,
     _slot: usize,
-) -> Offer<Event<T>, Log<T>, OneWord<B>, PublishGain<B>>
+) -> Offer<Event<T>, Log<T>, OneWord<B, K>, PublishGain<B>>
     requires { (held.name ≡ head seen.now.names) × (held.kinds ≡ kinds seen.now.log)
         × IsAt (length (list_of seen.now.log)) _buffer _slot
         × (length (B.slot_names opened.value) ≡ 3 * 4 ^ _buffer)
@@ -203,13 +204,13 @@ pub fn offer_publish<T, B: HasSlots>(
 }
 
 /// An offer to publish the items of a clone, if the next place begins a buffer that nobody has opened.
-pub fn offer_clone_closed<T, B: HasSlots>(
-    seen: &Seen<Event<T>, Log<T>, OneWord<B>>,
+pub fn offer_clone_closed<T, B: HasSlots, K: ItemRule<T>>(
+    seen: &Seen<Event<T>, Log<T>, OneWord<B, K>>,
     held: Held,
     prefix: WrittenPrefix<T, B>,
     further: WriteRights,
     author: Author,
-) -> Offer<Event<T>, Log<T>, OneWord<B>, ReleaseGain<B>>
+) -> Offer<Event<T>, Log<T>, OneWord<B, K>, ReleaseGain<B>>
     requires { (held.name ≡ head seen.now.names) × (held.kinds ≡ [])
         × (prefix.buffer_slots ≡ buffer_slots_of seen.now.names)
         × IsClosedAt (buffer_slots_of seen.now.names) (length prefix.items) further.of }
@@ -223,15 +224,15 @@ pub fn offer_clone_closed<T, B: HasSlots>(
 }
 
 /// The same, if the next place is in an open buffer.
-pub fn offer_clone_open<T, B: HasSlots>(
-    seen: &Seen<Event<T>, Log<T>, OneWord<B>>,
+pub fn offer_clone_open<T, B: HasSlots, K: ItemRule<T>>(
+    seen: &Seen<Event<T>, Log<T>, OneWord<B, K>>,
     held: Held,
     prefix: WrittenPrefix<T, B>,
     opened: Written<B>,
     slots: WriteRights,
     further: WriteRights,
     author: Author,
-) -> Offer<Event<T>, Log<T>, OneWord<B>, ReleaseGain<B>>
+) -> Offer<Event<T>, Log<T>, OneWord<B, K>, ReleaseGain<B>>
     requires { (held.name ≡ head seen.now.names) × (held.kinds ≡ [])
         × (prefix.buffer_slots ≡ buffer_slots_of seen.now.names)
         × IsOpenAt (buffer_slots_of seen.now.names) (length prefix.items)
@@ -270,10 +271,10 @@ pub fn take_published<T, B: HasSlots>(gained: Gained<Event<T>, Log<T>, PublishGa
 }
 
 /// An offer to read the length.
-pub fn offer_read<T, B: HasSlots>(
-    seen: &Seen<Event<T>, Log<T>, OneWord<B>>,
+pub fn offer_read<T, B: HasSlots, K: ItemRule<T>>(
+    seen: &Seen<Event<T>, Log<T>, OneWord<B, K>>,
     author: Author,
-) -> Offer<Event<T>, Log<T>, OneWord<B>, ReadGain<B>>
+) -> Offer<Event<T>, Log<T>, OneWord<B, K>, ReadGain<B>>
     ensures { (result.names ≡ seen.now.names) × (result.ask ≡ OfferOf author.name author.used)
         × (result.about ≡ OfferOf author.name author.used ∷ []) × (result.state ≡ None) }
 {
@@ -304,8 +305,8 @@ pub fn take_read<T, B: HasSlots>(
 }
 
 /// A history that was seen has no more entries of an author than it pushed.
-pub fn bounded_by_tickets<T, B: HasSlots>(
-    seen: &Seen<Event<T>, Log<T>, OneWord<B>>,
+pub fn bounded_by_tickets<T, B: HasSlots, K: ItemRule<T>>(
+    seen: &Seen<Event<T>, Log<T>, OneWord<B, K>>,
     author: Author,
 ) -> Author
     ensures { (result.name ≡ author.name) × (result.used ≡ author.used)
@@ -318,7 +319,9 @@ pub fn bounded_by_tickets<T, B: HasSlots>(
 }
 
 /// A history that was seen shows, for good, that each place of its list was written. It takes no atomic step.
-pub fn evidence<T, B: HasSlots>(_seen: &Seen<Event<T>, Log<T>, OneWord<B>>) -> WrittenPrefix<T, B>
+pub fn evidence<T, B: HasSlots, K: ItemRule<T>>(
+    _seen: &Seen<Event<T>, Log<T>, OneWord<B, K>>,
+) -> WrittenPrefix<T, B>
     ensures { (result.buffer_slots ≡ buffer_slots_of _seen.now.names)
         × (result.items ≡ items_of (list_of _seen.now.log)) }
 {

@@ -85,6 +85,9 @@ module _ {T : Type 0} where
   pub list_prefix : (xs ys : List (Event T)) → IsPrefix xs ys → IsPrefix (list_of xs) (list_of ys)
   list_prefix xs ys p = (list_of p.0, sym (list_append xs p.0) ∙ ap list_of p.1)
 
+  pub items_prefix : (xs ys : List (Entry T)) → IsPrefix xs ys → IsPrefix (items_of xs) (items_of ys)
+  items_prefix xs ys p = (items_of p.0, sym (items_append xs p.0) ∙ ap items_of p.1)
+
   pub count_append : (a : ℕ) (xs ys : List (Entry T)) → count a (xs ++ ys) ≡ count a xs + count a ys
   count_append a [] ys = omega arith
   count_append a (x ∷ xs) ys = let h = count_append a xs ys in omega arith

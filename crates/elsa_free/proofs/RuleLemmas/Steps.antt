@@ -9,12 +9,14 @@ use Rattle.elsa_free.specs.declared.event.Event.{Event}
 use Rattle.elsa_free.specs.declared.event.Event.TheVariants.{Acquired, Published, Cloned, Released, OfferOf}
 use Rattle.elsa_free.specs.declared.event.Entry.{Entry}
 use Rattle.elsa_machine.specs.AtomicSteps.{bit, Acquires as IsAcquire, Looks as IsLook, Publishes as IsPublish, Releases as IsRelease}
+use Rattle.elsa_free.specs.Distinct.{EachIsNew}
 use Rattle.elsa_free.specs.History.{list_of, entries, begins_hold, is_held, shared_by}
+use Rattle.elsa_free.specs.SharedList.{items_of}
 use Rattle.elsa_free.specs.Rights.{IsStep}
 use Rattle.elsa_free.specs.OneWord.{IsKept, Sees, Reads, Acquires, Ends, word_of}
-use Rattle.elsa_free.proofs.RuleLemmas.History.{held_snoc, list_snoc, prefix_whole}
+use Rattle.elsa_free.proofs.RuleLemmas.History.{held_snoc, list_prefix, list_snoc, prefix_whole}
 
-bit_small : (b : Bool) → bit b ≤ 1
+pub bit_small : (b : Bool) → bit b ≤ 1
 bit_small true = omega arith
 bit_small false = omega arith
 
@@ -58,12 +60,12 @@ module _ (T : Type 0) where
       record { was_held = held; length_is = ap length l; held_is = ap is_held is ∙ held_snoc true xs Released; list_is = l }
 
   -- ---- acquire
-  module _ (v : Log) (found : ℕ) (even : found % 2 ≡ 0) where
+  module _ (is_new : List T → T → Type 0) (v : Log) (found : ℕ) (even : found % 2 ≡ 0) where
     abbrev AcquireGoes : List Cell → Log → Type 0
-    AcquireGoes cs log = Goes IsKept shown (IsStep {T = T} Acquired) 0 (v, (no_nib, None)) (λ n. either (n == found) (found + 1) n) (Acquires (step 0 found (found + 1) Acquired) (v, (no_nib, None))) cs log
+    AcquireGoes cs log = Goes (IsKept is_new) shown (IsStep {T = T} Acquired) 0 (v, (no_nib, None)) (λ n. either (n == found) (found + 1) n) (Acquires (step 0 found (found + 1) Acquired) (v, (no_nib, None))) cs log
 
-    acquire_goes : (log : Log) → length (list_of log) < 2 ^ 62 → (b : Bool) → (word_of log == found) ≡ b → AcquireGoes ((word_of log, true) ∷ (0, true) ∷ []) log
-    acquire_goes log tiny true is =
+    acquire_goes : (log : Log) → length (list_of log) < 2 ^ 62 → EachIsNew is_new (items_of (list_of log)) → (b : Bool) → (word_of log == found) ≡ b → AcquireGoes ((word_of log, true) ∷ (0, true) ∷ []) log
+    acquire_goes log tiny all_new true is =
         let here : word_of log ≡ found = grind (arith, nat_tests) in
         let small = bit_small (is_held log) in
         let free : is_held log ≡ false = bit_none (is_held log) (omega arith) in
@@ -74,25 +76,25 @@ module _ (T : Type 0) where
           Acquired ∷ [],
           Some log,
           tt,
-          record { words = ap (λ (k : ℕ). (k, true) ∷ (0, true) ∷ []) n; small = omega (arith, len, tiny) },
+          record { words = ap (λ (k : ℕ). (k, true) ∷ (0, true) ∷ []) n; small = omega (arith, len, tiny); each_is_new = subst (λ (l : List (Entry T)). EachIsNew is_new (items_of l)) (sym (list_snoc log Acquired ∙ append-nil (list_of log))) all_new },
           inr (log, refl, refl, (refl, (refl, acquire_holds log (log ++ Acquired ∷ []) refl free))),
           rw is (log, refl, refl, refl, free, tiny),
         )
-    acquire_goes log tiny false is =
+    acquire_goes log tiny all_new false is =
         let all : log ++ [] ≡ log = append-nil log in
         let n : either (word_of log == found) (found + 1) (word_of log) ≡ word_of (log ++ []) = rw is (ap word_of (sym all)) in (
           keeps,
           [],
           None,
           tt,
-          record { words = ap (λ (k : ℕ). (k, true) ∷ (0, true) ∷ []) n; small = subst (λ (x : Log). length (list_of x) < 2 ^ 62) (sym all) tiny },
+          record { words = ap (λ (k : ℕ). (k, true) ∷ (0, true) ∷ []) n; small = subst (λ (x : Log). length (list_of x) < 2 ^ 62) (sym all) tiny; each_is_new = subst (λ (x : Log). EachIsNew is_new (items_of (list_of x))) (sym all) all_new },
           inl (refl, all),
           rw is (ap word_of all),
         )
 
-    pub acquire_moves : Moves IsKept shown (IsStep {T = T} Acquired) 0 (v, (no_nib, None)) (λ n. either (n == found) (found + 1) n) (Acquires (step 0 found (found + 1) Acquired) (v, (no_nib, None)))
+    pub acquire_moves : Moves (IsKept is_new) shown (IsStep {T = T} Acquired) 0 (v, (no_nib, None)) (λ n. either (n == found) (found + 1) n) (Acquires (step 0 found (found + 1) Acquired) (v, (no_nib, None)))
     acquire_moves cs log kept pre away = let P : List Cell → Type 0 = λ c. (0 < length c) × ((cell c 0).1 ≡ true) × AcquireGoes c log in
-        subst P (sym kept.words) (omega arith, refl, acquire_goes log kept.small (word_of log == found) refl)
+        subst P (sym kept.words) (omega arith, refl, acquire_goes log kept.small kept.each_is_new (word_of log == found) refl)
 
   -- ---- the end of a hold
   -- the items of a clone are published into an empty list alone
@@ -122,12 +124,12 @@ module _ (T : Type 0) where
   is_step Released xs ys r ends pl m = (m.0, elim m.1 [ inl s ↦ inl s | inr t ↦ inr (t.0, release_holds xs ys t.0 t.1) ])
   is_step (OfferOf a n) xs ys r ends pl m = absurd (cc pl)
 
-  module _ (v : Log) (e : Event T) (held after : ℕ) (ends : begins_hold e ≡ false) (pl : plain e ≡ true) (may : MayFollow e (list_of v)) (low : length (list_of (v ++ e ∷ [])) < 2 ^ 62) (holds : is_held v ≡ true) (was : held ≡ word_of v) (will : after ≡ word_of (v ++ e ∷ [])) where
+  module _ (is_new : List T → T → Type 0) (v : Log) (e : Event T) (held after : ℕ) (ends : begins_hold e ≡ false) (pl : plain e ≡ true) (may : MayFollow e (list_of v)) (low : length (list_of (v ++ e ∷ [])) < 2 ^ 62) (holds : is_held v ≡ true) (was : held ≡ word_of v) (will : after ≡ word_of (v ++ e ∷ [])) (new : EachIsNew is_new (items_of (list_of v)) → EachIsNew is_new (items_of (list_of v ++ entries e))) where
     abbrev EndGoes : List Cell → Log → Type 0
-    EndGoes cs log = Goes IsKept shown (IsStep e) 0 (v, (no_nib, None)) (λ n. either (n == held) after n) (Ends (step 0 held after e) (v, (no_nib, None))) cs log
+    EndGoes cs log = Goes (IsKept is_new) shown (IsStep e) 0 (v, (no_nib, None)) (λ n. either (n == held) after n) (Ends (step 0 held after e) (v, (no_nib, None))) cs log
 
-    end_goes : (log : Log) → length (list_of log) < 2 ^ 62 → IsPrefix v log → (b : Bool) → (word_of log == held) ≡ b → EndGoes ((word_of log, true) ∷ (0, true) ∷ []) log
-    end_goes log tiny pre true is =
+    end_goes : (log : Log) → length (list_of log) < 2 ^ 62 → EachIsNew is_new (items_of (list_of log)) → IsPrefix v log → (b : Bool) → (word_of log == held) ≡ b → EndGoes ((word_of log, true) ∷ (0, true) ∷ []) log
+    end_goes log tiny all_new pre true is =
         let here : word_of log ≡ held = grind (arith, nat_tests) in
         let one = ap bit holds in let small = bit_small (is_held log) in
         let on : is_held log ≡ true = bit_one (is_held log) (omega arith) in
@@ -135,31 +137,33 @@ module _ (T : Type 0) where
         let lv : length (list_of (v ++ e ∷ [])) ≡ length (list_of v) + length (entries e) = ap length (list_snoc v e) ∙ length-append (list_of v) (entries e) in
         let ll : length (list_of (log ++ e ∷ [])) ≡ length (list_of log) + length (entries e) = ap length (list_snoc log e) ∙ length-append (list_of log) (entries e) in
         let same : length (list_of log) ≡ length (list_of v) = let z = ap bit on in omega (arith, here, was, one, z) in
+        let whole : list_of v ≡ list_of log = prefix_whole (list_of v) (list_of log) (list_prefix v log pre) (omega (arith, same)) in
+        let lists : list_of v ++ entries e ≡ list_of (log ++ e ∷ []) = ap (λ (l : List (Entry T)). l ++ entries e) whole ∙ sym (list_snoc log e) in
         let few : length (list_of (log ++ e ∷ [])) < 2 ^ 62 = omega (arith, lv, ll, low, here, was, one, small) in
         let n : either (word_of log == held) after (word_of log) ≡ word_of (log ++ e ∷ []) = rw is (let z = ap bit on in omega arith) in (
           keeps,
           e ∷ [],
           Some log,
           tt,
-          record { words = ap (λ (k : ℕ). (k, true) ∷ (0, true) ∷ []) n; small = few },
+          record { words = ap (λ (k : ℕ). (k, true) ∷ (0, true) ∷ []) n; small = few; each_is_new = subst (λ (l : List (Entry T)). EachIsNew is_new (items_of l)) lists (new (subst (λ (l : List (Entry T)). EachIsNew is_new (items_of l)) (sym whole) all_new)) },
           inr (log, refl, refl, is_step e log (log ++ e ∷ []) log ends pl (refl, inr (refl, on, may_follow e (list_of v) (list_of log) same may))),
           (log, pre, refl, refl, rw is refl),
         )
-    end_goes log tiny pre false is =
+    end_goes log tiny all_new pre false is =
         let all : log ++ [] ≡ log = append-nil log in
         let n : either (word_of log == held) after (word_of log) ≡ word_of (log ++ []) = rw is (ap word_of (sym all)) in (
           keeps,
           [],
           Some log,
           tt,
-          record { words = ap (λ (k : ℕ). (k, true) ∷ (0, true) ∷ []) n; small = subst (λ (x : Log). length (list_of x) < 2 ^ 62) (sym all) tiny },
+          record { words = ap (λ (k : ℕ). (k, true) ∷ (0, true) ∷ []) n; small = subst (λ (x : Log). length (list_of x) < 2 ^ 62) (sym all) tiny; each_is_new = subst (λ (x : Log). EachIsNew is_new (items_of (list_of x))) (sym all) all_new },
           inr (log, refl, refl, is_step e log (log ++ []) log ends pl (refl, inl all)),
           (log, pre, refl, refl, rw is all),
         )
 
-    pub end_moves : Moves IsKept shown (IsStep e) 0 (v, (no_nib, None)) (λ n. either (n == held) after n) (Ends (step 0 held after e) (v, (no_nib, None)))
+    pub end_moves : Moves (IsKept is_new) shown (IsStep e) 0 (v, (no_nib, None)) (λ n. either (n == held) after n) (Ends (step 0 held after e) (v, (no_nib, None)))
     end_moves cs log kept pre away = let P : List Cell → Type 0 = λ c. (0 < length c) × ((cell c 0).1 ≡ true) × EndGoes c log in
-        subst P (sym kept.words) (omega arith, refl, end_goes log kept.small pre (word_of log == held) refl)
+        subst P (sym kept.words) (omega arith, refl, end_goes log kept.small kept.each_is_new pre (word_of log == held) refl)
 
 -- at equal numbers the first branch was taken
 pub chosen : {A : Type 0} (B : Type 0) (m n : ℕ) → m ≡ n → MatchBool (m == n) A B → A
@@ -177,15 +181,15 @@ module _ (T : Type 0) where
   abbrev Logs : Type 0
   Logs = List (Event T)
 
-  pub sees_moves : (v : Logs) (state : Rattle.core.specs.declared.option.Option.Option Logs) (ask : Event T) → Moves IsKept (λ (log : Logs). log) (IsStep ask) 0 (v, (no_nib, state)) (λ n. n) (Sees (step 0 0 0 ask) (v, (no_nib, state)))
-  sees_moves v state ask cs log kept pre away = let all : log ++ [] ≡ log = append-nil log in
-      let P : List Cell → Type 0 = λ c. (0 < length c) × ((cell c 0).1 ≡ true) × Goes IsKept (λ (log : Logs). log) (IsStep ask) 0 (v, (no_nib, state)) (λ n. n) (Sees (step 0 0 0 ask) (v, (no_nib, state))) c log in
-      subst P (sym kept.words) (omega arith, refl, (keeps, [], state, tt, subst (λ (x : Logs). IsKept ((word_of log, true) ∷ (0, true) ∷ []) x) (sym all) record { words = refl; small = kept.small }, inl (refl, all), ap word_of all))
+  pub sees_moves : {is_new : List T → T → Type 0} (v : Logs) (state : Rattle.core.specs.declared.option.Option.Option Logs) (ask : Event T) → Moves (IsKept is_new) (λ (log : Logs). log) (IsStep ask) 0 (v, (no_nib, state)) (λ n. n) (Sees (step 0 0 0 ask) (v, (no_nib, state)))
+  sees_moves {is_new} v state ask cs log kept pre away = let all : log ++ [] ≡ log = append-nil log in
+      let P : List Cell → Type 0 = λ c. (0 < length c) × ((cell c 0).1 ≡ true) × Goes (IsKept is_new) (λ (log : Logs). log) (IsStep ask) 0 (v, (no_nib, state)) (λ n. n) (Sees (step 0 0 0 ask) (v, (no_nib, state))) c log in
+      subst P (sym kept.words) (omega arith, refl, (keeps, [], state, tt, subst (λ (x : Logs). IsKept is_new ((word_of log, true) ∷ (0, true) ∷ []) x) (sym all) record { words = refl; small = kept.small; each_is_new = kept.each_is_new }, inl (refl, all), ap word_of all))
 
   read_holds : (xs ys : Logs) → ys ≡ xs → IsLook (length (list_of xs)) (shared_by xs) (shared_by ys)
   read_holds xs ys is = record { sees = refl; stays = record { length_is = ap (λ (l : Logs). length (list_of l)) is; held_is = ap is_held is; list_is = ap list_of is } }
 
-  pub reads_moves : (v : Logs) (a n : ℕ) → Moves IsKept (λ (log : Logs). log) (IsStep (OfferOf a n)) 0 (v, (no_nib, None)) (λ n. n) (Reads (step 0 0 0 (OfferOf a n)) (v, (no_nib, None)))
-  reads_moves v a n cs log kept pre away = let all : log ++ [] ≡ log = append-nil log in
-      let P : List Cell → Type 0 = λ c. (0 < length c) × ((cell c 0).1 ≡ true) × Goes IsKept (λ (log : Logs). log) (IsStep (OfferOf a n)) 0 (v, (no_nib, None)) (λ n. n) (Reads (step 0 0 0 (OfferOf a n)) (v, (no_nib, None))) c log in
-      subst P (sym kept.words) (omega arith, refl, (keeps, [], Some log, tt, subst (λ (x : Logs). IsKept ((word_of log, true) ∷ (0, true) ∷ []) x) (sym all) record { words = refl; small = kept.small }, inr (log, refl, refl, (refl, (all, read_holds log (log ++ []) all))), (ap word_of all, ap Some (sym all), subst (λ (x : Logs). length (list_of x) < 2 ^ 62) (sym all) kept.small)))
+  pub reads_moves : {is_new : List T → T → Type 0} (v : Logs) (a n : ℕ) → Moves (IsKept is_new) (λ (log : Logs). log) (IsStep (OfferOf a n)) 0 (v, (no_nib, None)) (λ n. n) (Reads (step 0 0 0 (OfferOf a n)) (v, (no_nib, None)))
+  reads_moves {is_new} v a n cs log kept pre away = let all : log ++ [] ≡ log = append-nil log in
+      let P : List Cell → Type 0 = λ c. (0 < length c) × ((cell c 0).1 ≡ true) × Goes (IsKept is_new) (λ (log : Logs). log) (IsStep (OfferOf a n)) 0 (v, (no_nib, None)) (λ n. n) (Reads (step 0 0 0 (OfferOf a n)) (v, (no_nib, None))) c log in
+      subst P (sym kept.words) (omega arith, refl, (keeps, [], Some log, tt, subst (λ (x : Logs). IsKept is_new ((word_of log, true) ∷ (0, true) ∷ []) x) (sym all) record { words = refl; small = kept.small; each_is_new = kept.each_is_new }, inr (log, refl, refl, (refl, (all, read_holds log (log ++ []) all))), (ap word_of all, ap Some (sym all), subst (λ (x : Logs). length (list_of x) < 2 ^ 62) (sym all) kept.small)))

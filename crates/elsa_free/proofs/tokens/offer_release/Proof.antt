@@ -51,17 +51,17 @@ use Rattle.elsa_free.proofs.tokens.offer_release.Statement.{statement}
 use Rattle.elsa_free.proofs.tokens.offer_release.Code as code
 
 pub offer_release_spec : {M : Type 1} → statement M
-offer_release_spec 𝓤 𝓛 𝓜 𝓡 wired T B _ _ g d _ =
-    let H = 𝓛.H in let 𝓣 = tables 𝓤 H 𝓜 𝓡 𝓡.env in let T' : RattleType = param 0 T in let B' : RattleType = param 1 B in let E' : RattleType = Event.the_row T' in let L' : RattleType = LinkedList.the_row E' Global.the_row galloc.ghosts in let En = ended T B g d in
-    let inst = bounded (a_type ∷ a_type ∷ []) (T, (B, tt)) (dcons d dnil) in let fn = inst_fn inst code.function in let c = clauses T B g d 𝓛 𝓜.mem 𝓡.returns in
-    let S : RattleType = Seen.the_row E' L' (OneWord.the_row B') (rule.ghosts T' B' g d) in let GT : RattleType = Tuple (E' ∷ L' ∷ AcquireGain.the_row B' ∷ []) in let GG : RattleType = Tuple (E' ∷ L' ∷ ReleaseGain.the_row B' ∷ []) in let GP : RattleType = Tuple (E' ∷ L' ∷ PublishGain.the_row B' ∷ []) in let GL : RattleType = Tuple (E' ∷ L' ∷ ReadGain.the_row B' ∷ []) in
+offer_release_spec 𝓤 𝓛 𝓜 𝓡 wired T B K _ _ _ g d h e _ _ =
+    let H = 𝓛.H in let 𝓣 = tables 𝓤 H 𝓜 𝓡 𝓡.env in let T' : RattleType = param 0 T in let B' : RattleType = param 1 B in let K' : RattleType = param 2 K in let E' : RattleType = Event.the_row T' in let L' : RattleType = LinkedList.the_row E' Global.the_row galloc.ghosts in let En = ended T B K g d h e in
+    let inst = bounded (a_type ∷ a_type ∷ a_type ∷ []) (T, (B, (K, tt))) (dcons d (dcons e dnil)) in let fn = inst_fn inst code.function in let c = clauses T B K g d h e 𝓛 𝓜.mem 𝓡.returns in
+    let S : RattleType = Seen.the_row E' L' (OneWord.the_row B' K') (rule.ghosts T' B' K' g d h e) in let GT : RattleType = Tuple (E' ∷ L' ∷ AcquireGain.the_row B' ∷ []) in let GG : RattleType = Tuple (E' ∷ L' ∷ ReleaseGain.the_row B' ∷ []) in let GP : RattleType = Tuple (E' ∷ L' ∷ PublishGain.the_row B' ∷ []) in let GL : RattleType = Tuple (E' ∷ L' ∷ ReadGain.the_row B' ∷ []) in
     let hs : Stays En.signature.params En.kept = (stay_dropped (RefOf (0 ∷ []) tt (plain (λ _. S)) (λ _. tt)) yes, (stay_dropped (plain (λ _. Held.the_row)) yes, (stay_dropped (plain (λ _. WriteRights.the_row)) yes, (stay_dropped (plain (λ _. Author.the_row)) yes, (stay_dropped (plain (λ _. usize)) yes, tt))))) in
-    proved 𝓛 En hs c 𝓜 𝓡 (Goes-dropped 𝓛 3 (RefOf (0 ∷ []) tt (plain (λ _. S)) (λ _. tt)) yes (λ κs x f. refl), (Goes-dropped 𝓛 3 (plain (λ _. Held.the_row)) yes (λ κs x f. refl), (Goes-dropped 𝓛 3 (plain (λ _. WriteRights.the_row)) yes (λ κs x f. refl), (Goes-dropped 𝓛 3 (plain (λ _. Author.the_row)) yes (λ κs x f. refl), (Goes-dropped 𝓛 3 (plain (λ _. usize)) yes (λ κs x f. refl), tt))))) (#self inst) fn (code.unfolded 𝓤 H 𝓜 𝓡 wired (T, (B, tt)) d)
+    proved 𝓛 En hs c 𝓜 𝓡 (Goes-dropped 𝓛 4 (RefOf (0 ∷ []) tt (plain (λ _. S)) (λ _. tt)) yes (λ κs x f. refl), (Goes-dropped 𝓛 4 (plain (λ _. Held.the_row)) yes (λ κs x f. refl), (Goes-dropped 𝓛 4 (plain (λ _. WriteRights.the_row)) yes (λ κs x f. refl), (Goes-dropped 𝓛 4 (plain (λ _. Author.the_row)) yes (λ κs x f. refl), (Goes-dropped 𝓛 4 (plain (λ _. usize)) yes (λ κs x f. refl), tt))))) (#self inst) fn (code.unfolded 𝓤 H 𝓜 𝓡 wired (T, (B, (K, tt))) d e)
     (λ κs. (shr_vals, ((λ x. token ∷ []), ((λ x. token ∷ []), ((λ x. token ∷ []), (uint_vals w64, tt)))))) (λ κs. (shr_Tells (named 0) κs.0 S, ((λ x vs is. token_told (unit) vs is.0), ((λ x vs is. token_told (unit) vs is.0), ((λ x vs is. token_told (unit) vs is.0), (uint_Tells w64, tt)))))) (λ κs qs bounds a gh are.
     let me = a.0.now in let p : Val = vptr a.0.ref_ptr.0 a.0.ref_ptr.1 in
     let y : (walk_of 𝓛 En hs c).Ghost = ((κs, qs, bounds, a, (p ∷ [], (token ∷ [], (token ∷ [], (token ∷ [], (vint w64 a.1.1.1.1.0 ∷ [], tt)))))), gh) in let Post : Val → SProp 𝓤 = (walk_of 𝓛 En hs c).post y in
     let args : List Val = p ∷ token ∷ token ∷ token ∷ vint w64 a.1.1.1.1.0 ∷ [] in
-    qed 𝓛 ((raw (denote.Triple.Entry.alive 𝓛 En.signature κs qs) ⊛ ‵ (owns (types_at En.signature.params κs) a y.0.4)) ∷ raw (fact 𝓤 _) ∷ raw (fact 𝓤 _) ∷ given _ (‵ ftrue) ∷ []) ∵ keep ! (3 ∷ 0 ∷ []) $ learn ! (λ asked. drop ! $ split ! $
+    qed 𝓛 ((raw (denote.Triple.Entry.alive 𝓛 En.signature κs qs) ⊛ ‵ (owns (types_at En.signature.params κs) a y.0.4)) ∷ raw (fact 𝓤 _) ∷ raw (fact 𝓤 _) ∷ raw (fact 𝓤 _) ∷ given _ (‵ ftrue) ∷ []) ∵ keep ! (4 ∷ 0 ∷ []) $ learn ! (λ asked. drop ! $ split ! $
     let held = a.1.0 in let author' = a.1.1.1.0 in let b : ℕ = a.1.1.1.1.0 in let buffer_slots : List ℕ = buffer_slots_of me.names in let n : ℕ = length (list_of me.log) in
     move ! (1 ∷ []) $ fsplit ! $ move ! (1 ∷ []) $ fsplit ! $ fsplit ! $ move ! (2 ∷ []) $ fsplit ! $ fsplit ! $ move ! (2 ∷ []) $ fsplit ! $ fsplit ! $ move ! (2 ∷ []) $ fsplit ! $ keep ! (5 ∷ 7 ∷ 3 ∷ 9 ∷ []) $
     enter ! 𝓣.C 𝓣.Λ fn args Post $ alloc_all ! (λ l. pass_all ! refl ((tt, tt), ((tt, (tt, tt)), ((tt, (tt, tt)), ((tt, (tt, tt)), ((tt, record { fits = are.1.1.1.1.0.1 }), tt))))) $ let Env = env fn.locals l in
@@ -69,6 +69,6 @@ offer_release_spec 𝓤 𝓛 𝓜 𝓡 wired T B _ _ g d _ =
     rewrite ! 1 (λ (z : ℕ). ‵ (latest logs three_quarters z held.kinds)) asked.0 refl $ rewrite ! 1 (λ (z : List ℕ). ‵ (latest logs three_quarters (head me.names) z)) asked.1 refl $
     move ! (1 ∷ 0 ∷ 2 ∷ []) $ fjoin3 ! $
     use1 𝓛 (‵ (offer_owns (rule_owns T' B' g.slot_names me.names) (IsStep {T = T'.Denot} Released) (release_gain T' B' g.slot_names (OfferOf author'.name author'.used ∷ me.log)) None)) (offers.release_offer 𝓛 T' B' g.slot_names me.names me.log author'.name author'.used) $
-    use0 𝓛 (‵ ((Token (Tuple (E' ∷ L' ∷ OneWord.the_row B' ∷ ReleaseGain.the_row B' ∷ []))).own_val (record {}, tt) (token ∷ []))) (token_made (Tuple (E' ∷ L' ∷ OneWord.the_row B' ∷ ReleaseGain.the_row B' ∷ [])) 𝓛) $ fjoin ! $ sets ! (agg ! (no_more !)) refl (tt, tt) $ sets ! (agg ! (and_then ! (get ! refl) (no_more !))) refl (tt, (tt, tt)) $
+    use0 𝓛 (‵ ((Token (Tuple (E' ∷ L' ∷ OneWord.the_row B' K' ∷ ReleaseGain.the_row B' ∷ []))).own_val (record {}, tt) (token ∷ []))) (token_made (Tuple (E' ∷ L' ∷ OneWord.the_row B' K' ∷ ReleaseGain.the_row B' ∷ [])) 𝓛) $ fjoin ! $ sets ! (agg ! (no_more !)) refl (tt, tt) $ sets ! (agg ! (and_then ! (get ! refl) (no_more !))) refl (tt, (tt, tt)) $
     nothing ! $ nothing ! $ fjoin ! $ nothing ! $ fjoin ! $ nothing ! $ fjoin ! $ nothing ! $ fjoin ! $ nothing ! $ fjoin ! $
     returns ! (look_at ! 0 refl) $ free_all ! refl $ keep ! (2 ∷ 0 ∷ 1 ∷ []) $ by ! (ends 𝓛 En hs c y (token) (record { marker = record {}; names = me.names; ask = Released; about = OfferOf author'.name author'.used ∷ me.log; state = None }) (tt, (tt, (tt, (tt, (tt, tt))))) (tt, (tt, (tt, (tt, (tt, tt))))) (fact_i 𝓤 _ (emp 𝓤) ((refl, refl, refl, refl)))))))

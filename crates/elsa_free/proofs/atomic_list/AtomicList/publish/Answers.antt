@@ -1,10 +1,13 @@
 use lib.Seq.{drop-cons}
-use Rattle.std.proofs.Common.{◌≡◌, ◌++◌, ◌∷◌, [], ◌*◌, ◌+◌, ◌<◌, ◌^◌, ℕ, suc, length, length-append, slice_index_or, drop as drops, refl, ap, sym, ◌∙◌, arith, subst}
+use Rattle.std.proofs.Common.{◌≡◌, ◌++◌, ◌∷◌, [], List, ◌*◌, ◌+◌, ◌<◌, ◌^◌, ℕ, suc, length, length-append, slice_index_or, drop as drops, refl, ap, sym, ◌∙◌, arith, subst}
 use Rattle.elsa_machine.specs.Geometry.{IsAt}
 use Rattle.elsa_free.specs.declared.event.Entry.{Entry}
 use Rattle.elsa_free.specs.declared.event.Event.TheVariants.{Published}
-use Rattle.elsa_free.specs.SharedList.{entry}
+use Rattle.elsa_free.specs.Distinct.{EachIsNew}
+use Rattle.elsa_free.specs.SharedList.{entry, items_of}
 use Rattle.elsa_free.specs.History.{list_of}
+use Rattle.elsa_free.proofs.RuleLemmas.EachNew.{snoc_is_new}
+use Rattle.elsa_free.proofs.RuleLemmas.History.{items_append}
 use Rattle.elsa_free.proofs.RuleLemmas.Steps.{end_moves}
 use Rattle.elsa_free.proofs.RuleLemmas.HoldEnd.{exchange_was_at_known_history, held_word, published_list, published_word}
 use Rattle.elsa_free.proofs.atomic_list.AtomicList.publish.Goals as goal
@@ -19,12 +22,15 @@ offer_publish-offer-requires g c =
 pub compare_exchange-requires : goal.compare_exchange-requires
 compare_exchange-requires g c = let h = c.deref.ensures ∙ c.args.self.now.word_is in let offer = c.offer_publish-offer.ensures in let pen = c.no_pen-pen.ensures in
     let v = c.args.seen.log in let n = c.args.n in let x : Entry g.row.T.Denot = entry (suc c.args.author.name) c.write-written.result.value in
-    let low : length (list_of (v ++ Published x ∷ [])) < 2 ^ 62 = let l = ap length (published_list v (v ++ Published x ∷ []) x refl) in let a = length-append (list_of v) (x ∷ []) in let r = c.requires.n.0 in let s = c.requires.n.1 in omega (arith, l, a, r, s) in (
+    let low : length (list_of (v ++ Published x ∷ [])) < 2 ^ 62 = let l = ap length (published_list v (v ++ Published x ∷ []) x refl) in let a = length-append (list_of v) (x ∷ []) in let r = c.requires.n.0 in let s = c.requires.n.1 in omega (arith, l, a, r, s) in
+    let new : EachIsNew g.K.ItemRule.is_new (items_of (list_of v)) → EachIsNew g.K.ItemRule.is_new (items_of (list_of v ++ x ∷ [])) = λ all.
+    subst (λ (l : List g.row.T.Denot). EachIsNew g.K.ItemRule.is_new l) (sym (items_append (list_of v) (x ∷ [])))
+    (snoc_is_new g.K.ItemRule.is_new (items_of (list_of v)) c.write-written.result.value all (subst (λ (y : g.row.T.Denot). g.K.ItemRule.is_new (items_of (list_of v)) y) (sym c.write-written.ensures.1) c.requires.new)) in (
       ap (λ w. w.tracked) h,
       c.requires.of.0 ∙ sym (ap (λ w. w.book) h),
       pen.0 ∙ (c.requires.of.0 ∙ sym (ap (λ w. w.book) h)),
       offer.0,
-      rw (ap (λ w. w.key) h, pen.1, offer.1, offer.3) (end_moves g.row.T.Denot v (Published x) (2 * n + 1) (2 * n + 2) refl refl tt low c.requires.held.2 (held_word v n c.requires.n.0 c.requires.held.2) (published_word v n x c.requires.n.0)),
+      rw (ap (λ w. w.key) h, pen.1, offer.1, offer.3) (end_moves g.row.T.Denot g.K.ItemRule.is_new v (Published x) (2 * n + 1) (2 * n + 2) refl refl tt low c.requires.held.2 (held_word v n c.requires.n.0 c.requires.held.2) (published_word v n x c.requires.n.0) new),
     )
 
 pub returns-clause-seen : goal.returns-clause-seen

@@ -1,164 +1,22 @@
-use Rattle.std.proofs.Common.{◌≡◌, ◌∷◌, [], ◌<◌, ◌^◌, ℕ, List, true, suc, length, length-append, slice_index_or, drop as drops, refl, ap, sym, ◌∙◌, arith, subst}
-use lib.Seq.{drop-cons}
-use mathlib.Core.List.{IsPrefix}
+use Rattle.std.proofs.Common.{suc, length, ap, sym, ◌∙◌, arith}
+use Rattle.std.proofs.lemmas.Result.{IfOk-weaker}
 use base.Growing.{prefix_trans}
-use Rattle.elsa_free.specs.declared.event.Entry.{Entry}
-use Rattle.elsa_free.specs.declared.event.Event.TheVariants.{Acquired}
-use Rattle.elsa_free.specs.SharedList.{count, entry}
-use Rattle.elsa_free.specs.History.{list_of, kinds, is_held}
-use Rattle.elsa_free.specs.Rights.{head, buffer_slots_of}
-use Rattle.elsa_free.proofs.RuleLemmas.History.{count_prefix, held_snoc, list_prefix}
-use Rattle.elsa_free.proofs.RuleLemmas.HoldEnd.{published_count, acquired_list}
-use Rattle.elsa_machine.proofs.GeometryLemmas.Powers.{before_power}
+use Rattle.elsa_free.specs.History.{list_of}
+use Rattle.elsa_free.proofs.RuleLemmas.History.{count_prefix, list_prefix}
+use Rattle.elsa_free.proofs.RuleLemmas.HoldEnd.{acquired_list}
 use Rattle.elsa_free.proofs.atomic_list.AtomicList.push.Goals as goal
 
-pub release-seen-requires-clause-held : goal.release-seen-requires-clause-held
-release-seen-requires-clause-held g c =
-    let r = c.acquire-n.ensures.right in let s = c.acquire-n.ensures.same in let v = c.args.seen.log in let log = c.acquire-n.new.seen.log in let answer = c.acquire-n.result.1.answer in let a = suc c.args.author.name in
-    (c.take_acquired_closed-held.ensures.0 ∙ ap head (r.0 ∙ sym s.1), c.take_acquired_closed-held.ensures.1 ∙ ap kinds (sym r.1), ap is_held r.1 ∙ held_snoc true answer Acquired)
+pub append-requires-clause-mine : goal.append-requires-clause-mine
+append-requires-clause-mine g c =
+    let more = count_prefix (suc c.args.author.name) c.args.seen.log c.acquire-n.new.seen.log c.acquire-n.ensures.seen in let mine = c.requires.mine in omega (arith, more, mine)
 
-pub release-seen-requires-clause-n : goal.release-seen-requires-clause-n
-release-seen-requires-clause-n g c =
-    let r = c.acquire-n.ensures.right in let s = c.acquire-n.ensures.same in let v = c.args.seen.log in let log = c.acquire-n.new.seen.log in let answer = c.acquire-n.result.1.answer in let a = suc c.args.author.name in
-    (c.acquire-n.ensures.length.0 ∙ sym (ap length (acquired_list answer log r.1)), c.acquire-n.ensures.length.1)
+pub returns-clause-seen : goal.returns-clause-seen
+returns-clause-seen g c =
+    let v = c.args.seen.log in let log = c.acquire-n.new.seen.log in
+    prefix_trans (list_of v) (list_of log) (list_of c.append.result.0.log) (list_prefix v log c.acquire-n.ensures.seen) c.append.ensures.seen
 
-pub release-seen-requires-clause-mine : goal.release-seen-requires-clause-mine
-release-seen-requires-clause-mine g c =
-    let r = c.acquire-n.ensures.right in let s = c.acquire-n.ensures.same in let v = c.args.seen.log in let log = c.acquire-n.new.seen.log in let answer = c.acquire-n.result.1.answer in let a = suc c.args.author.name in
-    let cp = count_prefix a v log c.acquire-n.ensures.seen in let e = c.requires.mine in omega (arith, cp, e)
-
-pub returns-then-n-eq-LIMIT-clause-seen : goal.returns-then-n-eq-LIMIT-clause-seen
-returns-then-n-eq-LIMIT-clause-seen g c =
-    let r = c.acquire-n.ensures.right in let s = c.acquire-n.ensures.same in let v = c.args.seen.log in let log = c.acquire-n.new.seen.log in let answer = c.acquire-n.result.1.answer in let a = suc c.args.author.name in
-    subst (λ (l : List (Entry g.row.T.Denot)). IsPrefix (list_of v) l) (sym c.release-seen.ensures.seen) (list_prefix v log c.acquire-n.ensures.seen)
-
-pub returns-then-n-eq-LIMIT-clause-mine : goal.returns-then-n-eq-LIMIT-clause-mine
-returns-then-n-eq-LIMIT-clause-mine g c =
-    let r = c.acquire-n.ensures.right in let s = c.acquire-n.ensures.same in let v = c.args.seen.log in let log = c.acquire-n.new.seen.log in let answer = c.acquire-n.result.1.answer in let a = suc c.args.author.name in
-    let m = c.release-seen.ensures.mine in ap (λ (l : List (Entry g.row.T.Denot)). count a l) c.release-seen.ensures.seen ∙ (m ∙ sym c.release-seen.ensures.same.2)
-
-pub returns-then-n-eq-LIMIT-clause-refused : goal.returns-then-n-eq-LIMIT-clause-refused
-returns-then-n-eq-LIMIT-clause-refused g c =
-    let r = c.acquire-n.ensures.right in let s = c.acquire-n.ensures.same in let v = c.args.seen.log in let log = c.acquire-n.new.seen.log in let answer = c.acquire-n.result.1.answer in let a = suc c.args.author.name in
-    let n : c.acquire-n.result.0 ≡ length (list_of log) = c.acquire-n.ensures.length.0 ∙ sym (ap length (acquired_list answer log r.1)) in let l = ap length c.release-seen.ensures.seen in let p = before_power 31 in (c.release-seen.ensures.same.2, (31, omega arith, (let h = c.if-n-eq-LIMIT.true in let z : 4 ^ 31 ≡ 2 ^ 62 = refl in omega (arith, h, z, l, n, p))))
-
-pub publish-seen-requires-clause-held : goal.publish-seen-requires-clause-held
-publish-seen-requires-clause-held g c =
-    let r = c.acquire-n.ensures.right in let s = c.acquire-n.ensures.same in let v = c.args.seen.log in let log = c.acquire-n.new.seen.log in let answer = c.acquire-n.result.1.answer in let a = suc c.args.author.name in
-    (c.take_acquired_open-held.ensures.0 ∙ ap head (r.0 ∙ sym s.1), c.take_acquired_open-held.ensures.1 ∙ ap kinds (sym r.1), ap is_held r.1 ∙ held_snoc true answer Acquired)
-
-pub publish-seen-requires-clause-n : goal.publish-seen-requires-clause-n
-publish-seen-requires-clause-n g c =
-    let r = c.acquire-n.ensures.right in let s = c.acquire-n.ensures.same in let v = c.args.seen.log in let log = c.acquire-n.new.seen.log in let answer = c.acquire-n.result.1.answer in let a = suc c.args.author.name in
-    (c.acquire-n.ensures.length.0 ∙ sym (ap length (acquired_list answer log r.1)), (let h = c.acquire-n.ensures.length.1 in let no = c.if-n-eq-LIMIT.false in omega (arith, h, no)))
-
-pub publish-seen-requires-clause-mine : goal.publish-seen-requires-clause-mine
-publish-seen-requires-clause-mine g c =
-    let r = c.acquire-n.ensures.right in let s = c.acquire-n.ensures.same in let v = c.args.seen.log in let log = c.acquire-n.new.seen.log in let answer = c.acquire-n.result.1.answer in let a = suc c.args.author.name in
-    let cp = count_prefix a v log c.acquire-n.ensures.seen in let e = c.requires.mine in omega (arith, cp, e)
-
-pub returns-then-slot-ne0-clause-seen : goal.returns-then-slot-ne0-clause-seen
-returns-then-slot-ne0-clause-seen g c =
-    let r = c.acquire-n.ensures.right in let s = c.acquire-n.ensures.same in let v = c.args.seen.log in let log = c.acquire-n.new.seen.log in let answer = c.acquire-n.result.1.answer in let a = suc c.args.author.name in
-    prefix_trans (list_of v) (list_of log) (list_of c.publish-seen.result.0.log) (list_prefix v log c.acquire-n.ensures.seen) (entry a c.args.item ∷ [], sym c.publish-seen.ensures.seen)
-
-pub returns-then-slot-ne0-clause-mine : goal.returns-then-slot-ne0-clause-mine
-returns-then-slot-ne0-clause-mine g c =
-    let r = c.acquire-n.ensures.right in let s = c.acquire-n.ensures.same in let v = c.args.seen.log in let log = c.acquire-n.new.seen.log in let answer = c.acquire-n.result.1.answer in let a = suc c.args.author.name in
-    ap (λ (l : List (Entry g.row.T.Denot)). count a l) c.publish-seen.ensures.seen ∙ (published_count a (list_of log) (entry a c.args.item) refl ∙ (ap suc c.publish-seen.ensures.mine ∙ sym c.publish-seen.ensures.same.2))
-
-pub returns-then-slot-ne0-clause-pushed : goal.returns-then-slot-ne0-clause-pushed
-returns-then-slot-ne0-clause-pushed g c =
-    let r = c.acquire-n.ensures.right in let s = c.acquire-n.ensures.same in let v = c.args.seen.log in let log = c.acquire-n.new.seen.log in let answer = c.acquire-n.result.1.answer in let a = suc c.args.author.name in
-    (c.publish-seen.ensures.same.2, (list_of log, list_prefix v log c.acquire-n.ensures.seen, sym (c.acquire-n.ensures.length.0 ∙ sym (ap length (acquired_list answer log r.1))), c.publish-seen.ensures.seen))
-
-pub publish-seen-requires-in-Ok-clause-held : goal.publish-seen-requires-in-Ok-clause-held
-publish-seen-requires-in-Ok-clause-held g c =
-    let r = c.acquire-n.ensures.right in let s = c.acquire-n.ensures.same in let v = c.args.seen.log in let log = c.acquire-n.new.seen.log in let answer = c.acquire-n.result.1.answer in let a = suc c.args.author.name in
-    (c.take_acquired_closed-held-2.ensures.0 ∙ ap head (r.0 ∙ sym s.1), c.take_acquired_closed-held-2.ensures.1 ∙ ap kinds (sym r.1), ap is_held r.1 ∙ held_snoc true answer Acquired)
-
-pub publish-seen-requires-in-Ok-clause-slots : goal.publish-seen-requires-in-Ok-clause-slots
-publish-seen-requires-in-Ok-clause-slots g c =
-    let r = c.acquire-n.ensures.right in let s = c.acquire-n.ensures.same in let v = c.args.seen.log in let log = c.acquire-n.new.seen.log in let answer = c.acquire-n.result.1.answer in let a = suc c.args.author.name in
-    let b = c.locate-buffer.result.0 in let names = c.acquire-n.result.1.names in
-    let same : names ≡ c.args.self.now.first.names = r.0 ∙ c.requires.of.1 in
-    let less : b < length (buffer_slots_of names) = let l = ap (λ z. length (buffer_slots_of z)) same in let t = ap length c.args.self.now.buffer_slots_are in let k = c.args.self.now.all in let m = c.locate-buffer.ensures.openable in omega (arith, l, t, k, m) in
-    let all : c.take-right.result.of ∷ c.take-right.new.self.of ≡ slice_index_or (buffer_slots_of names) b 0 ∷ drops (suc b) (buffer_slots_of names) = sym c.take-right.ensures ∙ (c.take_acquired_closed-held-2.ensures.2 ∙ drop-cons (buffer_slots_of names) b 0 less) in
-    let rest : c.take-right.new.self.of ≡ drops (suc b) (buffer_slots_of names) = cc all in
-    let items = c.fill-opened.result.value in
-    (c.in-Ok.ensures.1 ∙ (sym c.fill-opened.ensures.1 ∙ subst (λ (k : ℕ). items ≡ drops k items) (sym (let z : c.locate-buffer.result.1 ≡ 0 = let no = c.if-slot-ne0.false in omega (arith, no) in z)) refl), rest ∙ ap (λ z. drops (suc b) (buffer_slots_of z)) (r.0 ∙ sym s.1))
-
-pub publish-seen-requires-in-Ok-clause-n : goal.publish-seen-requires-in-Ok-clause-n
-publish-seen-requires-in-Ok-clause-n g c =
-    let r = c.acquire-n.ensures.right in let s = c.acquire-n.ensures.same in let v = c.args.seen.log in let log = c.acquire-n.new.seen.log in let answer = c.acquire-n.result.1.answer in let a = suc c.args.author.name in
-    (c.acquire-n.ensures.length.0 ∙ sym (ap length (acquired_list answer log r.1)), (let h = c.acquire-n.ensures.length.1 in let no = c.if-n-eq-LIMIT.false in omega (arith, h, no)))
-
-pub publish-seen-requires-in-Ok-clause-mine : goal.publish-seen-requires-in-Ok-clause-mine
-publish-seen-requires-in-Ok-clause-mine g c =
-    let r = c.acquire-n.ensures.right in let s = c.acquire-n.ensures.same in let v = c.args.seen.log in let log = c.acquire-n.new.seen.log in let answer = c.acquire-n.result.1.answer in let a = suc c.args.author.name in
-    let cp = count_prefix a v log c.acquire-n.ensures.seen in let e = c.requires.mine in omega (arith, cp, e)
-
-pub release-seen-requires-in-Err-clause-held : goal.release-seen-requires-in-Err-clause-held
-release-seen-requires-in-Err-clause-held g c =
-    let r = c.acquire-n.ensures.right in let s = c.acquire-n.ensures.same in let v = c.args.seen.log in let log = c.acquire-n.new.seen.log in let answer = c.acquire-n.result.1.answer in let a = suc c.args.author.name in
-    (c.take_acquired_closed-held-2.ensures.0 ∙ ap head (r.0 ∙ sym s.1), c.take_acquired_closed-held-2.ensures.1 ∙ ap kinds (sym r.1), ap is_held r.1 ∙ held_snoc true answer Acquired)
-
-pub release-seen-requires-in-Err-clause-n : goal.release-seen-requires-in-Err-clause-n
-release-seen-requires-in-Err-clause-n g c =
-    let r = c.acquire-n.ensures.right in let s = c.acquire-n.ensures.same in let v = c.args.seen.log in let log = c.acquire-n.new.seen.log in let answer = c.acquire-n.result.1.answer in let a = suc c.args.author.name in
-    (c.acquire-n.ensures.length.0 ∙ sym (ap length (acquired_list answer log r.1)), c.acquire-n.ensures.length.1)
-
-pub release-seen-requires-in-Err-clause-mine : goal.release-seen-requires-in-Err-clause-mine
-release-seen-requires-in-Err-clause-mine g c =
-    let r = c.acquire-n.ensures.right in let s = c.acquire-n.ensures.same in let v = c.args.seen.log in let log = c.acquire-n.new.seen.log in let answer = c.acquire-n.result.1.answer in let a = suc c.args.author.name in
-    let cp = count_prefix a v log c.acquire-n.ensures.seen in let e = c.requires.mine in omega (arith, cp, e)
-
-pub returns-in-Ok-clause-seen : goal.returns-in-Ok-clause-seen
-returns-in-Ok-clause-seen g c =
-    let r = c.acquire-n.ensures.right in let s = c.acquire-n.ensures.same in let v = c.args.seen.log in let log = c.acquire-n.new.seen.log in let answer = c.acquire-n.result.1.answer in let a = suc c.args.author.name in
-    prefix_trans (list_of v) (list_of log) (list_of c.publish-seen-in-Ok.result.0.log) (list_prefix v log c.acquire-n.ensures.seen) (entry a c.args.item ∷ [], sym c.publish-seen-in-Ok.ensures.seen)
-
-pub returns-in-Ok-clause-mine : goal.returns-in-Ok-clause-mine
-returns-in-Ok-clause-mine g c =
-    let r = c.acquire-n.ensures.right in let s = c.acquire-n.ensures.same in let v = c.args.seen.log in let log = c.acquire-n.new.seen.log in let answer = c.acquire-n.result.1.answer in let a = suc c.args.author.name in
-    ap (λ (l : List (Entry g.row.T.Denot)). count a l) c.publish-seen-in-Ok.ensures.seen ∙ (published_count a (list_of log) (entry a c.args.item) refl ∙ (ap suc c.publish-seen-in-Ok.ensures.mine ∙ sym c.publish-seen-in-Ok.ensures.same.2))
-
-pub returns-in-Ok-clause-pushed : goal.returns-in-Ok-clause-pushed
-returns-in-Ok-clause-pushed g c =
-    let r = c.acquire-n.ensures.right in let s = c.acquire-n.ensures.same in let v = c.args.seen.log in let log = c.acquire-n.new.seen.log in let answer = c.acquire-n.result.1.answer in let a = suc c.args.author.name in
-    (c.publish-seen-in-Ok.ensures.same.2, (list_of log, list_prefix v log c.acquire-n.ensures.seen, sym (c.acquire-n.ensures.length.0 ∙ sym (ap length (acquired_list answer log r.1))), c.publish-seen-in-Ok.ensures.seen))
-
-pub returns-in-Err-clause-seen : goal.returns-in-Err-clause-seen
-returns-in-Err-clause-seen g c =
-    let r = c.acquire-n.ensures.right in let s = c.acquire-n.ensures.same in let v = c.args.seen.log in let log = c.acquire-n.new.seen.log in let answer = c.acquire-n.result.1.answer in let a = suc c.args.author.name in
-    subst (λ (l : List (Entry g.row.T.Denot)). IsPrefix (list_of v) l) (sym c.release-seen-in-Err.ensures.seen) (list_prefix v log c.acquire-n.ensures.seen)
-
-pub returns-in-Err-clause-mine : goal.returns-in-Err-clause-mine
-returns-in-Err-clause-mine g c =
-    let r = c.acquire-n.ensures.right in let s = c.acquire-n.ensures.same in let v = c.args.seen.log in let log = c.acquire-n.new.seen.log in let answer = c.acquire-n.result.1.answer in let a = suc c.args.author.name in
-    let m = c.release-seen-in-Err.ensures.mine in ap (λ (l : List (Entry g.row.T.Denot)). count a l) c.release-seen-in-Err.ensures.seen ∙ (m ∙ sym c.release-seen-in-Err.ensures.same.2)
-
-pub returns-in-Err-clause-refused : goal.returns-in-Err-clause-refused
-returns-in-Err-clause-refused g c =
-    let r = c.acquire-n.ensures.right in let s = c.acquire-n.ensures.same in let v = c.args.seen.log in let log = c.acquire-n.new.seen.log in let answer = c.acquire-n.result.1.answer in let a = suc c.args.author.name in
-    let n : c.acquire-n.result.0 ≡ length (list_of log) = c.acquire-n.ensures.length.0 ∙ sym (ap length (acquired_list answer log r.1)) in let l = ap length c.release-seen-in-Err.ensures.seen in let p = before_power c.locate-buffer.result.0 in (c.release-seen-in-Err.ensures.same.2, (c.locate-buffer.result.0, (let h = c.locate-buffer.ensures.openable in omega (arith, h)), (let at = c.locate-buffer.ensures.at.begins in let z = (let z : c.locate-buffer.result.1 ≡ 0 = let no = c.if-slot-ne0.false in omega (arith, no) in z) in omega (arith, at, z, l, n, p))))
-
-pub returns-then-n-eq-LIMIT-clause-length : goal.returns-then-n-eq-LIMIT-clause-length
-returns-then-n-eq-LIMIT-clause-length g c =
-    let r = c.acquire-n.ensures.right in let s = c.acquire-n.ensures.same in let v = c.args.seen.log in let log = c.acquire-n.new.seen.log in let answer = c.acquire-n.result.1.answer in let a = suc c.args.author.name in
-    (c.acquire-n.ensures.length.0 ∙ sym (ap length (acquired_list answer log r.1)) ∙ sym (ap length c.release-seen.ensures.seen), c.acquire-n.ensures.length.1)
-
-pub returns-then-slot-ne0-clause-length : goal.returns-then-slot-ne0-clause-length
-returns-then-slot-ne0-clause-length g c =
-    let r = c.acquire-n.ensures.right in let s = c.acquire-n.ensures.same in let v = c.args.seen.log in let log = c.acquire-n.new.seen.log in let answer = c.acquire-n.result.1.answer in let a = suc c.args.author.name in
-    let n : c.acquire-n.result.0 ≡ length (list_of log) = c.acquire-n.ensures.length.0 ∙ sym (ap length (acquired_list answer log r.1)) in let l = ap length c.publish-seen.ensures.seen in let m = length-append (list_of log) (entry a c.args.item ∷ []) in let h = c.acquire-n.ensures.length.1 in let no = c.if-n-eq-LIMIT.false in (omega (arith, n, l, m), omega (arith, h, no))
-
-pub returns-in-Ok-clause-length : goal.returns-in-Ok-clause-length
-returns-in-Ok-clause-length g c =
-    let r = c.acquire-n.ensures.right in let s = c.acquire-n.ensures.same in let v = c.args.seen.log in let log = c.acquire-n.new.seen.log in let answer = c.acquire-n.result.1.answer in let a = suc c.args.author.name in
-    let n : c.acquire-n.result.0 ≡ length (list_of log) = c.acquire-n.ensures.length.0 ∙ sym (ap length (acquired_list answer log r.1)) in let l = ap length c.publish-seen-in-Ok.ensures.seen in let m = length-append (list_of log) (entry a c.args.item ∷ []) in let h = c.acquire-n.ensures.length.1 in let no = c.if-n-eq-LIMIT.false in (omega (arith, n, l, m), omega (arith, h, no))
-
-pub returns-in-Err-clause-length : goal.returns-in-Err-clause-length
-returns-in-Err-clause-length g c =
-    let r = c.acquire-n.ensures.right in let s = c.acquire-n.ensures.same in let v = c.args.seen.log in let log = c.acquire-n.new.seen.log in let answer = c.acquire-n.result.1.answer in let a = suc c.args.author.name in
-    (c.acquire-n.ensures.length.0 ∙ sym (ap length (acquired_list answer log r.1)) ∙ sym (ap length c.release-seen-in-Err.ensures.seen), c.acquire-n.ensures.length.1)
+pub returns-clause-pushed : goal.returns-clause-pushed
+returns-clause-pushed g c =
+    let v = c.args.seen.log in let log = c.acquire-n.new.seen.log in let answer = c.acquire-n.result.1.answer in
+    let at = ap length (acquired_list answer log c.acquire-n.ensures.right.1) ∙ sym c.acquire-n.ensures.length.0 in
+    IfOk-weaker c.append.result.3 _ _ (λ i h. (h.1, (list_of log, list_prefix v log c.acquire-n.ensures.seen, at ∙ sym h.0, h.2))) c.append.ensures.pushed

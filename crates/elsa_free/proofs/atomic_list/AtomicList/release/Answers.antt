@@ -1,4 +1,8 @@
-use Rattle.std.proofs.Common.{◌++◌, ◌∷◌, [], ◌*◌, ◌+◌, ◌<◌, ◌^◌, length, refl, ap, sym, ◌∙◌, arith}
+use Rattle.std.proofs.Common.{◌++◌, ◌∷◌, [], ◌*◌, ◌+◌, ◌<◌, ◌^◌, List, length, refl, ap, sym, ◌∙◌, subst, arith}
+use Rattle.std.proofs.lemmas.List.{append-nil}
+use Rattle.elsa_free.specs.declared.event.Entry.{Entry}
+use Rattle.elsa_free.specs.Distinct.{EachIsNew}
+use Rattle.elsa_free.specs.SharedList.{items_of}
 use Rattle.elsa_free.specs.declared.event.Event.TheVariants.{Released}
 use Rattle.elsa_free.specs.History.{list_of}
 use Rattle.elsa_free.proofs.RuleLemmas.Steps.{end_moves}
@@ -13,7 +17,7 @@ compare_exchange-requires g c = let h = c.deref.ensures ∙ c.args.self.now.word
       c.requires.of.0 ∙ sym (ap (λ w. w.book) h),
       pen.0 ∙ (c.requires.of.0 ∙ sym (ap (λ w. w.book) h)),
       offer.0,
-      rw (ap (λ w. w.key) h, pen.1, offer.1, offer.3) (end_moves g.row.T.Denot v Released (2 * n + 1) (2 * n) refl refl tt low c.requires.held.2 (held_word v n c.requires.n.0 c.requires.held.2) (released_word v n c.requires.n.0)),
+      rw (ap (λ w. w.key) h, pen.1, offer.1, offer.3) (end_moves g.row.T.Denot g.K.ItemRule.is_new v Released (2 * n + 1) (2 * n) refl refl tt low c.requires.held.2 (held_word v n c.requires.n.0 c.requires.held.2) (released_word v n c.requires.n.0) (λ all. subst (λ (l : List (Entry g.row.T.Denot)). EachIsNew g.K.ItemRule.is_new (items_of l)) (sym (append-nil (list_of v))) all)),
     )
 
 pub returns-clause-seen : goal.returns-clause-seen

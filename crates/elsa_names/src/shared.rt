@@ -1,0 +1,244 @@
+//! Interners that threads share: each name has one place, which every thread that knows it finds.
+//!
+//! The names are the items of one vector that takes distinct items alone. A thread has a [`NamePass`]: what it has seen of
+//! the vector, and an index of the first of these names. It puts a name by looking it up there, reading on, and appending it at
+//! the place where it has read to the end: if another thread was there first, it reads on.
+ghost use Rattle.std.specs.Prelude.{◌≡◌, ◌≤◌, ◌<◌, ◌++◌, ◌∷◌, [], ◌⊎◌, IfOk, IfErr, IfSome, IfNone, None, Some, length, slice_get, true};
+ghost use mathlib.Core.List.{IsPrefix};
+ghost use Rattle.elsa_free.specs.SharedList.{Apart, Continues, IsSamePass, items_of, longer, mine};
+ghost use Rattle.elsa_free.specs.Distinct.{AgreeOnPlaces, IsOneToOne};
+ghost use Rattle.elsa_names.specs.Names.{HasAt};
+
+use crate::name::Name;
+use elsa_free::item_rule::DistinctItems;
+use elsa_free::lock_free::{LockFreeFrozenVec, Pass};
+use indexmap::IndexSet;
+use std::alloc::{AllocError, Allocator, Global};
+use std::hash::{BuildHasher, BuildHasherDefault, FoldHasher, Hash};
+use std::marker::Model;
+use std::sync::Wait;
+
+/// One turn of a put: the place of the name if it is in the index, or was appended now. `None` if the pass has seen a name more.
+fn put_once<R: Wait, T: Copy + Drop + Hash, S: BuildHasher, A: Allocator + Copy>(
+    list: &LockFreeFrozenVec<T, A, DistinctItems>,
+    rt: &R,
+    pass: &mut Pass<T, A, DistinctItems>,
+    index: &mut IndexSet<T, S, A>,
+    name: T,
+) -> Result<Option<usize>, AllocError>
+    requires of { pass.old.vector ≡ list.now }
+    requires index { IsPrefix index.old.keys (items_of pass.old.seen) }
+
+    // The pass is the same, later, and its index is of the first names that it has seen.
+    ensures same { IsSamePass pass.old pass.new }
+    ensures seen { IsPrefix pass.old.seen pass.new.seen }
+    ensures index { IsPrefix index.new.keys (items_of pass.new.seen) }
+    ensures more { IsPrefix index.old.keys index.new.keys }
+
+    // The name is at the place, where it was found or is now the pass's own.
+    ensures found { IfOk result (λ a. IfSome a (λ i.
+        HasAt T.eq (items_of pass.new.seen) i name)) }
+    ensures mine { IfOk result (λ a. IfSome a (λ i.
+        (mine pass.new ≡ mine pass.old) ⊎ (mine pass.new ≡ mine pass.old ++ i ∷ []))) }
+
+    // Else the pass has pushed nothing.
+    ensures again { IfOk result (λ a. IfNone a (mine pass.new ≡ mine pass.old)) }
+    ensures refused { IfErr result (λ e. mine pass.new ≡ mine pass.old) }
+{
+    if let Some(place) = index.get_index_of(&name) {
+        return Ok(Some(place));
+    }
+    let read = index.len();
+    let Some(next) = list.get_as(pass, read) else {
+        return list.push_at_as(rt, pass, read, name);
+    };
+    pass.obeys_rule();
+    match index.insert(next) {
+        Ok(_) => Ok(None),
+        Err(_) => Err(AllocError),
+    }
+}
+
+/// The place of a name, which is appended if the vector doesn't have it.
+fn put_in<R: Wait, T: Copy + Drop + Hash, S: BuildHasher, A: Allocator + Copy>(
+    list: &LockFreeFrozenVec<T, A, DistinctItems>,
+    rt: &R,
+    pass: &mut Pass<T, A, DistinctItems>,
+    index: &mut IndexSet<T, S, A>,
+    name: T,
+) -> Result<usize, AllocError>
+    requires of { pass.old.vector ≡ list.now }
+    requires index { IsPrefix index.old.keys (items_of pass.old.seen) }
+
+    // The pass is the same, later, and its index is of the first names that it has seen.
+    ensures same { IsSamePass pass.old pass.new }
+    ensures seen { IsPrefix pass.old.seen pass.new.seen }
+    ensures index { IsPrefix index.new.keys (items_of pass.new.seen) }
+    ensures more { IsPrefix index.old.keys index.new.keys }
+
+    // The name is at the place, where it was found or is now the pass's own.
+    ensures found { IfOk result (λ i. HasAt T.eq (items_of pass.new.seen) i name) }
+    ensures mine { IfOk result (λ i.
+        (mine pass.new ≡ mine pass.old) ⊎ (mine pass.new ≡ mine pass.old ++ i ∷ [])) }
+    ensures refused { IfErr result (λ e. mine pass.new ≡ mine pass.old) }
+{
+    for _ in rt.forever() {
+        if let Some(place) = put_once(list, rt, pass, index, name)? {
+            return Ok(place);
+        }
+    }
+    unreachable!()
+}
+
+/// What a thread has seen of a shared interner, and an index of the first of these names. A clause sees its pass of the
+/// interner's vector.
+#[derive(Drop)]
+pub struct NamePass<
+    T: Eq + Hash = Name,
+    S: BuildHasher = BuildHasherDefault<FoldHasher>,
+    A: Allocator + Copy = Global,
+> {
+    pass: Pass<T, A, DistinctItems>,
+    index: IndexSet<T, S, A>,
+}
+
+impl<T: Eq + Hash, S: BuildHasher, A: Allocator + Copy> Model for NamePass<T, S, A> {
+    ghost use mathlib.Core.List.{IsPrefix};
+    ghost use Rattle.elsa_free.specs.SharedList.{View, items_of};
+
+    ghost Value = { View T };
+
+    ghost view = { λ p. p.pass };
+
+    ghost invariant = { λ p. IsPrefix p.index.keys (items_of p.pass.seen) };
+}
+
+impl<T: Copy + Drop + Hash, S: BuildHasher, A: Allocator + Copy> NamePass<T, S, A> {
+    /// Both passes take the longer of what they have seen, so that each finds the names of the other at their places. It takes no
+    /// memory and no atomic step, and never waits. `O(1)`: each indexes the new names at its next puts.
+    pub fn meet(&mut self, other: &mut NamePass<T, S, A>)
+        requires of { self.old.vector ≡ other.old.vector }
+        ensures same { IsSamePass self.old self.new × IsSamePass other.old other.new }
+        ensures seen { IsPrefix self.old.seen self.new.seen
+            × IsPrefix other.old.seen other.new.seen }
+        ensures longer { (self.new.seen ≡ longer self.old.seen other.old.seen)
+            × (other.new.seen ≡ longer self.old.seen other.old.seen) }
+        ensures mine { (mine self.new ≡ mine self.old) × (mine other.new ≡ mine other.old) }
+        ensures apart { Apart (mine self.new) (mine other.new) }
+    {
+        self.pass.meet(&mut other.pass);
+    }
+
+    /// How many names the pass has seen, by no atomic step. `O(1)`.
+    pub fn seen_len(&self) -> usize
+        ensures length { result ≡ length self.now.seen }
+    {
+        self.pass.seen_len()
+    }
+
+    /// The names that a pass has seen are one to one with their places. It does nothing when it runs.
+    pub fn one_to_one(&self)
+        ensures { IsOneToOne T.eq (items_of self.now.seen) }
+    {
+        self.pass.one_to_one();
+    }
+
+    /// A name has one place for two passes of an interner, whether they met or not. It does nothing when it runs.
+    pub fn same_name_same_place(&self, other: &NamePass<T, S, A>)
+        requires of { self.now.vector ≡ other.now.vector }
+        ensures { AgreeOnPlaces T.eq (items_of self.now.seen) (items_of other.now.seen) }
+    {
+        self.pass.same_place(&other.pass);
+    }
+}
+
+/// An interner that threads share. Its names are of one type, which is copied: [`Name`], or any that has an equality and a
+/// hash, as a borrowed text. A clause sees which interner it is, by its vector.
+#[derive(Drop)]
+pub struct SharedInterner<T: Eq + Drop = Name, A: Allocator + Copy = Global> {
+    names: LockFreeFrozenVec<T, A, DistinctItems>,
+    alloc: A,
+}
+
+impl<T: Eq + Drop, A: Allocator + Copy> Model for SharedInterner<T, A> {
+    ghost use Rattle.elsa_free.specs.SharedList.{Vector};
+
+    ghost Value = { Vector };
+
+    ghost view = { λ s. s.names };
+}
+
+impl<T: Copy + Drop + Hash, A: Allocator + Copy> SharedInterner<T, A> {
+    /// An interner without names, which takes its memory from `alloc`. It takes a little memory at once, and returns `Err` if that
+    /// allocation fails. `O(1)`.
+    pub fn new(alloc: A) -> Result<Self, AllocError> {
+        Ok(SharedInterner {
+            names: LockFreeFrozenVec::distinct(alloc)?,
+            alloc,
+        })
+    }
+
+    /// A pass that has seen no name. It takes no memory and no atomic step. Its index hashes as std's maps do by default; where
+    /// strangers choose the names take [`pass_with_hasher`](Self::pass_with_hasher) and a `RandomState`.
+    pub fn pass(&self) -> NamePass<T, BuildHasherDefault<FoldHasher>, A>
+        ensures of { result.vector ≡ self.now }
+        ensures nothing_seen { result.seen ≡ [] }
+        ensures nothing_mine { mine result ≡ [] }
+    {
+        self.pass_with_hasher(BuildHasherDefault::new())
+    }
+
+    /// A pass that has seen no name, whose index hashes by `hash_builder`. It takes no memory and no atomic step.
+    pub fn pass_with_hasher<S: BuildHasher>(&self, hash_builder: S) -> NamePass<T, S, A>
+        ensures of { result.vector ≡ self.now }
+        ensures nothing_seen { result.seen ≡ [] }
+        ensures nothing_mine { mine result ≡ [] }
+    {
+        NamePass {
+            pass: self.names.pass(),
+            index: IndexSet::with_hasher(self.alloc, hash_builder),
+        }
+    }
+
+    /// The place of a name, which is put there if no thread had put it. Every thread gets the same place for it.
+    ///
+    /// A name in the pass's index takes no memory and no atomic step. Else the pass reads on, and indexes each name that it
+    /// hasn't; where it has read them all it appends the name, for which it waits while another thread appends. `Err`: an
+    /// allocation for the index or for a buffer of the vector failed, or the vector is full; the pass has put nothing, and the same
+    /// put may succeed later. `O(1)` for a name in the index, else `O(m)` for the `m` names that it reads on.
+    pub fn put<R: Wait, S: BuildHasher>(
+        &self,
+        rt: &R,
+        names: &mut NamePass<T, S, A>,
+        name: T,
+    ) -> Result<usize, AllocError>
+        requires of { names.old.vector ≡ self.now }
+
+        // The pass is the same, later, and a name has one place in what it has seen.
+        ensures same { IsSamePass names.old names.new }
+        ensures seen { IsPrefix names.old.seen names.new.seen }
+        ensures one_to_one { IsOneToOne T.eq (items_of names.new.seen) }
+
+        // The name is at the place, where it was found or is now the pass's own.
+        ensures found { IfOk result (λ i. HasAt T.eq (items_of names.new.seen) i name) }
+        ensures mine { IfOk result (λ i.
+            (mine names.new ≡ mine names.old) ⊎ (mine names.new ≡ mine names.old ++ i ∷ [])) }
+        ensures refused { IfErr result (λ e. mine names.new ≡ mine names.old) }
+    {
+        let answer = put_in(&self.names, rt, &mut names.pass, &mut names.index, name);
+        names.pass.one_to_one();
+        answer
+    }
+
+    /// The name at a place: `None` exactly if the place is at or above the number of names that the pass has then seen.
+    ///
+    /// A place that the pass has seen is read with no atomic step; for one at or above that it first reads the number of names, by
+    /// one load. It takes no lock and no memory, and never waits. `O(1)`.
+    pub fn at<S: BuildHasher>(&self, names: &mut NamePass<T, S, A>, place: usize) -> Option<T>
+        requires of { names.old.vector ≡ self.now }
+        ensures continues { Continues names.old names.new }
+        ensures name { result ≡ slice_get (items_of names.new.seen) place }
+    {
+        self.names.get_as(&mut names.pass, place)
+    }
+}
