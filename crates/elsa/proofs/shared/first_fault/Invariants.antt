@@ -1,0 +1,6 @@
+use Rattle.std.proofs.Common.{take}
+use Rattle.elsa.specs.Workers.{IsFirstFault}
+use Rattle.elsa.proofs.shared.first_fault.Given as goal
+
+abbrev pub invariant-loop-fault : goal.invariant-loop-fault
+invariant-loop-fault l = IsFirstFault (take l.fault-index l.faults) l.first
