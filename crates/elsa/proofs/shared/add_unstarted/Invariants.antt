@@ -2,6 +2,7 @@ use Rattle.std.proofs.Common.{◌≡◌, ◌≤◌, All, length, vec_capacity, v
 use Rattle.elsa.specs.Workers.{Each, IsWorkOf}
 use Rattle.elsa.proofs.shared.add_unstarted.Given as goal
 
+-- those so far have handed back their work, and the pass stays as it was
 abbrev pub invariant-loop : goal.invariant-loop
 invariant-loop g l =
     (l.pass ≡ l.fn.pass)

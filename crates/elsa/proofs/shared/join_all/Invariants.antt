@@ -4,6 +4,7 @@ use Rattle.elsa_free.specs.SharedList.{Continues}
 use Rattle.elsa.specs.Workers.{Each, IsWork, IsWorkOf}
 use Rattle.elsa.proofs.shared.join_all.Given as goal
 
+-- the workers joined so far have handed back their work, those to come have promised theirs, and there is room for all
 abbrev pub invariant-loop-handle : goal.invariant-loop-handle
 invariant-loop-handle g l =
     let vector = l.fn.pass.vector in let before = l.fn.pass.seen in let done = vec_len l.done in let rest = into_iter_items l.handle-iterator in

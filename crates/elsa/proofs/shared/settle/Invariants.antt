@@ -3,6 +3,7 @@ use Rattle.std.specs.Vec.Iter.{into_iter_items, into_iter_len}
 use Rattle.elsa.specs.Workers.{pushed_by}
 use Rattle.elsa.proofs.shared.settle.Given as goal
 
+-- the pass stays as it was, the faults so far are the workers', and what holds of the workers to come holds of all
 abbrev pub invariant-loop-worker : goal.invariant-loop-worker
 invariant-loop-worker g l =
     let rest = into_iter_items l.worker-iterator in let all = l.fn.done.items in

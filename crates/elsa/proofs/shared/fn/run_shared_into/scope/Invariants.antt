@@ -2,6 +2,7 @@ use Rattle.std.proofs.Common.{◌≡◌, ◌≤◌, vec_capacity, vec_len}
 use Rattle.elsa.specs.Workers.{Each, IsWork}
 use Rattle.elsa.proofs.shared.fn.run_shared_into.scope.Given as goal
 
+-- each worker so far has promised its work, and the pass has seen what it had when they began
 abbrev pub invariant-loop-worker : goal.invariant-loop-worker
 invariant-loop-worker g l =
     (l.longest.vector ≡ l.vector)
