@@ -1,11 +1,12 @@
--- What an author has pushed, in a list that grows by a push of its own.
-use Rattle.std.proofs.Common.{◌≡◌, ℕ, suc, ◌+◌, ◌%◌, ◌<◌, ◌≤◌, ◌==◌, Bool, true, false, List, [], ◌∷◌, ◌++◌, length, if◌then◌else◌, refl, ap, sym, ◌∙◌, arith, append_assoc}
+-- What an author has pushed, in a list that grows by pushes of its own and of others.
+use Rattle.std.proofs.Common.{◌≡◌, ℕ, suc, ◌+◌, ◌==◌, Bool, true, false, List, [], ◌∷◌, ◌++◌, Option, length, if◌then◌else◌, refl, ap, sym, ◌∙◌, arith, append_assoc}
 use Rattle.std.proofs.lemmas.List.{append-nil, length-append}
 use Rattle.std.proofs.lemmas.Bool.Decides.{nat_tests}
 use Rattle.elsa_free.specs.declared.event.Entry.{Entry}
-use Rattle.elsa_free.specs.SharedList.{Appends, entry, places_from}
-use Rattle.std.proofs.Math.Nat.{mod-eq_of_lt}
-use Rattle.elsa.specs.Workers.{numbers, pushed_by}
+use mathlib.Core.List.{IsPrefix}
+use Rattle.elsa_free.specs.SharedList.{Appends, IsSamePass, Vector, View, entry, mine, places_from}
+use Rattle.elsa.specs.declared.shared.SharedFault.{SharedFault}
+use Rattle.elsa.specs.Workers.{IsWork, IsWorkOf, numbers, pushed_by}
 
 none_left : {T : Type 0} (xs : List T) → length xs ≡ 0 → xs ≡ []
 none_left [] e = refl
@@ -33,26 +34,67 @@ module _ {T : Type 0} where
   own_entry : (a : ℕ) (x : T) → pushed_by a (entry a x ∷ []) ≡ x ∷ []
   own_entry a x = let is : (a == a) ≡ true = grind (arith, nat_tests) in rw is refl
 
-  -- a push of its own, by which it has one place more, adds just that item
-  pub push_adds : (a i : ℕ) (es fs : List (Entry T)) (x : T) → Appends es fs i (entry a x)
-      → length (places_from a 0 fs) ≡ suc (length (places_from a 0 es)) → pushed_by a fs ≡ pushed_by a es ++ x ∷ []
-  push_adds a i es fs x (before, pre, at, is) more =
-      let ds : List (Entry T) = pre.0 in
-      let b : pushed_by a before ≡ pushed_by a es ++ pushed_by a ds = ap (pushed_by a) (sym pre.1) ∙ pushed_append a es ds in
-      let f : pushed_by a fs ≡ pushed_by a before ++ x ∷ [] = ap (pushed_by a) is ∙ (pushed_append a before (entry a x ∷ []) ∙ ap (λ (l : List T). pushed_by a before ++ l) (own_entry a x)) in
-      let n : length (pushed_by a fs) ≡ suc (length (pushed_by a es)) = pushed_length a 0 fs ∙ (more ∙ ap suc (sym (pushed_length a 0 es))) in
-      let nb : length (pushed_by a fs) ≡ length (pushed_by a before) + 1 = ap (λ (l : List T). length l) f ∙ length-append (pushed_by a before) (x ∷ []) in
-      let nd : length (pushed_by a before) ≡ length (pushed_by a es) + length (pushed_by a ds) = ap (λ (l : List T). length l) b ∙ length-append (pushed_by a es) (pushed_by a ds) in
-      let none : pushed_by a ds ≡ [] = none_left (pushed_by a ds) (omega (arith, n, nb, nd)) in
-      f ∙ ap (λ (l : List T). l ++ x ∷ []) (b ∙ (ap (λ (l : List T). pushed_by a es ++ l) none ∙ append-nil (pushed_by a es)))
+  -- what was pushed by then begins what is pushed later
+  pub earlier : (a : ℕ) (es fs : List (Entry T)) (pre : IsPrefix es fs) → pushed_by a fs ≡ pushed_by a es ++ pushed_by a pre.0
+  earlier a es fs pre = ap (pushed_by a) (sym pre.1) ∙ pushed_append a es pre.0
+
+  -- who has pushed nothing had pushed nothing before
+  pub nothing_earlier : (a : ℕ) (es fs : List (Entry T)) → IsPrefix es fs → pushed_by a fs ≡ [] → pushed_by a es ≡ []
+  nothing_earlier a es fs pre none =
+      let more : pushed_by a fs ≡ pushed_by a es ++ pushed_by a pre.0 = earlier a es fs pre in
+      let lengths : length (pushed_by a fs) ≡ length (pushed_by a es) + length (pushed_by a pre.0) = ap (λ (l : List T). length l) more ∙ length-append (pushed_by a es) (pushed_by a pre.0) in
+      let empty : length (pushed_by a fs) ≡ 0 = ap (λ (l : List T). length l) none in
+      none_left (pushed_by a es) (omega (arith, lengths, empty))
+
+  -- where an author has as many places as before, it has pushed what it had
+  stays : (a : ℕ) (es fs : List (Entry T)) → IsPrefix es fs → length (places_from a 0 fs) ≡ length (places_from a 0 es) → pushed_by a fs ≡ pushed_by a es
+  stays a es fs pre same =
+      let more : pushed_by a fs ≡ pushed_by a es ++ pushed_by a pre.0 = earlier a es fs pre in
+      let lengths : length (pushed_by a fs) ≡ length (pushed_by a es) + length (pushed_by a pre.0) = ap (λ (l : List T). length l) more ∙ length-append (pushed_by a es) (pushed_by a pre.0) in
+      let none : pushed_by a pre.0 ≡ [] = none_left (pushed_by a pre.0) (omega (arith, lengths, same, pushed_length a 0 fs, pushed_length a 0 es)) in
+      more ∙ (ap (λ (l : List T). pushed_by a es ++ l) none ∙ append-nil (pushed_by a es))
+
+  -- an author without a place has pushed nothing
+  pub nothing_pushed : (a : ℕ) (es : List (Entry T)) → places_from a 0 es ≡ [] → pushed_by a es ≡ []
+  nothing_pushed a es none = none_left (pushed_by a es) (pushed_length a 0 es ∙ ap (λ (l : List ℕ). length l) none)
+
+  -- a pass whose places are as before has pushed what it had
+  pub pushes_none : (old new : View T) → new.author ≡ old.author → IsPrefix old.seen new.seen → mine new ≡ mine old
+      → pushed_by new.author new.seen ≡ pushed_by old.author old.seen
+  pushes_none old new author pre same =
+      let as_old : length (places_from old.author 0 new.seen) ≡ length (mine old) = ap (λ (a : ℕ). length (places_from a 0 new.seen)) (sym author) ∙ ap (λ (l : List ℕ). length l) same in
+      ap (λ (a : ℕ). pushed_by a new.seen) author ∙ stays old.author old.seen new.seen pre as_old
+
+  -- a pass that has one place more, at the end, has pushed the item there
+  pub pushes_one : (old new : View T) (place : ℕ) (x : T) → new.author ≡ old.author → Appends old.seen new.seen place (entry old.author x)
+      → mine new ≡ mine old ++ place ∷ [] → pushed_by new.author new.seen ≡ pushed_by old.author old.seen ++ x ∷ []
+  pushes_one old new place x author (before, pre, at, is) more =
+      let a : ℕ = old.author in
+      let split : pushed_by a new.seen ≡ pushed_by a before ++ x ∷ [] = ap (pushed_by a) is ∙ (pushed_append a before (entry a x ∷ []) ∙ ap (λ (l : List T). pushed_by a before ++ l) (own_entry a x)) in
+      let grown : length (places_from a 0 new.seen) ≡ length (mine old) + 1 = ap (λ (b : ℕ). length (places_from b 0 new.seen)) (sym author) ∙ (ap (λ (l : List ℕ). length l) more ∙ length-append (mine old) (place ∷ [])) in
+      let lengths : length (pushed_by a new.seen) ≡ length (pushed_by a before) + 1 = ap (λ (l : List T). length l) split ∙ length-append (pushed_by a before) (x ∷ []) in
+      let was : pushed_by a before ≡ pushed_by a old.seen = stays a old.seen before pre (omega (arith, lengths, grown, pushed_length a 0 new.seen, pushed_length a 0 before)) in
+      ap (λ (b : ℕ). pushed_by b new.seen) author ∙ (split ∙ ap (λ (l : List T). l ++ x ∷ []) was)
 
 -- one number more
 pub numbers_more : (first n : ℕ) → numbers first (n + 1) ≡ numbers first n ++ (first + n) ∷ []
 numbers_more first n = ap (numbers first) (let e : n + 1 ≡ suc n = omega arith in e)
 
--- where all of a worker's numbers fit, none of them goes round
-pub goes_not_round : (first n count : ℕ) → n < count → first + count ≤ 18446744073709551616
-    → (first % 18446744073709551616 + n) % 18446744073709551616 ≡ first + n
-goes_not_round first n count below fits =
-    let small : first % 18446744073709551616 ≡ first = mod-eq_of_lt (omega (arith, below, fits)) in
-    ap (λ (k : ℕ). (k + n) % 18446744073709551616) small ∙ mod-eq_of_lt (omega (arith, below, fits))
+-- a pass that pushed the first n numbers, and then the next
+pub pushes_next : (old new : View ℕ) (place first n : ℕ) → new.author ≡ old.author → Appends old.seen new.seen place (entry old.author (first + n))
+    → mine new ≡ mine old ++ place ∷ [] → pushed_by old.author old.seen ≡ numbers first n → pushed_by new.author new.seen ≡ numbers first (n + 1)
+pushes_next old new place first n author adds more was =
+    pushes_one old new place (first + n) author adds more ∙ (ap (λ (l : List ℕ). l ++ (first + n) ∷ []) was ∙ sym (numbers_more first n))
+
+-- a worker's work stays its work once its pass has seen more
+pub work_stays : (vector : Vector) (before : List (Entry ℕ)) (count worker : ℕ) (old new : View ℕ) (fault : Option SharedFault) → IsSamePass old new
+    → IsPrefix old.seen new.seen → mine new ≡ mine old → IsWorkOf vector before count worker old fault → IsWorkOf vector before count worker new fault
+work_stays vector before count worker old new fault same pre places (of, fresh, (n, is, ends)) =
+    (same.0 ∙ of, ap (λ (a : ℕ). pushed_by a before) same.1 ∙ fresh, (n, pushes_none old new same.1 pre places ∙ is, ends))
+
+-- what keeps a worker's promise is its work
+pub promised_work : (vector other_vector : Vector) (before other_before : List (Entry ℕ)) (count other_count worker other : ℕ) (pass : View ℕ) (fault : Option SharedFault)
+    → IsWork vector before count worker other_vector other_before other_count other → IsWorkOf other_vector other_before other_count other pass fault
+    → IsWorkOf vector before count worker pass fault
+promised_work vector other_vector before other_before count other_count worker other pass fault (same, begun, counted, is) kept =
+    rw (sym same, sym begun, sym counted, sym is) kept

@@ -9,7 +9,8 @@ use elsa_interner::digits::number_of;
 
 /// The number that a word writes in digits, if it lies from `low` to `high`.
 fn number_within(word: &str, low: u64, high: u64) -> Option<usize>
-    ensures is { MatchOption result (is_number_within low high word.now ≡ false) (λ n. (is_number_within low high word.now ≡ true) × (n ≡ digits_value 10 word.now)) }
+    ensures is { MatchOption result (is_number_within low high word.now ≡ false)
+        (λ n. (is_number_within low high word.now ≡ true) × (n ≡ digits_value 10 word.now)) }
     ensures within { IfSome result (λ n. (low ≤ n) × (n ≤ high)) }
 {
     let number = number_of(word)?;

@@ -2,9 +2,10 @@
 //!
 //! What each worker did follows from its pass and needs no check: its places hold its numbers, rise, and are nobody else's. So at the
 //! end one length says whether all is there.
-ghost use Rattle.std.specs.Prelude.{◌≡◌, ◌+◌, ◌*◌, ◌^◌, ◌≤◌, All, IfNone, IfOk, length};
-ghost use Rattle.elsa_free.specs.SharedList.{mine};
-ghost use Rattle.elsa.specs.Workers.{numbers, pushed_by};
+ghost use Rattle.std.specs.Prelude.{◌≡◌, ◌≢◌, ◌⊎◌, ◌+◌, ◌*◌, ◌<◌, ◌≤◌, [], ◌∷◌, All, IfErr, IfOk, None, length, map, vec_capacity, vec_len};
+ghost use mathlib.Core.List.{IsPrefix};
+ghost use Rattle.elsa_free.specs.SharedList.{Continues, IsSamePass, mine};
+ghost use Rattle.elsa.specs.Workers.{Each, HasPushed, HaveWorked, IsFirstFault, IsWork, IsWorkOf, pushed_by};
 
 use core::thread::Stack;
 use elsa_free::lock_free::{LockFreeFrozenVec, Pass};
@@ -46,30 +47,54 @@ struct Done<A: Allocator> {
     fault: Option<SharedFault>,
 }
 
-/// That what a worker hands back is of this vector.
+/// That what a worker hands back is the work of worker `worker` with `count` numbers in a vector that had what the pass has seen.
 #[derive(Clone, Copy)]
-struct Of<'v, A: Allocator>(&'v LockFreeFrozenVec<u64, A>);
-
-impl<'v, A: Allocator> Promise<Done<A>> for Of<'v, A> {
-    ghost kept_by = { λ of done. done.pass.vector ≡ of.0.now };
+struct WorkOf<'v, A: Allocator> {
+    vector: &'v LockFreeFrozenVec<u64, A>,
+    pass: &'v Pass<u64, A>,
+    worker: usize,
+    count: usize,
 }
 
-/// Pushes the worker's numbers in their order, and stops at a failed push and at a false result of the gate. Numbers past the greatest go round.
+impl<'v, A: Allocator> Promise<Done<A>> for WorkOf<'v, A> {
+    ghost kept_by = { λ of done. IsWorkOf of.vector.now of.pass.now.seen of.count of.worker done.pass done.fault };
+}
+
+/// A pass of its own for a worker, which has seen what the one given has.
+fn begin<A: Allocator + Copy>(
+    vector: &LockFreeFrozenVec<u64, A>,
+    pass: &mut Pass<u64, A>,
+) -> Pass<u64, A>
+    requires { pass.old.vector ≡ vector.now }
+    ensures same { pass.new ≡ pass.old }
+    ensures of { result.vector ≡ vector.now }
+    ensures seen { result.seen ≡ pass.old.seen }
+    ensures nothing_mine { mine result ≡ [] }
+{
+    let mut theirs = vector.pass();
+    pass.meet(&mut theirs);
+    theirs
+}
+
+/// Pushes the worker's numbers in their order, and stops at a failed push and at a false result of the gate.
 fn work<R: Wait, G: Gate, A: Allocator + Copy>(
     rt: &R,
     vector: &LockFreeFrozenVec<u64, A>,
     gate: &G,
+    mut pass: Pass<u64, A>,
     worker: usize,
     count: usize,
 ) -> Done<A>
-    ensures of { result.pass.vector ≡ vector.now }
-    ensures places { IfNone result.fault (length (mine result.pass) ≡ count) }
-    ensures numbers { worker * count + count ≤ 2 ^ 64 → IfNone result.fault (pushed_by result.pass.author result.pass.seen ≡ numbers (worker * count) count) }
+    requires of { pass.vector ≡ vector.now }
+    requires nothing_mine { mine pass ≡ [] }
+    requires limits { (worker < 16) × (count ≤ 100000) }
+    ensures same { IsSamePass pass result.pass }
+    ensures pushed { HasPushed count worker
+        (pushed_by result.pass.author result.pass.seen) result.fault }
 {
-    let first = (worker as u64).wrapping_mul(count as u64);
-    let mut pass = vector.pass();
+    let first = worker as u64 * count as u64;
     for number in 0..count as u64 {
-        let Ok(place) = vector.push_as(rt, &mut pass, first.wrapping_add(number)) else {
+        let Ok(place) = vector.push_as(rt, &mut pass, first + number) else {
             return Done {
                 pass,
                 fault: Some(SharedFault::Memory),
@@ -85,21 +110,6 @@ fn work<R: Wait, G: Gate, A: Allocator + Copy>(
     Done { pass, fault: None }
 }
 
-/// Joins all workers, and gives what each handed back.
-fn joined<R: Threads, A: Allocator + Copy>(
-    rt: &R,
-    _vector: &LockFreeFrozenVec<u64, A>,
-    workers: Vec<PromisedHandle<Done<A>, Of<A>>, A>,
-) -> Result<Vec<Done<A>, A>, AllocError>
-    requires { All (λ w. w.promise.0.now ≡ _vector.now) workers.items }
-    ensures { IfOk result (λ all. All (λ d. d.pass.vector ≡ _vector.now) all.items) }
-{
-    let Ok(all) = thread::join_promised(rt, workers) else {
-        return Err(AllocError);
-    };
-    Ok(all)
-}
-
 /// The stack of a worker's thread: of at least the bytes at its place, or the usual one where the list has no such place.
 fn stack_of(stacks: &[usize], worker: usize) -> Stack {
     match stacks.get(worker) {
@@ -108,43 +118,197 @@ fn stack_of(stacks: &[usize], worker: usize) -> Stack {
     }
 }
 
-/// What the workers hand back, and whether each was started. None is started after one that can't be, and all that were started have ended,
-/// at `Err` too.
-fn run_workers<R: Threads + Wait + Sync, G: Gate + Sync, A: Allocator + Copy + Send + Sync>(
+/// Joins the workers that were started, and gives what each handed back. The pass sees all that they have seen.
+fn join_all<R: Threads, A: Allocator + Copy>(
+    rt: &R,
+    pass: &mut Pass<u64, A>,
+    started: Vec<PromisedHandle<Done<A>, WorkOf<A>>, A>,
+    mut done: Vec<Done<A>, A>,
+    _count: usize,
+) -> Vec<Done<A>, A>
+    requires of { Each (λ worker h. IsWork pass.old.vector pass.old.seen _count worker
+        h.promise.vector.now h.promise.pass.now.seen h.promise.count h.promise.worker) started.items }
+    requires empty { vec_len done ≡ 0 }
+    requires room { vec_len started ≤ vec_capacity done }
+
+    // The pass is the same, later.
+    ensures continues { Continues pass.old pass.new }
+
+    // What each worker handed back, and the room behind it.
+    ensures len { vec_len result ≡ vec_len started.entry }
+    ensures work { Each (λ worker d.
+        IsWorkOf pass.old.vector pass.old.seen _count worker d.pass d.fault) result.items }
+    ensures seen { All (λ d. length d.pass.seen ≤ length pass.new.seen) result.items }
+    ensures room { vec_capacity done ≤ vec_capacity result }
+{
+    for handle in started {
+        let mut next = handle.join(rt);
+        pass.meet(&mut next.pass);
+        let Ok(()) = done.push(next) else {
+            unreachable!()
+        };
+    }
+    done
+}
+
+/// Adds what is told of the workers that weren't started: nothing was pushed, since a thread couldn't be started.
+fn add_unstarted<A: Allocator + Copy>(
+    vector: &LockFreeFrozenVec<u64, A>,
+    pass: &mut Pass<u64, A>,
+    mut done: Vec<Done<A>, A>,
+    workers: usize,
+    _begun: &Pass<u64, A>,
+    _count: usize,
+) -> Vec<Done<A>, A>
+    requires of { pass.old.vector ≡ vector.now }
+
+    // What the workers handed back so far, and room for all.
+    requires begun { IsPrefix _begun.now.seen pass.old.seen }
+    requires work { Each (λ worker d.
+        IsWorkOf vector.now _begun.now.seen _count worker d.pass d.fault) done.items }
+    requires seen { All (λ d. length d.pass.seen ≤ length pass.old.seen) done.items }
+    requires room { (vec_len done ≤ workers) × (workers ≤ vec_capacity done) }
+
+    // What all workers hand back.
+    ensures same { pass.new ≡ pass.old }
+    ensures len { vec_len result ≡ workers }
+    ensures work { Each (λ worker d.
+        IsWorkOf vector.now _begun.now.seen _count worker d.pass d.fault) result.items }
+    ensures seen { All (λ d. length d.pass.seen ≤ length pass.new.seen) result.items }
+{
+    for _ in done.len()..workers {
+        let theirs = begin(vector, pass);
+        let Ok(()) = done.push(Done {
+            pass: theirs,
+            fault: Some(SharedFault::Thread),
+        }) else {
+            unreachable!()
+        };
+    }
+    done
+}
+
+/// Lets each worker's pass see what the one given has, which has seen as much or more, and gives the workers' faults. So what a worker has pushed
+/// is all that the list has of its author.
+fn settle<A: Allocator + Copy>(
+    pass: &mut Pass<u64, A>,
+    done: Vec<Done<A>, A>,
+    mut faults: Vec<Option<SharedFault>, A>,
+) -> Vec<Option<SharedFault>, A>
+    // The workers' passes are of this vector, and none has seen more.
+    requires of { All (λ d. d.pass.vector ≡ pass.old.vector) done.items }
+    requires seen { All (λ d. length d.pass.seen ≤ length pass.old.seen) done.items }
+
+    // The list of faults is empty, with room for all.
+    requires empty { vec_len faults ≡ 0 }
+    requires room { vec_len done ≤ vec_capacity faults }
+    ensures same { pass.new ≡ pass.old }
+    ensures faults { result.items ≡ map (λ d. d.fault) done.items }
+    ensures pushed { All (λ d.
+        pushed_by d.pass.author pass.new.seen ≡ pushed_by d.pass.author d.pass.seen) done.items }
+{
+    for worker in done {
+        let Done {
+            pass: mut theirs,
+            fault,
+        } = worker;
+        pass.meet(&mut theirs);
+        let Ok(()) = faults.push(fault) else {
+            unreachable!()
+        };
+    }
+    faults
+}
+
+/// Pushes `count` numbers from each of `workers` threads into the vector, and returns for each worker why it stopped before its last number,
+/// or `None` if it pushed them all. The pass has then seen what the workers pushed.
+///
+/// Worker `w`, counted from 0, pushes `w * count` to `w * count + count - 1` in order, as an author of its own, and after each push it asks the
+/// gate whether to go on. A worker stops at a failed push (`Memory`) and at a false result of its gate (`Gate`), and the others go on. Its thread gets a
+/// stack of at least `stacks[w]` bytes, in whole units of 128 KiB, or the system's usual stack where `stacks` has no place for it. Where a thread can't be
+/// started, neither are those after it (`Thread`).
+///
+/// `Err`: an allocation failed, before any thread was started. Every thread that was started has ended when it returns. It waits, and takes memory for the
+/// vector, for lists of the workers and for threads. `O(workers * count)` pushes, side by side.
+pub fn run_shared_into<R: Threads + Wait + Sync, G: Gate + Sync, A: Allocator + Copy + Send + Sync>(
     rt: &R,
     alloc: A,
     vector: &LockFreeFrozenVec<u64, A>,
-    gate: &G,
+    pass: &mut Pass<u64, A>,
     workers: usize,
     count: usize,
+    gate: &G,
     stacks: &[usize],
-) -> Result<(Vec<Done<A>, A>, bool), AllocError>
-    ensures { IfOk result (λ r. All (λ d. d.pass.vector ≡ vector.now) r.0.items) }
+) -> Result<Vec<Option<SharedFault>, A>, AllocError>
+    requires of { pass.old.vector ≡ vector.now }
+    requires workers { (1 ≤ workers) × (workers ≤ 16) }
+    requires count { count ≤ 100000 }
+
+    // The pass is the same, later, and has pushed nothing.
+    ensures continues { Continues pass.old pass.new }
+
+    // What each worker pushed. On refusal nobody pushed anything that the pass has seen.
+    ensures each { IfOk result (λ faults. length faults.items ≡ workers) }
+    ensures pushed { IfOk result (λ faults.
+        HaveWorked count pass.old.seen pass.new.seen faults.items) }
+    ensures refused { IfErr result (λ _. pass.new ≡ pass.old) }
 {
-    thread::scope(
+    let faults = Vec::with_capacity(alloc, workers)?;
+    let mut started = Vec::with_capacity(alloc, workers)?;
+    let done = Vec::with_capacity(alloc, workers)?;
+    let mut longest = begin(vector, pass);
+    let begun = &*pass;
+    let (done, mut longest) = thread::scope(
         thread::scope_env(),
         rt,
-        |scope| -> Result<(Vec<Done<A>, A>, bool), AllocError>
-            ensures { IfOk result (λ r. All (λ d. d.pass.vector ≡ vector.entry.now) r.0.items) }
+        move |scope| -> (Vec<Done<A>, A>, Pass<u64, A>)
+            requires of { (longest.vector ≡ vector.now) × (longest.seen ≡ begun.now.seen) }
+            requires limits { (workers ≤ 16) × (count ≤ 100000) }
+            requires started { (vec_len started ≡ 0) × (workers ≤ vec_capacity started) }
+            requires done { (vec_len done ≡ 0) × (workers ≤ vec_capacity done) }
+            ensures of { result.1.vector ≡ vector.entry.now }
+            ensures len { vec_len result.0 ≡ workers }
+            ensures work { Each (λ worker d.
+                IsWorkOf vector.entry.now begun.entry.now.seen count worker d.pass d.fault) result.0.items }
+            ensures seen { All (λ d. length d.pass.seen ≤ length result.1.seen) result.0.items }
         {
-            let mut begun = Vec::with_capacity(alloc, workers)?;
             for worker in 0..workers {
+                let theirs = begin(vector, &mut longest);
                 let Ok(child) = stack_of(stacks, worker).spawn_scoped_with(
                     scope,
-                    Of(vector),
-                    move || work(rt, vector, gate, worker, count),
+                    WorkOf {
+                        vector,
+                        pass: begun,
+                        worker,
+                        count,
+                    },
+                    move || -> Done<A>
+                        requires of { (theirs.vector ≡ vector.now) × (mine theirs ≡ []) }
+                        requires limits { (worker < 16) × (count ≤ 100000) }
+                        ensures same { IsSamePass theirs result.pass }
+                        ensures pushed { HasPushed count worker
+                            (pushed_by result.pass.author result.pass.seen) result.fault }
+                    { work(rt, vector, gate, theirs, worker, count) },
                 ) else {
-                    return Ok((joined(rt, vector, begun)?, false));
+                    break;
                 };
-                begun.push(child)?;
+                let Ok(()) = started.push(child) else {
+                    unreachable!()
+                };
             }
-            Ok((joined(rt, vector, begun)?, true))
+            let done = join_all(rt, &mut longest, started, done, count);
+            let done = add_unstarted(vector, &mut longest, done, workers, begun, count);
+            (done, longest)
         },
-    )
+    );
+    pass.meet(&mut longest);
+    Ok(settle(pass, done, faults))
 }
 
 /// The first in order of two faults, where there are any.
-fn first_fault(one: Option<SharedFault>, other: Option<SharedFault>) -> Option<SharedFault> {
+fn earlier(one: Option<SharedFault>, other: Option<SharedFault>) -> Option<SharedFault>
+    ensures { IsFirstFault (one ∷ other ∷ []) result }
+{
     match (one, other) {
         (Some(fault), Some(further)) => Some(min(fault, further)),
         (Some(fault), None) => Some(fault),
@@ -152,26 +316,31 @@ fn first_fault(one: Option<SharedFault>, other: Option<SharedFault>) -> Option<S
     }
 }
 
-/// Lets the passes of all workers meet in the one given, and returns the first in order of their faults.
-fn met<A: Allocator + Copy>(
-    pass: &mut Pass<u64, A>,
-    all: Vec<Done<A>, A>,
-    _vector: &LockFreeFrozenVec<u64, A>,
-) -> Option<SharedFault>
-    requires of { pass.old.vector ≡ _vector.now }
-    requires all_of { All (λ d. d.pass.vector ≡ _vector.now) all.items }
-    ensures { pass.new.vector ≡ _vector.now }
+/// The first in order of the workers' faults, `Memory`, `Gate`, `Check`, `Thread`, or `None` where there is none. `O(n)`.
+pub fn first_fault(faults: &[Option<SharedFault>]) -> Option<SharedFault>
+    ensures { IsFirstFault faults.now result }
 {
-    let mut fault = None;
-    for done in all {
-        let Done {
-            pass: mut theirs,
-            fault: further,
-        } = done;
-        pass.meet(&mut theirs);
-        fault = first_fault(fault, further);
+    let mut first = None;
+    for fault in faults {
+        first = earlier(first, *fault);
     }
-    fault
+    first
+}
+
+/// What is told of workers with these faults that pushed into a vector of this length: their first fault, or else whether `all` is the length.
+fn told(faults: &[Option<SharedFault>], length: usize, all: usize) -> Result<usize, SharedFault>
+    ensures ok { IfOk result (λ n.
+        IsFirstFault faults.now None × (n ≡ length) × (length ≡ all)) }
+    ensures err { IfErr result (λ fault. IsFirstFault faults.now (Some fault)
+        ⊎ ((fault ≡ SharedFault.Check) × IsFirstFault faults.now None × (length ≢ all))) }
+{
+    if let Some(fault) = first_fault(faults) {
+        return Err(fault);
+    }
+    if length != all {
+        return Err(SharedFault::Check);
+    }
+    Ok(length)
 }
 
 /// As [`run_shared`], where the thread of worker `w` gets a stack of at least `stacks[w]` bytes, in whole units of 128 KiB; a worker that
@@ -195,28 +364,16 @@ pub fn run_shared_on_stacks<
     ensures all { IfOk result (λ length. length ≡ workers * count) }
 {
     let vector = LockFreeFrozenVec::new(alloc)?;
-    let (all, is_whole) = run_workers(rt, alloc, &vector, gate, workers, count, stacks)?;
     let mut pass = vector.pass();
-    let fault = met(&mut pass, all, &vector);
-    if let Some(fault) = fault {
-        return Err(fault);
-    }
-    if !is_whole {
-        return Err(SharedFault::Thread);
-    }
-    let length = vector.len_as(&mut pass);
-    if length != workers * count {
-        return Err(SharedFault::Check);
-    }
-    Ok(length)
+    let faults = run_shared_into(rt, alloc, &vector, &mut pass, workers, count, gate, stacks)?;
+    told(&faults, vector.len_as(&mut pass), workers * count)
 }
 
 /// Pushes `count` numbers from each of `workers` threads into one vector, and returns its length at the end, which is `workers * count`.
 ///
-/// Worker `w`, counted from 0, pushes `w * count` to `w * count + count - 1` in order, and after each push it asks the gate whether to go on.
-/// `Err` is the first in order of the faults that came; a worker stops at a failed push and at a false result of its gate, and the others go
-/// on. At the end every thread that was started has ended, at `Err` too. It waits, and takes memory for the vector and its threads.
-/// `O(workers * count)` pushes, side by side.
+/// The workers are those of [`run_shared_into`], in a vector of their own. `Err` is the first in order of the faults that came; `Check` stands for a length at
+/// the end that isn't that of all numbers, where no worker had a fault. At the end every thread that was started has ended, at `Err` too. It waits, and
+/// takes memory for the vector, for lists of the workers and for threads. `O(workers * count)` pushes, side by side.
 pub fn run_shared<R: Threads + Wait + Sync, G: Gate + Sync, A: Allocator + Copy + Send + Sync>(
     rt: &R,
     alloc: A,

@@ -1,6 +1,6 @@
 -- The atomic steps of a vector that many threads share, as relations on what the threads share: the length, whether a
--- thread holds, and the list. A load of the word is a look; an exchange of the word is an acquire, a publish, which
--- releases too, or a release that leaves the list. An exchange that fails is a look. The turns of the machine name these
+-- thread holds, and the list. A load of the word is a read of the length; an exchange of the word is an acquire, a publish, which
+-- releases too, or a release that leaves the list. An exchange that fails is a read of the length. The turns of the machine name these
 -- relations, and so does the rule of the vector on threads. No buffer, slot or pointer stands in them.
 use Rattle.std.specs.Prelude.{ℕ, ◌≡◌, ◌+◌, ◌*◌, Bool, true, false, List, [], ◌∷◌, ◌++◌}
 
@@ -26,7 +26,7 @@ module _ {E : Type 0} where
     pub held_is : after.held ≡ before.held
     pub list_is : after.list ≡ before.list
 
-  -- a look sees this length, and nothing changes
+  -- a read of the length, which is this, and nothing changes
   pub record Looks (seen : ℕ) (before after : Shared E) : Type 0 where
     pub sees : seen ≡ before.length
     pub stays : Stays before after
@@ -39,7 +39,7 @@ module _ {E : Type 0} where
     pub held_is : after.held ≡ true
     pub list_is : after.list ≡ before.list
 
-  -- a publish: a thread held, the entry stands at the end of the list, and nobody holds now
+  -- a publish: a thread held, the entry is at the end of the list, and nobody holds now
   pub record Publishes (entry : E) (before after : Shared E) : Type 0 where
     pub was_held : before.held ≡ true
     pub length_is : after.length ≡ before.length + 1

@@ -33,7 +33,7 @@ moved w t = record { world = w; thread = t }
 abbrev pub with_event : {A : Type 0} → World A → Event → World A
 with_event w e = record w { events = w.events ++ e ∷ [] }
 
--- the world with one answer more
+-- the world with one result more
 abbrev pub with_answer : {A : Type 0} → World A → Answer A → World A
 with_answer w a = record w { answers = w.answers ++ a ∷ [] }
 
@@ -62,7 +62,7 @@ pusher_turn me memory (Some item) w t (Looked n) = moved w t
 pusher_turn me memory (Some item) w t Done = moved w t
 pusher_turn me memory None w t phase = moved w t
 
--- a reader's turn, where this is its next index. Ready: it looks, and is answered at once where the index isn't below the
+-- a reader's turn, where this is its next index. Ready: it reads the length, and returns at once where the index isn't below the
 -- length. Looked: it reads the slot
 abbrev pub reader_turn : {A : Type 0} → ℕ → Option ℕ → World A → Thread A → Phase → Moved A
 reader_turn me (Some i) w t Ready =
@@ -74,8 +74,8 @@ reader_turn me (Some i) w t (Looked n) =
 reader_turn me (Some i) w t _ = moved w t
 reader_turn me None w t phase = moved w t
 
--- a cloner's turn. Ready: it looks, and is answered at once where the list is empty. Looked n: it copies the next place,
--- and is answered after place n - 1, or refused where there is no memory
+-- a cloner's turn. Ready: it reads the length, and returns at once where the list is empty. Looked n: it copies the next place,
+-- and returns after place n - 1, or is refused where there is no memory
 abbrev pub cloner_turn : {A : Type 0} → ℕ → Bool → World A → Thread A → Phase → Moved A
 cloner_turn me memory w t Ready =
     if w.length == 0

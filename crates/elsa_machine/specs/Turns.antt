@@ -30,7 +30,7 @@ PusherStep me item Denied v w = Releases (shared_of v) (shared_of w)
 PusherStep me item (Looked n) v w = Stays (shared_of v) (shared_of w)
 PusherStep me item Done v w = Stays (shared_of v) (shared_of w)
 
--- a look whose length is told to the history
+-- a read of the length, which the history notes
 abbrev pub TellsALook : {A : Type 0} → ℕ → World A → World A → Type 0
 TellsALook me v w = (seen : ℕ) × Looks seen (shared_of v) (shared_of w) × (w.events ≡ v.events ++ Look me seen ∷ [])
 
@@ -147,7 +147,7 @@ abbrev pub is_denied : {A : Type 0} → Option (Thread A) → World A → Bool �
 is_denied None w memory = false
 is_denied (Some t) w memory = is_phase_denied t.phase w memory
 
--- an answer that refuses a push
+-- a result that refuses a push
 abbrev pub is_refusal : {A : Type 0} → Answer A → Bool
 is_refusal (Refused thread) = true
 is_refusal (Pushed thread place) = false
@@ -160,7 +160,7 @@ abbrev pub AreRefusalsEarned : {A : Type 0} → List (Plan A) → List Turn → 
 AreRefusalsEarned plans schedule = (thread : ℕ) (plan : Plan _) → slice_get plans thread ≡ Some plan →
     count_by is_refusal (answers_of thread (world_of plans schedule).answers) ≤ turns_that is_denied plans thread (opening plans) schedule
 
--- a turn of a thread that has looked, without memory: a cloner's copy that fails
+-- a turn of a thread that has read the length, without memory: a cloner's copy that fails
 abbrev pub is_looked : Phase → Bool
 is_looked (Looked n) = true
 is_looked Ready = false
@@ -175,7 +175,7 @@ abbrev pub is_failed_copy : {A : Type 0} → Option (Thread A) → World A → B
 is_failed_copy None w memory = false
 is_failed_copy (Some t) w memory = is_looked t.phase && not memory
 
--- an answer that refuses a clone
+-- a result that refuses a clone
 abbrev pub is_clone_refusal : {A : Type 0} → Answer A → Bool
 is_clone_refusal (CloneRefused thread) = true
 is_clone_refusal (Refused thread) = false

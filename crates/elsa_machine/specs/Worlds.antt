@@ -1,5 +1,5 @@
 -- What holds of the world of every schedule: its history is that of one list that only grows, the slots hold that list,
--- and each thread was answered from it. Every promise here speaks of the list of the events alone; no state of a thread,
+-- and each result was read from it. Every promise here speaks of the list of the events alone; no state of a thread,
 -- no turn and no lock stands in it.
 use Rattle.std.specs.Prelude.{ℕ, suc, ◌+◌, ◌-◌, ◌*◌, ◌^◌, ◌<◌, ◌≤◌, ◌≡◌, List, [], ◌∷◌, ◌++◌, length, Option, Some, None, slice_get, ◌==◌, if◌then◌else◌, take, map, Contains}
 use Rattle.elsa_machine.specs.declared.machine.Answer.{Answer}
@@ -19,13 +19,13 @@ list_of [] = []
 list_of (Append thread item ∷ events) = (thread, item) ∷ list_of events
 list_of (Look thread seen ∷ events) = list_of events
 
--- each look tells how many appends come before it, where `before` of them come before these events
+-- each read of the length tells how many appends come before it, where `before` of them come before these events
 abbrev pub AreLooksRight : ℕ → List Event → Type 0
 AreLooksRight before [] = Unit {0}
 AreLooksRight before (Append thread item ∷ events) = AreLooksRight (suc before) events
 AreLooksRight before (Look thread seen ∷ events) = (seen ≡ before) × AreLooksRight before events
 
--- each look tells the length that the list has there, and the world's length is the list's
+-- each read of the length tells the length that the list has there, and the world's length is the list's
 pub record HasRightHistory {A : Type 0} (w : World A) : Type 0 where
   pub looks : AreLooksRight 0 w.events
   pub counted : w.length ≡ length (list_of w.events)
@@ -70,7 +70,7 @@ pub record HasFewSlots {A : Type 0} (w : World A) : Type 0 where
   pub openable : w.opened ≤ 31
   pub in_open_buffers : length w.writes ≤ slots_before w.opened
 
--- the thread that an answer is for
+-- the thread to which a result is returned
 abbrev pub answer_thread : {A : Type 0} → Answer A → ℕ
 answer_thread (Pushed thread place) = thread
 answer_thread (Refused thread) = thread
@@ -78,19 +78,19 @@ answer_thread (Read thread index value) = thread
 answer_thread (Cloned thread items) = thread
 answer_thread (CloneRefused thread) = thread
 
--- a thread's own answers, in their order
+-- what is returned to a thread, in order
 abbrev pub answers_of : {A : Type 0} → ℕ → List (Answer A) → List (Answer A)
 answers_of thread [] = []
 answers_of thread (answer ∷ answers) = if answer_thread answer == thread then answer ∷ answers_of thread answers else answers_of thread answers
 
--- the lengths that a thread's looks told, in their order
+-- the lengths that a thread read, in order
 abbrev pub looks_of : ℕ → List Event → List ℕ
 looks_of thread [] = []
 looks_of thread (Append other item ∷ events) = looks_of thread events
 looks_of thread (Look other seen ∷ events) = if other == thread then seen ∷ looks_of thread events else looks_of thread events
 
 -- a pusher's outcomes belong to its items, in their order: where it was told a place, the list has this thread with that
--- item there; the places rise, the first from `least` on; and it is answered nothing else
+-- item there; the places rise, the first from `least` on; and nothing else is returned to it
 abbrev pub AreOutcomes : {A : Type 0} → List (ℕ × ℕ) → ℕ → ℕ → List ℕ → List (Answer A) → Type 0
 AreOutcomes list thread least items [] = Unit {0}
 AreOutcomes list thread least (item ∷ items) (Pushed by place ∷ answers) = (slice_get list place ≡ Some (thread, item)) × (least ≤ place) × AreOutcomes list thread (suc place) items answers
@@ -102,11 +102,11 @@ abbrev pub ArePushesRight : {A : Type 0} → List (Plan A) → World A → Type 
 ArePushesRight plans w = (thread : ℕ) (items : List ℕ) → slice_get plans thread ≡ Some (Pusher items) →
     AreOutcomes (list_of w.events) thread 0 items (answers_of thread w.answers)
 
--- each entry of the list was answered to its author, at its place
+-- the place of each entry of the list was returned to its author
 abbrev pub AreEntriesAnswered : {A : Type 0} → World A → Type 0
 AreEntriesAnswered w = (place : ℕ) (entry : ℕ × ℕ) → slice_get (list_of w.events) place ≡ Some entry → Contains w.answers (Pushed entry.0 place)
 
--- an entry of the list is an item of its author's plan, which is a pusher's, and its author was answered this place for
+-- an entry of the list is an item of its author's plan, which is a pusher's, and this place was returned to its author for
 -- that item
 pub record IsAuthored {A : Type 0} (plans : List (Plan A)) (w : World A) (place : ℕ) (entry : ℕ × ℕ) : Type 0 where
   pub items : List ℕ
@@ -119,17 +119,17 @@ pub record IsAuthored {A : Type 0} (plans : List (Plan A)) (w : World A) (place 
 abbrev pub AreEntriesAuthored : {A : Type 0} → List (Plan A) → World A → Type 0
 AreEntriesAuthored plans w = (place : ℕ) (entry : ℕ × ℕ) → slice_get (list_of w.events) place ≡ Some entry → IsAuthored plans w place entry
 
--- no place is answered twice: two pushes that were told one place are one push
+-- no place is returned twice: two pushes that returned one place are one push
 abbrev pub IsNoPlaceTwice : {A : Type 0} → List (Plan A) → World A → Type 0
 IsNoPlaceTwice plans w = (one other : ℕ) (items others : List ℕ) (j k by of place : ℕ) → slice_get plans one ≡ Some (Pusher items) → slice_get plans other ≡ Some (Pusher others) →
     slice_get (answers_of one w.answers) j ≡ Some (Pushed by place) → slice_get (answers_of other w.answers) k ≡ Some (Pushed of place) → (one ≡ other) × (j ≡ k)
 
--- a read at a look of this length: the list's item where the index is below the length, else none
+-- a read of an item after a read of this length: the list's item where the index is below the length, else none
 pub record IsReadAt (list : List (ℕ × ℕ)) (index seen : ℕ) (value : Option ℕ) : Type 0 where
   pub below : index < seen → (entry : ℕ × ℕ) × (slice_get list index ≡ Some entry) × (value ≡ Some entry.1)
   pub above : seen ≤ index → value ≡ None
 
--- the k-th answer of a reader is a read of its k-th index, right at its k-th look
+-- the k-th result of a reader is a read of its k-th index, right at its k-th read of the length
 pub record IsRead {A : Type 0} (list : List (ℕ × ℕ)) (thread : ℕ) (indexes looks : List ℕ) (k : ℕ) (answer : Answer A) : Type 0 where
   pub index : ℕ
   pub seen : ℕ
@@ -139,7 +139,7 @@ pub record IsRead {A : Type 0} (list : List (ℕ × ℕ)) (thread : ℕ) (indexe
   pub looked : slice_get looks k ≡ Some seen
   pub right : IsReadAt list index seen value
 
--- all answers of a reader are such reads
+-- all results of a reader are such reads
 abbrev pub AreReads : {A : Type 0} → List (ℕ × ℕ) → ℕ → List ℕ → List ℕ → List (Answer A) → Type 0
 AreReads list thread indexes looks answers = (k : ℕ) (answer : Answer _) → slice_get answers k ≡ Some answer → IsRead list thread indexes looks k answer
 
@@ -148,7 +148,7 @@ abbrev pub AreReadsRight : {A : Type 0} → List (Plan A) → World A → Type 0
 AreReadsRight plans w = (thread : ℕ) (indexes : List ℕ) → slice_get plans thread ≡ Some (Reader indexes) →
     AreReads (list_of w.events) thread indexes (looks_of thread w.events) (answers_of thread w.answers)
 
--- a cloner looks once at most, and is answered once at most: the items of the list at its look, or a refusal
+-- a cloner reads the length once at most, and returns once at most: the items that the list had then, or a refusal
 abbrev pub IsClone : {A : Type 0} → List (ℕ × ℕ) → List ℕ → List (Answer A) → Type 0
 IsClone list [] [] = Unit {0}
 IsClone list (seen ∷ []) [] = Unit {0}
@@ -175,7 +175,7 @@ pub record HasOneList {A : Type 0} (plans : List (Plan A)) (schedule : List Turn
   pub written_once : AreWrittenOnce w
   pub few_slots : HasFewSlots w
 
--- each thread was answered from that list, and the list is of what was answered
+-- each result was read from that list, and each entry of the list was returned
 pub record IsAnsweredFromList {A : Type 0} (plans : List (Plan A)) (w : World A) : Type 0 where
   pub pushes : ArePushesRight plans w
   pub entries : AreEntriesAnswered w

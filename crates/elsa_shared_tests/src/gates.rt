@@ -85,6 +85,41 @@ impl Gate for Pair {
     }
 }
 
+/// Holds each of two workers after each push until the other has made as many, and stops one that waits in vain.
+#[derive(Drop)]
+pub struct Alternates {
+    first: AtomicU64,
+    second: AtomicU64,
+}
+
+impl Alternates {
+    /// No push yet.
+    pub fn new() -> Alternates {
+        Alternates {
+            first: AtomicU64::new(0),
+            second: AtomicU64::new(0),
+        }
+    }
+}
+
+impl Gate for Alternates {
+    fn after(&self, worker: usize, _place: usize) -> bool {
+        let (mine, other) = if worker == 0 {
+            (&self.first, &self.second)
+        } else {
+            (&self.second, &self.first)
+        };
+        let made = mine.fetch_add(1, Ordering::SeqCst).wrapping_add(1);
+        for _ in 0..TURNS {
+            if other.load(Ordering::SeqCst) >= made {
+                return true;
+            }
+            thread::yield_now();
+        }
+        false
+    }
+}
+
 /// Answers false to a worker whose places don't rise, and sums all places.
 #[derive(Drop)]
 pub struct Rising {

@@ -39,3 +39,5 @@ mod text_key_tests;
 mod upstream_tests;
 #[cfg(test)]
 mod walk_tests;
+#[cfg(test)]
+mod worker_tests;

@@ -245,7 +245,7 @@ pusher_step me memory (Some x) w t Denied h = record { was_held = ap is_some h.0
 pusher_step me memory (Some x) w t (Looked n) h = unmoved w
 pusher_step me memory (Some x) w t Done h = unmoved w
 
--- a look with its event, and an answer or none
+-- a read of the length with its event, and a result or none
 looked : {A : Type 0} (me : ℕ) (w : World A) → TellsALook me w (with_event w (Look me w.length))
 looked me w = (w.length, record { sees = refl; stays = record { length_is = refl; held_is = refl; list_is = list_same w.events me w.length } }, refl)
 

@@ -27,7 +27,7 @@ one_list plans schedule = record {
   few_slots = runs.few_slots plans schedule;
 }
 
--- of the answers
+-- of the results
 pub answered : {A : Type 0} (plans : List (Plan A)) (schedule : List Turn) → IsAnsweredFromList plans (world_of plans schedule)
 answered plans schedule = record {
   pushes = runs.pushes_right plans schedule;

@@ -77,7 +77,7 @@ pub data Transition {A : Type 0} (me : ℕ) (memory : Bool) (w : World A) (t : T
   clone_fails : {n : ℕ} → t.phase ≡ Looked n → memory ≡ false →
       Transition me memory w t Cloner (moved (with_answer w (CloneRefused me)) (record t { phase = Done }))
 
--- a value chosen by a test, from what holds at each answer
+-- a value chosen by a test, from what holds at each outcome of the test
 pub by_test : {A : Type 0} (P : A → Type 0) (b : Bool) (x y : A) → (b ≡ true → P x) → (b ≡ false → P y) → P (if b then x else y)
 by_test P true x y f g = f refl
 by_test P false x y f g = g refl

@@ -22,16 +22,16 @@ pub enum Phase {
     Written(usize),
     /// A pusher that holds, and was refused its buffer.
     Denied,
-    /// A reader or a cloner that looked, at this length.
+    /// A reader or a cloner that has read the length, which was this.
     Looked(usize),
-    /// A cloner that has answered.
+    /// A cloner that has returned.
     Done,
 }
 
 /// A thread of the machine.
 #[derive(Drop)]
 pub struct Thread<A: Allocator> {
-    /// How many of its items or indexes are answered.
+    /// For how many of its items or indexes a result was returned.
     pub next: usize,
     pub phase: Phase,
     /// What a cloner has copied so far.

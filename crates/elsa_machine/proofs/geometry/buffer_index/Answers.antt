@@ -22,12 +22,15 @@ top place few =
     let (t, zeros, low, high) = leading_top 64 (place + 1) (omega arith) (omega arith) in
     (t, low, omega (arith, high), omega (arith, zeros))
 
+-- the place is in the buffer of its top bit
 pub returns-clause-at : goal.returns-clause-at
 returns-clause-at c = let (t, low, high, is) = top c.args.place c.requires in subst (λ (b : ℕ). IsAt c.args.place b (c.args.place - slots_before b)) is (lies c.args.place t low high)
 
+-- and in no other, since each place has one slot
 pub returns-clause-only : goal.returns-clause-only
 returns-clause-only c = let (t, low, high, is) = top c.args.place c.requires in
     λ buffer slot at. subst (λ (b : ℕ). buffer ≡ b) is (one_slot c.args.place buffer slot _ _ at (lies c.args.place t low high)).0
 
+-- that buffer is below 31
 pub returns-clause-openable : goal.returns-clause-openable
 returns-clause-openable c = let (t, low, high, is) = top c.args.place c.requires in subst (λ (b : ℕ). b < 31) is (below (c.args.place + 1) t low (let h = c.requires in omega arith))

@@ -1,0 +1,36 @@
+-- What a pass has seen once it met another.
+use Rattle.std.proofs.Common.{◌≡◌, ℕ, ◌≤◌, ◌∙◌, List, ◌++◌, length, ap, sym, append_assoc, arith, length-append}
+use mathlib.Core.List.{IsPrefix}
+use Rattle.std.proofs.lemmas.Bool.Decides.{nat_tests}
+use Rattle.elsa_free.specs.declared.event.Entry.{Entry}
+use Rattle.elsa_free.specs.SharedList.{Continues, Vector, View, longer}
+
+-- what begins a list begins a longer one
+pub prefix_more : {X : Type 0} (xs ys zs : List X) → IsPrefix xs ys → IsPrefix ys zs → IsPrefix xs zs
+prefix_more xs ys zs (more, ys_is) (rest, zs_is) = (more ++ rest, sym (append_assoc xs more rest) ∙ (ap (λ (l : List _). l ++ rest) ys_is ∙ zs_is))
+
+-- and is no longer than it
+pub prefix_within : {X : Type 0} (xs ys : List X) → IsPrefix xs ys → length xs ≤ length ys
+prefix_within xs ys (more, is) = omega (arith, length-append xs more, ap (λ (l : List _). length l) is)
+
+module _ {T : Type 0} where
+  -- the longer of two lists is the first, where the second is no longer
+  pub first_is_longer : (xs ys : List (Entry T)) → length ys ≤ length xs → longer xs ys ≡ xs
+  first_is_longer xs ys within = grind (arith, nat_tests)
+
+  -- neither list is longer than the longer of them
+  pub second_within : (xs ys : List (Entry T)) → length ys ≤ length (longer xs ys)
+  second_within xs ys = grind (arith, nat_tests)
+
+  abbrev view : Vector → ℕ → List (Entry T) → View T
+  view vector author seen = record { vector = vector; author = author; seen = seen }
+
+  -- two views of one vector, one author and one list are the same
+  pub same_view : (p q : View T) → q.vector ≡ p.vector → q.author ≡ p.author → q.seen ≡ p.seen → q ≡ p
+  same_view p q vector author seen =
+      ap (λ (v : Vector). view v q.author q.seen) vector ∙ (ap (λ (a : ℕ). view p.vector a q.seen) author ∙ ap (λ (es : List (Entry T)). view p.vector p.author es) seen)
+
+  -- what continues a pass that continues another continues that
+  pub continues_more : (p q r : View T) → Continues p q → Continues q r → Continues p r
+  continues_more p q r (one, begins, mine) (next, goes_on, still) =
+      ((next.0 ∙ one.0, next.1 ∙ one.1), prefix_more p.seen q.seen r.seen begins goes_on, still ∙ mine)

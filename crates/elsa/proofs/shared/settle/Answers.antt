@@ -1,0 +1,33 @@
+use Rattle.std.proofs.Common.{rules, ◌≡◌, ℕ, ◌+◌, ◌∙◌, List, All, ap, subst, sym}
+use Rattle.std.specs.Vec.Iter.{into_iter_items}
+use Rattle.std.proofs.lemmas.Grind.{common_steps}
+use Rattle.std.proofs.lemmas.List.Elements.{All-cons}
+use Rattle.elsa_free.specs.declared.event.Entry.{Entry}
+use Rattle.elsa_free.specs.SharedList.{View}
+use Rattle.elsa.specs.declared.shared.Done.{Done}
+use Rattle.elsa.specs.Workers.{pushed_by}
+use Rattle.elsa.proofs.Passes.{first_is_longer, same_view}
+use Rattle.elsa.proofs.Pushed.{pushes_none}
+use Rattle.elsa.proofs.shared.settle.Goals as goal
+
+-- the worker's pass now sees what the one given sees, which stays as it was
+pub loop-worker-preserved : goal.loop-worker-preserved
+loop-worker-preserved g c =
+    let was = c.loop-worker.invariant in let step = c.in-Some.ensures.steps in let met = c.meet.ensures in
+    let pass = c.loop-worker.pass in let next = c.in-Some.worker in let theirs = c.meet.new.other in
+    let rest = into_iter_items c.next.new.self in let all = c.args.done.items in
+    let IsAll : View ℕ → Done g.row.A.Denot → Type 0 = λ p d. pushed_by d.pass.author p.seen ≡ pushed_by d.pass.author d.pass.seen in
+    let within = was.3 0 next in
+    let seen : c.meet.new.self.seen ≡ pass.seen = met.longer.0 ∙ first_is_longer pass.seen next.pass.seen (search rules) in
+    let same : c.meet.new.self ≡ pass = same_view pass c.meet.new.self met.same.0.0 met.same.0.1 seen in
+    let here : IsAll pass next =
+    ap (λ (es : List (Entry ℕ)). pushed_by next.pass.author es) (sym seen ∙ (met.longer.0 ∙ sym met.longer.1))
+    ∙ (ap (λ (a : ℕ). pushed_by a theirs.seen) (sym met.same.1.1) ∙ pushes_none next.pass theirs met.same.1.1 met.seen.1 met.mine.1) in (
+      same ∙ was.0,
+      grind (rules, common_steps),
+      (λ k d below. let h = was.2 (k + 1) d in grind rules),
+      (λ k d below. let h = was.3 (k + 1) d in grind rules),
+      (λ later. subst (λ (p : View ℕ). All (IsAll p) all) (sym same)
+          (was.4 (subst (All (IsAll pass)) (sym step.0) (All-cons (IsAll pass) next rest here (subst (λ (p : View ℕ). All (IsAll p) rest) same later))))),
+      search rules,
+    )
