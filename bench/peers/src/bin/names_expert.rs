@@ -1,28 +1,33 @@
 //! `elsa intern` written by hand for this one job, as fast as we can make it: the mark for the program.
 //!
 //! A table of 8-byte entries (32 bits of the hash, and where the name's record is), indexed by the hash's high bits, so that it doubles by one pass
-//! in order; names in one bump arena; one check of UTF-8 a chunk; 16 bytes at a time for the end of a line, its hash and its comparison; digits by
-//! a table of pairs; answers written before the next read. The hash is seeded from the system at the start, since strangers choose the names.
+//! in order; names in one bump arena; one check of UTF-8 a chunk; 16 bytes at a time for the end of a line, its hash and its comparison; eight digits
+//! of a number at once; answers written before the next read. The hash is seeded from the system at the start, since strangers choose the names.
 //!
 //! usage: names_expert < LINES > ANSWERS
 use std::arch::x86_64::*;
 use std::io;
 
 /// How much is read at once, and how many answers wait at most.
-const CHUNK: usize = 1 << 16;
+const CHUNK: usize = 1 << 14;
 /// What may be read behind the end of a text.
 const SLACK: usize = 32;
 /// What is reserved for the names: only what is written takes memory.
 const ARENA: usize = 1 << 34;
 /// Beyond so many bytes memory is asked for in huge pages.
 const HUGE: usize = 1 << 21;
+/// How much of the arena is asked for at once up to there: a page fault for each page would take longer.
+const STEP: usize = 1 << 17;
+/// Which the oldest libc crates don't name.
+const MADV_POPULATE_WRITE: libc::c_int = 23;
 /// A record begins at a multiple of this.
 const UNIT: usize = 4;
 /// The bytes of a record before its text: its number, its length.
 const HEAD: usize = 8;
 
 unsafe fn reserve(bytes: usize) -> *mut u8 {
-    let flags = libc::MAP_PRIVATE | libc::MAP_ANONYMOUS | libc::MAP_NORESERVE;
+    let all_at_once = if bytes <= HUGE { libc::MAP_POPULATE } else { 0 };
+    let flags = libc::MAP_PRIVATE | libc::MAP_ANONYMOUS | libc::MAP_NORESERVE | all_at_once;
     let at = libc::mmap(std::ptr::null_mut(), bytes, libc::PROT_READ | libc::PROT_WRITE, flags, -1, 0);
     assert!(at != libc::MAP_FAILED, "no memory");
     if bytes > HUGE {
@@ -61,6 +66,7 @@ struct Names {
     bits: u32,
     arena: *mut u8,
     used: usize,
+    ready: usize,
     /// Where each number's record is, in units.
     records: Vec<u32>,
 }
@@ -69,7 +75,7 @@ impl Names {
     unsafe fn new() -> Names {
         let mut seed = [0u64; 2];
         assert!(libc::getrandom(seed.as_mut_ptr().cast(), 16, 0) == 16, "no random bytes");
-        Names { seed, entries: reserve(8 << 10).cast(), bits: 10, arena: reserve(ARENA), used: UNIT, records: Vec::new() }
+        Names { seed, entries: reserve(8 << 10).cast(), bits: 10, arena: reserve(ARENA), used: UNIT, ready: 0, records: Vec::new() }
     }
 
     #[inline(always)]
@@ -148,6 +154,9 @@ impl Names {
         }
         let (number, record) = (self.records.len() as u32, (self.used / UNIT) as u32);
         let head = self.arena.add(self.used);
+        if self.used + HEAD + len > self.ready {
+            self.make_ready();
+        }
         *head.cast::<u32>() = number;
         *head.add(4).cast::<u32>() = len as u32;
         if len <= 16 {
@@ -162,6 +171,18 @@ impl Names {
             self.double();
         }
         Some(number)
+    }
+
+    /// More of the arena has its pages. Where that fails, they come one by one.
+    #[cold]
+    #[inline(never)]
+    unsafe fn make_ready(&mut self) {
+        if self.used < HUGE {
+            libc::madvise(self.arena.add(self.ready).cast(), STEP, MADV_POPULATE_WRITE);
+            self.ready += STEP;
+        } else {
+            self.ready = ARENA;
+        }
     }
 
     /// Twice the table. An entry's place is its hash's high bits, so both tables are gone through from the front.
@@ -191,16 +212,15 @@ struct Answers {
     len: usize,
 }
 
-static PAIRS: [u8; 200] = {
-    let mut pairs = [0; 200];
-    let mut k = 0;
-    while k < 100 {
-        pairs[2 * k] = b'0' + (k / 10) as u8;
-        pairs[2 * k + 1] = b'0' + (k % 10) as u8;
-        k += 1;
-    }
-    pairs
-};
+/// The eight digits of a number below 10^8, the first in the lowest byte: two halves of four, four of two, eight of one.
+#[inline(always)]
+fn eight_digits(number: u32) -> u64 {
+    let halves = u64::from(number / 10_000) | u64::from(number % 10_000) << 32;
+    let hundreds = (halves * 10_486 >> 20) & 0x7f_0000_007f;
+    let pairs = hundreds | (halves - 100 * hundreds) << 16;
+    let tens = (pairs * 103 >> 10) & 0x000f_000f_000f_000f;
+    tens | (pairs - 10 * tens) << 8
+}
 
 impl Answers {
     fn flush(&mut self) -> io::Result<()> {
@@ -227,20 +247,15 @@ impl Answers {
         if CHUNK - self.len < 16 {
             self.flush()?;
         }
-        let mut digits = [0u8; 12];
-        let (mut at, mut left) = (10, number as usize);
-        while left >= 100 {
-            at -= 2;
-            std::ptr::copy_nonoverlapping(PAIRS.as_ptr().add(left % 100 * 2), digits.as_mut_ptr().add(at), 2);
-            left /= 100;
+        if number >= 100_000_000 {
+            return self.line(number.to_string().as_bytes());
         }
-        at -= 2;
-        std::ptr::copy_nonoverlapping(PAIRS.as_ptr().add(left * 2), digits.as_mut_ptr().add(at), 2);
-        at += usize::from(left < 10);
-        digits[10] = b'\n';
+        let digits = eight_digits(number);
+        let zeros = (digits.trailing_zeros() / 8).min(7);
         let to = self.bytes.as_mut_ptr().add(self.len);
-        std::ptr::copy_nonoverlapping(digits.as_ptr().add(at), to, 11 - at);
-        self.len += 11 - at;
+        to.cast::<u64>().write_unaligned((digits | 0x3030_3030_3030_3030) >> (8 * zeros));
+        *to.add(8 - zeros as usize) = b'\n';
+        self.len += 9 - zeros as usize;
         Ok(())
     }
 }
@@ -322,19 +337,21 @@ unsafe fn answer(names: &mut Names, out: &mut Answers, lines: &[u8]) -> io::Resu
     let is_text = std::str::from_utf8(lines).is_ok();
     let (mut at, end) = (lines.as_ptr(), lines.as_ptr().add(lines.len()));
     while at < end {
-        let len = to_line_end(at);
-        let line = std::slice::from_raw_parts(at, len);
+        let is_put = at.cast::<u32>().read_unaligned() == u32::from_le_bytes(*b"put ");
+        let name = if is_put { at.add(4) } else { at };
+        let len = to_line_end(name);
+        let line = std::slice::from_raw_parts(name, len);
         if !is_text && std::str::from_utf8(line).is_err() {
             out.line(b"bad line")?;
-        } else if len >= 4 && at.cast::<u32>().read_unaligned() == u32::from_le_bytes(*b"put ") {
-            match names.put(at.add(4), len - 4) {
+        } else if is_put {
+            match names.put(name, len) {
                 Some(number) => out.number(number)?,
                 None => out.line(b"no memory")?,
             }
         } else {
             other(names, out, line)?;
         }
-        at = at.add(len + 1);
+        at = name.add(len + 1);
     }
     Ok(())
 }
