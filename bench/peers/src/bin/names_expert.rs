@@ -4,7 +4,7 @@
 //! in order; names in one bump arena; one check of UTF-8 a chunk; 16 bytes at a time for the end of a line, its hash and its comparison; eight digits
 //! of a number at once; answers written before the next read. The hash is seeded from the system at the start, since strangers choose the names.
 //!
-//! usage: names_expert < LINES > ANSWERS
+//! usage: names_expert [single] < LINES > ANSWERS        (single: each name is looked for before the next line is read)
 use std::arch::x86_64::*;
 use std::io;
 
@@ -137,10 +137,15 @@ impl Names {
         std::slice::from_raw_parts(record.add(HEAD), *record.add(4).cast::<u32>() as usize)
     }
 
+    /// Asks for the entry that a look will begin with.
+    #[inline(always)]
+    unsafe fn ask_for(&self, hash: u32) {
+        _mm_prefetch::<_MM_HINT_T0>(self.entries.add((hash >> (32 - self.bits)) as usize).cast());
+    }
+
     /// The name's number, its own or the next one; nothing where there is no room for it.
     #[inline(always)]
-    unsafe fn put(&mut self, name: *const u8, len: usize) -> Option<u32> {
-        let hash = self.hash(name, len);
+    unsafe fn put(&mut self, hash: u32, name: *const u8, len: usize) -> Option<u32> {
         match self.look(hash, name, len) {
             Ok(record) => Some(self.number(record)),
             Err(at) => self.add(hash, at, name, len),
@@ -332,31 +337,61 @@ unsafe fn other(names: &mut Names, out: &mut Answers, line: &[u8]) -> io::Result
     }
 }
 
-/// Answers whole lines; SLACK bytes behind them may be read.
-unsafe fn answer(names: &mut Names, out: &mut Answers, lines: &[u8]) -> io::Result<()> {
+/// A name that is to be put, and its hash.
+#[derive(Clone, Copy)]
+struct Wanted {
+    name: *const u8,
+    len: usize,
+    hash: u32,
+}
+
+#[inline(always)]
+unsafe fn put_all(names: &mut Names, out: &mut Answers, wanted: &[Wanted]) -> io::Result<()> {
+    for it in wanted {
+        match names.put(it.hash, it.name, it.len) {
+            Some(number) => out.number(number)?,
+            None => out.line(b"no memory")?,
+        }
+    }
+    Ok(())
+}
+
+/// Answers whole lines; SLACK bytes behind them may be read. AHEAD names are read before the first of them is looked for, so that their entries come
+/// from memory side by side.
+unsafe fn answer<const AHEAD: usize>(names: &mut Names, out: &mut Answers, lines: &[u8]) -> io::Result<()> {
     let is_text = std::str::from_utf8(lines).is_ok();
     let (mut at, end) = (lines.as_ptr(), lines.as_ptr().add(lines.len()));
+    let mut wanted = [Wanted { name: at, len: 0, hash: 0 }; AHEAD];
+    let mut count = 0;
     while at < end {
         let is_put = at.cast::<u32>().read_unaligned() == u32::from_le_bytes(*b"put ");
         let name = if is_put { at.add(4) } else { at };
         let len = to_line_end(name);
         let line = std::slice::from_raw_parts(name, len);
-        if !is_text && std::str::from_utf8(line).is_err() {
-            out.line(b"bad line")?;
-        } else if is_put {
-            match names.put(name, len) {
-                Some(number) => out.number(number)?,
-                None => out.line(b"no memory")?,
+        at = name.add(len + 1);
+        if is_put && (is_text || std::str::from_utf8(line).is_ok()) {
+            let hash = names.hash(name, len);
+            names.ask_for(hash);
+            wanted[count] = Wanted { name, len, hash };
+            count += 1;
+            if count == AHEAD {
+                put_all(names, out, &wanted)?;
+                count = 0;
             }
+            continue;
+        }
+        put_all(names, out, &wanted[..count])?;
+        count = 0;
+        if is_put || !is_text && std::str::from_utf8(line).is_err() {
+            out.line(b"bad line")?;
         } else {
             other(names, out, line)?;
         }
-        at = name.add(len + 1);
     }
-    Ok(())
+    put_all(names, out, &wanted[..count])
 }
 
-fn main() -> io::Result<()> {
+fn answer_all<const AHEAD: usize>() -> io::Result<()> {
     let mut names = unsafe { Names::new() };
     let mut out = Answers { bytes: vec![0; CHUNK], len: 0 };
     let mut input = vec![0u8; CHUNK + SLACK];
@@ -380,12 +415,19 @@ fn main() -> io::Result<()> {
             continue;
         };
         let whole = fresh.start + last + 1;
-        unsafe { answer(&mut names, &mut out, &input[..whole])? };
+        unsafe { answer::<AHEAD>(&mut names, &mut out, &input[..whole])? };
         out.flush()?;
         if ended {
             return Ok(());
         }
         input.copy_within(whole..fresh.end, 0);
         held = fresh.end - whole;
+    }
+}
+
+fn main() -> io::Result<()> {
+    match std::env::args().nth(1) {
+        Some(_) => answer_all::<1>(),
+        None => answer_all::<16>(),
     }
 }
