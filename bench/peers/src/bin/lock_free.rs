@@ -2,7 +2,7 @@
 //! say one by one whether they are written, as the crate boxcar has them, which Debian doesn't package. `slots` promises less: a place may be empty
 //! while a later one is written, and it knows no length.
 //!
-//! usage: lock_free SIDE FORM THREADS COUNT. `push` (COUNT pushes in all), `hold` (COUNT items pushed and held, for the peak memory), and COUNT reads in
+//! usage: lock_free SIDE FORM THREADS COUNT. `push` (COUNT pushes in all), and COUNT reads in
 //! all: `seen` and `plain` (both by `get`: none of these has another way), with `_in_order` for places one after the other, and with `_beside` for a
 //! thread that pushes as long as they last; `growing` (each next place as soon as it is there, and from the first again where it isn't), with `_beside`
 //! too; `walk` (ten walks over COUNT items by `get`); and `exchange` (COUNT times two exchanges of one word, which is the least that a push of ours can
@@ -239,7 +239,7 @@ fn run(vector: &impl Shared, form: &str, threads: usize, count: usize) -> (u128,
         Some(reads) => (reads, true),
         None => (form, false),
     };
-    if matches!(reads, "push" | "hold") {
+    if reads == "push" {
         return timed(threads, |_| push(vector, each));
     }
     if reads == "walk" {
