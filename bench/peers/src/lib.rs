@@ -158,14 +158,23 @@ pub fn hash_of_text(text: &str) -> u64 {
     hasher.0
 }
 
+/// Calls each of so many pieces of work, the front half in a new thread and the back half in this one: as our side starts its threads.
+fn fork(from: usize, count: usize, work: &(impl Fn(usize) -> u64 + Sync)) -> u64 {
+    if count == 1 {
+        return work(from);
+    }
+    let low = count / 2;
+    std::thread::scope(|scope| {
+        let front = scope.spawn(move || fork(from, low, work));
+        let back = fork(from + low, count - low, work);
+        front.join().unwrap().wrapping_add(back)
+    })
+}
+
 /// The nanoseconds between the start of the threads and the end of the last one, and the sum of what they return.
 pub fn timed(threads: usize, work: impl Fn(usize) -> u64 + Sync) -> (u128, u64) {
-    let work = &work;
     let start = std::time::Instant::now();
-    let sum = std::thread::scope(|scope| {
-        let all: Vec<_> = (0..threads).map(|thread| scope.spawn(move || work(thread))).collect();
-        all.into_iter().fold(0u64, |sum, one| sum.wrapping_add(one.join().unwrap()))
-    });
+    let sum = fork(0, threads, &work);
     (start.elapsed().as_nanos(), sum)
 }
 
