@@ -57,15 +57,129 @@ pub fn answer_lines(names: &mut impl Names) -> io::Result<()> {
 pub struct Draws(pub u64);
 
 impl Draws {
+    #[inline(always)]
     pub fn next(&mut self) -> u64 {
         self.0 = self.0.wrapping_mul(6364136223846793005).wrapping_add(1442695040888963407);
         self.0 >> 33
     }
+
+    /// A place below the count, which is at most 2^31.
+    #[inline(always)]
+    pub fn below(&mut self, count: usize) -> usize {
+        (self.next().wrapping_mul(count as u64) >> 31) as usize
+    }
 }
 
-/// The words behind the program's name, each a number but the first.
-pub fn words() -> (String, usize, usize) {
-    let mut words = std::env::args().skip(1);
+/// The key of a place: no two are equal, and they have no order.
+#[inline(always)]
+pub fn key(place: usize) -> u64 {
+    (place as u64).wrapping_mul(0x9e3779b97f4a7c15)
+}
+
+/// The text of a place: no two are equal.
+pub fn text(place: usize) -> String {
+    format!("name{place}")
+}
+
+/// The hash that ours takes where no other is named, in Rust.
+#[derive(Clone, Copy)]
+pub struct FoldHasher(u64);
+
+/// Its builder.
+pub type Fold = std::hash::BuildHasherDefault<FoldHasher>;
+
+const MULTIPLIER: u64 = 0x9e37_79b9_7f4a_7c15;
+
+impl Default for FoldHasher {
+    #[inline(always)]
+    fn default() -> FoldHasher {
+        FoldHasher(0x243f_6a88_85a3_08d3)
+    }
+}
+
+#[inline(always)]
+fn folded(a: u64, b: u64) -> u64 {
+    let product = a as u128 * b as u128;
+    product as u64 ^ (product >> 64) as u64
+}
+
+#[inline(always)]
+fn word(bytes: &[u8], at: usize) -> u64 {
+    u64::from_le_bytes(bytes[at..at + 8].try_into().unwrap())
+}
+
+#[inline(always)]
+fn half_word(bytes: &[u8], at: usize) -> u64 {
+    u64::from(u32::from_le_bytes(bytes[at..at + 4].try_into().unwrap()))
+}
+
+impl std::hash::Hasher for FoldHasher {
+    #[inline(always)]
+    fn finish(&self) -> u64 {
+        self.0
+    }
+
+    #[inline(always)]
+    fn write_u64(&mut self, number: u64) {
+        self.0 = folded(self.0 ^ number, MULTIPLIER ^ 16);
+    }
+
+    /// Only of the byte that ends a text, which a text that is hashed alone can do without.
+    #[inline(always)]
+    fn write_u8(&mut self, _end: u8) {}
+
+    #[inline(always)]
+    fn write(&mut self, bytes: &[u8]) {
+        let len = bytes.len();
+        if len <= 8 {
+            let short = match len {
+                4.. => half_word(bytes, 0) | half_word(bytes, len - 4) << 32,
+                1.. => u64::from(bytes[0]) | u64::from(bytes[len / 2]) << 8 | u64::from(bytes[len - 1]) << 16,
+                0 => 0,
+            };
+            self.0 = folded(self.0 ^ short, MULTIPLIER ^ (2 * len as u64));
+            return;
+        }
+        let mut state = self.0.wrapping_add(len as u64);
+        let mut at = 0;
+        while len - at > 16 {
+            state = folded(word(bytes, at) ^ state, word(bytes, at + 8) ^ MULTIPLIER);
+            at += 16;
+        }
+        self.0 = folded(word(bytes, len.saturating_sub(16)) ^ state, word(bytes, len - 8) ^ MULTIPLIER);
+    }
+}
+
+/// The hash of a text.
+#[inline(always)]
+pub fn hash_of_text(text: &str) -> u64 {
+    let mut hasher = FoldHasher::default();
+    std::hash::Hasher::write(&mut hasher, text.as_bytes());
+    hasher.0
+}
+
+/// Calls each of so many pieces of work, the front half in a new thread and the back half in this one: as our side starts its threads.
+fn fork(from: usize, count: usize, work: &(impl Fn(usize) -> u64 + Sync)) -> u64 {
+    if count == 1 {
+        return work(from);
+    }
+    let low = count / 2;
+    std::thread::scope(|scope| {
+        let front = scope.spawn(move || fork(from, low, work));
+        let back = fork(from + low, count - low, work);
+        front.join().unwrap().wrapping_add(back)
+    })
+}
+
+/// The nanoseconds between the start of the threads and the end of the last one, and the sum of what they return.
+pub fn timed(threads: usize, work: impl Fn(usize) -> u64 + Sync) -> (u128, u64) {
+    let start = std::time::Instant::now();
+    let sum = fork(0, threads, &work);
+    (start.elapsed().as_nanos(), sum)
+}
+
+/// A form and two numbers.
+pub fn words_of(mut words: impl Iterator<Item = String>) -> (String, usize, usize) {
     let form = words.next().expect("a form");
     let threads = words.next().and_then(|w| w.parse().ok()).expect("a number of threads");
     let count = words.next().and_then(|w| w.parse().ok()).expect("a count");

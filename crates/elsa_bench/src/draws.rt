@@ -13,6 +13,7 @@ impl Draws {
         }
     }
 
+    #[inline(always)]
     pub fn next(&mut self) -> u64 {
         self.state = self
             .state
@@ -20,6 +21,18 @@ impl Draws {
             .wrapping_add(1442695040888963407);
         self.state >> 33
     }
+
+    /// A place below the count, where that is at most 2^31.
+    #[inline(always)]
+    pub fn below(&mut self, count: usize) -> usize {
+        (self.next().wrapping_mul(count as u64) >> 31) as usize
+    }
+}
+
+/// The key of a place: no two are equal, and they have no order.
+#[inline(always)]
+pub fn key(place: usize) -> u64 {
+    (place as u64).wrapping_mul(0x9e37_79b9_7f4a_7c15)
 }
 
 /// How many places there are to read: a power of two, so that none is drawn by a division.

@@ -10,7 +10,8 @@ use std::thread::Threads;
 use std::time::Instant;
 use std::{io, thread};
 
-const KEYS: u64 = 65536;
+/// How many keys there are.
+pub const KEYS: u64 = 65536;
 
 fn copies<R: Wait>(rt: &R, map: &FrozenMap<u64, u64>, thread: usize, calls: usize) -> u64 {
     let mut draws = Draws::new(thread);

@@ -2,21 +2,31 @@
 //!
 //! `elsa_bench FORM THREADS COUNT` prints the nanoseconds between the start of the threads and the end of the last one, and a sum of what
 //! was read, so that no read is left out. The forms are `copy` and `owner` (the locked map, COUNT calls in all, a tenth of them insertions),
-//! and of LockFreeFrozenVec `push` and `hold` (COUNT pushes in all), `seen`, `plain` and `growing` (COUNT reads in all; `seen` and `plain`
+//! and of LockFreeFrozenVec `push` (COUNT pushes in all), `seen`, `plain` and `growing` (COUNT reads in all; `seen` and `plain`
 //! with `_in_order`, all three with `_beside` for a thread that pushes as long as they last), `walk` (ten walks over COUNT items) and
-//! `exchange` (COUNT times two exchanges of one word).
+//! `exchange` (COUNT times two exchanges of one word). `recorded` makes the calls of `copy` through a recorder. The collections of one thread
+//! (THREADS is not read): `vec_push`, `vec_get`, `vec_walk`, `vec_clone`, `vec_collect`; `map_insert`, `map_get`, `tree_insert`, `tree_get`,
+//! `index_map_insert`, `index_map_get`, `index_map_at`, and the same with `_text` before the call for texts as keys; `map_clone`, `map_collect`.
+//! Walks, clones and collections are made ten times.
 #![tactic(auto)]
 
 mod draws;
+mod items;
 mod locked_map;
+mod recorded;
+mod tables;
 mod vector;
+mod whole_maps;
 
+use crate::items::ItemCall;
+use crate::tables::TableCall;
+use std::alloc::Global;
 use std::process::ExitCode;
+use std::rt::Clock;
 use std::{env, io};
 use vector::Reads;
 
-const USAGE: &str =
-    "usage: elsa_bench copy|owner|push|hold|seen[_in_order][_beside]|plain[_in_order][_beside]|growing[_beside]|walk|exchange THREADS COUNT";
+const USAGE: &str = "usage: elsa_bench FORM THREADS COUNT; src/main.rt has the forms";
 
 /// How a form reads the vector, and whether beside a pusher; nothing for another form.
 fn reads_of(form: &str) -> Option<(Reads, bool)> {
@@ -35,6 +45,59 @@ fn reads_of(form: &str) -> Option<(Reads, bool)> {
     }
 }
 
+/// What is timed of a `FrozenVec`; nothing for another form.
+fn item_call_of(form: &str) -> Option<ItemCall> {
+    match form {
+        "vec_push" => Some(ItemCall::Push),
+        "vec_get" => Some(ItemCall::Get),
+        "vec_walk" => Some(ItemCall::Walk),
+        "vec_clone" => Some(ItemCall::Clone),
+        "vec_collect" => Some(ItemCall::Collect),
+        _ => None,
+    }
+}
+
+/// The nanoseconds and the sum of calls on a map of one thread; nothing for another form.
+fn timed_map_calls<R: Clock>(
+    rt: &R,
+    alloc: Global,
+    form: &str,
+    count: usize,
+) -> io::Result<Option<(u128, u64)>> {
+    let (insert, get, at) = (TableCall::Insert, TableCall::Get, TableCall::At);
+    Ok(Some(match form {
+        "map_insert" => tables::timed_map(rt, alloc, insert, count)?,
+        "map_get" => tables::timed_map(rt, alloc, get, count)?,
+        "map_text_insert" => tables::timed_map_text(rt, alloc, insert, count)?,
+        "map_text_get" => tables::timed_map_text(rt, alloc, get, count)?,
+        "tree_insert" => tables::timed_tree(rt, alloc, insert, count)?,
+        "tree_get" => tables::timed_tree(rt, alloc, get, count)?,
+        "tree_text_insert" => tables::timed_tree_text(rt, alloc, insert, count)?,
+        "tree_text_get" => tables::timed_tree_text(rt, alloc, get, count)?,
+        "index_map_insert" => tables::timed_index_map(rt, alloc, insert, count)?,
+        "index_map_get" => tables::timed_index_map(rt, alloc, get, count)?,
+        "index_map_at" => tables::timed_index_map(rt, alloc, at, count)?,
+        "index_map_text_insert" => tables::timed_index_map_text(rt, alloc, insert, count)?,
+        "index_map_text_get" => tables::timed_index_map_text(rt, alloc, get, count)?,
+        "map_clone" => whole_maps::timed_clones(rt, alloc, count)?,
+        "map_collect" => whole_maps::timed_collections(rt, alloc, count)?,
+        _ => return Ok(None),
+    }))
+}
+
+/// The nanoseconds and the sum of calls on a collection of one thread; nothing for another form.
+fn timed_alone<R: Clock>(
+    rt: &R,
+    alloc: Global,
+    form: &str,
+    count: usize,
+) -> io::Result<Option<(u128, u64)>> {
+    match item_call_of(form) {
+        Some(call) => Ok(Some(items::timed(rt, alloc, call, count)?)),
+        None => timed_map_calls(rt, alloc, form, count),
+    }
+}
+
 fn main(rt: HostRuntime) -> io::Result<ExitCode> {
     let words: Vec<String> = env::args(&rt)?.skip(1).collect(rt.alloc())?;
     let [form, threads, count] = words.as_slice() else {
@@ -43,12 +106,17 @@ fn main(rt: HostRuntime) -> io::Result<ExitCode> {
     };
     let threads = threads.as_str().parse::<usize>().unwrap_or(1).max(1);
     let count = count.as_str().parse::<usize>().unwrap_or(0);
+    if let Some((nanos, sum)) = timed_alone(&rt, rt.alloc(), form.as_str(), count)? {
+        println!(rt; "{nanos} {sum}")?;
+        return Ok(ExitCode::SUCCESS);
+    }
     let (nanos, sum) = match (form.as_str(), reads_of(form.as_str())) {
         (_, Some((reads, beside))) => {
             vector::timed_reads(&rt, rt.alloc(), reads, beside, threads, count)?
         }
         ("copy", None) => locked_map::timed_copies(&rt, rt.alloc(), threads, count)?,
         ("owner", None) => locked_map::timed_owners(&rt, rt.alloc(), threads, count)?,
+        ("recorded", None) => recorded::timed_recorded(&rt, rt.alloc(), threads, count)?,
         ("walk", None) => vector::timed_walks(&rt, rt.alloc(), count)?,
         ("exchange", None) => vector::timed_exchanges(&rt, count)?,
         _ => vector::timed_pushes(&rt, rt.alloc(), threads, count)?,

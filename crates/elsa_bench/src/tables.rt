@@ -1,0 +1,288 @@
+//! The maps of one thread: COUNT insertions of new keys, and COUNT reads of present keys or of places by chance.
+use crate::draws::{Draws, key};
+use bumpalo::Bump;
+use elsa::{FrozenBTreeMap, FrozenIndexMap, FrozenMap, Own};
+use std::alloc::{AllocError, Global};
+use std::io;
+use std::rt::Clock;
+use std::time::Instant;
+
+/// What is timed.
+#[derive(Clone, Copy)]
+pub enum TableCall {
+    Insert,
+    Get,
+    At,
+}
+
+/// A map, by the places of its keys.
+trait Table: Drop {
+    /// Inserts the key of the place, and returns its value.
+    fn insert(&mut self, place: usize) -> Result<u64, AllocError>;
+
+    /// The value at the key of the place.
+    fn get(&self, place: usize) -> Option<u64>;
+
+    /// The value of the entry with that index, of a map that has indices.
+    fn at(&self, place: usize) -> Option<u64>;
+}
+
+/// A map with numbers as keys.
+#[derive(Drop)]
+struct Numbers<M> {
+    map: M,
+}
+
+/// A map with texts as keys.
+#[derive(Drop)]
+struct Texts<'t, M> {
+    map: M,
+    texts: &'t [String],
+}
+
+impl<'a> Table for Numbers<FrozenMap<'a, u64, Own<u64>>> {
+    #[inline(always)]
+    fn insert(&mut self, place: usize) -> Result<u64, AllocError> {
+        Ok(*self.map.insert(key(place), Own(place as u64))?)
+    }
+
+    #[inline(always)]
+    fn get(&self, place: usize) -> Option<u64> {
+        self.map.get(&key(place)).copied()
+    }
+
+    fn at(&self, _place: usize) -> Option<u64> {
+        None
+    }
+}
+
+impl<'a> Table for Numbers<FrozenBTreeMap<'a, u64, Own<u64>>> {
+    #[inline(always)]
+    fn insert(&mut self, place: usize) -> Result<u64, AllocError> {
+        Ok(*self.map.insert(key(place), Own(place as u64))?)
+    }
+
+    #[inline(always)]
+    fn get(&self, place: usize) -> Option<u64> {
+        self.map.get(&key(place)).copied()
+    }
+
+    fn at(&self, _place: usize) -> Option<u64> {
+        None
+    }
+}
+
+impl<'a> Table for Numbers<FrozenIndexMap<'a, u64, Own<u64>>> {
+    #[inline(always)]
+    fn insert(&mut self, place: usize) -> Result<u64, AllocError> {
+        Ok(*self.map.insert(key(place), Own(place as u64))?)
+    }
+
+    #[inline(always)]
+    fn get(&self, place: usize) -> Option<u64> {
+        self.map.get(&key(place)).copied()
+    }
+
+    #[inline(always)]
+    fn at(&self, place: usize) -> Option<u64> {
+        let (_key, value) = self.map.get_index(place)?;
+        Some(*value)
+    }
+}
+
+impl<'a, 't> Table for Texts<'t, FrozenMap<'a, &'a str, Own<u64>>> {
+    #[inline(always)]
+    fn insert(&mut self, place: usize) -> Result<u64, AllocError> {
+        let Some(text) = self.texts.get(place) else {
+            return Ok(0);
+        };
+        Ok(*self.map.insert_text(text.as_str(), Own(place as u64))?)
+    }
+
+    #[inline(always)]
+    fn get(&self, place: usize) -> Option<u64> {
+        let text = self.texts.get(place)?;
+        self.map.get_text(text.as_str()).copied()
+    }
+
+    fn at(&self, _place: usize) -> Option<u64> {
+        None
+    }
+}
+
+impl<'a, 't> Table for Texts<'t, FrozenBTreeMap<'a, &'a str, Own<u64>>> {
+    #[inline(always)]
+    fn insert(&mut self, place: usize) -> Result<u64, AllocError> {
+        let Some(text) = self.texts.get(place) else {
+            return Ok(0);
+        };
+        Ok(*self.map.insert_text(text.as_str(), Own(place as u64))?)
+    }
+
+    #[inline(always)]
+    fn get(&self, place: usize) -> Option<u64> {
+        let text = self.texts.get(place)?;
+        self.map.get_text(text.as_str()).copied()
+    }
+
+    fn at(&self, _place: usize) -> Option<u64> {
+        None
+    }
+}
+
+impl<'a, 't> Table for Texts<'t, FrozenIndexMap<'a, &'a str, Own<u64>>> {
+    #[inline(always)]
+    fn insert(&mut self, place: usize) -> Result<u64, AllocError> {
+        let Some(text) = self.texts.get(place) else {
+            return Ok(0);
+        };
+        Ok(*self.map.insert_text(text.as_str(), Own(place as u64))?)
+    }
+
+    #[inline(always)]
+    fn get(&self, place: usize) -> Option<u64> {
+        let text = self.texts.get(place)?;
+        self.map.get_text(text.as_str()).copied()
+    }
+
+    #[inline(always)]
+    fn at(&self, place: usize) -> Option<u64> {
+        let (_key, value) = self.map.get_index(place)?;
+        Some(*value)
+    }
+}
+
+fn fill<T: Table>(table: &mut T, count: usize) -> Result<u64, AllocError> {
+    let mut sum = 0u64;
+    for place in 0..count {
+        sum = sum.wrapping_add(table.insert(place)?);
+    }
+    Ok(sum)
+}
+
+fn read<T: Table>(table: &T, count: usize) -> u64 {
+    let mut draws = Draws::new(0);
+    let mut sum = 0u64;
+    for _turn in 0..count {
+        if let Some(value) = table.get(draws.below(count)) {
+            sum = sum.wrapping_add(value);
+        }
+    }
+    sum
+}
+
+fn read_at<T: Table>(table: &T, count: usize) -> u64 {
+    let mut draws = Draws::new(0);
+    let mut sum = 0u64;
+    for _turn in 0..count {
+        if let Some(value) = table.at(draws.below(count)) {
+            sum = sum.wrapping_add(value);
+        }
+    }
+    sum
+}
+
+fn timed<R: Clock, T: Table>(
+    rt: &R,
+    table: T,
+    call: TableCall,
+    count: usize,
+) -> io::Result<(u128, u64)> {
+    let mut table = table;
+    let mut start = Instant::now(rt)?;
+    let mut sum = fill(&mut table, count)?;
+    if !matches!(&call, TableCall::Insert) {
+        start = Instant::now(rt)?;
+        sum = match call {
+            TableCall::Get => read(&table, count),
+            _ => read_at(&table, count),
+        };
+    }
+    Ok((start.elapsed(rt)?.as_nanos(), sum))
+}
+
+fn made_texts(alloc: Global, count: usize) -> Result<Vec<String>, AllocError> {
+    let mut texts = Vec::new(alloc);
+    for place in 0..count {
+        texts.push(format!(in alloc; "name{place}")?)?;
+    }
+    Ok(texts)
+}
+
+/// The nanoseconds and the sum of the calls on a hashed map.
+pub fn timed_map<R: Clock>(
+    rt: &R,
+    alloc: Global,
+    call: TableCall,
+    count: usize,
+) -> io::Result<(u128, u64)> {
+    let arena = Bump::new(alloc);
+    let map = FrozenMap::new(alloc, &arena);
+    timed(rt, Numbers { map }, call, count)
+}
+
+/// The same with texts as keys.
+pub fn timed_map_text<R: Clock>(
+    rt: &R,
+    alloc: Global,
+    call: TableCall,
+    count: usize,
+) -> io::Result<(u128, u64)> {
+    let texts = made_texts(alloc, count)?;
+    let arena = Bump::new(alloc);
+    let map = FrozenMap::new(alloc, &arena);
+    let texts = texts.as_slice();
+    timed(rt, Texts { map, texts }, call, count)
+}
+
+/// The nanoseconds and the sum of the calls on an ordered map.
+pub fn timed_tree<R: Clock>(
+    rt: &R,
+    alloc: Global,
+    call: TableCall,
+    count: usize,
+) -> io::Result<(u128, u64)> {
+    let arena = Bump::new(alloc);
+    let map = FrozenBTreeMap::new(alloc, &arena);
+    timed(rt, Numbers { map }, call, count)
+}
+
+/// The same with texts as keys.
+pub fn timed_tree_text<R: Clock>(
+    rt: &R,
+    alloc: Global,
+    call: TableCall,
+    count: usize,
+) -> io::Result<(u128, u64)> {
+    let texts = made_texts(alloc, count)?;
+    let arena = Bump::new(alloc);
+    let map = FrozenBTreeMap::new(alloc, &arena);
+    let texts = texts.as_slice();
+    timed(rt, Texts { map, texts }, call, count)
+}
+
+/// The nanoseconds and the sum of the calls on an index map.
+pub fn timed_index_map<R: Clock>(
+    rt: &R,
+    alloc: Global,
+    call: TableCall,
+    count: usize,
+) -> io::Result<(u128, u64)> {
+    let arena = Bump::new(alloc);
+    let map = FrozenIndexMap::new(alloc, &arena);
+    timed(rt, Numbers { map }, call, count)
+}
+
+/// The same with texts as keys.
+pub fn timed_index_map_text<R: Clock>(
+    rt: &R,
+    alloc: Global,
+    call: TableCall,
+    count: usize,
+) -> io::Result<(u128, u64)> {
+    let texts = made_texts(alloc, count)?;
+    let arena = Bump::new(alloc);
+    let map = FrozenIndexMap::new(alloc, &arena);
+    let texts = texts.as_slice();
+    timed(rt, Texts { map, texts }, call, count)
+}
