@@ -1,0 +1,144 @@
+//! The shared interner by one thread, and memory that is refused.
+ghost use Rattle.std.specs.Prelude.{◌≡◌};
+
+use elsa_names::name::Name;
+use elsa_names::shared::{NamePass, SharedInterner};
+use std::alloc::{Allocator, Global};
+use std::hash::{BuildHasherDefault, FoldHasher};
+use std::sync::Wait;
+use std::test::*;
+use test_alloc::Budget;
+
+type Names<A> = NamePass<Name, BuildHasherDefault<FoldHasher>, A>;
+
+/// The place of a name, or `None` where memory was refused.
+fn put<R: Wait, A: Allocator + Copy>(
+    rt: &R,
+    interner: &SharedInterner<Name, A>,
+    names: &mut Names<A>,
+    text: &str,
+) -> Option<usize>
+    requires { names.old.vector ≡ interner.now }
+    ensures { names.new.vector ≡ names.old.vector }
+{
+    let name = Name::new(text).ok()?;
+    interner.put(rt, names, name).ok()
+}
+
+/// Whether the name at this place is the text.
+fn has<A: Allocator + Copy>(
+    interner: &SharedInterner<Name, A>,
+    names: &mut Names<A>,
+    place: usize,
+    text: &str,
+) -> bool
+    requires { names.old.vector ≡ interner.now }
+    ensures { names.new.vector ≡ names.old.vector }
+{
+    match interner.at(names, place) {
+        Some(name) => name.as_str() == text,
+        None => false,
+    }
+}
+
+/// Whether two passes find each other's names.
+fn two_passes_agree<R: Wait>(rt: &R, interner: &SharedInterner) -> bool {
+    let mut p = interner.pass();
+    let mut q = interner.pass();
+    put(rt, interner, &mut p, "a") == Some(0)
+        && put(rt, interner, &mut q, "b") == Some(1)
+        && put(rt, interner, &mut q, "a") == Some(0)
+        && has(interner, &mut q, 0, "a")
+        && has(interner, &mut q, 1, "b")
+        && interner.at(&mut q, 2).is_none()
+}
+
+#[test]
+fn two_passes_find_each_others_names(rt: HostRuntime) -> Result<(), Fail> {
+    let interner = SharedInterner::<Name>::new(rt.alloc())?;
+    assert!(rt; two_passes_agree(&rt, &interner));
+    Ok(())
+}
+
+#[test]
+fn a_refused_first_put_succeeds_later(rt: HostRuntime) -> Result<(), Fail> {
+    let budget = Budget::new(rt.alloc());
+    let interner = SharedInterner::<Name, _>::new(&budget)?;
+    assert!(rt; refused_once(&rt, &budget, &interner));
+    Ok(())
+}
+
+/// Whether the first put is refused with its memory, and the same put then takes the first place.
+fn refused_once<R: Wait>(
+    rt: &R,
+    budget: &Budget<Global>,
+    interner: &SharedInterner<Name, &Budget<Global>>,
+) -> bool {
+    let mut names = interner.pass();
+    budget.refuse_next(1);
+    let refused = put(rt, interner, &mut names, "a");
+    budget.refuse_next(0);
+    let empty = interner.at(&mut names, 0).is_none();
+    refused.is_none() && empty && put(rt, interner, &mut names, "a") == Some(0)
+}
+
+/// The names of the script.
+const WORDS: [&str; 20] = [
+    "a", "b", "c", "d", "e", "f", "g", "h", "i", "j", "k", "l", "m", "n", "o", "p", "q", "r", "s",
+    "t",
+];
+
+/// How many puts of the script were refused; 100 where one gave a wrong place. Each word is put twice, by two passes.
+fn script<R: Wait, A: Allocator + Copy>(rt: &R, interner: &SharedInterner<Name, A>) -> u64 {
+    let mut p = interner.pass();
+    let mut q = interner.pass();
+    let mut refused: u64 = 0;
+    let mut next = 0;
+    for word in WORDS {
+        for names in [false, true] {
+            let first = if names {
+                put(rt, interner, &mut q, word)
+            } else {
+                put(rt, interner, &mut p, word)
+            };
+            if first.is_none() {
+                refused = refused.saturating_add(1);
+                let again = if names {
+                    put(rt, interner, &mut q, word)
+                } else {
+                    put(rt, interner, &mut p, word)
+                };
+                if again != Some(next) {
+                    return 100;
+                }
+            } else if first != Some(next) {
+                return 100;
+            }
+        }
+        next = next.saturating_add(1);
+    }
+    refused
+}
+
+/// Whether the script goes well though its request with this number is refused.
+fn goes_on_after<R: Wait>(rt: &R, budget: &Budget<Global>, number: u64) -> bool {
+    let Ok(interner) = SharedInterner::<Name, &Budget<Global>>::new(budget) else {
+        return false;
+    };
+    let asked = budget.asked().saturating_add(number);
+    budget.refuse(asked, asked.saturating_add(1));
+    let before = budget.refused();
+    let refused = script(rt, &interner);
+    budget.refuse_next(0);
+    refused == budget.refused().saturating_sub(before) && refused < 2
+}
+
+#[test]
+fn a_script_goes_on_after_each_refused_request(rt: HostRuntime) -> Result<(), Fail> {
+    let budget = Budget::new(rt.alloc());
+    for number in 0..40 {
+        assert!(rt; goes_on_after(&rt, &budget, number), "at request {number}");
+    }
+    assert!(rt; budget.refused() >= 8);
+    Ok(())
+}

@@ -1,0 +1,12 @@
+//! Tests of names and of the shared interner as a stranger calls them: worked cases, threads that overlap, and memory that is
+//! refused.
+#![tactic(auto)]
+
+#[cfg(test)]
+mod interner_tests;
+#[cfg(test)]
+mod name_tests;
+#[cfg(test)]
+mod push_at_tests;
+#[cfg(test)]
+mod thread_tests;

@@ -1,0 +1,28 @@
+//! Pushes at a place.
+use elsa_free::lock_free::LockFreeFrozenVec;
+use std::sync::Wait;
+use std::test::*;
+
+/// Whether the second of two pushes at a place finds it taken, reads it, and takes the next.
+fn second_reads_on<R: Wait>(rt: &R, vector: &LockFreeFrozenVec<u64>) -> bool {
+    let mut p = vector.pass();
+    let mut q = vector.pass();
+    let first = vector.push_at_as(rt, &mut p, 0, 5);
+    let second = vector.push_at_as(rt, &mut q, 0, 5);
+    let read = vector.get_as(&mut q, 0);
+    first == Ok(Some(0)) && second == Ok(None) && read == Some(5)
+}
+
+#[test]
+fn of_two_pushes_at_a_place_one_reads_on(rt: HostRuntime) -> Result<(), Fail> {
+    let vector = LockFreeFrozenVec::<u64>::new(rt.alloc())?;
+    assert!(rt; second_reads_on(&rt, &vector) && !vector.is_distinct());
+    Ok(())
+}
+
+#[test]
+fn a_distinct_vector_says_so_and_its_clone_is_plain(rt: HostRuntime) -> Result<(), Fail> {
+    let vector = LockFreeFrozenVec::<u64, _, _>::distinct(rt.alloc())?;
+    assert!(rt; vector.is_distinct() && !vector.clone()?.is_distinct());
+    Ok(())
+}
