@@ -368,7 +368,7 @@ where
         values: I,
     ) -> Result<Self, AllocError>
         requires ends { (s : I.IntoIter) → I.into_iter_gives values s → I.IntoIter.can_next s × IsFinite (I.IntoIter.remaining s) }
-        ensures collects { IfOk result (λ m. (s : I.IntoIter) × (xs : List T) × I.into_iter_gives values s × Drains I.IntoIter.next_gives s xs × SetCollects T.target T.shown T.finds [] xs m) }
+        ensures collects { IfOk result (λ m. (s : I.IntoIter) × (xs : List T) × I.into_iter_gives values s × Drains I.IntoIter.next_gives s xs × SetCollects T.Borrow.eq T.target T.shown T.finds xs m) }
     {
         let mut set = FrozenIndexSet::with_hasher(alloc, arena, hash_builder);
         for value in values {
