@@ -1,11 +1,11 @@
 -- What stays of a content that grows, and what one insertion leaves.
-use Rattle.std.proofs.Common.{◌≡◌, ℕ, ◌+◌, Bool, true, false, true≢false, List, [], ◌∷◌, ◌++◌, length, position, slice_get, refl, sym, ap, ◌∙◌, append-nil, arith, Option, None, Some, MatchOption, ◌↔◌, IsPermutation}
+use Rattle.std.proofs.Common.{◌≡◌, ℕ, Bool, true, false, List, [], ◌∷◌, ◌++◌, length, position, slice_get, refl, sym, ap, ◌∙◌, append-nil, arith, Option, None, Some, MatchOption, IsPermutation}
 use Rattle.std.specs.Cmp.{IsEquivalence}
 use Rattle.std.specs.List.{IsDistinct}
 use Rattle.std.specs.Map.{keys_of, lookup}
 use Rattle.std.specs.Option.{option_eq}
 use Rattle.std.proofs.lemmas.Grind.{common_steps}
-use Rattle.std.proofs.lemmas.List.{length-append, length-map, length_push, map-append}
+use Rattle.std.proofs.lemmas.List.{length-append, length-map, map-append}
 use Rattle.std.proofs.lemmas.List.Folds.{prefix_len-append}
 use Rattle.std.proofs.lemmas.List.Sorted.{list_any-IsPermutation}
 use Rattle.indexmap.proofs.MapLemmas.{lookup_permutation}
@@ -41,22 +41,6 @@ module _ {K V T B : Type 0} (eq : K → K → Bool) (laws : IsEquivalence eq) (t
       by : (o : Option ℕ) → place_of eq es k ≡ o → MatchOption o ((i ≡ length es) × (shown b ≡ target v) × (fs ≡ es ++ (k, b) ∷ [])) (λ j. (i ≡ j) × (value_of eq es k ≡ Some b) × (fs ≡ es)) → place_of eq fs k ≡ Some i
       by None at g = ap (λ l. place_of eq l k) g.2 ∙ ap (position (eq k)) (map-append (λ p. p.0) es ((k, b) ∷ [])) ∙ place_of_last (eq k) (keys_of es) k at (laws.refl k) ∙ ap Some (length-map es (λ p. p.0) ∙ sym g.0)
       by (Some j) at g = ap (λ l. place_of eq l k) g.2 ∙ at ∙ ap Some (sym g.0)
-
-  -- an insertion that finds the key changes nothing, and says so
-  pub found_again : (es : List (K × B)) (k : K) (v : V) (i : ℕ) (b : B) (new : Bool) (fs : List (K × B)) (j : ℕ) → InsertedNew eq target shown es k v i b new fs → place_of eq es k ≡ Some j → (new ≡ false) × (fs ≡ es)
-  found_again es k v i b new fs j h at = by (place_of eq es k) at h
-    where
-      by : (o : Option ℕ) → o ≡ Some j → MatchOption o ((i ≡ length es) × (shown b ≡ target v) × (new ≡ true) × (fs ≡ es ++ (k, b) ∷ [])) (λ n. (i ≡ n) × (value_of eq es k ≡ Some b) × (new ≡ false) × (fs ≡ es)) → (new ≡ false) × (fs ≡ es)
-      by None e g = absurd (cc)
-      by (Some n) e g = (g.2, g.3)
-
-  -- the flag says whether the content grew by one
-  pub flag_says : (es : List (K × B)) (k : K) (v : V) (i : ℕ) (b : B) (new : Bool) (fs : List (K × B)) → InsertedNew eq target shown es k v i b new fs → (new ≡ true) ↔ (length fs ≡ length es + 1)
-  flag_says es k v i b new fs h = by (place_of eq es k) h
-    where
-      by : (o : Option ℕ) → MatchOption o ((i ≡ length es) × (shown b ≡ target v) × (new ≡ true) × (fs ≡ es ++ (k, b) ∷ [])) (λ n. (i ≡ n) × (value_of eq es k ≡ Some b) × (new ≡ false) × (fs ≡ es)) → (new ≡ true) ↔ (length fs ≡ length es + 1)
-      by None g = (λ yes. ap length g.3 ∙ length_push es (k, b), λ longer. g.2)
-      by (Some n) g = (λ yes. absurd (true≢false (sym yes ∙ g.2)), λ longer. absurd (let same = ap length g.3 in omega arith))
 
   -- and the key stands somewhere afterwards
   pub place_inserted_new : (es : List (K × B)) (k : K) (v : V) (i : ℕ) (b : B) (new : Bool) (fs : List (K × B)) → InsertedNew eq target shown es k v i b new fs → place_of eq fs k ≡ Some i

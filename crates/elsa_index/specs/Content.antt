@@ -1,6 +1,6 @@
 -- The content of an index form: a list of values, or of pairs, in the order of their first insertions.
 -- What an insertion may leave is stated by cases on the place of an equal key in that list alone: no table or arena occurs.
-use Rattle.std.specs.Prelude.{◌≡◌, ℕ, Bool, true, false, List, [], ◌∷◌, ◌++◌, length, position, reverse, slice_get, Option, Some, MatchOption, IsTrue, if◌then◌else◌}
+use Rattle.std.specs.Prelude.{◌≡◌, ℕ, Bool, true, false, List, [], ◌∷◌, ◌++◌, length, map, position, reverse, slice_get, All, Option, Some, MatchOption, IsTrue, if◌then◌else◌}
 use Rattle.std.specs.List.{list_any, AllZip}
 use Rattle.std.specs.Map.{keys_of, lookup}
 
@@ -48,19 +48,19 @@ module _ {B V T : Type 0} (target : V → T) (shown : B → T) (finds : V → B 
       ((i ≡ length bs) × (shown b ≡ target v) × (cs ≡ bs ++ b ∷ []))
       (λ j. (i ≡ j) × (slice_get bs i ≡ Some b) × (cs ≡ bs))
 
-  -- from bs, each of the values that finds nothing yet goes last, and the others leave nothing
-  abbrev pub SetCollects : List B → List V → List B → Type 0
-  SetCollects bs [] cs = cs ≡ bs
-  SetCollects bs (v ∷ vs) cs = MatchOption (position (finds v) bs)
-      ((b : B) × (shown b ≡ target v) × SetCollects (bs ++ b ∷ []) vs cs)
-      (λ i. SetCollects bs vs cs)
-
 -- Of items that come one after the other, those that come with a new key.
 module _ {X K : Type 0} (eq : K → K → Bool) (key : X → K) where
   -- the items whose key equals no key of `before` and of no earlier item
   abbrev pub first_of_each : List K → List X → List X
   first_of_each before [] = []
   first_of_each before (x ∷ xs) = (if list_any (eq (key x)) before then [] else x ∷ []) ++ first_of_each (before ++ key x ∷ []) xs
+
+-- What a set collects from values: the first of equal ones stays.
+module _ {B V T : Type 0} (eq : B → B → Bool) (target : V → T) (shown : B → T) (finds : V → B → Bool) where
+  -- each of the values finds what is stored for it, and the set has the first of each of these, which shows its own value's target
+  abbrev pub SetCollects : List V → List B → Type 0
+  SetCollects vs cs = (ps : List (V × B)) × (map (λ p. p.0) ps ≡ vs) × All (λ p. IsTrue (finds p.0 p.1)) ps
+      × (cs ≡ map (λ p. p.1) (first_of_each eq (λ p. p.1) [] ps)) × All (λ p. shown p.1 ≡ target p.0) (first_of_each eq (λ p. p.1) [] ps)
 
 -- What a map collects from pairs. It is no run of insertions: there the first value of a key stays, here the last wins.
 module _ {K B : Type 0} (eq : K → K → Bool) where

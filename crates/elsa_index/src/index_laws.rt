@@ -1,12 +1,11 @@
 //! What users may rely on across calls: each law is the contract of a function that makes the calls.
-ghost use Rattle.std.specs.Prelude.{◌≡◌, ◌+◌, ◌↔◌, ℕ, List, Some, false, length, position, IfOk, OnErr, IsPermutation, IsTrue};
+ghost use Rattle.std.specs.Prelude.{◌≡◌, ◌+◌, ◌↔◌, ℕ, All, List, None, Some, false, true, if◌then◌else◌, length, position, slice_get, IfOk, IsSome, OnErr, IsPermutation, IsTrue};
 ghost use Rattle.elsa_index.specs.Equality.{same_map, same_set};
-ghost use Rattle.elsa_index.specs.Content.{place_of, Grows, Inserted, SetInserted, IsCloneOf};
+ghost use Rattle.elsa_index.specs.Content.{place_of, value_of, Grows, Inserted, SetInserted, IsCloneOf};
 
 use crate::index_map::FrozenIndexMap;
 use crate::index_set::FrozenIndexSet;
 use crate::look_up::LookUp;
-use bumpalo::Bump;
 use elsa_once::stable::StableDeref;
 use std::alloc::{AllocError, Allocator};
 use std::hash::{BuildHasher, Hash};
@@ -35,49 +34,60 @@ pub fn insert_both<
     Ok((place, next))
 }
 
-/// Two insertions of one key, and whether each found it new.
-///
-/// A key is new at most once, and exactly where the map grows by one pair.
-pub fn insert_twice<
+/// An insertion, accepted or refused, keeps each earlier pair at its place; the key has the returned place and value afterwards, and
+/// the flag is true exactly where the key was new and the map grows by one pair.
+pub fn keeps_earlier_pairs<
     'a,
-    K: Eq + Hash + Copy,
+    K: Eq + Hash + Drop,
     V: StableDeref<'a>,
     S: BuildHasher,
     A: Allocator + Copy,
 >(
     map: &mut FrozenIndexMap<'a, K, V, S, A>,
     key: K,
-    first: V,
-    second: V,
-) -> Result<(bool, bool), AllocError>
-    ensures once { IfOk result (λ r. r.1 ≡ false) }
-    ensures where_it_grew { IfOk result (λ r. IsTrue r.0 ↔ (length map.new ≡ length map.old + 1)) }
+    value: V,
+) -> Result<(usize, V::Borrow, bool), AllocError>
+    ensures kept { Grows map.old map.new }
+    ensures there { IfOk result (λ r. value_of K.eq map.new key ≡ Some r.1) }
+    ensures there_at { IfOk result (λ r. place_of K.eq map.new key ≡ Some r.0) }
+    ensures flag { IfOk result (λ r. IsTrue r.2 ↔ (place_of K.eq map.old key ≡ None)) }
+    ensures grows { IfOk result (λ r. length map.new ≡ length map.old + (if r.2 then 1 else 0)) }
+    ensures refused { OnErr result (map.new ≡ map.old) }
 {
-    let (_, new) = map.insert_new(key, first)?;
-    let (_, again) = map.insert_new(key, second)?;
-    Ok((new, again))
+    map.insert_full_new(key, value)
 }
 
-/// The map, taken apart and made again: its content is the same.
-pub fn remade<'a, K: Eq + Hash, V: StableDeref<'a>, S: BuildHasher, A: Allocator + Copy>(
-    arena: &'a Bump,
-    map: FrozenIndexMap<'a, K, V, S, A>,
-) -> FrozenIndexMap<'a, K, V, S, A>
-    ensures { result ≡ map.entry }
+/// Of two insertions of equal keys the second is told that the key wasn't new, and returns the first one's place and value,
+/// whatever is inserted between them, all of which the map then has: in one epoch a key is new at most once.
+pub fn is_new_once<
+    'a,
+    K: Eq + Hash + Drop,
+    V: StableDeref<'a>,
+    S: BuildHasher,
+    A: Allocator + Copy,
+>(
+    map: &mut FrozenIndexMap<'a, K, V, S, A>,
+    first: (K, V),
+    between: Vec<(K, V)>,
+    again: (K, V),
+) -> Result<((usize, V::Borrow, bool), (usize, V::Borrow, bool)), AllocError>
+    requires equal { K.eq first.0 again.0 ≡ true }
+    ensures first { IfOk result (λ r. IsTrue r.0.2 ↔ (place_of K.eq map.old first.0 ≡ None)) }
+    ensures once { IfOk result (λ r. r.1 ≡ (r.0.0, r.0.1, false)) }
+    ensures there { IfOk result (λ r. value_of K.eq map.new first.0 ≡ Some r.0.1) }
+    ensures there_at { IfOk result (λ r. place_of K.eq map.new first.0 ≡ Some r.0.0) }
+    ensures between { IfOk result (λ _. All (λ pair. IsSome (place_of K.eq map.new pair.0)) between.items) }
+    ensures kept { Grows map.old map.new }
 {
-    FrozenIndexMap::from_map(arena, map.into_map())
-}
-
-/// The set, taken apart and made again: its content is the same.
-pub fn set_remade<'a, T: StableDeref<'a>, S: BuildHasher, A: Allocator + Copy>(
-    arena: &'a Bump,
-    set: FrozenIndexSet<'a, T, S, A>,
-) -> FrozenIndexSet<'a, T, S, A>
-where
-    <T as StableDeref<'a>>::Borrow: Eq + Hash,
-    ensures { result ≡ set.entry }
-{
-    FrozenIndexSet::from_set(arena, set.into_set())
+    let (first_key, first_value) = first;
+    let before = keeps_earlier_pairs(map, first_key, first_value)?;
+    for pair in between {
+        let (key, value) = pair;
+        keeps_earlier_pairs(map, key, value)?;
+    }
+    let (again_key, again_value) = again;
+    let after = keeps_earlier_pairs(map, again_key, again_value)?;
+    Ok((before, after))
 }
 
 /// A clone with one more pair, made after the source got a pair of its own: neither insertion is seen by the other map.
@@ -149,4 +159,55 @@ where
     let (place, _) = set.insert_full(first)?;
     let (next, _) = set.insert_full(second)?;
     Ok((place, next))
+}
+
+/// An insertion into a set, accepted or refused, keeps each earlier value at its place; the value has the returned place and
+/// borrow afterwards, and the flag is true exactly where it was new and the set grows by one value.
+pub fn set_keeps_earlier_values<
+    'a,
+    T: StableDeref<'a> + LookUp<<T as StableDeref<'a>>::Borrow>,
+    S: BuildHasher,
+    A: Allocator + Copy,
+>(set: &mut FrozenIndexSet<'a, T, S, A>, value: T) -> Result<(usize, T::Borrow, bool), AllocError>
+where
+    <T as StableDeref<'a>>::Borrow: Eq + Hash,
+    ensures kept { Grows set.old set.new }
+    ensures there { IfOk result (λ r. slice_get set.new r.0 ≡ Some r.1) }
+    ensures there_at { IfOk result (λ r. position (T.finds value) set.new ≡ Some r.0) }
+    ensures flag { IfOk result (λ r. IsTrue r.2 ↔ (position (T.finds value) set.old ≡ None)) }
+    ensures grows { IfOk result (λ r. length set.new ≡ length set.old + (if r.2 then 1 else 0)) }
+    ensures refused { OnErr result (set.new ≡ set.old) }
+{
+    set.insert_full_new(value)
+}
+
+/// Of two insertions of equal values into a set the second is told that its value wasn't new, and returns the first one's place and
+/// borrow, whatever is inserted between them, all of which the set then has: in one epoch a value is new at most once.
+pub fn set_is_new_once<
+    'a,
+    T: StableDeref<'a> + LookUp<<T as StableDeref<'a>>::Borrow>,
+    S: BuildHasher,
+    A: Allocator + Copy,
+>(
+    set: &mut FrozenIndexSet<'a, T, S, A>,
+    first: T,
+    between: Vec<T>,
+    again: T,
+) -> Result<((usize, T::Borrow, bool), (usize, T::Borrow, bool)), AllocError>
+where
+    <T as StableDeref<'a>>::Borrow: Eq + Hash,
+    requires equal { (b : T.Borrow) → T.finds again b ≡ T.finds first b }
+    ensures first { IfOk result (λ r. IsTrue r.0.2 ↔ (position (T.finds first) set.old ≡ None)) }
+    ensures once { IfOk result (λ r. r.1 ≡ (r.0.0, r.0.1, false)) }
+    ensures there { IfOk result (λ r. slice_get set.new r.0.0 ≡ Some r.0.1) }
+    ensures there_at { IfOk result (λ r. position (T.finds first) set.new ≡ Some r.0.0) }
+    ensures between { IfOk result (λ _. All (λ value. IsSome (position (T.finds value) set.new)) between.items) }
+    ensures kept { Grows set.old set.new }
+{
+    let before = set_keeps_earlier_values(set, first)?;
+    for value in between {
+        set_keeps_earlier_values(set, value)?;
+    }
+    let last = set_keeps_earlier_values(set, again)?;
+    Ok((before, last))
 }

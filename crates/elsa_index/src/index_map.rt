@@ -12,6 +12,8 @@ ghost use Rattle.std.specs.List.{IsDistinct};
 ghost use Rattle.std.specs.Map.{keys_of, lookup, values_of};
 ghost use Rattle.std.specs.Map.Iter.{ShowsInOrder, ShowsInReverse, deref, deref_pair};
 ghost use Rattle.std.specs.Option.{option_map, ForSome};
+ghost use Rattle.std.specs.Str.{bytes_eq};
+ghost use Rattle.std.specs.String.{string_bytes};
 ghost use Rattle.indexmap.specs.IndexMap.{insert_entry};
 ghost use Rattle.elsa_index.specs.Content.{place_of, value_of, Inserted, InsertedNew, IsCloneOf, CollectsTargets};
 ghost use Rattle.elsa_index.specs.Equality.{as_map, same_map, AgreeAtEachKey};
@@ -21,6 +23,7 @@ use elsa_once::stable::StableDeref;
 use indexmap::IndexMap;
 use indexmap::map::{Entry, Iter, Keys, Values};
 use std::alloc::{AllocError, Allocator, Global};
+use std::fmt::{self, Debug, Formatter, Write};
 use std::hash::{BuildHasher, BuildHasherDefault, FoldHasher, Hash};
 use std::marker::{Model, PhantomData};
 use std::ops::Index;
@@ -395,6 +398,25 @@ impl<'a, V: StableDeref<'a>, S: BuildHasher, A: Allocator + Copy> FrozenIndexMap
     }
 }
 
+impl<'a, B: Allocator, V: StableDeref<'a>, S: BuildHasher, A: Allocator + Copy> FrozenIndexMap<
+    'a,
+    String<B>,
+    V,
+    S,
+    A,
+> {
+    /// The value of the key that reads as `key` does, `None` exactly if there is none: [`get`](FrozenIndexMap::get) without a
+    /// `String`.
+    ///
+    /// It takes no memory. `O(1)`: one hash.
+    pub fn get_text(&self, key: &str) -> Option<V::Borrow>
+        ensures { result ≡ lookup (λ k. bytes_eq key.now (string_bytes k)) self.now }
+    {
+        let value = self.map.get(key)?;
+        Some(*value)
+    }
+}
+
 impl<
     'a,
     K: Eq + Hash + Drop,
@@ -517,6 +539,17 @@ impl<'a, 'q, K: Eq + Hash, V: StableDeref<'a>, S: BuildHasher, A: Allocator + Co
     // The value at this key. The caller makes sure that the key is present.
     fn index(&self, key: &'q K) -> &V::Borrow {
         self.map.get(key).unwrap()
+    }
+}
+
+/// `{:?}` writes the pairs, in the order of their first insertions, as of an `IndexMap`: `{"y": 1, "x": 2}`.
+impl<'a, K: Eq + Hash + Debug, V: StableDeref<'a>, S: BuildHasher, A: Allocator + Copy> Debug
+    for FrozenIndexMap<'a, K, V, S, A>
+where
+    <V as StableDeref<'a>>::Borrow: Debug,
+{
+    fn fmt<W: Write>(&self, f: &mut Formatter<W>) -> fmt::Result {
+        self.map.fmt(f)
     }
 }
 

@@ -15,6 +15,7 @@ use elsa_once::stable::StableDeref;
 use indexmap::IndexSet;
 use indexmap::set::Iter;
 use std::alloc::{AllocError, Allocator, Global};
+use std::fmt::{self, Debug, Formatter, Write};
 use std::hash::{BuildHasher, BuildHasherDefault, FoldHasher, Hash};
 use std::marker::{Model, PhantomData};
 use std::ops::Index;
@@ -367,7 +368,7 @@ where
         values: I,
     ) -> Result<Self, AllocError>
         requires ends { (s : I.IntoIter) → I.into_iter_gives values s → I.IntoIter.can_next s × IsFinite (I.IntoIter.remaining s) }
-        ensures collects { IfOk result (λ m. (s : I.IntoIter) × (xs : List T) × I.into_iter_gives values s × Drains I.IntoIter.next_gives s xs × SetCollects T.target T.shown T.finds [] xs m) }
+        ensures collects { IfOk result (λ m. (s : I.IntoIter) × (xs : List T) × I.into_iter_gives values s × Drains I.IntoIter.next_gives s xs × SetCollects T.Borrow.eq T.target T.shown T.finds xs m) }
     {
         let mut set = FrozenIndexSet::with_hasher(alloc, arena, hash_builder);
         for value in values {
@@ -419,6 +420,17 @@ where
     // The value at this place. The caller makes sure that the place exists.
     fn index(&self, index: usize) -> &T::Borrow {
         &self.set[index]
+    }
+}
+
+/// `{:?}` writes the values, in the order of their first insertions, as of an `IndexSet`: `{"y", "x"}`.
+impl<'a, T: StableDeref<'a>, S: BuildHasher, A: Allocator + Copy> Debug
+    for FrozenIndexSet<'a, T, S, A>
+where
+    <T as StableDeref<'a>>::Borrow: Eq + Hash + Debug,
+{
+    fn fmt<W: Write>(&self, f: &mut Formatter<W>) -> fmt::Result {
+        self.set.fmt(f)
     }
 }
 

@@ -2,8 +2,8 @@
 use crate::odd_keys::{Fold, SameHash};
 use bumpalo::Bump;
 use elsa_index::index_laws::{
-    are_equal, clone_and_part, insert_both, insert_twice, remade, set_insert_both, set_remade,
-    sets_are_equal,
+    are_equal, clone_and_part, insert_both, is_new_once, keeps_earlier_pairs, set_insert_both,
+    set_is_new_once, set_keeps_earlier_values, sets_are_equal,
 };
 use elsa_index::index_map::FrozenIndexMap;
 use elsa_index::index_set::FrozenIndexSet;
@@ -111,7 +111,7 @@ fn insertions_into_a_clone_leave_its_source(rt: HostRuntime) -> Result<(), Fail>
     let arena = Bump::new(rt.alloc());
     let mut map = collected(rt.alloc(), &arena, &[(1, "a")])?;
     let copy = clone_and_part(&mut map, (2, "b"), (3, "c"))?;
-    let kept = pairs_of(&remade(&arena, copy));
+    let kept = pairs_of(&FrozenIndexMap::from_map(&arena, copy.into_map()));
     assert!(rt; kept == [Some((1, "a")), Some((3, "c")), None]);
     assert!(rt; pairs_of(&map) == [Some((1, "a")), Some((2, "b")), None]);
     map.as_mut().clear();
@@ -353,7 +353,7 @@ fn made_again<'a>(
     let mut copy = set.clone()?;
     let (_, new) = copy.insert_new(String::from_str(alloc, "c")?)?;
     let differs = copy != *set;
-    let again = set_remade(arena, copy);
+    let again: Set<'a> = FrozenIndexSet::from_set(arena, copy.into_set());
     Ok((new, differs, again.get_index_of(&"c")))
 }
 
@@ -397,15 +397,35 @@ fn forms_of_values(rt: HostRuntime) -> Result<(), Fail> {
 fn laws_of_a_map(alloc: Global, arena: &Bump) -> Result<bool, AllocError> {
     let mut map: Texts<'_> = FrozenIndexMap::new(alloc, arena);
     let places = insert_both(&mut map, (5, "a"), (4, "b"))?;
-    let news = insert_twice(&mut map, 6, "c", "d")?;
-    Ok(places == (0, 1) && news == (true, false) && map.get(&6) == Some("c"))
+    let (first, again) = is_new_once(
+        &mut map,
+        (6, "c"),
+        vec![in alloc; (7, "e"), (5, "z")]?,
+        (6, "d"),
+    )?;
+    let last = keeps_earlier_pairs(&mut map, 7, "z")?;
+    Ok(
+        places == (0, 1)
+            && first == (2, "c", true)
+            && again == (2, "c", false)
+            && last == (3, "e", false),
+    )
 }
 
 fn laws_of_a_set(alloc: Global, arena: &Bump) -> Result<bool, AllocError> {
     let mut set: Set<'_> = FrozenIndexSet::new(alloc, arena);
     let a = String::from_str(alloc, "a")?;
     let places = set_insert_both(&mut set, a, String::from_str(alloc, "b")?)?;
-    Ok(places == (0, 1))
+    let between = vec![in alloc; String::from_str(alloc, "d")?]?;
+    let c = String::from_str(alloc, "c")?;
+    let (first, again) = set_is_new_once(&mut set, c, between, String::from_str(alloc, "c")?)?;
+    let last = set_keeps_earlier_values(&mut set, String::from_str(alloc, "d")?)?;
+    Ok(
+        places == (0, 1)
+            && first == (2, "c", true)
+            && again == (2, "c", false)
+            && last == (3, "d", false),
+    )
 }
 
 #[test]

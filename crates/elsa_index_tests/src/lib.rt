@@ -17,6 +17,8 @@ pub mod odd_keys;
 #[cfg(test)]
 mod parsed_cache_tests;
 #[cfg(test)]
+mod printed;
+#[cfg(test)]
 mod run_map_tests;
 #[cfg(test)]
 mod run_vec_tests;

@@ -1,12 +1,10 @@
 //! Files that stay loaded: each path's text is loaded once, and what is made of it is kept.
 //!
 //! It stands on the contract of `FrozenMap` alone: the first value of a key stays.
-ghost use Rattle.std.specs.Prelude.{◌≡◌, [], List, ℕ, Bool, true, false, None, Some, IfOk, OnErr};
+ghost use Rattle.std.specs.Prelude.{◌≡◌, ◌⊎◌, [], List, ℕ, None, Some, Ok, Err, IfOk, OnErr};
 ghost use Rattle.std.specs.Borrow.{Bor};
-ghost use Rattle.std.specs.Fn.{FnOnceReturnsAt};
-ghost use Rattle.std.specs.String.{string_bytes};
-ghost use Rattle.elsa_once.specs.FirstWins.{Adds, Keeps, value_at};
-ghost use Rattle.elsa_interner.specs.Cached.{Cached, first_character};
+ghost use Rattle.std.specs.Fn.{FnOnceTakesAt};
+ghost use Rattle.elsa_interner.specs.Cached.{BeginsText, Cached, FailsToLoad, KeepsOthers, LoadsText, first_character, resource_at, text_at};
 
 pub use crate::parsed_cache::{CacheFault, ParsedCache};
 use bumpalo::Bump;
@@ -100,14 +98,15 @@ impl<'a, A: Allocator + Copy> ResourceCache<'a, A> {
     ) -> Result<&'a str, LoadFault>
     where
         F: Drop,
-        requires loader { value_at ⟦<&'a str as PartialEq>⟧.eq self.old.texts path ≡ None → F.IsAlwaysCallable load }
-        ensures there { (t : Bor (List ℕ)) → value_at ⟦<&'a str as PartialEq>⟧.eq self.old.texts path.entry ≡ Some t → (result ≡ Ok t) × (self.new ≡ self.old) }
-        ensures loaded { value_at ⟦<&'a str as PartialEq>⟧.eq self.old.texts path.entry ≡ None → IfOk result (λ t. (s : _) × FnOnceReturnsAt F.FnOnce load path.entry.now (Ok s) × (t.now ≡ string_bytes s)) }
-        ensures added { value_at ⟦<&'a str as PartialEq>⟧.eq self.old.texts path.entry ≡ None → IfOk result (λ t. Adds ⟦<&'a str as PartialEq>⟧.eq (value_at ⟦<&'a str as PartialEq>⟧.eq self.old.texts) (value_at ⟦<&'a str as PartialEq>⟧.eq self.new.texts) path.entry t) }
+        requires loader { text_at ⟦<&'a str as PartialEq>⟧.eq self.old path ≡ None → FnOnceTakesAt F.FnOnce load path.now }
+        ensures there { (t : Bor (List ℕ)) → text_at ⟦<&'a str as PartialEq>⟧.eq self.old path.entry ≡ Some t → (result ≡ Ok t) × (self.new ≡ self.old) }
+        ensures stays { IfOk result (λ t. text_at ⟦<&'a str as PartialEq>⟧.eq self.new path.entry ≡ Some t) }
+        ensures loaded { (t : Bor (List ℕ)) → text_at ⟦<&'a str as PartialEq>⟧.eq self.old path.entry ≡ None → text_at ⟦<&'a str as PartialEq>⟧.eq self.new path.entry ≡ Some t → LoadsText F.FnOnce load path.entry t.now }
+        ensures others { KeepsOthers ⟦<&'a str as PartialEq>⟧.eq self.old self.new path.entry }
         ensures resources { self.new.resources ≡ self.old.resources }
-        ensures others { (q : Bor (List ℕ)) → ⟦<&'a str as PartialEq>⟧.eq path.entry q ≡ false → value_at ⟦<&'a str as PartialEq>⟧.eq self.new.texts q ≡ value_at ⟦<&'a str as PartialEq>⟧.eq self.old.texts q }
-        ensures refused { OnErr result (self.new ≡ self.old) }
-        ensures not_found { result ≡ Err LoadFault.NotFound → FnOnceReturnsAt F.FnOnce load path.entry.now (Err LoadFault.NotFound) }
+        ensures refused { OnErr result ((self.new ≡ self.old) × (text_at ⟦<&'a str as PartialEq>⟧.eq self.old path.entry ≡ None)) }
+        ensures not_found { result ≡ Err LoadFault.NotFound → FailsToLoad F.FnOnce load path.entry LoadFault.NotFound }
+        ensures no_memory { result ≡ Err LoadFault.Memory → FailsToLoad F.FnOnce load path.entry LoadFault.Memory ⊎ ((b : List ℕ) × LoadsText F.FnOnce load path.entry b) }
     {
         if let Some(text) = self.texts.get(&path) {
             return Ok(text);
@@ -131,16 +130,21 @@ impl<'a, A: Allocator + Copy> ResourceCache<'a, A> {
     ) -> Result<&'a Resource<'a>, LoadFault>
     where
         F: Drop,
-        requires loader { value_at ⟦<&'a str as PartialEq>⟧.eq self.old.resources path ≡ None → value_at ⟦<&'a str as PartialEq>⟧.eq self.old.texts path ≡ None → F.IsAlwaysCallable load }
-        ensures present { (r : _) → value_at ⟦<&'a str as PartialEq>⟧.eq self.old.resources path.entry ≡ Some r → (result ≡ Ok r) × (self.new ≡ self.old) }
-        ensures parsed { (t : Bor (List ℕ)) → value_at ⟦<&'a str as PartialEq>⟧.eq self.old.resources path.entry ≡ None → value_at ⟦<&'a str as PartialEq>⟧.eq self.old.texts path.entry ≡ Some t → IfOk result (λ r. r.now.first.now ≡ first_character t.now) }
-        ensures loaded { value_at ⟦<&'a str as PartialEq>⟧.eq self.old.resources path.entry ≡ None → value_at ⟦<&'a str as PartialEq>⟧.eq self.old.texts path.entry ≡ None → IfOk result (λ r. (s : _) × FnOnceReturnsAt F.FnOnce load path.entry.now (Ok s) × (r.now.first.now ≡ first_character (string_bytes s))) }
-        ensures stays { IfOk result (λ r. value_at ⟦<&'a str as PartialEq>⟧.eq self.new.resources path.entry ≡ Some r) }
-        ensures text_stays { (t : Bor (List ℕ)) → value_at ⟦<&'a str as PartialEq>⟧.eq self.old.texts path.entry ≡ Some t → value_at ⟦<&'a str as PartialEq>⟧.eq self.new.texts path.entry ≡ Some t }
-        ensures other_texts { (q : Bor (List ℕ)) → ⟦<&'a str as PartialEq>⟧.eq path.entry q ≡ false → value_at ⟦<&'a str as PartialEq>⟧.eq self.new.texts q ≡ value_at ⟦<&'a str as PartialEq>⟧.eq self.old.texts q }
-        ensures other_resources { (q : Bor (List ℕ)) → ⟦<&'a str as PartialEq>⟧.eq path.entry q ≡ false → value_at ⟦<&'a str as PartialEq>⟧.eq self.new.resources q ≡ value_at ⟦<&'a str as PartialEq>⟧.eq self.old.resources q }
-        ensures not_found { result ≡ Err LoadFault.NotFound → (self.new ≡ self.old) × FnOnceReturnsAt F.FnOnce load path.entry.now (Err LoadFault.NotFound) }
+        requires loader { resource_at ⟦<&'a str as PartialEq>⟧.eq self.old path ≡ None → text_at ⟦<&'a str as PartialEq>⟧.eq self.old path ≡ None → FnOnceTakesAt F.FnOnce load path.now }
+
+        // A resource that is there is returned, and nothing changes. Else one is made of the path's text, and stays.
+        ensures present { (r : _) → resource_at ⟦<&'a str as PartialEq>⟧.eq self.old path.entry ≡ Some r → (result ≡ Ok r) × (self.new ≡ self.old) }
+        ensures made { resource_at ⟦<&'a str as PartialEq>⟧.eq self.old path.entry ≡ None → IfOk result (λ r. BeginsText (text_at ⟦<&'a str as PartialEq>⟧.eq self.new path.entry) r.now.first.now) }
+        ensures stays { IfOk result (λ r. resource_at ⟦<&'a str as PartialEq>⟧.eq self.new path.entry ≡ Some r) }
+
+        // Whatever the result: a text that the path gains is the loader's, and all else stays.
+        ensures loaded { (t : Bor (List ℕ)) → text_at ⟦<&'a str as PartialEq>⟧.eq self.old path.entry ≡ None → text_at ⟦<&'a str as PartialEq>⟧.eq self.new path.entry ≡ Some t → LoadsText F.FnOnce load path.entry t.now }
+        ensures others { KeepsOthers ⟦<&'a str as PartialEq>⟧.eq self.old self.new path.entry }
+
+        // A refusal leaves the resources, and `NotFound` all. Where the path has no text then, the loader said so, or its text found no room.
         ensures refused { OnErr result (self.new.resources ≡ self.old.resources) }
+        ensures not_found { result ≡ Err LoadFault.NotFound → (self.new ≡ self.old) × (text_at ⟦<&'a str as PartialEq>⟧.eq self.old path.entry ≡ None) × FailsToLoad F.FnOnce load path.entry LoadFault.NotFound }
+        ensures no_memory { result ≡ Err LoadFault.Memory → text_at ⟦<&'a str as PartialEq>⟧.eq self.new path.entry ≡ None → FailsToLoad F.FnOnce load path.entry LoadFault.Memory ⊎ ((b : List ℕ) × LoadsText F.FnOnce load path.entry b) }
     {
         if let Some(resource) = self.resources.get(&path) {
             return Ok(resource);

@@ -1,5 +1,5 @@
 //! An answer line for each line of the input.
-ghost use Rattle.std.specs.Prelude.{◌≡◌, ◌<◌, ◌^◌, ◌-◌, [], ◌∷◌, ◌++◌, ℕ, List, false, true, length, OnOk, OnErr, MatchOption};
+ghost use Rattle.std.specs.Prelude.{◌≡◌, ◌<◌, ◌^◌, ◌-◌, [], ◌∷◌, ◌++◌, ℕ, List, false, true, length, IsTrue, OnOk, OnErr, MatchOption};
 ghost use Rattle.elsa_interner.specs.Devices.{FailedOnce, AppendsSome, Queued};
 ghost use Rattle.elsa_interner.specs.Engine.{HasAnswered, HasAnsweredAll, HasAnsweredSome};
 ghost use Rattle.elsa_interner.specs.Feeding.{IsInside, IsSoFar, IsFinished, Feeds, FeedsSome, Ends, EndsSome};
@@ -110,10 +110,11 @@ impl<'a, S: BuildHasher, A: Allocator + Copy> Session<'a, S, A> {
         answer_to(&mut self.names, request_of_known(end))
     }
 
-    /// Keeps a piece of a line that goes on.
+    /// Keeps a piece of a line that goes on. The rest of a line that was refused memory isn't kept, and takes none.
     fn keep(&mut self, piece: &[u8])
         ensures line { (tail : List ℕ) → IsSoFar self.old.line.items self.old.skips tail → IsSoFar self.new.line.items self.new.skips (tail ++ piece.now) }
         ensures names { self.new.names ≡ self.old.names }
+        ensures skipping { IsTrue self.old.skips → self.new ≡ self.old }
     {
         if self.skips || piece.is_empty() {
             return;

@@ -16,6 +16,7 @@ use bumpalo::Bump;
 use elsa_index::index_set::FrozenIndexSet;
 use indexmap::set::Iter;
 use std::alloc::{AllocError, Allocator, Global};
+use std::fmt::{self, Debug, Formatter, Write};
 use std::hash::{BuildHasher, BuildHasherDefault, FoldHasher};
 use std::marker::Model;
 
@@ -146,5 +147,12 @@ impl<'a, S: BuildHasher, A: Allocator + Copy> Interner<'a, S, A> {
         let (place, _) = self.names.insert_absent_text(text)?;
         self.count = place + 1;
         Ok(place)
+    }
+}
+
+/// `{:?}` writes the names, in the order of their numbers, as of a `Vec` of them: `["x", "y"]`.
+impl<'a, S: BuildHasher, A: Allocator + Copy> Debug for Interner<'a, S, A> {
+    fn fmt<W: Write>(&self, f: &mut Formatter<W>) -> fmt::Result {
+        f.debug_list().entries(self.iter()).finish()
     }
 }

@@ -1,9 +1,9 @@
 -- A search by halves: what is known between two calls, and what a call adds.
-use Rattle.std.proofs.Common.{◌≡◌, ℕ, ◌+◌, ◌-◌, ◌*◌, ◌/◌, ◌<◌, ◌≤◌, ◌^◌, ◌⊎◌, inl, inr, List, [], ◌∷◌, Some, length, slice_get, get_or, arith, refl, suc, subst}
+use Rattle.std.proofs.Common.{◌≡◌, ℕ, ◌+◌, ◌-◌, ◌*◌, ◌/◌, ◌<◌, ◌≤◌, ◌^◌, ◌⊎◌, inl, inr, List, [], ◌∷◌, Some, length, slice_get, get_or, arith, refl, suc}
 use Rattle.std.proofs.Math.Nat.{pow-suc, mul-le-mul_left}
 use Rattle.std.proofs.Math.Pow.{pow_mono}
 use Rattle.std.proofs.lemmas.Option.{slice_get_read}
-use Rattle.elsa_once.specs.Search.{Call, MadeInTurn, IsUnasked, NoneTwice, Answered, IsWithinDigits, IsBetween, Searched}
+use Rattle.elsa_once.specs.Search.{Call, MadeInTurn, IsUnasked, NoneTwice, Answered, IsWithinDigits, Searched}
 
 -- each call was made outside the range
 abbrev pub AllOutside : {R : Type 0} → ℕ → ℕ → List (Call R) → Type 0

@@ -1,33 +1,18 @@
 //! What callers of `FrozenVec` may rely on beyond one call: each law is the contract of a function that only makes public calls.
-ghost use Rattle.std.specs.Prelude.{◌≡◌, ◌++◌, ◌⊎◌, Bool, List, IfOk, IfSome, IsTrue, None, OnErr, OnOk, Some, false, length, slice_get, true};
+ghost use Rattle.std.specs.Prelude.{◌≡◌, ◌++◌, ◌∷◌, [], ◌⊎◌, Bool, List, IfOk, IfSome, IsTrue, None, OnErr, OnOk, Some, false, length, slice_get, true};
 ghost use lib.Pointwise.{pointwise};
 ghost use Rattle.std.specs.Fn.{AlwaysReturns};
+ghost use Rattle.std.specs.Iterator.{Drains, IsFinite};
 ghost use Rattle.std.specs.List.Sorted.{IsBinarySearchResult, IsPartitionPoint, IsPartitionedBy};
 ghost use Rattle.std.specs.Ordering.{nat_cmp};
-ghost use Rattle.elsa_once.specs.Vec.{Gains};
+ghost use Rattle.elsa_once.specs.Vec.{Gains, GainsAll};
 
 use crate::stable::StableDeref;
 use crate::vec::{Cursor, FrozenVec};
-use bumpalo::Bump;
 use std::alloc::{AllocError, Allocator};
 use std::cmp::Ordering;
 
 // ---- content
-
-/// A vector that is taken apart and made again has the same content, and so has the inner vector between: it returns what
-/// was there at a place.
-pub fn made_again<'a, T: StableDeref<'a>, A: Allocator + Copy>(
-    arena: &'a Bump,
-    items: FrozenVec<'a, T, A>,
-    place: usize,
-) -> (Option<T::Borrow>, FrozenVec<'a, T, A>)
-    ensures between { result.0 ≡ slice_get items.entry place }
-    ensures again { result.1 ≡ items.entry }
-{
-    let inner = items.into_vec();
-    let between = inner.get(place).copied();
-    (between, FrozenVec::from_vec(arena, inner))
-}
 
 /// A push, accepted or refused, keeps the earlier content: it begins as before, and a place that had an item has the same one.
 pub fn looked_up_round_a_push<'a, T: StableDeref<'a>, A: Allocator + Copy>(
@@ -45,21 +30,25 @@ pub fn looked_up_round_a_push<'a, T: StableDeref<'a>, A: Allocator + Copy>(
     (before, pushed, items.get(place))
 }
 
-/// A borrow stays good after further pushes, which leave it at its place, and after the vector's end.
-pub fn outlives_its_vector<'a, T: StableDeref<'a>, A: Allocator + Copy>(
+/// A borrow stays good after further pushes, which leave it at its place, and after the vector's end, of which the inner one is left.
+pub fn outlives_its_vector<
+    'a,
+    T: StableDeref<'a>,
+    A: Allocator + Copy,
+    I: Iterator<Item = T> + Drop,
+>(
     mut items: FrozenVec<'a, T, A>,
     item: T,
-    further: T,
-) -> Result<(T::Borrow, Option<T::Borrow>), AllocError>
+    further: I,
+) -> Result<(T::Borrow, Vec<T::Borrow, A>), AllocError>
+    requires can { I.can_next further }
+    requires ends { IsFinite (I.remaining further) }
     ensures shows { IfOk result (λ r. T.shown r.0 ≡ T.target item) }
-    ensures stands { IfOk result (λ r. r.1 ≡ Some r.0) }
+    ensures left { IfOk result (λ r. (given : List T) × Drains I.next_gives further given × GainsAll T.target T.shown (items.entry ++ r.0 ∷ []) given r.1.items) }
 {
-    let place = items.len();
     let borrow = items.push_get(item)?;
-    items.push(further)?;
-    let later = items.get(place);
-    drop(items);
-    Ok((borrow, later))
+    items.extend(further)?;
+    Ok((borrow, items.into_vec()))
 }
 
 /// A clone and its source are independent of each other.

@@ -12,9 +12,9 @@ use std::test::Fail;
 fn pushes(alloc: Global, arena: &Bump) -> Result<bool, AllocError> {
     let mut texts: FrozenVec<'_, &str> = FrozenVec::new(alloc, arena);
     let (before, pushed, after) = looked_up_round_a_push(&mut texts, 0, "a");
-    let (borrow, later) = outlives_its_vector(texts, "b", "c")?;
+    let (borrow, left) = outlives_its_vector(texts, "b", ["c", "d"].into_iter())?;
     let is_kept = before.is_none() && pushed.is_ok() && after == Some("a");
-    Ok(is_kept && borrow == "b" && later == Some("b"))
+    Ok(is_kept && borrow == "b" && left.as_slice() == ["a", "b", "c", "d"].as_slice())
 }
 
 fn searches(alloc: Global, arena: &Bump) -> Result<bool, AllocError> {

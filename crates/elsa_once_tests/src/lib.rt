@@ -6,6 +6,8 @@ mod law_tests;
 #[cfg(test)]
 mod map_tests;
 #[cfg(test)]
+mod printed;
+#[cfg(test)]
 mod refusals;
 #[cfg(test)]
 mod search_tests;

@@ -6,8 +6,8 @@ ghost use Rattle.std.specs.Ordering.{eq_by_cmp};
 
 use bumpalo::Bump;
 use elsa_once::map::laws::{
-    hashed_equal_as_functions, hashed_inserted_apart, hashed_there_and_back,
-    ordered_equal_as_functions, ordered_inserted_apart, ordered_there_and_back,
+    hashed_equal_as_functions, hashed_inserted_apart, ordered_equal_as_functions,
+    ordered_inserted_apart,
 };
 use elsa_once::map::{FrozenBTreeMap, FrozenMap};
 use elsa_once::stable::Own;
@@ -180,8 +180,13 @@ fn parted<'a>(
     map.insert(1, "a")?;
     let equal = hashed_equal_as_functions(&map, &map.clone()?);
     let copy = hashed_inserted_apart(&mut map, (1, "c"), (2, "b"))?;
-    let (between, copy) = hashed_there_and_back(alloc, arena, copy, &2);
-    Ok((map, copy, equal && between == Some("b")))
+    let inner = copy.into_map();
+    let between = inner.get(&2).copied();
+    Ok((
+        map,
+        FrozenMap::from_map(alloc, arena, inner),
+        equal && between == Some("b"),
+    ))
 }
 
 // The value at a key by `[]`, if the key is there.
@@ -254,8 +259,10 @@ fn inner<'a>(
     arena: &'a Bump,
     map: &Based<'a>,
 ) -> Result<(Option<&'a str>, usize), AllocError> {
-    let (value, again) = ordered_there_and_back(alloc, arena, map.clone()?, &1);
-    Ok((value, again.into_map().len()))
+    let again = map.clone()?.into_map();
+    let value = again.get(&1).copied();
+    let again: Based<'a> = FrozenBTreeMap::from_map(alloc, arena, again);
+    Ok((value, again.len()))
 }
 
 #[test]

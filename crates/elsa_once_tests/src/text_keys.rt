@@ -192,3 +192,20 @@ fn a_text_that_is_there_takes_no_memory(rt: HostRuntime) -> Result<(), Fail> {
     assert!(rt; asks_nothing(&heap, &arena, ordered));
     Ok(())
 }
+
+/// Whether maps with `String` keys are asked by a text that isn't one of their keys' own.
+fn strings_are_found(alloc: Global, arena: &Bump) -> Result<bool, AllocError> {
+    let mut hashed: FrozenMap<'_, String, Own<u64>> = FrozenMap::new(alloc, arena);
+    let mut ordered: FrozenBTreeMap<'_, String, Own<u64>> = FrozenBTreeMap::new(alloc, arena);
+    hashed.insert(String::from_str(alloc, "a name")?, Own(7))?;
+    ordered.insert(String::from_str(alloc, "a name")?, Own(8))?;
+    let there = hashed.get_text("a name") == Some(&7) && ordered.get_text("a name") == Some(&8);
+    Ok(there && hashed.get_text("a nam").is_none() && ordered.get_text("").is_none())
+}
+
+#[test]
+fn a_map_of_strings_is_asked_by_a_text(rt: HostRuntime) -> Result<(), Fail> {
+    let arena = Bump::new(rt.alloc());
+    assert!(rt; strings_are_found(rt.alloc(), &arena)?);
+    Ok(())
+}

@@ -7,7 +7,7 @@ use bumpalo::Bump;
 use elsa_once::stable::Own;
 use elsa_once::vec::{Cursor, FrozenVec};
 use elsa_once::vec_laws::{
-    equal_both_ways, equal_through, equal_where_the_same, made_again, pushed_apart, read_on, walked,
+    equal_both_ways, equal_through, equal_where_the_same, pushed_apart, read_on, walked,
 };
 use std::alloc::{AllocError, Global};
 use std::cmp::Ordering;
@@ -135,7 +135,9 @@ fn parted_pair<'a>(
 
 // Taken apart and made again, and once more after the inner vector was cleared.
 fn taken_apart<'a>(arena: &'a Bump, texts: Texts<'a>) -> (usize, Option<&'a str>, bool) {
-    let (between, mut again) = made_again(arena, texts, 4);
+    let inner = texts.into_vec();
+    let between = inner.get(4).copied();
+    let mut again: Texts<'a> = FrozenVec::from_vec(arena, inner);
     let (count, is_last) = (again.len(), again.last() == between);
     again.as_mut().clear();
     (count, between, is_last && again.is_empty())

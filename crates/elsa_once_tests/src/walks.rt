@@ -113,6 +113,34 @@ fn an_extended_vector_has_its_items_and_then_the_iterator_s(rt: HostRuntime) -> 
     Ok(())
 }
 
+/// The numbers in the order of a walk from the back, and of one that takes from the back and the front by turns, as the digits of a number.
+fn from_the_back<'a>(numbers: &FrozenVec<'a, Own<u64>>) -> (u64, u64) {
+    let mut back = 0u64;
+    for number in numbers.iter().rev() {
+        back = back.wrapping_mul(10).wrapping_add(*number);
+    }
+    let mut turns = 0u64;
+    let mut walk = numbers.iter();
+    for _turn in 0..2 {
+        for number in [walk.next_back(), walk.next()] {
+            turns = turns
+                .wrapping_mul(10)
+                .wrapping_add(number.copied().unwrap_or(0));
+        }
+    }
+    (back, turns)
+}
+
+#[test]
+fn a_vector_is_walked_from_the_back_and_from_both_ends(rt: HostRuntime) -> Result<(), Fail> {
+    let arena = Bump::new(rt.alloc());
+    let mut numbers: FrozenVec<'_, Own<u64>> = FrozenVec::new(rt.alloc(), &arena);
+    numbers.extend([Own(1), Own(2), Own(3)].into_iter())?;
+    assert_eq!(rt; from_the_back(&numbers), (321, 3120));
+    assert_eq!(rt; numbers.iter().len(), 3);
+    Ok(())
+}
+
 const NUMBERS: [Own<u64>; 6] = [Own(1), Own(2), Own(3), Own(4), Own(5), Own(6)];
 
 /// Extends a vector whose table may grow once: whether that failed, and how many items it has then, and after one more push.

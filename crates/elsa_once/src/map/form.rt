@@ -1,6 +1,8 @@
 //! What both maps have in common.
 ghost use Rattle.std.specs.Prelude.{◌≡◌, ◌+◌, ◌↔◌, List, Bool, false, true, None, IfOk, IsTrue, OnErr, OnOk, Some, length};
 ghost use Rattle.std.specs.Cmp.{IsEquivalence};
+ghost use Rattle.std.specs.List.{IsDistinct};
+ghost use Rattle.std.specs.Map.{keys_of};
 ghost use Rattle.std.specs.Ordering.{eq_by_cmp};
 ghost use Rattle.elsa_once.specs.FirstWins.{Adds, value_at};
 
@@ -40,6 +42,7 @@ pub trait MapForm<'a> {
         value: Self::Value,
     ) -> Result<(<Self::Value as StableDeref<'a>>::Borrow, bool), AllocError>
         ensures present { (x : Self.Value.Borrow) → value_at same (entries self.old) key ≡ Some x → (result ≡ Ok (x, false)) × (entries self.new ≡ entries self.old) }
+        ensures stands { IfOk result (λ r. value_at same (entries self.new) key ≡ Some r.0) }
         ensures new_flag { value_at same (entries self.old) key ≡ None → IfOk result (λ r. r.1 ≡ true) }
         ensures new_target { value_at same (entries self.old) key ≡ None → IfOk result (λ r. Self.Value.shown r.0 ≡ Self.Value.target value) }
         ensures new_content { value_at same (entries self.old) key ≡ None → IfOk result (λ r. Adds same (value_at same (entries self.old)) (value_at same (entries self.new)) key r.0) }
@@ -54,6 +57,7 @@ pub trait MapForm<'a> {
         value: Self::Value,
     ) -> Result<<Self::Value as StableDeref<'a>>::Borrow, AllocError>
         ensures present { (x : Self.Value.Borrow) → value_at same (entries self.old) key ≡ Some x → (result ≡ Ok x) × (entries self.new ≡ entries self.old) }
+        ensures stands { IfOk result (λ b. value_at same (entries self.new) key ≡ Some b) }
         ensures new_target { value_at same (entries self.old) key ≡ None → IfOk result (λ b. Self.Value.shown b ≡ Self.Value.target value) }
         ensures new_content { value_at same (entries self.old) key ≡ None → IfOk result (λ b. Adds same (value_at same (entries self.old)) (value_at same (entries self.new)) key b) }
         ensures new_length { value_at same (entries self.old) key ≡ None → OnOk result (length (entries self.new) ≡ length (entries self.old) + 1) }
@@ -68,8 +72,9 @@ pub trait MapForm<'a> {
     fn len(&self) -> usize
         ensures count { result ≡ length (entries self.now) }
 
-        // What holds of every form: that two keys are one is an equivalence.
-        ensures equivalence { IsEquivalence same };
+        // What holds of every form: that two keys are one is an equivalence, and no two keys of the map are one.
+        ensures equivalence { IsEquivalence same }
+        ensures distinct { IsDistinct same (keys_of (entries self.now)) };
 
     /// Whether there are no entries.
     fn is_empty(&self) -> bool

@@ -4,9 +4,11 @@ ghost use Rattle.std.specs.Borrow.{sem};
 ghost use Rattle.std.specs.Iterator.{Drains, IsFinite};
 ghost use Rattle.std.specs.List.{IsDistinct};
 ghost use Rattle.std.specs.List.Sorted.{IsPermutation};
-ghost use Rattle.std.specs.Map.{keys_of, values_of};
+ghost use Rattle.std.specs.Map.{keys_of, lookup, values_of};
 ghost use Rattle.std.specs.Map.Iter.{ShowsInOrder, deref, deref_pair};
 ghost use Rattle.std.specs.Option.{ForSome};
+ghost use Rattle.std.specs.Str.{bytes_eq};
+ghost use Rattle.std.specs.String.{string_bytes};
 ghost use Rattle.elsa_once.specs.FirstWins.{Adds, HoldsLast, SameAt, entry_at, same_values, value_at};
 ghost use Rattle.elsa_once.specs.MapLent.{lends_entries};
 ghost use Rattle.elsa_once.specs.MapEquality.{same_values_equivalence, same_values_laws};
@@ -16,6 +18,7 @@ use bumpalo::Bump;
 use std::alloc::{AllocError, Allocator, Global};
 use std::collections::HashMap;
 use std::collections::hash_map::{Entry, Iter, Keys, Values};
+use std::fmt::{self, Debug, Formatter, Write};
 use std::hash::{BuildHasher, BuildHasherDefault, FoldHasher, Hash};
 use std::marker::{Model, PhantomData};
 use std::ops::Index;
@@ -305,6 +308,23 @@ impl<'a, V: StableDeref<'a>, S: BuildHasher, A: Allocator + Copy> FrozenMap<'a, 
     }
 }
 
+impl<'a, B: Allocator, V: StableDeref<'a>, S: BuildHasher, A: Allocator + Copy> FrozenMap<
+    'a,
+    String<B>,
+    V,
+    S,
+    A,
+> {
+    /// The value at the text `key`, or `None` exactly if no key of the map reads the same: [`get`](FrozenMap::get) without a `String`.
+    /// Takes no memory; one hash and one search.
+    pub fn get_text(&self, key: &str) -> Option<V::Borrow>
+        ensures { result ≡ lookup (λ k. bytes_eq key.now (string_bytes k)) self.now }
+    {
+        let value = self.entries.get(key)?;
+        Some(*value)
+    }
+}
+
 impl<
     'a,
     K: Eq + Hash + Drop,
@@ -393,6 +413,17 @@ impl<'a, 'q, K: Eq + Hash, V: StableDeref<'a>, S: BuildHasher, A: Allocator + Co
 
     fn index(&self, key: &'q K) -> &V::Borrow {
         self.entries.get(key).unwrap()
+    }
+}
+
+/// `{:?}` writes each entry once, in the order of [`iter`](FrozenMap::iter), as of a `HashMap`: `{"x": 1}`.
+impl<'a, K: Eq + Hash + Debug, V: StableDeref<'a>, S: BuildHasher, A: Allocator + Copy> Debug
+    for FrozenMap<'a, K, V, S, A>
+where
+    <V as StableDeref<'a>>::Borrow: Debug,
+{
+    fn fmt<W: Write>(&self, f: &mut Formatter<W>) -> fmt::Result {
+        self.entries.fmt(f)
     }
 }
 

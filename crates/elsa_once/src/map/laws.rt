@@ -8,7 +8,6 @@ ghost use Rattle.elsa_once.specs.FirstWins.{Inserts, Keeps, value_at};
 
 use super::{FrozenBTreeMap, FrozenMap, MapForm};
 use crate::stable::StableDeref;
-use bumpalo::Bump;
 use std::alloc::{AllocError, Allocator};
 use std::hash::{BuildHasher, Hash};
 
@@ -64,44 +63,6 @@ pub fn is_new_once<'a, M: MapForm<'a>>(
     let (again_key, again_value) = again;
     let after = map.insert_new(again_key, again_value)?;
     Ok((before, after))
-}
-
-/// A hashed map made of the inner map of another has its content, and so has the inner map between: it returns what `key`
-/// had there.
-pub fn hashed_there_and_back<
-    'a,
-    K: Eq + Hash,
-    V: StableDeref<'a>,
-    S: BuildHasher,
-    A: Allocator + Copy,
->(
-    alloc: A,
-    arena: &'a Bump,
-    map: FrozenMap<'a, K, V, S, A>,
-    key: &K,
-) -> (Option<V::Borrow>, FrozenMap<'a, K, V, S, A>)
-    ensures between { result.0 ≡ value_at K.eq map.entry key.now }
-    ensures again { result.1 ≡ map.entry }
-{
-    let inner = map.into_map();
-    let between = inner.get(key).copied();
-    (between, FrozenMap::from_map(alloc, arena, inner))
-}
-
-/// An ordered map made of the inner map of another has its content, and so has the inner map between: it returns what `key`
-/// had there.
-pub fn ordered_there_and_back<'a, K: Ord, V: StableDeref<'a>, A: Allocator + Copy>(
-    alloc: A,
-    arena: &'a Bump,
-    tree: FrozenBTreeMap<'a, K, V, A>,
-    key: &K,
-) -> (Option<V::Borrow>, FrozenBTreeMap<'a, K, V, A>)
-    ensures between { result.0 ≡ value_at (eq_by_cmp K.cmp) tree.entry key.now }
-    ensures again { result.1 ≡ tree.entry }
-{
-    let inner = tree.into_map();
-    let between = inner.get(key).copied();
-    (between, FrozenBTreeMap::from_map(alloc, arena, inner))
 }
 
 /// A clone of a hashed map and its source are independent of each other: after an insertion into each, each is what the source was

@@ -6,10 +6,12 @@ ghost use Rattle.std.specs.Borrow.{sem};
 ghost use Rattle.std.specs.Cmp.{eq_by_cmp_equiv};
 ghost use Rattle.std.specs.Iterator.{Drains, IsFinite};
 ghost use Rattle.std.specs.List.Sorted.{IsStrictlySortedBy};
-ghost use Rattle.std.specs.Map.{keys_of, values_of};
+ghost use Rattle.std.specs.Map.{keys_of, lookup, values_of};
 ghost use Rattle.std.specs.Map.Iter.{ShowsInOrder, ShowsInReverse, deref, deref_pair};
 ghost use Rattle.std.specs.Option.{ForSome};
-ghost use Rattle.std.specs.Ordering.{eq_by_cmp};
+ghost use Rattle.std.specs.Ordering.{eq_by_cmp, nat_cmp};
+ghost use Rattle.std.specs.Cmp.Lexicographic.{slice_cmp};
+ghost use Rattle.std.specs.String.{string_bytes};
 ghost use Rattle.elsa_once.specs.FirstWins.{Adds, HoldsLast, SameAt, same_values, value_at};
 ghost use Rattle.elsa_once.specs.MapEquality.{same_values_equivalence, same_values_laws};
 ghost use Rattle.elsa_once.specs.OrderedLent.{lends_entries};
@@ -19,6 +21,7 @@ use bumpalo::Bump;
 use std::alloc::{AllocError, Allocator, Global};
 use std::collections::BTreeMap;
 use std::collections::btree_map::{Iter, Keys, Range, Values};
+use std::fmt::{self, Debug, Formatter, Write};
 use std::marker::{Model, PhantomData};
 use std::ops::{Index, RangeBounds};
 
@@ -355,6 +358,22 @@ impl<'a, V: StableDeref<'a>, A: Allocator + Copy> FrozenBTreeMap<'a, &'a str, V,
     }
 }
 
+impl<'a, B: Allocator, V: StableDeref<'a>, A: Allocator + Copy> FrozenBTreeMap<
+    'a,
+    String<B>,
+    V,
+    A,
+> {
+    /// The value at the text `key`, or `None` exactly if no key of the map reads the same: [`get`](FrozenBTreeMap::get) without a
+    /// `String`. Takes no memory; one search.
+    pub fn get_text(&self, key: &str) -> Option<V::Borrow>
+        ensures { result ≡ lookup (λ k. eq_by_cmp (slice_cmp nat_cmp) key.now (string_bytes k)) self.now }
+    {
+        let value = self.entries.get(key)?;
+        Some(*value)
+    }
+}
+
 impl<'a, 'q, K: Ord, V: StableDeref<'a>, A: Allocator + Copy> Index<&'q K>
     for FrozenBTreeMap<'a, K, V, A> {
     type Output = V::Borrow;
@@ -365,6 +384,17 @@ impl<'a, 'q, K: Ord, V: StableDeref<'a>, A: Allocator + Copy> Index<&'q K>
 
     fn index(&self, key: &'q K) -> &V::Borrow {
         self.entries.get(key).unwrap()
+    }
+}
+
+/// `{:?}` writes the entries, ascending by key, as of a `BTreeMap`: `{1: "x", 2: "y"}`.
+impl<'a, K: Ord + Debug, V: StableDeref<'a>, A: Allocator + Copy> Debug
+    for FrozenBTreeMap<'a, K, V, A>
+where
+    <V as StableDeref<'a>>::Borrow: Debug,
+{
+    fn fmt<W: Write>(&self, f: &mut Formatter<W>) -> fmt::Result {
+        self.entries.fmt(f)
     }
 }
 

@@ -1,6 +1,6 @@
 //! Walks over a vector: an iterator, and a cursor that goes on after later pushes.
 ghost use Rattle.std.specs.Prelude.{◌≡◌, ◌+◌, IfSome, Some, if◌then◌else◌, is_some, length, slice_get};
-ghost use Rattle.std.specs.Iterator.{UpTo, YieldsFirst, item_count};
+ghost use Rattle.std.specs.Iterator.{UpTo, YieldsFirst, YieldsLast, item_count};
 ghost use Rattle.std.specs.Iterator.SizeHint.{IsWithinCount};
 
 use crate::stable::StableDeref;
@@ -52,20 +52,23 @@ impl Cursor {
     }
 }
 
-/// Gives the items of a vector, in order; contracts see it as the list of the items that are left.
+/// Gives the items of a vector, in order or from the back; contracts see it as the list of the items that are left.
 #[derive(Drop)]
 pub struct Iter<'v, 'a, T: StableDeref<'a>, A: Allocator + Copy = Global> {
     items: &'v FrozenVec<'a, T, A>,
-    cursor: Cursor,
+    place: usize,
+    end: usize,
 }
 
-// An iterator is the list of the items behind its cursor.
+// An iterator is the list of the items from its place to its end.
 impl<'v, 'a, T: StableDeref<'a>, A: Allocator + Copy> Model for Iter<'v, 'a, T, A> {
-    ghost use Rattle.std.specs.Prelude.{List, drop};
+    ghost use Rattle.std.specs.Prelude.{List, ◌-◌, ◌≤◌, drop, length, take};
 
     ghost Value = { List T.Borrow };
 
-    ghost view = { λ it. drop it.cursor it.items.now };
+    ghost view = { λ it. take (it.end - it.place) (drop it.place it.items.now) };
+
+    ghost invariant = { λ it. (it.place ≤ it.end) × (it.end ≤ length it.items.now) };
 }
 
 impl<'v, 'a, T: StableDeref<'a>, A: Allocator + Copy> Iter<'v, 'a, T, A> {
@@ -74,7 +77,8 @@ impl<'v, 'a, T: StableDeref<'a>, A: Allocator + Copy> Iter<'v, 'a, T, A> {
     {
         Iter {
             items,
-            cursor: Cursor::new(),
+            place: 0,
+            end: items.len(),
         }
     }
 }
@@ -87,7 +91,12 @@ impl<'v, 'a, T: StableDeref<'a>, A: Allocator + Copy> Iterator for Iter<'v, 'a, 
     ghost remaining = { item_count (λ left. left) };
 
     fn next(&mut self) -> Option<T::Borrow> {
-        self.cursor.next(self.items)
+        if self.place == self.end {
+            return None;
+        }
+        let item = self.items.get_unchecked(self.place);
+        self.place += 1;
+        Some(item)
     }
 
     fn size_hint(&self) -> (usize, Option<usize>)
@@ -95,7 +104,25 @@ impl<'v, 'a, T: StableDeref<'a>, A: Allocator + Copy> Iterator for Iter<'v, 'a, 
         ensures upper { IfSome result.1 (UpTo (item_count (λ left. left) self.now)) }
         ensures exact { result ≡ (length self.now, Some (length self.now)) }
     {
-        let left = self.items.len().saturating_sub(self.cursor.place);
+        let left = self.end - self.place;
         (left, Some(left))
+    }
+}
+
+impl<'v, 'a, T: StableDeref<'a>, A: Allocator + Copy> DoubleEndedIterator for Iter<'v, 'a, T, A> {
+    ghost next_back_gives = { YieldsLast (λ left. left) };
+
+    fn next_back(&mut self) -> Option<T::Borrow> {
+        if self.place == self.end {
+            return None;
+        }
+        self.end -= 1;
+        Some(self.items.get_unchecked(self.end))
+    }
+}
+
+impl<'v, 'a, T: StableDeref<'a>, A: Allocator + Copy> ExactSizeIterator for Iter<'v, 'a, T, A> {
+    fn len(&self) -> usize {
+        self.end - self.place
     }
 }

@@ -1,8 +1,11 @@
-use Rattle.std.proofs.Common.{refl, sym, ◌∙◌}
+use Rattle.std.proofs.Common.{◌≡◌, inr, refl, sym, ap, ◌∙◌}
 use Rattle.elsa_interner.proofs.cache.ResourceCache.text_of.Goals as goal
 
+-- the text that the path has now is the one that was placed
 pub returns-clause-loaded : goal.returns-clause-loaded
-returns-clause-loaded g c none = (c.in_ok-loaded.loaded, (c.args.path, c.in_ok-loaded.ensures, refl), c.in-Ok.ensures.new_target (rw (← c.self.view_is) at none))
+returns-clause-loaded g c t none there =
+    let same : t ≡ c.in-Ok.text = let both = sym there ∙ c.in-Ok.ensures.stands in cc in
+    (c.in_ok-loaded.loaded, (c.args.path, c.in_ok-loaded.ensures, refl), ap (λ b. b.now) same ∙ c.in-Ok.ensures.new_target (rw (← c.self.view_is) at none))
 
-pub returns-clause-others : goal.returns-clause-others
-returns-clause-others g c q other = rw (← c.self.view_is) ((c.in-Ok.ensures.new_content (sym c.get.ensures ∙ c.in_default.is) q).1 other)
+pub returns-in_default-insert-clause-no_memory : goal.returns-in_default-insert-clause-no_memory
+returns-in_default-insert-clause-no_memory g c _ = inr (_, (c.in_ok-loaded.loaded, (c.args.path, c.in_ok-loaded.ensures, refl), refl))
