@@ -18,10 +18,6 @@ module _ {T : Type 0} where
   pub first_is_longer : (xs ys : List (Entry T)) → length ys ≤ length xs → longer xs ys ≡ xs
   first_is_longer xs ys within = grind (arith, nat_tests)
 
-  -- neither list is longer than the longer of them
-  pub second_within : (xs ys : List (Entry T)) → length ys ≤ length (longer xs ys)
-  second_within xs ys = grind (arith, nat_tests)
-
   abbrev view : Vector → ℕ → List (Entry T) → View T
   view vector author seen = record { vector = vector; author = author; seen = seen }
 

@@ -98,3 +98,8 @@ pub promised_work : (vector other_vector : Vector) (before other_before : List (
     → IsWorkOf vector before count worker pass fault
 promised_work vector other_vector before other_before count other_count worker other pass fault (same, begun, counted, is) kept =
     rw (sym same, sym begun, sym counted, sym is) kept
+
+-- a pass that pushed the first n numbers, and then none
+pub pushes_no_next : (old new : View ℕ) (first n : ℕ) → new.author ≡ old.author → IsPrefix old.seen new.seen → mine new ≡ mine old
+    → pushed_by old.author old.seen ≡ numbers first n → pushed_by new.author new.seen ≡ numbers first n
+pushes_no_next old new first n author pre same was = pushes_none old new author pre same ∙ was

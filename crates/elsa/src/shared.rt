@@ -57,7 +57,8 @@ struct WorkOf<'v, A: Allocator> {
 }
 
 impl<'v, A: Allocator> Promise<Done<A>> for WorkOf<'v, A> {
-    ghost kept_by = { λ of done. IsWorkOf of.vector.now of.pass.now.seen of.count of.worker done.pass done.fault };
+    ghost kept_by = { λ of done.
+        IsWorkOf of.vector.now of.pass.now.seen of.count of.worker done.pass done.fault };
 }
 
 /// A pass of its own for a worker, which has seen what the one given has.
@@ -266,10 +267,13 @@ pub fn run_shared_into<R: Threads + Wait + Sync, G: Gate + Sync, A: Allocator + 
             requires limits { (workers ≤ 16) × (count ≤ 100000) }
             requires started { (vec_len started ≡ 0) × (workers ≤ vec_capacity started) }
             requires done { (vec_len done ≡ 0) × (workers ≤ vec_capacity done) }
+
+            // What each worker handed back, and a pass that has seen as much.
             ensures of { result.1.vector ≡ vector.entry.now }
             ensures len { vec_len result.0 ≡ workers }
             ensures work { Each (λ worker d.
-                IsWorkOf vector.entry.now begun.entry.now.seen count worker d.pass d.fault) result.0.items }
+                IsWorkOf vector.entry.now begun.entry.now.seen count worker d.pass d.fault)
+                result.0.items }
             ensures seen { All (λ d. length d.pass.seen ≤ length result.1.seen) result.0.items }
         {
             for worker in 0..workers {

@@ -3,6 +3,7 @@
 
 #[cfg(test)]
 mod base_form_tests;
+pub mod filled;
 #[cfg(test)]
 mod form_tests;
 #[cfg(test)]

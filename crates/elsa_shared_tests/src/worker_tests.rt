@@ -1,6 +1,7 @@
 //! Workers that push into a vector of the caller's: what is told of each, and what the vector then holds of it.
 ghost use Rattle.std.specs.Prelude.{◌≡◌};
 
+use crate::filled::two_filled;
 use crate::gates::{Alternates, Stops};
 use elsa::shared::{Gate, SharedFault, first_fault, run_shared_into};
 use elsa::sync::{LockFreeFrozenVec, Pass};
@@ -98,6 +99,14 @@ fn two_workers_alternate(rt: HostRuntime) -> Result<(), Fail> {
     let told = format!(in alloc; "{faults:?}")?;
     assert_eq!(rt; told.as_str(), "[None, None]");
     assert!(rt; alternate(&seen(alloc, &vector, &pass, 0, u64::MAX)?));
+    Ok(())
+}
+
+/// The caller that promises what two workers left returns a pass that has seen all of it.
+#[test]
+fn a_caller_gets_the_numbers_of_both_workers(rt: HostRuntime) -> Result<(), Fail> {
+    let pass = two_filled(&rt, rt.alloc(), 5, &Stops::new(0, 0))?;
+    assert!(rt; pass.is_some_and(|p| p.seen_len() == 10));
     Ok(())
 }
 

@@ -1,16 +1,17 @@
 use Rattle.std.proofs.Common.{◌+◌, ◌*◌, ◌∙◌, arith, refl}
-use Rattle.elsa.proofs.Pushed.{nothing_pushed, pushes_next, pushes_none}
+use Rattle.elsa.proofs.Pushed.{nothing_pushed, pushes_next, pushes_no_next}
 use Rattle.elsa.proofs.shared.work.Goals as goal
 
+-- before its first push the author has pushed nothing
 pub loop-number-init : goal.loop-number-init
 loop-number-init g c = ((refl, refl), nothing_pushed c.args.pass.author c.args.pass.seen c.requires.nothing_mine)
 
 -- the push failed, so the author has pushed what it had
 pub returns-in_default-clause-pushed : goal.returns-in_default-clause-pushed
 returns-in_default-clause-pushed g c =
-    let told = c.in_default.ensures in
-    let same = pushes_none c.loop-number.pass c.push_as.new.pass told.same.1 told.seen told.refused_mine in
-    (c.loop-number.number, same ∙ c.loop-number.invariant.1, c.loop-number-test.true)
+    let told = c.in_default.ensures in let n = c.loop-number.number in
+    let now = pushes_no_next c.loop-number.pass c.push_as.new.pass (c.args.worker * c.args.count) n told.same.1 told.seen told.refused_mine c.loop-number.invariant.1 in
+    (n, now, c.loop-number-test.true)
 
 -- the push added the next number, and then the gate returned false
 pub returns-then-not-after-clause-pushed : goal.returns-then-not-after-clause-pushed
