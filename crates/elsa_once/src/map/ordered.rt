@@ -217,6 +217,27 @@ impl<'a, K: Ord, V: StableDeref<'a>, A: Allocator + Copy> FrozenBTreeMap<'a, K, 
 }
 
 impl<'a, K: Ord + Drop, V: StableDeref<'a>, A: Allocator + Copy> FrozenBTreeMap<'a, K, V, A> {
+    // Gives a key that is absent the value: one search.
+    fn add(&mut self, key: K, value: V) -> Result<V::Borrow, AllocError>
+        requires absent { value_at (eq_by_cmp K.cmp) self.old key ≡ None }
+        ensures stands { IfOk result (λ b. value_at (eq_by_cmp K.cmp) self.new key ≡ Some b) }
+        ensures new_target { IfOk result (λ b. V.shown b ≡ V.target value) }
+        ensures new_content { IfOk result (λ b.
+            Adds (eq_by_cmp K.cmp) (value_at (eq_by_cmp K.cmp) self.old)
+            (value_at (eq_by_cmp K.cmp) self.new) key b) }
+        ensures new_length { OnOk result (length self.new ≡ length self.old + 1) }
+
+        // The tree has it, or is as it was.
+        ensures new_entry { IfOk result (λ b. self.new ≡ insert_entry K.cmp self.old key b) }
+        ensures refused { OnErr result (self.new ≡ self.old) }
+    {
+        let Ok(borrow) = value.place(self.arena) else {
+            return Err(AllocError);
+        };
+        self.entries.insert(key, borrow)?;
+        Ok(borrow)
+    }
+
     /// Gives `key` the value, unless the map has a key that equals it, and returns the value that the key now has and
     /// whether the key was new.
     ///
@@ -239,11 +260,7 @@ impl<'a, K: Ord + Drop, V: StableDeref<'a>, A: Allocator + Copy> FrozenBTreeMap<
         if let Some(found) = self.get(&key) {
             return Ok((found, false));
         }
-        let Ok(borrow) = value.place(self.arena) else {
-            return Err(AllocError);
-        };
-        self.entries.insert(key, borrow)?;
-        Ok((borrow, true))
+        Ok((self.add(key, value)?, true))
     }
 
     /// Gives `key` the value, unless the map has a key that equals it, and returns the value that the key now has:
@@ -339,7 +356,7 @@ impl<'a, V: StableDeref<'a>, A: Allocator + Copy> FrozenBTreeMap<'a, &'a str, V,
     /// [`insert`](FrozenBTreeMap::insert) by a text of any lifetime.
     ///
     /// A present text keeps its value: `value` is dropped, no memory is taken and the result is `Ok`, after one search.
-    /// A new one is copied into the arena and inserted there, which takes two more searches. Where either fails, it returns `Err`, the
+    /// A new one is copied into the arena and inserted there, which takes one more search. Where either fails, it returns `Err`, the
     /// map stays as it was, and the arena may keep a text or a value that nobody sees.
     pub fn insert_text(&mut self, key: &str, value: V) -> Result<V::Borrow, AllocError>
         ensures present { (x : V.Borrow) → value_at (eq_by_cmp ⟦<&'a str as Ord>⟧.cmp) self.old key.entry ≡ Some x → (result ≡ Ok x) × (self.new ≡ self.old) }
@@ -354,7 +371,7 @@ impl<'a, V: StableDeref<'a>, A: Allocator + Copy> FrozenBTreeMap<'a, &'a str, V,
             return Ok(found);
         }
         let placed = self.arena.try_alloc_str(key)?;
-        self.insert(placed, value)
+        self.add(placed, value)
     }
 }
 
