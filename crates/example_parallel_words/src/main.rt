@@ -1,0 +1,69 @@
+//! Counts the words of a text with two threads, which number them in one shared interner.
+//!
+//! Each thread cuts its half into words side by side with the other, and counts them by their numbers in a vector of its own. A word
+//! has one number for both, by contract, so in the end the counts of a number are added up and the word is read once. The
+//! numbers depend on which thread is first; what is printed does not.
+#![tactic(auto)]
+
+mod count;
+
+ghost use Rattle.std.specs.Prelude.{◌≡◌};
+
+use crate::count::{Counts, count_words};
+use elsa::interner::{Name, NamePass, SharedInterner};
+use std::alloc::AllocError;
+use std::{io, thread};
+
+/// The first sentences of Jane Austen's "Pride and Prejudice", and those of the first chapter's end.
+const FIRST: &str =
+    "It is a truth universally acknowledged, that a single man in possession of a good fortune, \
+must be in want of a wife. However little known the feelings or views of such a man may be on his first \
+entering a neighbourhood, this truth is so well fixed in the minds of the surrounding families, that he is \
+considered as the rightful property of some one or other of their daughters.";
+
+const SECOND: &str =
+    "She was a woman of mean understanding, little information, and uncertain temper. When she was \
+discontented, she fancied herself nervous. The business of her life was to get her daughters married; its \
+solace was visiting and news.";
+
+/// Each word with how often it is in both halves, by the word's number.
+fn add_up(
+    words: &SharedInterner,
+    names: &mut NamePass,
+    first: &Counts,
+    second: &Counts,
+) -> Result<Vec<(u64, Name)>, AllocError>
+    requires { names.old.vector ≡ words.now }
+{
+    let mut all = Vec::new(first.alloc());
+    let mut number = 0;
+    for _ in 0..first.len().max(second.len()) {
+        let count = first.of(number).saturating_add(second.of(number));
+        if let Some(name) = words.at(names, number) {
+            all.push((count, name))?;
+        }
+        number += 1;
+    }
+    Ok(all)
+}
+
+fn main(rt: HostRuntime) -> io::Result<()> {
+    let alloc = rt.alloc();
+    let words = SharedInterner::new(alloc)?;
+    let shared = &words;
+    let (first, second) = thread::join(
+        &rt,
+        || count_words(&rt, alloc, shared, FIRST),
+        || count_words(&rt, alloc, shared, SECOND),
+    );
+    let (first, second) = (first?, second?);
+    let mut names = words.pass();
+    let mut all = add_up(&words, &mut names, &first, &second)?;
+    all.sort_by(|one, other| other.0.cmp(&one.0).then(one.1.cmp(&other.1)))?;
+    for (count, name) in &all {
+        if *count > 1 {
+            println!(rt; "{count:>2} {}", name.as_str())?;
+        }
+    }
+    println!(rt; "{} words", all.len())
+}
