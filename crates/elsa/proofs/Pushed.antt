@@ -6,7 +6,7 @@ use Rattle.elsa_free.specs.declared.event.Entry.{Entry}
 use mathlib.Core.List.{IsPrefix}
 use Rattle.elsa_free.specs.SharedList.{Appends, IsSamePass, Vector, View, entry, mine, places_from}
 use Rattle.elsa.specs.declared.shared.SharedFault.{SharedFault}
-use Rattle.elsa.specs.Workers.{IsWork, IsWorkOf, numbers, pushed_by}
+use Rattle.elsa.specs.Workers.{IsPromiseOf, IsWorkOf, numbers, pushed_by}
 
 none_left : {T : Type 0} (xs : List T) → length xs ≡ 0 → xs ≡ []
 none_left [] e = refl
@@ -94,7 +94,7 @@ work_stays vector before count worker old new fault same pre places (of, fresh, 
 
 -- what keeps a worker's promise is its work
 pub promised_work : (vector other_vector : Vector) (before other_before : List (Entry ℕ)) (count other_count worker other : ℕ) (pass : View ℕ) (fault : Option SharedFault)
-    → IsWork vector before count worker other_vector other_before other_count other → IsWorkOf other_vector other_before other_count other pass fault
+    → IsPromiseOf vector before count worker other_vector other_before other_count other → IsWorkOf other_vector other_before other_count other pass fault
     → IsWorkOf vector before count worker pass fault
 promised_work vector other_vector before other_before count other_count worker other pass fault (same, begun, counted, is) kept =
     rw (sym same, sym begun, sym counted, sym is) kept

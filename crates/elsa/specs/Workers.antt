@@ -28,9 +28,9 @@ EndsAfter count n (Some Thread) = n ≡ 0
 abbrev pub HasPushed : ℕ → ℕ → List ℕ → Option SharedFault → Type 0
 HasPushed count worker pushed fault = (n : ℕ) × (pushed ≡ numbers (worker * count) n) × EndsAfter count n fault
 
--- the work of worker `worker`, in a vector that had the entries `before`
-abbrev pub IsWork : Vector → List (Entry ℕ) → ℕ → ℕ → Vector → List (Entry ℕ) → ℕ → ℕ → Type 0
-IsWork vector before count worker of_vector of_before of_count of_worker =
+-- what a thread has promised is of this vector, which had the entries `before` when the workers began, of this count and of this worker
+abbrev pub IsPromiseOf : Vector → List (Entry ℕ) → ℕ → ℕ → Vector → List (Entry ℕ) → ℕ → ℕ → Type 0
+IsPromiseOf vector before count worker of_vector of_before of_count of_worker =
     (of_vector ≡ vector) × (of_before ≡ before) × (of_count ≡ count) × (of_worker ≡ worker)
 
 -- what a worker hands back: a pass of the vector, as whose author it has pushed, and as whose author nobody had pushed when the workers began

@@ -5,7 +5,7 @@
 ghost use Rattle.std.specs.Prelude.{◌≡◌, ◌≢◌, ◌⊎◌, ◌+◌, ◌*◌, ◌<◌, ◌≤◌, [], ◌∷◌, All, IfErr, IfOk, None, length, map, vec_capacity, vec_len};
 ghost use mathlib.Core.List.{IsPrefix};
 ghost use Rattle.elsa_free.specs.SharedList.{Continues, IsSamePass, mine};
-ghost use Rattle.elsa.specs.Workers.{Each, HasPushed, HaveWorked, IsFirstFault, IsWork, IsWorkOf, pushed_by};
+ghost use Rattle.elsa.specs.Workers.{Each, HasPushed, HaveWorked, IsFirstFault, IsPromiseOf, IsWorkOf, pushed_by};
 
 use core::thread::Stack;
 use elsa_free::lock_free::{LockFreeFrozenVec, Pass};
@@ -47,7 +47,7 @@ struct Done<A: Allocator> {
     fault: Option<SharedFault>,
 }
 
-/// That what a worker hands back is the work of worker `worker` with `count` numbers in a vector that had what the pass has seen.
+/// The promise of a thread: it hands back the work of worker `worker` of `count` numbers, in a vector that had what the pass has seen.
 #[derive(Clone, Copy)]
 struct WorkOf<'v, A: Allocator> {
     vector: &'v LockFreeFrozenVec<u64, A>,
@@ -127,7 +127,7 @@ fn join_all<R: Threads, A: Allocator + Copy>(
     mut done: Vec<Done<A>, A>,
     _count: usize,
 ) -> Vec<Done<A>, A>
-    requires of { Each (λ worker h. IsWork pass.old.vector pass.old.seen _count worker
+    requires of { Each (λ worker h. IsPromiseOf pass.old.vector pass.old.seen _count worker
         h.promise.vector.now h.promise.pass.now.seen h.promise.count h.promise.worker) started.items }
     requires empty { vec_len done ≡ 0 }
     requires room { vec_len started ≤ vec_capacity done }

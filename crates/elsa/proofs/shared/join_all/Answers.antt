@@ -2,7 +2,7 @@ use Rattle.std.proofs.Common.{rules, arith, ◌≡◌, ℕ, ◌+◌, ◌≤◌, 
 use Rattle.std.proofs.lemmas.List.Elements.{All-push}
 use Rattle.elsa_free.specs.declared.event.Entry.{Entry}
 use Rattle.elsa.specs.declared.shared.Done.{Done}
-use Rattle.elsa.specs.Workers.{Each, IsWork, IsWorkOf}
+use Rattle.elsa.specs.Workers.{Each, IsPromiseOf, IsWorkOf}
 use Rattle.elsa.proofs.Passes.{continues_more, prefix_within}
 use Rattle.elsa.proofs.Places.{Each-push}
 use Rattle.elsa.proofs.Pushed.{promised_work, work_stays}
@@ -16,7 +16,7 @@ loop-handle-preserved g c =
     let vector = c.args.pass.now.vector in let before = c.args.pass.now.seen in let done = c.loop-handle.done in
     let IsDone : ℕ → Done g.row.A.Denot → Type 0 = λ worker d. IsWorkOf vector before c.args._count worker d.pass d.fault in
     let IsWithin : Done g.row.A.Denot → Type 0 = λ d. length d.pass.seen ≤ length c.meet.new.self.seen in
-    let promised : IsWork vector before c.args._count (length done.items) of.vector.now of.pass.now.seen of.count of.worker = let h = was.1 0 c.in-Some.handle in grind rules in
+    let promised : IsPromiseOf vector before c.args._count (length done.items) of.vector.now of.pass.now.seen of.count of.worker = let h = was.1 0 c.in-Some.handle in grind rules in
     let work : IsDone (length done.items) joined = promised_work vector of.vector.now before of.pass.now.seen c.args._count of.count (length done.items) of.worker joined.pass joined.fault promised c.join-next.ensures in
     let added : Done g.row.A.Denot = record { pass = theirs; fault = joined.fault } in
     let items : c.push.new.self.items ≡ done.items ++ added ∷ [] = search rules in

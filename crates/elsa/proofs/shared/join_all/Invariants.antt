@@ -1,7 +1,7 @@
 use Rattle.std.proofs.Common.{◌≡◌, ℕ, ◌+◌, ◌<◌, ◌≤◌, All, get_or, length, vec_capacity, vec_len}
 use Rattle.std.specs.Vec.Iter.{into_iter_items, into_iter_len}
 use Rattle.elsa_free.specs.SharedList.{Continues}
-use Rattle.elsa.specs.Workers.{Each, IsWork, IsWorkOf}
+use Rattle.elsa.specs.Workers.{Each, IsPromiseOf, IsWorkOf}
 use Rattle.elsa.proofs.shared.join_all.Given as goal
 
 -- the workers joined so far have handed back their work, those to come have promised theirs, and there is room for all
@@ -10,7 +10,7 @@ invariant-loop-handle g l =
     let vector = l.fn.pass.vector in let before = l.fn.pass.seen in let done = vec_len l.done in let rest = into_iter_items l.handle-iterator in
     (done + into_iter_len l.handle-iterator ≡ into_iter_len l.initial.handle-iterator)
     × ((k : ℕ) (d : _) → k < length rest → let of = (get_or rest k d).promise in
-    IsWork vector before l._count (done + k) of.vector.now of.pass.now.seen of.count of.worker)
+    IsPromiseOf vector before l._count (done + k) of.vector.now of.pass.now.seen of.count of.worker)
     × Each (λ worker d. IsWorkOf vector before l._count worker d.pass d.fault) l.done.items
     × All (λ d. length d.pass.seen ≤ length l.pass.seen) l.done.items
     × Continues l.fn.pass l.pass

@@ -5,7 +5,7 @@ use mathlib.Core.List.{IsPrefix}
 use Rattle.elsa_free.specs.SharedList.{Vector, View}
 use Rattle.elsa.specs.declared.shared.Done.{Done}
 use Rattle.elsa.specs.declared.shared.WorkOf.{WorkOf}
-use Rattle.elsa.specs.Workers.{Each, IsWork, IsWorkOf, pushed_by}
+use Rattle.elsa.specs.Workers.{Each, IsPromiseOf, IsWorkOf, pushed_by}
 use Rattle.elsa.proofs.Places.{Each-push}
 use Rattle.elsa.proofs.Pushed.{nothing_pushed}
 use Rattle.elsa.proofs.shared.fn.run_shared_into.scope.Goals as goal
@@ -24,7 +24,7 @@ pub loop-worker-preserved : goal.loop-worker-preserved
 loop-worker-preserved g c =
     let was = c.loop-worker.invariant in let started = c.loop-worker.started in let made = c.in-Ok.ensures.ok in
     let Handle : Type 0 = PromisedHandle (Done g.row.A.Denot) (WorkOf g.row.A.Denot) in
-    let IsFor : ℕ → Handle → Type 0 = λ worker h. IsWork c.captures.vector.now c.captures.begun.now.seen c.captures.count worker h.promise.vector.now h.promise.pass.now.seen h.promise.count h.promise.worker in
+    let IsFor : ℕ → Handle → Type 0 = λ worker h. IsPromiseOf c.captures.vector.now c.captures.begun.now.seen c.captures.count worker h.promise.vector.now h.promise.pass.now.seen h.promise.count h.promise.worker in
     let items : c.push.new.self.items ≡ started.items ++ c.in-Ok.child ∷ [] = search rules in
     let here : IsFor (length started.items) c.in-Ok.child = (ap (λ (w : WorkOf g.row.A.Denot). w.vector.now) made, ap (λ (w : WorkOf g.row.A.Denot). w.pass.now.seen) made, ap (λ (w : WorkOf g.row.A.Denot). w.count) made, ap (λ (w : WorkOf g.row.A.Denot). w.worker) made ∙ search rules) in (
       search rules,

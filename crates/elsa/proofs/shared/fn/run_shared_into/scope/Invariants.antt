@@ -1,5 +1,5 @@
 use Rattle.std.proofs.Common.{◌≡◌, ◌≤◌, vec_capacity, vec_len}
-use Rattle.elsa.specs.Workers.{Each, IsWork}
+use Rattle.elsa.specs.Workers.{Each, IsPromiseOf}
 use Rattle.elsa.proofs.shared.fn.run_shared_into.scope.Given as goal
 
 -- each worker so far has promised its work, and the pass has seen what it had when they began
@@ -9,4 +9,4 @@ invariant-loop-worker g l =
     × (l.longest.seen ≡ l.begun.seen)
     × (vec_len l.started ≡ l.worker)
     × (l.workers ≤ vec_capacity l.started)
-    × Each (λ worker h. IsWork l.vector l.begun.seen l.count worker h.promise.vector.now h.promise.pass.now.seen h.promise.count h.promise.worker) l.started.items
+    × Each (λ worker h. IsPromiseOf l.vector l.begun.seen l.count worker h.promise.vector.now h.promise.pass.now.seen h.promise.count h.promise.worker) l.started.items
