@@ -36,13 +36,11 @@ fn add_up(
     requires { names.old.vector ≡ words.now }
 {
     let mut all = Vec::new(first.alloc());
-    let mut number = 0;
-    for _ in 0..first.len().max(second.len()) {
+    for number in 0..first.len().max(second.len()) {
         let count = first.of(number).saturating_add(second.of(number));
         if let Some(name) = words.at(names, number) {
             all.push((count, name))?;
         }
-        number += 1;
     }
     Ok(all)
 }
