@@ -13,6 +13,7 @@ finished : (count worker : ℕ) (pushed : List ℕ) (fault : Option SharedFault)
 finished count worker pushed fault none had =
     let all = subst (HasPushed count worker pushed) none had in all.1 ∙ ap (numbers (worker * count)) all.2
 
+-- the two workers are the two authors
 pub returns : goal.returns
 returns g c =
     let count = c.args.count in let told = c.in_ok-faults.ensures in let faults : List (Option SharedFault) = c.in_ok-faults.faults.items in
