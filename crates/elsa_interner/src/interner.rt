@@ -32,19 +32,14 @@ pub struct Interner<
     A: Allocator + Copy = Global,
 > {
     names: FrozenIndexSet<'a, String<A>, S, A>,
-    count: usize,
 }
 
 impl<'a, S: BuildHasher, A: Allocator + Copy> Model for Interner<'a, S, A> {
-    ghost use Rattle.std.specs.Prelude.{List, ℕ, ◌≡◌, map, length};
-    ghost use Rattle.std.specs.List.{IsDistinct};
-    ghost use Rattle.std.specs.Str.{bytes_eq};
+    ghost use Rattle.std.specs.Prelude.{List, ℕ, map};
 
     ghost Value = { List (List ℕ) };
 
     ghost view = { λ s. map (λ b. b.now) s.names };
-
-    ghost invariant = { λ s. (s.count ≡ length s.names) × IsDistinct (λ a b. bytes_eq a.now b.now) s.names };
 }
 
 impl<'a, A: Allocator + Copy> Interner<'a, BuildHasherDefault<FoldHasher>, A> {
@@ -66,7 +61,6 @@ impl<'a, S: BuildHasher, A: Allocator + Copy> Interner<'a, S, A> {
     {
         Interner {
             names: FrozenIndexSet::with_hasher(alloc, arena, hash_builder),
-            count: 0,
         }
     }
 
@@ -98,7 +92,7 @@ impl<'a, S: BuildHasher, A: Allocator + Copy> Interner<'a, S, A> {
         ensures len { result ≡ length self.now }
         ensures one_to_one { IsOneToOne self.now }
     {
-        self.count
+        self.names.len()
     }
 
     /// Whether there are no names. Takes no memory. `O(1)`.
@@ -145,7 +139,6 @@ impl<'a, S: BuildHasher, A: Allocator + Copy> Interner<'a, S, A> {
             return Ok(place);
         }
         let (place, _) = self.names.insert_absent_text(text)?;
-        self.count = place + 1;
         Ok(place)
     }
 }
