@@ -31,7 +31,8 @@ pub struct Interner<
     S: BuildHasher = BuildHasherDefault<FoldHasher>,
     A: Allocator + Copy = Global,
 > {
-    names: FrozenIndexSet<'a, String<A>, S, A>,
+    arena: &'a Bump,
+    names: FrozenIndexSet<'a, &'a str, S, A>,
 }
 
 impl<'a, S: BuildHasher, A: Allocator + Copy> Model for Interner<'a, S, A> {
@@ -60,6 +61,7 @@ impl<'a, S: BuildHasher, A: Allocator + Copy> Interner<'a, S, A> {
         ensures { result ≡ [] }
     {
         Interner {
+            arena,
             names: FrozenIndexSet::with_hasher(alloc, arena, hash_builder),
         }
     }
@@ -138,7 +140,8 @@ impl<'a, S: BuildHasher, A: Allocator + Copy> Interner<'a, S, A> {
         if let Some(place) = self.names.get_index_of(&text) {
             return Ok(place);
         }
-        let (place, _) = self.names.insert_absent_text(text)?;
+        let name = self.arena.try_alloc_str(text)?;
+        let (place, _) = self.names.insert_absent(name)?;
         Ok(place)
     }
 }
