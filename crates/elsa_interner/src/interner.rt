@@ -31,20 +31,16 @@ pub struct Interner<
     S: BuildHasher = BuildHasherDefault<FoldHasher>,
     A: Allocator + Copy = Global,
 > {
-    names: FrozenIndexSet<'a, String<A>, S, A>,
-    count: usize,
+    arena: &'a Bump,
+    names: FrozenIndexSet<'a, &'a str, S, A>,
 }
 
 impl<'a, S: BuildHasher, A: Allocator + Copy> Model for Interner<'a, S, A> {
-    ghost use Rattle.std.specs.Prelude.{List, ℕ, ◌≡◌, map, length};
-    ghost use Rattle.std.specs.List.{IsDistinct};
-    ghost use Rattle.std.specs.Str.{bytes_eq};
+    ghost use Rattle.std.specs.Prelude.{List, ℕ, map};
 
     ghost Value = { List (List ℕ) };
 
     ghost view = { λ s. map (λ b. b.now) s.names };
-
-    ghost invariant = { λ s. (s.count ≡ length s.names) × IsDistinct (λ a b. bytes_eq a.now b.now) s.names };
 }
 
 impl<'a, A: Allocator + Copy> Interner<'a, BuildHasherDefault<FoldHasher>, A> {
@@ -65,8 +61,8 @@ impl<'a, S: BuildHasher, A: Allocator + Copy> Interner<'a, S, A> {
         ensures { result ≡ [] }
     {
         Interner {
+            arena,
             names: FrozenIndexSet::with_hasher(alloc, arena, hash_builder),
-            count: 0,
         }
     }
 
@@ -98,7 +94,7 @@ impl<'a, S: BuildHasher, A: Allocator + Copy> Interner<'a, S, A> {
         ensures len { result ≡ length self.now }
         ensures one_to_one { IsOneToOne self.now }
     {
-        self.count
+        self.names.len()
     }
 
     /// Whether there are no names. Takes no memory. `O(1)`.
@@ -144,8 +140,8 @@ impl<'a, S: BuildHasher, A: Allocator + Copy> Interner<'a, S, A> {
         if let Some(place) = self.names.get_index_of(&text) {
             return Ok(place);
         }
-        let (place, _) = self.names.insert_absent_text(text)?;
-        self.count = place + 1;
+        let name = self.arena.try_alloc_str(text)?;
+        let (place, _) = self.names.insert_absent(name)?;
         Ok(place)
     }
 }

@@ -1,9 +1,9 @@
 -- A search by halves: what is known between two calls, and what a call adds.
-use Rattle.std.proofs.Common.{◌≡◌, ℕ, ◌+◌, ◌-◌, ◌*◌, ◌/◌, ◌<◌, ◌≤◌, ◌^◌, ◌⊎◌, inl, inr, List, [], ◌∷◌, Some, length, slice_get, get_or, arith, refl, suc}
+use Rattle.std.proofs.Common.{◌≡◌, ℕ, ◌+◌, ◌-◌, ◌*◌, ◌/◌, ◌<◌, ◌≤◌, ◌^◌, ◌⊎◌, inl, inr, List, [], ◌∷◌, Some, length, slice_get, get_or, arith, refl, subst, suc}
 use Rattle.std.proofs.Math.Nat.{pow-suc, mul-le-mul_left}
 use Rattle.std.proofs.Math.Pow.{pow_mono}
 use Rattle.std.proofs.lemmas.Option.{slice_get_read}
-use Rattle.elsa_once.specs.Search.{Call, MadeInTurn, IsUnasked, NoneTwice, Answered, IsWithinDigits, Searched}
+use Rattle.elsa_once.specs.Search.{Call, MadeInTurn, IsUnasked, NoneTwice, Answered, IsBetween, IsWithinDigits, SearchedTo}
 
 -- each call was made outside the range
 abbrev pub AllOutside : {R : Type 0} → ℕ → ℕ → List (Call R) → Type 0
@@ -105,12 +105,31 @@ module _ {F B R : Type 0} (step : F → B → R → F → Type 0) (low high : R)
   }
 
   -- an answer that ends the search
-  pub after_last : (last : R) (P : List (Call R) → Type 0) → step now item last next → P (record { place = middle; answer = last } ∷ known.calls) → Searched step items start P
-  after_last last P s p = record {
-    calls = record { place = middle; answer = last } ∷ known.calls;
-    end = next;
-    in_turn = (now, item, known.in_turn, at, s);
-    none_twice = (fresh, known.none_twice);
-    few = one_more (length items) (length known.calls) (r - l) (omega arith) known.halved;
-    bracket = p;
-  }
+  pub after_last : (last : R) (P : List (Call R) → Type 0) → step now item last next → P (record { place = middle; answer = last } ∷ known.calls) → SearchedTo step items start next P
+  after_last last P s p = (
+    record {
+      calls = record { place = middle; answer = last } ∷ known.calls;
+      end = next;
+      in_turn = (now, item, known.in_turn, at, s);
+      none_twice = (fresh, known.none_twice);
+      few = one_more (length items) (length known.calls) (r - l) (omega arith) known.halved;
+      bracket = p;
+    },
+    refl,
+  )
+
+-- where the range is empty, the search has ended at its place
+pub narrowed_to_end : {F B R : Type 0} (step : F → B → R → F → Type 0) (low high : R) (items : List B) (start now : F) (l r : ℕ)
+    → Narrowed step low high items start now l r → r ≤ l → SearchedTo step items start now (λ calls. IsBetween (length items) (Answered calls) low high l)
+narrowed_to_end step low high items start now l r known empty =
+    let here : r ≡ l = omega (arith, known.ordered, empty) in (
+      record {
+        calls = known.calls;
+        end = now;
+        in_turn = known.in_turn;
+        none_twice = known.none_twice;
+        few = known.few;
+        bracket = (omega (arith, known.ordered, known.within), known.below, subst (λ k. k < length items → Answered known.calls k high) here known.above);
+      },
+      refl,
+    )

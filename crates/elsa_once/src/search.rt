@@ -1,6 +1,6 @@
 //! Searches by halves over a slice, for any closure: what the searches of `FrozenVec` stand on.
 ghost use Rattle.std.specs.Prelude.{length, true, false};
-ghost use Rattle.elsa_once.specs.Search.{Searched, Brackets, IsBetween, Answered, Compares, ComparesAt};
+ghost use Rattle.elsa_once.specs.Search.{SearchedTo, Brackets, IsBetween, Answered, Compares, ComparesAt};
 
 use std::cmp::Ordering;
 
@@ -8,16 +8,17 @@ use std::cmp::Ordering;
 pub(crate) fn binary_search<B: Copy + Ord>(items: &[B], target: &B) -> Result<usize, usize>
     ensures { Brackets (length items.now) (ComparesAt B.cmp target.now items.now) result }
 {
-    binary_search_by(items, |item: B| item.cmp(target))
+    let mut order = |item: B| item.cmp(target);
+    binary_search_by(items, &mut order)
 }
 
-/// A place that returned Equal, or else one between Less and Greater.
+/// A place that returned Equal, or else one between Less and Greater. The closure is left as the last call of the search left it.
 pub(crate) fn binary_search_by<B: Copy, F: FnMut(B) -> Ordering>(
     items: &[B],
-    mut order: F,
+    order: &mut F,
 ) -> Result<usize, usize>
-    requires { F.IsAlwaysCallable order }
-    ensures { Searched (λ p b r q. F.step p b r q) items.now order (λ calls. Brackets (length items.now) (Answered calls) result) }
+    requires { F.IsAlwaysCallable order.old }
+    ensures { SearchedTo (λ p b r q. F.step p b r q) items.now order.old order.new (λ calls. Brackets (length items.now) (Answered calls) result) }
 {
     let mut left = 0;
     let mut right = items.len();
@@ -36,10 +37,10 @@ pub(crate) fn binary_search_by<B: Copy, F: FnMut(B) -> Ordering>(
 pub(crate) fn binary_search_by_key<B: Copy, K: Ord + Drop, F: FnMut(B) -> K>(
     items: &[B],
     key: &K,
-    mut key_of: F,
+    key_of: &mut F,
 ) -> Result<usize, usize>
-    requires { F.IsAlwaysCallable key_of }
-    ensures { Searched (Compares K.cmp key.now (λ p b r q. F.step p b r q)) items.now key_of (λ calls. Brackets (length items.now) (Answered calls) result) }
+    requires { F.IsAlwaysCallable key_of.old }
+    ensures { SearchedTo (Compares K.cmp key.now (λ p b r q. F.step p b r q)) items.now key_of.old key_of.new (λ calls. Brackets (length items.now) (Answered calls) result) }
 {
     let mut left = 0;
     let mut right = items.len();
@@ -56,9 +57,9 @@ pub(crate) fn binary_search_by_key<B: Copy, K: Ord + Drop, F: FnMut(B) -> K>(
 }
 
 /// A place between true and false.
-pub(crate) fn partition_point<B: Copy, F: FnMut(B) -> bool>(items: &[B], mut belongs: F) -> usize
-    requires { F.IsAlwaysCallable belongs }
-    ensures { Searched (λ p b r q. F.step p b r q) items.now belongs (λ calls. IsBetween (length items.now) (Answered calls) true false result) }
+pub(crate) fn partition_point<B: Copy, F: FnMut(B) -> bool>(items: &[B], belongs: &mut F) -> usize
+    requires { F.IsAlwaysCallable belongs.old }
+    ensures { SearchedTo (λ p b r q. F.step p b r q) items.now belongs.old belongs.new (λ calls. IsBetween (length items.now) (Answered calls) true false result) }
 {
     let mut left = 0;
     let mut right = items.len();
