@@ -415,7 +415,8 @@ impl<T: Copy + Drop + PartialEq, A: Allocator + Copy, K: ItemRule<T>> LockFreeFr
         requires of { (pass.old.vector ≡ self.now) × (other_pass.old.vector ≡ other.now) }
         ensures continues { Continues pass.old pass.new }
         ensures other_continues { Continues other_pass.old other_pass.new }
-        ensures equal { result ≡ pointwise T.eq (items_of pass.new.seen) (items_of other_pass.new.seen) }
+        ensures equal { result ≡ pointwise T.eq (items_of pass.new.seen)
+            (items_of other_pass.new.seen) }
     {
         let n = self.len_as(pass);
         let other_n = other.len_as(other_pass);

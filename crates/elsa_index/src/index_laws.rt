@@ -76,7 +76,8 @@ pub fn is_new_once<
     ensures once { IfOk result (λ r. r.1 ≡ (r.0.0, r.0.1, false)) }
     ensures there { IfOk result (λ r. value_of K.eq map.new first.0 ≡ Some r.0.1) }
     ensures there_at { IfOk result (λ r. place_of K.eq map.new first.0 ≡ Some r.0.0) }
-    ensures between { IfOk result (λ _. All (λ pair. IsSome (place_of K.eq map.new pair.0)) between.items) }
+    ensures between { IfOk result (λ _.
+        All (λ pair. IsSome (place_of K.eq map.new pair.0)) between.items) }
     ensures kept { Grows map.old map.new }
 {
     let (first_key, first_value) = first;
@@ -103,8 +104,12 @@ pub fn clone_and_part<
     other: (K, V),
 ) -> Result<FrozenIndexMap<'a, K, V, S, A>, AllocError>
     requires faithful { (x y : K) → K.is_clone x y → IsTrue (K.eq x y) }
-    ensures source { IfOk result (λ m. (i : ℕ) × (b : V.Borrow) × Inserted K.eq V.target V.shown map.old own.0 own.1 i b map.new) }
-    ensures clone { IfOk result (λ m. (copied : List (K × V.Borrow)) × (i : ℕ) × (b : V.Borrow) × IsCloneOf K.eq K.is_clone map.old copied × Inserted K.eq V.target V.shown copied other.0 other.1 i b m) }
+    ensures source { IfOk result (λ m.
+        (i : ℕ) × (b : V.Borrow) × Inserted K.eq V.target V.shown map.old own.0 own.1 i b map.new) }
+    ensures clone { IfOk result (λ m.
+        (copied : List (K × V.Borrow)) × (i : ℕ) × (b : V.Borrow)
+        × IsCloneOf K.eq K.is_clone map.old copied
+        × Inserted K.eq V.target V.shown copied other.0 other.1 i b m) }
 {
     let mut copy = map.clone()?;
     map.insert_full(own.0, own.1)?;
@@ -201,7 +206,8 @@ where
     ensures once { IfOk result (λ r. r.1 ≡ (r.0.0, r.0.1, false)) }
     ensures there { IfOk result (λ r. slice_get set.new r.0.0 ≡ Some r.0.1) }
     ensures there_at { IfOk result (λ r. position (T.finds first) set.new ≡ Some r.0.0) }
-    ensures between { IfOk result (λ _. All (λ value. IsSome (position (T.finds value) set.new)) between.items) }
+    ensures between { IfOk result (λ _.
+        All (λ value. IsSome (position (T.finds value) set.new)) between.items) }
     ensures kept { Grows set.old set.new }
 {
     let before = set_keeps_earlier_values(set, first)?;

@@ -166,7 +166,8 @@ impl<'a, K: Eq + Hash, V: StableDeref<'a>, S: BuildHasher, A: Allocator + Copy> 
     /// It takes no memory of its own. `O(1)`: one hash.
     pub fn map_get<R, F: FnOnce(V::Borrow) -> R>(&self, key: &K, f: F) -> Option<R>
         requires callable { ForSome (value_of K.eq self.now key.now) (F.pre f) }
-        ensures { MatchOption (value_of K.eq self.now key.now) (result ≡ None) (λ x. IsSomeAnd result (F.post f x)) }
+        ensures { MatchOption (value_of K.eq self.now key.now) (result ≡ None) (λ x.
+            IsSomeAnd result (F.post f x)) }
     {
         match self.map.get(key) {
             Some(value) => Some(f(*value)),
@@ -265,8 +266,11 @@ impl<
         key: K,
         value: V,
     ) -> Result<(usize, V::Borrow, bool), AllocError>
-        ensures present { (x : V.Borrow) → value_of K.eq self.old key ≡ Some x → (i : ℕ) × (place_of K.eq self.old key ≡ Some i) × (result ≡ Ok (i, x, false)) × (self.new ≡ self.old) }
-        ensures accepted { IfOk result (λ r. InsertedNew K.eq V.target V.shown self.old key value r.0 r.1 r.2 self.new) }
+        ensures present { (x : V.Borrow) → value_of K.eq self.old key ≡ Some x →
+            (i : ℕ) × (place_of K.eq self.old key ≡ Some i) × (result ≡ Ok (i, x, false))
+            × (self.new ≡ self.old) }
+        ensures accepted { IfOk result (λ r.
+            InsertedNew K.eq V.target V.shown self.old key value r.0 r.1 r.2 self.new) }
         ensures refused { OnErr result (self.new ≡ self.old) }
         ensures only_new { OnErr result (place_of K.eq self.old key ≡ None) }
         ensures stands { IfOk result (λ r. value_of K.eq self.new key ≡ Some r.1) }
@@ -292,8 +296,11 @@ impl<
     ///
     /// Costs and the refusal are those of `insert_full_new`.
     pub fn insert_full(&mut self, key: K, value: V) -> Result<(usize, V::Borrow), AllocError>
-        ensures present { (x : V.Borrow) → value_of K.eq self.old key ≡ Some x → (i : ℕ) × (place_of K.eq self.old key ≡ Some i) × (result ≡ Ok (i, x)) × (self.new ≡ self.old) }
-        ensures accepted { IfOk result (λ r. Inserted K.eq V.target V.shown self.old key value r.0 r.1 self.new) }
+        ensures present { (x : V.Borrow) → value_of K.eq self.old key ≡ Some x →
+            (i : ℕ) × (place_of K.eq self.old key ≡ Some i) × (result ≡ Ok (i, x))
+            × (self.new ≡ self.old) }
+        ensures accepted { IfOk result (λ r.
+            Inserted K.eq V.target V.shown self.old key value r.0 r.1 self.new) }
         ensures refused { OnErr result (self.new ≡ self.old) }
         ensures only_new { OnErr result (place_of K.eq self.old key ≡ None) }
         ensures stands { IfOk result (λ r. value_of K.eq self.new key ≡ Some r.1) }
@@ -307,8 +314,10 @@ impl<
     ///
     /// Costs and the refusal are those of `insert_full_new`.
     pub fn insert_new(&mut self, key: K, value: V) -> Result<(V::Borrow, bool), AllocError>
-        ensures present { (x : V.Borrow) → value_of K.eq self.old key ≡ Some x → (result ≡ Ok (x, false)) × (self.new ≡ self.old) }
-        ensures accepted { IfOk result (λ r. (i : ℕ) × InsertedNew K.eq V.target V.shown self.old key value i r.0 r.1 self.new) }
+        ensures present { (x : V.Borrow) → value_of K.eq self.old key ≡ Some x →
+            (result ≡ Ok (x, false)) × (self.new ≡ self.old) }
+        ensures accepted { IfOk result (λ r.
+            (i : ℕ) × InsertedNew K.eq V.target V.shown self.old key value i r.0 r.1 self.new) }
         ensures refused { OnErr result (self.new ≡ self.old) }
         ensures only_new { OnErr result (place_of K.eq self.old key ≡ None) }
         ensures stands { IfOk result (λ r. value_of K.eq self.new key ≡ Some r.0) }
@@ -321,8 +330,10 @@ impl<
     ///
     /// Costs and the refusal are those of `insert_full_new`.
     pub fn insert(&mut self, key: K, value: V) -> Result<V::Borrow, AllocError>
-        ensures present { (x : V.Borrow) → value_of K.eq self.old key ≡ Some x → (result ≡ Ok x) × (self.new ≡ self.old) }
-        ensures accepted { IfOk result (λ b. (i : ℕ) × Inserted K.eq V.target V.shown self.old key value i b self.new) }
+        ensures present { (x : V.Borrow) → value_of K.eq self.old key ≡ Some x →
+            (result ≡ Ok x) × (self.new ≡ self.old) }
+        ensures accepted { IfOk result (λ b.
+            (i : ℕ) × Inserted K.eq V.target V.shown self.old key value i b self.new) }
         ensures refused { OnErr result (self.new ≡ self.old) }
         ensures only_new { OnErr result (place_of K.eq self.old key ≡ None) }
         ensures stands { IfOk result (λ b. value_of K.eq self.new key ≡ Some b) }
@@ -351,8 +362,10 @@ impl<'a, V: StableDeref<'a>, S: BuildHasher, A: Allocator + Copy> FrozenIndexMap
 
     // The place and the value of the key that reads as `key` does.
     fn get_full_text(&self, key: &str) -> Option<(usize, V::Borrow)>
-        ensures place { option_map (λ r. r.0) result ≡ place_of ⟦<&'a str as PartialEq>⟧.eq self.now key.entry }
-        ensures value { option_map (λ r. r.1) result ≡ value_of ⟦<&'a str as PartialEq>⟧.eq self.now key.entry }
+        ensures place { option_map (λ r. r.0) result
+            ≡ place_of ⟦<&'a str as PartialEq>⟧.eq self.now key.entry }
+        ensures value { option_map (λ r. r.1) result
+            ≡ value_of ⟦<&'a str as PartialEq>⟧.eq self.now key.entry }
     {
         let (place, _, found) = self.map.get_full(key)?;
         Some((place, *found))
@@ -369,12 +382,21 @@ impl<'a, V: StableDeref<'a>, S: BuildHasher, A: Allocator + Copy> FrozenIndexMap
         key: &str,
         value: V,
     ) -> Result<(usize, V::Borrow), AllocError>
-        ensures present { (x : V.Borrow) → value_of ⟦<&'a str as PartialEq>⟧.eq self.old key.entry ≡ Some x → (i : ℕ) × (place_of ⟦<&'a str as PartialEq>⟧.eq self.old key.entry ≡ Some i) × (result ≡ Ok (i, x)) × (self.new ≡ self.old) }
-        ensures accepted { IfOk result (λ r. (k : Bor (List ℕ)) × (k.now ≡ key.now) × Inserted ⟦<&'a str as PartialEq>⟧.eq V.target V.shown self.old k value r.0 r.1 self.new) }
+        ensures present { (x : V.Borrow) →
+            value_of ⟦<&'a str as PartialEq>⟧.eq self.old key.entry ≡ Some x →
+            (i : ℕ) × (place_of ⟦<&'a str as PartialEq>⟧.eq self.old key.entry ≡ Some i)
+            × (result ≡ Ok (i, x)) × (self.new ≡ self.old) }
+        ensures accepted { IfOk result (λ r.
+            (k : Bor (List ℕ)) × (k.now ≡ key.now)
+            × Inserted ⟦<&'a str as PartialEq>⟧.eq V.target V.shown self.old k value r.0 r.1
+            self.new) }
         ensures refused { OnErr result (self.new ≡ self.old) }
-        ensures only_new { OnErr result (place_of ⟦<&'a str as PartialEq>⟧.eq self.old key.entry ≡ None) }
-        ensures stands { IfOk result (λ r. value_of ⟦<&'a str as PartialEq>⟧.eq self.new key.entry ≡ Some r.1) }
-        ensures stands_at { IfOk result (λ r. place_of ⟦<&'a str as PartialEq>⟧.eq self.new key.entry ≡ Some r.0) }
+        ensures only_new { OnErr result (
+            place_of ⟦<&'a str as PartialEq>⟧.eq self.old key.entry ≡ None) }
+        ensures stands { IfOk result (λ r.
+            value_of ⟦<&'a str as PartialEq>⟧.eq self.new key.entry ≡ Some r.1) }
+        ensures stands_at { IfOk result (λ r.
+            place_of ⟦<&'a str as PartialEq>⟧.eq self.new key.entry ≡ Some r.0) }
     {
         if let Some(found) = self.get_full_text(key) {
             return Ok(found);
@@ -387,11 +409,17 @@ impl<'a, V: StableDeref<'a>, S: BuildHasher, A: Allocator + Copy> FrozenIndexMap
     ///
     /// Costs and the refusal are those of `insert_full_text`.
     pub fn insert_text(&mut self, key: &str, value: V) -> Result<V::Borrow, AllocError>
-        ensures present { (x : V.Borrow) → value_of ⟦<&'a str as PartialEq>⟧.eq self.old key.entry ≡ Some x → (result ≡ Ok x) × (self.new ≡ self.old) }
-        ensures accepted { IfOk result (λ b. (i : ℕ) × (k : Bor (List ℕ)) × (k.now ≡ key.now) × Inserted ⟦<&'a str as PartialEq>⟧.eq V.target V.shown self.old k value i b self.new) }
+        ensures present { (x : V.Borrow) →
+            value_of ⟦<&'a str as PartialEq>⟧.eq self.old key.entry ≡ Some x →
+            (result ≡ Ok x) × (self.new ≡ self.old) }
+        ensures accepted { IfOk result (λ b.
+            (i : ℕ) × (k : Bor (List ℕ)) × (k.now ≡ key.now)
+            × Inserted ⟦<&'a str as PartialEq>⟧.eq V.target V.shown self.old k value i b self.new) }
         ensures refused { OnErr result (self.new ≡ self.old) }
-        ensures only_new { OnErr result (place_of ⟦<&'a str as PartialEq>⟧.eq self.old key.entry ≡ None) }
-        ensures stands { IfOk result (λ b. value_of ⟦<&'a str as PartialEq>⟧.eq self.new key.entry ≡ Some b) }
+        ensures only_new { OnErr result (
+            place_of ⟦<&'a str as PartialEq>⟧.eq self.old key.entry ≡ None) }
+        ensures stands { IfOk result (λ b.
+            value_of ⟦<&'a str as PartialEq>⟧.eq self.new key.entry ≡ Some b) }
     {
         let (_, borrow) = self.insert_full_text(key, value)?;
         Ok(borrow)
@@ -428,7 +456,9 @@ impl<
     fn set(&mut self, key: K, value: V) -> Result<V::Borrow, AllocError>
         ensures placed { IfOk result (λ b. V.shown b ≡ V.target value) }
         ensures entries { IfOk result (λ b. self.new ≡ insert_entry K.eq self.old key b) }
-        ensures values { IfOk result (λ b. (q : K) → lookup (K.eq q) self.new ≡ cond (K.eq key q) (Some b) (lookup (K.eq q) self.old)) }
+        ensures values { IfOk result (λ b.
+            (q : K) →
+            lookup (K.eq q) self.new ≡ cond (K.eq key q) (Some b) (lookup (K.eq q) self.old)) }
     {
         let given = self.placed(value)?;
         match self.map.insert(key, given) {
@@ -447,8 +477,11 @@ impl<
         hash_builder: S,
         pairs: I,
     ) -> Result<Self, AllocError>
-        requires ends { (s : I.IntoIter) → I.into_iter_gives pairs s → I.IntoIter.can_next s × IsFinite (I.IntoIter.remaining s) }
-        ensures collects { IfOk result (λ m. (s : I.IntoIter) × (xs : List (K × V)) × I.into_iter_gives pairs s × Drains I.IntoIter.next_gives s xs × CollectsTargets K.eq V.target V.shown xs m) }
+        requires ends { (s : I.IntoIter) → I.into_iter_gives pairs s →
+            I.IntoIter.can_next s × IsFinite (I.IntoIter.remaining s) }
+        ensures collects { IfOk result (λ m.
+            (s : I.IntoIter) × (xs : List (K × V)) × I.into_iter_gives pairs s
+            × Drains I.IntoIter.next_gives s xs × CollectsTargets K.eq V.target V.shown xs m) }
     {
         let mut map = FrozenIndexMap::with_hasher(alloc, arena, hash_builder);
         for pair in pairs {
@@ -506,7 +539,8 @@ impl<'a, K: Eq + Hash, V: StableDeref<'a>, S: BuildHasher, A: Allocator + Copy> 
 
     /// The pairs, to write: a new base begins with what is left in them. It takes no memory.
     pub fn as_mut(&mut self) -> &mut IndexMap<K, V::Borrow, S, A>
-        ensures* writes_back { sem 𝓛 (lends_pairs K.row V.row S.row A.row V.Borrow.row S.Hasher.row K.Hash V.HasTarget S.BuildHasher S.Hasher.Hasher A.Allocator self.entry result) }
+        ensures* writes_back { sem 𝓛 (lends_pairs K.row V.row S.row A.row V.Borrow.row S.Hasher.row
+            K.Hash V.HasTarget S.BuildHasher S.Hasher.Hasher A.Allocator self.entry result) }
         ensures content { result.now.entries ≡ self.old }
     {
         &mut self.map

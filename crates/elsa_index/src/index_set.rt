@@ -264,7 +264,8 @@ where
     /// keep a copy that nobody sees.
     #[tactic(auto, using(crate::proofs::Content::found_within))]
     pub fn insert_full_new(&mut self, value: T) -> Result<(usize, T::Borrow, bool), AllocError>
-        ensures accepted { IfOk result (λ r. SetInsertedNew T.target T.shown T.finds self.old value r.0 r.1 r.2 self.new) }
+        ensures accepted { IfOk result (λ r.
+            SetInsertedNew T.target T.shown T.finds self.old value r.0 r.1 r.2 self.new) }
         ensures refused { OnErr result (self.new ≡ self.old) }
         ensures only_new { OnErr result (position (T.finds value) self.old ≡ None) }
         ensures unique { IsDistinct T.Borrow.eq self.new }
@@ -285,7 +286,8 @@ where
     ///
     /// Costs and the refusal are those of `insert_full_new`.
     pub fn insert_full(&mut self, value: T) -> Result<(usize, T::Borrow), AllocError>
-        ensures accepted { IfOk result (λ r. SetInserted T.target T.shown T.finds self.old value r.0 r.1 self.new) }
+        ensures accepted { IfOk result (λ r.
+            SetInserted T.target T.shown T.finds self.old value r.0 r.1 self.new) }
         ensures refused { OnErr result (self.new ≡ self.old) }
         ensures only_new { OnErr result (position (T.finds value) self.old ≡ None) }
         ensures unique { IsDistinct T.Borrow.eq self.new }
@@ -302,7 +304,8 @@ where
     /// Costs and the refusal are those of `insert_full_new`.
     #[tactic(auto, using(crate::proofs::Content::found_at))]
     pub fn insert_new(&mut self, value: T) -> Result<(T::Borrow, bool), AllocError>
-        ensures accepted { IfOk result (λ r. (i : ℕ) × SetInsertedNew T.target T.shown T.finds self.old value i r.0 r.1 self.new) }
+        ensures accepted { IfOk result (λ r.
+            (i : ℕ) × SetInsertedNew T.target T.shown T.finds self.old value i r.0 r.1 self.new) }
         ensures refused { OnErr result (self.new ≡ self.old) }
         ensures only_new { OnErr result (position (T.finds value) self.old ≡ None) }
         ensures stands { IfOk result (λ r. find (T.finds value) self.new ≡ Some r.0) }
@@ -316,7 +319,8 @@ where
     /// Costs and the refusal are those of `insert_full_new`.
     #[tactic(auto, using(crate::proofs::Content::found_at))]
     pub fn insert(&mut self, value: T) -> Result<T::Borrow, AllocError>
-        ensures accepted { IfOk result (λ b. (i : ℕ) × SetInserted T.target T.shown T.finds self.old value i b self.new) }
+        ensures accepted { IfOk result (λ b.
+            (i : ℕ) × SetInserted T.target T.shown T.finds self.old value i b self.new) }
         ensures refused { OnErr result (self.new ≡ self.old) }
         ensures only_new { OnErr result (position (T.finds value) self.old ≡ None) }
         ensures stands { IfOk result (λ b. find (T.finds value) self.new ≡ Some b) }
@@ -340,7 +344,8 @@ impl<'a, B: Allocator, S: BuildHasher, A: Allocator + Copy> FrozenIndexSet<'a, S
         ensures unique { OnOk result (IsDistinct (λ a b. bytes_eq a.now b.now) self.new) }
         ensures small { IfOk result (λ r. r.0 < 2 ^ 63) }
         ensures stands { IfOk result (λ r. slice_get self.new r.0 ≡ Some r.1) }
-        ensures stands_at { IfOk result (λ r. position (λ k. bytes_eq text.now k.now) self.new ≡ Some r.0) }
+        ensures stands_at { IfOk result (λ r.
+            position (λ k. bytes_eq text.now k.now) self.new ≡ Some r.0) }
     {
         let placed = self.arena.try_alloc_str(text)?;
         let place = self.add(placed)?;
@@ -367,8 +372,12 @@ where
         hash_builder: S,
         values: I,
     ) -> Result<Self, AllocError>
-        requires ends { (s : I.IntoIter) → I.into_iter_gives values s → I.IntoIter.can_next s × IsFinite (I.IntoIter.remaining s) }
-        ensures collects { IfOk result (λ m. (s : I.IntoIter) × (xs : List T) × I.into_iter_gives values s × Drains I.IntoIter.next_gives s xs × SetCollects T.Borrow.eq T.target T.shown T.finds xs m) }
+        requires ends { (s : I.IntoIter) → I.into_iter_gives values s →
+            I.IntoIter.can_next s × IsFinite (I.IntoIter.remaining s) }
+        ensures collects { IfOk result (λ m.
+            (s : I.IntoIter) × (xs : List T) × I.into_iter_gives values s
+            × Drains I.IntoIter.next_gives s xs
+            × SetCollects T.Borrow.eq T.target T.shown T.finds xs m) }
     {
         let mut set = FrozenIndexSet::with_hasher(alloc, arena, hash_builder);
         for value in values {
@@ -387,7 +396,8 @@ where
 
     /// The values, to write: a new base begins with what is left in them. It takes no memory.
     pub fn as_mut(&mut self) -> &mut IndexSet<T::Borrow, S, A>
-        ensures* writes_back { sem 𝓛 (lends_values T.row S.row A.row T.Borrow.row S.Hasher.row T.Borrow.Hash T.HasTarget S.BuildHasher S.Hasher.Hasher A.Allocator self.entry result) }
+        ensures* writes_back { sem 𝓛 (lends_values T.row S.row A.row T.Borrow.row S.Hasher.row
+            T.Borrow.Hash T.HasTarget S.BuildHasher S.Hasher.Hasher A.Allocator self.entry result) }
         ensures content { result.now.keys ≡ self.old }
     {
         &mut self.set

@@ -98,15 +98,26 @@ impl<'a, A: Allocator + Copy> ResourceCache<'a, A> {
     ) -> Result<&'a str, LoadFault>
     where
         F: Drop,
-        requires loader { text_at ⟦<&'a str as PartialEq>⟧.eq self.old path ≡ None → FnOnceTakesAt F.FnOnce load path.now }
-        ensures there { (t : Bor (List ℕ)) → text_at ⟦<&'a str as PartialEq>⟧.eq self.old path.entry ≡ Some t → (result ≡ Ok t) × (self.new ≡ self.old) }
-        ensures stays { IfOk result (λ t. text_at ⟦<&'a str as PartialEq>⟧.eq self.new path.entry ≡ Some t) }
-        ensures loaded { (t : Bor (List ℕ)) → text_at ⟦<&'a str as PartialEq>⟧.eq self.old path.entry ≡ None → text_at ⟦<&'a str as PartialEq>⟧.eq self.new path.entry ≡ Some t → LoadsText F.FnOnce load path.entry t.now }
+        requires loader { text_at ⟦<&'a str as PartialEq>⟧.eq self.old path ≡ None →
+            FnOnceTakesAt F.FnOnce load path.now }
+        ensures there { (t : Bor (List ℕ)) →
+            text_at ⟦<&'a str as PartialEq>⟧.eq self.old path.entry ≡ Some t →
+            (result ≡ Ok t) × (self.new ≡ self.old) }
+        ensures stays { IfOk result (λ t.
+            text_at ⟦<&'a str as PartialEq>⟧.eq self.new path.entry ≡ Some t) }
+        ensures loaded { (t : Bor (List ℕ)) →
+            text_at ⟦<&'a str as PartialEq>⟧.eq self.old path.entry ≡ None →
+            text_at ⟦<&'a str as PartialEq>⟧.eq self.new path.entry ≡ Some t →
+            LoadsText F.FnOnce load path.entry t.now }
         ensures others { KeepsOthers ⟦<&'a str as PartialEq>⟧.eq self.old self.new path.entry }
         ensures resources { self.new.resources ≡ self.old.resources }
-        ensures refused { OnErr result ((self.new ≡ self.old) × (text_at ⟦<&'a str as PartialEq>⟧.eq self.old path.entry ≡ None)) }
-        ensures not_found { result ≡ Err LoadFault.NotFound → FailsToLoad F.FnOnce load path.entry LoadFault.NotFound }
-        ensures no_memory { result ≡ Err LoadFault.Memory → FailsToLoad F.FnOnce load path.entry LoadFault.Memory ⊎ ((b : List ℕ) × LoadsText F.FnOnce load path.entry b) }
+        ensures refused { OnErr result ((self.new ≡ self.old)
+            × (text_at ⟦<&'a str as PartialEq>⟧.eq self.old path.entry ≡ None)) }
+        ensures not_found { result ≡ Err LoadFault.NotFound →
+            FailsToLoad F.FnOnce load path.entry LoadFault.NotFound }
+        ensures no_memory { result ≡ Err LoadFault.Memory →
+            FailsToLoad F.FnOnce load path.entry LoadFault.Memory
+            ⊎ ((b : List ℕ) × LoadsText F.FnOnce load path.entry b) }
     {
         if let Some(text) = self.texts.get(&path) {
             return Ok(text);
@@ -130,21 +141,36 @@ impl<'a, A: Allocator + Copy> ResourceCache<'a, A> {
     ) -> Result<&'a Resource<'a>, LoadFault>
     where
         F: Drop,
-        requires loader { resource_at ⟦<&'a str as PartialEq>⟧.eq self.old path ≡ None → text_at ⟦<&'a str as PartialEq>⟧.eq self.old path ≡ None → FnOnceTakesAt F.FnOnce load path.now }
+        requires loader { resource_at ⟦<&'a str as PartialEq>⟧.eq self.old path ≡ None →
+            text_at ⟦<&'a str as PartialEq>⟧.eq self.old path ≡ None →
+            FnOnceTakesAt F.FnOnce load path.now }
 
         // A resource that is there is returned, and nothing changes. Else one is made of the path's text, and stays.
-        ensures present { (r : _) → resource_at ⟦<&'a str as PartialEq>⟧.eq self.old path.entry ≡ Some r → (result ≡ Ok r) × (self.new ≡ self.old) }
-        ensures made { resource_at ⟦<&'a str as PartialEq>⟧.eq self.old path.entry ≡ None → IfOk result (λ r. BeginsText (text_at ⟦<&'a str as PartialEq>⟧.eq self.new path.entry) r.now.first.now) }
-        ensures stays { IfOk result (λ r. resource_at ⟦<&'a str as PartialEq>⟧.eq self.new path.entry ≡ Some r) }
+        ensures present { (r : _) →
+            resource_at ⟦<&'a str as PartialEq>⟧.eq self.old path.entry ≡ Some r →
+            (result ≡ Ok r) × (self.new ≡ self.old) }
+        ensures made { resource_at ⟦<&'a str as PartialEq>⟧.eq self.old path.entry ≡ None →
+            IfOk result (λ r.
+            BeginsText (text_at ⟦<&'a str as PartialEq>⟧.eq self.new path.entry) r.now.first.now) }
+        ensures stays { IfOk result (λ r.
+            resource_at ⟦<&'a str as PartialEq>⟧.eq self.new path.entry ≡ Some r) }
 
         // Whatever the result: a text that the path gains is the loader's, and all else stays.
-        ensures loaded { (t : Bor (List ℕ)) → text_at ⟦<&'a str as PartialEq>⟧.eq self.old path.entry ≡ None → text_at ⟦<&'a str as PartialEq>⟧.eq self.new path.entry ≡ Some t → LoadsText F.FnOnce load path.entry t.now }
+        ensures loaded { (t : Bor (List ℕ)) →
+            text_at ⟦<&'a str as PartialEq>⟧.eq self.old path.entry ≡ None →
+            text_at ⟦<&'a str as PartialEq>⟧.eq self.new path.entry ≡ Some t →
+            LoadsText F.FnOnce load path.entry t.now }
         ensures others { KeepsOthers ⟦<&'a str as PartialEq>⟧.eq self.old self.new path.entry }
 
         // A refusal leaves the resources, and `NotFound` all. Where the path has no text then, the loader said so, or its text found no room.
         ensures refused { OnErr result (self.new.resources ≡ self.old.resources) }
-        ensures not_found { result ≡ Err LoadFault.NotFound → (self.new ≡ self.old) × (text_at ⟦<&'a str as PartialEq>⟧.eq self.old path.entry ≡ None) × FailsToLoad F.FnOnce load path.entry LoadFault.NotFound }
-        ensures no_memory { result ≡ Err LoadFault.Memory → text_at ⟦<&'a str as PartialEq>⟧.eq self.new path.entry ≡ None → FailsToLoad F.FnOnce load path.entry LoadFault.Memory ⊎ ((b : List ℕ) × LoadsText F.FnOnce load path.entry b) }
+        ensures not_found { result ≡ Err LoadFault.NotFound →
+            (self.new ≡ self.old) × (text_at ⟦<&'a str as PartialEq>⟧.eq self.old path.entry ≡ None)
+            × FailsToLoad F.FnOnce load path.entry LoadFault.NotFound }
+        ensures no_memory { result ≡ Err LoadFault.Memory →
+            text_at ⟦<&'a str as PartialEq>⟧.eq self.new path.entry ≡ None →
+            FailsToLoad F.FnOnce load path.entry LoadFault.Memory
+            ⊎ ((b : List ℕ) × LoadsText F.FnOnce load path.entry b) }
     {
         if let Some(resource) = self.resources.get(&path) {
             return Ok(resource);

@@ -6,7 +6,8 @@ ghost use Rattle.elsa_interner.specs.Lines.{is_number};
 
 /// Whether each byte is a digit.
 fn all_digits(digits: &[u8]) -> bool
-    ensures { IsTrue result ↔ ((i : ℕ) → i < length digits.now → IsInRange 48 57 (slice_index digits.now i)) }
+    ensures { IsTrue result
+        ↔ ((i : ℕ) → i < length digits.now → IsInRange 48 57 (slice_index digits.now i)) }
 {
     digits.iter().all(|b| b.is_ascii_digit())
 }
@@ -15,7 +16,8 @@ fn all_digits(digits: &[u8]) -> bool
 ///
 /// Zeros may stand in front, a sign may not. Takes no memory.
 pub fn number_of(digits: &str) -> Option<u64>
-    ensures { MatchOption result (is_number digits.now ≡ false) (λ n. (is_number digits.now ≡ true) × (n ≡ digits_value 10 digits.now)) }
+    ensures { MatchOption result (is_number digits.now ≡ false) (λ n.
+        (is_number digits.now ≡ true) × (n ≡ digits_value 10 digits.now)) }
 {
     if !all_digits(digits.as_bytes()) {
         return None;

@@ -33,7 +33,8 @@ pub enum EngineFault {
 /// A line up to its byte 10, and what follows.
 #[inline(always)]
 fn cut_line(piece: &[u8]) -> Option<(&[u8], &[u8])>
-    ensures { MatchOption result (IsInside piece.now) (λ p. IsInside p.0.now × (piece.now ≡ p.0.now ++ (10 ∷ p.1.now))) }
+    ensures { MatchOption result (IsInside piece.now) (λ p.
+        IsInside p.0.now × (piece.now ≡ p.0.now ++ (10 ∷ p.1.now))) }
 {
     let at = memchr(10, piece)?;
     Some((&piece[..at], &piece[at + 1..]))
@@ -42,7 +43,8 @@ fn cut_line(piece: &[u8]) -> Option<(&[u8], &[u8])>
 /// The same of a text, whose parts are texts.
 #[inline(always)]
 fn cut_text(text: &str) -> Option<(&str, &str)>
-    ensures { MatchOption result (IsInside text.now) (λ p. IsInside p.0.now × (text.now ≡ p.0.now ++ (10 ∷ p.1.now))) }
+    ensures { MatchOption result (IsInside text.now) (λ p.
+        IsInside p.0.now × (text.now ≡ p.0.now ++ (10 ∷ p.1.now))) }
 {
     let (line, _later) = cut_line(text.as_bytes())?;
     let at = line.len();
@@ -76,7 +78,8 @@ impl<'a, S: BuildHasher, A: Allocator + Copy> Session<'a, S, A> {
     /// The answer to the line that has begun and ends so.
     #[inline(always)]
     fn finish(&mut self, end: &[u8]) -> Reply<'a>
-        ensures finished { IsFinished self.old.names self.old.line.items self.old.skips end.now (shown result) self.new.names }
+        ensures finished { IsFinished self.old.names self.old.line.items self.old.skips end.now
+            (shown result) self.new.names }
         ensures line { self.new.line.items ≡ [] }
         ensures skips { self.new.skips ≡ false }
     {
@@ -100,7 +103,8 @@ impl<'a, S: BuildHasher, A: Allocator + Copy> Session<'a, S, A> {
     /// The same, where the end is known to be a text.
     #[inline(always)]
     fn finish_text(&mut self, end: &str) -> Reply<'a>
-        ensures finished { IsFinished self.old.names self.old.line.items self.old.skips end.now (shown result) self.new.names }
+        ensures finished { IsFinished self.old.names self.old.line.items self.old.skips end.now
+            (shown result) self.new.names }
         ensures line { self.new.line.items ≡ [] }
         ensures skips { self.new.skips ≡ false }
     {
@@ -112,7 +116,8 @@ impl<'a, S: BuildHasher, A: Allocator + Copy> Session<'a, S, A> {
 
     /// Keeps a piece of a line that goes on. The rest of a line that was refused memory isn't kept, and takes none.
     fn keep(&mut self, piece: &[u8])
-        ensures line { (tail : List ℕ) → IsSoFar self.old.line.items self.old.skips tail → IsSoFar self.new.line.items self.new.skips (tail ++ piece.now) }
+        ensures line { (tail : List ℕ) → IsSoFar self.old.line.items self.old.skips tail →
+            IsSoFar self.new.line.items self.new.skips (tail ++ piece.now) }
         ensures names { self.new.names ≡ self.old.names }
         ensures skipping { IsTrue self.old.skips → self.new ≡ self.old }
     {
@@ -127,7 +132,8 @@ impl<'a, S: BuildHasher, A: Allocator + Copy> Session<'a, S, A> {
 
     /// Whether a line has begun.
     fn has_begun(&self) -> bool
-        ensures { (tail : List ℕ) → IsSoFar self.now.line.items self.now.skips tail → (result ≡ true → 0 < length tail) × (result ≡ false → tail ≡ []) }
+        ensures { (tail : List ℕ) → IsSoFar self.now.line.items self.now.skips tail →
+            (result ≡ true → 0 < length tail) × (result ≡ false → tail ≡ []) }
     {
         self.skips || !self.line.is_empty()
     }
@@ -139,9 +145,12 @@ impl<'a, S: BuildHasher, A: Allocator + Copy> Session<'a, S, A> {
         out: &mut Pending,
         writer: &mut W,
     ) -> Result<(), Failed>
-        ensures ok { OnOk result (Feeds self.old.names self.old.line.items self.old.skips piece.now self.new.names self.new.line.items self.new.skips (W.held writer.old) out.old (W.held writer.new) out.new) }
+        ensures ok { OnOk result (Feeds self.old.names self.old.line.items self.old.skips piece.now
+            self.new.names self.new.line.items self.new.skips (W.held writer.old) out.old
+            (W.held writer.new) out.new) }
         ensures calm { OnOk result (W.failures writer.new ≡ W.failures writer.old) }
-        ensures err { OnErr result (FeedsSome self.old.names self.old.line.items self.old.skips piece.now (W.held writer.old) out.old (W.held writer.new)) }
+        ensures err { OnErr result (FeedsSome self.old.names self.old.line.items self.old.skips
+            piece.now (W.held writer.old) out.old (W.held writer.new)) }
         ensures failed { OnErr result (FailedOnce (W.failures writer.old) (W.failures writer.new)) }
     {
         let mut digits = Buffer::new();
@@ -162,9 +171,12 @@ impl<'a, S: BuildHasher, A: Allocator + Copy> Session<'a, S, A> {
         out: &mut Pending,
         writer: &mut W,
     ) -> Result<(), Failed>
-        ensures ok { OnOk result (Feeds self.old.names self.old.line.items self.old.skips piece.now self.new.names self.new.line.items self.new.skips (W.held writer.old) out.old (W.held writer.new) out.new) }
+        ensures ok { OnOk result (Feeds self.old.names self.old.line.items self.old.skips piece.now
+            self.new.names self.new.line.items self.new.skips (W.held writer.old) out.old
+            (W.held writer.new) out.new) }
         ensures calm { OnOk result (W.failures writer.new ≡ W.failures writer.old) }
-        ensures err { OnErr result (FeedsSome self.old.names self.old.line.items self.old.skips piece.now (W.held writer.old) out.old (W.held writer.new)) }
+        ensures err { OnErr result (FeedsSome self.old.names self.old.line.items self.old.skips
+            piece.now (W.held writer.old) out.old (W.held writer.new)) }
         ensures failed { OnErr result (FailedOnce (W.failures writer.old) (W.failures writer.new)) }
     {
         let mut digits = Buffer::new();
@@ -185,9 +197,12 @@ impl<'a, S: BuildHasher, A: Allocator + Copy> Session<'a, S, A> {
         out: &mut Pending,
         writer: &mut W,
     ) -> Result<(), Failed>
-        ensures ok { OnOk result (Feeds self.old.names self.old.line.items self.old.skips piece.now self.new.names self.new.line.items self.new.skips (W.held writer.old) out.old (W.held writer.new) out.new) }
+        ensures ok { OnOk result (Feeds self.old.names self.old.line.items self.old.skips piece.now
+            self.new.names self.new.line.items self.new.skips (W.held writer.old) out.old
+            (W.held writer.new) out.new) }
         ensures calm { OnOk result (W.failures writer.new ≡ W.failures writer.old) }
-        ensures err { OnErr result (FeedsSome self.old.names self.old.line.items self.old.skips piece.now (W.held writer.old) out.old (W.held writer.new)) }
+        ensures err { OnErr result (FeedsSome self.old.names self.old.line.items self.old.skips
+            piece.now (W.held writer.old) out.old (W.held writer.new)) }
         ensures failed { OnErr result (FailedOnce (W.failures writer.old) (W.failures writer.new)) }
     {
         match str::from_utf8(piece) {
@@ -204,10 +219,13 @@ impl<'a, S: BuildHasher, A: Allocator + Copy> Session<'a, S, A> {
         writer: &mut W,
     ) -> Result<(), Failed>
         requires { out.old ≡ [] }
-        ensures ok { OnOk result (Feeds self.old.names self.old.line.items self.old.skips piece.now self.new.names self.new.line.items self.new.skips (W.held writer.old) [] (W.held writer.new) []) }
+        ensures ok { OnOk result (Feeds self.old.names self.old.line.items self.old.skips piece.now
+            self.new.names self.new.line.items self.new.skips (W.held writer.old) []
+            (W.held writer.new) []) }
         ensures none { OnOk result (out.new ≡ []) }
         ensures calm { OnOk result (W.failures writer.new ≡ W.failures writer.old) }
-        ensures err { OnErr result (FeedsSome self.old.names self.old.line.items self.old.skips piece.now (W.held writer.old) [] (W.held writer.new)) }
+        ensures err { OnErr result (FeedsSome self.old.names self.old.line.items self.old.skips
+            piece.now (W.held writer.old) [] (W.held writer.new)) }
         ensures failed { OnErr result (FailedOnce (W.failures writer.old) (W.failures writer.new)) }
     {
         self.feed(piece, out, writer)?;
@@ -217,9 +235,11 @@ impl<'a, S: BuildHasher, A: Allocator + Copy> Session<'a, S, A> {
     /// Answers the last line, which has no byte 10.
     fn end<W: Sink>(&mut self, out: &mut Pending, writer: &mut W) -> Result<(), Failed>
         requires { out.old ≡ [] }
-        ensures ok { OnOk result (Ends self.old.names self.old.line.items self.old.skips (W.held writer.old) (W.held writer.new)) }
+        ensures ok { OnOk result (Ends self.old.names self.old.line.items self.old.skips
+            (W.held writer.old) (W.held writer.new)) }
         ensures calm { OnOk result (W.failures writer.new ≡ W.failures writer.old) }
-        ensures err { OnErr result (EndsSome self.old.names self.old.line.items self.old.skips (W.held writer.old) (W.held writer.new)) }
+        ensures err { OnErr result (EndsSome self.old.names self.old.line.items self.old.skips
+            (W.held writer.old) (W.held writer.new)) }
         ensures failed { OnErr result (FailedOnce (W.failures writer.old) (W.failures writer.new)) }
     {
         if !self.has_begun() {
@@ -259,14 +279,28 @@ pub fn intern_engine<'a, A: Allocator + Copy, R: Source, W: Sink>(
     reader: &mut R,
     writer: &mut W,
 ) -> Result<(), EngineFault>
-    ensures ok { OnOk result (HasAnsweredAll (R.left reader.old) (R.left reader.new) (W.held writer.old) (W.held writer.new)) }
-    ensures calm { OnOk result ((R.failures reader.new ≡ R.failures reader.old) × (W.failures writer.new ≡ W.failures writer.old)) }
-    ensures read { result ≡ Err EngineFault.Read → HasAnswered 0 (R.left reader.old) (R.left reader.new) (W.held writer.old) (W.held writer.new) }
-    ensures read_failed { result ≡ Err EngineFault.Read → FailedOnce (R.failures reader.old) (R.failures reader.new) × (W.failures writer.new ≡ W.failures writer.old) }
-    ensures write { result ≡ Err EngineFault.Write → HasAnsweredSome (R.left reader.old) (R.left reader.new) (W.held writer.old) (W.held writer.new) }
-    ensures write_failed { result ≡ Err EngineFault.Write → FailedOnce (W.failures writer.old) (W.failures writer.new) × (R.failures reader.new ≡ R.failures reader.old) }
-    ensures endless { result ≡ Err EngineFault.Endless → HasAnswered (2 ^ 64 - 1) (R.left reader.old) (R.left reader.new) (W.held writer.old) (W.held writer.new) }
-    ensures endless_calm { result ≡ Err EngineFault.Endless → (R.failures reader.new ≡ R.failures reader.old) × (W.failures writer.new ≡ W.failures writer.old) }
+    ensures ok { OnOk result (HasAnsweredAll (R.left reader.old) (R.left reader.new)
+        (W.held writer.old) (W.held writer.new)) }
+    ensures calm { OnOk result ((R.failures reader.new ≡ R.failures reader.old)
+        × (W.failures writer.new ≡ W.failures writer.old)) }
+    ensures read { result ≡ Err EngineFault.Read →
+        HasAnswered 0 (R.left reader.old) (R.left reader.new) (W.held writer.old)
+        (W.held writer.new) }
+    ensures read_failed { result ≡ Err EngineFault.Read →
+        FailedOnce (R.failures reader.old) (R.failures reader.new)
+        × (W.failures writer.new ≡ W.failures writer.old) }
+    ensures write { result ≡ Err EngineFault.Write →
+        HasAnsweredSome (R.left reader.old) (R.left reader.new) (W.held writer.old)
+        (W.held writer.new) }
+    ensures write_failed { result ≡ Err EngineFault.Write →
+        FailedOnce (W.failures writer.old) (W.failures writer.new)
+        × (R.failures reader.new ≡ R.failures reader.old) }
+    ensures endless { result ≡ Err EngineFault.Endless →
+        HasAnswered (2 ^ 64 - 1) (R.left reader.old) (R.left reader.new) (W.held writer.old)
+        (W.held writer.new) }
+    ensures endless_calm { result ≡ Err EngineFault.Endless →
+        (R.failures reader.new ≡ R.failures reader.old)
+        × (W.failures writer.new ≡ W.failures writer.old) }
 {
     intern_engine_with_hasher(
         alloc,
@@ -291,14 +325,28 @@ pub fn intern_engine_with_hasher<
     reader: &mut R,
     writer: &mut W,
 ) -> Result<(), EngineFault>
-    ensures ok { OnOk result (HasAnsweredAll (R.left reader.old) (R.left reader.new) (W.held writer.old) (W.held writer.new)) }
-    ensures calm { OnOk result ((R.failures reader.new ≡ R.failures reader.old) × (W.failures writer.new ≡ W.failures writer.old)) }
-    ensures read { result ≡ Err EngineFault.Read → HasAnswered 0 (R.left reader.old) (R.left reader.new) (W.held writer.old) (W.held writer.new) }
-    ensures read_failed { result ≡ Err EngineFault.Read → FailedOnce (R.failures reader.old) (R.failures reader.new) × (W.failures writer.new ≡ W.failures writer.old) }
-    ensures write { result ≡ Err EngineFault.Write → HasAnsweredSome (R.left reader.old) (R.left reader.new) (W.held writer.old) (W.held writer.new) }
-    ensures write_failed { result ≡ Err EngineFault.Write → FailedOnce (W.failures writer.old) (W.failures writer.new) × (R.failures reader.new ≡ R.failures reader.old) }
-    ensures endless { result ≡ Err EngineFault.Endless → HasAnswered (2 ^ 64 - 1) (R.left reader.old) (R.left reader.new) (W.held writer.old) (W.held writer.new) }
-    ensures endless_calm { result ≡ Err EngineFault.Endless → (R.failures reader.new ≡ R.failures reader.old) × (W.failures writer.new ≡ W.failures writer.old) }
+    ensures ok { OnOk result (HasAnsweredAll (R.left reader.old) (R.left reader.new)
+        (W.held writer.old) (W.held writer.new)) }
+    ensures calm { OnOk result ((R.failures reader.new ≡ R.failures reader.old)
+        × (W.failures writer.new ≡ W.failures writer.old)) }
+    ensures read { result ≡ Err EngineFault.Read →
+        HasAnswered 0 (R.left reader.old) (R.left reader.new) (W.held writer.old)
+        (W.held writer.new) }
+    ensures read_failed { result ≡ Err EngineFault.Read →
+        FailedOnce (R.failures reader.old) (R.failures reader.new)
+        × (W.failures writer.new ≡ W.failures writer.old) }
+    ensures write { result ≡ Err EngineFault.Write →
+        HasAnsweredSome (R.left reader.old) (R.left reader.new) (W.held writer.old)
+        (W.held writer.new) }
+    ensures write_failed { result ≡ Err EngineFault.Write →
+        FailedOnce (W.failures writer.old) (W.failures writer.new)
+        × (R.failures reader.new ≡ R.failures reader.old) }
+    ensures endless { result ≡ Err EngineFault.Endless →
+        HasAnswered (2 ^ 64 - 1) (R.left reader.old) (R.left reader.new) (W.held writer.old)
+        (W.held writer.new) }
+    ensures endless_calm { result ≡ Err EngineFault.Endless →
+        (R.failures reader.new ≡ R.failures reader.old)
+        × (W.failures writer.new ≡ W.failures writer.old) }
 {
     let mut session = Session::new(alloc, arena, hash_builder);
     let mut out = Pending::new();

@@ -135,7 +135,8 @@ impl<'a, S: BuildHasher, A: Allocator + Copy> Interner<'a, S, A> {
         ensures stands { IfOk result (λ n. slice_get self.new n ≡ Some text.now) }
         ensures stands_at { IfOk result (λ n. position (bytes_eq text.now) self.new ≡ Some n) }
         ensures kept { IsPrefix self.old self.new }
-        ensures kept_at { (word : List ℕ) (i : ℕ) → position (bytes_eq word) self.old ≡ Some i → position (bytes_eq word) self.new ≡ Some i }
+        ensures kept_at { (word : List ℕ) (i : ℕ) → position (bytes_eq word) self.old ≡ Some i →
+            position (bytes_eq word) self.new ≡ Some i }
     {
         if let Some(place) = self.names.get_index_of(&text) {
             return Ok(place);

@@ -115,15 +115,27 @@ impl<'a, T: Copy + 'a, S: BuildHasher, A: Allocator + Copy> ParsedCache<'a, T, S
     ) -> Result<Option<&'a str>, L>
     where
         F: Drop,
-        requires loader { value_at ⟦<&'a str as PartialEq>⟧.eq self.old.texts path ≡ None → F.IsAlwaysCallable load }
-        ensures present { (t : Bor (List ℕ)) → value_at ⟦<&'a str as PartialEq>⟧.eq self.old.texts path.entry ≡ Some t → (result ≡ Ok (Some t)) × (self.new ≡ self.old) }
-        ensures loaded { (t : Bor (List ℕ)) → value_at ⟦<&'a str as PartialEq>⟧.eq self.old.texts path.entry ≡ None → value_at ⟦<&'a str as PartialEq>⟧.eq self.new.texts path.entry ≡ Some t → (s : _) × FnOnceReturnsAt F.FnOnce load path.now (Ok s) × (t.now ≡ string_bytes s) }
-        ensures stays { IfOk result (λ o. IfSome o (λ t. value_at ⟦<&'a str as PartialEq>⟧.eq self.new.texts path.entry ≡ Some t)) }
-        ensures others { (q : Bor (List ℕ)) → ⟦<&'a str as PartialEq>⟧.eq path.entry q ≡ false → value_at ⟦<&'a str as PartialEq>⟧.eq self.new.texts q ≡ value_at ⟦<&'a str as PartialEq>⟧.eq self.old.texts q }
+        requires loader { value_at ⟦<&'a str as PartialEq>⟧.eq self.old.texts path ≡ None →
+            F.IsAlwaysCallable load }
+        ensures present { (t : Bor (List ℕ)) →
+            value_at ⟦<&'a str as PartialEq>⟧.eq self.old.texts path.entry ≡ Some t →
+            (result ≡ Ok (Some t)) × (self.new ≡ self.old) }
+        ensures loaded { (t : Bor (List ℕ)) →
+            value_at ⟦<&'a str as PartialEq>⟧.eq self.old.texts path.entry ≡ None →
+            value_at ⟦<&'a str as PartialEq>⟧.eq self.new.texts path.entry ≡ Some t →
+            (s : _) × FnOnceReturnsAt F.FnOnce load path.now (Ok s) × (t.now ≡ string_bytes s) }
+        ensures stays { IfOk result (λ o.
+            IfSome o (λ t. value_at ⟦<&'a str as PartialEq>⟧.eq self.new.texts path.entry ≡ Some t)) }
+        ensures others { (q : Bor (List ℕ)) → ⟦<&'a str as PartialEq>⟧.eq path.entry q ≡ false →
+            value_at ⟦<&'a str as PartialEq>⟧.eq self.new.texts q
+            ≡ value_at ⟦<&'a str as PartialEq>⟧.eq self.old.texts q }
         ensures values { self.new.resources ≡ self.old.resources }
-        ensures no_memory { result ≡ Ok None → (self.new ≡ self.old) × (value_at ⟦<&'a str as PartialEq>⟧.eq self.old.texts path.entry ≡ None) }
+        ensures no_memory { result ≡ Ok None →
+            (self.new ≡ self.old)
+            × (value_at ⟦<&'a str as PartialEq>⟧.eq self.old.texts path.entry ≡ None) }
         ensures no_room { result ≡ Ok None → (s : _) × FnOnceReturnsAt F.FnOnce load path.now (Ok s) }
-        ensures not_loaded { (e : L) → result ≡ Err e → (self.new ≡ self.old) × FnOnceReturnsAt F.FnOnce load path.now (Err e) }
+        ensures not_loaded { (e : L) → result ≡ Err e →
+            (self.new ≡ self.old) × FnOnceReturnsAt F.FnOnce load path.now (Err e) }
     {
         if let Some(text) = self.texts.get_text(path) {
             return Ok(Some(text));
@@ -150,30 +162,59 @@ impl<'a, T: Copy + 'a, S: BuildHasher, A: Allocator + Copy> ParsedCache<'a, T, S
     where
         F: Drop,
         G: Drop,
-        requires loader { value_at ⟦<&'a str as PartialEq>⟧.eq self.old.resources path ≡ None → value_at ⟦<&'a str as PartialEq>⟧.eq self.old.texts path ≡ None → F.IsAlwaysCallable load }
-        requires parser { value_at ⟦<&'a str as PartialEq>⟧.eq self.old.resources path ≡ None → G.IsAlwaysCallable parse }
+        requires loader { value_at ⟦<&'a str as PartialEq>⟧.eq self.old.resources path ≡ None →
+            value_at ⟦<&'a str as PartialEq>⟧.eq self.old.texts path ≡ None →
+            F.IsAlwaysCallable load }
+        requires parser { value_at ⟦<&'a str as PartialEq>⟧.eq self.old.resources path ≡ None →
+            G.IsAlwaysCallable parse }
 
         // A value that is there.
-        ensures present { (v : Bor T) → value_at ⟦<&'a str as PartialEq>⟧.eq self.old.resources path.entry ≡ Some v → (result ≡ Ok v) × (self.new ≡ self.old) }
+        ensures present { (v : Bor T) →
+            value_at ⟦<&'a str as PartialEq>⟧.eq self.old.resources path.entry ≡ Some v →
+            (result ≡ Ok v) × (self.new ≡ self.old) }
 
         // A value that is made now: of the text that the path has then, which is the loader's if it is new.
-        ensures made { value_at ⟦<&'a str as PartialEq>⟧.eq self.old.resources path.entry ≡ None → IfOk result (λ v. (t : Bor (List ℕ)) × (value_at ⟦<&'a str as PartialEq>⟧.eq self.new.texts path.entry ≡ Some t) × G.post parse t (Ok v.now)) }
-        ensures loaded { (t : Bor (List ℕ)) → value_at ⟦<&'a str as PartialEq>⟧.eq self.old.texts path.entry ≡ None → value_at ⟦<&'a str as PartialEq>⟧.eq self.new.texts path.entry ≡ Some t → (s : _) × FnOnceReturnsAt F.FnOnce load path.now (Ok s) × (t.now ≡ string_bytes s) }
+        ensures made { value_at ⟦<&'a str as PartialEq>⟧.eq self.old.resources path.entry ≡ None →
+            IfOk result (λ v.
+            (t : Bor (List ℕ))
+            × (value_at ⟦<&'a str as PartialEq>⟧.eq self.new.texts path.entry ≡ Some t)
+            × G.post parse t (Ok v.now)) }
+        ensures loaded { (t : Bor (List ℕ)) →
+            value_at ⟦<&'a str as PartialEq>⟧.eq self.old.texts path.entry ≡ None →
+            value_at ⟦<&'a str as PartialEq>⟧.eq self.new.texts path.entry ≡ Some t →
+            (s : _) × FnOnceReturnsAt F.FnOnce load path.now (Ok s) × (t.now ≡ string_bytes s) }
 
         // What stays.
-        ensures stays { IfOk result (λ v. value_at ⟦<&'a str as PartialEq>⟧.eq self.new.resources path.entry ≡ Some v) }
-        ensures text_stays { (t : Bor (List ℕ)) → value_at ⟦<&'a str as PartialEq>⟧.eq self.old.texts path.entry ≡ Some t → value_at ⟦<&'a str as PartialEq>⟧.eq self.new.texts path.entry ≡ Some t }
-        ensures other_texts { (q : Bor (List ℕ)) → ⟦<&'a str as PartialEq>⟧.eq path.entry q ≡ false → value_at ⟦<&'a str as PartialEq>⟧.eq self.new.texts q ≡ value_at ⟦<&'a str as PartialEq>⟧.eq self.old.texts q }
-        ensures other_values { (q : Bor (List ℕ)) → ⟦<&'a str as PartialEq>⟧.eq path.entry q ≡ false → value_at ⟦<&'a str as PartialEq>⟧.eq self.new.resources q ≡ value_at ⟦<&'a str as PartialEq>⟧.eq self.old.resources q }
+        ensures stays { IfOk result (λ v.
+            value_at ⟦<&'a str as PartialEq>⟧.eq self.new.resources path.entry ≡ Some v) }
+        ensures text_stays { (t : Bor (List ℕ)) →
+            value_at ⟦<&'a str as PartialEq>⟧.eq self.old.texts path.entry ≡ Some t →
+            value_at ⟦<&'a str as PartialEq>⟧.eq self.new.texts path.entry ≡ Some t }
+        ensures other_texts { (q : Bor (List ℕ)) →
+            ⟦<&'a str as PartialEq>⟧.eq path.entry q ≡ false →
+            value_at ⟦<&'a str as PartialEq>⟧.eq self.new.texts q
+            ≡ value_at ⟦<&'a str as PartialEq>⟧.eq self.old.texts q }
+        ensures other_values { (q : Bor (List ℕ)) →
+            ⟦<&'a str as PartialEq>⟧.eq path.entry q ≡ false →
+            value_at ⟦<&'a str as PartialEq>⟧.eq self.new.resources q
+            ≡ value_at ⟦<&'a str as PartialEq>⟧.eq self.old.resources q }
 
         // Refusals: by whom, and what each leaves.
         ensures refused { OnErr result (self.new.resources ≡ self.old.resources) }
-        ensures not_loaded { (e : L) → result ≡ Err (CacheFault.Load e) → (self.new ≡ self.old) × FnOnceReturnsAt F.FnOnce load path.now (Err e) }
-        ensures not_parsed { (e : P) → result ≡ Err (CacheFault.Parse e) → (t : Bor (List ℕ)) × (value_at ⟦<&'a str as PartialEq>⟧.eq self.new.texts path.entry ≡ Some t) × G.post parse t (Err e) }
+        ensures not_loaded { (e : L) → result ≡ Err (CacheFault.Load e) →
+            (self.new ≡ self.old) × FnOnceReturnsAt F.FnOnce load path.now (Err e) }
+        ensures not_parsed { (e : P) → result ≡ Err (CacheFault.Parse e) →
+            (t : Bor (List ℕ))
+            × (value_at ⟦<&'a str as PartialEq>⟧.eq self.new.texts path.entry ≡ Some t)
+            × G.post parse t (Err e) }
 
         // Memory was refused for the text where the path has none, else for the value.
-        ensures no_text { result ≡ Err CacheFault.Memory → value_at ⟦<&'a str as PartialEq>⟧.eq self.new.texts path.entry ≡ None → (s : _) × FnOnceReturnsAt F.FnOnce load path.now (Ok s) }
-        ensures no_value { (t : Bor (List ℕ)) → result ≡ Err CacheFault.Memory → value_at ⟦<&'a str as PartialEq>⟧.eq self.new.texts path.entry ≡ Some t → (v : T) × G.post parse t (Ok v) }
+        ensures no_text { result ≡ Err CacheFault.Memory →
+            value_at ⟦<&'a str as PartialEq>⟧.eq self.new.texts path.entry ≡ None →
+            (s : _) × FnOnceReturnsAt F.FnOnce load path.now (Ok s) }
+        ensures no_value { (t : Bor (List ℕ)) → result ≡ Err CacheFault.Memory →
+            value_at ⟦<&'a str as PartialEq>⟧.eq self.new.texts path.entry ≡ Some t →
+            (v : T) × G.post parse t (Ok v) }
     {
         if let Some(value) = self.values.get_text(path) {
             return Ok(value);

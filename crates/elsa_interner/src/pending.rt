@@ -77,9 +77,11 @@ impl Pending {
 
     /// Adds a piece; where there is no room for it, what waits is written first.
     fn push<W: Sink>(&mut self, writer: &mut W, piece: &[u8]) -> Result<(), Failed>
-        ensures ok { OnOk result (Queued (W.held writer.old) self.old (W.held writer.new) self.new piece.now) }
+        ensures ok { OnOk result (
+            Queued (W.held writer.old) self.old (W.held writer.new) self.new piece.now) }
         ensures calm { OnOk result (W.failures writer.new ≡ W.failures writer.old) }
-        ensures err { OnErr result (AppendsSome (W.held writer.old) (W.held writer.new) (self.old ++ piece.now)) }
+        ensures err { OnErr result (
+            AppendsSome (W.held writer.old) (W.held writer.new) (self.old ++ piece.now)) }
         ensures failed { OnErr result (FailedOnce (W.failures writer.old) (W.failures writer.new)) }
     {
         if piece.len() <= ROOM - self.len {
@@ -97,9 +99,11 @@ impl Pending {
     /// Adds a line: a piece, and byte 10 behind it.
     #[inline(always)]
     pub fn push_line<W: Sink>(&mut self, writer: &mut W, piece: &[u8]) -> Result<(), Failed>
-        ensures ok { OnOk result (Queued (W.held writer.old) self.old (W.held writer.new) self.new (piece.now ++ (10 ∷ []))) }
+        ensures ok { OnOk result (Queued (W.held writer.old) self.old (W.held writer.new) self.new
+            (piece.now ++ (10 ∷ []))) }
         ensures calm { OnOk result (W.failures writer.new ≡ W.failures writer.old) }
-        ensures err { OnErr result (AppendsSome (W.held writer.old) (W.held writer.new) (self.old ++ (piece.now ++ (10 ∷ [])))) }
+        ensures err { OnErr result (AppendsSome (W.held writer.old) (W.held writer.new)
+            (self.old ++ (piece.now ++ (10 ∷ [])))) }
         ensures failed { OnErr result (FailedOnce (W.failures writer.old) (W.failures writer.new)) }
     {
         if piece.len() < ROOM - self.len {

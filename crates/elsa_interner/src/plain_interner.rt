@@ -92,7 +92,8 @@ impl<'a, A: Allocator + Copy> PlainInterner<'a, A> {
         ensures stands { IfOk result (λ n. slice_get self.new n ≡ Some text.now) }
         ensures stands_at { IfOk result (λ n. position (bytes_eq text.now) self.new ≡ Some n) }
         ensures kept { IsPrefix self.old self.new }
-        ensures kept_at { (word : List ℕ) (i : ℕ) → position (bytes_eq word) self.old ≡ Some i → position (bytes_eq word) self.new ≡ Some i }
+        ensures kept_at { (word : List ℕ) (i : ℕ) → position (bytes_eq word) self.old ≡ Some i →
+            position (bytes_eq word) self.new ≡ Some i }
     {
         if let Some(place) = place_of(&self.names, text) {
             return Ok(place);

@@ -23,7 +23,8 @@ pub enum Request<'t> {
 
 /// What follows a word at the front of a text.
 fn after<'t>(text: &'t str, word: &str) -> Option<&'t str>
-    ensures { MatchOption result (starts_with nat_eq text.now word.now ≡ false) (λ r. (starts_with nat_eq text.now word.now ≡ true) × (r.now ≡ drop (length word.now) text.now)) }
+    ensures { MatchOption result (starts_with nat_eq text.now word.now ≡ false) (λ r.
+        (starts_with nat_eq text.now word.now ≡ true) × (r.now ≡ drop (length word.now) text.now)) }
 {
     text.strip_prefix(word)
 }

@@ -20,7 +20,8 @@ pub fn looked_up_round_a_push<'a, T: StableDeref<'a>, A: Allocator + Copy>(
     place: usize,
     item: T,
 ) -> (Option<T::Borrow>, Result<(), AllocError>, Option<T::Borrow>)
-    ensures looked_up { (result.0 ≡ slice_get items.old place) × (result.2 ≡ slice_get items.new place) }
+    ensures looked_up { (result.0 ≡ slice_get items.old place)
+        × (result.2 ≡ slice_get items.new place) }
     ensures pushed { IfOk result.1 (λ _. Gains T.target T.shown items.old item items.new) }
     ensures prefix { (more : List T.Borrow) × (items.new ≡ items.old ++ more) }
     ensures same { IfSome result.0 (λ b. result.2 ≡ Some b) }
@@ -44,7 +45,9 @@ pub fn outlives_its_vector<
     requires can { I.can_next further }
     requires ends { IsFinite (I.remaining further) }
     ensures shows { IfOk result (λ r. T.shown r.0 ≡ T.target item) }
-    ensures left { IfOk result (λ r. (given : List T) × Drains I.next_gives further given × GainsAll T.target T.shown (items.entry ++ r.0 ∷ []) given r.1.items) }
+    ensures left { IfOk result (λ r.
+        (given : List T) × Drains I.next_gives further given
+        × GainsAll T.target T.shown (items.entry ++ r.0 ∷ []) given r.1.items) }
 {
     let borrow = items.push_get(item)?;
     items.extend(further)?;
@@ -59,7 +62,8 @@ pub fn pushed_apart<'a, T: StableDeref<'a>, A: Allocator + Copy>(
 ) -> Result<FrozenVec<'a, T, A>, AllocError>
     ensures source { IfOk result (λ _. Gains T.target T.shown items.old one items.new) }
     ensures copy { IfOk result (λ copy. Gains T.target T.shown items.old other copy) }
-    ensures refused { OnErr result ((items.new ≡ items.old) ⊎ Gains T.target T.shown items.old one items.new) }
+    ensures refused { OnErr result ((items.new ≡ items.old)
+        ⊎ Gains T.target T.shown items.old one items.new) }
 {
     let mut copy = items.clone()?;
     items.push(one)?;
@@ -89,7 +93,8 @@ pub fn equal_both_ways<'a, T: StableDeref<'a>, A: Allocator + Copy>(
 ) -> (bool, bool)
 where
     <T as StableDeref<'a>>::Borrow: PartialEq,
-    ensures answered { (result.0 ≡ pointwise T.Borrow.eq one.now other.now) × (result.1 ≡ pointwise T.Borrow.eq other.now one.now) }
+    ensures answered { (result.0 ≡ pointwise T.Borrow.eq one.now other.now)
+        × (result.1 ≡ pointwise T.Borrow.eq other.now one.now) }
     ensures same { result.0 ≡ result.1 }
 {
     (one == other, other == one)
@@ -150,7 +155,8 @@ pub fn place_by_order<'a, T: StableDeref<'a>, A: Allocator + Copy, F: FnMut(T::B
     order: F,
 ) -> Result<usize, usize>
     requires { F.IsAlwaysCallable order }
-    ensures { (o : T.Borrow → Ordering) → AlwaysReturns F.FnMut (λ a r. r ≡ o a.0) order → IsBinarySearchResult o items.now result }
+    ensures { (o : T.Borrow → Ordering) → AlwaysReturns F.FnMut (λ a r. r ≡ o a.0) order →
+        IsBinarySearchResult o items.now result }
 {
     items.binary_search_by(order)
 }
@@ -161,7 +167,9 @@ pub fn place_by_test<'a, T: StableDeref<'a>, A: Allocator + Copy, F: FnMut(T::Bo
     belongs: F,
 ) -> usize
     requires { F.IsAlwaysCallable belongs }
-    ensures { (test : T.Borrow → Bool) → AlwaysReturns F.FnMut (λ a r. r ≡ test a.0) belongs → IsPartitionedBy test items.now → IsPartitionPoint (λ b. test b ≡ true) (λ b. test b ≡ false) items.now result }
+    ensures { (test : T.Borrow → Bool) → AlwaysReturns F.FnMut (λ a r. r ≡ test a.0) belongs →
+        IsPartitionedBy test items.now →
+        IsPartitionPoint (λ b. test b ≡ true) (λ b. test b ≡ false) items.now result }
 {
     items.partition_point(belongs)
 }

@@ -104,7 +104,9 @@ pub fn run_index<
     map: &mut FrozenIndexMap<'a, K, V, S, A>,
     commands: Vec<IndexCommand<K, V, IndexMap<K, V::Borrow, S, A>>, A>,
 ) -> Result<Vec<IndexReply<V::Borrow>, A>, AllocError>
-    ensures run { IfOk result (λ replies. IndexRunsTo K.eq V.target V.shown (λ m. m.entries) map.old commands.items replies.items map.new) }
+    ensures run { IfOk result (λ replies.
+        IndexRunsTo K.eq V.target V.shown (λ m. m.entries) map.old commands.items replies.items
+        map.new) }
     ensures none_made { OnErr result (map.new ≡ map.old) }
 {
     let mut replies = Vec::with_capacity(alloc, commands.len())?;

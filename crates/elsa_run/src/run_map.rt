@@ -50,7 +50,8 @@ fn answer<'a, M: MapForm<'a>>(
     map: &mut M,
     command: MapCommand<M::Key, M::Value, M::Base>,
 ) -> MapReply<<M::Value as StableDeref<'a>>::Borrow>
-    ensures { Step M.same M.Value.target M.Value.shown M.base_entries (M.entries map.old) command result (M.entries map.new) }
+    ensures { Step M.same M.Value.target M.Value.shown M.base_entries (M.entries map.old) command
+        result (M.entries map.new) }
 {
     match command {
         MapCommand::Insert(key, value) => match map.insert(key, value) {
@@ -80,7 +81,9 @@ pub fn run_map<'a, M: MapForm<'a>, A: Allocator + Copy>(
     map: &mut M,
     commands: Vec<MapCommand<M::Key, M::Value, M::Base>>,
 ) -> Result<Vec<MapReply<<M::Value as StableDeref<'a>>::Borrow>, A>, AllocError>
-    ensures run { IfOk result (λ replies. RunsTo M.same M.Value.target M.Value.shown M.base_entries (M.entries map.old) commands.items replies.items (M.entries map.new)) }
+    ensures run { IfOk result (λ replies.
+        RunsTo M.same M.Value.target M.Value.shown M.base_entries (M.entries map.old) commands.items
+        replies.items (M.entries map.new)) }
     ensures refused { OnErr result (M.entries map.new ≡ M.entries map.old) }
 {
     // Tells the proof that the keys' equality is an equivalence.

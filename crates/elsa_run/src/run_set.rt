@@ -66,7 +66,8 @@ fn apply<
 ) -> SetReply<T::Borrow>
 where
     <T as StableDeref<'a>>::Borrow: Eq + Hash + LookUp<<T as StableDeref<'a>>::Borrow>,
-    ensures { Step T.Borrow.eq T.target T.shown T.finds T.Borrow.finds (λ m. m.keys) set.old command result set.new }
+    ensures { Step T.Borrow.eq T.target T.shown T.finds T.Borrow.finds (λ m. m.keys) set.old command
+        result set.new }
 {
     match command {
         SetCommand::Insert(value) => match set.insert(value) {
@@ -111,7 +112,9 @@ pub fn run_set<
 ) -> Result<Vec<SetReply<T::Borrow>, A>, AllocError>
 where
     <T as StableDeref<'a>>::Borrow: Eq + Hash + LookUp<<T as StableDeref<'a>>::Borrow>,
-    ensures run { IfOk result (λ replies. SetRunsTo T.Borrow.eq T.target T.shown T.finds T.Borrow.finds (λ m. m.keys) set.old commands.items replies.items set.new) }
+    ensures run { IfOk result (λ replies.
+        SetRunsTo T.Borrow.eq T.target T.shown T.finds T.Borrow.finds (λ m. m.keys) set.old
+        commands.items replies.items set.new) }
     ensures none_made { OnErr result (set.new ≡ set.old) }
 {
     let mut replies = Vec::with_capacity(alloc, commands.len())?;

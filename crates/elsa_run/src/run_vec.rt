@@ -52,7 +52,8 @@ fn apply<'a, T: StableDeref<'a>, A: Allocator + Copy>(
     command: VecCommand<T, Vec<T::Borrow, A>>,
 ) -> VecReply<T::Borrow>
     ensures answer { Answers T.target T.shown (λ m. m.items) (map T.shown items.old) command result }
-    ensures content { map T.shown items.new ≡ content_after T.target T.shown (λ m. m.items) (map T.shown items.old) command result }
+    ensures content { map T.shown items.new
+        ≡ content_after T.target T.shown (λ m. m.items) (map T.shown items.old) command result }
 {
     match command {
         VecCommand::Push(item) => match items.push(item) {
@@ -84,7 +85,9 @@ pub fn run_vec<'a, T: StableDeref<'a>, A: Allocator + Copy>(
     items: &mut FrozenVec<'a, T, A>,
     commands: Vec<VecCommand<T, Vec<T::Borrow, A>>, A>,
 ) -> Result<Vec<VecReply<T::Borrow>, A>, AllocError>
-    ensures run { IfOk result (λ replies. VecRunsTo T.target T.shown (λ m. m.items) (map T.shown items.old) commands.items replies.items (map T.shown items.new)) }
+    ensures run { IfOk result (λ replies.
+        VecRunsTo T.target T.shown (λ m. m.items) (map T.shown items.old) commands.items
+        replies.items (map T.shown items.new)) }
     ensures none_made { OnErr result (items.new ≡ items.old) }
 {
     let mut replies = Vec::with_capacity(alloc, commands.len())?;

@@ -41,12 +41,18 @@ pub trait MapForm<'a> {
         key: Self::Key,
         value: Self::Value,
     ) -> Result<(<Self::Value as StableDeref<'a>>::Borrow, bool), AllocError>
-        ensures present { (x : Self.Value.Borrow) → value_at same (entries self.old) key ≡ Some x → (result ≡ Ok (x, false)) × (entries self.new ≡ entries self.old) }
+        ensures present { (x : Self.Value.Borrow) → value_at same (entries self.old) key ≡ Some x →
+            (result ≡ Ok (x, false)) × (entries self.new ≡ entries self.old) }
         ensures stands { IfOk result (λ r. value_at same (entries self.new) key ≡ Some r.0) }
         ensures new_flag { value_at same (entries self.old) key ≡ None → IfOk result (λ r. r.1 ≡ true) }
-        ensures new_target { value_at same (entries self.old) key ≡ None → IfOk result (λ r. Self.Value.shown r.0 ≡ Self.Value.target value) }
-        ensures new_content { value_at same (entries self.old) key ≡ None → IfOk result (λ r. Adds same (value_at same (entries self.old)) (value_at same (entries self.new)) key r.0) }
-        ensures new_length { value_at same (entries self.old) key ≡ None → OnOk result (length (entries self.new) ≡ length (entries self.old) + 1) }
+        ensures new_target { value_at same (entries self.old) key ≡ None →
+            IfOk result (λ r. Self.Value.shown r.0 ≡ Self.Value.target value) }
+        ensures new_content { value_at same (entries self.old) key ≡ None →
+            IfOk result (λ r.
+            Adds same (value_at same (entries self.old)) (value_at same (entries self.new)) key
+            r.0) }
+        ensures new_length { value_at same (entries self.old) key ≡ None →
+            OnOk result (length (entries self.new) ≡ length (entries self.old) + 1) }
         ensures refused { OnErr result (entries self.new ≡ entries self.old) }
         ensures only_new { OnErr result (value_at same (entries self.old) key ≡ None) };
 
@@ -56,11 +62,17 @@ pub trait MapForm<'a> {
         key: Self::Key,
         value: Self::Value,
     ) -> Result<<Self::Value as StableDeref<'a>>::Borrow, AllocError>
-        ensures present { (x : Self.Value.Borrow) → value_at same (entries self.old) key ≡ Some x → (result ≡ Ok x) × (entries self.new ≡ entries self.old) }
+        ensures present { (x : Self.Value.Borrow) → value_at same (entries self.old) key ≡ Some x →
+            (result ≡ Ok x) × (entries self.new ≡ entries self.old) }
         ensures stands { IfOk result (λ b. value_at same (entries self.new) key ≡ Some b) }
-        ensures new_target { value_at same (entries self.old) key ≡ None → IfOk result (λ b. Self.Value.shown b ≡ Self.Value.target value) }
-        ensures new_content { value_at same (entries self.old) key ≡ None → IfOk result (λ b. Adds same (value_at same (entries self.old)) (value_at same (entries self.new)) key b) }
-        ensures new_length { value_at same (entries self.old) key ≡ None → OnOk result (length (entries self.new) ≡ length (entries self.old) + 1) }
+        ensures new_target { value_at same (entries self.old) key ≡ None →
+            IfOk result (λ b. Self.Value.shown b ≡ Self.Value.target value) }
+        ensures new_content { value_at same (entries self.old) key ≡ None →
+            IfOk result (λ b.
+            Adds same (value_at same (entries self.old)) (value_at same (entries self.new)) key
+            b) }
+        ensures new_length { value_at same (entries self.old) key ≡ None →
+            OnOk result (length (entries self.new) ≡ length (entries self.old) + 1) }
         ensures refused { OnErr result (entries self.new ≡ entries self.old) }
         ensures only_new { OnErr result (value_at same (entries self.old) key ≡ None) };
 

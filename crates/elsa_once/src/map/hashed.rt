@@ -155,7 +155,8 @@ impl<'a, K: Eq + Hash, V: StableDeref<'a>, S: BuildHasher, A: Allocator + Copy> 
     where
         F: Drop,
         requires callable { ForSome (value_at K.eq self.now key.now) (F.pre f) }
-        ensures { MatchOption (value_at K.eq self.now key.now) (result ≡ None) (λ value. IsSomeAnd result (F.post f value)) }
+        ensures { MatchOption (value_at K.eq self.now key.now) (result ≡ None) (λ value.
+            IsSomeAnd result (F.post f value)) }
     {
         match self.entries.get(key) {
             Some(value) => Some(f(*value)),
@@ -212,7 +213,9 @@ impl<'a, K: Eq + Hash, V: StableDeref<'a>, S: BuildHasher, A: Allocator + Copy> 
 
     /// The inner map, borrowed for writing: it may change or remove anything, and what it leaves is a new base.
     pub fn as_mut(&mut self) -> &mut HashMap<K, V::Borrow, S, A>
-        ensures* writes_back { sem 𝓛 (lends_entries K.row V.row S.row A.row V.Borrow.row S.Hasher.row K.Hash V.HasTarget S.BuildHasher S.Hasher.Hasher A.Allocator self.entry result) }
+        ensures* writes_back { sem 𝓛 (lends_entries K.row V.row S.row A.row V.Borrow.row
+            S.Hasher.row K.Hash V.HasTarget S.BuildHasher S.Hasher.Hasher A.Allocator self.entry
+            result) }
         ensures content { result.now.entries ≡ self.old }
     {
         &mut self.entries
@@ -235,13 +238,18 @@ impl<'a, K: Eq + Hash + Drop, V: StableDeref<'a>, S: BuildHasher, A: Allocator +
     ///
     /// One hash and one search, and for a new key one copy into the arena.
     pub fn insert_new(&mut self, key: K, value: V) -> Result<(V::Borrow, bool), AllocError>
-        ensures present { (x : V.Borrow) → value_at K.eq self.old key ≡ Some x → (result ≡ Ok (x, false)) × (self.new ≡ self.old) }
+        ensures present { (x : V.Borrow) → value_at K.eq self.old key ≡ Some x →
+            (result ≡ Ok (x, false)) × (self.new ≡ self.old) }
         ensures stands { IfOk result (λ r. value_at K.eq self.new key ≡ Some r.0) }
         ensures new_flag { value_at K.eq self.old key ≡ None → IfOk result (λ r. r.1 ≡ true) }
-        ensures new_target { value_at K.eq self.old key ≡ None → IfOk result (λ r. V.shown r.0 ≡ V.target value) }
-        ensures new_content { value_at K.eq self.old key ≡ None → IfOk result (λ r. Adds K.eq (value_at K.eq self.old) (value_at K.eq self.new) key r.0) }
-        ensures new_length { value_at K.eq self.old key ≡ None → OnOk result (length self.new ≡ length self.old + 1) }
-        ensures new_entry { value_at K.eq self.old key ≡ None → IfOk result (λ r. IsPermutation ((key, r.0) ∷ self.old) self.new) }
+        ensures new_target { value_at K.eq self.old key ≡ None →
+            IfOk result (λ r. V.shown r.0 ≡ V.target value) }
+        ensures new_content { value_at K.eq self.old key ≡ None →
+            IfOk result (λ r. Adds K.eq (value_at K.eq self.old) (value_at K.eq self.new) key r.0) }
+        ensures new_length { value_at K.eq self.old key ≡ None →
+            OnOk result (length self.new ≡ length self.old + 1) }
+        ensures new_entry { value_at K.eq self.old key ≡ None →
+            IfOk result (λ r. IsPermutation ((key, r.0) ∷ self.old) self.new) }
         ensures refused { OnErr result (self.new ≡ self.old) }
         ensures only_new { OnErr result (value_at K.eq self.old key ≡ None) }
     {
@@ -263,12 +271,17 @@ impl<'a, K: Eq + Hash + Drop, V: StableDeref<'a>, S: BuildHasher, A: Allocator +
     /// Gives `key` the value, unless the map has a key that equals it, and returns the value that the key now has:
     /// [`insert_new`](FrozenMap::insert_new) without its flag.
     pub fn insert(&mut self, key: K, value: V) -> Result<V::Borrow, AllocError>
-        ensures present { (x : V.Borrow) → value_at K.eq self.old key ≡ Some x → (result ≡ Ok x) × (self.new ≡ self.old) }
+        ensures present { (x : V.Borrow) → value_at K.eq self.old key ≡ Some x →
+            (result ≡ Ok x) × (self.new ≡ self.old) }
         ensures stands { IfOk result (λ b. value_at K.eq self.new key ≡ Some b) }
-        ensures new_target { value_at K.eq self.old key ≡ None → IfOk result (λ b. V.shown b ≡ V.target value) }
-        ensures new_content { value_at K.eq self.old key ≡ None → IfOk result (λ b. Adds K.eq (value_at K.eq self.old) (value_at K.eq self.new) key b) }
-        ensures new_length { value_at K.eq self.old key ≡ None → OnOk result (length self.new ≡ length self.old + 1) }
-        ensures new_entry { value_at K.eq self.old key ≡ None → IfOk result (λ b. IsPermutation ((key, b) ∷ self.old) self.new) }
+        ensures new_target { value_at K.eq self.old key ≡ None →
+            IfOk result (λ b. V.shown b ≡ V.target value) }
+        ensures new_content { value_at K.eq self.old key ≡ None →
+            IfOk result (λ b. Adds K.eq (value_at K.eq self.old) (value_at K.eq self.new) key b) }
+        ensures new_length { value_at K.eq self.old key ≡ None →
+            OnOk result (length self.new ≡ length self.old + 1) }
+        ensures new_entry { value_at K.eq self.old key ≡ None →
+            IfOk result (λ b. IsPermutation ((key, b) ∷ self.old) self.new) }
         ensures refused { OnErr result (self.new ≡ self.old) }
         ensures only_new { OnErr result (value_at K.eq self.old key ≡ None) }
     {
@@ -292,13 +305,22 @@ impl<'a, V: StableDeref<'a>, S: BuildHasher, A: Allocator + Copy> FrozenMap<'a, 
     /// A new one is copied into the arena and inserted there, which takes one more hash. Where either fails, it returns `Err`, the
     /// map stays as it was, and the arena may keep a text or a value that nobody sees.
     pub fn insert_text(&mut self, key: &str, value: V) -> Result<V::Borrow, AllocError>
-        ensures present { (x : V.Borrow) → value_at ⟦<&'a str as PartialEq>⟧.eq self.old key.entry ≡ Some x → (result ≡ Ok x) × (self.new ≡ self.old) }
-        ensures stands { IfOk result (λ b. value_at ⟦<&'a str as PartialEq>⟧.eq self.new key.entry ≡ Some b) }
-        ensures new_target { value_at ⟦<&'a str as PartialEq>⟧.eq self.old key.entry ≡ None → IfOk result (λ b. V.shown b ≡ V.target value) }
-        ensures new_content { value_at ⟦<&'a str as PartialEq>⟧.eq self.old key.entry ≡ None → IfOk result (λ b. Adds ⟦<&'a str as PartialEq>⟧.eq (value_at ⟦<&'a str as PartialEq>⟧.eq self.old) (value_at ⟦<&'a str as PartialEq>⟧.eq self.new) key.entry b) }
-        ensures new_length { value_at ⟦<&'a str as PartialEq>⟧.eq self.old key.entry ≡ None → OnOk result (length self.new ≡ length self.old + 1) }
+        ensures present { (x : V.Borrow) →
+            value_at ⟦<&'a str as PartialEq>⟧.eq self.old key.entry ≡ Some x →
+            (result ≡ Ok x) × (self.new ≡ self.old) }
+        ensures stands { IfOk result (λ b.
+            value_at ⟦<&'a str as PartialEq>⟧.eq self.new key.entry ≡ Some b) }
+        ensures new_target { value_at ⟦<&'a str as PartialEq>⟧.eq self.old key.entry ≡ None →
+            IfOk result (λ b. V.shown b ≡ V.target value) }
+        ensures new_content { value_at ⟦<&'a str as PartialEq>⟧.eq self.old key.entry ≡ None →
+            IfOk result (λ b.
+            Adds ⟦<&'a str as PartialEq>⟧.eq (value_at ⟦<&'a str as PartialEq>⟧.eq self.old)
+            (value_at ⟦<&'a str as PartialEq>⟧.eq self.new) key.entry b) }
+        ensures new_length { value_at ⟦<&'a str as PartialEq>⟧.eq self.old key.entry ≡ None →
+            OnOk result (length self.new ≡ length self.old + 1) }
         ensures refused { OnErr result (self.new ≡ self.old) }
-        ensures only_new { OnErr result (value_at ⟦<&'a str as PartialEq>⟧.eq self.old key.entry ≡ None) }
+        ensures only_new { OnErr result (
+            value_at ⟦<&'a str as PartialEq>⟧.eq self.old key.entry ≡ None) }
     {
         if let Some(found) = self.get_text(key) {
             return Ok(found);
@@ -335,7 +357,9 @@ impl<
     // Gives a key this value, whether or not it has one.
     fn replace(&mut self, key: K, value: V) -> Result<V::Borrow, AllocError>
         ensures target { IfOk result (λ b. V.shown b ≡ V.target value) }
-        ensures content { IfOk result (λ b. (q : K) → value_at K.eq self.new q ≡ (if K.eq key q then Some b else value_at K.eq self.old q)) }
+        ensures content { IfOk result (λ b.
+            (q : K) →
+            value_at K.eq self.new q ≡ (if K.eq key q then Some b else value_at K.eq self.old q)) }
     {
         let borrow = match value.place(self.arena) {
             Ok(borrow) => borrow,
@@ -357,8 +381,11 @@ impl<
         hash_builder: S,
         pairs: I,
     ) -> Result<Self, AllocError>
-        requires ends { (s : I.IntoIter) → I.into_iter_gives pairs s → I.IntoIter.can_next s × IsFinite (I.IntoIter.remaining s) }
-        ensures collects { IfOk result (λ m. (s : I.IntoIter) × (xs : List (K × V)) × I.into_iter_gives pairs s × Drains I.IntoIter.next_gives s xs × HoldsLast K.eq V.target V.shown xs m) }
+        requires ends { (s : I.IntoIter) → I.into_iter_gives pairs s →
+            I.IntoIter.can_next s × IsFinite (I.IntoIter.remaining s) }
+        ensures collects { IfOk result (λ m.
+            (s : I.IntoIter) × (xs : List (K × V)) × I.into_iter_gives pairs s
+            × Drains I.IntoIter.next_gives s xs × HoldsLast K.eq V.target V.shown xs m) }
     {
         let mut made = FrozenMap::with_hasher(alloc, arena, hash_builder);
         for pair in pairs {

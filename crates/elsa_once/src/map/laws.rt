@@ -21,7 +21,8 @@ pub fn keeps_earlier_values<'a, M: MapForm<'a>>(
     ensures kept { Keeps (value_at M.same (M.entries map.old)) (value_at M.same (M.entries map.new)) }
     ensures there { IfOk result (λ r. value_at M.same (M.entries map.new) key ≡ Some r.0) }
     ensures flag { IfOk result (λ r. IsTrue r.1 ↔ (value_at M.same (M.entries map.old) key ≡ None)) }
-    ensures grows { IfOk result (λ r. length (M.entries map.new) ≡ length (M.entries map.old) + (if r.1 then 1 else 0)) }
+    ensures grows { IfOk result (λ r.
+        length (M.entries map.new) ≡ length (M.entries map.old) + (if r.1 then 1 else 0)) }
     ensures refused { OnErr result (M.entries map.new ≡ M.entries map.old) }
     ensures only_new { OnErr result (value_at M.same (M.entries map.old) key ≡ None) }
 {
@@ -45,11 +46,14 @@ pub fn is_new_once<'a, M: MapForm<'a>>(
     AllocError,
 >
     requires equal { M.same first.0 again.0 ≡ true }
-    ensures first { IfOk result (λ answers. IsTrue answers.0.1 ↔ (value_at M.same (M.entries map.old) first.0 ≡ None)) }
+    ensures first { IfOk result (λ answers.
+        IsTrue answers.0.1 ↔ (value_at M.same (M.entries map.old) first.0 ≡ None)) }
     ensures once { IfOk result (λ answers. answers.1.1 ≡ false) }
     ensures same_value { IfOk result (λ answers. answers.1.0 ≡ answers.0.0) }
-    ensures there { IfOk result (λ answers. value_at M.same (M.entries map.new) first.0 ≡ Some answers.0.0) }
-    ensures between { IfOk result (λ _. All (λ pair. IsSome (value_at M.same (M.entries map.new) pair.0)) between.items) }
+    ensures there { IfOk result (λ answers.
+        value_at M.same (M.entries map.new) first.0 ≡ Some answers.0.0) }
+    ensures between { IfOk result (λ _.
+        All (λ pair. IsSome (value_at M.same (M.entries map.new) pair.0)) between.items) }
     ensures kept { Keeps (value_at M.same (M.entries map.old)) (value_at M.same (M.entries map.new)) }
 {
     // Tells the proof that the keys' equality is an equivalence.
@@ -79,9 +83,12 @@ pub fn hashed_inserted_apart<
     other: (K, V),
 ) -> Result<FrozenMap<'a, K, V, S, A>, AllocError>
     requires equal_clones { (k c : K) → K.is_clone k c → K.eq k c ≡ true }
-    ensures source { IfOk result (λ _. Inserts K.eq V.target V.shown (value_at K.eq map.old) one.0 one.1 (value_at K.eq map.new)) }
-    ensures copy { IfOk result (λ copy. Inserts K.eq V.target V.shown (value_at K.eq map.old) other.0 other.1 (value_at K.eq copy)) }
-    ensures refused { OnErr result ((map.new ≡ map.old) ⊎ Inserts K.eq V.target V.shown (value_at K.eq map.old) one.0 one.1 (value_at K.eq map.new)) }
+    ensures source { IfOk result (λ _.
+        Inserts K.eq V.target V.shown (value_at K.eq map.old) one.0 one.1 (value_at K.eq map.new)) }
+    ensures copy { IfOk result (λ copy.
+        Inserts K.eq V.target V.shown (value_at K.eq map.old) other.0 other.1 (value_at K.eq copy)) }
+    ensures refused { OnErr result ((map.new ≡ map.old)
+        ⊎ Inserts K.eq V.target V.shown (value_at K.eq map.old) one.0 one.1 (value_at K.eq map.new)) }
 {
     let (key, value) = one;
     let (other_key, other_value) = other;
@@ -99,9 +106,15 @@ pub fn ordered_inserted_apart<'a, K: Ord + Clone + Drop, V: StableDeref<'a>, A: 
     other: (K, V),
 ) -> Result<FrozenBTreeMap<'a, K, V, A>, AllocError>
     requires equal_clones { (k c : K) → K.is_clone k c → K.eq k c ≡ true }
-    ensures source { IfOk result (λ _. Inserts (eq_by_cmp K.cmp) V.target V.shown (value_at (eq_by_cmp K.cmp) tree.old) one.0 one.1 (value_at (eq_by_cmp K.cmp) tree.new)) }
-    ensures copy { IfOk result (λ copy. Inserts (eq_by_cmp K.cmp) V.target V.shown (value_at (eq_by_cmp K.cmp) tree.old) other.0 other.1 (value_at (eq_by_cmp K.cmp) copy)) }
-    ensures refused { OnErr result ((tree.new ≡ tree.old) ⊎ Inserts (eq_by_cmp K.cmp) V.target V.shown (value_at (eq_by_cmp K.cmp) tree.old) one.0 one.1 (value_at (eq_by_cmp K.cmp) tree.new)) }
+    ensures source { IfOk result (λ _.
+        Inserts (eq_by_cmp K.cmp) V.target V.shown (value_at (eq_by_cmp K.cmp) tree.old) one.0 one.1
+        (value_at (eq_by_cmp K.cmp) tree.new)) }
+    ensures copy { IfOk result (λ copy.
+        Inserts (eq_by_cmp K.cmp) V.target V.shown (value_at (eq_by_cmp K.cmp) tree.old) other.0
+        other.1 (value_at (eq_by_cmp K.cmp) copy)) }
+    ensures refused { OnErr result ((tree.new ≡ tree.old)
+        ⊎ Inserts (eq_by_cmp K.cmp) V.target V.shown (value_at (eq_by_cmp K.cmp) tree.old) one.0
+        one.1 (value_at (eq_by_cmp K.cmp) tree.new)) }
 {
     let (key, value) = one;
     let (other_key, other_value) = other;
@@ -121,8 +134,11 @@ pub fn hashed_equal_as_functions<
 >(map: &FrozenMap<'a, K, V, S, A>, other: &FrozenMap<'a, K, V, S, A>) -> bool
 where
     V::Borrow: PartialEq,
-    ensures equal { IsTrue result → (q : K) → option_eq V.Borrow.eq (value_at K.eq map.now q) (value_at K.eq other.now q) ≡ true }
-    ensures only_equal { ((q : K) → option_eq V.Borrow.eq (value_at K.eq map.now q) (value_at K.eq other.now q) ≡ true) → IsTrue result }
+    ensures equal { IsTrue result → (q : K) →
+        option_eq V.Borrow.eq (value_at K.eq map.now q) (value_at K.eq other.now q) ≡ true }
+    ensures only_equal { ((q : K) →
+        option_eq V.Borrow.eq (value_at K.eq map.now q) (value_at K.eq other.now q) ≡ true) →
+        IsTrue result }
 {
     *map == *other
 }
@@ -134,8 +150,11 @@ pub fn ordered_equal_as_functions<'a, K: Ord, V: StableDeref<'a>, A: Allocator +
 ) -> bool
 where
     V::Borrow: PartialEq,
-    ensures equal { IsTrue result → (q : K) → option_eq V.Borrow.eq (value_at (eq_by_cmp K.cmp) tree.now q) (value_at (eq_by_cmp K.cmp) other.now q) ≡ true }
-    ensures only_equal { ((q : K) → option_eq V.Borrow.eq (value_at (eq_by_cmp K.cmp) tree.now q) (value_at (eq_by_cmp K.cmp) other.now q) ≡ true) → IsTrue result }
+    ensures equal { IsTrue result → (q : K) →
+        option_eq V.Borrow.eq (value_at (eq_by_cmp K.cmp) tree.now q) (value_at (eq_by_cmp K.cmp) other.now q)
+        ≡ true }
+    ensures only_equal { ((q : K) → option_eq V.Borrow.eq (value_at (eq_by_cmp K.cmp) tree.now q) (value_at (eq_by_cmp K.cmp) other.now q) ≡ true) →
+        IsTrue result }
 {
     *tree == *other
 }

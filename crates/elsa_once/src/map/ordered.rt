@@ -112,7 +112,8 @@ impl<'a, K: Ord, V: StableDeref<'a>, A: Allocator + Copy> FrozenBTreeMap<'a, K, 
     where
         F: Drop,
         requires callable { ForSome (value_at (eq_by_cmp K.cmp) self.now key.now) (F.pre f) }
-        ensures { MatchOption (value_at (eq_by_cmp K.cmp) self.now key.now) (result ≡ None) (λ value. IsSomeAnd result (F.post f value)) }
+        ensures { MatchOption (value_at (eq_by_cmp K.cmp) self.now key.now) (result ≡ None) (
+            λ value. IsSomeAnd result (F.post f value)) }
     {
         match self.get(key) {
             Some(value) => Some(f(value)),
@@ -163,7 +164,8 @@ impl<'a, K: Ord, V: StableDeref<'a>, A: Allocator + Copy> FrozenBTreeMap<'a, K, 
     /// The range must not begin behind its end, as `5..3` does.
     pub fn range<R: RangeBounds<K> + Drop>(&self, range: R) -> Range<'_, K, V::Borrow>
         requires { R.is_forward range (IsLeBy K.cmp) (IsLtBy K.cmp) }
-        ensures between { R.has_bounds range → result ≡ entries_between K.cmp (R.start_bound range) (R.end_bound range) self.now }
+        ensures between { R.has_bounds range →
+            result ≡ entries_between K.cmp (R.start_bound range) (R.end_bound range) self.now }
         ensures runs { ShowsInOrder (deref_pair {K = K} {X = V.Borrow}) }
         ensures runs_back { ShowsInReverse (deref_pair {K = K} {X = V.Borrow}) }
     {
@@ -209,7 +211,8 @@ impl<'a, K: Ord, V: StableDeref<'a>, A: Allocator + Copy> FrozenBTreeMap<'a, K, 
 
     /// The inner map, borrowed for writing: it may change or remove anything, and what it leaves is a new base.
     pub fn as_mut(&mut self) -> &mut BTreeMap<K, V::Borrow, A>
-        ensures* writes_back { sem 𝓛 (lends_entries K.row V.row A.row V.Borrow.row K.Ord V.HasTarget A.Allocator self.entry result) }
+        ensures* writes_back { sem 𝓛 (lends_entries K.row V.row A.row V.Borrow.row K.Ord V.HasTarget
+            A.Allocator self.entry result) }
         ensures content { result.now.entries ≡ self.old }
     {
         &mut self.entries
@@ -247,13 +250,21 @@ impl<'a, K: Ord + Drop, V: StableDeref<'a>, A: Allocator + Copy> FrozenBTreeMap<
     ///
     /// One search of the tree; for a new key one more, and one copy into the arena.
     pub fn insert_new(&mut self, key: K, value: V) -> Result<(V::Borrow, bool), AllocError>
-        ensures present { (x : V.Borrow) → value_at (eq_by_cmp K.cmp) self.old key ≡ Some x → (result ≡ Ok (x, false)) × (self.new ≡ self.old) }
+        ensures present { (x : V.Borrow) → value_at (eq_by_cmp K.cmp) self.old key ≡ Some x →
+            (result ≡ Ok (x, false)) × (self.new ≡ self.old) }
         ensures stands { IfOk result (λ r. value_at (eq_by_cmp K.cmp) self.new key ≡ Some r.0) }
-        ensures new_flag { value_at (eq_by_cmp K.cmp) self.old key ≡ None → IfOk result (λ r. r.1 ≡ true) }
-        ensures new_target { value_at (eq_by_cmp K.cmp) self.old key ≡ None → IfOk result (λ r. V.shown r.0 ≡ V.target value) }
-        ensures new_content { value_at (eq_by_cmp K.cmp) self.old key ≡ None → IfOk result (λ r. Adds (eq_by_cmp K.cmp) (value_at (eq_by_cmp K.cmp) self.old) (value_at (eq_by_cmp K.cmp) self.new) key r.0) }
-        ensures new_length { value_at (eq_by_cmp K.cmp) self.old key ≡ None → OnOk result (length self.new ≡ length self.old + 1) }
-        ensures new_entry { value_at (eq_by_cmp K.cmp) self.old key ≡ None → IfOk result (λ r. self.new ≡ insert_entry K.cmp self.old key r.0) }
+        ensures new_flag { value_at (eq_by_cmp K.cmp) self.old key ≡ None →
+            IfOk result (λ r. r.1 ≡ true) }
+        ensures new_target { value_at (eq_by_cmp K.cmp) self.old key ≡ None →
+            IfOk result (λ r. V.shown r.0 ≡ V.target value) }
+        ensures new_content { value_at (eq_by_cmp K.cmp) self.old key ≡ None →
+            IfOk result (λ r.
+            Adds (eq_by_cmp K.cmp) (value_at (eq_by_cmp K.cmp) self.old)
+            (value_at (eq_by_cmp K.cmp) self.new) key r.0) }
+        ensures new_length { value_at (eq_by_cmp K.cmp) self.old key ≡ None →
+            OnOk result (length self.new ≡ length self.old + 1) }
+        ensures new_entry { value_at (eq_by_cmp K.cmp) self.old key ≡ None →
+            IfOk result (λ r. self.new ≡ insert_entry K.cmp self.old key r.0) }
         ensures refused { OnErr result (self.new ≡ self.old) }
         ensures only_new { OnErr result (value_at (eq_by_cmp K.cmp) self.old key ≡ None) }
     {
@@ -266,12 +277,19 @@ impl<'a, K: Ord + Drop, V: StableDeref<'a>, A: Allocator + Copy> FrozenBTreeMap<
     /// Gives `key` the value, unless the map has a key that equals it, and returns the value that the key now has:
     /// [`insert_new`](FrozenBTreeMap::insert_new) without its flag.
     pub fn insert(&mut self, key: K, value: V) -> Result<V::Borrow, AllocError>
-        ensures present { (x : V.Borrow) → value_at (eq_by_cmp K.cmp) self.old key ≡ Some x → (result ≡ Ok x) × (self.new ≡ self.old) }
+        ensures present { (x : V.Borrow) → value_at (eq_by_cmp K.cmp) self.old key ≡ Some x →
+            (result ≡ Ok x) × (self.new ≡ self.old) }
         ensures stands { IfOk result (λ b. value_at (eq_by_cmp K.cmp) self.new key ≡ Some b) }
-        ensures new_target { value_at (eq_by_cmp K.cmp) self.old key ≡ None → IfOk result (λ b. V.shown b ≡ V.target value) }
-        ensures new_content { value_at (eq_by_cmp K.cmp) self.old key ≡ None → IfOk result (λ b. Adds (eq_by_cmp K.cmp) (value_at (eq_by_cmp K.cmp) self.old) (value_at (eq_by_cmp K.cmp) self.new) key b) }
-        ensures new_length { value_at (eq_by_cmp K.cmp) self.old key ≡ None → OnOk result (length self.new ≡ length self.old + 1) }
-        ensures new_entry { value_at (eq_by_cmp K.cmp) self.old key ≡ None → IfOk result (λ b. self.new ≡ insert_entry K.cmp self.old key b) }
+        ensures new_target { value_at (eq_by_cmp K.cmp) self.old key ≡ None →
+            IfOk result (λ b. V.shown b ≡ V.target value) }
+        ensures new_content { value_at (eq_by_cmp K.cmp) self.old key ≡ None →
+            IfOk result (λ b.
+            Adds (eq_by_cmp K.cmp) (value_at (eq_by_cmp K.cmp) self.old)
+            (value_at (eq_by_cmp K.cmp) self.new) key b) }
+        ensures new_length { value_at (eq_by_cmp K.cmp) self.old key ≡ None →
+            OnOk result (length self.new ≡ length self.old + 1) }
+        ensures new_entry { value_at (eq_by_cmp K.cmp) self.old key ≡ None →
+            IfOk result (λ b. self.new ≡ insert_entry K.cmp self.old key b) }
         ensures refused { OnErr result (self.new ≡ self.old) }
         ensures only_new { OnErr result (value_at (eq_by_cmp K.cmp) self.old key ≡ None) }
     {
@@ -281,7 +299,10 @@ impl<'a, K: Ord + Drop, V: StableDeref<'a>, A: Allocator + Copy> FrozenBTreeMap<
     // Gives a key this value, whether or not it has one.
     fn replace(&mut self, key: K, value: V) -> Result<V::Borrow, AllocError>
         ensures target { IfOk result (λ b. V.shown b ≡ V.target value) }
-        ensures content { IfOk result (λ b. (q : K) → value_at (eq_by_cmp K.cmp) self.new q ≡ (if eq_by_cmp K.cmp key q then Some b else value_at (eq_by_cmp K.cmp) self.old q)) }
+        ensures content { IfOk result (λ b.
+            (q : K) →
+            value_at (eq_by_cmp K.cmp) self.new q ≡
+            (if eq_by_cmp K.cmp key q then Some b else value_at (eq_by_cmp K.cmp) self.old q)) }
     {
         let Ok(placed) = value.place(self.arena) else {
             return Err(AllocError);
@@ -299,8 +320,11 @@ impl<'a, K: Ord + Drop, V: StableDeref<'a>, A: Allocator + Copy> FrozenBTreeMap<
         arena: &'a Bump,
         pairs: I,
     ) -> Result<Self, AllocError>
-        requires ends { (s : I.IntoIter) → I.into_iter_gives pairs s → I.IntoIter.can_next s × IsFinite (I.IntoIter.remaining s) }
-        ensures collects { IfOk result (λ m. (s : I.IntoIter) × (xs : List (K × V)) × I.into_iter_gives pairs s × Drains I.IntoIter.next_gives s xs × HoldsLast (eq_by_cmp K.cmp) V.target V.shown xs m) }
+        requires ends { (s : I.IntoIter) → I.into_iter_gives pairs s →
+            I.IntoIter.can_next s × IsFinite (I.IntoIter.remaining s) }
+        ensures collects { IfOk result (λ m.
+            (s : I.IntoIter) × (xs : List (K × V)) × I.into_iter_gives pairs s
+            × Drains I.IntoIter.next_gives s xs × HoldsLast (eq_by_cmp K.cmp) V.target V.shown xs m) }
     {
         let mut made = FrozenBTreeMap::new(alloc, arena);
         for pair in pairs {
@@ -318,7 +342,8 @@ impl<'a, K: Ord + Drop, V: StableDeref<'a>, A: Allocator + Copy> FrozenBTreeMap<
     where
         K: Clone,
         requires equal_clones { (k c : K) → K.is_clone k c → K.eq k c ≡ true }
-        ensures content { IfOk result (λ copy. SameAt (value_at (eq_by_cmp K.cmp) self.now) (value_at (eq_by_cmp K.cmp) copy)) }
+        ensures content { IfOk result (λ copy.
+            SameAt (value_at (eq_by_cmp K.cmp) self.now) (value_at (eq_by_cmp K.cmp) copy)) }
         ensures count { IfOk result (λ copy. length copy ≡ length self.now) }
     {
         let mut copy = BTreeMap::new(self.alloc);
@@ -359,13 +384,23 @@ impl<'a, V: StableDeref<'a>, A: Allocator + Copy> FrozenBTreeMap<'a, &'a str, V,
     /// A new one is copied into the arena and inserted there, which takes one more search. Where either fails, it returns `Err`, the
     /// map stays as it was, and the arena may keep a text or a value that nobody sees.
     pub fn insert_text(&mut self, key: &str, value: V) -> Result<V::Borrow, AllocError>
-        ensures present { (x : V.Borrow) → value_at (eq_by_cmp ⟦<&'a str as Ord>⟧.cmp) self.old key.entry ≡ Some x → (result ≡ Ok x) × (self.new ≡ self.old) }
-        ensures stands { IfOk result (λ b. value_at (eq_by_cmp ⟦<&'a str as Ord>⟧.cmp) self.new key.entry ≡ Some b) }
-        ensures new_target { value_at (eq_by_cmp ⟦<&'a str as Ord>⟧.cmp) self.old key.entry ≡ None → IfOk result (λ b. V.shown b ≡ V.target value) }
-        ensures new_content { value_at (eq_by_cmp ⟦<&'a str as Ord>⟧.cmp) self.old key.entry ≡ None → IfOk result (λ b. Adds (eq_by_cmp ⟦<&'a str as Ord>⟧.cmp) (value_at (eq_by_cmp ⟦<&'a str as Ord>⟧.cmp) self.old) (value_at (eq_by_cmp ⟦<&'a str as Ord>⟧.cmp) self.new) key.entry b) }
-        ensures new_length { value_at (eq_by_cmp ⟦<&'a str as Ord>⟧.cmp) self.old key.entry ≡ None → OnOk result (length self.new ≡ length self.old + 1) }
+        ensures present { (x : V.Borrow) →
+            value_at (eq_by_cmp ⟦<&'a str as Ord>⟧.cmp) self.old key.entry ≡ Some x →
+            (result ≡ Ok x) × (self.new ≡ self.old) }
+        ensures stands { IfOk result (λ b.
+            value_at (eq_by_cmp ⟦<&'a str as Ord>⟧.cmp) self.new key.entry ≡ Some b) }
+        ensures new_target { value_at (eq_by_cmp ⟦<&'a str as Ord>⟧.cmp) self.old key.entry ≡ None →
+            IfOk result (λ b. V.shown b ≡ V.target value) }
+        ensures new_content { value_at (eq_by_cmp ⟦<&'a str as Ord>⟧.cmp) self.old key.entry ≡ None →
+            IfOk result (λ b.
+            Adds (eq_by_cmp ⟦<&'a str as Ord>⟧.cmp)
+            (value_at (eq_by_cmp ⟦<&'a str as Ord>⟧.cmp) self.old)
+            (value_at (eq_by_cmp ⟦<&'a str as Ord>⟧.cmp) self.new) key.entry b) }
+        ensures new_length { value_at (eq_by_cmp ⟦<&'a str as Ord>⟧.cmp) self.old key.entry ≡ None →
+            OnOk result (length self.new ≡ length self.old + 1) }
         ensures refused { OnErr result (self.new ≡ self.old) }
-        ensures only_new { OnErr result (value_at (eq_by_cmp ⟦<&'a str as Ord>⟧.cmp) self.old key.entry ≡ None) }
+        ensures only_new { OnErr result (
+            value_at (eq_by_cmp ⟦<&'a str as Ord>⟧.cmp) self.old key.entry ≡ None) }
     {
         if let Some(found) = self.get_text(key) {
             return Ok(found);
@@ -384,7 +419,8 @@ impl<'a, B: Allocator, V: StableDeref<'a>, A: Allocator + Copy> FrozenBTreeMap<
     /// The value at the text `key`, or `None` exactly if no key of the map reads the same: [`get`](FrozenBTreeMap::get) without a
     /// `String`. Takes no memory; one search.
     pub fn get_text(&self, key: &str) -> Option<V::Borrow>
-        ensures { result ≡ lookup (λ k. eq_by_cmp (slice_cmp nat_cmp) key.now (string_bytes k)) self.now }
+        ensures { result
+            ≡ lookup (λ k. eq_by_cmp (slice_cmp nat_cmp) key.now (string_bytes k)) self.now }
     {
         let value = self.entries.get(key)?;
         Some(*value)
