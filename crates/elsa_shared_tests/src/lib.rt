@@ -25,6 +25,8 @@ mod names_tests;
 #[cfg(test)]
 mod pass_form_tests;
 #[cfg(test)]
+mod placed_name_tests;
+#[cfg(test)]
 mod run_form_tests;
 #[cfg(test)]
 mod search_form_tests;

@@ -1,0 +1,28 @@
+//! The shared interner over placed texts, which are names of any length, through `elsa` alone.
+use bumpalo::Bump;
+use elsa::interner::SharedInterner;
+use std::alloc::{AllocError, Global};
+use std::sync::Wait;
+use std::test::Fail;
+
+const LONG: &str = "a name of more bytes than a short one can have";
+
+/// Whether two texts at two addresses that read the same have one number, and a third another, which gives the text back.
+fn numbers<'a>(rt: &impl Wait, alloc: Global, arena: &'a Bump) -> Result<bool, AllocError> {
+    let one = arena.try_alloc_str(LONG)?;
+    let same = arena.try_alloc_str(LONG)?;
+    let words: SharedInterner<&'a str> = SharedInterner::new(alloc)?;
+    let mut names = words.pass();
+    let first = words.put(rt, &mut names, one)?;
+    let again = words.put(rt, &mut names, same)?;
+    let other = words.put(rt, &mut names, "b")?;
+    let read = words.at(&mut names, 0) == Some(LONG) && words.at(&mut names, 1) == Some("b");
+    Ok(read && first == 0 && again == 0 && other == 1)
+}
+
+#[test]
+fn placed_texts_that_read_the_same_have_one_number(rt: HostRuntime) -> Result<(), Fail> {
+    let arena = Bump::new(rt.alloc());
+    assert!(rt; numbers(&rt, rt.alloc(), &arena)?);
+    Ok(())
+}
