@@ -1,5 +1,7 @@
 //! The shared interner by one thread, and memory that is refused.
 ghost use Rattle.std.specs.Prelude.{◌≡◌};
+ghost use Rattle.elsa_free.specs.Distinct.{AgreeOnPlaces};
+ghost use Rattle.elsa_free.specs.SharedList.{items_of};
 
 use elsa_names::name::Name;
 use elsa_names::shared::{NamePass, SharedInterner};
@@ -140,5 +142,48 @@ fn a_script_goes_on_after_each_refused_request(rt: HostRuntime) -> Result<(), Fa
         assert!(rt; goes_on_after(&rt, &budget, number), "at request {number}");
     }
     assert!(rt; budget.refused() >= 8);
+    Ok(())
+}
+
+/// Whether a name that a pass knows is put once more, and read, without a request for memory. The first put appends it, and the second
+/// indexes it.
+fn asks_nothing<R: Wait>(
+    rt: &R,
+    budget: &Budget<Global>,
+    interner: &SharedInterner<Name, &Budget<Global>>,
+) -> bool {
+    let mut names = interner.pass();
+    let known = put(rt, interner, &mut names, "a") == Some(0)
+        && put(rt, interner, &mut names, "a") == Some(0);
+    let before = budget.asked();
+    let again = put(rt, interner, &mut names, "a") == Some(0) && has(interner, &mut names, 0, "a");
+    known && again && budget.asked() == before
+}
+
+#[test]
+fn a_put_of_a_known_name_asks_for_no_memory(rt: HostRuntime) -> Result<(), Fail> {
+    let budget = Budget::new(rt.alloc());
+    let interner = SharedInterner::<Name, _>::new(&budget)?;
+    assert!(rt; asks_nothing(&rt, &budget, &interner));
+    Ok(())
+}
+
+/// How many names two passes of an interner have seen; each name has one place for both.
+fn agree(one: &NamePass, other: &NamePass) -> (usize, usize)
+    requires { one.now.vector ≡ other.now.vector }
+    ensures { AgreeOnPlaces ⟦<Name as PartialEq>⟧.eq (items_of one.now.seen) (items_of other.now.seen) }
+{
+    one.one_to_one();
+    one.same_name_same_place(other);
+    (one.seen_len(), other.seen_len())
+}
+
+#[test]
+fn passes_that_never_met_agree_on_what_both_have_seen(rt: HostRuntime) -> Result<(), Fail> {
+    let interner = SharedInterner::<Name>::new(rt.alloc())?;
+    let mut one = interner.pass();
+    let other = interner.pass();
+    let place = put(&rt, &interner, &mut one, "a");
+    assert!(rt; place == Some(0) && agree(&one, &other) == (1, 0));
     Ok(())
 }
