@@ -9,7 +9,7 @@ use Rattle.std.specs.List.{IsDistinct, AllByRecursion}
 use Rattle.std.proofs.lemmas.Map.Made.{is_some-lookup}
 use Rattle.std.proofs.lemmas.List.{length-map}
 use Rattle.std.proofs.lemmas.Bool.{cases_lt}
-use Rattle.elsa_locks.specs.FirstWins.{value_at, HasCount}
+use Rattle.elsa_model.specs.FirstWins.{value_at, HasCount}
 use Rattle.elsa_history.specs.Receipts.{receipts_for, receipts_at, receipt_count, AreReceipts, AreOf, LacksAReceipt, IsTakenFrom}
 use Rattle.elsa_history.proofs.Receipts.{each_below, test_at, test_off}
 

@@ -1,4 +1,3 @@
 pub mod MapStep
 pub mod Receipts
-pub mod Replay
 pub mod VecStep

@@ -1,8 +1,9 @@
 //! A core with the list of its calls, which is legal by its type.
 ghost use Rattle.std.specs.Prelude.{◌≡◌, [], ◌∷◌, ◌++◌, length, IfOk, OnErr};
-ghost use Rattle.elsa_history.specs.Replay.{Replays, IsRecorded};
+ghost use Rattle.elsa_model.specs.Replay.{Replays, IsRecorded};
 
 use crate::Core;
+use elsa_model::Call;
 use std::alloc::{AllocError, Allocator, Global};
 use std::marker::Model;
 
@@ -18,19 +19,20 @@ pub struct History<C: Core, A: Allocator = Global> {
 
 impl<C: Core, A: Allocator> Model for History<C, A> {
     ghost use Rattle.std.specs.Prelude.{ℕ, List};
-    ghost use Rattle.elsa_history.specs.Replay.{Replays};
+    ghost use Rattle.elsa_model.specs.Replay.{Replays};
 
     ghost Value = { C × List (ℕ × C.Command × C.Reply) };
 
     ghost view = { λ h. (h.core, h.entries.items) };
 
-    ghost invariant = { λ h. Replays C.steps C.opening h.entries.items (C.state h.core) };
+    ghost invariant = { λ h.
+        Replays C.Command.steps C.Command.opening h.entries.items (C.Command.state h.core) };
 }
 
 impl<C: Core, A: Allocator + Copy> History<C, A> {
     /// The history of a core that was not called yet. Takes no memory.
     pub(crate) fn new(alloc: A, core: C) -> Self
-        requires { C.state core ≡ C.opening }
+        requires { C.Command.state core ≡ C.Command.opening }
         ensures { result ≡ (core, []) }
     {
         History {
@@ -42,7 +44,7 @@ impl<C: Core, A: Allocator + Copy> History<C, A> {
     /// The core, as it ended.
     pub fn core(&self) -> &C
         ensures core { result.now ≡ self.now.0 }
-        ensures legal { Replays C.steps C.opening self.now.1 (C.state self.now.0) }
+        ensures legal { Replays C.Command.steps C.Command.opening self.now.1 (C.Command.state self.now.0) }
     {
         &self.core
     }
@@ -50,7 +52,7 @@ impl<C: Core, A: Allocator + Copy> History<C, A> {
     /// The calls, in order: the number of the caller's pass, the command and the reply.
     pub fn entries(&self) -> &[(u64, C::Command, C::Reply)]
         ensures entries { result.now ≡ self.now.1 }
-        ensures legal { Replays C.steps C.opening self.now.1 (C.state self.now.0) }
+        ensures legal { Replays C.Command.steps C.Command.opening self.now.1 (C.Command.state self.now.0) }
     {
         self.entries.as_slice()
     }
@@ -58,7 +60,7 @@ impl<C: Core, A: Allocator + Copy> History<C, A> {
     /// Makes room, does the command and stores its entry; returns the entry's place with the reply.
     ///
     /// `Err` leaves the core's state and the entries.
-    #[tactic(auto, using(crate::proofs::Replay::replays_more, crate::proofs::Replay::recorded_last))]
+    #[tactic(auto, using(elsa_model::proofs::Replay::replays_more, elsa_model::proofs::Replay::recorded_last))]
     pub(crate) fn record(
         &mut self,
         number: u64,
@@ -67,16 +69,17 @@ impl<C: Core, A: Allocator + Copy> History<C, A> {
         // The entry goes last, and what it says is what the core did.
         ensures place { IfOk result (λ r. r.0 ≡ length self.old.1) }
         ensures stored { IfOk result (λ r. self.new.1 ≡ self.old.1 ++ (number, command, r.1) ∷ []) }
-        ensures recorded { IfOk result (λ r. IsRecorded C.steps C.opening r.0 (number, command, r.1)) }
+        ensures recorded { IfOk result (λ r.
+            IsRecorded C.Command.steps C.Command.opening r.0 (number, command, r.1)) }
         ensures step { IfOk result (λ r.
-            C.steps (C.state self.old.0) command r.1 (C.state self.new.0)) }
+            C.Command.steps (C.Command.state self.old.0) command r.1 (C.Command.state self.new.0)) }
 
         // A refusal leaves state and entries.
-        ensures err_state { OnErr result (C.state self.new.0 ≡ C.state self.old.0) }
+        ensures err_state { OnErr result (C.Command.state self.new.0 ≡ C.Command.state self.old.0) }
         ensures err_entries { OnErr result (self.new.1 ≡ self.old.1) }
     {
         self.entries.reserve(1)?;
-        let reply = self.core.apply(command)?;
+        let reply = command.apply(&mut self.core)?;
         let place = self.entries.len();
         let _ = self.entries.push((number, command, reply));
         Ok((place, reply))

@@ -2,7 +2,7 @@
 //! calls.
 ghost use Rattle.std.specs.Prelude.{◌≡◌, ◌∷◌, ◌⊎◌, ℕ, [], List, length, IfErr, IfOk};
 ghost use Rattle.elsa_history.specs.Receipts.{AreReceipts};
-ghost use Rattle.elsa_history.specs.Replay.{Replays};
+ghost use Rattle.elsa_model.specs.Replay.{Replays};
 
 use crate::{CloseFault, Core, History, Recorder};
 use std::alloc::{AllocError, Allocator};
@@ -17,19 +17,19 @@ pub fn recorded_alone<C: Core + Drop, A: Allocator + Copy, R: Wait>(
     number: u64,
     command: C::Command,
 ) -> Result<Result<History<C, A>, CloseFault<C, A>>, AllocError>
-    requires { C.state core ≡ C.opening }
+    requires { C.Command.state core ≡ C.Command.opening }
     ensures one { IfOk result (λ closed. IfOk closed (λ h. length h.1 ≡ 1)) }
     ensures call { IfOk result (λ closed.
         IfOk closed (λ h.
         (place : ℕ) × (reply : C.Reply)
         × AreReceipts C.Command.eq C.Reply.eq ((number, (place, command, reply) ∷ []) ∷ []) h.1)) }
     ensures legal { IfOk result (λ closed.
-        IfOk closed (λ h. Replays C.steps C.opening h.1 (C.state h.0))) }
+        IfOk closed (λ h. Replays C.Command.steps C.Command.opening h.1 (C.Command.state h.0))) }
     ensures fault { IfOk result (λ closed.
         IfErr closed (λ f.
         (h : C × List (ℕ × C.Command × C.Reply))
         × ((f ≡ CloseFault.MissingPass h) ⊎ (f ≡ CloseFault.ForeignPass h))
-        × Replays C.steps C.opening h.1 (C.state h.0))) }
+        × Replays C.Command.steps C.Command.opening h.1 (C.Command.state h.0))) }
 {
     let recorder = Recorder::new(alloc, core);
     let mut pass = recorder.pass(number);

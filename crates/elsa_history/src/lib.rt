@@ -1,6 +1,6 @@
 //! A recorder: any sequential object under a lock, with a history of all calls of all threads that replays.
 //!
-//! A [`Core`] says what its calls mean as steps from state to state. [`Recorder`] holds one under a lock with the list of
+//! The commands of a [`Core`] say what its calls mean as steps from state to state. [`Recorder`] holds one under a lock with the list of
 //! its calls, and the type of what the lock holds says that the list is legal: from the opening state of the core's type
 //! each reply follows from the entries before it, and they leave the core's state. So that holds whenever the lock is
 //! free, whatever the threads did. Each caller has a [`RecordPass`], which gains a receipt with each accepted call.
@@ -16,37 +16,18 @@ mod record_pass;
 mod recorder;
 mod vec_core;
 
-ghost use Rattle.std.specs.Prelude.{◌≡◌, IfOk, OnErr};
-
+use elsa_model::Call;
 pub use history_state::History;
 pub use map_core::{MapCommand, MapReply};
 pub use record_pass::RecordPass;
 pub use recorder::{CloseFault, Recorder};
-use std::alloc::AllocError;
 pub use vec_core::{VecCommand, VecReply};
 
-/// A sequential object that takes commands and returns replies.
-pub trait Core {
-    /// A call with its arguments.
-    type Command: Copy + Eq;
+/// A sequential object whose calls a recorder writes down.
+pub trait Core: Sized {
+    /// A call with its arguments; its type says what it means.
+    type Command: Copy + Eq + Call<Self, Self::Reply, ()>;
 
     /// An answer.
     type Reply: Copy + Eq;
-
-    /// What a state is.
-    ghost State: { Type 0 };
-
-    /// The state of the object.
-    ghost state: { Self → State };
-
-    /// The state that the type opens with.
-    ghost opening: { State };
-
-    /// The command, with this reply, takes a state to the next.
-    ghost steps: { State → Self.Command → Self.Reply → State → Type 0 };
-
-    /// Does the command and returns its reply. `Err` leaves the state.
-    fn apply(&mut self, command: Self::Command) -> Result<Self::Reply, AllocError>
-        ensures step { IfOk result (λ reply. steps (state self.old) command reply (state self.new)) }
-        ensures err { OnErr result (state self.new ≡ state self.old) };
 }

@@ -2,6 +2,7 @@
 
 use crate::Core;
 use elsa_locks::map::{MapState, TreeState};
+use elsa_model::Call;
 use std::alloc::{AllocError, Allocator};
 use std::hash::Hash;
 
@@ -31,14 +32,14 @@ pub enum MapReply<V> {
     Count(usize),
 }
 
-impl<K: Copy + Eq + Hash, V: Copy + Eq, A: Allocator + Copy> Core for MapState<K, V, A> {
-    ghost use Rattle.std.specs.Prelude.{Option, None};
-    ghost use Rattle.elsa_locks.specs.FirstWins.{value_at};
+impl<K: Copy + Eq + Hash, V: Copy + Eq, A: Allocator + Copy> Call<
+    MapState<K, V, A>,
+    MapReply<V>,
+    (),
+> for MapCommand<K, V> {
+    ghost use Rattle.std.specs.Prelude.{None, Option, ⊤};
+    ghost use Rattle.elsa_model.specs.FirstWins.{value_at};
     ghost use Rattle.elsa_history.specs.MapStep.{MapStep};
-
-    type Command = MapCommand<K, V>;
-
-    type Reply = MapReply<V>;
 
     ghost State = { K → Option V };
 
@@ -48,32 +49,37 @@ impl<K: Copy + Eq + Hash, V: Copy + Eq, A: Allocator + Copy> Core for MapState<K
 
     ghost steps = { MapStep K.eq };
 
+    ghost refuses = { λ _ _. ⊤ };
+
     #[tactic(auto, using(crate::proofs::Counts::has_count))]
-    fn apply(&mut self, command: MapCommand<K, V>) -> Result<MapReply<V>, AllocError> {
-        match command {
+    fn apply(self, map: &mut MapState<K, V, A>) -> Result<MapReply<V>, AllocError> {
+        match self {
             MapCommand::Insert(key, value) => {
-                let there = self.get_copy_or_insert(key, value)?;
+                let there = map.get_copy_or_insert(key, value)?;
                 Ok(MapReply::Value(there))
             }
             MapCommand::InsertNew(key, value) => {
-                let (there, new) = self.get_copy_or_insert_new(key, value)?;
+                let (there, new) = map.get_copy_or_insert_new(key, value)?;
                 Ok(MapReply::ValueNew(there, new))
             }
-            MapCommand::Get(key) => Ok(MapReply::Found(self.get_copy(&key))),
-            MapCommand::Len => Ok(MapReply::Count(self.len())),
+            MapCommand::Get(key) => Ok(MapReply::Found(map.get_copy(&key))),
+            MapCommand::Len => Ok(MapReply::Count(map.len())),
         }
     }
 }
 
-impl<K: Copy + Ord, V: Copy + Eq, A: Allocator + Copy> Core for TreeState<K, V, A> {
-    ghost use Rattle.std.specs.Prelude.{Option, None};
-    ghost use Rattle.std.specs.Ordering.{eq_by_cmp};
-    ghost use Rattle.elsa_locks.specs.FirstWins.{value_at};
-    ghost use Rattle.elsa_history.specs.MapStep.{MapStep};
-
+impl<K: Copy + Eq + Hash, V: Copy + Eq, A: Allocator + Copy> Core for MapState<K, V, A> {
     type Command = MapCommand<K, V>;
 
     type Reply = MapReply<V>;
+}
+
+impl<K: Copy + Ord, V: Copy + Eq, A: Allocator + Copy> Call<TreeState<K, V, A>, MapReply<V>, ()>
+    for MapCommand<K, V> {
+    ghost use Rattle.std.specs.Prelude.{None, Option, ⊤};
+    ghost use Rattle.std.specs.Ordering.{eq_by_cmp};
+    ghost use Rattle.elsa_model.specs.FirstWins.{value_at};
+    ghost use Rattle.elsa_history.specs.MapStep.{MapStep};
 
     ghost State = { K → Option V };
 
@@ -83,19 +89,27 @@ impl<K: Copy + Ord, V: Copy + Eq, A: Allocator + Copy> Core for TreeState<K, V, 
 
     ghost steps = { MapStep (eq_by_cmp K.cmp) };
 
+    ghost refuses = { λ _ _. ⊤ };
+
     #[tactic(auto, using(crate::proofs::Counts::has_count_sorted))]
-    fn apply(&mut self, command: MapCommand<K, V>) -> Result<MapReply<V>, AllocError> {
-        match command {
+    fn apply(self, map: &mut TreeState<K, V, A>) -> Result<MapReply<V>, AllocError> {
+        match self {
             MapCommand::Insert(key, value) => {
-                let (there, _) = self.get_copy_or_insert_new(key, value)?;
+                let (there, _) = map.get_copy_or_insert_new(key, value)?;
                 Ok(MapReply::Value(there))
             }
             MapCommand::InsertNew(key, value) => {
-                let (there, new) = self.get_copy_or_insert_new(key, value)?;
+                let (there, new) = map.get_copy_or_insert_new(key, value)?;
                 Ok(MapReply::ValueNew(there, new))
             }
-            MapCommand::Get(key) => Ok(MapReply::Found(self.get_copy(&key))),
-            MapCommand::Len => Ok(MapReply::Count(self.len())),
+            MapCommand::Get(key) => Ok(MapReply::Found(map.get_copy(&key))),
+            MapCommand::Len => Ok(MapReply::Count(map.len())),
         }
     }
+}
+
+impl<K: Copy + Ord, V: Copy + Eq, A: Allocator + Copy> Core for TreeState<K, V, A> {
+    type Command = MapCommand<K, V>;
+
+    type Reply = MapReply<V>;
 }

@@ -1,7 +1,7 @@
 //! The replies that a caller got, and whether that is the history.
 ghost use Rattle.std.specs.Prelude.{◌≡◌, ℕ, List, [], ◌∷◌, ◌++◌, length, ◌+◌, IfOk, IfSome, IfNone, OnErr, MatchOption, true, false, ◌↔◌};
 ghost use Rattle.elsa_history.specs.Receipts.{AreOf, EndsElsewhere, IsCall, IsTakenFrom, receipt_count};
-ghost use Rattle.elsa_history.specs.Replay.{IsRecorded};
+ghost use Rattle.elsa_model.specs.Replay.{IsRecorded};
 
 use crate::{Core, History};
 use std::alloc::{AllocError, Allocator, Global};
@@ -61,7 +61,7 @@ impl<C: Core, A: Allocator + Copy> RecordPass<C, A> {
     ) -> Result<C::Reply, AllocError>
         ensures ok { IfOk result (λ reply.
             (place : ℕ) × (self.new ≡ (self.old.0, self.old.1 ++ (place, command, reply) ∷ []))
-            × IsRecorded C.steps C.opening place (self.old.0, command, reply)) }
+            × IsRecorded C.Command.steps C.Command.opening place (self.old.0, command, reply)) }
         ensures err { OnErr result (self.new ≡ self.old) }
     {
         self.receipts.reserve(1)?;

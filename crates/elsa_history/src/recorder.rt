@@ -1,6 +1,6 @@
 //! A core under a lock, with the history of its calls.
 ghost use Rattle.std.specs.Prelude.{◌≡◌, ℕ, List, [], ◌∷◌, ◌++◌, ◌⊎◌, length, IfOk, IfErr, OnErr};
-ghost use Rattle.elsa_history.specs.Replay.{Replays, IsRecorded};
+ghost use Rattle.elsa_model.specs.Replay.{Replays, IsRecorded};
 ghost use Rattle.elsa_history.specs.Receipts.{AreOf, AreReceipts, LacksAReceipt, receipt_count};
 
 use crate::record_pass::count_receipts;
@@ -30,7 +30,7 @@ pub struct Recorder<C: Core, A: Allocator = Global> {
 impl<C: Core, A: Allocator + Copy> Recorder<C, A> {
     /// A recorder of a core in the opening state of its type. Takes no memory and no lock.
     pub fn new(alloc: A, core: C) -> Self
-        requires { C.state core ≡ C.opening }
+        requires { C.Command.state core ≡ C.Command.opening }
     {
         Recorder {
             lock: RwLock::new(History::new(alloc, core)),
@@ -62,7 +62,7 @@ impl<C: Core, A: Allocator + Copy> Recorder<C, A> {
     ) -> Result<C::Reply, AllocError>
         ensures ok { IfOk result (λ reply.
             (place : ℕ) × (pass.new ≡ (pass.old.0, pass.old.1 ++ (place, command, reply) ∷ []))
-            × IsRecorded C.steps C.opening place (pass.old.0, command, reply)) }
+            × IsRecorded C.Command.steps C.Command.opening place (pass.old.0, command, reply)) }
         ensures err { OnErr result (pass.new ≡ pass.old) }
     {
         pass.call(rt, &self.lock, command)
@@ -76,13 +76,14 @@ impl<C: Core, A: Allocator + Copy> Recorder<C, A> {
         // The receipts are the history, so it has one entry for each accepted call of these passes.
         ensures ok { IfOk result (λ h. AreReceipts C.Command.eq C.Reply.eq passes.items h.1) }
         ensures count { IfOk result (λ h. length h.1 ≡ receipt_count passes.items) }
-        ensures legal { IfOk result (λ h. Replays C.steps C.opening h.1 (C.state h.0)) }
+        ensures legal { IfOk result (λ h.
+            Replays C.Command.steps C.Command.opening h.1 (C.Command.state h.0)) }
 
         // The history is legal, and the receipts aren't that history: an entry has none, or they aren't even of it.
         ensures fault { IfErr result (λ f.
             (h : C × List (ℕ × C.Command × C.Reply))
             × ((f ≡ CloseFault.MissingPass h) ⊎ (f ≡ CloseFault.ForeignPass h))
-            × Replays C.steps C.opening h.1 (C.state h.0)) }
+            × Replays C.Command.steps C.Command.opening h.1 (C.Command.state h.0)) }
         ensures missing { IfErr result (λ f.
             (h : C × List (ℕ × C.Command × C.Reply)) → f ≡ CloseFault.MissingPass h →
             AreOf C.Command.eq C.Reply.eq passes.items h.1 × LacksAReceipt passes.items h.1) }

@@ -10,7 +10,8 @@ use Rattle.std.proofs.lemmas.List.Folds.{prefix_len-append}
 use Rattle.std.proofs.lemmas.List.Sorted.{list_any-IsPermutation}
 use Rattle.indexmap.proofs.MapLemmas.{lookup_permutation}
 use Rattle.elsa_index.specs.Content.{place_of, value_of, Grows, Inserted, InsertedNew, SetInserted}
-use Rattle.elsa_index.specs.Equality.{same_map, same_set, same_map_decides, same_set_decides}
+use Rattle.elsa_index.specs.Equality.{same_map, same_set}
+use Rattle.elsa_index.proofs.Equality.{same_map_decides, same_set_decides}
 use Rattle.elsa_index.proofs.Content.{no_value, place_of_last, value_of_last}
 
 -- a place that a test finds is found in what the list grows to

@@ -1,13 +1,13 @@
 //! A set whose values keep the order of their first insertions.
-ghost use Rattle.std.specs.Prelude.{◌≡◌, ◌++◌, ◌∷◌, ◌<◌, ◌^◌, ◌↔◌, [], ℕ, List, length, None, Some, slice_get, position, find, IfOk, IfSome, OnOk, OnErr, IsTrue, is_some};
+ghost use Rattle.std.specs.Prelude.{◌≡◌, ◌++◌, ◌∷◌, ◌<◌, ◌↔◌, [], ℕ, List, length, None, Some, slice_get, position, find, IfOk, IfSome, OnOk, OnErr, IsTrue, is_some};
 ghost use Rattle.std.specs.Cmp.{partial_equiv_from_equiv};
 ghost use Rattle.std.specs.Iterator.{Drains, IsFinite};
 ghost use Rattle.std.specs.List.{IsDistinct};
 ghost use Rattle.std.specs.Map.Iter.{ShowsInOrder, ShowsInReverse, deref};
 ghost use Rattle.std.specs.Option.{option_map};
-ghost use Rattle.std.specs.Str.{bytes_eq};
 ghost use Rattle.elsa_index.specs.Content.{SetInserted, SetInsertedNew, SetCollects};
-ghost use Rattle.elsa_index.specs.Equality.{same_set, same_set_equiv, HaveSameValues};
+ghost use Rattle.elsa_index.specs.EqualityLaws.{same_set_equiv};
+ghost use Rattle.elsa_index.specs.Equality.{same_set, HaveSameValues};
 
 use crate::look_up::LookUp;
 use bumpalo::Bump;
@@ -214,7 +214,6 @@ where
         ensures appended { OnOk result (self.new ≡ self.old ++ value ∷ []) }
         ensures refused { OnErr result (self.new ≡ self.old) }
         ensures unique { IsDistinct T.Borrow.eq self.new }
-        ensures small { IfOk result (λ i. i < 2 ^ 63) }
     {
         let place = self.set.len();
         match self.set.insert(value) {
@@ -244,7 +243,6 @@ where
         ensures appended { IfOk result (λ r. self.new ≡ self.old ++ r.1 ∷ []) }
         ensures refused { OnErr result (self.new ≡ self.old) }
         ensures unique { OnOk result (IsDistinct T.Borrow.eq self.new) }
-        ensures small { IfOk result (λ r. r.0 < 2 ^ 63) }
         ensures stands { IfOk result (λ r. slice_get self.new r.0 ≡ Some r.1) }
         ensures stands_at { IfOk result (λ r. position (T.finds value) self.new ≡ Some r.0) }
     {
@@ -269,7 +267,6 @@ where
         ensures refused { OnErr result (self.new ≡ self.old) }
         ensures only_new { OnErr result (position (T.finds value) self.old ≡ None) }
         ensures unique { IsDistinct T.Borrow.eq self.new }
-        ensures small { IfOk result (λ r. r.0 < 2 ^ 63) }
         ensures stands { IfOk result (λ r. slice_get self.new r.0 ≡ Some r.1) }
         ensures stands_at { IfOk result (λ r. position (T.finds value) self.new ≡ Some r.0) }
     {
@@ -291,7 +288,6 @@ where
         ensures refused { OnErr result (self.new ≡ self.old) }
         ensures only_new { OnErr result (position (T.finds value) self.old ≡ None) }
         ensures unique { IsDistinct T.Borrow.eq self.new }
-        ensures small { IfOk result (λ r. r.0 < 2 ^ 63) }
         ensures stands { IfOk result (λ r. slice_get self.new r.0 ≡ Some r.1) }
         ensures stands_at { IfOk result (λ r. position (T.finds value) self.new ≡ Some r.0) }
     {
@@ -327,29 +323,6 @@ where
     {
         let (_, borrow) = self.insert_full(value)?;
         Ok(borrow)
-    }
-}
-
-impl<'a, B: Allocator, S: BuildHasher, A: Allocator + Copy> FrozenIndexSet<'a, String<B>, S, A> {
-    /// Adds a text that is absent last, and returns its place and its borrow: `insert_absent` without a `String`.
-    ///
-    /// The caller makes sure that no equal text is present, as `get_index_of` tells. A copy of the text goes straight into
-    /// the arena, by one hash. `AllocError` leaves the set as it was; the arena may keep a copy that nobody sees.
-    pub fn insert_absent_text(&mut self, text: &str) -> Result<(usize, &'a str), AllocError>
-        requires absent { position (λ k. bytes_eq text.now k.now) self.old ≡ None }
-        ensures place { IfOk result (λ r. r.0 ≡ length self.old) }
-        ensures placed { IfOk result (λ r. r.1.now ≡ text.now) }
-        ensures appended { IfOk result (λ r. self.new ≡ self.old ++ r.1 ∷ []) }
-        ensures refused { OnErr result (self.new ≡ self.old) }
-        ensures unique { OnOk result (IsDistinct (λ a b. bytes_eq a.now b.now) self.new) }
-        ensures small { IfOk result (λ r. r.0 < 2 ^ 63) }
-        ensures stands { IfOk result (λ r. slice_get self.new r.0 ≡ Some r.1) }
-        ensures stands_at { IfOk result (λ r.
-            position (λ k. bytes_eq text.now k.now) self.new ≡ Some r.0) }
-    {
-        let placed = self.arena.try_alloc_str(text)?;
-        let place = self.add(placed)?;
-        Ok((place, placed))
     }
 }
 

@@ -8,3 +8,4 @@ pub mod index_laws;
 pub mod index_map;
 pub mod index_set;
 pub mod look_up;
+mod map_form;

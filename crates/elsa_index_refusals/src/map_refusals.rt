@@ -2,7 +2,7 @@
 //! arena's, is refused in turn.
 use bumpalo::Bump;
 use elsa_index::index_map::FrozenIndexMap;
-use elsa_once::map::{FrozenBTreeMap, FrozenMap};
+use elsa_maps::map::{FrozenBTreeMap, FrozenMap};
 use std::alloc::{AllocError, Allocator, Global};
 use std::hash::{BuildHasherDefault, FoldHasher};
 use std::test::Fail;

@@ -6,7 +6,7 @@ use elsa_index::index_map::FrozenIndexMap;
 use elsa_index::index_set::FrozenIndexSet;
 use elsa_interner::cache::{LoadFault, ResourceCache};
 use elsa_interner::interner::Interner;
-use elsa_once::map::{FrozenBTreeMap, FrozenMap, MapForm};
+use elsa_maps::map::{FrozenBTreeMap, FrozenMap, MapForm};
 use elsa_once::stable::{Own, StableDeref};
 use elsa_once::vec::{Cursor, FrozenVec};
 use std::alloc::{AllocError, Allocator, Global};

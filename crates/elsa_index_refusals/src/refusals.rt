@@ -59,21 +59,9 @@ fn added<A: Allocator + Copy + Drop>(
         return Ok(false);
     }
     match place % 6 {
-        0 => absent_text(set, place),
-        1 => absent(set, String::from_str(heap, word(place))?, place),
+        0 | 1 => absent(set, String::from_str(heap, word(place))?, place),
         way => inserted(set, String::from_str(heap, word(place))?, place, way),
     }
-}
-
-fn absent_text<A: Allocator + Copy + Drop>(
-    set: &mut Set<'_, A>,
-    place: usize,
-) -> Result<bool, AllocError> {
-    let text = word(place);
-    if set.get_index_of(&text).is_some() {
-        return Ok(false);
-    }
-    Ok(set.insert_absent_text(text)? == (place, text))
 }
 
 fn absent<A: Allocator + Copy + Drop>(

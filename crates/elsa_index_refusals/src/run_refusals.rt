@@ -3,7 +3,7 @@
 use bumpalo::Bump;
 use elsa_index::index_map::FrozenIndexMap;
 use elsa_index::index_set::FrozenIndexSet;
-use elsa_once::map::{FrozenBTreeMap, FrozenMap};
+use elsa_maps::map::{FrozenBTreeMap, FrozenMap};
 use elsa_once::stable::Own;
 use elsa_once::vec::FrozenVec;
 use elsa_run::run::{run_index, run_map, run_set, run_vec};

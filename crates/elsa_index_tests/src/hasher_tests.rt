@@ -4,7 +4,7 @@ use elsa_hash::seeded::SeededState;
 use elsa_index::index_map::FrozenIndexMap;
 use elsa_index::index_set::FrozenIndexSet;
 use elsa_interner::interner::{Counted, Interner, intern_engine_with_hasher};
-use elsa_once::map::FrozenMap;
+use elsa_maps::map::FrozenMap;
 use elsa_once::stable::Own;
 use std::alloc::{AllocError, Global};
 use std::hash::{BuildHasher, BuildHasherDefault, FoldHasher};

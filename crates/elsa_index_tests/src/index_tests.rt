@@ -7,7 +7,7 @@ use elsa_index::index_laws::{
 };
 use elsa_index::index_map::FrozenIndexMap;
 use elsa_index::index_set::FrozenIndexSet;
-use elsa_once::map::{FrozenBTreeMap, FrozenMap};
+use elsa_maps::map::{FrozenBTreeMap, FrozenMap};
 use elsa_once::stable::Own;
 use elsa_run::run::{run_index, run_set};
 use elsa_run::run_index::{IndexCommand, IndexReply};

@@ -1,8 +1,10 @@
-//! Runs of both maps whose replies are known: worked rows, an insertion of each kind, and a new base.
+//! Runs of the three maps whose replies are known: worked rows, an insertion of each kind, and a new base.
 use bumpalo::Bump;
-use elsa_once::map::{FrozenBTreeMap, FrozenMap};
+use elsa_index::index_map::FrozenIndexMap;
+use elsa_maps::map::{FrozenBTreeMap, FrozenMap};
 use elsa_run::run::run_map;
 use elsa_run::run_map::{MapCommand, MapReply};
+use indexmap::IndexMap;
 use std::alloc::{AllocError, Global};
 use std::collections::{BTreeMap, HashMap};
 use std::test::Fail;
@@ -206,5 +208,41 @@ fn ordered_is_answered(alloc: Global, arena: &Bump) -> Result<bool, AllocError> 
 fn runs_of_the_ordered_map(rt: HostRuntime) -> Result<(), Fail> {
     let arena = Bump::new(rt.alloc());
     assert!(rt; ordered_is_answered(rt.alloc(), &arena)?);
+    Ok(())
+}
+
+// ---- the index map
+
+fn index_base<'a>(alloc: Global) -> Result<IndexMap<u32, &'a str>, AllocError> {
+    let mut base = IndexMap::new(alloc);
+    base.insert(2, "z")?;
+    Ok(base)
+}
+
+fn index_replies<'a>(
+    alloc: Global,
+    arena: &'a Bump,
+    rows: Rows<'_>,
+    base: IndexMap<u32, &'a str>,
+) -> Result<Vec<MapReply<&'a str>>, AllocError> {
+    let mut map: FrozenIndexMap<'a, u32, String> = FrozenIndexMap::new(alloc, arena);
+    run_map(alloc, &mut map, commands(alloc, rows, base)?)
+}
+
+fn index_is_answered(alloc: Global, arena: &Bump) -> Result<bool, AllocError> {
+    let stays = index_replies(alloc, arena, STAYS, IndexMap::new(alloc))?;
+    let first_wins = index_replies(alloc, arena, FIRST_WINS, index_base(alloc)?)?;
+    let new_once = index_replies(alloc, arena, NEW_ONCE, IndexMap::new(alloc))?;
+    Ok(
+        are_of_stays(stays.as_slice())
+            && are_first_wins(first_wins.as_slice())
+            && are_new_once(new_once.as_slice()),
+    )
+}
+
+#[test]
+fn runs_of_the_index_map_as_a_form_of_map(rt: HostRuntime) -> Result<(), Fail> {
+    let arena = Bump::new(rt.alloc());
+    assert!(rt; index_is_answered(rt.alloc(), &arena)?);
     Ok(())
 }

@@ -7,7 +7,7 @@ use Rattle.std.specs.Cmp.{IsEquivalence}
 use Rattle.std.specs.declared.sync.Arc.{Arc}
 use Rattle.std.specs.Arc.{arc_value}
 use Rattle.std.proofs.lemmas.Map.Made.{is_some-lookup}
-use Rattle.elsa_locks.specs.FirstWins.{value_at, IsKeys}
+use Rattle.elsa_model.specs.FirstWins.{value_at, IsKeys}
 use Rattle.elsa_locks.specs.Shared.{shown}
 
 -- a clone of each entry, whose key equals the key and whose owner shows the same, has the same content

@@ -1,2 +1,1 @@
-pub mod FirstWins
 pub mod Shared

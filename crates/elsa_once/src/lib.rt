@@ -1,7 +1,6 @@
-//! Append-only collections for one thread, over values placed in an arena that the caller passes in.
+//! Placing of values in an arena that the caller passes in, and the append-only vector of one thread over it.
 #![tactic(auto)]
 
-pub mod map;
 mod search;
 pub mod stable;
 pub mod vec;

@@ -1,7 +1,7 @@
 //! Functions of the laws with ample memory: what they answer, written by hand. The laws that aren't here are called in `vec_tests` and `map_tests`.
 use bumpalo::Bump;
-use elsa_once::map::FrozenMap;
-use elsa_once::map::laws::{is_new_once, keeps_earlier_values};
+use elsa_maps::map::FrozenMap;
+use elsa_maps::map::laws::{is_new_once, keeps_earlier_values};
 use elsa_once::vec::FrozenVec;
 use elsa_once::vec_laws::{
     looked_up_round_a_push, outlives_its_vector, place_by_length, place_by_order, place_by_test,

@@ -1,4 +1,4 @@
-//! Tests of `elsa_once` as a stranger calls it: worked cases, tables of probes, odd keys, and memory refused.
+//! Tests of `elsa_once` and `elsa_maps` as a stranger calls them: worked cases, tables of probes, odd keys, and memory refused.
 #![tactic(auto)]
 
 #[cfg(test)]

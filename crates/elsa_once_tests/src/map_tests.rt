@@ -5,11 +5,11 @@ ghost use Rattle.std.specs.Map.{lookup};
 ghost use Rattle.std.specs.Ordering.{eq_by_cmp};
 
 use bumpalo::Bump;
-use elsa_once::map::laws::{
+use elsa_maps::map::laws::{
     hashed_equal_as_functions, hashed_inserted_apart, ordered_equal_as_functions,
     ordered_inserted_apart,
 };
-use elsa_once::map::{FrozenBTreeMap, FrozenMap};
+use elsa_maps::map::{FrozenBTreeMap, FrozenMap};
 use elsa_once::stable::Own;
 use std::alloc::{AllocError, Global};
 use std::collections::BTreeMap;

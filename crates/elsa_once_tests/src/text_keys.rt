@@ -1,6 +1,6 @@
 //! Keys given as texts of any lifetime: a new one is copied into the arena, one that is there takes no memory.
 use bumpalo::Bump;
-use elsa_once::map::{FrozenBTreeMap, FrozenMap};
+use elsa_maps::map::{FrozenBTreeMap, FrozenMap};
 use elsa_once::stable::Own;
 use std::alloc::{AllocError, Global};
 use std::hash::{BuildHasherDefault, FoldHasher};

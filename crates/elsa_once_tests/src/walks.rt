@@ -1,6 +1,6 @@
 //! Walks over the maps, and what a vector gains by an iterator.
 use bumpalo::Bump;
-use elsa_once::map::{FrozenBTreeMap, FrozenMap};
+use elsa_maps::map::{FrozenBTreeMap, FrozenMap};
 use elsa_once::stable::Own;
 use elsa_once::vec::FrozenVec;
 use std::alloc::{AllocError, Global};

@@ -1,8 +1,9 @@
 -- One step of a run of an index map, from what an epoch holds to what the next epoch holds.
-use Rattle.std.proofs.Common.{◌≡◌, ℕ, Bool, true, false, List, [], ◌∷◌, ◌++◌, length, map, refl, sym, ap, ◌∙◌, append-nil, Option, None, Some, MatchOption, Result, Ok, is_ok, if◌then◌else◌, inl, inr}
+use Rattle.std.proofs.Common.{◌≡◌, ℕ, Bool, true, false, List, [], ◌∷◌, ◌++◌, length, refl, sym, ap, subst, ◌∙◌, append-nil, Option, None, Some, MatchOption, inl, inr}
 use Rattle.std.specs.Cmp.{IsEquivalence}
 use Rattle.std.specs.Option.{option_map}
 use Rattle.elsa_index.specs.Content.{place_of, value_of, Inserted, InsertedNew}
+use Rattle.elsa_model.specs.Replay.{Answered}
 use Rattle.elsa_run.specs.Runs.{Epoch, held, accept}
 use Rattle.elsa_run.specs.IndexRun.{answered, InsertAnswers, Answers, epoch_after, PlainStep, NewStep, Step, IndexRunsTo}
 use Rattle.elsa_run.specs.declared.run_index.IndexCommand.{IndexCommand}
@@ -10,7 +11,7 @@ use Rattle.elsa_run.specs.declared.run_index.IndexCommand.TheVariants.{Insert, I
 use Rattle.elsa_run.specs.declared.run_index.IndexReply.{IndexReply}
 use Rattle.elsa_run.specs.declared.run_index.IndexReply.TheVariants.{Item, Full, New, FullNew}
 use Rattle.elsa_index.proofs.Content.{none_passes, some_passes}
-use Rattle.elsa_run.proofs.Runs.{held_new, held_again, runs_from, runs_push, runs_all}
+use Rattle.elsa_run.proofs.Runs.{held_new, held_again, runs_to}
 
 module _ {K V T B M : Type 0} (eq : K → K → Bool) (laws : IsEquivalence eq) (target : V → T) (shown : B → T) (entries : M → List (K × B)) where
   -- the flag of an insertion is known
@@ -52,7 +53,7 @@ module _ {K V T B M : Type 0} (eq : K → K → Bool) (laws : IsEquivalence eq) 
   plain_step e k v form says r fs (inr h) = new_step e k v (λ i b new. form i b) (λ i b new. says i b) r fs (inr h)
 
   -- each command
-  pub step_of_epoch : (e : Epoch (K × B)) (c : IndexCommand K V M) (r : IndexReply B) (fs : List (K × B)) → Step eq target shown entries (held eq (λ p. p.0) e) c r fs
+  step_of_epoch : (e : Epoch (K × B)) (c : IndexCommand K V M) (r : IndexReply B) (fs : List (K × B)) → Step eq target shown entries (held eq (λ p. p.0) e) c r fs
       → Answers eq target shown entries (held eq (λ p. p.0) e) c r × (fs ≡ held eq (λ p. p.0) (epoch_after eq target shown entries e c r))
   step_of_epoch e (Insert k v) r fs h = plain_step e k v (λ i b. Item b) (λ i b. refl) r fs h
   step_of_epoch e (InsertFull k v) r fs h = plain_step e k v Full (λ i b. refl) r fs h
@@ -63,16 +64,8 @@ module _ {K V T B M : Type 0} (eq : K → K → Bool) (laws : IsEquivalence eq) 
   step_of_epoch e IsEmpty r fs h = h
   step_of_epoch e (Rebase m) r fs (is, same) = (is, same ∙ sym (append-nil (entries m)))
 
-  -- no commands
-  pub index_runs_from : (es : List (K × B)) (rs : List (IndexReply B)) → rs ≡ [] → IndexRunsTo eq target shown entries es [] rs es
-  index_runs_from es rs none = runs_from (held eq (λ p. p.0)) (Answers eq target shown entries) (epoch_after eq target shown entries) (Step eq target shown entries) step_of_epoch es rs (sym (append-nil es)) none
-
-  -- one more command
-  pub index_runs_push : {A E : Type 0} (es fs gs : List (K × B)) (cs : List (IndexCommand K V M)) (rs qs : List (IndexReply B)) (c : IndexCommand K V M) (r : IndexReply B) (pushed : Result A E) (x : A)
-      → IndexRunsTo eq target shown entries es cs rs fs → Step eq target shown entries fs c r gs → pushed ≡ Ok x → qs ≡ (if is_ok pushed then rs ++ r ∷ [] else rs)
-      → IndexRunsTo eq target shown entries es (cs ++ c ∷ []) qs gs
-  index_runs_push = runs_push (held eq (λ p. p.0)) (Answers eq target shown entries) (epoch_after eq target shown entries) (Step eq target shown entries) step_of_epoch
-
-  -- all commands
-  pub index_runs_all : (es fs : List (K × B)) (cs ds : List (IndexCommand K V M)) (rs : List (IndexReply B)) → IndexRunsTo eq target shown entries es cs rs fs → map (λ c. c) cs ≡ ds → IndexRunsTo eq target shown entries es ds rs fs
-  index_runs_all = runs_all (held eq (λ p. p.0)) (Answers eq target shown entries) (epoch_after eq target shown entries) (Step eq target shown entries) step_of_epoch
+  -- calls that were answered one after the other are a run
+  pub index_runs : (es fs : List (K × B)) (cs : List (IndexCommand K V M)) (rs : List (IndexReply B)) → Answered (Step eq target shown entries) es cs rs fs → IndexRunsTo eq target shown entries es cs rs fs
+  index_runs =
+      runs_to (λ e es. es ≡ held eq (λ p. p.0) e) (λ e. Answers eq target shown entries (held eq (λ p. p.0) e)) (epoch_after eq target shown entries) (Step eq target shown entries)
+      (λ e c r es fs held step. step_of_epoch e c r fs (subst (λ l. Step eq target shown entries l c r fs) held step)) (λ es. sym (append-nil es))

@@ -1,14 +1,17 @@
--- A run of a map that goes on by one command.
-use Rattle.std.proofs.Common.{◌≡◌, ◌+◌, ℕ, inl, inr, Bool, true, false, true≢false, cond, if◌then◌else◌, List, [], ◌∷◌, ◌++◌, length, Option, None, Some, is_some, Result, Ok, is_ok, refl, sym, ap, subst, ◌∙◌, append_assoc, append-nil, map, map-id, arith}
+-- One step of a run of a map, from what an epoch holds to what the next epoch holds.
+use Rattle.std.proofs.Common.{◌≡◌, ◌+◌, ℕ, inl, inr, Bool, true, false, true≢false, cond, if◌then◌else◌, List, [], ◌∷◌, ◌++◌, length, Option, None, Some, is_some, refl, sym, ap, subst, ◌∙◌, append_assoc, append-nil, arith}
 use Rattle.std.specs.Cmp.{IsEquivalence}
 use Rattle.std.specs.HashMap.Eq.{lookup_congr}
 use Rattle.std.specs.Map.{lookup}
-use Rattle.elsa_once.specs.FirstWins.{Adds, value_at}
+use Rattle.elsa_maps.specs.FirstWins.{Adds, value_at}
 use Rattle.elsa_run.specs.declared.run_map.MapCommand.{MapCommand}
 use Rattle.elsa_run.specs.declared.run_map.MapCommand.TheVariants.{Insert, InsertNew, Get, Len, IsEmpty, Rebase}
 use Rattle.elsa_run.specs.declared.run_map.MapReply.{MapReply}
 use Rattle.elsa_run.specs.declared.run_map.MapReply.TheVariants.{Item, New, Found, Count}
-use Rattle.elsa_run.specs.MapRun.{MapEpoch, Answers, Holds, InsertAnswers, InsertStep, Run, RunsTo, Step, accept, count_in, count_new, epoch_after, epoch_from, inserted, value_in}
+use Rattle.elsa_model.specs.Replay.{Answered}
+use Rattle.elsa_run.specs.Runs.{Epoch, accept, epoch_from}
+use Rattle.elsa_run.specs.MapRun.{Answers, Holds, InsertAnswers, InsertStep, MapRunsTo, Step, count_in, count_new, epoch_after, inserted, value_in}
+use Rattle.elsa_run.proofs.Runs.{runs_to}
 
 module _ {K B : Type 0} (test : K → Bool) where
   -- what is found is found in a longer list
@@ -42,24 +45,24 @@ module _ {K B : Type 0} (eq : K → K → Bool) where
       let same = ap (λ es. one_if_new es p.0) (append_assoc before (x ∷ []) ps) in
       omega arith
 
-  module _ (laws : IsEquivalence eq) (e : MapEpoch K B) (k : K) (b : B) where
+  module _ (laws : IsEquivalence eq) (e : Epoch (K × B)) (k : K) (b : B) where
     abbrev all : List (K × B)
     all = e.base ++ e.accepted
 
     -- the epoch's entries, with one more
-    longer : (q : K) → value_in eq (accept e k b) q ≡ value_at eq (all ++ (k, b) ∷ []) q
+    longer : (q : K) → value_in eq (accept e (Some (k, b))) q ≡ value_at eq (all ++ (k, b) ∷ []) q
     longer q = sym (ap (λ es. value_at eq es q) (append_assoc e.base e.accepted ((k, b) ∷ [])))
 
-    counted : count_in eq (accept e k b) ≡ count_in eq e + one_if_new all k
+    counted : count_in eq (accept e (Some (k, b))) ≡ count_in eq e + one_if_new all k
     counted = let more = count_push e.base e.accepted (k, b) in omega arith
 
     -- an insertion of a key that is there changes nothing
-    pub held_again : (es : List (K × B)) → Holds eq e es → value_at eq es k ≡ Some b → Holds eq (accept e k b) es
+    pub held_again : (es : List (K × B)) → Holds eq e es → value_at eq es k ≡ Some b → Holds eq (accept e (Some (k, b))) es
     held_again es (each, count) is =
         let there : value_at eq all k ≡ Some b = sym (each k) ∙ is in (
           λ q. each q ∙ sym (longer q ∙ by q (value_at eq all q) refl (eq q k) refl there),
           let none : one_if_new all k ≡ 0 = ap (λ o. if is_some o then 0 else 1) there in
-              let sum : count_in eq (accept e k b) ≡ count_in eq e + one_if_new all k = counted in
+              let sum : count_in eq (accept e (Some (k, b))) ≡ count_in eq e + one_if_new all k = counted in
               omega arith,
         )
       where
@@ -69,12 +72,12 @@ module _ {K B : Type 0} (eq : K → K → Bool) where
         by q None is' false same there = found_last (eq q) all (k, b) is' ∙ ap (λ c. cond c (Some b) None) same ∙ sym is'
 
     -- an insertion of a new key adds it
-    pub held_new : (es fs : List (K × B)) → Holds eq e es → value_at eq es k ≡ None → Adds eq (value_at eq es) (value_at eq fs) k b → length fs ≡ length es + 1 → Holds eq (accept e k b) fs
+    pub held_new : (es fs : List (K × B)) → Holds eq e es → value_at eq es k ≡ None → Adds eq (value_at eq es) (value_at eq fs) k b → length fs ≡ length es + 1 → Holds eq (accept e (Some (k, b))) fs
     held_new es fs (each, count) none adds long =
         let absent : value_at eq all k ≡ None = sym (each k) ∙ none in (
           λ q. by q (eq k q) refl (value_at eq all q) refl absent ∙ sym (longer q),
           let one : one_if_new all k ≡ 1 = ap (λ o. if is_some o then 0 else 1) absent in
-              let sum : count_in eq (accept e k b) ≡ count_in eq e + one_if_new all k = counted in
+              let sum : count_in eq (accept e (Some (k, b))) ≡ count_in eq e + one_if_new all k = counted in
               omega arith,
         )
       where
@@ -85,24 +88,24 @@ module _ {K B : Type 0} (eq : K → K → Bool) where
         by q false other None is absent = (adds q).1 other ∙ each q ∙ is ∙ sym (found_last (eq q) all (k, b) is ∙ ap (λ c. cond c (Some b) None) (laws.symm q k ∙ other))
 
 module _ {K V T B M : Type 0} (eq : K → K → Bool) (laws : IsEquivalence eq) (target : V → T) (shown : B → T) (base_entries : M → List (K × B)) where
-  insert_keeps : (e : MapEpoch K B) (es fs : List (K × B)) (k : K) (v : V) (form : B → Bool → MapReply B) (r : MapReply B)
-      → ((b : B) (new : Bool) → inserted eq target shown base_entries e k (form b new) ≡ accept e k b) → Holds eq e es → InsertStep eq target shown base_entries es k v form r fs
+  insert_keeps : (e : Epoch (K × B)) (es fs : List (K × B)) (k : K) (v : V) (form : B → Bool → MapReply B) (r : MapReply B)
+      → ((b : B) (new : Bool) → inserted eq target shown base_entries e k (form b new) ≡ accept e (Some (k, b))) → Holds eq e es → InsertStep eq target shown base_entries es k v form r fs
       → InsertAnswers eq target shown base_entries e k v form r × Holds eq (inserted eq target shown base_entries e k r) fs
   insert_keeps e es fs k v form r notes held (inl (b, is, there, same)) =
-      (inl (b, is, sym (held.0 k) ∙ there), subst (λ (f : MapEpoch K B). Holds eq f fs) (sym (ap (inserted eq target shown base_entries e k) is ∙ notes b false)) (subst (λ (gs : List (K × B)). Holds eq (accept e k b) gs) (sym same) (held_again eq laws e k b es held there)))
+      (inl (b, is, sym (held.0 k) ∙ there), subst (λ (f : Epoch (K × B)). Holds eq f fs) (sym (ap (inserted eq target shown base_entries e k) is ∙ notes b false)) (subst (λ (gs : List (K × B)). Holds eq (accept e (Some (k, b))) gs) (sym same) (held_again eq laws e k b es held there)))
   insert_keeps e es fs k v form r notes held (inr (inl (b, is, none, shows, adds, long))) =
-      (inr (inl (b, is, sym (held.0 k) ∙ none, shows)), subst (λ (f : MapEpoch K B). Holds eq f fs) (sym (ap (inserted eq target shown base_entries e k) is ∙ notes b true)) (held_new eq laws e k b es fs held none adds long))
+      (inr (inl (b, is, sym (held.0 k) ∙ none, shows)), subst (λ (f : Epoch (K × B)). Holds eq f fs) (sym (ap (inserted eq target shown base_entries e k) is ∙ notes b true)) (held_new eq laws e k b es fs held none adds long))
   insert_keeps e es fs k v form r notes held (inr (inr (is, none, same))) =
-      (inr (inr (is, sym (held.0 k) ∙ none)), subst (λ (f : MapEpoch K B). Holds eq f fs) (sym (ap (inserted eq target shown base_entries e k) is)) (subst (λ (gs : List (K × B)). Holds eq e gs) (sym same) held))
+      (inr (inr (is, sym (held.0 k) ∙ none)), subst (λ (f : Epoch (K × B)). Holds eq f fs) (sym (ap (inserted eq target shown base_entries e k) is)) (subst (λ (gs : List (K × B)). Holds eq e gs) (sym same) held))
 
-  stays : (e : MapEpoch K B) (es fs : List (K × B)) → Holds eq e es → fs ≡ es → Holds eq e fs
+  stays : (e : Epoch (K × B)) (es fs : List (K × B)) → Holds eq e es → fs ≡ es → Holds eq e fs
   stays e es fs held same = subst (λ (gs : List (K × B)). Holds eq e gs) (sym same) held
 
   begun : (es : List (K × B)) → Holds eq (epoch_from es) es
   begun es = (λ q. sym (ap (λ fs. value_at eq fs q) (append-nil es)), omega arith)
 
   -- a call at what an epoch holds is answered as the epoch says, and leaves what the next one holds
-  step_keeps : (e : MapEpoch K B) (es fs : List (K × B)) (c : MapCommand K V M) (r : MapReply B) → Holds eq e es → Step eq target shown base_entries es c r fs
+  step_keeps : (e : Epoch (K × B)) (es fs : List (K × B)) (c : MapCommand K V M) (r : MapReply B) → Holds eq e es → Step eq target shown base_entries es c r fs
       → Answers eq target shown base_entries e c r × Holds eq (epoch_after eq target shown base_entries e c r) fs
   step_keeps e es fs (Insert k v) r held step = insert_keeps e es fs k v (λ b new. Item b) r (λ b new. refl) held step
   step_keeps e es fs (InsertNew k v) r held step = insert_keeps e es fs k v (λ b new. New b new) r (λ b new. refl) held step
@@ -111,26 +114,6 @@ module _ {K V T B M : Type 0} (eq : K → K → Bool) (laws : IsEquivalence eq) 
   step_keeps e es fs IsEmpty r held ((flag, is, empty), same) = ((flag, is, (λ t. sym held.1 ∙ empty.0 t, λ n. empty.1 (held.1 ∙ n))), stays e es fs held same)
   step_keeps e es fs (Rebase m) r held (is, same) = (is, stays (epoch_from (base_entries m)) (base_entries m) fs (begun (base_entries m)) same)
 
-  run_push : (e : MapEpoch K B) (cs : List (MapCommand K V M)) (rs : List (MapReply B)) (f : MapEpoch K B) (c : MapCommand K V M) (r : MapReply B)
-      → Run eq target shown base_entries e cs rs f → Answers eq target shown base_entries f c r → Run eq target shown base_entries e (cs ++ c ∷ []) (rs ++ r ∷ []) (epoch_after eq target shown base_entries f c r)
-  run_push e [] [] f c r same a = (subst (λ (g : MapEpoch K B). Answers eq target shown base_entries g c r) same a, ap (λ g. epoch_after eq target shown base_entries g c r) same)
-  run_push e (d ∷ ds) (q ∷ qs) f c r run a = (run.0, run_push (epoch_after eq target shown base_entries e d q) ds qs f c r run.1 a)
-  run_push e [] (q ∷ qs) f c r run a = absurd run
-  run_push e (d ∷ ds) [] f c r run a = absurd run
-
-  -- no commands
-  pub runs_none : (es : List (K × B)) (rs : List (MapReply B)) → rs ≡ [] → RunsTo eq target shown base_entries es [] rs es
-  runs_none es rs none = subst (λ (qs : List (MapReply B)). RunsTo eq target shown base_entries es [] qs es) (sym none) (epoch_from es, refl, begun es)
-
-  -- one more command, whose reply was pushed
-  pub runs_push : {A E : Type 0} (es fs gs : List (K × B)) (cs : List (MapCommand K V M)) (rs qs : List (MapReply B)) (c : MapCommand K V M) (r : MapReply B) (pushed : Result A E) (x : A)
-      → RunsTo eq target shown base_entries es cs rs fs → Step eq target shown base_entries fs c r gs → pushed ≡ Ok x → qs ≡ (if is_ok pushed then rs ++ r ∷ [] else rs)
-      → RunsTo eq target shown base_entries es (cs ++ c ∷ []) qs gs
-  runs_push es fs gs cs rs qs c r pushed x (f, run, held) step ok is =
-      let next = step_keeps f fs gs c r held step in
-      subst (λ (l : List (MapReply B)). RunsTo eq target shown base_entries es (cs ++ c ∷ []) l gs) (sym (is ∙ ap (λ p. if is_ok p then rs ++ r ∷ [] else rs) ok))
-      (epoch_after eq target shown base_entries f c r, run_push (epoch_from es) cs rs f c r run next.0, next.1)
-
-  -- all commands, as they were listed
-  pub runs_all : (es fs : List (K × B)) (cs ds : List (MapCommand K V M)) (rs : List (MapReply B)) → RunsTo eq target shown base_entries es cs rs fs → map (λ c. c) cs ≡ ds → RunsTo eq target shown base_entries es ds rs fs
-  runs_all es fs cs ds rs run same = subst (λ (l : List (MapCommand K V M)). RunsTo eq target shown base_entries es l rs fs) (sym (map-id cs) ∙ same) run
+  -- calls that were answered one after the other are a run
+  pub map_runs : (es fs : List (K × B)) (cs : List (MapCommand K V M)) (rs : List (MapReply B)) → Answered (Step eq target shown base_entries) es cs rs fs → MapRunsTo eq target shown base_entries es cs rs fs
+  map_runs = runs_to (Holds eq) (Answers eq target shown base_entries) (epoch_after eq target shown base_entries) (Step eq target shown base_entries) (λ e c r es fs held step. step_keeps e es fs c r held step) begun

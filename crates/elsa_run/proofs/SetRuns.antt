@@ -1,10 +1,11 @@
 -- One step of a run of an index set, from what an epoch holds to what the next epoch holds.
-use Rattle.std.proofs.Common.{◌≡◌, ℕ, Bool, true, false, List, [], ◌∷◌, ◌++◌, length, position, slice_get, map, map-id, refl, sym, ap, ◌∙◌, append-nil, Option, None, Some, MatchOption, Result, Ok, is_ok, if◌then◌else◌, inl, inr}
+use Rattle.std.proofs.Common.{◌≡◌, ℕ, Bool, true, false, List, [], ◌∷◌, ◌++◌, length, position, slice_get, map, map-id, refl, sym, ap, subst, ◌∙◌, append-nil, Option, None, Some, MatchOption, inl, inr}
 use Rattle.std.specs.Cmp.{IsEquivalence}
 use Rattle.std.specs.List.{list_any}
 use Rattle.std.proofs.lemmas.List.Folds.{list_any_at}
 use Rattle.std.proofs.lemmas.Option.{slice_get_within, get_or_from_slice_get}
 use Rattle.elsa_index.specs.Content.{SetInserted, SetInsertedNew}
+use Rattle.elsa_model.specs.Replay.{Answered}
 use Rattle.elsa_run.specs.Runs.{Epoch, held, accept}
 use Rattle.elsa_run.specs.SetRun.{answered, InsertAnswers, Answers, epoch_after, PlainStep, NewStep, Step, SetRunsTo}
 use Rattle.elsa_run.specs.declared.run_set.SetCommand.{SetCommand}
@@ -12,7 +13,7 @@ use Rattle.elsa_run.specs.declared.run_set.SetCommand.TheVariants.{Insert, Inser
 use Rattle.elsa_run.specs.declared.run_set.SetReply.{SetReply}
 use Rattle.elsa_run.specs.declared.run_set.SetReply.TheVariants.{Item, Full, New, FullNew}
 use Rattle.elsa_index.proofs.Content.{none_passes}
-use Rattle.elsa_run.proofs.Runs.{held_new, held_again, runs_from, runs_push, runs_all}
+use Rattle.elsa_run.proofs.Runs.{held_new, held_again, runs_to}
 
 module _ {B : Type 0} (eq : B → B → Bool) where
   -- a value that is stored is found by itself
@@ -75,16 +76,8 @@ module _ {V T B M : Type 0} (eq : B → B → Bool) (laws : IsEquivalence eq) (t
   step_of_epoch e (At i) r cs h = h
   step_of_epoch e (Rebase m) r cs (is, same) = (is, same ∙ sym (append-nil (values m)))
 
-  -- no commands
-  pub set_runs_from : (bs : List B) (rs : List (SetReply B)) → rs ≡ [] → SetRunsTo eq target shown finds asks values bs [] rs bs
-  set_runs_from bs rs none = runs_from (held eq (λ b. b)) (Answers eq target shown finds asks values) (epoch_after eq target shown finds asks values) (Step eq target shown finds asks values) step_of_epoch bs rs (sym (append-nil bs)) none
-
-  -- one more command
-  pub set_runs_push : {A E : Type 0} (bs cs ds : List B) (ks : List (SetCommand V B M)) (rs qs : List (SetReply B)) (c : SetCommand V B M) (r : SetReply B) (pushed : Result A E) (x : A)
-      → SetRunsTo eq target shown finds asks values bs ks rs cs → Step eq target shown finds asks values cs c r ds → pushed ≡ Ok x → qs ≡ (if is_ok pushed then rs ++ r ∷ [] else rs)
-      → SetRunsTo eq target shown finds asks values bs (ks ++ c ∷ []) qs ds
-  set_runs_push = runs_push (held eq (λ b. b)) (Answers eq target shown finds asks values) (epoch_after eq target shown finds asks values) (Step eq target shown finds asks values) step_of_epoch
-
-  -- all commands
-  pub set_runs_all : (bs cs : List B) (ks ls : List (SetCommand V B M)) (rs : List (SetReply B)) → SetRunsTo eq target shown finds asks values bs ks rs cs → map (λ c. c) ks ≡ ls → SetRunsTo eq target shown finds asks values bs ls rs cs
-  set_runs_all = runs_all (held eq (λ b. b)) (Answers eq target shown finds asks values) (epoch_after eq target shown finds asks values) (Step eq target shown finds asks values) step_of_epoch
+  -- calls that were answered one after the other are a run
+  pub set_runs : (bs cs : List B) (ks : List (SetCommand V B M)) (rs : List (SetReply B)) → Answered (Step eq target shown finds asks values) bs ks rs cs → SetRunsTo eq target shown finds asks values bs ks rs cs
+  set_runs =
+      runs_to (λ e bs. bs ≡ held eq (λ b. b) e) (λ e. Answers eq target shown finds asks values (held eq (λ b. b) e)) (epoch_after eq target shown finds asks values) (Step eq target shown finds asks values)
+      (λ e k r bs cs held step. step_of_epoch e k r cs (subst (λ l. Step eq target shown finds asks values l k r cs) held step)) (λ bs. sym (append-nil bs))

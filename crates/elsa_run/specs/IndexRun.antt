@@ -51,7 +51,7 @@ module _ {K V T B M : Type 0} (eq : K → K → Bool) (target : V → T) (shown 
 
   -- a run of these commands that begins with es held ends with fs held
   abbrev pub IndexRunsTo : List (K × B) → List (IndexCommand K V M) → List (IndexReply B) → List (K × B) → Type 0
-  IndexRunsTo = RunsTo (held eq (λ p. p.0)) Answers epoch_after
+  IndexRunsTo = RunsTo (λ e es. es ≡ held eq (λ p. p.0) e) (λ e. Answers (held eq (λ p. p.0) e)) epoch_after
 
   -- One call, by what it found: it may take es to fs and get the reply r.
   abbrev pub PlainStep : List (K × B) → K → V → (ℕ → B → IndexReply B) → IndexReply B → List (K × B) → Type 0

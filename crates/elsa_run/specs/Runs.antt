@@ -1,5 +1,5 @@
--- Whole runs of calls on an index form. What is held is never carried from call to call: it is read back from what the
--- epoch began with and from all its accepted insertions.
+-- Whole runs of calls. What is held is never carried from call to call: it is read back from what the epoch began with and
+-- from all its accepted insertions.
 use Rattle.std.specs.Prelude.{◌≡◌, Bool, List, [], ◌∷◌, ◌++◌, map, Option, None, Some}
 use Rattle.elsa_index.specs.Content.{first_of_each}
 
@@ -21,15 +21,15 @@ abbrev pub accept : {X : Type 0} → Epoch X → Option X → Epoch X
 accept e None = e
 accept e (Some x) = record { base = e.base; accepted = e.accepted ++ x ∷ [] }
 
--- `Answers es c r`: the reply r may be given to the command c where es is held. `after e c r`: the epoch that follows.
-module _ {X C R : Type 0} (held_in : Epoch X → List X) (Answers : List X → C → R → Type 0) (after : Epoch X → C → R → Epoch X) where
+-- `Answers e c r`: the reply r may be given to the command c in the epoch e. `after e c r`: the epoch that follows. `Holds e es`: es is what e holds.
+module _ {X C R : Type 0} (Holds : Epoch X → List X → Type 0) (Answers : Epoch X → C → R → Type 0) (after : Epoch X → C → R → Epoch X) where
   -- each command got one reply that it may get, from the first epoch to the last
   abbrev pub Run : Epoch X → List C → List R → Epoch X → Type 0
   Run e [] [] f = f ≡ e
-  Run e (c ∷ cs) (r ∷ rs) f = Answers (held_in e) c r × Run (after e c r) cs rs f
+  Run e (c ∷ cs) (r ∷ rs) f = Answers e c r × Run (after e c r) cs rs f
   Run e [] (r ∷ rs) f = ⊥
   Run e (c ∷ cs) [] f = ⊥
 
   -- a run that begins with es held ends with fs held
   abbrev pub RunsTo : List X → List C → List R → List X → Type 0
-  RunsTo es cs rs fs = (f : Epoch X) × Run (epoch_from es) cs rs f × (fs ≡ held_in f)
+  RunsTo es cs rs fs = (f : Epoch X) × Run (epoch_from es) cs rs f × Holds f fs

@@ -49,7 +49,7 @@ module _ {V T B M : Type 0} (eq : B → B → Bool) (target : V → T) (shown : 
 
   -- a run of these commands that begins with bs held ends with cs held
   abbrev pub SetRunsTo : List B → List (SetCommand V B M) → List (SetReply B) → List B → Type 0
-  SetRunsTo = RunsTo (held eq (λ b. b)) Answers epoch_after
+  SetRunsTo = RunsTo (λ e bs. bs ≡ held eq (λ b. b) e) (λ e. Answers (held eq (λ b. b) e)) epoch_after
 
   -- One call, by what it found: it may take bs to cs and get the reply r.
   abbrev pub PlainStep : List B → V → (ℕ → B → SetReply B) → SetReply B → List B → Type 0

@@ -54,4 +54,8 @@ module _ {T B X M : Type 0} (target : T → X) (shown : B → X) (inner : M → 
 
   -- a run of these commands that begins with xs held ends with ys held
   abbrev pub VecRunsTo : List X → List (VecCommand T M) → List (VecReply B) → List X → Type 0
-  VecRunsTo = RunsTo pushed_on Answers epoch_after
+  VecRunsTo = RunsTo (λ e xs. xs ≡ pushed_on e) (λ e. Answers (pushed_on e)) epoch_after
+
+  -- a command may take xs to ys and get the reply r
+  abbrev pub Step : List X → VecCommand T M → VecReply B → List X → Type 0
+  Step xs c r ys = Answers xs c r × (ys ≡ content_after xs c r)

@@ -3,9 +3,10 @@
 //! Every list of commands gets the model's reply: what is held is the base with the first accepted value of each
 //! further key.
 ghost use Rattle.std.specs.Prelude.{◌≡◌, IfOk, OnErr};
-ghost use Rattle.elsa_run.specs.IndexRun.{Step, IndexRunsTo};
+ghost use Rattle.elsa_run.specs.IndexRun.{IndexRunsTo};
 
 use elsa_index::index_map::FrozenIndexMap;
+use elsa_model::{Call, run};
 use elsa_once::stable::StableDeref;
 use indexmap::IndexMap;
 use std::alloc::{AllocError, Allocator};
@@ -55,36 +56,51 @@ pub enum IndexReply<B> {
     NoMemory,
 }
 
-// Makes one call.
-fn apply<'a, K: Eq + Hash + Drop, V: StableDeref<'a>, S: BuildHasher + Drop, A: Allocator + Copy>(
-    map: &mut FrozenIndexMap<'a, K, V, S, A>,
-    command: IndexCommand<K, V, IndexMap<K, V::Borrow, S, A>>,
-) -> IndexReply<V::Borrow>
-    ensures { Step K.eq V.target V.shown (λ m. m.entries) map.old command result map.new }
-{
-    match command {
-        IndexCommand::Insert(key, value) => match map.insert(key, value) {
-            Ok(item) => IndexReply::Item(item),
-            Err(_) => IndexReply::NoMemory,
-        },
-        IndexCommand::InsertFull(key, value) => match map.insert_full(key, value) {
-            Ok((place, item)) => IndexReply::Full(place, item),
-            Err(_) => IndexReply::NoMemory,
-        },
-        IndexCommand::InsertNew(key, value) => match map.insert_new(key, value) {
-            Ok((item, new)) => IndexReply::New(item, new),
-            Err(_) => IndexReply::NoMemory,
-        },
-        IndexCommand::InsertFullNew(key, value) => match map.insert_full_new(key, value) {
-            Ok((place, item, new)) => IndexReply::FullNew(place, item, new),
-            Err(_) => IndexReply::NoMemory,
-        },
-        IndexCommand::Get(key) => IndexReply::Found(map.get(&key)),
-        IndexCommand::IndexOf(key) => IndexReply::Place(map.get_index_of(&key)),
-        IndexCommand::IsEmpty => IndexReply::Flag(map.is_empty()),
-        IndexCommand::Rebase(base) => {
-            map.rebase(base);
-            IndexReply::Done
+impl<'a, K: Eq + Hash + Drop, V: StableDeref<'a>, S: BuildHasher + Drop, A: Allocator + Copy> Call<
+    FrozenIndexMap<'a, K, V, S, A>,
+    IndexReply<V::Borrow>,
+    (),
+> for IndexCommand<K, V, IndexMap<K, V::Borrow, S, A>> {
+    ghost use Rattle.std.specs.Prelude.{[], List};
+    ghost use Rattle.elsa_run.specs.IndexRun.{Step};
+    ghost use Rattle.elsa_run.specs.declared.run_index.IndexReply.{IndexReply};
+
+    ghost State = { List (K × V.Borrow) };
+
+    ghost state = { λ map. map };
+
+    ghost opening = { [] };
+
+    ghost steps = { Step K.eq V.target V.shown (λ m. m.entries) };
+
+    ghost refuses = { λ es c.
+        Step K.eq V.target V.shown (λ m. m.entries) es c IndexReply.NoMemory es };
+
+    fn apply(
+        self,
+        map: &mut FrozenIndexMap<'a, K, V, S, A>,
+    ) -> Result<IndexReply<V::Borrow>, AllocError> {
+        match self {
+            IndexCommand::Insert(key, value) => Ok(IndexReply::Item(map.insert(key, value)?)),
+            IndexCommand::InsertFull(key, value) => {
+                let (place, item) = map.insert_full(key, value)?;
+                Ok(IndexReply::Full(place, item))
+            }
+            IndexCommand::InsertNew(key, value) => {
+                let (item, new) = map.insert_new(key, value)?;
+                Ok(IndexReply::New(item, new))
+            }
+            IndexCommand::InsertFullNew(key, value) => {
+                let (place, item, new) = map.insert_full_new(key, value)?;
+                Ok(IndexReply::FullNew(place, item, new))
+            }
+            IndexCommand::Get(key) => Ok(IndexReply::Found(map.get(&key))),
+            IndexCommand::IndexOf(key) => Ok(IndexReply::Place(map.get_index_of(&key))),
+            IndexCommand::IsEmpty => Ok(IndexReply::Flag(map.is_empty())),
+            IndexCommand::Rebase(base) => {
+                map.rebase(base);
+                Ok(IndexReply::Done)
+            }
         }
     }
 }
@@ -109,10 +125,5 @@ pub fn run_index<
         map.new) }
     ensures none_made { OnErr result (map.new ≡ map.old) }
 {
-    let mut replies = Vec::with_capacity(alloc, commands.len())?;
-    for command in commands {
-        let reply = apply(map, command);
-        replies.push(reply).unwrap();
-    }
-    Ok(replies)
+    run(alloc, map, commands, IndexReply::NoMemory)
 }

@@ -3,9 +3,10 @@
 //! Every list of commands gets the model's reply: each key has the base's value, or else the first
 //! accepted one of the epoch.
 ghost use Rattle.std.specs.Prelude.{◌≡◌, IfOk, OnErr};
-ghost use Rattle.elsa_run.specs.MapRun.{RunsTo, Step};
+ghost use Rattle.elsa_run.specs.MapRun.{MapRunsTo};
 
-use elsa_once::map::MapForm;
+use elsa_maps::map::MapForm;
+use elsa_model::{Call, run};
 use elsa_once::stable::StableDeref;
 use std::alloc::{AllocError, Allocator};
 
@@ -45,29 +46,40 @@ pub enum MapReply<B> {
     NoMemory,
 }
 
-// Makes one call.
-fn answer<'a, M: MapForm<'a>>(
-    map: &mut M,
-    command: MapCommand<M::Key, M::Value, M::Base>,
-) -> MapReply<<M::Value as StableDeref<'a>>::Borrow>
-    ensures { Step M.same M.Value.target M.Value.shown M.base_entries (M.entries map.old) command
-        result (M.entries map.new) }
-{
-    match command {
-        MapCommand::Insert(key, value) => match map.insert(key, value) {
-            Ok(item) => MapReply::Item(item),
-            Err(_) => MapReply::NoMemory,
-        },
-        MapCommand::InsertNew(key, value) => match map.insert_new(key, value) {
-            Ok((item, new)) => MapReply::New(item, new),
-            Err(_) => MapReply::NoMemory,
-        },
-        MapCommand::Get(key) => MapReply::Found(map.get(&key)),
-        MapCommand::Len => MapReply::Count(map.len()),
-        MapCommand::IsEmpty => MapReply::Flag(map.is_empty()),
-        MapCommand::Rebase(base) => {
-            map.rebase(base);
-            MapReply::Done
+impl<'a, M: MapForm<'a>> Call<M, MapReply<<M::Value as StableDeref<'a>>::Borrow>, &'a ()>
+    for MapCommand<M::Key, M::Value, M::Base> {
+    ghost use Rattle.std.specs.Prelude.{[], List};
+    ghost use Rattle.elsa_run.specs.MapRun.{Step};
+    ghost use Rattle.elsa_run.specs.declared.run_map.MapReply.{MapReply};
+
+    ghost State = { List (M.Key × M.Value.Borrow) };
+
+    ghost state = { M.entries };
+
+    ghost opening = { [] };
+
+    ghost steps = { Step M.same M.Value.target M.Value.shown M.base_entries };
+
+    ghost refuses = { λ es c.
+        Step M.same M.Value.target M.Value.shown M.base_entries es c MapReply.NoMemory es };
+
+    fn apply(
+        self,
+        map: &mut M,
+    ) -> Result<MapReply<<M::Value as StableDeref<'a>>::Borrow>, AllocError> {
+        match self {
+            MapCommand::Insert(key, value) => Ok(MapReply::Item(map.insert(key, value)?)),
+            MapCommand::InsertNew(key, value) => {
+                let (item, new) = map.insert_new(key, value)?;
+                Ok(MapReply::New(item, new))
+            }
+            MapCommand::Get(key) => Ok(MapReply::Found(map.get(&key))),
+            MapCommand::Len => Ok(MapReply::Count(map.len())),
+            MapCommand::IsEmpty => Ok(MapReply::Flag(map.is_empty())),
+            MapCommand::Rebase(base) => {
+                map.rebase(base);
+                Ok(MapReply::Done)
+            }
         }
     }
 }
@@ -82,16 +94,11 @@ pub fn run_map<'a, M: MapForm<'a>, A: Allocator + Copy>(
     commands: Vec<MapCommand<M::Key, M::Value, M::Base>>,
 ) -> Result<Vec<MapReply<<M::Value as StableDeref<'a>>::Borrow>, A>, AllocError>
     ensures run { IfOk result (λ replies.
-        RunsTo M.same M.Value.target M.Value.shown M.base_entries (M.entries map.old) commands.items
-        replies.items (M.entries map.new)) }
+        MapRunsTo M.same M.Value.target M.Value.shown M.base_entries (M.entries map.old)
+        commands.items replies.items (M.entries map.new)) }
     ensures refused { OnErr result (M.entries map.new ≡ M.entries map.old) }
 {
     // Tells the proof that the keys' equality is an equivalence.
     let _count = map.len();
-    let mut replies = Vec::with_capacity(alloc, commands.len())?;
-    for command in commands {
-        let reply = answer(map, command);
-        replies.push(reply).unwrap();
-    }
-    Ok(replies)
+    run(alloc, map, commands, MapReply::NoMemory)
 }

@@ -3,10 +3,11 @@
 //! Every list of commands gets the model's reply: what is held is the base with each further value once, in the
 //! order of the first insertions.
 ghost use Rattle.std.specs.Prelude.{◌≡◌, IfOk, OnErr};
-ghost use Rattle.elsa_run.specs.SetRun.{Step, SetRunsTo};
+ghost use Rattle.elsa_run.specs.SetRun.{SetRunsTo};
 
 use elsa_index::index_set::FrozenIndexSet;
 use elsa_index::look_up::LookUp;
+use elsa_model::{Call, run};
 use elsa_once::stable::StableDeref;
 use indexmap::IndexSet;
 use std::alloc::{AllocError, Allocator};
@@ -54,44 +55,57 @@ pub enum SetReply<B> {
     NoMemory,
 }
 
-// Makes one call.
-fn apply<
+impl<
     'a,
     T: StableDeref<'a> + LookUp<<T as StableDeref<'a>>::Borrow>,
     S: BuildHasher + Drop,
     A: Allocator + Copy,
->(
-    set: &mut FrozenIndexSet<'a, T, S, A>,
-    command: SetCommand<T, T::Borrow, IndexSet<T::Borrow, S, A>>,
-) -> SetReply<T::Borrow>
+> Call<FrozenIndexSet<'a, T, S, A>, SetReply<T::Borrow>, ()>
+    for SetCommand<T, T::Borrow, IndexSet<T::Borrow, S, A>>
 where
     <T as StableDeref<'a>>::Borrow: Eq + Hash + LookUp<<T as StableDeref<'a>>::Borrow>,
-    ensures { Step T.Borrow.eq T.target T.shown T.finds T.Borrow.finds (λ m. m.keys) set.old command
-        result set.new }
 {
-    match command {
-        SetCommand::Insert(value) => match set.insert(value) {
-            Ok(item) => SetReply::Item(item),
-            Err(_) => SetReply::NoMemory,
-        },
-        SetCommand::InsertFull(value) => match set.insert_full(value) {
-            Ok((place, item)) => SetReply::Full(place, item),
-            Err(_) => SetReply::NoMemory,
-        },
-        SetCommand::InsertNew(value) => match set.insert_new(value) {
-            Ok((item, new)) => SetReply::New(item, new),
-            Err(_) => SetReply::NoMemory,
-        },
-        SetCommand::InsertFullNew(value) => match set.insert_full_new(value) {
-            Ok((place, item, new)) => SetReply::FullNew(place, item, new),
-            Err(_) => SetReply::NoMemory,
-        },
-        SetCommand::Get(value) => SetReply::Found(set.get(&value)),
-        SetCommand::IndexOf(value) => SetReply::Place(set.get_index_of(&value)),
-        SetCommand::At(index) => SetReply::Found(set.get_index(index)),
-        SetCommand::Rebase(base) => {
-            set.rebase(base);
-            SetReply::Done
+    ghost use Rattle.std.specs.Prelude.{[], List};
+    ghost use Rattle.elsa_run.specs.SetRun.{Step};
+    ghost use Rattle.elsa_run.specs.declared.run_set.SetReply.{SetReply};
+
+    ghost State = { List T.Borrow };
+
+    ghost state = { λ set. set };
+
+    ghost opening = { [] };
+
+    ghost steps = { Step T.Borrow.eq T.target T.shown T.finds T.Borrow.finds (λ m. m.keys) };
+
+    ghost refuses = { λ bs c.
+        Step T.Borrow.eq T.target T.shown T.finds T.Borrow.finds (λ m. m.keys) bs c
+        SetReply.NoMemory bs };
+
+    fn apply(
+        self,
+        set: &mut FrozenIndexSet<'a, T, S, A>,
+    ) -> Result<SetReply<T::Borrow>, AllocError> {
+        match self {
+            SetCommand::Insert(value) => Ok(SetReply::Item(set.insert(value)?)),
+            SetCommand::InsertFull(value) => {
+                let (place, item) = set.insert_full(value)?;
+                Ok(SetReply::Full(place, item))
+            }
+            SetCommand::InsertNew(value) => {
+                let (item, new) = set.insert_new(value)?;
+                Ok(SetReply::New(item, new))
+            }
+            SetCommand::InsertFullNew(value) => {
+                let (place, item, new) = set.insert_full_new(value)?;
+                Ok(SetReply::FullNew(place, item, new))
+            }
+            SetCommand::Get(value) => Ok(SetReply::Found(set.get(&value))),
+            SetCommand::IndexOf(value) => Ok(SetReply::Place(set.get_index_of(&value))),
+            SetCommand::At(index) => Ok(SetReply::Found(set.get_index(index))),
+            SetCommand::Rebase(base) => {
+                set.rebase(base);
+                Ok(SetReply::Done)
+            }
         }
     }
 }
@@ -117,10 +131,5 @@ where
         commands.items replies.items set.new) }
     ensures none_made { OnErr result (set.new ≡ set.old) }
 {
-    let mut replies = Vec::with_capacity(alloc, commands.len())?;
-    for command in commands {
-        let reply = apply(set, command);
-        replies.push(reply).unwrap();
-    }
-    Ok(replies)
+    run(alloc, set, commands, SetReply::NoMemory)
 }

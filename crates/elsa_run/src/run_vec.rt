@@ -2,8 +2,9 @@
 //!
 //! Every list of commands gets the model's reply: what is held is the base, and behind it the items of the accepted pushes.
 ghost use Rattle.std.specs.Prelude.{◌≡◌, IfOk, OnErr, map};
-ghost use Rattle.elsa_run.specs.VecRun.{Answers, VecRunsTo, content_after};
+ghost use Rattle.elsa_run.specs.VecRun.{VecRunsTo};
 
+use elsa_model::{Call, run};
 use elsa_once::stable::StableDeref;
 use elsa_once::vec::FrozenVec;
 use std::alloc::{AllocError, Allocator};
@@ -46,32 +47,39 @@ pub enum VecReply<B> {
     NoMemory,
 }
 
-// Makes one call.
-fn apply<'a, T: StableDeref<'a>, A: Allocator + Copy>(
-    items: &mut FrozenVec<'a, T, A>,
-    command: VecCommand<T, Vec<T::Borrow, A>>,
-) -> VecReply<T::Borrow>
-    ensures answer { Answers T.target T.shown (λ m. m.items) (map T.shown items.old) command result }
-    ensures content { map T.shown items.new
-        ≡ content_after T.target T.shown (λ m. m.items) (map T.shown items.old) command result }
-{
-    match command {
-        VecCommand::Push(item) => match items.push(item) {
-            Ok(()) => VecReply::Done,
-            Err(_) => VecReply::NoMemory,
-        },
-        VecCommand::PushGet(item) => match items.push_get(item) {
-            Ok(borrow) => VecReply::Item(borrow),
-            Err(_) => VecReply::NoMemory,
-        },
-        VecCommand::Get(index) => VecReply::Found(items.get(index)),
-        VecCommand::First => VecReply::Found(items.first()),
-        VecCommand::Last => VecReply::Found(items.last()),
-        VecCommand::Len => VecReply::Count(items.len()),
-        VecCommand::IsEmpty => VecReply::Flag(items.is_empty()),
-        VecCommand::Rebase(base) => {
-            *items.as_mut() = base;
-            VecReply::Done
+// What each call means: `Answers` says which reply it may get, `content_after` what it leaves.
+impl<'a, T: StableDeref<'a>, A: Allocator + Copy> Call<FrozenVec<'a, T, A>, VecReply<T::Borrow>, ()>
+    for VecCommand<T, Vec<T::Borrow, A>> {
+    ghost use Rattle.std.specs.Prelude.{[], List, map};
+    ghost use Rattle.elsa_run.specs.VecRun.{Step};
+    ghost use Rattle.elsa_run.specs.declared.run_vec.VecReply.{VecReply};
+
+    ghost State = { List T.Target };
+
+    ghost state = { λ items. map T.shown items };
+
+    ghost opening = { [] };
+
+    ghost steps = { Step T.target T.shown (λ m. m.items) };
+
+    ghost refuses = { λ xs c. Step T.target T.shown (λ m. m.items) xs c VecReply.NoMemory xs };
+
+    fn apply(self, items: &mut FrozenVec<'a, T, A>) -> Result<VecReply<T::Borrow>, AllocError> {
+        match self {
+            VecCommand::Push(item) => {
+                items.push(item)?;
+                Ok(VecReply::Done)
+            }
+            VecCommand::PushGet(item) => Ok(VecReply::Item(items.push_get(item)?)),
+            VecCommand::Get(index) => Ok(VecReply::Found(items.get(index))),
+            VecCommand::First => Ok(VecReply::Found(items.first())),
+            VecCommand::Last => Ok(VecReply::Found(items.last())),
+            VecCommand::Len => Ok(VecReply::Count(items.len())),
+            VecCommand::IsEmpty => Ok(VecReply::Flag(items.is_empty())),
+            VecCommand::Rebase(base) => {
+                *items.as_mut() = base;
+                Ok(VecReply::Done)
+            }
         }
     }
 }
@@ -90,10 +98,5 @@ pub fn run_vec<'a, T: StableDeref<'a>, A: Allocator + Copy>(
         replies.items (map T.shown items.new)) }
     ensures none_made { OnErr result (items.new ≡ items.old) }
 {
-    let mut replies = Vec::with_capacity(alloc, commands.len())?;
-    for command in commands {
-        let reply = apply(items, command);
-        replies.push(reply).unwrap();
-    }
-    Ok(replies)
+    run(alloc, items, commands, VecReply::NoMemory)
 }

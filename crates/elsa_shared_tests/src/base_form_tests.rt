@@ -90,11 +90,16 @@ fn place_of_five<'a>(
 }
 
 /// Whether a text that is absent goes last in a set.
-fn adds<'a>(set: &mut FrozenIndexSet<'a, String>, text: &str) -> Result<bool, AllocError> {
-    if set.get_index_of(&text).is_some() {
+fn adds<'a>(
+    alloc: Global,
+    set: &mut FrozenIndexSet<'a, String>,
+    text: &str,
+) -> Result<bool, AllocError> {
+    let owned = String::from_str(alloc, text)?;
+    if set.get_index_of(&owned).is_some() {
         return Ok(false);
     }
-    let (place, kept) = set.insert_absent_text(text)?;
+    let (place, kept) = set.insert_absent(owned)?;
     Ok(place == 0 && kept == text)
 }
 
@@ -112,7 +117,7 @@ fn forms_of_inner_index_forms(rt: HostRuntime) -> Result<(), Fail> {
         place_of_five(rt.alloc(), &arena, [(7, Own(1)), (5, Own(2))])?,
         Some(1)
     );
-    assert!(rt; adds(&mut set, "fox")? && is_made_again(&arena, set));
+    assert!(rt; adds(rt.alloc(), &mut set, "fox")? && is_made_again(&arena, set));
     Ok(())
 }
 

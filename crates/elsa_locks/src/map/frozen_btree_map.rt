@@ -3,7 +3,7 @@ ghost use Rattle.std.specs.Prelude.{IfOk};
 ghost use Rattle.std.specs.List.Sorted.{IsStrictlySortedBy};
 ghost use Rattle.std.specs.Map.{keys_of};
 ghost use Rattle.std.specs.Iterator.{IsFinite};
-ghost use Rattle.elsa_locks.specs.FirstWins.{CloneIsEqual};
+ghost use Rattle.elsa_model.specs.FirstWins.{CloneIsEqual};
 
 use super::TreeState;
 use std::alloc::{AllocError, Allocator, Global};

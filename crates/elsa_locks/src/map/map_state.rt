@@ -6,7 +6,7 @@ ghost use Rattle.std.specs.Fn.{FnOnceReturnsAt, FnOnceTakesAt};
 ghost use Rattle.std.specs.List.{IsDistinct, AllZip};
 ghost use Rattle.std.specs.HashMap.{spare};
 ghost use Rattle.std.specs.Map.{keys_of};
-ghost use Rattle.elsa_locks.specs.FirstWins.{value_at, IsSameContent, IsInserted, IsEqualMap, IsKeys, CloneIsEqual};
+ghost use Rattle.elsa_model.specs.FirstWins.{value_at, IsSameContent, IsInserted, IsEqualMap, IsKeys, CloneIsEqual};
 ghost use Rattle.elsa_locks.specs.Shared.{shown};
 
 use std::alloc::{AllocError, Allocator, Global};

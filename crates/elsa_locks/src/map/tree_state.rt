@@ -7,7 +7,7 @@ ghost use Rattle.std.specs.Fn.{FnOnceReturnsAt, FnOnceTakesAt};
 ghost use Rattle.std.specs.List.Sorted.{IsStrictlySortedBy};
 ghost use Rattle.std.specs.Map.{keys_of};
 ghost use Rattle.std.specs.Iterator.{Drains, IsFinite};
-ghost use Rattle.elsa_locks.specs.FirstWins.{value_at, IsSameContent, IsInserted, IsEqualMap, IsCollected, CloneIsEqual};
+ghost use Rattle.elsa_model.specs.FirstWins.{value_at, IsSameContent, IsInserted, IsEqualMap, IsCollected, CloneIsEqual};
 ghost use Rattle.elsa_locks.specs.Shared.{shown};
 
 use std::alloc::{AllocError, Allocator, Global};

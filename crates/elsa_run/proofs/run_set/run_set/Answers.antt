@@ -1,33 +1,6 @@
-use Rattle.std.proofs.Common.{◌≡◌, ◌+◌, arith, ◌∙◌, ap, is_ok, if◌then◌else◌}
-use Rattle.std.specs.Vec.{vec_len}
-use Rattle.std.proofs.lemmas.Iterator.Adapters.{YieldsList-from_vec}
-use Rattle.std.proofs.lemmas.Iterator.Consumers.{YieldsList-turn, YieldsList-end}
-use Rattle.std.proofs.lemmas.List.{length_push}
-use Rattle.indexmap.specs.IndexSet.{IndexSet}
-use Rattle.elsa_run.proofs.SetRuns.{set_runs_from, set_runs_push, set_runs_all}
+use Rattle.std.proofs.lemmas.Result.{IfOk-weaker}
+use Rattle.elsa_run.proofs.SetRuns.{set_runs}
 use Rattle.elsa_run.proofs.run_set.run_set.Goals as goal
 
-pub loop-command-init : goal.loop-command-init
-loop-command-init g c = record {
-  run = set_runs_from g.T.Borrow.PartialEq.eq g.met.T.Borrow.Eq.laws g.T.HasTarget.target g.T.HasTarget.shown g.T.LookUp.finds g.met.T.LookUp.finds_target g.T.Borrow.LookUp.finds (λ (m : IndexSet g.row.T-Borrow.Denot g.row.S.Denot). m.keys) c.args.set.now _ c.in_ok-replies.ensures.items;
-  count = c.in_ok-replies.ensures.len;
-  room = omega (arith, c.in_ok-replies.ensures.exact, c.len.ensures);
-}
-
-pub loop-command-preserved : goal.loop-command-preserved
-loop-command-preserved g c =
-    let it = c.into_iter-command-iterator.ensures.into_iter_gives in
-    let t = YieldsList-turn (YieldsList-from_vec {s = c.into_iter-command-iterator.result} c.args.commands.items it.0 (it.1 ∙ c.args.commands.ok.0)) c.loop-command.yielded c.loop-command.command-iterator c.loop-command.yielded_by c.next.result c.next.new.self c.in-Some.command c.in-Some.is c.next.ensures.steps in
-    let n = length_push c.loop-command.yielded c.in-Some.command in
-    let counted : vec_len c.push.new.self ≡ vec_len c.loop-command.replies + 1 = c.push.ensures.len ∙ ap (λ p. if is_ok p then vec_len c.loop-command.replies + 1 else vec_len c.loop-command.replies) c.unwrap.ensures in
-    record {
-      run = set_runs_push g.T.Borrow.PartialEq.eq g.met.T.Borrow.Eq.laws g.T.HasTarget.target g.T.HasTarget.shown g.T.LookUp.finds g.met.T.LookUp.finds_target g.T.Borrow.LookUp.finds (λ (m : IndexSet g.row.T-Borrow.Denot g.row.S.Denot). m.keys) _ _ _ _ _ _ _ _ _ _ c.loop-command.invariant.run c.apply-reply.ensures c.unwrap.ensures c.push.ensures.items;
-      count = omega (arith, counted, n, c.loop-command.invariant.count);
-      room = omega (arith, c.loop-command.invariant.room, c.push.ensures.capacity);
-    }
-
 pub returns-clause-run : goal.returns-clause-run
-returns-clause-run g c =
-    let it = c.into_iter-command-iterator.ensures.into_iter_gives in
-    let t = YieldsList-end (YieldsList-from_vec {s = c.into_iter-command-iterator.result} c.args.commands.items it.0 (it.1 ∙ c.args.commands.ok.0)) c.loop-command.yielded c.loop-command.command-iterator c.loop-command.yielded_by c.next.result c.next.new.self c.in-None.is c.next.ensures.steps in
-    set_runs_all g.T.Borrow.PartialEq.eq g.met.T.Borrow.Eq.laws g.T.HasTarget.target g.T.HasTarget.shown g.T.LookUp.finds g.met.T.LookUp.finds_target g.T.Borrow.LookUp.finds (λ (m : IndexSet g.row.T-Borrow.Denot g.row.S.Denot). m.keys) _ _ _ _ _ c.loop-command.invariant.run t.0
+returns-clause-run g c = IfOk-weaker c.run.result _ _ (λ replies answered. set_runs g.T.Borrow.PartialEq.eq g.met.T.Borrow.Eq.laws g.T.HasTarget.target g.T.HasTarget.shown g.T.LookUp.finds g.met.T.LookUp.finds_target g.T.Borrow.LookUp.finds _ _ _ _ _ answered) c.run.ensures.run

@@ -1,5 +1,6 @@
 use Rattle.std.proofs.Common.{◌≡◌, rules, sym, ◌∙◌}
-use Rattle.elsa_index.specs.Equality.{same_map, same_map_decides}
+use Rattle.elsa_index.specs.Equality.{same_map}
+use Rattle.elsa_index.proofs.Equality.{same_map_decides}
 use Rattle.elsa_index.proofs.index_map.FrozenIndexMapPartialEq.eq.Goals as goal
 
 pub returns-clause-as_maps : goal.returns-clause-as_maps

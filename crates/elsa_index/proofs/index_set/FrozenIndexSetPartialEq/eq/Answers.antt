@@ -1,5 +1,6 @@
 use Rattle.std.proofs.Common.{◌≡◌, rules, sym, ◌∙◌}
-use Rattle.elsa_index.specs.Equality.{same_set, same_set_decides}
+use Rattle.elsa_index.specs.Equality.{same_set}
+use Rattle.elsa_index.proofs.Equality.{same_set_decides}
 use Rattle.elsa_index.proofs.index_set.FrozenIndexSetPartialEq.eq.Goals as goal
 
 pub returns-clause-as_sets : goal.returns-clause-as_sets

@@ -1,0 +1,116 @@
+-- Look-ups in a list of entries, and what pairs leave when they are collected.
+use Rattle.std.proofs.Common.{◌≡◌, ◌↔◌, Bool, true, false, true≢false, cond, subst, is_some, Result, Ok, Err, IfOk, OnErr, List, [], ◌∷◌, ◌++◌, reverse, Option, None, Some, length, refl, sym, ap, ◌∙◌}
+use Rattle.std.specs.BTreeMap as tree
+use Rattle.std.specs.BTreeMap.{BTreeMap}
+use Rattle.std.specs.Cmp.{IsEquivalence, IsTotalOrder}
+use Rattle.std.specs.HashMap.Eq.{lookup_congr}
+use Rattle.std.specs.Map.{lookup, lookup_entry, lookup_key, update, update_all}
+use Rattle.std.specs.Option.{option_map}
+use Rattle.std.specs.declared.cmp.Ordering.{Ordering}
+use Rattle.std.proofs.lemmas.List.{length-map, reverse-append}
+use Rattle.std.proofs.lemmas.List.Sums.{fold-append}
+use Rattle.std.proofs.lemmas.Map.Lookups.{btree_map_read_from_get}
+use Rattle.elsa_maps.specs.FirstWins.{Adds, HoldsLast, Inserts, Keeps, SameAt, value_at}
+
+module _ {K B : Type 0} (test : K → Bool) where
+  -- the key and the value that are found belong to one entry
+  pub entry_found : (es : List (K × B)) (k : K) (v : B) → Some k ≡ lookup_key test es → Some v ≡ lookup test es → Some (k, v) ≡ lookup_entry test es
+  entry_found [] k v found valued = cc
+  entry_found (e ∷ es) k v found valued = by (test e.0) found valued (entry_found es k v)
+    where
+      by : (b : Bool) → Some k ≡ cond b (Some e.0) (lookup_key test es) → Some v ≡ cond b (Some e.1) (lookup test es)
+          → (Some k ≡ lookup_key test es → Some v ≡ lookup test es → Some (k, v) ≡ lookup_entry test es) → Some (k, v) ≡ cond b (Some e) (lookup_entry test es)
+      by true f g rest =
+          let same_key : k ≡ e.0 = cc in
+          let same_value : v ≡ e.1 = cc in
+          λ i. Some (same_key i, same_value i)
+      by false f g rest = rest f g
+
+  -- where no value is found there is no entry
+  pub entry_missing : (es : List (K × B)) → None ≡ lookup test es → None ≡ lookup_entry test es
+  entry_missing [] missing = refl
+  entry_missing (e ∷ es) missing = by (test e.0) missing (entry_missing es)
+    where
+      by : (b : Bool) → None ≡ cond b (Some e.1) (lookup test es) → (None ≡ lookup test es → None ≡ lookup_entry test es) → None ≡ cond b (Some e) (lookup_entry test es)
+      by true f rest = cc
+      by false f rest = rest f
+
+module _ {K V B T : Type 0} (eq : K → K → Bool) (laws : IsEquivalence eq) (target : V → T) (shown : B → T) where
+  -- nothing is collected from no pairs
+  pub holds_none : (es : List (K × B)) → es ≡ [] → HoldsLast eq target shown [] es
+  holds_none es none q = ap (λ fs. option_map shown (lookup (eq q) fs)) none
+
+  -- one more pair
+  pub holds_more : (pairs : List (K × V)) (es fs : List (K × B)) (k : K) (v : V) (b : B) → HoldsLast eq target shown pairs es
+      → shown b ≡ target v → ((q : K) → value_at eq fs q ≡ cond (eq k q) (Some b) (value_at eq es q)) → HoldsLast eq target shown (pairs ++ (k, v) ∷ []) fs
+  holds_more pairs es fs k v b held shows looks q =
+      ap (option_map shown) (looks q) ∙ by (eq k q) ∙ ap (λ c. option_map target (cond c (Some v) (lookup (eq q) (reverse pairs)))) (laws.symm k q)
+      ∙ sym (ap (λ ps. option_map target (lookup (eq q) ps)) (reverse-append pairs ((k, v) ∷ [])))
+    where
+      by : (c : Bool) → option_map shown (cond c (Some b) (lookup (eq q) es)) ≡ option_map target (cond c (Some v) (lookup (eq q) (reverse pairs)))
+      by true = ap Some shows
+      by false = held q
+
+-- an accepted insertion into entries that have, at each key, what old has
+pub inserts_alike : {K V B T : Type 0} (eq : K → K → Bool) (target : V → T) (shown : B → T) (old : K → Option B) (es fs : List (K × B)) (k : K) (v : V) (b : B) → SameAt old (value_at eq es)
+    → ((x : B) → value_at eq es k ≡ Some x → fs ≡ es) → (value_at eq es k ≡ None → shown b ≡ target v) → (value_at eq es k ≡ None → Adds eq (value_at eq es) (value_at eq fs) k b)
+    → Inserts eq target shown old k v (value_at eq fs)
+inserts_alike eq target shown old es fs k v b same unchanged shows adds = (
+  (λ x had q. ap (λ gs. value_at eq gs q) (unchanged x (same k ∙ had)) ∙ same q),
+  (λ none. (b, shows (same k ∙ none), (λ q. ((adds (same k ∙ none) q).0, (λ other. (adds (same k ∙ none) q).1 other ∙ same q))))),
+)
+
+module _ {K B : Type 0} (eq : K → K → Bool) (laws : IsEquivalence eq) where
+  -- what an insertion of a new key adds keeps every value
+  adds_keeps : (es : List (K × B)) (new : K → Option B) (k : K) (v : B) → value_at eq es k ≡ None → Adds eq (value_at eq es) new k v → Keeps (value_at eq es) new
+  adds_keeps es new k v none adds q x is = by (eq k q) refl
+    where
+      by : (t : Bool) → eq k q ≡ t → new q ≡ Some x
+      by true same = absurd (true≢false (ap is_some (sym is ∙ sym (lookup_congr eq laws.congr es k q same) ∙ none)))
+      by false other = (adds q).1 other ∙ is
+
+  module _ {E : Type 0} (es fs : List (K × B)) (k : K) (result : Result (B × Bool) E) (present : (x : B) → value_at eq es k ≡ Some x → (result ≡ Ok (x, false)) × (fs ≡ es))
+      (adds : value_at eq es k ≡ None → IfOk result (λ r. Adds eq (value_at eq es) (value_at eq fs) k r.0)) where
+    -- an insertion keeps every value
+    pub insert_keeps : OnErr result (fs ≡ es) → Keeps (value_at eq es) (value_at eq fs)
+    insert_keeps refused = by (value_at eq es k) refl result adds refused
+      where
+        by : (o : Option B) → value_at eq es k ≡ o → (r : Result (B × Bool) E) → (value_at eq es k ≡ None → IfOk r (λ a. Adds eq (value_at eq es) (value_at eq fs) k a.0)) → OnErr r (fs ≡ es) → Keeps (value_at eq es) (value_at eq fs)
+        by (Some x) is r h same q y had = ap (λ gs. value_at eq gs q) (present x is).1 ∙ had
+        by None is (Ok a) h same q y had = adds_keeps es (value_at eq fs) k a.0 is (h is) q y had
+        by None is (Err e) h same q y had = ap (λ gs. value_at eq gs q) same ∙ had
+
+    -- where it is accepted the key has what it answers
+    pub insert_answers : IfOk result (λ r. value_at eq fs k ≡ Some r.0)
+    insert_answers = by (value_at eq es k) refl result refl adds
+      where
+        by : (o : Option B) → value_at eq es k ≡ o → (r : Result (B × Bool) E) → result ≡ r → (value_at eq es k ≡ None → IfOk r (λ a. Adds eq (value_at eq es) (value_at eq fs) k a.0)) → IfOk r (λ a. value_at eq fs k ≡ Some a.0)
+        by (Some x) is r same h =
+            let P : Result (B × Bool) E → Type 0 = λ s. IfOk s (λ a. value_at eq fs k ≡ Some a.0) in
+            subst P (sym (present x is).0 ∙ same) (ap (λ gs. value_at eq gs k) (present x is).1 ∙ is)
+        by None is (Ok a) same h = (h is k).0 (laws.refl k)
+        by None is (Err e) same h = tt
+
+    -- where it is accepted the flag says whether the key was new
+    pub insert_flag : (value_at eq es k ≡ None → IfOk result (λ r. r.1 ≡ true)) → IfOk result (λ r. (r.1 ≡ true) ↔ (value_at eq es k ≡ None))
+    insert_flag flag = by (value_at eq es k) refl result refl flag
+      where
+        by : (o : Option B) → value_at eq es k ≡ o → (r : Result (B × Bool) E) → result ≡ r → (value_at eq es k ≡ None → IfOk r (λ a. a.1 ≡ true)) → IfOk r (λ a. (a.1 ≡ true) ↔ (value_at eq es k ≡ None))
+        by (Some x) is r same h =
+            let P : Result (B × Bool) E → Type 0 = λ s. IfOk s (λ a. (a.1 ≡ true) ↔ (value_at eq es k ≡ None)) in
+            subst P (sym (present x is).0 ∙ same) ((λ f. absurd (true≢false (sym f))), (λ none. absurd (true≢false (ap is_some (sym is ∙ none)))))
+        by None is (Ok a) same h = ((λ f. is), (λ none. h none))
+        by None is (Err e) same h = tt
+
+  -- one more pair, under a key that equals its own
+  pub copies_more : (pairs : List (K × B)) (es fs : List (K × B)) (k c : K) (v : B) → ((q : K) → value_at eq es q ≡ update_all eq (λ _. None) pairs q) → eq k c ≡ true
+      → ((q : K) → value_at eq fs q ≡ cond (eq c q) (Some v) (value_at eq es q)) → (q : K) → value_at eq fs q ≡ update_all eq (λ _. None) (pairs ++ (k, v) ∷ []) q
+  copies_more pairs es fs k c v held same looks q =
+      looks q ∙ ap (λ b. cond b (Some v) (value_at eq es q)) (sym (laws.congr k c q same)) ∙ ap (cond (eq k q) (Some v)) (held q)
+      ∙ sym (ap (λ f. f q) (fold-append (λ g p. update eq g p.0 (Some p.1)) (λ _. None) pairs ((k, v) ∷ [])))
+
+-- ordered maps with the same value at each key have as many entries
+pub same_count : {K B : Type 0} {cmp : K → K → Ordering} (order : IsTotalOrder cmp) (m n : BTreeMap K B) → tree.IsOrdered cmp m → tree.IsOrdered cmp n
+    → ((q : K) → tree.get cmp m q ≡ tree.get cmp n q) → length m.entries ≡ length n.entries
+same_count {K} {B} order m n s t same =
+    sym (length-map m.entries (λ (e : K × B). (tt {0}, e.1))) ∙ ap length (btree_map_read_from_get order m n s t same {B = Unit {0}} (λ k. tt) (λ x y e. refl)) ∙ length-map n.entries (λ (e : K × B). (tt {0}, e.1))

@@ -1,0 +1,4 @@
+pub mod FirstWins
+pub mod MapEquality
+pub mod MapLent
+pub mod OrderedLent

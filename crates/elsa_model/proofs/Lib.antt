@@ -1,0 +1,2 @@
+pub mod MapEquality
+pub mod Replay
