@@ -1,5 +1,3 @@
--- What holds of lists, and of the places of a vector's buffers.
-pub mod Copies
+-- What holds of lists that are compared, and of options.
 pub mod Options
 pub mod Pointwise
-pub mod Walks

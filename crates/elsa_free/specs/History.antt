@@ -42,19 +42,19 @@ module _ {T : Type 0} where
   abbrev pub shared_by : List (Event T) → Shared (Entry T)
   shared_by es = record { length = length (list_of es); held = is_held es; list = list_of es }
 
-  -- what the right to end a hold remembers of an event: its kind, and how many entries it added. It is one number, since
-  -- a ghost list must be storable, and a list of events is so only where its items are: 0 to 3, and 4 + n for a clone of n
-  abbrev pub kind : Event T → ℕ
-  kind Acquired = 0
-  kind (Published x) = 1
-  kind Released = 2
-  kind (OfferOf a n) = 3
-  kind (Cloned xs) = 4 + length xs
+  -- how many entries an event adds
+  abbrev pub added_by : Event T → ℕ
+  added_by Acquired = 0
+  added_by (Published x) = 1
+  added_by (Cloned xs) = length xs
+  added_by Released = 0
+  added_by (OfferOf a n) = 0
 
-  -- the kinds of a history
-  abbrev pub kinds : List (Event T) → List ℕ
-  kinds [] = []
-  kinds (e ∷ es) = kind e ∷ kinds es
+  -- what the right to end a hold remembers of a history: how many entries each event added. A ghost list must be storable, and a
+  -- list of events is so only where its items are
+  abbrev pub added : List (Event T) → List ℕ
+  added [] = []
+  added (e ∷ es) = added_by e ∷ added es
 
   -- An offer is about a pass: its name, how many entries it pushed, and then what it knows of the history
   abbrev pub author_of : List (Event T) → ℕ

@@ -11,17 +11,17 @@ use base.Fml.{Share, Fml, ftrue, fsep, fex}
 use base.Growing.{Order, prefixes, latest}
 use types.Keyed.{ticket, tickets_from}
 use denote.RattleType.{RattleType}
-use Rattle.elsa_free.specs.Slot.{written, write_rights}
-pub use Rattle.elsa_free.specs.WrittenPrefix.{Location, place_written_at, place_written, prefix_written}
+use Rattle.elsa_slots.specs.Slot.{written, write_rights}
+pub use Rattle.elsa_slots.specs.WrittenPrefix.{Location, place_written_at, place_written, prefix_written}
 use Rattle.elsa_machine.specs.Geometry.{IsAt}
 use Rattle.elsa_free.specs.declared.event.Entry.{Entry}
 use Rattle.elsa_free.specs.declared.event.Event.{Event}
 use Rattle.elsa_free.specs.declared.event.Event.TheVariants.{Acquired, Published, Cloned, Released, OfferOf}
 use Rattle.elsa_free.specs.SharedList.{count, items_of}
 use Rattle.elsa_machine.specs.AtomicSteps.{Acquires as IsAcquire, Looks as IsLook, Publishes as IsPublish, Releases as IsRelease}
-use Rattle.elsa_free.specs.History.{list_of, is_held, shared_by, kinds, author_of, used_of, others}
+use Rattle.elsa_free.specs.History.{list_of, is_held, shared_by, added, author_of, used_of, others}
 
--- the histories of kinds, by how they grow
+-- the histories of added, by how they grow
 abbrev pub logs : Order (List ℕ)
 logs = prefixes coded_ℕ
 
@@ -56,7 +56,7 @@ author a n = tickets_from a n
 module _ {T : Type 0} where
   -- this is the history, by this share of the right to end a hold
   abbrev pub at_log : Share → List ℕ → List (Event T) → Fml
-  at_log q names log = latest logs q (head names) (kinds log)
+  at_log q names log = latest logs q (head names) (added log)
 
   -- the rule's part: all of it while nobody holds
   abbrev pub position : List ℕ → List (Event T) → Fml

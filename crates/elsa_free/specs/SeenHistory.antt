@@ -3,7 +3,7 @@ use Rattle.std.specs.Prelude.{◌≡◌, true}
 use Rattle.logbook.specs.declared.tokens.Seen.{Seen}
 use Rattle.elsa_free.specs.declared.event.Event.{Event}
 use Rattle.elsa_free.specs.declared.tokens.Held.{Held}
-use Rattle.elsa_free.specs.History.{is_held, kinds}
+use Rattle.elsa_free.specs.History.{is_held, added}
 use Rattle.elsa_free.specs.Rights.{head}
 
 -- two histories of one vector
@@ -12,4 +12,4 @@ IsOf seen other = (seen.book ≡ other.book) × (seen.names ≡ other.names)
 
 -- the right to end the hold in which the history ends
 abbrev pub IsHolder : {T L P : Type 0} → Held → Seen (Event T) L P → Type 0
-IsHolder held seen = (held.name ≡ head seen.names) × (held.kinds ≡ kinds seen.log) × (is_held seen.log ≡ true)
+IsHolder held seen = (held.name ≡ head seen.names) × (held.added ≡ added seen.log) × (is_held seen.log ≡ true)

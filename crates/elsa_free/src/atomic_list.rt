@@ -5,12 +5,12 @@
 ghost use Rattle.std.specs.Prelude.{◌≡◌, ◌+◌, ◌*◌, ◌-◌, ◌^◌, ◌<◌, ◌≤◌, ◌%◌, [], ◌∷◌, ◌++◌, length, true, None, Some, IfSome, IfNone, IfOk, IfErr, List, ℕ, suc, drop, take, slice_get, slice_index_or};
 ghost use lib.Pointwise.{pointwise};
 ghost use mathlib.Core.List.{IsPrefix};
-ghost use Rattle.elsa_free.specs.Ahead.{GoesOn};
+ghost use Rattle.elsa_slots.specs.Ahead.{GoesOn, IsOpenAt};
 ghost use Rattle.elsa_free.specs.Distinct.{EachIsNew};
 ghost use Rattle.elsa_machine.specs.Geometry.{IsAt};
 ghost use Rattle.elsa_free.specs.SharedList.{Appends, BeginsABuffer, copied, count, entry, items_of};
 ghost use Rattle.elsa_free.specs.declared.event.Event.TheVariants.{Acquired, Published, Cloned, Released, OfferOf};
-ghost use Rattle.elsa_free.specs.History.{entries, list_of, is_held, kinds};
+ghost use Rattle.elsa_free.specs.History.{entries, list_of, is_held, added};
 ghost use Rattle.elsa_free.specs.Rights.{head, buffer_slots_of};
 ghost use Rattle.elsa_free.specs.SeenHistory.{IsHolder, IsOf};
 ghost use Rattle.elsa_free.specs.OneWord.{word_in, word_of};
@@ -18,12 +18,10 @@ ghost use Rattle.crossbeam_utils.specs.Padded.{padded_value};
 
 use crate::event::Event;
 use crate::item_rule::{AnyItems, ItemRule};
-use crate::iter::Iter;
 use crate::rule::{
     Acquire, AcquireGain, EndHold, Log, Nothing, OneWord, PlainRead, PublishGain, ReadGain,
     ReadLength, ReleaseGain,
 };
-use crate::slots::{Ahead, Buffer, Copied, Slots, WriteRights, Written, WrittenPrefix};
 use crate::tokens::{
     Author, Held, bounded_by_tickets, offer_acquire, offer_clone_closed, offer_clone_open,
     offer_publish, offer_read, offer_release, start, take_acquired_closed, take_acquired_open,
@@ -31,6 +29,8 @@ use crate::tokens::{
 };
 use crossbeam_utils::CachePadded;
 use elsa_machine::geometry::{buffer_size, locate};
+use elsa_slots::iter::{Iter, walk};
+use elsa_slots::slots::{Ahead, Buffer, Copied, Slots, WriteRights, Written, WrittenPrefix};
 use logbook::{Gained, Offer, Seen, Word};
 use std::alloc::{AllocError, Allocator};
 use std::hint::spin_loop;
@@ -39,6 +39,9 @@ use std::thread::yield_now;
 
 /// What is known of a vector's history.
 pub type SeenHistory<T, A, K> = Seen<Event<T>, Log<T>, OneWord<Buffer<T, A>, K>>;
+
+/// What a push leaves: what is known of the history, its author, the length after it, and its result.
+pub type Pushed<T, A, K, X> = (SeenHistory<T, A, K>, Author, usize, Result<X, AllocError>);
 
 /// The slots, the word, and what is known of every history of it: that it begins.
 ///
@@ -143,7 +146,7 @@ impl<T: Copy + Drop, A: Allocator + Copy, K: ItemRule<T>> AtomicList<T, A, K> {
         ahead: Ahead<T, A>,
         n: usize,
     ) -> SeenHistory<T, A, K>
-        requires held { (held.name ≡ head self.now.first.names) × (held.kinds ≡ []) }
+        requires held { (held.name ≡ head self.now.first.names) × (held.added ≡ []) }
         requires prefix { (prefix.buffer_slots ≡ buffer_slots_of self.now.first.names)
             × (n ≡ length prefix.items) × (n < 2 ^ 62) }
         requires ahead { GoesOn (buffer_slots_of self.now.first.names) n
@@ -232,6 +235,8 @@ impl<T: Copy + Drop, A: Allocator + Copy, K: ItemRule<T>> AtomicList<T, A, K> {
     ) -> Option<Gained<Event<T>, Log<T>, AcquireGain<Buffer<T, A>>>>
         requires book { seen.old.book ≡ self.now.first.book }
         requires even { found.old % 2 ≡ 0 }
+
+        // The history grows. Acquired, it ends with the acquire at this word; else the word is another.
         ensures same { IsOf seen.new seen.old }
         ensures seen { IsPrefix seen.old.log seen.new.log }
         ensures held { IfSome result (λ r.
@@ -385,24 +390,22 @@ impl<T: Copy + Drop, A: Allocator + Copy, K: ItemRule<T>> AtomicList<T, A, K> {
         item: T,
     ) -> (SeenHistory<T, A, K>, Author)
 
-        // The holder, the open buffer, and the rights to the slot and to all behind it.
+        // The holder, and the rights to the slot and to all behind it.
         requires of { IsOf seen self.now.first }
         requires held { IsHolder held seen }
-        requires opened { (opened.of ≡ slice_index_or (buffer_slots_of seen.names) buffer 0)
-            × (length opened.value ≡ 3 * 4 ^ buffer) × (buffer < 31) }
-        requires slots { (slots.of ≡ drop slot opened.value)
-            × (further.of ≡ drop (suc buffer) (buffer_slots_of seen.names)) }
+        requires ahead { IsOpenAt (buffer_slots_of seen.names) n buffer slot
+            opened.of opened.value slots.of further.of × (buffer < 31) }
 
-        // The place is the length, and is this slot.
+        // The place is the length.
         requires n { (n ≡ length (list_of seen.log)) × (n + 1 < 2 ^ 62) }
-        requires at { IsAt n buffer slot }
         requires mine { author.used ≤ count (suc author.name) (list_of seen.log) }
         requires new { K.is_new (items_of (list_of seen.log)) item }
 
         // The list has one entry more, and the author one ticket fewer.
         ensures same { IsOf result.0 seen × (result.1.name ≡ author.name)
             × (result.1.used ≡ suc author.used) }
-        ensures seen { list_of result.0.log ≡ list_of seen.log ++ entry (suc author.name) item ∷ [] }
+        ensures seen { list_of result.0.log
+            ≡ list_of seen.log ++ entry (suc author.name) item ∷ [] }
         ensures mine { count (suc author.name) (list_of seen.log) ≡ author.used }
     {
         let mut seen = seen;
@@ -435,12 +438,7 @@ impl<T: Copy + Drop, A: Allocator + Copy, K: ItemRule<T>> AtomicList<T, A, K> {
         author: Author,
         n: usize,
         item: T,
-    ) -> (
-        SeenHistory<T, A, K>,
-        Author,
-        usize,
-        Result<usize, AllocError>,
-    )
+    ) -> Pushed<T, A, K, usize>
         requires of { IsOf seen self.now.first }
         requires right { (right.names ≡ seen.names) × (seen.log ≡ right.answer ++ Acquired ∷ []) }
         requires length { (n ≡ length (list_of right.answer)) × (n < 2 ^ 62) }
@@ -475,20 +473,16 @@ impl<T: Copy + Drop, A: Allocator + Copy, K: ItemRule<T>> AtomicList<T, A, K> {
             return (seen, author, n + 1, Ok(n));
         }
         let (held, mut further) = take_acquired_closed(right, buffer);
-        match self.slots.new_buffer(buffer_size(buffer)) {
-            Ok((fresh, slots)) => {
-                let right = further.take();
-                let opened = self.slots.fill(buffer, fresh, right);
-                let (seen, author) = self.publish(
-                    rt, seen, held, opened, slots, further, author, n, buffer, slot, item,
-                );
-                (seen, author, n + 1, Ok(n))
-            }
-            Err(_) => {
-                let (seen, author) = self.release(rt, seen, held, further, author, n, buffer);
-                (seen, author, n, Err(AllocError))
-            }
-        }
+        let Ok((fresh, slots)) = self.slots.new_buffer(buffer_size(buffer)) else {
+            let (seen, author) = self.release(rt, seen, held, further, author, n, buffer);
+            return (seen, author, n, Err(AllocError));
+        };
+        let right = further.take();
+        let opened = self.slots.fill(buffer, fresh, right);
+        let (seen, author) = self.publish(
+            rt, seen, held, opened, slots, further, author, n, buffer, slot, item,
+        );
+        (seen, author, n + 1, Ok(n))
     }
 
     /// A push, tried first at the length `guess`. Returns the length after it, and the place of the item or `Err` if the
@@ -500,12 +494,7 @@ impl<T: Copy + Drop, A: Allocator + Copy, K: ItemRule<T>> AtomicList<T, A, K> {
         author: Author,
         guess: usize,
         item: T,
-    ) -> (
-        SeenHistory<T, A, K>,
-        Author,
-        usize,
-        Result<usize, AllocError>,
-    )
+    ) -> Pushed<T, A, K, usize>
         requires of { IsOf seen self.now.first }
         requires mine { count (suc author.name) (list_of seen.log) ≡ author.used }
         requires guess { guess < 2 ^ 62 }
@@ -538,12 +527,7 @@ impl<T: Copy + Drop, A: Allocator + Copy, K: ItemRule<T>> AtomicList<T, A, K> {
         author: Author,
         n: usize,
         item: T,
-    ) -> (
-        SeenHistory<T, A, K>,
-        Author,
-        usize,
-        Result<Option<usize>, AllocError>,
-    )
+    ) -> Pushed<T, A, K, Option<usize>>
         requires of { IsOf seen self.now.first }
         requires mine { count (suc author.name) (list_of seen.log) ≡ author.used }
         requires at { (n ≤ length (list_of seen.log)) × (n < 2 ^ 62) }
@@ -601,7 +585,7 @@ impl<T: Copy + Drop, A: Allocator + Copy, K: ItemRule<T>> AtomicList<T, A, K> {
         requires len { (len ≡ length prefix.items) × (len < 2 ^ 62) }
         ensures { result ≡ prefix.items }
     {
-        Iter::new(&self.slots, prefix, len)
+        walk(&self.slots, prefix, len)
     }
 
     /// The length of the list, by one load, with the evidence for all of it.

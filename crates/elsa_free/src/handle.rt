@@ -4,9 +4,9 @@ ghost use mathlib.Core.List.{IsPrefix};
 ghost use Rattle.elsa_free.specs.SharedList.{Apart, Appends, BeginsABuffer, Continues, IsSamePass, copied, entry, items_of, longer, mine};
 ghost use lib.Pointwise.{pointwise};
 
-use crate::iter::Iter;
 use crate::lock_free::LockFreeFrozenVec;
 use crate::pass::Pass;
+use elsa_slots::iter::Iter;
 use std::alloc::{AllocError, Allocator, Global};
 use std::marker::Model;
 use std::sync::Wait;

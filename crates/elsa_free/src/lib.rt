@@ -1,5 +1,5 @@
-//! An append-only vector that many threads share: the slots that hold its items, the rule of its atomic steps, and the vector
-//! itself.
+//! An append-only vector that many threads share: the rule of its atomic steps, those steps, and the vector itself. The slots that hold
+//! its items are those of `elsa_slots`.
 #![tactic(auto)]
 
 /// Spends ghost tokens, each named with its type: what they own goes where the function's proof says. It does nothing when it runs.
@@ -13,9 +13,7 @@ mod atomic_list;
 mod event;
 mod handle;
 pub mod item_rule;
-mod iter;
 pub mod lock_free;
 mod pass;
 mod rule;
-pub mod slots;
 mod tokens;

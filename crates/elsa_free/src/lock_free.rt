@@ -14,9 +14,9 @@ ghost use lib.Pointwise.{pointwise};
 use crate::atomic_list::AtomicList;
 pub use crate::handle::Handle;
 use crate::item_rule::{AnyItems, DistinctItems, ItemRule};
-pub use crate::iter::Iter;
 pub use crate::pass::Pass;
 use crate::tokens::{Author, bounded_by_tickets, take_read};
+pub use elsa_slots::iter::Iter;
 use std::alloc::{AllocError, Allocator, Global};
 use std::marker::Model;
 use std::sync::Wait;
@@ -437,7 +437,8 @@ impl<T: Copy + Drop + PartialEq, A: Allocator + Copy, K: ItemRule<T>> LockFreeFr
     pub fn equals_with_passes(&self, other: &Self) -> (bool, Pass<T, A, K>, Pass<T, A, K>)
         ensures of { (result.1.vector ≡ self.now) × (mine result.1 ≡ []) }
         ensures other_of { (result.2.vector ≡ other.now) × (mine result.2 ≡ []) }
-        ensures equal { result.0 ≡ pointwise T.eq (items_of result.1.seen) (items_of result.2.seen) }
+        ensures equal { result.0
+            ≡ pointwise T.eq (items_of result.1.seen) (items_of result.2.seen) }
     {
         let mut pass = self.pass();
         let mut other_pass = other.pass();

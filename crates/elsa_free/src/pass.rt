@@ -9,8 +9,8 @@ ghost use Rattle.elsa_free.specs.Rights.{buffer_slots_of};
 
 use crate::atomic_list::{SeenHistory, obeys_rule};
 use crate::item_rule::{AnyItems, DistinctItems, ItemRule};
-use crate::slots::{Buffer, WrittenPrefix};
 use crate::tokens::{Author, apart, bounded_by_tickets, evidence};
+use elsa_slots::slots::{Buffer, WrittenPrefix};
 use std::alloc::{Allocator, Global};
 use std::marker::Model;
 

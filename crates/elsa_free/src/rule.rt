@@ -1,7 +1,7 @@
 //! The rule of a vector, over `logbook`: what holds between any two atomic steps, and what a thread gains at each step.
 use crate::event::Event;
 use crate::item_rule::ItemRule;
-use crate::slots::HasSlots;
+use elsa_slots::slots::HasSlots;
 use logbook::{Gain, Plain, Play, Rule};
 use std::alloc::Global;
 use std::collections::LinkedList;

@@ -5,31 +5,31 @@ ghost use Rattle.std.specs.Prelude.{◌≡◌, ◌≢◌, ◌+◌, ◌*◌, ◌^
 ghost use base.Stored.{coded_list, coded_ℕ};
 ghost use base.Share.{three_quarters};
 ghost use base.Growing.{latest};
-ghost use Rattle.elsa_free.specs.Ahead.{IsClosedAt, IsOpenAt};
+ghost use Rattle.elsa_slots.specs.Ahead.{IsClosedAt, IsInOpenBuffer, IsOpenAt};
 ghost use Rattle.elsa_machine.specs.Geometry.{IsAt};
 ghost use Rattle.elsa_free.specs.declared.event.Event.TheVariants.{Acquired, Published, Cloned, Released, OfferOf};
 ghost use Rattle.elsa_free.specs.declared.event.Entry.{Entry};
-ghost use Rattle.elsa_free.specs.History.{list_of, kinds, author_of, used_of, others};
+ghost use Rattle.elsa_free.specs.History.{list_of, added, author_of, used_of, others};
 ghost use Rattle.elsa_free.specs.SharedList.{count, entry, items_of};
 ghost use Rattle.elsa_free.specs.Rights.{logs, head, buffer_slots_of, author, OnlyPushed};
 
 use crate::event::Event;
 use crate::item_rule::ItemRule;
 use crate::rule::{AcquireGain, Log, OneWord, PublishGain, ReadGain, ReleaseGain};
-use crate::slots::{HasSlots, WriteRights, Written, WrittenPrefix};
+use elsa_slots::slots::{HasSlots, WriteRights, Written, WrittenPrefix};
 use logbook::{Gained, Offer, Seen, Start};
 use std::marker::{Model, PhantomData};
 use std::sync::Wait;
 
-/// The right to end the hold, at a history of these kinds of events. It has no bytes.
+/// The right to end the hold, at a history whose events added so many entries each. It has no bytes.
 pub struct Held {
     pub(crate) marker: PhantomData<()>,
     pub ghost name: { ℕ },
-    pub ghost kinds: { List ℕ } by { coded_list coded_ℕ },
+    pub ghost added: { List ℕ } by { coded_list coded_ℕ },
 }
 
 impl Model for Held {
-    ghost also_owns = { λ h. latest logs three_quarters h.name h.kinds };
+    ghost also_owns = { λ h. latest logs three_quarters h.name h.added };
 }
 
 /// The right to append as an author: all its tickets from `used` on.
@@ -52,7 +52,7 @@ pub fn start<T, B: HasSlots, K: ItemRule<T>>(
     WrittenPrefix<T, B>,
 )
     ensures { (result.0.shown ≡ []) × (buffer_slots_of result.0.names ≡ prefix.buffer_slots)
-        × (result.1.name ≡ head result.0.names) × (result.1.kinds ≡ [])
+        × (result.1.name ≡ head result.0.names) × (result.1.added ≡ [])
         × (result.2.buffer_slots ≡ prefix.buffer_slots) × (result.2.items ≡ prefix.items) }
 {
     spend!(prefix: WrittenPrefix);
@@ -109,7 +109,7 @@ pub fn take_acquired_closed<T, B: HasSlots>(
 ) -> (Held, WriteRights)
     requires { length (list_of right.answer) + 1 ≡ 4 ^ _buffer }
     ensures { (result.0.name ≡ head right.names)
-        × (result.0.kinds ≡ kinds (right.answer ++ Acquired ∷ []))
+        × (result.0.added ≡ added (right.answer ++ Acquired ∷ []))
         × (result.1.of ≡ drop _buffer (buffer_slots_of right.names)) }
 {
     spend!(right: Gained);
@@ -131,11 +131,9 @@ pub fn take_acquired_open<T, B: HasSlots>(
 ) -> (Held, Written<B>, WriteRights, WriteRights)
     requires { IsAt (length (list_of right.answer)) _buffer _slot × (0 < _slot) }
     ensures { (result.0.name ≡ head right.names)
-        × (result.0.kinds ≡ kinds (right.answer ++ Acquired ∷ []))
-        × (result.1.of ≡ slice_index_or (buffer_slots_of right.names) _buffer 0)
-        × (length (B.slot_names result.1.value) ≡ 3 * 4 ^ _buffer)
-        × (result.2.of ≡ drop _slot (B.slot_names result.1.value))
-        × (result.3.of ≡ drop (suc _buffer) (buffer_slots_of right.names)) }
+        × (result.0.added ≡ added (right.answer ++ Acquired ∷ []))
+        × IsOpenAt (buffer_slots_of right.names) (length (list_of right.answer)) _buffer _slot
+        result.1.of (B.slot_names result.1.value) result.2.of result.3.of }
 {
     spend!(right: Gained);
     (
@@ -162,7 +160,7 @@ pub fn offer_release<T, B: HasSlots, K: ItemRule<T>>(
     author: Author,
     _buffer: usize,
 ) -> Offer<Event<T>, Log<T>, OneWord<B, K>, ReleaseGain<B>>
-    requires { (held.name ≡ head seen.now.names) × (held.kinds ≡ kinds seen.now.log)
+    requires { (held.name ≡ head seen.now.names) × (held.added ≡ added seen.now.log)
         × (further.of ≡ drop _buffer (buffer_slots_of seen.now.names))
         × (length (list_of seen.now.log) + 1 ≡ 4 ^ _buffer) }
     ensures { (result.names ≡ seen.now.names) × (result.ask ≡ Released)
@@ -174,7 +172,7 @@ pub fn offer_release<T, B: HasSlots, K: ItemRule<T>>(
     }
 }
 
-/// An offer to publish an item.
+/// An offer to publish an item: it was written in the slot of the next place, and `slots` are the rights to those behind it.
 pub fn offer_publish<T, B: HasSlots, K: ItemRule<T>>(
     seen: &Seen<Event<T>, Log<T>, OneWord<B, K>>,
     held: Held,
@@ -186,18 +184,15 @@ pub fn offer_publish<T, B: HasSlots, K: ItemRule<T>>(
     _buffer: usize,
     _slot: usize,
 ) -> Offer<Event<T>, Log<T>, OneWord<B, K>, PublishGain<B>>
-    requires { (held.name ≡ head seen.now.names) × (held.kinds ≡ kinds seen.now.log)
-        × IsAt (length (list_of seen.now.log)) _buffer _slot
-        × (length (B.slot_names opened.value) ≡ 3 * 4 ^ _buffer)
-        × (opened.of ≡ slice_index_or (buffer_slots_of seen.now.names) _buffer 0)
-        × (slots.of ≡ drop (suc _slot) (B.slot_names opened.value))
-        × (further.of ≡ drop (suc _buffer) (buffer_slots_of seen.now.names))
-        × (item.of ≡ slice_index_or (B.slot_names opened.value) _slot 0) }
+    requires { (held.name ≡ head seen.now.names) × (held.added ≡ added seen.now.log)
+        × IsOpenAt (buffer_slots_of seen.now.names) (length (list_of seen.now.log)) _buffer _slot
+        opened.of (B.slot_names opened.value) (item.of ∷ slots.of) further.of }
     ensures { (result.names ≡ seen.now.names)
         × (result.ask ≡ Published (entry (suc author.name) item.value))
         × (result.about ≡ OfferOf author.name author.used ∷ seen.now.log) × (result.state ≡ None) }
 {
-    spend!(held: Held, opened: Written, slots: WriteRights, further: WriteRights, author: Author, item: Written);
+    spend!(held: Held, opened: Written, item: Written);
+    spend!(slots: WriteRights, further: WriteRights, author: Author);
     Offer {
         marker: PhantomData,
     }
@@ -211,7 +206,7 @@ pub fn offer_clone_closed<T, B: HasSlots, K: ItemRule<T>>(
     further: WriteRights,
     author: Author,
 ) -> Offer<Event<T>, Log<T>, OneWord<B, K>, ReleaseGain<B>>
-    requires { (held.name ≡ head seen.now.names) × (held.kinds ≡ [])
+    requires { (held.name ≡ head seen.now.names) × (held.added ≡ [])
         × (prefix.buffer_slots ≡ buffer_slots_of seen.now.names)
         × IsClosedAt (buffer_slots_of seen.now.names) (length prefix.items) further.of }
     ensures { (result.names ≡ seen.now.names) × (result.ask ≡ Cloned prefix.items)
@@ -233,14 +228,15 @@ pub fn offer_clone_open<T, B: HasSlots, K: ItemRule<T>>(
     further: WriteRights,
     author: Author,
 ) -> Offer<Event<T>, Log<T>, OneWord<B, K>, ReleaseGain<B>>
-    requires { (held.name ≡ head seen.now.names) × (held.kinds ≡ [])
+    requires { (held.name ≡ head seen.now.names) × (held.added ≡ [])
         × (prefix.buffer_slots ≡ buffer_slots_of seen.now.names)
-        × IsOpenAt (buffer_slots_of seen.now.names) (length prefix.items)
+        × IsInOpenBuffer (buffer_slots_of seen.now.names) (length prefix.items)
         opened.of (B.slot_names opened.value) slots.of further.of }
     ensures { (result.names ≡ seen.now.names) × (result.ask ≡ Cloned prefix.items)
         × (result.about ≡ OfferOf author.name author.used ∷ []) × (result.state ≡ None) }
 {
-    spend!(held: Held, prefix: WrittenPrefix, opened: Written, slots: WriteRights, further: WriteRights, author: Author);
+    spend!(held: Held, prefix: WrittenPrefix, opened: Written);
+    spend!(slots: WriteRights, further: WriteRights, author: Author);
     Offer {
         marker: PhantomData,
     }

@@ -1,5 +1,5 @@
-//! Tests of `elsa_free` and `elsa_machine` as a stranger calls them: worked cases, memory that is refused, and threads
-//! run to their end.
+//! Tests of `elsa_machine`, `elsa_slots` and `elsa_free` as a stranger calls them: worked cases, memory that is refused, and
+//! threads run to their end.
 #![tactic(auto)]
 
 #[cfg(test)]

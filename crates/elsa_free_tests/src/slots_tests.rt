@@ -1,7 +1,7 @@
 //! The slots, over an allocator that refuses and counts.
 ghost use Rattle.std.specs.Prelude.{◌≡◌, length, slice_index_or, IfSome};
 
-use elsa_free::slots::{Ahead, Buffer, Copied, Slots, WriteRight, WriteRights, WrittenPrefix};
+use elsa_slots::slots::{Ahead, Buffer, Copied, Slots, WriteRight, WriteRights, WrittenPrefix};
 use std::alloc::Global;
 use std::process::Abort;
 use std::test::*;

@@ -22,7 +22,7 @@ use Rattle.elsa_free.specs.History.{list_of}
 use Rattle.elsa_free.specs.Rights.{rule_owns, tickets, buffer_slots_of, prefix_written}
 use Rattle.elsa_free.proofs.RuleLemmas.History.{items_append, list_prefix}
 use Rattle.elsa_free.proofs.RuleLemmas.Tickets.{tickets_bound}
-use Rattle.elsa_free.proofs.SlotLemmas.Prefix.{prefix_dup, prefix_of_append}
+use Rattle.elsa_slots.proofs.SlotLemmas.Prefix.{prefix_dup, prefix_of_append}
 
 module _ {M : Type 1} {𝓤 : Ura M} (𝓛 : Logic 𝓤) where
   open 𝓛 use {H}

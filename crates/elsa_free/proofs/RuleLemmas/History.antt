@@ -1,18 +1,17 @@
 -- What an event behind a history does to it.
-use Rattle.std.proofs.Common.{◌≡◌, ℕ, suc, ◌+◌, ◌≤◌, ◌-◌, ◌==◌, Bool, false, List, [], ◌∷◌, ◌++◌, length, refl, ap, sym, ◌∙◌, arith, length-append, append_assoc}
+use Rattle.std.proofs.Common.{◌≡◌, ℕ, suc, ◌+◌, ◌≤◌, ◌==◌, Bool, false, List, [], ◌∷◌, ◌++◌, length, refl, ap, sym, ◌∙◌, arith, length-append, append_assoc}
 use Rattle.std.proofs.lemmas.List.{append-nil, length-map, map-append}
 use Rattle.elsa_free.specs.declared.event.Entry.{Entry}
 use Rattle.elsa_free.specs.declared.event.Event.{Event}
 use Rattle.elsa_free.specs.declared.event.Event.TheVariants.{Acquired, Published, Cloned, Released, OfferOf}
-use Rattle.std.proofs.lemmas.Bool.Decides.{nat_tests}
 use mathlib.Core.List.{IsPrefix}
 use Rattle.elsa_free.specs.SharedList.{bit, copied, count, item_of, items_of}
-use Rattle.elsa_free.specs.History.{list_of, entries, begins_hold, held_from, kind, kinds}
+use Rattle.elsa_free.specs.History.{list_of, entries, begins_hold, held_from, added_by, added}
 
--- how long the list is, by the kinds alone
-abbrev ones : List ℕ → ℕ
-ones [] = 0
-ones (k ∷ ks) = (bit (k == 1) + (k - 4)) + ones ks
+-- all that the events added
+abbrev total : List ℕ → ℕ
+total [] = 0
+total (n ∷ ns) = n + total ns
 
 module _ {T : Type 0} where
   pub held_snoc : (b : Bool) (xs : List (Event T)) (e : Event T) → held_from b (xs ++ e ∷ []) ≡ begins_hold e
@@ -27,16 +26,16 @@ module _ {T : Type 0} where
   count_snoc a [] e = omega arith
   count_snoc a (x ∷ pre) e = let h = count_snoc a pre e in omega arith
 
-  pub kinds_snoc : (xs : List (Event T)) (e : Event T) → kinds (xs ++ e ∷ []) ≡ kinds xs ++ kind e ∷ []
-  kinds_snoc [] e = refl
-  kinds_snoc (x ∷ xs) e = ap (λ (l : List ℕ). kind x ∷ l) (kinds_snoc xs e)
+  pub added_snoc : (xs : List (Event T)) (e : Event T) → added (xs ++ e ∷ []) ≡ added xs ++ added_by e ∷ []
+  added_snoc [] e = refl
+  added_snoc (x ∷ xs) e = ap (λ (l : List ℕ). added_by x ∷ l) (added_snoc xs e)
 
-  pub kinds_length : (xs : List (Event T)) → length (kinds xs) ≡ length xs
-  kinds_length [] = refl
-  kinds_length (x ∷ xs) = ap suc (kinds_length xs)
+  pub added_length : (xs : List (Event T)) → length (added xs) ≡ length xs
+  added_length [] = refl
+  added_length (x ∷ xs) = ap suc (added_length xs)
 
-  pub kinds_prefix : (xs : List (Event T)) (e : Event T) → IsPrefix (kinds xs) (kinds (xs ++ e ∷ []))
-  kinds_prefix xs e = (kind e ∷ [], sym (kinds_snoc xs e))
+  pub added_prefix : (xs : List (Event T)) (e : Event T) → IsPrefix (added xs) (added (xs ++ e ∷ []))
+  added_prefix xs e = (added_by e ∷ [], sym (added_snoc xs e))
 
   pub copied_length : (xs : List T) → length (copied xs) ≡ length xs
   copied_length [] = refl
@@ -52,22 +51,23 @@ module _ {T : Type 0} where
   pub items_length : (xs : List (Entry T)) → length (items_of xs) ≡ length xs
   items_length xs = length-map xs item_of
 
-  one_kind : (e : Event T) → bit (kind e == 1) + (kind e - 4) ≡ length (entries e)
-  one_kind Acquired = refl
-  one_kind (Published x) = refl
-  one_kind Released = refl
-  one_kind (OfferOf a n) = refl
-  one_kind (Cloned xs) = let other : (4 + length xs == 1) ≡ false = grind (arith, nat_tests) in let b = ap bit other in let h = copied_length xs in omega (arith, b, h)
+  added_entries : (e : Event T) → added_by e ≡ length (entries e)
+  added_entries Acquired = refl
+  added_entries (Published x) = refl
+  added_entries Released = refl
+  added_entries (OfferOf a n) = refl
+  added_entries (Cloned xs) = sym (copied_length xs)
 
-  ones_are : (xs : List (Event T)) → ones (kinds xs) ≡ length (list_of xs)
-  ones_are [] = refl
-  ones_are (e ∷ xs) = let h = ones_are xs in let k = one_kind e in omega (arith, length-append (entries e) (list_of xs))
+  -- a history has as many entries as its events added
+  added_all : (xs : List (Event T)) → total (added xs) ≡ length (list_of xs)
+  added_all [] = refl
+  added_all (e ∷ xs) = let h = added_all xs in let k = added_entries e in let l = length-append (entries e) (list_of xs) in omega (arith, h, k, l)
 
-  pub kinds_list : (xs ys : List (Event T)) → kinds xs ≡ kinds ys → length (list_of xs) ≡ length (list_of ys)
-  kinds_list xs ys e = let a = ones_are xs in let b = ones_are ys in let c = ap ones e in omega arith
+  pub added_list : (xs ys : List (Event T)) → added xs ≡ added ys → length (list_of xs) ≡ length (list_of ys)
+  added_list xs ys e = let a = added_all xs in let b = added_all ys in let c = ap total e in omega (arith, a, b, c)
 
-  pub kinds_same : (xs ys : List (Event T)) → kinds xs ≡ kinds ys → length xs ≡ length ys
-  kinds_same xs ys e = let a = kinds_length xs in let b = kinds_length ys in let c = ap length e in omega arith
+  pub added_same : (xs ys : List (Event T)) → added xs ≡ added ys → length xs ≡ length ys
+  added_same xs ys e = let a = added_length xs in let b = added_length ys in let c = ap length e in omega arith
 
 -- a beginning that is as long is the whole
 pub prefix_whole : {A : Type 0} (xs ys : List A) → IsPrefix xs ys → length ys ≤ length xs → xs ≡ ys

@@ -4,7 +4,7 @@ use base.Growing.{latest}
 use base.Shift.{Keyless}
 use types.Keyed.{entry_keyless, token}
 use denote.RattleType.{RattleType}
-use Rattle.elsa_free.specs.Slot.{write_rights}
+use Rattle.elsa_slots.specs.Slot.{write_rights}
 use Rattle.elsa_free.specs.declared.event.Entry.{Entry}
 use Rattle.elsa_free.specs.declared.event.Event.{Event}
 use Rattle.elsa_free.specs.SharedList.{items_of}

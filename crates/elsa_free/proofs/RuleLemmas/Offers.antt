@@ -19,10 +19,10 @@ use Rattle.elsa_free.specs.declared.event.Entry.{Entry}
 use Rattle.elsa_free.specs.declared.event.Event.{Event}
 use Rattle.elsa_free.specs.declared.event.Event.TheVariants.{Acquired, Published, Cloned, Released, OfferOf}
 use Rattle.elsa_free.specs.SharedList.{copied, count, items_of}
-use Rattle.elsa_free.specs.History.{begins_hold, is_held, list_of, entries, kinds}
+use Rattle.elsa_free.specs.History.{begins_hold, is_held, list_of, entries, added}
 use Rattle.elsa_free.specs.Rights.{logs, head, buffer_slots_of, part, fact, author, at_log, right, one_ticket, tickets, IsStep, place_written, prefix_written, rights_from, free_rights, rule_owns, acquire_gain, read_gain, release_gain, publish_gain}
-use Rattle.elsa_free.proofs.RuleLemmas.History.{held_snoc, items_append, items_length, list_snoc, kinds_prefix, kinds_list, kinds_same}
-use Rattle.elsa_free.proofs.SlotLemmas.Prefix.{prefix_append, prefix_dup}
+use Rattle.elsa_free.proofs.RuleLemmas.History.{held_snoc, items_append, items_length, list_snoc, added_prefix, added_list, added_same}
+use Rattle.elsa_slots.proofs.SlotLemmas.Prefix.{prefix_append, prefix_dup}
 use Rattle.elsa_free.proofs.RuleLemmas.Tickets.{copied_tickets, tickets_append, tickets_bound}
 
 module _ {M : Type 1} {𝓤 : Ura M} (𝓛 : Logic 𝓤) where
@@ -87,8 +87,8 @@ module _ {M : Type 1} {𝓤 : Ura M} (𝓛 : Logic 𝓤) where
         let so : xs ≡ r = sym m.0 in
         let l : list_of xs ≡ list_of ys = sym (ap list_of m.1.0 ∙ (list_snoc xs Acquired ∙ append-nil (list_of xs))) in
         qed 𝓛 [] ∵ assume ! (‵ (Kept xs)) $ fsplit ! $ fsplit ! $ rewrite ! 0 (λ (b : Bool). ‵ (at (part b) xs)) m.1.1.was_free refl $ rewrite ! 1 (λ (b : Bool). ‵ (Spare b (length (list_of xs)))) m.1.1.was_free refl $
-        use1 𝓛 (raw (upd 𝓤 ⟦ at full_share (xs ++ Acquired ∷ []) ⟧)) (latest_grows logs 𝓛 (head names) (kinds xs) (kinds (xs ++ Acquired ∷ [])) (kinds_prefix xs Acquired)) $ settle 𝓛 Z (‵ (at full_share (xs ++ Acquired ∷ []))) $
-        use1 𝓛 (‵ (at quarter (xs ++ Acquired ∷ [])) ⊛ ‵ (at three_quarters (xs ++ Acquired ∷ []))) (latest_cut logs 𝓛 full_share quarter three_quarters (head names) (kinds (xs ++ Acquired ∷ [])) base.Share.quarters) $ split ! $
+        use1 𝓛 (raw (upd 𝓤 ⟦ at full_share (xs ++ Acquired ∷ []) ⟧)) (latest_grows logs 𝓛 (head names) (added xs) (added (xs ++ Acquired ∷ [])) (added_prefix xs Acquired)) $ settle 𝓛 Z (‵ (at full_share (xs ++ Acquired ∷ []))) $
+        use1 𝓛 (‵ (at quarter (xs ++ Acquired ∷ [])) ⊛ ‵ (at three_quarters (xs ++ Acquired ∷ []))) (latest_cut logs 𝓛 full_share quarter three_quarters (head names) (added (xs ++ Acquired ∷ [])) base.Share.quarters) $ split ! $
         suffices ! _ (upd_i 𝓤 Z) $
         -- [position; right; rights; all and tickets]
         rewrite ! 0 (λ (l : Log). ‵ (at quarter l)) longer refl $ rewrite ! 0 (λ (b : Bool). ‵ (at (part b) ys)) held refl $
@@ -132,26 +132,26 @@ module _ {M : Type 1} {𝓤 : Ura M} (𝓛 : Logic 𝓤) where
       one xs ys r (is, inl same) = let Z : Pr = ⟦ Kept ys ⟧ ∗ ⟦ Back r ⟧ in let L : Entries = list_of xs in
           qed 𝓛 (‵ Given ∷ []) ∵ assume ! (‵ (Kept xs)) $ fsplit ! $ fsplit ! $ move ! (3 ∷ []) $ fsplit3 ! $ move ! (3 ∷ 0 ∷ []) $
           -- [position; right; rights and evidence; author; spare; all and tickets]
-          use2 𝓛 (given (kinds xs ≡ kinds v) (‵ (at (part (is_held xs)) xs) ⊛ ‵ (right names v))) (latest_agrees logs 𝓛 (part (is_held xs)) three_quarters (head names) (kinds xs) (kinds v)) $ learn ! (λ agree. split ! $
+          use2 𝓛 (given (added xs ≡ added v) (‵ (at (part (is_held xs)) xs) ⊛ ‵ (right names v))) (latest_agrees logs 𝓛 (part (is_held xs)) three_quarters (head names) (added xs) (added v)) $ learn ! (λ agree. split ! $
           keep ! (5 ∷ 3 ∷ 0 ∷ 4 ∷ []) $ fsplit ! $ move ! (1 ∷ 2 ∷ []) $
           use2 𝓛 (given (count (suc a) L ≤ k) (‵ (tickets [] L) ⊛ ‵ (tickets_from a k))) (tickets_bound 𝓛 T.Denot a k [] L (omega arith)) $ learn ! (λ le. split ! $
           -- [tickets; author; all; position; spare]
           move ! (2 ∷ 0 ∷ []) $ fjoin ! $ move ! (2 ∷ 3 ∷ []) $ fjoin ! $ move ! (0 ∷ 1 ∷ []) $ fjoin ! $
           suffices ! _ (upd_i 𝓤 Z) $ rewrite ! 0 (λ (l : Log). ‵ (Kept l)) (sym same) refl $ frame ! $
           use1 𝓛 (‵ (tickets L new) ⊛ ‵ (author a left)) (pays L le) $ split ! $ drop ! $ nothing ! $
-          fpack ! (Known r) (λ _. ftrue) ((ap length is ∙ kinds_same xs v agree), subst (λ (l : Log). count (suc a) (list_of l) ≤ k) (sym is) le) $ move ! (1 ∷ 0 ∷ []) $ fjoin ! $ done !))
+          fpack ! (Known r) (λ _. ftrue) ((ap length is ∙ added_same xs v agree), subst (λ (l : Log). count (suc a) (list_of l) ≤ k) (sym is) le) $ move ! (1 ∷ 0 ∷ []) $ fjoin ! $ done !))
       one xs ys r (is, inr (longer, held)) = let Z : Pr = ⟦ Kept ys ⟧ ∗ ⟦ Back r ⟧ in let L : Entries = list_of xs in
           let free : false ≡ is_held ys = sym (ap is_held longer ∙ (held_snoc true xs e ∙ ends)) in
           let l : L ++ new ≡ list_of ys = sym (ap list_of longer ∙ list_snoc xs e) in
           let i : items_of L ++ items_of new ≡ items_of (list_of ys) = sym (items_append L new) ∙ ap items_of l in
           qed 𝓛 (‵ Given ∷ []) ∵ assume ! (‵ (Kept xs)) $ fsplit ! $ fsplit ! $ move ! (3 ∷ []) $ fsplit3 ! $ move ! (3 ∷ 0 ∷ []) $
           -- [position; right; rights and evidence; author; spare; all and tickets]
-          use2 𝓛 (given (kinds xs ≡ kinds v) (‵ (at (part (is_held xs)) xs) ⊛ ‵ (right names v))) (latest_agrees logs 𝓛 (part (is_held xs)) three_quarters (head names) (kinds xs) (kinds v)) $ learn ! (λ agree. split ! $
+          use2 𝓛 (given (added xs ≡ added v) (‵ (at (part (is_held xs)) xs) ⊛ ‵ (right names v))) (latest_agrees logs 𝓛 (part (is_held xs)) three_quarters (head names) (added xs) (added v)) $ learn ! (λ agree. split ! $
           rewrite ! 0 (λ (b : Bool). ‵ (at (part b) xs)) held refl $ rewrite ! 1 (λ (y : List ℕ). ‵ (latest logs three_quarters (head names) y)) (sym agree) refl $
-          use2 𝓛 (‵ (at full_share xs)) (latest_glue logs 𝓛 full_share quarter three_quarters (head names) (kinds xs) base.Share.quarters) $
-          use1 𝓛 (raw (upd 𝓤 ⟦ at full_share (xs ++ e ∷ []) ⟧)) (latest_grows logs 𝓛 (head names) (kinds xs) (kinds (xs ++ e ∷ [])) (kinds_prefix xs e)) $ settle 𝓛 Z (‵ (at full_share (xs ++ e ∷ []))) $
+          use2 𝓛 (‵ (at full_share xs)) (latest_glue logs 𝓛 full_share quarter three_quarters (head names) (added xs) base.Share.quarters) $
+          use1 𝓛 (raw (upd 𝓤 ⟦ at full_share (xs ++ e ∷ []) ⟧)) (latest_grows logs 𝓛 (head names) (added xs) (added (xs ++ e ∷ [])) (added_prefix xs e)) $ settle 𝓛 Z (‵ (at full_share (xs ++ e ∷ []))) $
           -- [position; rights and evidence; author; spare; all and tickets]
-          let len : length (list_of v) ≡ length L = sym (kinds_list xs v agree) in let more : length (list_of v) + length new ≡ length (list_of ys) = omega (arith, len, ap length l, length-append L new) in
+          let len : length (list_of v) ≡ length L = sym (added_list xs v agree) in let more : length (list_of v) + length new ≡ length (list_of ys) = omega (arith, len, ap length l, length-append L new) in
           rewrite ! 0 (λ (y : Log). ‵ (at full_share y)) (sym longer) refl $ rewrite ! 0 (λ (b : Bool). ‵ (at (part b) ys)) free refl $
           move ! (1 ∷ []) $ fsplit ! $ rewrite ! 0 (λ (y : ℕ). ‵ (Rights y)) more refl $ rewrite ! 0 (λ (b : Bool). ‵ (Spare b (length (list_of ys)))) free refl $
           rewrite ! 1 (λ (y : ℕ). ‵ (prefix_written T B slot_names buffer_slots y (items_of new))) (let z : length (list_of v) ≡ 0 + length (items_of L) = omega (arith, len, items_length L) in z) refl $
@@ -167,7 +167,7 @@ module _ {M : Type 1} {𝓤 : Ura M} (𝓛 : Logic 𝓤) where
           -- [all; tickets; author; position; spare]
           fjoin ! $ move ! (2 ∷ 3 ∷ []) $ fjoin ! $ move ! (0 ∷ 1 ∷ []) $ fjoin ! $
           suffices ! _ (upd_i 𝓤 Z) $ frame ! $ nothing ! $
-          fpack ! (Known r) (λ _. ftrue) ((ap length is ∙ kinds_same xs v agree), subst (λ (y : Log). count (suc a) (list_of y) ≤ k) (sym is) le) $ move ! (1 ∷ 0 ∷ []) $ fjoin ! $ done !))
+          fpack ! (Known r) (λ _. ftrue) ((ap length is ∙ added_same xs v agree), subst (λ (y : Log). count (suc a) (list_of y) ≤ k) (sym is) le) $ move ! (1 ∷ 0 ∷ []) $ fjoin ! $ done !))
 
       pub ends_hold : (moves : Log → Log → Log → Type 0) → ((xs ys r : Log) → moves xs ys r → Goes xs ys r) → ⟦ Given ⟧ ⊢ ⟦ offer_owns Kept moves Back None ⟧
       ends_hold moves into = offers moves Back ⟦ Given ⟧ (λ xs ys r m. one xs ys r (into xs ys r m))

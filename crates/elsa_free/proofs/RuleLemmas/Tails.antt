@@ -9,7 +9,7 @@ use types.Kit.{‵, ◌$◌, ◌∵◌, !, qed, by, move, keep, drop, fsplit, fs
 use types.Tokens.{res_dup}
 use denote.Steps.{nothing}
 use denote.RattleType.{RattleType}
-use Rattle.elsa_free.specs.Slot.{written, write_rights}
+use Rattle.elsa_slots.specs.Slot.{written, write_rights}
 use Rattle.elsa_machine.specs.Geometry.{IsAt}
 use Rattle.elsa_machine.proofs.GeometryLemmas.OneToOne.{one_slot}
 use Rattle.elsa_machine.proofs.GeometryLemmas.Powers.{four_suc, four_pos}

@@ -1,22 +1,4 @@
-use Rattle.std.proofs.Common.{List, [], ◌∷◌, ◌++◌, refl}
-use mir.Val.{Val, vstruct, vcons, vnil, of_list}
-use base.Logic.{SProp, emp}
-use base.Fml.{fsep, feq}
-use types.Keyed.{tickets_from}
-use types.Kit.{‵, raw, ◌⊛◌, given, ◌$◌, ◌∵◌, !, qed, by, move, keep, split, fsplit, fjoin, fpack, learn, use0, use2, feq_i}
-use types.Run.{no_more, and_then, returns, enter}
-use types.ByLocal.{alloc_all, pass_all, free_all, look_at, get, sets, env}
-use types.Part.{agg}
-use contract.Monad.{fact_i}
-use contract.Running.{tables}
-use denote.Exit.{yes}
-use denote.RattleType.{RattleType, owns, Valss}
-use denote.Signature.{types_at, plain}
-use denote.Builtin.{unit}
-use denote.Steps.{nothing}
-use denote.Triple.Walked.{Stays, stay_dropped, walk_of, Goes-dropped}
-use Rattle.logbook.proofs.Fields.{token, Token, token_told, token_made, ends}
-use Rattle.atomic_table.proofs.Walks.{proved}
+use Rattle.elsa_free.proofs.ByHand.{fsep, feq, SProp, emp, fact_i, tables, unit, yes, owns, RattleType, Valss, types_at, plain, nothing, Stays, walk_of, stay_dropped, Goes-dropped, Val, vstruct, vcons, vnil, of_list, alloc_all, pass_all, free_all, look_at, get, sets, env, tickets_from, ‵, raw, ◌⊛◌, ◌$◌, ◌∵◌, !, qed, by, keep, split, fjoin, use0, move, fsplit, given, fpack, learn, use2, feq_i, agg, no_more, and_then, returns, enter, proved, token, Token, token_made, ends, token_told, [], ◌∷◌, refl, List, ◌++◌}
 use Rattle.elsa_free.specs.contracts.tokens.Author as Author
 use Rattle.elsa_free.proofs.RuleLemmas.Tickets.{two_names}
 use Rattle.std.specs.Prelude.{◌≢◌}

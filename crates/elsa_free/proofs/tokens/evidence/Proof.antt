@@ -1,44 +1,19 @@
-use Rattle.std.proofs.Common.{ℕ, List, [], ◌∷◌, refl}
-use mir.Syntax.{a_type, dcons, dnil, named}
-use mir.Val.{Val, vptr}
-use mir.MapTy.{inst_fn}
-use base.Logic.{SProp, emp}
-use base.Fml.{Fml, fhide}
-use types.Kit.{‵, raw, ◌⊛◌, later, ◌$◌, ◌∵◌, !, qed, by, move, keep, drop, split, fsplit, fjoin, use1, await}
-use types.Run.{no_more, and_then, returns, enter}
-use types.ByLocal.{alloc_all, pass_all, free_all, look_at, get, sets}
-use types.Part.{agg}
-use contract.Monad.{fact_i}
-use contract.Running.{tables}
-use denote.Exit.{yes}
-use denote.RattleType.{RattleType, owns}
-use denote.Signature.{types_at, plain}
-use denote.Builtin.{RefOf}
-use denote.Ref.{shr_vals, shr_Tells}
-use denote.Steps.{nothing}
-use denote.Param.{param, bounded}
-use denote.Struct.Tuple.{Tuple}
-use denote.Triple.Walked.{Stays, stay_dropped, walk_of, Goes-dropped}
-use Rattle.std_collections.specs.contracts.linked_list.LinkedList as LinkedList
+use Rattle.elsa_free.proofs.ByHand.{fhide, SProp, emp, fact_i, tables, RefOf, yes, hidden_shr, unhide, param, bounded, owns, RattleType, shr_vals, shr_Tells, types_at, plain, nothing, lent_out, Tuple, Stays, walk_of, stay_dropped, Goes-dropped, inst_fn, a_type, dcons, dnil, named, Val, vptr, alloc_all, pass_all, free_all, look_at, get, sets, ‵, raw, ◌⊛◌, later, ◌$◌, ◌∵◌, !, qed, by, keep, split, fjoin, await, move, fsplit, drop, use1, agg, no_more, and_then, returns, enter, proved, token, Token, ends, rules, seen_owns, ℕ, [], ◌∷◌, refl, List}
+use Rattle.core.specs.contracts.marker.PhantomData as marker
+use Rattle.logbook.specs.contracts.tokens.Seen as Seen
 use Rattle.std.specs.contracts.alloc.Global as Global
 use Rattle.std.specs.contracts.impls.GlobalAllocator.TheImpl as galloc
-use Rattle.logbook.specs.contracts.tokens.Seen as Seen
-use Rattle.logbook.proofs.Fields.{token, Token, ends}
-use Rattle.atomic_table.proofs.Walks.{proved}
+use Rattle.std_collections.specs.contracts.linked_list.LinkedList as LinkedList
+use base.Fml.{Fml}
 use Rattle.elsa_free.specs.SharedList.{items_of}
 use Rattle.elsa_free.specs.History.{list_of}
 use Rattle.elsa_free.specs.contracts.event.Event as Event
 use Rattle.elsa_free.specs.contracts.rule.OneWord as OneWord
-use Rattle.elsa_free.specs.contracts.slots.written_prefix.WrittenPrefix as WrittenPrefix
+use Rattle.elsa_slots.specs.contracts.slots.written_prefix.WrittenPrefix as WrittenPrefix
 use Rattle.elsa_free.specs.contracts.rule.OneWordRuleEventLog.TheImpl as rule
 use Rattle.elsa_free.specs.Rights.{buffer_slots_of, prefix_written}
-use denote.Memory.{hidden_shr}
-use denote.Opens.{unhide}
-use denote.Struct.Lending.{lent_out}
-use Rattle.core.specs.contracts.marker.PhantomData as marker
-use Rattle.logbook.specs.Kept.{rules, seen_owns}
 use Rattle.elsa_free.proofs.RuleLemmas.AuthorBound.{history_gives, rule_gives}
-use Rattle.elsa_free.proofs.SlotLemmas.Prefix.{prefix_made}
+use Rattle.elsa_slots.proofs.SlotLemmas.Prefix.{prefix_made}
 use Rattle.elsa_free.specs.contracts.tokens.evidence.{ended, clauses}
 use Rattle.elsa_free.specs.contracts.tokens.evidence.Key.{name as #self}
 use Rattle.elsa_free.proofs.tokens.evidence.Statement.{statement}

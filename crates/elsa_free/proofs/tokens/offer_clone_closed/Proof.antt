@@ -1,47 +1,19 @@
-use Rattle.std.proofs.Common.{◌≡◌, ℕ, ◌+◌, List, [], ◌∷◌, length, sym, refl, arith, None}
-use mir.Syntax.{a_type, dcons, dnil, named}
-use mir.Val.{Val, vptr}
-use mir.MapTy.{inst_fn}
-use base.Share.{three_quarters}
-use base.Growing.{latest}
-use base.Logic.{SProp, emp}
-use base.Fml.{ftrue}
-use types.Kit.{‵, raw, ◌⊛◌, given, ◌$◌, ◌∵◌, !, qed, by, move, keep, drop, split, fsplit, fjoin, fjoin3, learn, use0, use1, rewrite}
-use types.Run.{no_more, and_then, returns, enter}
-use types.ByLocal.{alloc_all, pass_all, free_all, look_at, get, sets, env}
-use types.Part.{agg}
-use contract.Monad.{fact, fact_i}
-use contract.Running.{tables}
-use denote.Exit.{yes, no}
-use denote.RattleType.{RattleType, owns}
-use denote.Signature.{types_at, plain}
-use denote.Builtin.{RefOf, unit}
-use denote.Ref.{shr_vals, shr_Tells}
-use denote.Steps.{nothing}
-use denote.Param.{param, bounded}
-use denote.Struct.Tuple.{Tuple}
-use denote.Triple.Walked.{Stays, stay_dropped, walk_of, Goes-dropped}
-use Rattle.std_collections.specs.contracts.linked_list.LinkedList as LinkedList
+use Rattle.elsa_free.proofs.ByHand.{ftrue, latest, SProp, emp, three_quarters, fact_i, fact, tables, unit, RefOf, yes, no, param, bounded, owns, RattleType, shr_vals, shr_Tells, types_at, plain, nothing, Tuple, Stays, walk_of, stay_dropped, Goes-dropped, inst_fn, a_type, dcons, dnil, named, Val, vptr, alloc_all, pass_all, free_all, look_at, get, sets, env, ‵, raw, ◌⊛◌, ◌$◌, ◌∵◌, !, qed, by, keep, split, fjoin, use0, move, fsplit, given, learn, drop, use1, fjoin3, rewrite, agg, no_more, and_then, returns, enter, proved, token, Token, token_made, ends, token_told, offer_owns, ℕ, [], ◌∷◌, refl, List, None, arith, ◌≡◌, ◌+◌, length, sym}
+use Rattle.logbook.specs.contracts.tokens.Seen as Seen
 use Rattle.std.specs.contracts.alloc.Global as Global
 use Rattle.std.specs.contracts.impls.GlobalAllocator.TheImpl as galloc
-use Rattle.logbook.specs.Kept.{offer_owns}
-use Rattle.logbook.specs.contracts.tokens.Seen as Seen
-use Rattle.logbook.proofs.Fields.{token, Token, token_told, token_made, ends}
-use Rattle.atomic_table.proofs.Walks.{proved}
-use Rattle.elsa_free.specs.Slot.{write_rights}
-use Rattle.elsa_free.specs.contracts.slots.rights.WriteRights as WriteRights
+use Rattle.std_collections.specs.contracts.linked_list.LinkedList as LinkedList
+use Rattle.elsa_slots.specs.Slot.{write_rights}
+use Rattle.elsa_slots.specs.contracts.slots.rights.WriteRights as WriteRights
 use Rattle.elsa_free.specs.declared.event.Event.TheVariants.{Cloned, OfferOf}
 use Rattle.elsa_free.specs.SharedList.{copied}
 use Rattle.elsa_free.specs.contracts.event.Event as Event
 use Rattle.elsa_free.specs.contracts.rule.OneWord as OneWord
-use Rattle.elsa_free.specs.contracts.rule.AcquireGain as AcquireGain
-use Rattle.elsa_free.specs.contracts.rule.ReadGain as ReadGain
 use Rattle.elsa_free.specs.contracts.rule.ReleaseGain as ReleaseGain
-use Rattle.elsa_free.specs.contracts.rule.PublishGain as PublishGain
 use Rattle.elsa_free.specs.contracts.tokens.Held as Held
 use Rattle.elsa_free.specs.contracts.tokens.Author as Author
-use Rattle.elsa_free.specs.contracts.slots.written_prefix.WrittenPrefix as WrittenPrefix
-use Rattle.elsa_free.proofs.SlotLemmas.Prefix.{prefix_value}
+use Rattle.elsa_slots.specs.contracts.slots.written_prefix.WrittenPrefix as WrittenPrefix
+use Rattle.elsa_slots.proofs.SlotLemmas.Prefix.{prefix_value}
 use Rattle.elsa_free.proofs.RuleLemmas.History.{copied_items, copied_length}
 use Rattle.elsa_free.specs.contracts.rule.OneWordRuleEventLog.TheImpl as rule
 use Rattle.elsa_free.specs.Rights.{logs, head, buffer_slots_of, IsStep, rule_owns, release_gain, rights_from, prefix_written}
@@ -56,7 +28,7 @@ pub offer_clone_closed_spec : {M : Type 1} → statement M
 offer_clone_closed_spec 𝓤 𝓛 𝓜 𝓡 wired T B K _ _ _ g d h e _ _ =
     let H = 𝓛.H in let 𝓣 = tables 𝓤 H 𝓜 𝓡 𝓡.env in let T' : RattleType = param 0 T in let B' : RattleType = param 1 B in let K' : RattleType = param 2 K in let E' : RattleType = Event.the_row T' in let L' : RattleType = LinkedList.the_row E' Global.the_row galloc.ghosts in let En = ended T B K g d h e in
     let inst = bounded (a_type ∷ a_type ∷ a_type ∷ []) (T, (B, (K, tt))) (dcons d (dcons e dnil)) in let fn = inst_fn inst code.function in let c = clauses T B K g d h e 𝓛 𝓜.mem 𝓡.returns in
-    let S : RattleType = Seen.the_row E' L' (OneWord.the_row B' K') (rule.ghosts T' B' K' g d h e) in let GT : RattleType = Tuple (E' ∷ L' ∷ AcquireGain.the_row B' ∷ []) in let GG : RattleType = Tuple (E' ∷ L' ∷ ReleaseGain.the_row B' ∷ []) in let GP : RattleType = Tuple (E' ∷ L' ∷ PublishGain.the_row B' ∷ []) in let GL : RattleType = Tuple (E' ∷ L' ∷ ReadGain.the_row B' ∷ []) in
+    let S : RattleType = Seen.the_row E' L' (OneWord.the_row B' K') (rule.ghosts T' B' K' g d h e) in
     let hs : Stays En.signature.params En.kept = (stay_dropped (RefOf (0 ∷ []) tt (plain (λ _. S)) (λ _. tt)) yes, (stay_dropped (plain (λ _. Held.the_row)) yes, (stay_dropped (plain (λ _. WrittenPrefix.the_row T' B' g)) no, (stay_dropped (plain (λ _. WriteRights.the_row)) yes, (stay_dropped (plain (λ _. Author.the_row)) yes, tt))))) in
     proved 𝓛 En hs c 𝓜 𝓡 (Goes-dropped 𝓛 4 (RefOf (0 ∷ []) tt (plain (λ _. S)) (λ _. tt)) yes (λ κs x f. refl), (Goes-dropped 𝓛 4 (plain (λ _. Held.the_row)) yes (λ κs x f. refl), (Goes-dropped 𝓛 4 (plain (λ _. WrittenPrefix.the_row T' B' g)) no (λ κs x f. refl), (Goes-dropped 𝓛 4 (plain (λ _. WriteRights.the_row)) yes (λ κs x f. refl), (Goes-dropped 𝓛 4 (plain (λ _. Author.the_row)) yes (λ κs x f. refl), tt))))) (#self inst) fn (code.unfolded 𝓤 H 𝓜 𝓡 wired (T, (B, (K, tt))) d e)
     (λ κs. (shr_vals, ((λ x. token ∷ []), ((λ x. token ∷ []), ((λ x. token ∷ []), ((λ x. token ∷ []), tt)))))) (λ κs. (shr_Tells (named 0) κs.0 S, ((λ x vs is. token_told (unit) vs is.0), ((λ x vs is. prefix_value T' B' g vs is.0), ((λ x vs is. token_told (unit) vs is.0), ((λ x vs is. token_told (unit) vs is.0), tt)))))) (λ κs qs bounds a gh are.
@@ -70,7 +42,7 @@ offer_clone_closed_spec 𝓤 𝓛 𝓜 𝓡 wired T B K _ _ _ g d h e _ _ =
     let k = asked.3 in rewrite ! 0 (λ (z : List ℕ). ‵ (write_rights z)) k.rights refl $ use1 𝓛 (‵ (rights_from T' B' g.slot_names buffer_slots n)) (tails.rights_of_closed 𝓛 T' B' g.slot_names buffer_slots n k.buffer k.begins) $
     rewrite ! 0 (λ (z : ℕ). ‵ (rights_from T' B' g.slot_names buffer_slots z)) (let e = copied_length xs in let z : n ≡ 0 + length (copied xs) = omega (arith, e) in z) refl $
     rewrite ! 1 (λ (z : List ℕ). ‵ (prefix_written T' B' g.slot_names z 0 xs)) asked.2 refl $ rewrite ! 1 (λ (z : List T'.Denot). ‵ (prefix_written T' B' g.slot_names buffer_slots 0 z)) (sym (copied_items xs)) refl $
-    rewrite ! 2 (λ (z : ℕ). ‵ (latest logs three_quarters z held.kinds)) asked.0 refl $ rewrite ! 2 (λ (z : List ℕ). ‵ (latest logs three_quarters (head me.names) z)) asked.1 refl $
+    rewrite ! 2 (λ (z : ℕ). ‵ (latest logs three_quarters z held.added)) asked.0 refl $ rewrite ! 2 (λ (z : List ℕ). ‵ (latest logs three_quarters (head me.names) z)) asked.1 refl $
     fjoin ! $ move ! (1 ∷ 0 ∷ 2 ∷ []) $ fjoin3 ! $
     use1 𝓛 (‵ (offer_owns (rule_owns T' B' g.slot_names me.names) (IsStep {T = T'.Denot} (Cloned xs)) (release_gain T' B' g.slot_names (OfferOf author'.name author'.used ∷ [])) None)) (offers.clone_offer 𝓛 T' B' g.slot_names me.names [] xs author'.name author'.used) $
     use0 𝓛 (‵ ((Token (Tuple (E' ∷ L' ∷ OneWord.the_row B' K' ∷ ReleaseGain.the_row B' ∷ []))).own_val (record {}, tt) (token ∷ []))) (token_made (Tuple (E' ∷ L' ∷ OneWord.the_row B' K' ∷ ReleaseGain.the_row B' ∷ [])) 𝓛) $ fjoin ! $ sets ! (agg ! (no_more !)) refl (tt, tt) $ sets ! (agg ! (and_then ! (get ! refl) (no_more !))) refl (tt, (tt, tt)) $

@@ -1,37 +1,12 @@
-use Rattle.std.proofs.Common.{List, [], ◌∷◌, refl, None}
-use mir.Syntax.{a_type, dcons, dnil, named}
-use mir.Val.{Val, vptr}
-use mir.MapTy.{inst_fn}
-use base.Logic.{SProp, emp}
-use types.Kit.{‵, raw, ◌⊛◌, ◌$◌, ◌∵◌, !, qed, by, move, keep, split, fsplit, fjoin, use0, use1}
-use types.Run.{no_more, and_then, returns, enter}
-use types.ByLocal.{alloc_all, pass_all, free_all, look_at, get, sets, env}
-use types.Part.{agg}
-use contract.Monad.{fact_i}
-use contract.Running.{tables}
-use denote.Exit.{yes}
-use denote.RattleType.{RattleType, owns}
-use denote.Signature.{types_at, plain}
-use denote.Builtin.{RefOf, unit}
-use denote.Ref.{shr_vals, shr_Tells}
-use denote.Steps.{nothing}
-use denote.Param.{param, bounded}
-use denote.Struct.Tuple.{Tuple}
-use denote.Triple.Walked.{Stays, stay_dropped, walk_of, Goes-dropped}
-use Rattle.std_collections.specs.contracts.linked_list.LinkedList as LinkedList
+use Rattle.elsa_free.proofs.ByHand.{SProp, emp, fact_i, tables, unit, RefOf, yes, param, bounded, owns, RattleType, shr_vals, shr_Tells, types_at, plain, nothing, Tuple, Stays, walk_of, stay_dropped, Goes-dropped, inst_fn, a_type, dcons, dnil, named, Val, vptr, alloc_all, pass_all, free_all, look_at, get, sets, env, ‵, raw, ◌⊛◌, ◌$◌, ◌∵◌, !, qed, by, keep, split, fjoin, use0, move, fsplit, use1, agg, no_more, and_then, returns, enter, proved, token, Token, token_made, ends, token_told, offer_owns, [], ◌∷◌, refl, List, None}
+use Rattle.logbook.specs.contracts.tokens.Seen as Seen
 use Rattle.std.specs.contracts.alloc.Global as Global
 use Rattle.std.specs.contracts.impls.GlobalAllocator.TheImpl as galloc
-use Rattle.logbook.specs.Kept.{offer_owns}
-use Rattle.logbook.specs.contracts.tokens.Seen as Seen
-use Rattle.logbook.proofs.Fields.{token, Token, token_told, token_made, ends}
-use Rattle.atomic_table.proofs.Walks.{proved}
+use Rattle.std_collections.specs.contracts.linked_list.LinkedList as LinkedList
 use Rattle.elsa_free.specs.declared.event.Event.TheVariants.{OfferOf}
 use Rattle.elsa_free.specs.contracts.event.Event as Event
 use Rattle.elsa_free.specs.contracts.rule.OneWord as OneWord
-use Rattle.elsa_free.specs.contracts.rule.AcquireGain as AcquireGain
 use Rattle.elsa_free.specs.contracts.rule.ReadGain as ReadGain
-use Rattle.elsa_free.specs.contracts.rule.ReleaseGain as ReleaseGain
-use Rattle.elsa_free.specs.contracts.rule.PublishGain as PublishGain
 use Rattle.elsa_free.specs.contracts.tokens.Author as Author
 use Rattle.elsa_free.specs.contracts.rule.OneWordRuleEventLog.TheImpl as rule
 use Rattle.elsa_free.specs.Rights.{IsStep, rule_owns, read_gain}
@@ -45,7 +20,7 @@ pub offer_read_spec : {M : Type 1} → statement M
 offer_read_spec 𝓤 𝓛 𝓜 𝓡 wired T B K _ _ _ g d h e _ _ =
     let H = 𝓛.H in let 𝓣 = tables 𝓤 H 𝓜 𝓡 𝓡.env in let T' : RattleType = param 0 T in let B' : RattleType = param 1 B in let K' : RattleType = param 2 K in let E' : RattleType = Event.the_row T' in let L' : RattleType = LinkedList.the_row E' Global.the_row galloc.ghosts in let En = ended T B K g d h e in
     let inst = bounded (a_type ∷ a_type ∷ a_type ∷ []) (T, (B, (K, tt))) (dcons d (dcons e dnil)) in let fn = inst_fn inst code.function in let c = clauses T B K g d h e 𝓛 𝓜.mem 𝓡.returns in
-    let S : RattleType = Seen.the_row E' L' (OneWord.the_row B' K') (rule.ghosts T' B' K' g d h e) in let GT : RattleType = Tuple (E' ∷ L' ∷ AcquireGain.the_row B' ∷ []) in let GG : RattleType = Tuple (E' ∷ L' ∷ ReleaseGain.the_row B' ∷ []) in let GP : RattleType = Tuple (E' ∷ L' ∷ PublishGain.the_row B' ∷ []) in let GL : RattleType = Tuple (E' ∷ L' ∷ ReadGain.the_row B' ∷ []) in
+    let S : RattleType = Seen.the_row E' L' (OneWord.the_row B' K') (rule.ghosts T' B' K' g d h e) in
     let hs : Stays En.signature.params En.kept = (stay_dropped (RefOf (0 ∷ []) tt (plain (λ _. S)) (λ _. tt)) yes, (stay_dropped (plain (λ _. Author.the_row)) yes, tt)) in
     proved 𝓛 En hs c 𝓜 𝓡 (Goes-dropped 𝓛 4 (RefOf (0 ∷ []) tt (plain (λ _. S)) (λ _. tt)) yes (λ κs x f. refl), (Goes-dropped 𝓛 4 (plain (λ _. Author.the_row)) yes (λ κs x f. refl), tt)) (#self inst) fn (code.unfolded 𝓤 H 𝓜 𝓡 wired (T, (B, (K, tt))) d e)
     (λ κs. (shr_vals, ((λ x. token ∷ []), tt))) (λ κs. (shr_Tells (named 0) κs.0 S, ((λ x vs is. token_told (unit) vs is.0), tt))) (λ κs qs bounds a gh are.

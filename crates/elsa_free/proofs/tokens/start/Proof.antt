@@ -1,46 +1,18 @@
-use Rattle.std.proofs.Common.{ℕ, List, [], ◌∷◌, ◌++◌, refl}
-use mir.Syntax.{a_type, dcons, dnil}
-use mir.Val.{Val, vstruct, vcons, vnil, of_list}
-use mir.MapTy.{inst_fn}
-use base.Fraction.{full_share}
-use base.Share
-use base.Share.{quarter, three_quarters}
-use base.Growing.{latest}
-use base.Logic.{SProp, emp, via}
-use base.Fml.{fsep, feq}
-use types.Growing.{latest_cut, latest_new}
-use types.Owned.{basic}
-use types.Kit.{‵, raw, ◌⊛◌, some, later, ◌$◌, ◌∵◌, !, qed, by, move, keep, split, fsplit, fjoin, fpack, pick, use0, use1, await, feq_i}
-use types.Run.{no_more, and_then, returns, enter}
-use types.ByLocal.{alloc_all, pass_all, free_all, look_at, get, sets, env}
-use types.Part.{agg}
-use contract.Monad.{fact_i}
-use contract.Running.{tables}
-use denote.Exit.{no}
-use denote.RattleType.{RattleType, owns, Valss}
-use denote.Signature.{types_at, plain}
-use denote.Builtin.{unit}
-use denote.Steps.{nothing}
-use denote.Param.{param, bounded}
-use denote.Struct.Tuple.{Tuple}
-use denote.Triple.Walked.{Stays, stay_dropped, walk_of, Goes-dropped}
-use Rattle.std_collections.specs.contracts.linked_list.LinkedList as LinkedList
+use Rattle.elsa_free.proofs.ByHand.{fsep, feq, latest, SProp, emp, via, three_quarters, fact_i, tables, unit, no, param, bounded, owns, RattleType, Valss, types_at, plain, nothing, Tuple, Stays, walk_of, stay_dropped, Goes-dropped, inst_fn, a_type, dcons, dnil, Val, vstruct, vcons, vnil, of_list, alloc_all, pass_all, free_all, look_at, get, sets, env, ‵, raw, ◌⊛◌, some, later, ◌$◌, ◌∵◌, !, qed, by, keep, split, fjoin, pick, use0, await, move, fsplit, fpack, feq_i, use1, basic, agg, no_more, and_then, returns, enter, proved, token, Token, token_made, ends, ℕ, [], ◌∷◌, refl, List, ◌++◌}
 use Rattle.std.specs.contracts.alloc.Global as Global
 use Rattle.std.specs.contracts.impls.GlobalAllocator.TheImpl as galloc
+use Rattle.std_collections.specs.contracts.linked_list.LinkedList as LinkedList
+use base.Fraction.{full_share}
+use base.Share
+use base.Share.{quarter}
+use types.Growing.{latest_cut, latest_new}
 use Rattle.logbook.specs.contracts.tokens.Start as Start
-use Rattle.logbook.specs.contracts.tokens.Seen as Seen
-use Rattle.logbook.proofs.Fields.{token, Token, token_made, ends}
-use Rattle.atomic_table.proofs.Walks.{proved}
 use Rattle.elsa_free.specs.contracts.event.Event as Event
 use Rattle.elsa_free.specs.contracts.rule.OneWord as OneWord
-use Rattle.elsa_free.specs.contracts.rule.AcquireGain as AcquireGain
-use Rattle.elsa_free.specs.contracts.rule.ReadGain as ReadGain
-use Rattle.elsa_free.specs.contracts.rule.ReleaseGain as ReleaseGain
-use Rattle.elsa_free.specs.contracts.rule.PublishGain as PublishGain
 use Rattle.elsa_free.specs.contracts.tokens.Held as Held
-use Rattle.elsa_free.specs.contracts.slots.written_prefix.WrittenPrefix as WrittenPrefix
-use Rattle.elsa_free.proofs.SlotLemmas.Prefix.{prefix_made}
-use Rattle.elsa_free.proofs.SlotLemmas.Prefix.{prefix_value}
+use Rattle.elsa_slots.specs.contracts.slots.written_prefix.WrittenPrefix as WrittenPrefix
+use Rattle.elsa_slots.proofs.SlotLemmas.Prefix.{prefix_made}
+use Rattle.elsa_slots.proofs.SlotLemmas.Prefix.{prefix_value}
 use Rattle.elsa_free.specs.contracts.rule.OneWordRuleEventLog.TheImpl as rule
 use Rattle.elsa_free.specs.Rights.{logs}
 use Rattle.elsa_free.specs.contracts.tokens.start.{ended, clauses}
@@ -52,7 +24,6 @@ pub start_spec : {M : Type 1} → statement M
 start_spec 𝓤 𝓛 𝓜 𝓡 wired T B K _ _ _ g d h e _ _ =
     let H = 𝓛.H in let 𝓣 = tables 𝓤 H 𝓜 𝓡 𝓡.env in let T' : RattleType = param 0 T in let B' : RattleType = param 1 B in let K' : RattleType = param 2 K in let E' : RattleType = Event.the_row T' in let L' : RattleType = LinkedList.the_row E' Global.the_row galloc.ghosts in let En = ended T B K g d h e in
     let inst = bounded (a_type ∷ a_type ∷ a_type ∷ []) (T, (B, (K, tt))) (dcons d (dcons e dnil)) in let fn = inst_fn inst code.function in let c = clauses T B K g d h e 𝓛 𝓜.mem 𝓡.returns in
-    let S : RattleType = Seen.the_row E' L' (OneWord.the_row B' K') (rule.ghosts T' B' K' g d h e) in let GT : RattleType = Tuple (E' ∷ L' ∷ AcquireGain.the_row B' ∷ []) in let GG : RattleType = Tuple (E' ∷ L' ∷ ReleaseGain.the_row B' ∷ []) in let GP : RattleType = Tuple (E' ∷ L' ∷ PublishGain.the_row B' ∷ []) in let GL : RattleType = Tuple (E' ∷ L' ∷ ReadGain.the_row B' ∷ []) in
     let hs : Stays En.signature.params En.kept = (stay_dropped (plain (λ _. WrittenPrefix.the_row T' B' g)) no, tt) in
     proved 𝓛 En hs c 𝓜 𝓡 (Goes-dropped 𝓛 3 (plain (λ _. WrittenPrefix.the_row T' B' g)) no (λ κs x f. refl), tt) (#self inst) fn (code.unfolded 𝓤 H 𝓜 𝓡 wired (T, (B, (K, tt))) d e)
     (λ κs. ((λ x. token ∷ []), tt)) (λ κs. ((λ x vs is. prefix_value T' B' g vs is.0), tt)) (λ κs qs bounds a gh are.
@@ -67,7 +38,7 @@ start_spec 𝓤 𝓛 𝓜 𝓡 wired T B K _ _ _ g d h e _ _ =
     nothing ! $ nothing ! $ fjoin ! $ move ! (1 ∷ []) $ nothing ! $ move ! (1 ∷ 0 ∷ []) $ fjoin ! $ fjoin ! $
     use0 𝓛 (‵ ((Token (Tuple (E' ∷ L' ∷ OneWord.the_row B' K' ∷ []))).own_val (record {}, tt) (token ∷ []))) (token_made (Tuple (E' ∷ L' ∷ OneWord.the_row B' K' ∷ [])) 𝓛) $ fjoin ! $ move ! (1 ∷ []) $ use0 𝓛 (‵ ((Token (unit)).own_val (record {}, tt) (token ∷ []))) (token_made (unit) 𝓛) $ fjoin ! $ move ! (2 ∷ []) $ use1 𝓛 (‵ ((WrittenPrefix.the_row T' B' g).own_val (record { marker = record {}; buffer_slots = from; items = xs }) (token ∷ []))) (prefix_made 𝓛 T' B' g (from) (xs)) $ move ! (2 ∷ 1 ∷ 0 ∷ []) $
     sets ! (agg ! (no_more !)) refl (tt, tt) $ sets ! (agg ! (and_then ! (get ! refl) (no_more !))) refl (tt, (tt, tt)) $ sets ! (agg ! (no_more !)) refl (tt, tt) $ sets ! (agg ! (and_then ! (get ! refl) (no_more !))) refl (tt, (tt, tt)) $ sets ! (agg ! (no_more !)) refl (tt, tt) $ sets ! (agg ! (and_then ! (get ! refl) (no_more !))) refl (tt, (tt, tt)) $ sets ! (agg ! (and_then ! (get ! refl) (and_then ! (get ! refl) (and_then ! (get ! refl) (no_more !))))) refl (tt, ((tt, tt), ((tt, tt), ((tt, tt), tt)))) $
-    let s' : (Start.the_row E' L' (OneWord.the_row B' K') (rule.ghosts T' B' K' g d h e)).Denot = record { marker = record {}; names = γ ∷ from; shown = [] } in let h' : Held.the_row.Denot = record { marker = record {}; name = γ; kinds = [] } in let b' : (WrittenPrefix.the_row T' B' g).Denot = record { marker = record {}; buffer_slots = from; items = xs } in
+    let s' : (Start.the_row E' L' (OneWord.the_row B' K') (rule.ghosts T' B' K' g d h e)).Denot = record { marker = record {}; names = γ ∷ from; shown = [] } in let h' : Held.the_row.Denot = record { marker = record {}; name = γ; added = [] } in let b' : (WrittenPrefix.the_row T' B' g).Denot = record { marker = record {}; buffer_slots = from; items = xs } in
     nothing ! $ move ! (3 ∷ 0 ∷ []) $ fjoin ! $ move ! (2 ∷ 0 ∷ []) $ fjoin ! $ move ! (1 ∷ 0 ∷ []) $ fjoin ! $ let v : Val = vstruct (vcons token (vcons token (vcons token (vnil)))) in let Rs : List RattleType = Start.the_row E' L' (OneWord.the_row B' K') (rule.ghosts T' B' K' g d h e) ∷ Held.the_row ∷ WrittenPrefix.the_row T' B' g ∷ [] in feq_i ! (List Val) (v ∷ []) (v ∷ []) refl $ fjoin ! $ fpack ! (Valss Rs) (λ vss. fsep (feq (List Val) (v ∷ []) (vstruct (of_list (vss.0 ++ (vss.1.0 ++ (vss.1.1.0 ++ [])))) ∷ [])) (owns Rs (s', (h', (b', tt))) vss)) (token ∷ [], (token ∷ [], (token ∷ [], tt))) $
     nothing ! $ nothing ! $ fjoin ! $
     returns ! (look_at ! 0 refl) $ free_all ! refl $ keep ! (2 ∷ 0 ∷ 1 ∷ []) $ by ! (ends 𝓛 En hs c y (v) ((s', h', b')) (tt, tt) (tt, tt) (fact_i 𝓤 _ (emp 𝓤) ((refl, refl, refl, refl, refl, refl)))))))

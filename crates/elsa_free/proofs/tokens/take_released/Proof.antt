@@ -1,34 +1,11 @@
-use Rattle.std.proofs.Common.{List, [], ◌∷◌, refl}
-use mir.Syntax.{a_type, dcons, dnil}
-use mir.Val.{Val}
-use mir.MapTy.{inst_fn}
-use base.Logic.{SProp, emp}
-use types.Kit.{‵, raw, ◌⊛◌, ◌$◌, ◌∵◌, !, qed, by, move, keep, drop, split, fsplit, fjoin, fpick, use0}
-use types.Run.{no_more, and_then, returns, enter}
-use types.ByLocal.{alloc_all, pass_all, free_all, look_at, get, sets, env}
-use types.Part.{agg}
-use contract.Monad.{fact_i}
-use contract.Running.{tables}
-use denote.Exit.{no}
-use denote.RattleType.{RattleType, owns}
-use denote.Signature.{types_at, plain}
-use denote.Builtin.{unit}
-use denote.Steps.{nothing}
-use denote.Param.{param, bounded}
-use denote.Struct.Tuple.{Tuple}
-use denote.Triple.Walked.{Stays, stay_dropped, walk_of, Goes-dropped}
-use Rattle.std_collections.specs.contracts.linked_list.LinkedList as LinkedList
+use Rattle.elsa_free.proofs.ByHand.{SProp, emp, fact_i, tables, unit, no, param, bounded, owns, RattleType, types_at, plain, nothing, Tuple, Stays, walk_of, stay_dropped, Goes-dropped, inst_fn, a_type, dcons, dnil, Val, alloc_all, pass_all, free_all, look_at, get, sets, env, ‵, raw, ◌⊛◌, ◌$◌, ◌∵◌, !, qed, by, keep, split, fjoin, use0, move, fsplit, drop, fpick, agg, no_more, and_then, returns, enter, proved, token, Token, token_made, ends, token_told, [], ◌∷◌, refl, List}
+use Rattle.logbook.specs.contracts.tokens.Gained as Gained
 use Rattle.std.specs.contracts.alloc.Global as Global
 use Rattle.std.specs.contracts.impls.GlobalAllocator.TheImpl as galloc
-use Rattle.logbook.specs.contracts.tokens.Gained as Gained
-use Rattle.logbook.proofs.Fields.{token, Token, token_told, token_made, ends}
-use Rattle.atomic_table.proofs.Walks.{proved}
+use Rattle.std_collections.specs.contracts.linked_list.LinkedList as LinkedList
 use Rattle.elsa_free.specs.History.{author_of, used_of}
 use Rattle.elsa_free.specs.contracts.event.Event as Event
-use Rattle.elsa_free.specs.contracts.rule.AcquireGain as AcquireGain
-use Rattle.elsa_free.specs.contracts.rule.ReadGain as ReadGain
 use Rattle.elsa_free.specs.contracts.rule.ReleaseGain as ReleaseGain
-use Rattle.elsa_free.specs.contracts.rule.PublishGain as PublishGain
 use Rattle.elsa_free.specs.contracts.rule.ReleaseGainGainEventLog.TheImpl as gives
 use Rattle.elsa_free.specs.contracts.tokens.take_released.{ended, clauses}
 use Rattle.elsa_free.specs.contracts.tokens.take_released.Key.{name as #self}
@@ -39,7 +16,7 @@ pub take_released_spec : {M : Type 1} → statement M
 take_released_spec 𝓤 𝓛 𝓜 𝓡 wired T B _ _ g d _ =
     let H = 𝓛.H in let 𝓣 = tables 𝓤 H 𝓜 𝓡 𝓡.env in let T' : RattleType = param 0 T in let B' : RattleType = param 1 B in let E' : RattleType = Event.the_row T' in let L' : RattleType = LinkedList.the_row E' Global.the_row galloc.ghosts in let En = ended T B g d in
     let inst = bounded (a_type ∷ a_type ∷ []) (T, (B, tt)) (dcons d dnil) in let fn = inst_fn inst code.function in let c = clauses T B g d 𝓛 𝓜.mem 𝓡.returns in
-    let GT : RattleType = Tuple (E' ∷ L' ∷ AcquireGain.the_row B' ∷ []) in let GG : RattleType = Tuple (E' ∷ L' ∷ ReleaseGain.the_row B' ∷ []) in let GP : RattleType = Tuple (E' ∷ L' ∷ PublishGain.the_row B' ∷ []) in let GL : RattleType = Tuple (E' ∷ L' ∷ ReadGain.the_row B' ∷ []) in
+    let GG : RattleType = Tuple (E' ∷ L' ∷ ReleaseGain.the_row B' ∷ []) in
     let hs : Stays En.signature.params En.kept = (stay_dropped (plain (λ _. Gained.the_row E' L' (ReleaseGain.the_row B') (gives.ghosts T' B' g d))) no, tt) in
     proved 𝓛 En hs c 𝓜 𝓡 (Goes-dropped 𝓛 2 (plain (λ _. Gained.the_row E' L' (ReleaseGain.the_row B') (gives.ghosts T' B' g d))) no (λ κs x f. refl), tt) (#self inst) fn (code.unfolded 𝓤 H 𝓜 𝓡 wired (T, (B, tt)) d)
     (λ κs. ((λ x. token ∷ []), tt)) (λ κs. ((λ x vs is. token_told (GG) vs is.0), tt)) (λ κs qs bounds a gh are.

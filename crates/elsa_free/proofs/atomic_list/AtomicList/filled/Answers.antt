@@ -1,5 +1,5 @@
 use Rattle.std.proofs.Common.{refl, arith}
-use Rattle.elsa_free.specs.contracts.slots.buffer.Buffer as Buffer
+use Rattle.elsa_slots.specs.contracts.slots.buffer.Buffer as Buffer
 use Rattle.elsa_free.proofs.RuleLemmas.EachNew.{none_is_new}
 use Rattle.elsa_free.proofs.RuleLemmas.Keyless.{rule_owns_keyless}
 use Rattle.elsa_free.proofs.atomic_list.AtomicList.filled.Goals as goal

@@ -14,10 +14,19 @@ use Rattle.elsa_free.proofs.atomic_list.AtomicList.publish.Goals as goal
 
 pub offer_publish-offer-requires : goal.offer_publish-offer-requires
 offer_publish-offer-requires g c =
-    let slot_names = c.args.opened.value in let j = c.args.slot in
-    let less : j < length slot_names = let a = c.requires.at.within in let l = c.requires.opened.1 in omega (arith, a, l) in
-    let all : c.take-right.result.of ∷ c.take-right.new.self.of ≡ slice_index_or slot_names j 0 ∷ drops (suc j) slot_names = sym c.take-right.ensures ∙ (c.requires.slots.0 ∙ drop-cons slot_names j 0 less) in
-    (c.requires.held.0, c.requires.held.1, subst (λ (k : ℕ). IsAt k c.args.buffer j) c.requires.n.0 c.requires.at, c.requires.opened.1, c.requires.opened.0, cc all, c.requires.slots.1, c.write-written.ensures.0)
+    let ahead = c.requires.ahead.0 in let slot_names = c.args.opened.value in let j = c.args.slot in
+    let less : j < length slot_names = let a = ahead.place.within in let l = ahead.whole in omega (arith, a, l) in
+    let all : c.take-right.result.of ∷ c.take-right.new.self.of ≡ slice_index_or slot_names j 0 ∷ drops (suc j) slot_names = sym c.take-right.ensures ∙ (ahead.left ∙ drop-cons slot_names j 0 less) in (
+      c.requires.held.0,
+      c.requires.held.1,
+      record {
+        place = subst (λ (k : ℕ). IsAt k c.args.buffer c.args.slot) c.requires.n.0 ahead.place;
+        evidence = ahead.evidence;
+        whole = ahead.whole;
+        left = cc (c.write-written.ensures.0, all, drop-cons slot_names j 0 less);
+        rights = ahead.rights;
+      },
+    )
 
 pub compare_exchange-requires : goal.compare_exchange-requires
 compare_exchange-requires g c = let h = c.deref.ensures ∙ c.args.self.now.word_is in let offer = c.offer_publish-offer.ensures in let pen = c.no_pen-pen.ensures in

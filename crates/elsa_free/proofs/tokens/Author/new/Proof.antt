@@ -1,21 +1,5 @@
-use Rattle.std.proofs.Common.{ℕ, [], ◌∷◌, refl}
-use mir.Val.{Val}
-use base.Logic.{SProp, emp, via}
-use types.Keyed.{tickets_from, entries_new, token as ticket_algebra}
-use types.Owned.{basic}
-use types.Kit.{‵, raw, ◌⊛◌, some, later, ◌$◌, ◌∵◌, !, qed, by, keep, split, fjoin, pick, use0, await}
-use types.Run.{no_more, and_then, returns, enter}
-use types.ByLocal.{alloc_all, pass_all, free_all, look_at, get, sets}
-use types.Part.{agg}
-use contract.Monad.{fact_i}
-use contract.Running.{tables}
-use denote.RattleType.{owns}
-use denote.Signature.{types_at}
-use denote.Builtin.{unit}
-use denote.Steps.{nothing}
-use denote.Triple.Walked.{Stays, walk_of}
-use Rattle.logbook.proofs.Fields.{token, Token, token_made, ends}
-use Rattle.atomic_table.proofs.Walks.{proved}
+use Rattle.elsa_free.proofs.ByHand.{SProp, emp, via, fact_i, tables, unit, owns, types_at, nothing, Stays, walk_of, Val, alloc_all, pass_all, free_all, look_at, get, sets, tickets_from, ‵, raw, ◌⊛◌, some, later, ◌$◌, ◌∵◌, !, qed, by, keep, split, fjoin, pick, use0, await, basic, agg, no_more, and_then, returns, enter, proved, token, Token, token_made, ends, ℕ, [], ◌∷◌, refl}
+use types.Keyed.{entries_new, token as ticket_algebra}
 use Rattle.elsa_free.specs.contracts.tokens.Author.new.{ended, clauses}
 use Rattle.elsa_free.specs.contracts.tokens.Author.new.Key.{name as #self}
 use Rattle.elsa_free.proofs.tokens.Author.new.Statement.{statement}

@@ -1,7 +1,0 @@
-use denote.RattleType.{RattleType}
-use denote.Param.Send.{IsSend}
-use Rattle.elsa_free.proofs.SlotLemmas.Send.{cells_send}
-use Rattle.elsa_free.specs.contracts.slots.cells.Cells.{the_row}
-
-pub send : (R : RattleType) → IsSend R → IsSend (the_row R)
-send = cells_send

@@ -1,7 +1,0 @@
-use denote.RattleType.{RattleType}
-use denote.Param.Send.{IsSend, IsSync}
-use Rattle.elsa_free.proofs.SlotLemmas.Send.{cells_sync}
-use Rattle.elsa_free.specs.contracts.slots.cells.Cells.{the_row}
-
-pub sync : (R : RattleType) → IsSend R → IsSync R → IsSync (the_row R)
-sync = cells_sync

@@ -1,8 +1,0 @@
-use denote.RattleType.{RattleType}
-use denote.Param.Send.{IsSync}
-use Rattle.core.specs.declared.alloc.Allocator.{Ghosts}
-use Rattle.elsa_free.proofs.SlotLemmas.Send.{deed_sync}
-use Rattle.elsa_free.specs.contracts.slots.cells.Deed.{the_row}
-
-pub sync : (R A : RattleType) (g : Ghosts A.Denot) → IsSync (the_row R A g)
-sync = deed_sync

@@ -1,6 +1,0 @@
-use denote.Param.Send.{IsSend}
-use Rattle.elsa_free.proofs.SlotLemmas.Send as sent
-use Rattle.elsa_free.specs.contracts.slots.rights.WriteRights.{the_row}
-
-pub send : IsSend the_row
-send = sent.rights_send

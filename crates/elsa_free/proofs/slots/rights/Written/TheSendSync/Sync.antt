@@ -1,7 +1,0 @@
-use denote.RattleType.{RattleType}
-use denote.Param.Send.{IsSync}
-use Rattle.elsa_free.proofs.SlotLemmas.Send as sent
-use Rattle.elsa_free.specs.contracts.slots.rights.Written.{the_row}
-
-pub sync : (T : RattleType) → IsSync (the_row T)
-sync = sent.written_sync

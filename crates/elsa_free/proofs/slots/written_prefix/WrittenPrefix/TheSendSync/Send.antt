@@ -1,8 +1,0 @@
-use denote.RattleType.{RattleType}
-use denote.Param.Send.{IsSend}
-use Rattle.elsa_free.specs.declared.slots.written_prefix.HasSlots.{Ghosts}
-use Rattle.elsa_free.proofs.SlotLemmas.Send.{prefix_send}
-use Rattle.elsa_free.specs.contracts.slots.written_prefix.WrittenPrefix.{the_row}
-
-pub send : (T B : RattleType) (g : Ghosts B.Denot) → IsSend (the_row T B g)
-send = prefix_send

@@ -1,8 +1,0 @@
-use denote.RattleType.{RattleType}
-use denote.Param.Send.{IsSync}
-use Rattle.elsa_free.specs.declared.slots.written_prefix.HasSlots.{Ghosts}
-use Rattle.elsa_free.proofs.SlotLemmas.Send.{prefix_sync}
-use Rattle.elsa_free.specs.contracts.slots.written_prefix.WrittenPrefix.{the_row}
-
-pub sync : (T B : RattleType) (g : Ghosts B.Denot) → IsSync (the_row T B g)
-sync = prefix_sync

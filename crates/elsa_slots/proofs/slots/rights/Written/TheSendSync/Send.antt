@@ -1,0 +1,7 @@
+use denote.RattleType.{RattleType}
+use denote.Param.Send.{IsSend}
+use Rattle.elsa_slots.proofs.SlotLemmas.Send as sent
+use Rattle.elsa_slots.specs.contracts.slots.rights.Written.{the_row}
+
+pub send : (T : RattleType) → IsSend (the_row T)
+send = sent.written_send

@@ -1,0 +1,28 @@
+use Rattle.elsa_slots.proofs.ByHand.{ent, sep, SProp, tables, no, Is, shows, Typed, lone, param, layouts, param_laws, RattleType, owns, types_at, plain, nothing, peeks, Stays, stay_dropped, walk_of, Goes-dropped, inst_fn, a_type, Val, vstruct, vcons, vnil, of_list, WpFn, alloc_all, pass_all, free_all, look_at, get, get_in, sets, ‵, raw, ◌⊛◌, ◌$◌, ◌∵◌, !, qed, fpick, by, keep, drop, split, fsplit, fjoin, rewrite, feq_l, sem, whole, sub, stop, fld, of_opd, returns, enter, proved_at, leaves, one, List, [], ◌∷◌, ◌++◌, refl, ◌≡◌}
+use Rattle.std.proofs.Common.{sym, ap, ◌∙◌, subst}
+use Rattle.std.specs.contracts.option.Option.{the_row as OptionOf}
+use Rattle.core.proofs.option.Option.TheLaws.{the_row_laws as option_laws}
+use Rattle.elsa_slots.specs.contracts.slots.slot.Slot.{the_row}
+use Rattle.elsa_slots.specs.contracts.slots.slot.Slot.into_inner.{ended, clauses}
+use Rattle.elsa_slots.specs.contracts.slots.slot.Slot.into_inner.Key.{name as #self}
+use Rattle.elsa_slots.proofs.slots.slot.Slot.into_inner.Statement.{statement}
+use Rattle.elsa_slots.proofs.slots.slot.Slot.into_inner.Code as code
+
+pub into_inner_spec : {M : Type 1} → statement M
+into_inner_spec 𝓤 𝓛 𝓜 𝓡 wired T L =
+    let H = 𝓛.H in let A = 𝓛.A in let 𝓣 = tables 𝓤 H 𝓜 𝓡 𝓡.env in let R : RattleType = param 0 T in let O : RattleType = OptionOf R in let LO = option_laws R (param_laws 0 T L) in let En = ended T in
+    let inst = layouts (a_type ∷ []) (T, tt) in let fn = inst_fn inst code.function in let c = clauses T 𝓛 𝓜.mem 𝓡.returns in
+    let self = plain (λ _. the_row R) in let hs : Stays En.signature.params En.kept = (stay_dropped self no, tt) in
+    proved_at 𝓛 En hs c 𝓜 𝓡 (Goes-dropped 𝓛 1 self no (λ κs x f. refl), tt) (#self inst) fn (code.unfolded 𝓤 H 𝓜 𝓡 wired (T, tt))
+    (λ y are. let us : List Val = y.0.4.0 in let Post : Val → SProp 𝓤 = (walk_of 𝓛 En hs c).post y in let toks : SProp 𝓤 = denote.Triple.Entry.alive 𝓛 En.signature y.0.0 y.0.1 in
+    let fits : List Val → Type 0 = Typed (the_row R).mir in
+    qed 𝓛 ((raw toks ⊛ ‵ (owns (types_at En.signature.params y.0.0) y.0.3 y.0.4)) ∷ raw ((c y.0.0 y.0.3).requires y.1) ∷ []) ∵ split ! $ keep ! (1 ∷ 0 ∷ []) $ fsplit ! $ fsplit ! $ fpick ! (λ typed. drop ! $
+    fpick ! (λ s. fsplit ! $ fpick ! (λ vss. fsplit ! $ feq_l ! (λ e. fsplit ! $
+    peeks ! O (Is O) (shows 𝓛 O) s.0 vss.0 (λ is-v. let got = one (lone O.mir) vss.0 ((LO.lawful 𝓛).typed s.0 vss.0 is-v) in let w : Val = got.0 in
+    rewrite ! 0 (λ (ws : List Val). ‵ (O.own_val s.0 ws)) got.1 refl $ keep ! (0 ∷ 4 ∷ []) $
+    let v : Val = vstruct (vcons w vnil) in
+    let ev : us ≡ v ∷ [] = e ∙ ap (λ (ws : List Val). vstruct (of_list (ws ++ [])) ∷ []) got.1 in
+    by ! (subst (λ (ws : List Val). ent 𝓤 (sep 𝓤 (sem 𝓛 (O.own_val s.0 (w ∷ []))) toks) (WpFn 𝓤 H 𝓣.C 𝓣.Λ fn (ws ++ []) Post)) (sym ev) (qed 𝓛 (‵ (O.own_val s.0 (w ∷ [])) ∷ raw toks ∷ []) ∵
+    enter ! 𝓣.C 𝓣.Λ fn (v ∷ []) Post $ alloc_all ! (λ l. pass_all ! refl ((subst fits ev typed).0, tt) $
+    sets ! (of_opd ! (get_in ! (fld ! refl (stop !)) (sub ! 0 refl (whole !)))) refl got.2 $ sets ! (of_opd ! (get ! refl)) refl got.2 $ nothing ! $ nothing ! $ nothing ! $ fjoin ! $
+    returns ! (look_at ! 0 refl) $ free_all ! refl $ keep ! (3 ∷ 0 ∷ 2 ∷ 1 ∷ []) $ by ! (leaves 𝓛 En hs c y w s.0 (tt, tt) (tt, tt)))))))))))

@@ -1,0 +1,8 @@
+use denote.RattleType.{RattleType}
+use denote.Param.Send.{IsSend}
+use Rattle.elsa_slots.specs.declared.slots.written_prefix.HasSlots.{Ghosts}
+use Rattle.elsa_slots.proofs.SlotLemmas.Send.{prefix_send}
+use Rattle.elsa_slots.specs.contracts.slots.written_prefix.WrittenPrefix.{the_row}
+
+pub send : (T B : RattleType) (g : Ghosts B.Denot) → IsSend (the_row T B g)
+send = prefix_send
