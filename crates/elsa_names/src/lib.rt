@@ -3,4 +3,5 @@
 
 pub mod name;
 mod name_bytes;
+pub mod place_text;
 pub mod shared;

@@ -3,23 +3,63 @@
 //! The names are the items of one vector that takes distinct items alone. A thread has a [`NamePass`]: what it has seen of
 //! the vector, and an index of the first of these names. It puts a name by looking it up there, reading on, and appending it at
 //! the place where it has read to the end: if another thread was there first, it reads on.
-ghost use Rattle.std.specs.Prelude.{◌≡◌, ◌≤◌, ◌<◌, ◌++◌, ◌∷◌, [], ◌⊎◌, IfOk, IfErr, IfSome, IfNone, None, Some, length, slice_get, true};
+ghost use Rattle.std.specs.Prelude.{◌≡◌, ℕ, ◌≤◌, ◌<◌, ◌++◌, ◌∷◌, [], ◌⊎◌, IfOk, IfErr, IfSome, IfNone, None, Some, length, slice_get, true};
+ghost use Rattle.std.specs.Str.{bytes_eq};
 ghost use mathlib.Core.List.{IsPrefix};
 ghost use Rattle.elsa_free.specs.SharedList.{Apart, Continues, IsSamePass, items_of, longer, mine};
 ghost use Rattle.elsa_free.specs.Distinct.{AgreeOnPlaces, IsOneToOne};
-ghost use Rattle.elsa_names.specs.Names.{HasAt};
+ghost use Rattle.elsa_names.specs.Names.{FoundOrPushed, HasAt, HasTextAt, Lacks};
 
 use crate::name::Name;
+use crate::place_text::PlaceText;
 use elsa_free::item_rule::DistinctItems;
 use elsa_free::lock_free::{LockFreeFrozenVec, Pass};
-use indexmap::IndexSet;
+use indexmap::{Equivalent, IndexSet};
 use std::alloc::{AllocError, Allocator, Global};
 use std::hash::{BuildHasher, BuildHasherDefault, FoldHasher, Hash};
 use std::marker::Model;
 use std::sync::Wait;
 
-/// One turn of a put: the place of the name if it is in the index, or was appended now. `None` if the pass has seen a name more.
-fn put_once<R: Wait, T: Copy + Drop + Hash, S: BuildHasher, A: Allocator + Copy>(
+/// Reads on until the index has the wanted name or the pass has read to the end: its place, or `None` if no name that the pass has
+/// seen is equal to it.
+fn find<T: Copy + Drop + Hash, Q: Equivalent<T>, S: BuildHasher, A: Allocator + Copy>(
+    list: &LockFreeFrozenVec<T, A, DistinctItems>,
+    pass: &mut Pass<T, A, DistinctItems>,
+    index: &mut IndexSet<T, S, A>,
+    wanted: Q,
+) -> Result<Option<usize>, AllocError>
+    requires of { pass.old.vector ≡ list.now }
+    requires index { IsPrefix index.old.keys (items_of pass.old.seen) }
+
+    // The pass has read on, pushed nothing, and its index is of the first names that it has seen.
+    ensures continues { Continues pass.old pass.new }
+    ensures index { IsPrefix index.new.keys (items_of pass.new.seen) }
+
+    // The name is at the place, or isn't in the index.
+    ensures found { IfOk result (λ a. IfSome a (λ i.
+        HasAt Q.equivalent (items_of pass.new.seen) i wanted)) }
+    ensures absent { IfOk result (λ a. IfNone a (Lacks (Q.equivalent wanted) index.new.keys)) }
+{
+    if let Some(place) = index.get_index_of(wanted) {
+        return Ok(Some(place));
+    }
+    for place in index.len()..usize::MAX {
+        let Some(next) = list.get_as(pass, place) else {
+            return Ok(None);
+        };
+        pass.obeys_rule();
+        let Ok(_) = index.insert(next) else {
+            return Err(AllocError);
+        };
+        if wanted.equivalent(&next) {
+            return Ok(Some(place));
+        }
+    }
+    Ok(None)
+}
+
+/// Appends a name that the index lacks, if that is of all names: its place, or `None` if the vector has more of them.
+fn append<R: Wait, T: Copy + Drop + Hash, S: BuildHasher, A: Allocator + Copy>(
     list: &LockFreeFrozenVec<T, A, DistinctItems>,
     rt: &R,
     pass: &mut Pass<T, A, DistinctItems>,
@@ -28,35 +68,64 @@ fn put_once<R: Wait, T: Copy + Drop + Hash, S: BuildHasher, A: Allocator + Copy>
 ) -> Result<Option<usize>, AllocError>
     requires of { pass.old.vector ≡ list.now }
     requires index { IsPrefix index.old.keys (items_of pass.old.seen) }
+    requires absent { Lacks (T.eq name) index.old.keys }
 
     // The pass is the same, later, and its index is of the first names that it has seen.
     ensures same { IsSamePass pass.old pass.new }
     ensures seen { IsPrefix pass.old.seen pass.new.seen }
     ensures index { IsPrefix index.new.keys (items_of pass.new.seen) }
-    ensures more { IsPrefix index.old.keys index.new.keys }
 
-    // The name is at the place, where it was found or is now the pass's own.
+    // The name is at the place, which is new to the pass and its own.
     ensures found { IfOk result (λ a. IfSome a (λ i.
         HasAt T.eq (items_of pass.new.seen) i name)) }
     ensures mine { IfOk result (λ a. IfSome a (λ i.
-        (mine pass.new ≡ mine pass.old) ⊎ (mine pass.new ≡ mine pass.old ++ i ∷ []))) }
+        (length pass.old.seen ≤ i) × (mine pass.new ≡ mine pass.old ++ i ∷ []))) }
 
     // Else the pass has pushed nothing.
     ensures again { IfOk result (λ a. IfNone a (mine pass.new ≡ mine pass.old)) }
     ensures refused { IfErr result (λ e. mine pass.new ≡ mine pass.old) }
 {
-    if let Some(place) = index.get_index_of(&name) {
-        return Ok(Some(place));
-    }
+    index.reserve(1)?;
     let read = index.len();
-    let Some(next) = list.get_as(pass, read) else {
-        return list.push_at_as(rt, pass, read, name);
+    let Some(place) = list.push_at_as(rt, pass, read, name)? else {
+        return Ok(None);
     };
-    pass.obeys_rule();
-    match index.insert(next) {
-        Ok(_) => Ok(None),
-        Err(_) => Err(AllocError),
+    // There is room for it, so a put of it takes no memory from now on.
+    let _ = index.insert(name);
+    Ok(Some(place))
+}
+
+/// The place of a name that the index lacks, which is appended if the vector doesn't have it.
+fn put_absent<R: Wait, T: Copy + Drop + Hash, S: BuildHasher, A: Allocator + Copy>(
+    list: &LockFreeFrozenVec<T, A, DistinctItems>,
+    rt: &R,
+    pass: &mut Pass<T, A, DistinctItems>,
+    index: &mut IndexSet<T, S, A>,
+    name: T,
+) -> Result<usize, AllocError>
+    requires of { pass.old.vector ≡ list.now }
+    requires index { IsPrefix index.old.keys (items_of pass.old.seen) }
+    requires absent { Lacks (T.eq name) index.old.keys }
+
+    // The pass is the same, later, and its index is of the first names that it has seen.
+    ensures same { IsSamePass pass.old pass.new }
+    ensures seen { IsPrefix pass.old.seen pass.new.seen }
+    ensures index { IsPrefix index.new.keys (items_of pass.new.seen) }
+
+    // The name is at the place, where it was found or is now the pass's own.
+    ensures found { IfOk result (λ i. HasAt T.eq (items_of pass.new.seen) i name) }
+    ensures mine { IfOk result (λ i. FoundOrPushed pass.old pass.new i) }
+    ensures refused { IfErr result (λ e. mine pass.new ≡ mine pass.old) }
+{
+    for _ in rt.forever() {
+        if let Some(place) = append(list, rt, pass, index, name)? {
+            return Ok(place);
+        }
+        if let Some(place) = find(list, pass, index, &name)? {
+            return Ok(place);
+        }
     }
+    unreachable!()
 }
 
 /// The place of a name, which is appended if the vector doesn't have it.
@@ -74,20 +143,45 @@ fn put_in<R: Wait, T: Copy + Drop + Hash, S: BuildHasher, A: Allocator + Copy>(
     ensures same { IsSamePass pass.old pass.new }
     ensures seen { IsPrefix pass.old.seen pass.new.seen }
     ensures index { IsPrefix index.new.keys (items_of pass.new.seen) }
-    ensures more { IsPrefix index.old.keys index.new.keys }
 
     // The name is at the place, where it was found or is now the pass's own.
     ensures found { IfOk result (λ i. HasAt T.eq (items_of pass.new.seen) i name) }
-    ensures mine { IfOk result (λ i.
-        (mine pass.new ≡ mine pass.old) ⊎ (mine pass.new ≡ mine pass.old ++ i ∷ [])) }
+    ensures mine { IfOk result (λ i. FoundOrPushed pass.old pass.new i) }
     ensures refused { IfErr result (λ e. mine pass.new ≡ mine pass.old) }
 {
-    for _ in rt.forever() {
-        if let Some(place) = put_once(list, rt, pass, index, name)? {
-            return Ok(place);
-        }
+    if let Some(place) = find(list, pass, index, &name)? {
+        return Ok(place);
     }
-    unreachable!()
+    put_absent(list, rt, pass, index, name)
+}
+
+/// The place of a text, of which a copy is placed in the arena and appended if the vector doesn't have it.
+fn put_text_in<'a, R: Wait, S: BuildHasher, A: Allocator + Copy, P: PlaceText<'a> + Drop>(
+    list: &LockFreeFrozenVec<&'a str, A, DistinctItems>,
+    rt: &R,
+    pass: &mut Pass<&'a str, A, DistinctItems>,
+    index: &mut IndexSet<&'a str, S, A>,
+    arena: P,
+    text: &str,
+) -> Result<usize, AllocError>
+    requires of { pass.old.vector ≡ list.now }
+    requires index { IsPrefix index.old.keys (items_of pass.old.seen) }
+
+    // The pass is the same, later, and its index is of the first names that it has seen.
+    ensures same { IsSamePass pass.old pass.new }
+    ensures seen { IsPrefix pass.old.seen pass.new.seen }
+    ensures index { IsPrefix index.new.keys (items_of pass.new.seen) }
+
+    // The text is at the place, where it was found or is now the pass's own.
+    ensures found { IfOk result (λ i. HasTextAt (items_of pass.new.seen) i text.now) }
+    ensures mine { IfOk result (λ i. FoundOrPushed pass.old pass.new i) }
+    ensures refused { IfErr result (λ e. mine pass.new ≡ mine pass.old) }
+{
+    if let Some(place) = find(list, pass, index, text)? {
+        return Ok(place);
+    }
+    let name = arena.place_text(text)?;
+    put_absent(list, rt, pass, index, name)
 }
 
 /// What a thread has seen of a shared interner, and an index of the first of these names. A clause sees its pass of the
@@ -179,7 +273,7 @@ impl<T: Copy + Drop + Hash, A: Allocator + Copy> SharedInterner<T, A> {
     }
 
     /// A pass that has seen no name. It takes no memory and no atomic step. Its index hashes as std's maps do by default; where
-    /// strangers choose the names take [`pass_with_hasher`](Self::pass_with_hasher) and a `RandomState`.
+    /// strangers choose the names take [`pass_with_hasher`](Self::pass_with_hasher) and a `SeededState` of `elsa`.
     pub fn pass(&self) -> NamePass<T, BuildHasherDefault<FoldHasher>, A>
         ensures of { result.vector ≡ self.now }
         ensures nothing_seen { result.seen ≡ [] }
@@ -223,6 +317,10 @@ impl<T: Copy + Drop + Hash, A: Allocator + Copy> SharedInterner<T, A> {
         ensures found { IfOk result (λ i. HasAt T.eq (items_of names.new.seen) i name) }
         ensures mine { IfOk result (λ i.
             (mine names.new ≡ mine names.old) ⊎ (mine names.new ≡ mine names.old ++ i ∷ [])) }
+
+        // A name that the pass had seen has the place that it had, and nothing is pushed.
+        ensures known { IfOk result (λ i. (j : ℕ) → HasAt T.eq (items_of names.old.seen) j name →
+            (i ≡ j) × (mine names.new ≡ mine names.old)) }
         ensures refused { IfErr result (λ e. mine names.new ≡ mine names.old) }
     {
         let answer = put_in(&self.names, rt, &mut names.pass, &mut names.index, name);
@@ -240,5 +338,54 @@ impl<T: Copy + Drop + Hash, A: Allocator + Copy> SharedInterner<T, A> {
         ensures name { result ≡ slice_get (items_of names.new.seen) place }
     {
         self.names.get_as(&mut names.pass, place)
+    }
+}
+
+impl<'a, A: Allocator + Copy> SharedInterner<&'a str, A> {
+    /// The place of a text of any length, which is put there if no thread had put it. Every thread gets the same place for it.
+    ///
+    /// As [`put`](Self::put), for a text that may be short-lived. Where the pass has read to the end and found no equal text, a copy
+    /// is placed in `arena`, which the thread has to itself, and the copy is appended: `&arena`, a `Bump` on one thread, or
+    /// `&mut buffer`, a [`TextBuffer`](crate::place_text::TextBuffer) that moves to a thread. Either outlives the interner.
+    ///
+    /// A text in the pass's index takes no memory and no atomic step; one that another thread has put is read, and nothing is placed.
+    /// Only if another thread appends an equal text between the last read and the append does the copy stay unused in the arena; the
+    /// place is then the other's. `Err`: the arena is full, an allocation for it, for the index or for a buffer of the vector failed,
+    /// or the vector is full; the pass has put nothing, and the same put may succeed later. `O(1)` for a text in the index, else
+    /// `O(m)` for the `m` names that it reads on, and the copy.
+    pub fn put_text<R: Wait, S: BuildHasher, P: PlaceText<'a> + Drop>(
+        &self,
+        rt: &R,
+        names: &mut NamePass<&'a str, S, A>,
+        arena: P,
+        text: &str,
+    ) -> Result<usize, AllocError>
+        requires of { names.old.vector ≡ self.now }
+
+        // The pass is the same, later, and a text has one place in what it has seen.
+        ensures same { IsSamePass names.old names.new }
+        ensures seen { IsPrefix names.old.seen names.new.seen }
+        ensures one_to_one { IsOneToOne (λ a b. bytes_eq a.now b.now) (items_of names.new.seen) }
+
+        // The text is at the place, where it was found or is now the pass's own.
+        ensures found { IfOk result (λ i. HasTextAt (items_of names.new.seen) i text.now) }
+        ensures mine { IfOk result (λ i.
+            (mine names.new ≡ mine names.old) ⊎ (mine names.new ≡ mine names.old ++ i ∷ [])) }
+
+        // A text that the pass had seen has the place that it had, and nothing is pushed.
+        ensures known { IfOk result (λ i. (j : ℕ) → HasTextAt (items_of names.old.seen) j text.now →
+            (i ≡ j) × (mine names.new ≡ mine names.old)) }
+        ensures refused { IfErr result (λ e. mine names.new ≡ mine names.old) }
+    {
+        let answer = put_text_in(
+            &self.names,
+            rt,
+            &mut names.pass,
+            &mut names.index,
+            arena,
+            text,
+        );
+        names.pass.one_to_one();
+        answer
     }
 }

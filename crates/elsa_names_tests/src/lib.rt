@@ -9,4 +9,6 @@ mod name_tests;
 #[cfg(test)]
 mod push_at_tests;
 #[cfg(test)]
+mod text_tests;
+#[cfg(test)]
 mod thread_tests;

@@ -1,5 +1,7 @@
 //! One thread's part: the words of a text, counted by their numbers.
-use elsa::interner::{Name, SharedInterner};
+ghost use Rattle.std.specs.Prelude.{◌≡◌, IfOk};
+
+use elsa::interner::{Name, NamePass, SharedInterner};
 use std::alloc::{AllocError, Global};
 use std::sync::Wait;
 
@@ -49,13 +51,16 @@ impl Counts {
     }
 }
 
-/// Counts the words of a text. A word that is too long for a name is left out.
+/// Counts the words of a text, and hands its pass back, which has seen each word that it counted. A word that is too long for a name
+/// is left out.
 pub fn count_words<R: Wait>(
     rt: &R,
     alloc: Global,
     words: &SharedInterner,
     text: &str,
-) -> Result<Counts, AllocError> {
+) -> Result<(Counts, NamePass), AllocError>
+    ensures { IfOk result (λ counted. counted.1.vector ≡ words.now) }
+{
     let mut names = words.pass();
     let mut counts = Counts::new(alloc);
     for part in text.split_whitespace() {
@@ -64,5 +69,5 @@ pub fn count_words<R: Wait>(
             counts.add(words.put(rt, &mut names, name)?)?;
         }
     }
-    Ok(counts)
+    Ok((counts, names))
 }

@@ -1,13 +1,14 @@
 //! Counts the words of a text with two threads, which number them in one shared interner.
 //!
 //! Each thread cuts its half into words side by side with the other, and counts them by their numbers in a vector of its own. A word
-//! has one number for both, by contract, so in the end the counts of a number are added up and the word is read once. The
-//! numbers depend on which thread is first; what is printed does not.
+//! has one number for both, by contract, so in the end the counts of a number are added up. The threads hand their passes back: once these
+//! have met, each has seen the words of both, and a word is read at its number with no atomic step. The numbers depend on which thread is
+//! first; what is printed does not.
 #![tactic(auto)]
 
 mod count;
 
-ghost use Rattle.std.specs.Prelude.{◌≡◌};
+ghost use Rattle.std.specs.Prelude.{◌≡◌, IfOk};
 
 use crate::count::{Counts, count_words};
 use elsa::interner::{Name, NamePass, SharedInterner};
@@ -51,11 +52,16 @@ fn main(rt: HostRuntime) -> io::Result<()> {
     let shared = &words;
     let (first, second) = thread::join(
         &rt,
-        || count_words(&rt, alloc, shared, FIRST),
-        || count_words(&rt, alloc, shared, SECOND),
+        || -> Result<(Counts, NamePass), AllocError>
+            ensures { IfOk result (λ counted. counted.1.vector ≡ shared.entry.now) }
+        { count_words(&rt, alloc, shared, FIRST) },
+        || -> Result<(Counts, NamePass), AllocError>
+            ensures { IfOk result (λ counted. counted.1.vector ≡ shared.entry.now) }
+        { count_words(&rt, alloc, shared, SECOND) },
     );
-    let (first, second) = (first?, second?);
-    let mut names = words.pass();
+    let (first, mut names) = first?;
+    let (second, mut others) = second?;
+    names.meet(&mut others);
     let mut all = add_up(&words, &mut names, &first, &second)?;
     all.sort_by(|one, other| other.0.cmp(&one.0).then(one.1.cmp(&other.1)))?;
     for (count, name) in &all {
