@@ -1,8 +1,5 @@
 mod FirstCharacters
-pub mod Bytes
-pub mod Cuts
-pub mod Numbers
-pub mod Replies
-pub mod Walks
-pub mod Whole
-pub mod Words
+pub mod EngineLemmas
+pub mod NameLemmas
+pub mod ReplyLemmas
+pub mod RequestLemmas

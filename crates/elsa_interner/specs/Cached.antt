@@ -5,7 +5,7 @@ use Rattle.std.specs.Fn.{FnOnceReturnsAt, Once}
 use Rattle.std.specs.Global.{Global}
 use Rattle.std.specs.Str.{chars}
 use Rattle.std.specs.String.{string_bytes}
-use Rattle.elsa_once.specs.FirstWins.{Keeps, value_at}
+use Rattle.elsa_maps.specs.FirstWins.{Keeps, value_at}
 
 -- what a cache holds for its paths: the texts that were loaded, and the resources that were made of them
 pub record Cached (Path Text Made : Type 0) : Type 0 where

@@ -8,7 +8,7 @@ ghost use Rattle.elsa_interner.specs.Cached.{BeginsText, Cached, FailsToLoad, Ke
 
 pub use crate::parsed_cache::{CacheFault, ParsedCache};
 use bumpalo::Bump;
-use elsa_once::map::FrozenMap;
+use elsa_maps::map::FrozenMap;
 use elsa_once::stable::Own;
 use std::alloc::{Allocator, Global};
 use std::hash::{BuildHasherDefault, FoldHasher};
@@ -100,6 +100,8 @@ impl<'a, A: Allocator + Copy> ResourceCache<'a, A> {
         F: Drop,
         requires loader { text_at ⟦<&'a str as PartialEq>⟧.eq self.old path ≡ None →
             FnOnceTakesAt F.FnOnce load path.now }
+
+        // A text that is there is returned, and nothing changes. Else the loader's is, and stays.
         ensures there { (t : Bor (List ℕ)) →
             text_at ⟦<&'a str as PartialEq>⟧.eq self.old path.entry ≡ Some t →
             (result ≡ Ok t) × (self.new ≡ self.old) }
@@ -109,8 +111,12 @@ impl<'a, A: Allocator + Copy> ResourceCache<'a, A> {
             text_at ⟦<&'a str as PartialEq>⟧.eq self.old path.entry ≡ None →
             text_at ⟦<&'a str as PartialEq>⟧.eq self.new path.entry ≡ Some t →
             LoadsText F.FnOnce load path.entry t.now }
+
+        // Whatever the result, all else stays.
         ensures others { KeepsOthers ⟦<&'a str as PartialEq>⟧.eq self.old self.new path.entry }
         ensures resources { self.new.resources ≡ self.old.resources }
+
+        // A refusal changes nothing: by the loader, or since its text found no room.
         ensures refused { OnErr result ((self.new ≡ self.old)
             × (text_at ⟦<&'a str as PartialEq>⟧.eq self.old path.entry ≡ None)) }
         ensures not_found { result ≡ Err LoadFault.NotFound →

@@ -5,14 +5,14 @@ ghost use Rattle.elsa_interner.specs.Engine.{HasAnswered, HasAnsweredAll, HasAns
 ghost use Rattle.elsa_interner.specs.Feeding.{IsInside, IsSoFar, IsFinished, Feeds, FeedsSome, Ends, EndsSome};
 ghost use Rattle.elsa_interner.specs.Replies.{shown};
 
+use crate::chunk::Chunk;
 use crate::devices::{Failed, Sink, Source};
 use crate::interner::Interner;
 use crate::pending::Pending;
 use crate::reply::{Reply, answer_to, text_of};
-use crate::request::{request_of, request_of_known};
+use crate::request::request_of;
 use bumpalo::Bump;
 use itoa::Buffer;
-use memchr::memchr;
 use std::alloc::Allocator;
 use std::hash::{BuildHasher, BuildHasherDefault, FoldHasher};
 
@@ -28,27 +28,6 @@ pub enum EngineFault {
     Write,
     /// The reader gave bytes in 2^64 - 1 reads.
     Endless,
-}
-
-/// A line up to its byte 10, and what follows.
-#[inline(always)]
-fn cut_line(piece: &[u8]) -> Option<(&[u8], &[u8])>
-    ensures { MatchOption result (IsInside piece.now) (λ p.
-        IsInside p.0.now × (piece.now ≡ p.0.now ++ (10 ∷ p.1.now))) }
-{
-    let at = memchr(10, piece)?;
-    Some((&piece[..at], &piece[at + 1..]))
-}
-
-/// The same of a text, whose parts are texts.
-#[inline(always)]
-fn cut_text(text: &str) -> Option<(&str, &str)>
-    ensures { MatchOption result (IsInside text.now) (λ p.
-        IsInside p.0.now × (text.now ≡ p.0.now ++ (10 ∷ p.1.now))) }
-{
-    let (line, _later) = cut_line(text.as_bytes())?;
-    let at = line.len();
-    Some((&text[..at], &text[at + 1..]))
 }
 
 /// The names so far, and the line that has begun.
@@ -77,9 +56,9 @@ impl<'a, S: BuildHasher, A: Allocator + Copy> Session<'a, S, A> {
 
     /// The answer to the line that has begun and ends so.
     #[inline(always)]
-    fn finish(&mut self, end: &[u8]) -> Reply<'a>
-        ensures finished { IsFinished self.old.names self.old.line.items self.old.skips end.now
-            (shown result) self.new.names }
+    fn finish<C: Chunk>(&mut self, end: C) -> Reply<'a>
+        ensures finished { IsFinished self.old.names self.old.line.items self.old.skips
+            (C.bytes end) (shown result) self.new.names }
         ensures line { self.new.line.items ≡ [] }
         ensures skips { self.new.skips ≡ false }
     {
@@ -89,29 +68,15 @@ impl<'a, S: BuildHasher, A: Allocator + Copy> Session<'a, S, A> {
             return Reply::NoMemory;
         }
         if self.line.is_empty() {
-            return answer_to(&mut self.names, request_of(end));
+            return answer_to(&mut self.names, end.request());
         }
-        if self.line.extend_from_slice(end).is_err() {
+        if self.line.extend_from_slice(end.as_bytes()).is_err() {
             self.line.clear();
             return Reply::NoMemory;
         }
         let answer = answer_to(&mut self.names, request_of(self.line.as_slice()));
         self.line.clear();
         answer
-    }
-
-    /// The same, where the end is known to be a text.
-    #[inline(always)]
-    fn finish_text(&mut self, end: &str) -> Reply<'a>
-        ensures finished { IsFinished self.old.names self.old.line.items self.old.skips end.now
-            (shown result) self.new.names }
-        ensures line { self.new.line.items ≡ [] }
-        ensures skips { self.new.skips ≡ false }
-    {
-        if self.skips || !self.line.is_empty() {
-            return self.finish(end.as_bytes());
-        }
-        answer_to(&mut self.names, request_of_known(end))
     }
 
     /// Keeps a piece of a line that goes on. The rest of a line that was refused memory isn't kept, and takes none.
@@ -138,7 +103,33 @@ impl<'a, S: BuildHasher, A: Allocator + Copy> Session<'a, S, A> {
         self.skips || !self.line.is_empty()
     }
 
-    /// Answers the lines that end in the piece, each of which may be no text.
+    /// Answers the lines that end in the chunk.
+    fn feed<C: Chunk, W: Sink>(
+        &mut self,
+        chunk: C,
+        out: &mut Pending,
+        writer: &mut W,
+    ) -> Result<(), Failed>
+        ensures ok { OnOk result (Feeds self.old.names self.old.line.items self.old.skips
+            (C.bytes chunk) self.new.names self.new.line.items self.new.skips (W.held writer.old)
+            out.old (W.held writer.new) out.new) }
+        ensures calm { OnOk result (W.failures writer.new ≡ W.failures writer.old) }
+        ensures err { OnErr result (FeedsSome self.old.names self.old.line.items self.old.skips
+            (C.bytes chunk) (W.held writer.old) out.old (W.held writer.new)) }
+        ensures failed { OnErr result (FailedOnce (W.failures writer.old) (W.failures writer.new)) }
+    {
+        let mut digits = Buffer::new();
+        let mut rest = chunk;
+        while let Some((end, later)) = rest.cut() {
+            let answer = self.finish(end);
+            out.push_line(writer, text_of(answer, &mut digits))?;
+            rest = later;
+        }
+        self.keep(rest.as_bytes());
+        Ok(())
+    }
+
+    /// Answers the lines that end in the piece. Where it is a text as a whole, none of its lines is looked at again.
     fn feed_bytes<W: Sink>(
         &mut self,
         piece: &[u8],
@@ -153,61 +144,9 @@ impl<'a, S: BuildHasher, A: Allocator + Copy> Session<'a, S, A> {
             piece.now (W.held writer.old) out.old (W.held writer.new)) }
         ensures failed { OnErr result (FailedOnce (W.failures writer.old) (W.failures writer.new)) }
     {
-        let mut digits = Buffer::new();
-        let mut rest = piece;
-        while let Some((end, later)) = cut_line(rest) {
-            let answer = self.finish(end);
-            out.push_line(writer, text_of(answer, &mut digits))?;
-            rest = later;
-        }
-        self.keep(rest);
-        Ok(())
-    }
-
-    /// Answers the lines that end in the piece, which is a text: so is each of its lines, and none is looked at again.
-    fn feed_text<W: Sink>(
-        &mut self,
-        piece: &str,
-        out: &mut Pending,
-        writer: &mut W,
-    ) -> Result<(), Failed>
-        ensures ok { OnOk result (Feeds self.old.names self.old.line.items self.old.skips piece.now
-            self.new.names self.new.line.items self.new.skips (W.held writer.old) out.old
-            (W.held writer.new) out.new) }
-        ensures calm { OnOk result (W.failures writer.new ≡ W.failures writer.old) }
-        ensures err { OnErr result (FeedsSome self.old.names self.old.line.items self.old.skips
-            piece.now (W.held writer.old) out.old (W.held writer.new)) }
-        ensures failed { OnErr result (FailedOnce (W.failures writer.old) (W.failures writer.new)) }
-    {
-        let mut digits = Buffer::new();
-        let mut rest = piece;
-        while let Some((end, later)) = cut_text(rest) {
-            let answer = self.finish_text(end);
-            out.push_line(writer, text_of(answer, &mut digits))?;
-            rest = later;
-        }
-        self.keep(rest.as_bytes());
-        Ok(())
-    }
-
-    /// Answers the lines that end in the piece.
-    fn feed<W: Sink>(
-        &mut self,
-        piece: &[u8],
-        out: &mut Pending,
-        writer: &mut W,
-    ) -> Result<(), Failed>
-        ensures ok { OnOk result (Feeds self.old.names self.old.line.items self.old.skips piece.now
-            self.new.names self.new.line.items self.new.skips (W.held writer.old) out.old
-            (W.held writer.new) out.new) }
-        ensures calm { OnOk result (W.failures writer.new ≡ W.failures writer.old) }
-        ensures err { OnErr result (FeedsSome self.old.names self.old.line.items self.old.skips
-            piece.now (W.held writer.old) out.old (W.held writer.new)) }
-        ensures failed { OnErr result (FailedOnce (W.failures writer.old) (W.failures writer.new)) }
-    {
         match str::from_utf8(piece) {
-            Ok(text) => self.feed_text(text, out, writer),
-            Err(_) => self.feed_bytes(piece, out, writer),
+            Ok(text) => self.feed(text, out, writer),
+            Err(_) => self.feed(piece, out, writer),
         }
     }
 
@@ -219,16 +158,20 @@ impl<'a, S: BuildHasher, A: Allocator + Copy> Session<'a, S, A> {
         writer: &mut W,
     ) -> Result<(), Failed>
         requires { out.old ≡ [] }
+
+        // All lines that end in the piece are answered, and no answer waits.
         ensures ok { OnOk result (Feeds self.old.names self.old.line.items self.old.skips piece.now
             self.new.names self.new.line.items self.new.skips (W.held writer.old) []
             (W.held writer.new) []) }
         ensures none { OnOk result (out.new ≡ []) }
         ensures calm { OnOk result (W.failures writer.new ≡ W.failures writer.old) }
+
+        // The writer failed, and took a beginning of the answers.
         ensures err { OnErr result (FeedsSome self.old.names self.old.line.items self.old.skips
             piece.now (W.held writer.old) [] (W.held writer.new)) }
         ensures failed { OnErr result (FailedOnce (W.failures writer.old) (W.failures writer.new)) }
     {
-        self.feed(piece, out, writer)?;
+        self.feed_bytes(piece, out, writer)?;
         out.flush(writer)
     }
 
@@ -245,7 +188,8 @@ impl<'a, S: BuildHasher, A: Allocator + Copy> Session<'a, S, A> {
         if !self.has_begun() {
             return Ok(());
         }
-        let answer = self.finish(&[]);
+        let none: &[u8] = &[];
+        let answer = self.finish(none);
         let mut digits = Buffer::new();
         out.push_line(writer, text_of(answer, &mut digits))?;
         out.flush(writer)
@@ -279,22 +223,29 @@ pub fn intern_engine<'a, A: Allocator + Copy, R: Source, W: Sink>(
     reader: &mut R,
     writer: &mut W,
 ) -> Result<(), EngineFault>
+    // The input has ended, and each line is answered.
     ensures ok { OnOk result (HasAnsweredAll (R.left reader.old) (R.left reader.new)
         (W.held writer.old) (W.held writer.new)) }
     ensures calm { OnOk result ((R.failures reader.new ≡ R.failures reader.old)
         × (W.failures writer.new ≡ W.failures writer.old)) }
+
+    // The reader failed: what was read is answered.
     ensures read { result ≡ Err EngineFault.Read →
         HasAnswered 0 (R.left reader.old) (R.left reader.new) (W.held writer.old)
         (W.held writer.new) }
     ensures read_failed { result ≡ Err EngineFault.Read →
         FailedOnce (R.failures reader.old) (R.failures reader.new)
         × (W.failures writer.new ≡ W.failures writer.old) }
+
+    // The writer failed, and took a beginning of the answers.
     ensures write { result ≡ Err EngineFault.Write →
         HasAnsweredSome (R.left reader.old) (R.left reader.new) (W.held writer.old)
         (W.held writer.new) }
     ensures write_failed { result ≡ Err EngineFault.Write →
         FailedOnce (W.failures writer.old) (W.failures writer.new)
         × (R.failures reader.new ≡ R.failures reader.old) }
+
+    // No end after 2^64 - 1 reads: what was read is answered.
     ensures endless { result ≡ Err EngineFault.Endless →
         HasAnswered (2 ^ 64 - 1) (R.left reader.old) (R.left reader.new) (W.held writer.old)
         (W.held writer.new) }
@@ -325,22 +276,29 @@ pub fn intern_engine_with_hasher<
     reader: &mut R,
     writer: &mut W,
 ) -> Result<(), EngineFault>
+    // The input has ended, and each line is answered.
     ensures ok { OnOk result (HasAnsweredAll (R.left reader.old) (R.left reader.new)
         (W.held writer.old) (W.held writer.new)) }
     ensures calm { OnOk result ((R.failures reader.new ≡ R.failures reader.old)
         × (W.failures writer.new ≡ W.failures writer.old)) }
+
+    // The reader failed: what was read is answered.
     ensures read { result ≡ Err EngineFault.Read →
         HasAnswered 0 (R.left reader.old) (R.left reader.new) (W.held writer.old)
         (W.held writer.new) }
     ensures read_failed { result ≡ Err EngineFault.Read →
         FailedOnce (R.failures reader.old) (R.failures reader.new)
         × (W.failures writer.new ≡ W.failures writer.old) }
+
+    // The writer failed, and took a beginning of the answers.
     ensures write { result ≡ Err EngineFault.Write →
         HasAnsweredSome (R.left reader.old) (R.left reader.new) (W.held writer.old)
         (W.held writer.new) }
     ensures write_failed { result ≡ Err EngineFault.Write →
         FailedOnce (W.failures writer.old) (W.failures writer.new)
         × (R.failures reader.new ≡ R.failures reader.old) }
+
+    // No end after 2^64 - 1 reads: what was read is answered.
     ensures endless { result ≡ Err EngineFault.Endless →
         HasAnswered (2 ^ 64 - 1) (R.left reader.old) (R.left reader.new) (W.held writer.old)
         (W.held writer.new) }

@@ -2,7 +2,7 @@
 //!
 //! [`Interner`] finds a name by its hash. [`intern_engine`] runs one over a reader's lines; it is generic over
 //! [`Source`] and [`Sink`], which [`Counted`] makes of any reader and writer of std.
-ghost use Rattle.std.specs.Prelude.{◌≡◌, ◌↔◌, ℕ, [], List, length, None, Some, slice_get, position, map, is_some, IfOk, IsTrue, OnErr};
+ghost use Rattle.std.specs.Prelude.{◌≡◌, ◌↔◌, ℕ, [], List, length, None, Some, slice_get, position, map, is_some, IfOk, IfSome, IsTrue, OnErr};
 ghost use Rattle.std.specs.Borrow.{Bor};
 ghost use Rattle.std.specs.Map.Iter.{ShowsInOrder, ShowsInReverse, deref};
 ghost use Rattle.std.specs.Option.{option_map};
@@ -47,7 +47,7 @@ impl<'a, A: Allocator + Copy> Interner<'a, BuildHasherDefault<FoldHasher>, A> {
     /// An interner with no names, hashed as std's maps are by default.
     ///
     /// Takes no memory. That hash has no secret: where strangers choose the names, take
-    /// [`Interner::with_hasher`] and a `RandomState`.
+    /// [`Interner::with_hasher`] and a `SeededState` of `elsa`.
     pub fn new(alloc: A, arena: &'a Bump) -> Self
         ensures { result ≡ [] }
     {
@@ -69,10 +69,11 @@ impl<'a, S: BuildHasher, A: Allocator + Copy> Interner<'a, S, A> {
     /// The number of a name, or `None` if `put` never kept it.
     ///
     /// Takes no memory. `O(1)` hashed.
-    #[tactic(auto, using(crate::proofs::Numbers::place_of_text))]
+    #[tactic(auto, using(crate::proofs::NameLemmas::place_of_text))]
     #[inline(always)]
     pub fn find(&self, text: &str) -> Option<usize>
-        ensures { result ≡ position (bytes_eq text.now) self.now }
+        ensures place { result ≡ position (bytes_eq text.now) self.now }
+        ensures named { IfSome result (λ n. slice_get self.now n ≡ Some text.now) }
     {
         self.names.get_index_of(&text)
     }
@@ -89,7 +90,7 @@ impl<'a, S: BuildHasher, A: Allocator + Copy> Interner<'a, S, A> {
     /// How many names there are. The names are one to one with the numbers below it.
     ///
     /// Takes no memory. `O(1)`.
-    #[tactic(auto, using(crate::proofs::Numbers::one_number_each))]
+    #[tactic(auto, using(crate::proofs::NameLemmas::one_number_each))]
     pub fn len(&self) -> usize
         ensures len { result ≡ length self.now }
         ensures one_to_one { IsOneToOne self.now }
@@ -126,12 +127,15 @@ impl<'a, S: BuildHasher, A: Allocator + Copy> Interner<'a, S, A> {
     ///
     /// A name that is there takes no memory and never fails. Of a new one a copy goes straight into the arena. `Err`
     /// means that memory was refused: the names stay as they were. `O(1)` hashed, and the copy.
-    #[tactic(auto, using(crate::proofs::Numbers::place_of_text))]
+    #[tactic(auto, using(crate::proofs::NameLemmas::place_of_text))]
     #[inline(always)]
     pub fn put(&mut self, text: &str) -> Result<usize, AllocError>
+        // The number that it has, or the next one for a new name; only a new one is refused, and then nothing changes.
         ensures put { IfOk result (λ n. Puts self.old text.now n self.new) }
         ensures refused { OnErr result (self.new ≡ self.old) }
         ensures only_new { OnErr result (position (bytes_eq text.now) self.old ≡ None) }
+
+        // The name stands at its number, and those before it where they were.
         ensures stands { IfOk result (λ n. slice_get self.new n ≡ Some text.now) }
         ensures stands_at { IfOk result (λ n. position (bytes_eq text.now) self.new ≡ Some n) }
         ensures kept { IsPrefix self.old self.new }

@@ -3,12 +3,12 @@
 #![tactic(auto)]
 
 pub mod cache;
+mod chunk;
 pub mod devices;
 pub mod digits;
 pub mod engine;
 pub mod interner;
 mod parsed_cache;
 mod pending;
-pub mod plain_interner;
 mod reply;
 mod request;

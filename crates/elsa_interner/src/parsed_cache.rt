@@ -5,11 +5,11 @@ ghost use Rattle.std.specs.Prelude.{◌≡◌, [], List, ℕ, false, None, Some,
 ghost use Rattle.std.specs.Borrow.{Bor};
 ghost use Rattle.std.specs.Fn.{FnOnceReturnsAt};
 ghost use Rattle.std.specs.String.{string_bytes};
-ghost use Rattle.elsa_once.specs.FirstWins.{value_at};
+ghost use Rattle.elsa_maps.specs.FirstWins.{value_at};
 ghost use Rattle.elsa_interner.specs.Cached.{Cached};
 
 use bumpalo::Bump;
-use elsa_once::map::FrozenMap;
+use elsa_maps::map::FrozenMap;
 use elsa_once::stable::Own;
 use std::alloc::{Allocator, Global};
 use std::hash::{BuildHasher, BuildHasherDefault, FoldHasher};
@@ -117,6 +117,8 @@ impl<'a, T: Copy + 'a, S: BuildHasher, A: Allocator + Copy> ParsedCache<'a, T, S
         F: Drop,
         requires loader { value_at ⟦<&'a str as PartialEq>⟧.eq self.old.texts path ≡ None →
             F.IsAlwaysCallable load }
+
+        // A text that is there is returned, and nothing changes. Else the loader's is, and stays.
         ensures present { (t : Bor (List ℕ)) →
             value_at ⟦<&'a str as PartialEq>⟧.eq self.old.texts path.entry ≡ Some t →
             (result ≡ Ok (Some t)) × (self.new ≡ self.old) }
@@ -124,16 +126,21 @@ impl<'a, T: Copy + 'a, S: BuildHasher, A: Allocator + Copy> ParsedCache<'a, T, S
             value_at ⟦<&'a str as PartialEq>⟧.eq self.old.texts path.entry ≡ None →
             value_at ⟦<&'a str as PartialEq>⟧.eq self.new.texts path.entry ≡ Some t →
             (s : _) × FnOnceReturnsAt F.FnOnce load path.now (Ok s) × (t.now ≡ string_bytes s) }
-        ensures stays { IfOk result (λ o.
-            IfSome o (λ t. value_at ⟦<&'a str as PartialEq>⟧.eq self.new.texts path.entry ≡ Some t)) }
+        ensures stays { IfOk result (λ o. IfSome o (λ t.
+            value_at ⟦<&'a str as PartialEq>⟧.eq self.new.texts path.entry ≡ Some t)) }
+
+        // Whatever the result, all else stays.
         ensures others { (q : Bor (List ℕ)) → ⟦<&'a str as PartialEq>⟧.eq path.entry q ≡ false →
             value_at ⟦<&'a str as PartialEq>⟧.eq self.new.texts q
             ≡ value_at ⟦<&'a str as PartialEq>⟧.eq self.old.texts q }
         ensures values { self.new.resources ≡ self.old.resources }
+
+        // No room for the text, or an error of the loader: nothing changes.
         ensures no_memory { result ≡ Ok None →
             (self.new ≡ self.old)
             × (value_at ⟦<&'a str as PartialEq>⟧.eq self.old.texts path.entry ≡ None) }
-        ensures no_room { result ≡ Ok None → (s : _) × FnOnceReturnsAt F.FnOnce load path.now (Ok s) }
+        ensures no_room { result ≡ Ok None →
+            (s : _) × FnOnceReturnsAt F.FnOnce load path.now (Ok s) }
         ensures not_loaded { (e : L) → result ≡ Err e →
             (self.new ≡ self.old) × FnOnceReturnsAt F.FnOnce load path.now (Err e) }
     {

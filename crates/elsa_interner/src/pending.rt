@@ -10,7 +10,7 @@ use std::marker::Model;
 const ROOM: usize = 8192;
 
 /// Writes the whole piece, in as many writes as the writer wants.
-#[tactic(auto, using(crate::proofs::Bytes::appends_none, crate::proofs::Bytes::appends_more))]
+#[tactic(auto, using(crate::proofs::EngineLemmas::KnownBytes::appends_none, crate::proofs::EngineLemmas::KnownBytes::appends_more))]
 fn write_all<W: Sink>(writer: &mut W, piece: &[u8]) -> Result<(), Failed>
     ensures ok { OnOk result (Appends (W.held writer.old) (W.held writer.new) piece.now) }
     ensures calm { OnOk result (W.failures writer.new ≡ W.failures writer.old) }

@@ -25,7 +25,7 @@ pub enum Reply<'a> {
 }
 
 /// Does what is asked.
-#[tactic(auto, using(crate::proofs::Replies::put_replies))]
+#[tactic(auto, using(crate::proofs::ReplyLemmas::put_replies))]
 #[inline(always)]
 pub fn answer_to<'a, S: BuildHasher, A: Allocator + Copy>(
     names: &mut Interner<'a, S, A>,

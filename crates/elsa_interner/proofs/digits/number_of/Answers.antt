@@ -1,4 +1,4 @@
-use Rattle.elsa_interner.proofs.Words.{not_number, number_parsed}
+use Rattle.elsa_interner.proofs.RequestLemmas.{not_number, number_parsed}
 use Rattle.elsa_interner.proofs.digits.number_of.Goals as goal
 
 pub returns-then-not-all_digits : goal.returns-then-not-all_digits

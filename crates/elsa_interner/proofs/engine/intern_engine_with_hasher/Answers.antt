@@ -1,8 +1,8 @@
 use Rattle.std.proofs.Common.{[], ◌<◌, refl, take, length, subst, ◌∙◌, arith, rules}
 use Rattle.std.proofs.lemmas.List.{length-take}
 use Rattle.elsa_interner.specs.Devices.{FailedOnce}
-use Rattle.elsa_interner.proofs.Bytes.{appends_none, consumes_none}
-use Rattle.elsa_interner.proofs.Whole.{reached_new, consumes_nothing, has_answered, has_answered_many, has_answered_all, has_answered_some_end, has_answered_some, further}
+use Rattle.elsa_interner.proofs.EngineLemmas.KnownBytes.{appends_none, consumes_none}
+use Rattle.elsa_interner.proofs.EngineLemmas.WholeRuns.{reached_new, consumes_nothing, has_answered, has_answered_many, has_answered_all, has_answered_some_end, has_answered_some, further}
 use Rattle.elsa_interner.proofs.engine.intern_engine_with_hasher.Goals as goal
 
 pub loop-turn-init : goal.loop-turn-init

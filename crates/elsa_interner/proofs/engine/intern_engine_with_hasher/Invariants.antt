@@ -1,5 +1,5 @@
 use Rattle.std.proofs.Common.{◌≡◌, []}
-use Rattle.elsa_interner.proofs.Whole.{Further}
+use Rattle.elsa_interner.proofs.EngineLemmas.WholeRuns.{Further}
 use Rattle.elsa_interner.proofs.engine.intern_engine_with_hasher.Given as goal
 
 abbrev pub invariant-loop-turn : goal.invariant-loop-turn

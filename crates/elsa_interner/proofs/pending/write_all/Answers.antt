@@ -1,6 +1,6 @@
 use Rattle.std.proofs.Common.{◌∙◌, arith}
 use Rattle.std.proofs.lemmas.List.{length-drop}
-use Rattle.elsa_interner.proofs.Bytes.{appends_more, rest_is, err_of_take}
+use Rattle.elsa_interner.proofs.EngineLemmas.KnownBytes.{appends_more, rest_is, err_of_take}
 use Rattle.elsa_interner.proofs.pending.write_all.Goals as goal
 
 pub loop-at-preserved : goal.loop-at-preserved

@@ -1,4 +1,4 @@
-use Rattle.elsa_interner.proofs.Words.{after_word}
+use Rattle.elsa_interner.proofs.RequestLemmas.{after_word}
 use Rattle.elsa_interner.proofs.request.after.Goals as goal
 
 pub returns : goal.returns

@@ -1,4 +1,4 @@
-use Rattle.elsa_interner.proofs.Words.{command_of_text_is, command_bad}
+use Rattle.elsa_interner.proofs.RequestLemmas.{command_of_text_is, command_bad}
 use Rattle.elsa_interner.proofs.request.request_of.Goals as goal
 
 pub returns-in-Ok : goal.returns-in-Ok

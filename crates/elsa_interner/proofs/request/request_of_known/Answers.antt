@@ -1,4 +1,4 @@
-use Rattle.elsa_interner.proofs.Words.{command_of_text_is}
+use Rattle.elsa_interner.proofs.RequestLemmas.{command_of_text_is}
 use Rattle.elsa_interner.proofs.request.request_of_known.Goals as goal
 
 pub returns : goal.returns

@@ -1,7 +1,7 @@
 use Rattle.std.proofs.Common.{[], ◌∷◌, ◌++◌, subst}
 use Rattle.elsa_interner.specs.Devices.{Queued, AppendsSome}
 use Rattle.elsa_interner.specs.Replies.{shown}
-use Rattle.elsa_interner.proofs.Cuts.{ends_line, ends_flush_some, ends_some}
+use Rattle.elsa_interner.proofs.EngineLemmas.LinesOfChunks.{ends_line, ends_flush_some, ends_some}
 use Rattle.elsa_interner.proofs.engine.Session.end.Goals as goal
 
 pub returns-in_err-push_line-clause-err : goal.returns-in_err-push_line-clause-err

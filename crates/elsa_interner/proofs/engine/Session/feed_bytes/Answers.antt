@@ -1,44 +1,7 @@
-use Rattle.std.proofs.Common.{◌++◌, ◌∷◌, [], refl, ◌∙◌}
-use Rattle.elsa_interner.specs.Replies.{shown}
-use Rattle.elsa_interner.proofs.Cuts.{feeds_nothing, feeds_next, feeds_stop, feeds_end, piece_next}
 use Rattle.elsa_interner.proofs.engine.Session.feed_bytes.Goals as goal
 
-pub loop-end-init : goal.loop-end-init
-loop-end-init g c = record { calm = refl; fed = []; joined = refl; feeds = feeds_nothing c.args.self.now.names c.args.self.now.line.items c.args.self.now.skips (g.W.Sink.held c.args.writer.now) c.args.out.now }
+pub returns-in-Ok-clause-ok : goal.returns-in-Ok-clause-ok
+returns-in-Ok-clause-ok g c = rw c.in-Ok.ensures.cases.0 at c.feed.ensures.ok
 
-pub loop-end-preserved : goal.loop-end-preserved
-loop-end-preserved g c =
-    let s = c.args.self.now in
-    let l = c.loop-end.self in
-    let n = c.finish-answer.new.self in
-    let i = c.loop-end.invariant in
-    let e = c.in-Some.end.now in
-    record {
-      calm = c.in_ok-push_line.ensures.calm ∙ i.calm;
-      fed = i.fed ++ (e ++ 10 ∷ []);
-      joined = piece_next i.fed c.loop-end.rest.now c.args.piece.now e c.in-Some.later.now i.joined c.in-Some.ensures.1;
-      feeds = feeds_next s.names s.line.items s.skips i.fed l.names l.line.items l.skips n.names n.line.items n.skips
-          (g.W.Sink.held c.args.writer.now) (g.W.Sink.held c.loop-end.writer) (g.W.Sink.held c.push_line.new.writer)
-          c.args.out.now c.loop-end.out c.push_line.new.self e (shown c.finish-answer.result)
-          i.feeds c.finish-answer.ensures.finished c.finish-answer.ensures.line c.finish-answer.ensures.skips c.in-Some.ensures.0 (rw c.text_of.ensures at c.in_ok-push_line.ensures.ok);
-    }
-
-pub returns-in_err-push_line-clause-err : goal.returns-in_err-push_line-clause-err
-returns-in_err-push_line-clause-err g c =
-    let s = c.args.self.now in
-    let l = c.loop-end.self in
-    let i = c.loop-end.invariant in
-    feeds_stop c.from_residual.result s.names s.line.items s.skips i.fed l.names l.line.items l.skips c.finish-answer.new.self.names
-    (g.W.Sink.held c.args.writer.now) (g.W.Sink.held c.loop-end.writer) (g.W.Sink.held c.push_line.new.writer)
-    c.args.out.now c.loop-end.out c.in-Some.end.now (shown c.finish-answer.result) c.loop-end.rest.now c.in-Some.later.now c.args.piece.now
-    i.feeds c.finish-answer.ensures.finished c.in-Some.ensures.0 (rw c.text_of.ensures at c.in_err-push_line.ensures.err) i.joined c.in-Some.ensures.1
-
-pub returns-clause-ok : goal.returns-clause-ok
-returns-clause-ok g c =
-    let s = c.args.self.now in
-    let l = c.loop-end.self in
-    let n = c.keep.new.self in
-    let i = c.loop-end.invariant in
-    feeds_end s.names s.line.items s.skips i.fed l.names l.line.items l.skips n.names n.line.items n.skips
-    (g.W.Sink.held c.args.writer.now) (g.W.Sink.held c.loop-end.writer) c.args.out.now c.loop-end.out c.loop-end.rest.now c.args.piece.now
-    i.feeds c.in_default.ensures c.keep.ensures.line c.keep.ensures.names i.joined
+pub returns-in-Ok-clause-err : goal.returns-in-Ok-clause-err
+returns-in-Ok-clause-err g c = rw c.in-Ok.ensures.cases.0 at c.feed.ensures.err

@@ -1,6 +1,6 @@
 use Rattle.std.proofs.Common.{rules, subst, ap, sym, ◌∙◌, map, position}
 use Rattle.std.specs.Str.{bytes_eq}
-use Rattle.elsa_interner.proofs.Numbers.{at_place, kept_put, place_of_text, put_last, stands_put}
+use Rattle.elsa_interner.proofs.NameLemmas.{at_place, kept_put, place_of_text, put_last, stands_put}
 use Rattle.elsa_interner.specs.Names.{Puts}
 use Rattle.elsa_interner.proofs.interner.Interner.put.Goals as goal
 

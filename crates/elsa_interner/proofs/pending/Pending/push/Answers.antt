@@ -1,4 +1,4 @@
-use Rattle.elsa_interner.proofs.Bytes.{err_first, err_later, ok_none_waits}
+use Rattle.elsa_interner.proofs.EngineLemmas.KnownBytes.{err_first, err_later, ok_none_waits}
 use Rattle.elsa_interner.proofs.pending.Pending.push.Goals as goal
 
 pub returns-in_err-flush-clause-err : goal.returns-in_err-flush-clause-err

@@ -1,5 +1,5 @@
 use Rattle.std.proofs.Common.{[], ◌∷◌}
-use Rattle.elsa_interner.proofs.Bytes.{err_first_of_two, ok_both, err_both}
+use Rattle.elsa_interner.proofs.EngineLemmas.KnownBytes.{err_first_of_two, ok_both, err_both}
 use Rattle.elsa_interner.proofs.pending.Pending.push_line.Goals as goal
 
 pub returns-in_err-push-clause-err : goal.returns-in_err-push-clause-err

@@ -5,8 +5,8 @@ use Rattle.std.specs.Io.KnownBytes.{Appends, Consumes, Keeps, IsAtEnd}
 use Rattle.std.proofs.lemmas.List.{append-nil, length-append}
 use Rattle.elsa_interner.specs.Engine.{HasAnswered, HasAnsweredAll, HasAnsweredSome}
 use Rattle.elsa_interner.specs.Feeding.{IsReached, Feeds, FeedsSome, Ends, EndsSome}
-use Rattle.elsa_interner.proofs.Bytes.{appends_none, appends_both, consumes_both, consumes_keeps, queued_flushed, some_later}
-use Rattle.elsa_interner.proofs.Cuts.{reached_none}
+use Rattle.elsa_interner.proofs.EngineLemmas.KnownBytes.{appends_none, appends_both, consumes_both, consumes_keeps, queued_flushed, some_later}
+use Rattle.elsa_interner.proofs.EngineLemmas.LinesOfChunks.{reached_none}
 
 pub reached_new : (names : List (List ℕ)) (line : List ℕ) (skips : Bool) → names ≡ [] → line ≡ [] → skips ≡ false → IsReached [] names line skips []
 reached_new names line skips e f h =

@@ -1,16 +1,14 @@
 -- Lines, tails and answers, as more bytes are read.
-use Rattle.std.proofs.Common.{◌≡◌, ◌≢◌, ℕ, suc, ◌+◌, ◌-◌, ◌<◌, take, drop, get_or, Bool, true, false, List, [], ◌∷◌, ◌++◌, length, codes, refl, append_assoc, arith, sym, ap, subst, ◌∙◌, inr, nat_eq, eqb-true}
+use Rattle.std.proofs.Common.{◌≡◌, ◌≢◌, ℕ, ◌<◌, Bool, true, false, List, [], ◌∷◌, ◌++◌, length, codes, refl, append_assoc, arith, sym, ap, subst, ◌∙◌, inr, nat_eq, eqb-true}
 use Rattle.std.proofs.lemmas.Bool.{eqb-false}
-use Rattle.std.proofs.lemmas.List.{append-nil, length-append}
-use Rattle.std.proofs.lemmas.Str.{IsCharBoundary-after_ascii}
-use Rattle.std.specs.Str.{IsUtf8, IsCharBoundary}
+use Rattle.std.proofs.lemmas.List.{append-nil}
 use Rattle.std.proofs.lemmas.List.Elements.{All-append, All-cons, All-nil, recursion_from_All, All-from_recursion}
 use Rattle.elsa_interner.specs.Devices.{AppendsSome, Queued}
 use Rattle.elsa_interner.specs.Lines.{IsCut, Answers, AnswersAll, IsAnswered, ended}
 use Rattle.std.specs.Prelude.{Option, Result, Ok, Err, OnOk, OnErr}
 use Rattle.std.specs.Io.KnownBytes.{Appends}
 use Rattle.elsa_interner.specs.Feeding.{IsInside, IsSoFar, IsFinished, IsReached, IsDone, IsDoneAll, Feeds, FeedsSome, Ends, EndsSome}
-use Rattle.elsa_interner.proofs.Bytes.{queued_nothing, queued_both, queued_some, queued_flushed, queued_flushed_some, some_first}
+use Rattle.elsa_interner.proofs.EngineLemmas.KnownBytes.{queued_nothing, queued_both, queued_some, queued_flushed, queued_flushed_some, some_first}
 
 pub ended_append : (ls ms : List (List ℕ)) → ended (ls ++ ms) ≡ ended ls ++ ended ms
 ended_append [] ms = refl
@@ -293,32 +291,3 @@ feeds_end n0 l0 k0 fed n l k n' l' k' a b w v rest piece p inside keeps e1 e2 =
 pub feeds_some_empty : {T E : Type 0} (res : Result T E) (n : List (List ℕ)) (l : List ℕ) (k : Bool) (piece : List ℕ) (a b : Option (List ℕ)) (w : List ℕ) → w ≡ [] → FeedsSome n l k piece a w b → OnErr res (FeedsSome n l k piece a [] b)
 feeds_some_empty (Ok x) n l k piece a b w e p = tt
 feeds_some_empty (Err x) n l k piece a b w e p = subst (λ t. FeedsSome n l k piece a t b) e p
-
-byte_there : (line later : List ℕ) → get_or (line ++ 10 ∷ later) (length line) 0 ≡ 10
-byte_there [] later = refl
-byte_there (b ∷ bs) later = byte_there bs later
-
-within_text : (line later : List ℕ) → length line < length (line ++ 10 ∷ later)
-within_text line later = rw length-append (omega arith)
-
--- a text may be cut behind a byte 10
-pub boundary_behind : (text line later : List ℕ) → text ≡ line ++ 10 ∷ later → IsUtf8 text → IsCharBoundary text (length line + 1)
-boundary_behind text line later is u =
-    IsCharBoundary-after_ascii text (length line) u (rw is (within_text line later)) (rw (is, byte_there line later) (omega arith))
-
-front_part : (line rest : List ℕ) → take (length line) (line ++ rest) ≡ line
-front_part [] rest = refl
-front_part (b ∷ bs) rest = ap (λ t. b ∷ t) (front_part bs rest)
-
-back_part : (line later : List ℕ) → drop (suc (length line)) (line ++ 10 ∷ later) ≡ later
-back_part [] later = refl
-back_part (b ∷ bs) later = back_part bs later
-
--- the two parts of a text that is cut at a byte 10
-pub parts_of_text : (text line later front back : List ℕ) → text ≡ line ++ 10 ∷ later → IsInside line → front ≡ take (length line - 0) text → back ≡ drop (length line + 1) text → IsInside front × (text ≡ front ++ 10 ∷ back)
-parts_of_text text line later front back is inside f b =
-    let none : length line - 0 ≡ length line = omega arith in
-    let same_front = f ∙ (ap (λ n. take n text) none ∙ (ap (λ t. take (length line) t) is ∙ front_part line (10 ∷ later))) in
-    let next : length line + 1 ≡ suc (length line) = omega arith in
-    let same_back = b ∙ (ap (λ t. drop (length line + 1) t) is ∙ (ap (λ n. drop n (line ++ 10 ∷ later)) next ∙ back_part line later)) in
-    (subst IsInside (sym same_front) inside, is ∙ (ap (λ t. t ++ 10 ∷ later) (sym same_front) ∙ ap (λ t. front ++ 10 ∷ t) (sym same_back)))

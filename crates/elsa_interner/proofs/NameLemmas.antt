@@ -1,5 +1,5 @@
 -- Names as texts, and the borrows behind them.
-use Rattle.std.proofs.Common.{◌≡◌, ℕ, ◌+◌, ◌<◌, false, true≢false, Bool, true, cond, not, nat_lt, List, [], ◌∷◌, ◌++◌, length, get_or, map, position, slice_get, refl, ap, subst, sym, ◌∙◌, append-nil, arith, Option, Bor, None, Some, MatchOption, inl, inr}
+use Rattle.std.proofs.Common.{◌≡◌, ℕ, ◌+◌, ◌<◌, false, true≢false, Bool, true, cond, not, nat_lt, List, [], ◌∷◌, ◌++◌, length, get_or, map, position, slice_get, refl, ap, subst, sym, ◌∙◌, append-nil, arith, Option, Bor, None, Some, IfSome, MatchOption, inl, inr}
 use mathlib.Core.List.{IsPrefix}
 use Rattle.std.proofs.lemmas.Grind.{common_steps}
 use Rattle.std.proofs.lemmas.List.{length-append, map-append, length-map}
@@ -40,6 +40,14 @@ pub at_place : (names : List (List ℕ)) (text : List ℕ) (n : ℕ) → positio
 at_place names text n found =
     let p = position-Some (bytes_eq text) names n [] found in
     slice_get-get_or names n [] p.0 ∙ ap Some (sym ((bytes_decides text (get_or names n [])).0 p.1))
+
+-- and so, if a text is found, the name at the place where it is found is that text
+pub named_place : (names : List (List ℕ)) (text : List ℕ) → IfSome (position (bytes_eq text) names) (λ n. slice_get names n ≡ Some text)
+named_place names text = by (position (bytes_eq text) names) refl
+  where
+    by : (o : Option ℕ) → position (bytes_eq text) names ≡ o → IfSome o (λ n. slice_get names n ≡ Some text)
+    by None at = tt
+    by (Some n) at = at_place names text n at
 
 -- a text that no name equals is found where it goes last
 found_last : (names : List (List ℕ)) (text : List ℕ) → position (bytes_eq text) names ≡ None → position (bytes_eq text) (names ++ text ∷ []) ≡ Some (length names)

@@ -1,6 +1,6 @@
 use Rattle.std.proofs.Common.{◌∙◌, sym}
-use Rattle.elsa_interner.proofs.Cuts.{boundary_behind, parts_of_text}
-use Rattle.elsa_interner.proofs.engine.cut_text.Goals as goal
+use Rattle.elsa_interner.proofs.EngineLemmas.LineEnds.{boundary_behind, parts_of_text}
+use Rattle.elsa_interner.proofs.chunk.cut_text.Goals as goal
 
 pub range_from-requires : goal.range_from-requires
 range_from-requires c =

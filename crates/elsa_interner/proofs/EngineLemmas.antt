@@ -1,0 +1,4 @@
+pub mod KnownBytes
+pub mod LineEnds
+pub mod LinesOfChunks
+pub mod WholeRuns
