@@ -1,0 +1,24 @@
+//! How many words a document has, counted once.
+ghost use Rattle.std.specs.Prelude.{◌≡◌, IfOk, OnErr, ℕ, List, None, Some, Ok};
+ghost use Rattle.std.specs.Borrow.{Bor};
+ghost use Rattle.std.specs.Map.{lookup};
+
+use elsa::cache::{CacheFault, ParsedCache};
+use std::convert::Infallible;
+
+/// How many words the document at a path has. It is loaded and counted at the first call alone.
+///
+/// `Err` leaves all counts as they were: `Load` with the loader's error, `Memory` on an allocation failure.
+pub fn words_of<'a, E, F: FnOnce(&str) -> Result<String, E> + Drop>(
+    counts: &mut ParsedCache<'a, usize>,
+    path: &str,
+    load: F,
+) -> Result<&'a usize, CacheFault<E, Infallible>>
+    requires { F.IsAlwaysCallable load }
+    ensures present { (count : Bor ℕ) → lookup (⟦<&'a str as PartialEq>⟧.eq path.entry) counts.old.resources ≡ Some count → (result ≡ Ok count) × (counts.new ≡ counts.old) }
+    ensures stays { IfOk result (λ count. lookup (⟦<&'a str as PartialEq>⟧.eq path.entry) counts.new.resources ≡ Some count) }
+    ensures loaded { lookup (⟦<&'a str as PartialEq>⟧.eq path.entry) counts.old.resources ≡ None → IfOk result (λ _. (text : Bor (List ℕ)) × (lookup (⟦<&'a str as PartialEq>⟧.eq path.entry) counts.new.texts ≡ Some text)) }
+    ensures refused { OnErr result (counts.new.resources ≡ counts.old.resources) }
+{
+    counts.get_or_parse(path, load, |text| Ok(text.split_whitespace().count()))
+}

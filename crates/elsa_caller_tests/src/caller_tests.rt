@@ -1,0 +1,69 @@
+//! The callers at concrete types, run.
+use crate::cached::words_of;
+use crate::kept::{first_in, is_new_in};
+use crate::replayed::replies_of_map;
+use bumpalo::Bump;
+use elsa::cache::{CacheFault, ParsedCache};
+use elsa::run::{MapCommand, MapReply};
+use elsa::{FrozenBTreeMap, FrozenMap, Own};
+use std::alloc::{AllocError, Global};
+use std::convert::Infallible;
+use std::test::*;
+
+/// What a hashed map that has no key 7 gives it, at two insertions, and whether the key is new behind them.
+fn kept_hashed(alloc: Global) -> Result<(bool, bool), AllocError> {
+    let arena = Bump::new(alloc);
+    let mut map: FrozenMap<'_, u64, &str> = FrozenMap::new(alloc, &arena);
+    let kept = first_in(&mut map, 7, "fox")? == "fox" && first_in(&mut map, 7, "b")? == "fox";
+    Ok((kept, is_new_in(&mut map, 7, "c")?))
+}
+
+/// The same of an ordered map.
+fn kept_ordered(alloc: Global) -> Result<(bool, bool), AllocError> {
+    let arena = Bump::new(alloc);
+    let mut map: FrozenBTreeMap<'_, u64, &str> = FrozenBTreeMap::new(alloc, &arena);
+    let kept = first_in(&mut map, 7, "fox")? == "fox" && first_in(&mut map, 7, "b")? == "fox";
+    Ok((kept, is_new_in(&mut map, 7, "c")?))
+}
+
+#[test]
+fn a_key_keeps_its_first_value_in_each_form(rt: HostRuntime) -> Result<(), Fail> {
+    assert_eq!(rt; kept_hashed(rt.alloc())?, (true, false));
+    assert_eq!(rt; kept_ordered(rt.alloc())?, (true, false));
+    Ok(())
+}
+
+/// How many words a document has that is loaded as this text.
+fn counted<'a>(
+    alloc: Global,
+    counts: &mut ParsedCache<'a, usize>,
+    text: &str,
+) -> Result<usize, CacheFault<AllocError, Infallible>> {
+    let count = words_of(counts, "path", |_| String::from_str(alloc, text))?;
+    Ok(*count)
+}
+
+#[test]
+fn a_document_is_counted_once(rt: HostRuntime) -> Result<(), Fail> {
+    let arena = Bump::new(rt.alloc());
+    let mut counts = ParsedCache::new(rt.alloc(), &arena);
+    for text in ["best friend", "another text of five words"] {
+        assert!(rt; matches!(counted(rt.alloc(), &mut counts, text), Ok(2)));
+    }
+    Ok(())
+}
+
+/// Whether a run on a map is answered.
+fn is_answered(alloc: Global) -> Result<bool, AllocError> {
+    let arena = Bump::new(alloc);
+    let mut map: FrozenMap<'_, u64, Own<u64>> = FrozenMap::new(alloc, &arena);
+    let commands = Vec::from_array(alloc, [MapCommand::Insert(7, Own(1)), MapCommand::Len])?;
+    let replies = replies_of_map(alloc, &mut map, commands)?;
+    Ok(replies.as_slice() == [MapReply::Item(&1), MapReply::Count(1)].as_slice())
+}
+
+#[test]
+fn a_run_gives_a_reply_a_command(rt: HostRuntime) -> Result<(), Fail> {
+    assert!(rt; is_answered(rt.alloc())?);
+    Ok(())
+}

@@ -1,0 +1,108 @@
+//! The forms of calls that docs/CALLING.md lists and no other crate over `elsa` alone makes: each proved and run.
+use bumpalo::Bump;
+use elsa::interner::{Name, SharedInterner, TextBuffer};
+use elsa::sync::LockFreeFrozenVec;
+use elsa::{FrozenBTreeMap, FrozenIndexMap, FrozenMap, FrozenVec, Own, SeededState};
+use std::alloc::{AllocError, Global};
+use std::sync::Wait;
+use std::test::*;
+
+/// The lengths of the names from the back, as the digits of a number.
+fn lengths_from_the_back(names: &FrozenVec<'_, String>) -> usize {
+    let mut lengths = 0usize;
+    for name in names.iter().rev() {
+        lengths = lengths.wrapping_mul(10).wrapping_add(name.len());
+    }
+    lengths
+}
+
+#[test]
+fn a_vector_is_walked_from_the_back(rt: HostRuntime) -> Result<(), Fail> {
+    let arena = Bump::new(rt.alloc());
+    let mut names = FrozenVec::new(rt.alloc(), &arena);
+    names.push(String::from_str(rt.alloc(), "b")?)?;
+    names.push(String::from_str(rt.alloc(), "fox")?)?;
+    assert_eq!(rt; lengths_from_the_back(&names), 31);
+    Ok(())
+}
+
+/// What each map with `String` keys has at a text, where the key "fox" has the value 7.
+fn at_text(alloc: Global, text: &str) -> Result<[Option<u64>; 3], AllocError> {
+    let arena = Bump::new(alloc);
+    let mut hashed: FrozenMap<'_, String, Own<u64>> = FrozenMap::new(alloc, &arena);
+    let mut ordered: FrozenBTreeMap<'_, String, Own<u64>> = FrozenBTreeMap::new(alloc, &arena);
+    let mut indexed: FrozenIndexMap<'_, String, Own<u64>> = FrozenIndexMap::new(alloc, &arena);
+    hashed.insert(String::from_str(alloc, "fox")?, Own(7))?;
+    ordered.insert(String::from_str(alloc, "fox")?, Own(7))?;
+    indexed.insert(String::from_str(alloc, "fox")?, Own(7))?;
+    Ok([
+        hashed.get_text(text).copied(),
+        ordered.get_text(text).copied(),
+        indexed.get_text(text).copied(),
+    ])
+}
+
+#[test]
+fn maps_with_string_keys_are_asked_by_a_text(rt: HostRuntime) -> Result<(), Fail> {
+    assert_eq!(rt; at_text(rt.alloc(), "fox")?, [Some(7); 3]);
+    assert_eq!(rt; at_text(rt.alloc(), "b")?, [None; 3]);
+    Ok(())
+}
+
+/// Whether a vector that never holds an item twice takes one at the place that a pass names.
+fn is_pushed_at(rt: &impl Wait, alloc: Global) -> Result<bool, AllocError> {
+    let vector = LockFreeFrozenVec::distinct(alloc)?;
+    let mut pass = vector.pass();
+    let place = vector.push_at_as(rt, &mut pass, 0, 7u64)?;
+    Ok(vector.is_distinct() && place == Some(0) && vector.get_as(&mut pass, 0) == Some(7))
+}
+
+#[test]
+fn forms_of_a_vector_of_distinct_items(rt: HostRuntime) -> Result<(), Fail> {
+    let vector: LockFreeFrozenVec<u64> = LockFreeFrozenVec::new(rt.alloc())?;
+    assert!(rt; is_pushed_at(&rt, rt.alloc())? && !vector.is_distinct());
+    Ok(())
+}
+
+/// Whether a pass with a secret that has seen no name has seen the one of another pass where it met that.
+fn meets(rt: &impl Wait, alloc: Global, name: Name) -> Result<bool, AllocError> {
+    let names = SharedInterner::new(alloc)?;
+    let mut one = names.pass_with_hasher(SeededState::with_seed(1, 2));
+    let mut other = names.pass_with_hasher(SeededState::with_seed(3, 4));
+    let number = names.put(rt, &mut one, name)?;
+    let nothing = other.seen_len() == 0;
+    other.meet(&mut one);
+    Ok(nothing && other.seen_len() == 1 && names.at(&mut other, number) == Some(name))
+}
+
+#[test]
+fn forms_of_passes_with_a_secret(rt: HostRuntime) -> Result<(), Fail> {
+    let name = Name::new("fox").map_err(|_| AllocError)?;
+    assert!(rt; meets(&rt, rt.alloc(), name)?);
+    Ok(())
+}
+
+/// The numbers of a text that is put twice, and the room that is left in the buffer which has its copy.
+fn puts_of_a_text<'a>(
+    rt: &impl Wait,
+    alloc: Global,
+    mut buffer: TextBuffer<'a>,
+    text: &str,
+) -> Result<(usize, usize, usize), AllocError> {
+    let names: SharedInterner<&'a str> = SharedInterner::new(alloc)?;
+    let mut pass = names.pass();
+    let first = names.put_text(rt, &mut pass, &mut buffer, text)?;
+    let second = names.put_text(rt, &mut pass, &mut buffer, text)?;
+    Ok((first, second, buffer.room()))
+}
+
+#[test]
+fn a_text_is_copied_into_a_buffer_once(rt: HostRuntime) -> Result<(), Fail> {
+    let mut bytes = [0u8; 16];
+    let buffer = TextBuffer::new(&mut bytes);
+    assert_eq!(rt;
+        puts_of_a_text(&rt, rt.alloc(), buffer, "best friend")?,
+        (0, 0, 5)
+    );
+    Ok(())
+}

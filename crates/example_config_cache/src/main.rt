@@ -1,0 +1,70 @@
+//! A cache of configuration files: each is read and parsed once, and its keys and values are slices of its text.
+//!
+//! Each line of standard input is `PATH KEY`, and is answered by the key's value in that file. The texts and what was made of them lie in an
+//! arena, so a value stays good while more files are loaded, and after the cache's end, as the last line of the output shows. A file that is
+//! missing, isn't UTF-8 or has a bad line is told with its reason, and the others stay.
+#![tactic(auto)]
+
+mod config;
+mod configs;
+
+use crate::config::ParseFault;
+use crate::configs::Configs;
+use bumpalo::Bump;
+use elsa::SeededState;
+use elsa::cache::CacheFault;
+use std::io::{self, BufRead, BufReader, BufWriter, Write};
+
+fn main(rt: HostRuntime) -> io::Result<()> {
+    let secret = SeededState::new(&rt)?;
+    let alloc = rt.alloc();
+    let arena = Bump::new(alloc);
+    let mut configs = Configs::new(alloc, &arena, secret);
+    let mut output = BufWriter::new(alloc, io::writer(&rt))?;
+    let mut first = None;
+    for line in BufReader::new(alloc, rt.reader())?.lines(alloc) {
+        let line = line?;
+        let Some((path, key)) = line.as_str().split_once(' ') else {
+            writeln!(output, "PATH KEY, please")?;
+            continue;
+        };
+        let config = match configs.config(&rt, path) {
+            Ok(config) => config,
+            Err(fault) => {
+                write_fault(&mut output, path, &fault)?;
+                continue;
+            }
+        };
+        let Some(value) = config.value(key) else {
+            writeln!(output, "{path}: no {key}")?;
+            continue;
+        };
+        writeln!(output, "{path}: {value}")?;
+        first = first.or(Some(value));
+    }
+    let count = configs.parsed.len();
+    writeln!(output, "{count} files are parsed")?;
+    drop(configs);
+    let first = first.unwrap_or("none");
+    writeln!(output, "the first value was {first}")?;
+    output.flush()
+}
+
+/// Writes why the file at the path has no configuration.
+fn write_fault(
+    output: &mut impl Write,
+    path: &str,
+    fault: &CacheFault<io::Error, ParseFault>,
+) -> io::Result<()> {
+    match fault {
+        CacheFault::Load(error) => writeln!(output, "{path}: {error}"),
+        CacheFault::Parse(ParseFault::BadLine(line)) => writeln!(
+            output,
+            "{path}: line {line} has no ="
+        ),
+        CacheFault::Parse(ParseFault::Memory) | CacheFault::Memory => writeln!(
+            output,
+            "{path}: no memory"
+        ),
+    }
+}
