@@ -7,18 +7,21 @@
 //! `exchange` (COUNT times two exchanges of one word). `recorded` makes the calls of `copy` through a recorder. The collections of one thread
 //! (THREADS is not read): `vec_push`, `vec_get`, `vec_walk`, `vec_clone`, `vec_collect`; `map_insert`, `map_get`, `tree_insert`, `tree_get`,
 //! `index_map_insert`, `index_map_get`, `index_map_at`, and the same with `_text` before the call for texts as keys; `map_clone`, `map_collect`.
-//! Walks, clones and collections are made ten times.
+//! Walks, clones and collections are made ten times. Interners: `names_zipf` and `names_distinct` put COUNT names in all into the one that threads
+//! share, `texts_..` by one thread short-lived texts into that one, and `alone_..` into the interner of one thread.
 #![tactic(auto)]
 
 mod draws;
 mod items;
 mod locked_map;
+mod names;
 mod recorded;
 mod tables;
 mod vector;
 mod whole_maps;
 
 use crate::items::ItemCall;
+use crate::names::Words;
 use crate::tables::TableCall;
 use std::alloc::Global;
 use std::process::ExitCode;
@@ -114,6 +117,14 @@ fn main(rt: HostRuntime) -> io::Result<ExitCode> {
         (_, Some((reads, beside))) => {
             vector::timed_reads(&rt, rt.alloc(), reads, beside, threads, count)?
         }
+        ("names_zipf", None) => names::timed_shared(&rt, rt.alloc(), Words::Zipf, threads, count)?,
+        ("names_distinct", None) => {
+            names::timed_shared(&rt, rt.alloc(), Words::Distinct, threads, count)?
+        }
+        ("texts_zipf", None) => names::timed_texts(&rt, rt.alloc(), Words::Zipf, count)?,
+        ("texts_distinct", None) => names::timed_texts(&rt, rt.alloc(), Words::Distinct, count)?,
+        ("alone_zipf", None) => names::timed_alone(&rt, rt.alloc(), Words::Zipf, count)?,
+        ("alone_distinct", None) => names::timed_alone(&rt, rt.alloc(), Words::Distinct, count)?,
         ("copy", None) => locked_map::timed_copies(&rt, rt.alloc(), threads, count)?,
         ("owner", None) => locked_map::timed_owners(&rt, rt.alloc(), threads, count)?,
         ("recorded", None) => recorded::timed_recorded(&rt, rt.alloc(), threads, count)?,
