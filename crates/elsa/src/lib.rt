@@ -10,10 +10,11 @@ pub use elsa_index::index_set::FrozenIndexSet;
 pub use elsa_index::look_up::LookUp;
 pub use elsa_index::{index_laws, index_map, index_set, look_up};
 pub use elsa_interner::cache;
-pub use elsa_once::map::{FrozenBTreeMap, FrozenMap, MapForm};
+pub use elsa_maps::map;
+pub use elsa_maps::map::{FrozenBTreeMap, FrozenMap, MapForm};
 pub use elsa_once::stable::{Own, StableDeref};
 pub use elsa_once::vec::FrozenVec;
-pub use elsa_once::{map, stable, vec, vec_laws};
+pub use elsa_once::{stable, vec, vec_laws};
 pub use elsa_run::run;
 
 pub mod command;

@@ -3,9 +3,10 @@
 //! The locked forms take their lock for one call each; a call that may wait takes the right to wait. Reads of a [`LockFreeFrozenVec`] wait
 //! for nobody. [`history`] has the recorder, [`machine`] every schedule of the concurrent vector.
 pub use elsa_free::lock_free::{Handle, LockFreeFrozenVec, Pass};
-pub use elsa_free::{item_rule, lock_free, slots};
+pub use elsa_free::{item_rule, lock_free};
 pub use elsa_history as history;
 pub use elsa_locks::map::{FrozenBTreeMap, FrozenMap};
 pub use elsa_locks::vec::{FrozenVec, Iter};
 pub use elsa_locks::{map, vec};
 pub use elsa_machine::{geometry, machine};
+pub use elsa_slots::slots;
