@@ -15,9 +15,14 @@ pub fn words_of<'a, E, F: FnOnce(&str) -> Result<String, E> + Drop>(
     load: F,
 ) -> Result<&'a usize, CacheFault<E, Infallible>>
     requires { F.IsAlwaysCallable load }
-    ensures present { (count : Bor ℕ) → lookup (⟦<&'a str as PartialEq>⟧.eq path.entry) counts.old.resources ≡ Some count → (result ≡ Ok count) × (counts.new ≡ counts.old) }
-    ensures stays { IfOk result (λ count. lookup (⟦<&'a str as PartialEq>⟧.eq path.entry) counts.new.resources ≡ Some count) }
-    ensures loaded { lookup (⟦<&'a str as PartialEq>⟧.eq path.entry) counts.old.resources ≡ None → IfOk result (λ _. (text : Bor (List ℕ)) × (lookup (⟦<&'a str as PartialEq>⟧.eq path.entry) counts.new.texts ≡ Some text)) }
+    ensures present { (count : Bor ℕ) →
+        lookup (⟦<&'a str as PartialEq>⟧.eq path.entry) counts.old.resources ≡ Some count →
+        (result ≡ Ok count) × (counts.new ≡ counts.old) }
+    ensures stays { IfOk result (λ count.
+        lookup (⟦<&'a str as PartialEq>⟧.eq path.entry) counts.new.resources ≡ Some count) }
+    ensures loaded { lookup (⟦<&'a str as PartialEq>⟧.eq path.entry) counts.old.resources ≡ None →
+        IfOk result (λ _. (text : Bor (List ℕ))
+        × (lookup (⟦<&'a str as PartialEq>⟧.eq path.entry) counts.new.texts ≡ Some text)) }
     ensures refused { OnErr result (counts.new.resources ≡ counts.old.resources) }
 {
     counts.get_or_parse(path, load, |text| Ok(text.split_whitespace().count()))

@@ -13,9 +13,13 @@ pub fn is_new_in<'a, M: MapForm<'a>>(
     key: M::Key,
     value: M::Value,
 ) -> Result<bool, AllocError>
-    ensures present { (kept : M.Value.Borrow) → lookup (M.same key) (M.entries content.old) ≡ Some kept → (result ≡ Ok false) × (M.entries content.new ≡ M.entries content.old) }
-    ensures new { lookup (M.same key) (M.entries content.old) ≡ None → IfOk result (λ is_new. is_new ≡ true) }
-    ensures longer { lookup (M.same key) (M.entries content.old) ≡ None → OnOk result (length (M.entries content.new) ≡ length (M.entries content.old) + 1) }
+    ensures present { (kept : M.Value.Borrow) →
+        lookup (M.same key) (M.entries content.old) ≡ Some kept →
+        (result ≡ Ok false) × (M.entries content.new ≡ M.entries content.old) }
+    ensures new { lookup (M.same key) (M.entries content.old) ≡ None →
+        IfOk result (λ is_new. is_new ≡ true) }
+    ensures longer { lookup (M.same key) (M.entries content.old) ≡ None →
+        OnOk result (length (M.entries content.new) ≡ length (M.entries content.old) + 1) }
     ensures refused { OnErr result (M.entries content.new ≡ M.entries content.old) }
 {
     let (_kept, is_new) = content.insert_new(key, value)?;
@@ -30,8 +34,11 @@ pub fn first_in<'a, M: MapForm<'a>>(
     key: M::Key,
     value: M::Value,
 ) -> Result<<M::Value as StableDeref<'a>>::Borrow, AllocError>
-    ensures present { (kept : M.Value.Borrow) → lookup (M.same key) (M.entries content.old) ≡ Some kept → (result ≡ Ok kept) × (M.entries content.new ≡ M.entries content.old) }
-    ensures new { lookup (M.same key) (M.entries content.old) ≡ None → IfOk result (λ kept. M.Value.shown kept ≡ M.Value.target value) }
+    ensures present { (kept : M.Value.Borrow) →
+        lookup (M.same key) (M.entries content.old) ≡ Some kept →
+        (result ≡ Ok kept) × (M.entries content.new ≡ M.entries content.old) }
+    ensures new { lookup (M.same key) (M.entries content.old) ≡ None →
+        IfOk result (λ kept. M.Value.shown kept ≡ M.Value.target value) }
     ensures found { IfOk result (λ kept. lookup (M.same key) (M.entries content.new) ≡ Some kept) }
     ensures refused { OnErr result (M.entries content.new ≡ M.entries content.old) }
 {

@@ -20,7 +20,8 @@ fn numbers(
 ) -> Result<(usize, usize), AllocError>
     ensures one { IfOk result (λ r. first.now ≡ second.now → r.0 ≡ r.1) }
     ensures apart { IfOk result (λ r. r.0 ≡ r.1 → first.now ≡ second.now) }
-    ensures kept { (word : List ℕ) (i : ℕ) → position (bytes_eq word) names.old ≡ Some i → position (bytes_eq word) names.new ≡ Some i }
+    ensures kept { (word : List ℕ) (i : ℕ) → position (bytes_eq word) names.old ≡ Some i →
+        position (bytes_eq word) names.new ≡ Some i }
     ensures first { IfOk result (λ r. position (bytes_eq first.now) names.new ≡ Some r.0) }
     ensures second { IfOk result (λ r. position (bytes_eq second.now) names.new ≡ Some r.1) }
 {
@@ -36,7 +37,9 @@ fn value_of<'a>(
     value: &'a str,
 ) -> Result<&'a str, AllocError>
     ensures value { IfOk result (λ b. lookup (⟦<u32 as PartialEq>⟧.eq key) map.new ≡ Some b) }
-    ensures known { (there : Bor (List ℕ)) → lookup (⟦<u32 as PartialEq>⟧.eq key) map.old ≡ Some there → (result ≡ Ok there) × (map.new ≡ map.old) }
+    ensures known { (there : Bor (List ℕ)) →
+        lookup (⟦<u32 as PartialEq>⟧.eq key) map.old ≡ Some there →
+        (result ≡ Ok there) × (map.new ≡ map.old) }
 {
     map.insert(key, value)
 }
@@ -47,8 +50,11 @@ fn place_of<'a>(
     key: u32,
     value: &'a str,
 ) -> Result<usize, AllocError>
-    ensures place { IfOk result (λ place. position (⟦<u32 as PartialEq>⟧.eq key) (keys_of map.new) ≡ Some place) }
-    ensures known { (there : Bor (List ℕ)) → lookup (⟦<u32 as PartialEq>⟧.eq key) map.old ≡ Some there → IsOk result × (map.new ≡ map.old) }
+    ensures place { IfOk result (λ place.
+        position (⟦<u32 as PartialEq>⟧.eq key) (keys_of map.new) ≡ Some place) }
+    ensures known { (there : Bor (List ℕ)) →
+        lookup (⟦<u32 as PartialEq>⟧.eq key) map.old ≡ Some there →
+        IsOk result × (map.new ≡ map.old) }
 {
     let (place, _) = map.insert_full(key, value)?;
     Ok(place)
@@ -59,7 +65,8 @@ fn name_at<'a>(
     names: &mut FrozenIndexSet<'a, String>,
     name: String,
 ) -> Result<(usize, &'a str), AllocError>
-    ensures place { IfOk result (λ r. position (λ kept. bytes_eq (string_bytes name) kept.now) names.new ≡ Some r.0) }
+    ensures place { IfOk result (λ r.
+        position (λ kept. bytes_eq (string_bytes name) kept.now) names.new ≡ Some r.0) }
     ensures kept { IfOk result (λ r. slice_get names.new r.0 ≡ Some r.1) }
 {
     names.insert_full(name)
@@ -67,7 +74,8 @@ fn name_at<'a>(
 
 // The borrow that a name has in a set afterwards.
 fn name_of<'a>(names: &mut FrozenIndexSet<'a, String>, name: String) -> Result<&'a str, AllocError>
-    ensures { IfOk result (λ b. find (λ kept. bytes_eq (string_bytes name) kept.now) names.new ≡ Some b) }
+    ensures { IfOk result (λ b.
+        find (λ kept. bytes_eq (string_bytes name) kept.now) names.new ≡ Some b) }
 {
     names.insert(name)
 }

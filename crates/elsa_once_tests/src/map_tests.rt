@@ -201,8 +201,12 @@ type Named<'a> = FrozenBTreeMap<'a, String, &'a str>;
 
 // A clone with one more key.
 fn with_key<'a>(map: &Named<'a>, key: String, value: &'a str) -> Result<Named<'a>, AllocError>
-    ensures there { IfOk result (λ copy. IsSome (lookup (eq_by_cmp ⟦<String as Ord>⟧.cmp key) copy)) }
-    ensures kept { (there : Bor (List ℕ)) → lookup (eq_by_cmp ⟦<String as Ord>⟧.cmp key) map.now ≡ Some there → IfOk result (λ copy. lookup (eq_by_cmp ⟦<String as Ord>⟧.cmp key) copy ≡ Some there) }
+    ensures there { IfOk result (λ copy.
+        IsSome (lookup (eq_by_cmp ⟦<String as Ord>⟧.cmp key) copy)) }
+    ensures kept { (there : Bor (List ℕ)) →
+        lookup (eq_by_cmp ⟦<String as Ord>⟧.cmp key) map.now ≡ Some there →
+        IfOk result (λ copy.
+        lookup (eq_by_cmp ⟦<String as Ord>⟧.cmp key) copy ≡ Some there) }
 {
     let mut copy = map.clone()?;
     copy.insert(key, value)?;

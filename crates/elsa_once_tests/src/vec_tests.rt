@@ -201,7 +201,8 @@ fn finds<'a>(texts: &Texts<'a>, rows: &[(&'a str, Result<usize, usize>)]) -> boo
 
 // The place of a text of this length, or where it would go.
 fn of_length(texts: &Texts<'_>, wanted: usize) -> Result<usize, usize>
-    ensures place { IsBinarySearchResult (λ text. nat_cmp (length text.now) wanted) texts.now result }
+    ensures place { IsBinarySearchResult (λ text. nat_cmp (length text.now) wanted)
+        texts.now result }
     ensures within { IfOk result (λ place. place < length texts.now) }
 {
     texts.binary_search_by_key(&wanted, |text| text.len())
@@ -219,7 +220,9 @@ fn finds_by_length(texts: &Texts<'_>, rows: &[(usize, Result<usize, usize>)]) ->
 
 // Where the texts shorter than this end.
 fn shorter(texts: &Texts<'_>, limit: usize) -> usize
-    ensures { IsPartitionedBy (λ text. ltb (length text.now) limit) texts.now → IsPartitionPoint (λ text. ltb (length text.now) limit ≡ true) (λ text. ltb (length text.now) limit ≡ false) texts.now result }
+    ensures { IsPartitionedBy (λ text. ltb (length text.now) limit) texts.now →
+        IsPartitionPoint (λ text. ltb (length text.now) limit ≡ true)
+            (λ text. ltb (length text.now) limit ≡ false) texts.now result }
 {
     texts.partition_point(|text| text.len() < limit)
 }

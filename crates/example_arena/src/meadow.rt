@@ -50,7 +50,8 @@ impl<'a> Meadow<'a> {
         friends: &'a [&'a Animal<'a>],
     ) -> Result<&'a Animal<'a>, AllocError>
         ensures name { IfOk result (λ animal. (out-Animal animal.now).name.now ≡ name.entry.now) }
-        ensures friends { IfOk result (λ animal. (out-Animal animal.now).friends.now ≡ friends.entry.now) }
+        ensures friends { IfOk result (λ animal.
+            (out-Animal animal.now).friends.now ≡ friends.entry.now) }
         ensures last { IfOk result (λ animal. self.new.animals ≡ self.old.animals ++ animal ∷ []) }
         ensures refused { OnErr result (self.new.animals ≡ self.old.animals) }
     {
@@ -67,7 +68,8 @@ impl<'a> Meadow<'a> {
         friends: Vec<&'a Animal<'a>>,
     ) -> Result<&'a Animal<'a>, AllocError>
         ensures name { IfOk result (λ animal. (out-Animal animal.now).name.now ≡ name.now) }
-        ensures friends { IfOk result (λ animal. (out-Animal animal.now).friends.now ≡ friends.entry.items) }
+        ensures friends { IfOk result (λ animal.
+            (out-Animal animal.now).friends.now ≡ friends.entry.items) }
         ensures last { IfOk result (λ animal. self.new.animals ≡ self.old.animals ++ animal ∷ []) }
         ensures refused { OnErr result (self.new.animals ≡ self.old.animals) }
     {

@@ -83,7 +83,8 @@ impl<'a> Parser<'a> {
 impl<'t> Config<'t> {
     /// The value of the first pair with this key, or `None` if no pair has it.
     pub fn value(&self, key: &str) -> Option<&'t str>
-        ensures { result ≡ option_map (λ pair. pair.value) (find (λ pair. bytes_eq pair.key.now key.now) self.now.pairs.now) }
+        ensures { result ≡ option_map (λ pair. pair.value)
+            (find (λ pair. bytes_eq pair.key.now key.now) self.now.pairs.now) }
     {
         let pair = self.pairs.iter().find(|pair| pair.key == key)?;
         Some(pair.value)

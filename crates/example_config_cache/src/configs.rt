@@ -39,8 +39,11 @@ impl<'a> Configs<'a> {
         rt: &R,
         path: &str,
     ) -> Result<&'a Config<'a>, CacheFault<io::Error, ParseFault>>
-        ensures present { (config : Bor Config) → lookup (⟦<&'a str as PartialEq>⟧.eq path.entry) self.old.parsed.resources ≡ Some config → (result ≡ Ok config) × (self.new.parsed ≡ self.old.parsed) }
-        ensures stays { IfOk result (λ config. lookup (⟦<&'a str as PartialEq>⟧.eq path.entry) self.new.parsed.resources ≡ Some config) }
+        ensures present { (config : Bor Config) →
+            lookup (⟦<&'a str as PartialEq>⟧.eq path.entry) self.old.parsed.resources ≡ Some config →
+            (result ≡ Ok config) × (self.new.parsed ≡ self.old.parsed) }
+        ensures stays { IfOk result (λ config.
+            lookup (⟦<&'a str as PartialEq>⟧.eq path.entry) self.new.parsed.resources ≡ Some config) }
         ensures refused { OnErr result (self.new.parsed.resources ≡ self.old.parsed.resources) }
     {
         let parser = &mut self.parser;

@@ -26,7 +26,8 @@ impl<'v> Follower<'v> {
     pub fn next(&mut self) -> Option<u64>
         ensures item { result ≡ slice_get (map (λ e. e.item) self.new.feed.seen) self.old.place }
         ensures grows { IsPrefix self.old.feed.seen self.new.feed.seen }
-        ensures moves { IfSome result (λ _. self.old.place < 2 ^ 62 → self.new.place ≡ self.old.place + 1) }
+        ensures moves { IfSome result (λ _. self.old.place < 2 ^ 62 →
+            self.new.place ≡ self.old.place + 1) }
         ensures stays { IfNone result (self.new.place ≡ self.old.place) }
     {
         let item = self.feed.get(self.place)?;

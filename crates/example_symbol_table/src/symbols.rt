@@ -42,13 +42,28 @@ impl<'a> Symbols<'a> {
     ///
     /// `Err` on an allocation failure, only for a new name: nothing has changed.
     pub fn add(&mut self, name: &str, line: u64) -> Result<usize, AllocError>
-        ensures present { (number : ℕ) → position (bytes_eq name.now) self.old.names ≡ Some number → (result ≡ Ok number) × (self.new.names ≡ self.old.names) }
-        ensures new { position (bytes_eq name.now) self.old.names ≡ None → IfOk result (λ number. number ≡ length self.old.names) }
+        // A name that is there keeps its number, and one use more is counted.
+        ensures present { (number : ℕ) → position (bytes_eq name.now) self.old.names ≡ Some number →
+            (result ≡ Ok number) × (self.new.names ≡ self.old.names) }
+        ensures counted { (number : ℕ) (symbol : Symbol) →
+            position (bytes_eq name.now) self.old.names ≡ Some number →
+            slice_get self.old.known.items number ≡ Some symbol → symbol.uses < 2 ^ 64 - 1 →
+            self.new.known.items ≡ slice_set self.old.known.items number
+            (record symbol { uses = symbol.uses + 1 }) }
+
+        // A new one has the next number, and is used once.
+        ensures new { position (bytes_eq name.now) self.old.names ≡ None →
+            IfOk result (λ number. number ≡ length self.old.names) }
+        ensures first { position (bytes_eq name.now) self.old.names ≡ None → OnOk result
+            (self.new.known.items ≡ self.old.known.items ++ record { line = line; uses = 1 } ∷ []) }
+
+        // The name stands at its number, and the others where they were.
         ensures named { IfOk result (λ number. slice_get self.new.names number ≡ Some name.now) }
         ensures kept { IsPrefix self.old.names self.new.names }
-        ensures first { position (bytes_eq name.now) self.old.names ≡ None → OnOk result (self.new.known.items ≡ self.old.known.items ++ record { line = line; uses = 1 } ∷ []) }
-        ensures counted { (number : ℕ) (symbol : Symbol) → position (bytes_eq name.now) self.old.names ≡ Some number → slice_get self.old.known.items number ≡ Some symbol → symbol.uses < 2 ^ 64 - 1 → self.new.known.items ≡ slice_set self.old.known.items number (record symbol { uses = symbol.uses + 1 }) }
-        ensures refused { OnErr result ((self.new.names ≡ self.old.names) × (self.new.known.items ≡ self.old.known.items)) }
+
+        // A refusal leaves everything.
+        ensures refused { OnErr result ((self.new.names ≡ self.old.names)
+            × (self.new.known.items ≡ self.old.known.items)) }
     {
         if let Some(number) = self.names.find(name) {
             let symbol = &mut self.known[number];
