@@ -13,9 +13,11 @@ use Rattle.elsa_model.specs.FirstWins.{value_at, HasCount}
 use Rattle.elsa_history.specs.Receipts.{receipts_for, receipts_at, receipt_count, AreReceipts, AreOf, LacksAReceipt, IsTakenFrom}
 use Rattle.elsa_history.proofs.Receipts.{each_below, test_at, test_off}
 
+-- a map has as many entries as keys, which are distinct
 pub has_count : {K V : Type 0} (eq : K → K → Bool) (es : List (K × V)) → IsDistinct eq (keys_of es) → HasCount eq (value_at eq es) (length es)
 has_count eq es d = (keys_of es, (d, λ q. is_some-lookup (eq q) es), length-map es (λ e. e.0))
 
+-- keys that ascend are distinct, so the same holds of a map in order
 pub has_count_sorted : {K V : Type 0} (cmp : K → K → Ordering) (es : List (K × V)) → IsStrictlySortedBy cmp (keys_of es) → HasCount (eq_by_cmp cmp) (value_at (eq_by_cmp cmp) es) (length es)
 has_count_sorted cmp es s = has_count (eq_by_cmp cmp) es (IsDistinct-from_sorted cmp (keys_of es) s)
 
@@ -111,6 +113,7 @@ all_receipts eqc eqr ps es a h =
     let t = passes_total (length es) ps (each_below eqc eqr es ps a.right) in
     record { once = total_full (λ i. receipts_at i ps) (length es) a.once (t ∙ h); right = a.right; rising = a.rising }
 
+-- receipts of a history, of another number than its entries, leave out an entry
 pub lacks_one : {C R : Type 0} (eqc : C → C → Bool) (eqr : R → R → Bool) (ps : List (ℕ × List (ℕ × C × R))) (es : List (ℕ × C × R)) → AreOf eqc eqr ps es → receipt_count ps ≢ length es → LacksAReceipt ps es
 lacks_one eqc eqr ps es a h =
     let t = passes_total (length es) ps (each_below eqc eqr es ps a.right) in

@@ -1,5 +1,5 @@
 -- Lemmas on receipts, for taking them one by one from the last entry to the first.
-use Rattle.std.proofs.Common.{◌≡◌, ◌+◌, ◌-◌, ◌<◌, ◌≤◌, ◌==◌, ◌≢◌, inl, inr, ℕ, suc, zero, Bool, cond, List, [], ◌∷◌, ◌++◌, length, slice_get, get_or, set, take, add-one, take_all, IsSomeAnd, Some, None, refl, sym, ap, subst, ◌∙◌, arith, length-append}
+use Rattle.std.proofs.Common.{◌≡◌, ◌+◌, ◌-◌, ◌<◌, ◌≤◌, ◌==◌, ◌≢◌, inl, inr, ℕ, suc, zero, Bool, cond, List, [], ◌∷◌, ◌++◌, length, slice_get, get_or, set, take, take_all, IsSomeAnd, Some, refl, sym, ap, subst, ◌∙◌, arith, length-append}
 use Rattle.std.specs.List.{AllByRecursion}
 use Rattle.std.proofs.lemmas.Option.{slice_get-get_or}
 use Rattle.std.proofs.lemmas.Bool.{cases_lt}
@@ -95,6 +95,7 @@ each_less eqc eqr es e (p ∷ ps) z h = (all_less eqc eqr es e p.0 p.1 (omega ar
 each_more : {C R : Type 0} (eqc : C → C → Bool) (eqr : R → R → Bool) (es : List (ℕ × C × R)) (e : ℕ × C × R) (ps : List (ℕ × List (ℕ × C × R))) → AllByRecursion (λ p. AllByRecursion (IsAtPlace eqc eqr es p.0) p.1) ps → AllByRecursion (λ p. AllByRecursion (IsAtPlace eqc eqr (es ++ e ∷ []) p.0) p.1) ps
 each_more eqc eqr es e ps h = all_map _ _ (λ p k. all_map _ _ (λ r q. at_place_more eqc eqr es e p.0 r q) p.1 k) ps h
 
+-- receipts of a history are for places in it
 pub each_below : {C R : Type 0} (eqc : C → C → Bool) (eqr : R → R → Bool) (es : List (ℕ × C × R)) (ps : List (ℕ × List (ℕ × C × R))) → AllByRecursion (λ p. AllByRecursion (IsAtPlace eqc eqr es p.0) p.1) ps → AllByRecursion (λ p. AllByRecursion (λ r. r.0 < length es) p.1) ps
 each_below eqc eqr es ps h = all_map _ _ (λ p k. all_map _ _ (λ r q. at_place_below eqc eqr es p.0 r q) p.1 k) ps h
 
@@ -129,9 +130,11 @@ of_skipped eqc eqr ps es e h =
     )
 
 -- ---- numbers
+-- 1 is counted at the number itself
 pub test_at : (k n : ℕ) → k ≡ n → ◌≡◌ {A = ℕ} (cond (k == n) 1 0) 1
 test_at k n e = grind (arith, nat_tests)
 
+-- and 0 at others
 pub test_off : (k n : ℕ) → k ≢ n → ◌≡◌ {A = ℕ} (cond (k == n) 1 0) 0
 test_off k n e = grind (arith, nat_tests)
 
@@ -160,7 +163,7 @@ one_less i xs bs n rs r =
     omega arith
 
 -- with the receipt of a further entry the receipts are of the longer history
-pub of_more : {C R : Type 0} (eqc : C → C → Bool) (eqr : R → R → Bool) (xs bs : List (ℕ × List (ℕ × C × R))) (n : ℕ) (rs : List (ℕ × C × R)) (r : ℕ × C × R) (es : List (ℕ × C × R)) (e : ℕ × C × R) → r.0 ≡ length es → IsCall eqc eqr n r e → AreOf eqc eqr (xs ++ (n, rs) ∷ bs) es → AreOf eqc eqr (xs ++ (n, rs ++ r ∷ []) ∷ bs) (es ++ e ∷ [])
+of_more : {C R : Type 0} (eqc : C → C → Bool) (eqr : R → R → Bool) (xs bs : List (ℕ × List (ℕ × C × R))) (n : ℕ) (rs : List (ℕ × C × R)) (r : ℕ × C × R) (es : List (ℕ × C × R)) (e : ℕ × C × R) → r.0 ≡ length es → IsCall eqc eqr n r e → AreOf eqc eqr (xs ++ (n, rs) ∷ bs) es → AreOf eqc eqr (xs ++ (n, rs ++ r ∷ []) ∷ bs) (es ++ e ∷ [])
 of_more {C} {R} eqc eqr xs bs n rs r es e at call a =
     let P : _ → Type 0 = λ (p : ℕ × List (ℕ × C × R)). AllByRecursion (IsAtPlace eqc eqr (es ++ e ∷ []) p.0) p.1 in
     let Q : _ → Type 0 = λ (p : ℕ × List (ℕ × C × R)). Rises p.1 in
@@ -181,7 +184,7 @@ of_more {C} {R} eqc eqr xs bs n rs r es e at call a =
     }
 
 -- and without it those of the shorter one
-pub of_less : {C R : Type 0} (eqc : C → C → Bool) (eqr : R → R → Bool) (xs bs : List (ℕ × List (ℕ × C × R))) (n : ℕ) (rs : List (ℕ × C × R)) (r : ℕ × C × R) (es : List (ℕ × C × R)) (e : ℕ × C × R) → r.0 ≡ length es → AreOf eqc eqr (xs ++ (n, rs ++ r ∷ []) ∷ bs) (es ++ e ∷ []) → AreOf eqc eqr (xs ++ (n, rs) ∷ bs) es × IsCall eqc eqr n r e
+of_less : {C R : Type 0} (eqc : C → C → Bool) (eqr : R → R → Bool) (xs bs : List (ℕ × List (ℕ × C × R))) (n : ℕ) (rs : List (ℕ × C × R)) (r : ℕ × C × R) (es : List (ℕ × C × R)) (e : ℕ × C × R) → r.0 ≡ length es → AreOf eqc eqr (xs ++ (n, rs ++ r ∷ []) ∷ bs) (es ++ e ∷ []) → AreOf eqc eqr (xs ++ (n, rs) ∷ bs) es × IsCall eqc eqr n r e
 of_less {C} {R} eqc eqr xs bs n rs r es e at a =
     let P : _ → Type 0 = λ (p : ℕ × List (ℕ × C × R)). AllByRecursion (IsAtPlace eqc eqr (es ++ e ∷ []) p.0) p.1 in
     let Q : _ → Type 0 = λ (p : ℕ × List (ℕ × C × R)). Rises p.1 in
@@ -201,6 +204,7 @@ of_less {C} {R} eqc eqr xs bs n rs r es e at a =
     )
 
 -- ---- no entries
+-- passes without receipts are of the history without entries
 pub of_nil : {C R : Type 0} (eqc : C → C → Bool) (eqr : R → R → Bool) (ps : List (ℕ × List (ℕ × C × R))) → AllByRecursion (λ p. p.1 ≡ []) ps → AreOf eqc eqr ps []
 of_nil {C} {R} eqc eqr ps h =
     record {
@@ -213,6 +217,7 @@ no_receipts : {C R : Type 0} (eqc : C → C → Bool) (eqr : R → R → Bool) (
 no_receipts eqc eqr n [] h = refl
 no_receipts eqc eqr n (r ∷ rs) h = absurd h.0
 
+-- and no pass of that history has a receipt
 pub none_of_nil : {C R : Type 0} (eqc : C → C → Bool) (eqr : R → R → Bool) (ps : List (ℕ × List (ℕ × C × R))) → AreOf eqc eqr ps [] → AllByRecursion (λ p. p.1 ≡ []) ps
 none_of_nil eqc eqr ps a = all_map _ _ (λ p h. no_receipts eqc eqr p.0 p.1 h) ps a.right
 
@@ -224,16 +229,10 @@ ends_at n (x ∷ []) (suc k) r l h ne = absurd (omega arith)
 ends_at n (x ∷ (y ∷ ys)) zero r l h ne = absurd (omega arith)
 ends_at n (x ∷ (y ∷ ys)) (suc k) r l h ne = ends_at n (y ∷ ys) k r (omega arith) h ne
 
+-- a pass whose last receipt is for another place ends elsewhere
 pub ends_other : {C R : Type 0} (n : ℕ) (rs : List (ℕ × C × R)) (r : ℕ × C × R) → slice_get rs (length rs - 1) ≡ Some r → r.0 ≢ n → EndsElsewhere n rs
 ends_other n [] r h ne = tt
 ends_other n (x ∷ xs) r h ne = ends_at n (x ∷ xs) (length (x ∷ xs) - 1) r (omega arith) h ne
-
-pub ends_nil : {C R : Type 0} (n : ℕ) (rs : List (ℕ × C × R)) → slice_get rs (length rs - 1) ≡ None → EndsElsewhere n rs
-ends_nil n [] h = tt
-ends_nil {C} {R} n (x ∷ xs) h =
-    let w : length (x ∷ xs) - 1 < length (x ∷ xs) = omega arith in
-    let e : slice_get (x ∷ xs) (length (x ∷ xs) - 1) ≡ Some (get_or (x ∷ xs) (length (x ∷ xs) - 1) x) = slice_get-get_or (x ∷ xs) (length (x ∷ xs) - 1) x w in
-    cc
 
 -- ---- one pass of a list
 pair_from : {A B : Type 0} (p : A × B) (a : A) (b : B) → p.0 ≡ a → p.1 ≡ b → p ≡ (a, b)
@@ -246,6 +245,7 @@ split_at (z ∷ zs) (suc i) x y h =
     let r = split_at zs i x y h in
     (z ∷ r.0, r.1, ap (λ w. z ∷ w) r.2, ap (λ w. z ∷ w) r.3)
 
+-- where the receipt taken is the entry's, the passes are of the longer history exactly if they are now of the shorter one
 pub take_yes : {C R : Type 0} (eqc : C → C → Bool) (eqr : R → R → Bool) (ps : List (ℕ × List (ℕ × C × R))) (i : ℕ) (p q : ℕ × List (ℕ × C × R)) (n : ℕ) (r : C × R) (e : ℕ × C × R) → slice_get ps i ≡ Some p → IsTakenFrom n r p q → IsCall eqc eqr q.0 (n, r.0, r.1) e → (es : List (ℕ × C × R)) → length es ≡ n → (AreOf eqc eqr (set ps i q) es → AreOf eqc eqr ps (es ++ e ∷ [])) × (AreOf eqc eqr ps (es ++ e ∷ []) → AreOf eqc eqr (set ps i q) es)
 take_yes {C} {R} eqc eqr ps i p q n r e at taken call es l =
     let s = split_at ps i p q at in
@@ -257,6 +257,7 @@ take_yes {C} {R} eqc eqr ps i p q n r e at taken call es l =
       (λ b. subst A (sym s.3) (of_less eqc eqr s.0 s.1 q.0 q.1 (n, r.0, r.1) es e (sym l) (subst B whole b)).0),
     )
 
+-- where the receipt taken isn't the entry's, the passes weren't of this history
 pub take_no : {C R : Type 0} (eqc : C → C → Bool) (eqr : R → R → Bool) (ps : List (ℕ × List (ℕ × C × R))) (i : ℕ) (p q : ℕ × List (ℕ × C × R)) (n : ℕ) (r : C × R) (e : ℕ × C × R) → slice_get ps i ≡ Some p → IsTakenFrom n r p q → (IsCall eqc eqr q.0 (n, r.0, r.1) e → ⊥) → (es : List (ℕ × C × R)) → length es ≡ n → AreOf eqc eqr ps (es ++ e ∷ []) → ⊥
 take_no {C} {R} eqc eqr ps i p q n r e at taken call es l b =
     let s = split_at ps i p q at in
@@ -266,22 +267,17 @@ take_no {C} {R} eqc eqr ps i p q n r e at taken call es l b =
     call (of_less eqc eqr s.0 s.1 q.0 q.1 (n, r.0, r.1) es e (sym l) (subst B whole b)).1
 
 -- ---- as far as a loop has come
+-- what holds of all holds at a place
 pub all_at : {X : Type 0} (P : X → Type 0) (xs : List X) (i : ℕ) (x : X) → slice_get xs i ≡ Some x → AllByRecursion P xs → P x
 all_at P [] i x e h = absurd (cc)
 all_at P (y ∷ ys) zero x e h = let k : y ≡ x = cc in subst P k h.0
 all_at P (y ∷ ys) (suc i) x e h = all_at P ys i x e h.1
 
-all_take_suc : {X : Type 0} (P : X → Type 0) (xs : List X) (i : ℕ) (x : X) → slice_get xs i ≡ Some x → P x → AllByRecursion P (take i xs) → AllByRecursion P (take (suc i) xs)
-all_take_suc P [] i x e p h = tt
-all_take_suc P (y ∷ ys) zero x e p h = let k : x ≡ y = cc in (subst P k p, tt)
-all_take_suc P (y ∷ ys) (suc i) x e p h = (h.0, all_take_suc P ys i x e p h.1)
-
-pub all_take_more : {X : Type 0} (P : X → Type 0) (xs : List X) (i : ℕ) (x : X) → slice_get xs i ≡ Some x → P x → AllByRecursion P (take i xs) → AllByRecursion P (take (i + 1) xs)
-all_take_more P xs i x e p h = rw add-one (all_take_suc P xs i x e p h)
-
+-- what holds of as many as there are holds of all
 pub all_taken : {X : Type 0} (P : X → Type 0) (xs : List X) (n : ℕ) → length xs ≤ n → AllByRecursion P (take n xs) → AllByRecursion P xs
 all_taken P xs n l h = subst (AllByRecursion P) (take_all n xs l) h
 
+-- the item at a place below the length
 pub here : {X : Type 0} (xs : List X) (i : ℕ) (x : X) → i < length xs → x ≡ get_or xs i x → slice_get xs i ≡ Some x
 here xs i x l e = slice_get-get_or xs i x l ∙ ap Some (sym e)
 
@@ -290,6 +286,7 @@ take_step [] j x e = absurd (cc)
 take_step (y ∷ ys) zero x e = let k : x ≡ y = cc in ap (λ w. w ∷ []) k
 take_step (y ∷ ys) (suc j) x e = ap (λ w. y ∷ w) (take_step ys j x e)
 
+-- one item more than the first
 pub take_front : {X : Type 0} (xs : List X) (k : ℕ) (x : X) → 0 < k → slice_get xs (k - 1) ≡ Some x → take (k - 1) xs ++ x ∷ [] ≡ take k xs
 take_front xs zero x p e = absurd (omega arith)
 take_front {X} xs (suc j) x p e =
@@ -298,5 +295,6 @@ take_front {X} xs (suc j) x p e =
     let F : ℕ → Type 0 = λ m. take m xs ++ x ∷ [] ≡ take (suc j) xs in
     subst F (sym k) (take_step xs j x (subst E k e))
 
+-- what holds of no items holds of the first none
 pub take_start : {X : Type 0} (P : List X → Type 0) (xs : List X) (n : ℕ) → n ≤ 0 → P [] → P (take n xs)
 take_start P xs n l h = let z : n ≡ 0 = omega arith in let Q : ℕ → Type 0 = λ m. P (take m xs) in subst Q (sym z) h

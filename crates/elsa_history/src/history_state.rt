@@ -44,7 +44,8 @@ impl<C: Core, A: Allocator + Copy> History<C, A> {
     /// The core, as it ended.
     pub fn core(&self) -> &C
         ensures core { result.now ≡ self.now.0 }
-        ensures legal { Replays C.Command.steps C.Command.opening self.now.1 (C.Command.state self.now.0) }
+        ensures legal { Replays C.Command.steps C.Command.opening self.now.1
+            (C.Command.state self.now.0) }
     {
         &self.core
     }
@@ -52,7 +53,8 @@ impl<C: Core, A: Allocator + Copy> History<C, A> {
     /// The calls, in order: the number of the caller's pass, the command and the reply.
     pub fn entries(&self) -> &[(u64, C::Command, C::Reply)]
         ensures entries { result.now ≡ self.now.1 }
-        ensures legal { Replays C.Command.steps C.Command.opening self.now.1 (C.Command.state self.now.0) }
+        ensures legal { Replays C.Command.steps C.Command.opening self.now.1
+            (C.Command.state self.now.0) }
     {
         self.entries.as_slice()
     }

@@ -47,6 +47,7 @@ known_text_at before after i text one more now how j then =
     let same : i ≡ j = one i j now.0 then.0 now.1 at equal in
     (same, pushed_behind before after i j then.0 how same then.1)
 
+-- of a text that the pass had seen, the number is the one that it had, and nothing was pushed
 pub known_text : {E : Type 0} (r : Result ℕ E) (old before after : View (Bor (List ℕ))) (text : List ℕ) → before ≡ old
     → IsOneToOne (λ a b. bytes_eq a.now b.now) (items_of after.seen) → IsPrefix before.seen after.seen
     → IfOk r (λ i. HasTextAt (items_of after.seen) i text) → IfOk r (λ i. FoundOrPushed before after i)

@@ -8,14 +8,15 @@ use Rattle.logbook.specs.Pages.{Cell, cell, keeps, no_nib, step, Moves, Goes}
 use Rattle.elsa_free.specs.declared.event.Event.{Event}
 use Rattle.elsa_free.specs.declared.event.Event.TheVariants.{Acquired, Published, Cloned, Released, OfferOf}
 use Rattle.elsa_free.specs.declared.event.Entry.{Entry}
-use Rattle.elsa_machine.specs.AtomicSteps.{bit, Acquires as IsAcquire, Looks as IsLook, Publishes as IsPublish, Releases as IsRelease}
+use Rattle.elsa_machine.specs.AtomicSteps.{bit, Acquires as IsAcquire, Publishes as IsPublish, Releases as IsRelease}
 use Rattle.elsa_free.specs.Distinct.{EachIsNew}
 use Rattle.elsa_free.specs.History.{list_of, entries, begins_hold, is_held, shared_by}
 use Rattle.elsa_free.specs.SharedList.{items_of}
 use Rattle.elsa_free.specs.Rights.{IsStep}
-use Rattle.elsa_free.specs.OneWord.{IsKept, Sees, Reads, Acquires, Ends, word_of}
+use Rattle.elsa_free.specs.OneWord.{IsKept, Acquires, Ends, word_of}
 use Rattle.elsa_free.proofs.RuleLemmas.History.{held_snoc, list_prefix, list_snoc, prefix_whole}
 
+-- a bit is at most 1
 pub bit_small : (b : Bool) → bit b ≤ 1
 bit_small true = omega arith
 bit_small false = omega arith
@@ -176,20 +177,3 @@ module _ (T : Type 0) where
       let same : v ≡ log = prefix_whole v log pre (omega arith) in
       let w = ap word_of same in
       chosen (new ≡ log) found held (omega arith) then ∙ ap (λ (x : List (Event T)). x ++ e ∷ []) (sym same)
-
-module _ (T : Type 0) where
-  abbrev Logs : Type 0
-  Logs = List (Event T)
-
-  pub sees_moves : {is_new : List T → T → Type 0} (v : Logs) (state : Rattle.core.specs.declared.option.Option.Option Logs) (ask : Event T) → Moves (IsKept is_new) (λ (log : Logs). log) (IsStep ask) 0 (v, (no_nib, state)) (λ n. n) (Sees (step 0 0 0 ask) (v, (no_nib, state)))
-  sees_moves {is_new} v state ask cs log kept pre away = let all : log ++ [] ≡ log = append-nil log in
-      let P : List Cell → Type 0 = λ c. (0 < length c) × ((cell c 0).1 ≡ true) × Goes (IsKept is_new) (λ (log : Logs). log) (IsStep ask) 0 (v, (no_nib, state)) (λ n. n) (Sees (step 0 0 0 ask) (v, (no_nib, state))) c log in
-      subst P (sym kept.words) (omega arith, refl, (keeps, [], state, tt, subst (λ (x : Logs). IsKept is_new ((word_of log, true) ∷ (0, true) ∷ []) x) (sym all) record { words = refl; small = kept.small; each_is_new = kept.each_is_new }, inl (refl, all), ap word_of all))
-
-  read_holds : (xs ys : Logs) → ys ≡ xs → IsLook (length (list_of xs)) (shared_by xs) (shared_by ys)
-  read_holds xs ys is = record { sees = refl; stays = record { length_is = ap (λ (l : Logs). length (list_of l)) is; held_is = ap is_held is; list_is = ap list_of is } }
-
-  pub reads_moves : {is_new : List T → T → Type 0} (v : Logs) (a n : ℕ) → Moves (IsKept is_new) (λ (log : Logs). log) (IsStep (OfferOf a n)) 0 (v, (no_nib, None)) (λ n. n) (Reads (step 0 0 0 (OfferOf a n)) (v, (no_nib, None)))
-  reads_moves {is_new} v a n cs log kept pre away = let all : log ++ [] ≡ log = append-nil log in
-      let P : List Cell → Type 0 = λ c. (0 < length c) × ((cell c 0).1 ≡ true) × Goes (IsKept is_new) (λ (log : Logs). log) (IsStep (OfferOf a n)) 0 (v, (no_nib, None)) (λ n. n) (Reads (step 0 0 0 (OfferOf a n)) (v, (no_nib, None))) c log in
-      subst P (sym kept.words) (omega arith, refl, (keeps, [], Some log, tt, subst (λ (x : Logs). IsKept is_new ((word_of log, true) ∷ (0, true) ∷ []) x) (sym all) record { words = refl; small = kept.small; each_is_new = kept.each_is_new }, inr (log, refl, refl, (refl, (all, read_holds log (log ++ []) all))), (ap word_of all, ap Some (sym all), subst (λ (x : Logs). length (list_of x) < 2 ^ 62) (sym all) kept.small)))

@@ -102,28 +102,6 @@ where
     Ok(answer)
 }
 
-/// Adds a value at a key that is absent.
-fn add_copy<K: Eq + Hash, V: Copy, A: Allocator + Copy>(
-    table: &mut Table<K, V, A>,
-    alloc: A,
-    key: K,
-    value: V,
-) -> Result<(), AllocError>
-where
-    K: Drop,
-    requires room { 0 < spare table.old }
-    requires absent { value_at K.eq (shown table.old.entries) key ≡ None }
-    ensures content { OnOk result (
-        IsInserted K.eq (shown table.old.entries) key value (shown table.new.entries)) }
-    ensures length { OnOk result (
-        length (shown table.new.entries) ≡ length (shown table.old.entries) + 1) }
-    ensures err { OnErr result (table.new ≡ table.old) }
-{
-    let made = Arc::new(alloc, value)?;
-    store(table, key, made);
-    Ok(())
-}
-
 impl<K: Eq + Hash, V, A: Allocator + Copy> MapState<K, V, A> {
     /// An empty map. Takes no memory.
     pub fn new(alloc: A) -> Self
@@ -295,7 +273,7 @@ impl<K: Eq + Hash, V, A: Allocator + Copy> MapState<K, V, A> {
             return Ok((**owner, false));
         }
         make_room(&mut self.table)?;
-        add_copy(&mut self.table, self.alloc, key, value)?;
+        store(&mut self.table, key, Arc::new(self.alloc, value)?);
         Ok((value, true))
     }
 
@@ -337,7 +315,7 @@ impl<K: Eq + Hash, V, A: Allocator + Copy> MapState<K, V, A> {
         }
         make_room(&mut self.table)?;
         let value = f();
-        add_copy(&mut self.table, self.alloc, key, value)?;
+        store(&mut self.table, key, Arc::new(self.alloc, value)?);
         Ok(value)
     }
 
@@ -364,7 +342,7 @@ impl<K: Eq + Hash, V, A: Allocator + Copy> MapState<K, V, A> {
         }
         make_room(&mut self.table)?;
         let value = f(&key);
-        add_copy(&mut self.table, self.alloc, key, value)?;
+        store(&mut self.table, key, Arc::new(self.alloc, value)?);
         Ok(value)
     }
 

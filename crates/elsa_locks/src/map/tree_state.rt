@@ -45,7 +45,7 @@ fn find<'m, K: Ord, V, A: Allocator>(table: &'m Table<K, V, A>, key: &K) -> Opti
     table.get(key)
 }
 
-/// Stores an owner at a key that is absent.
+/// Stores an owner at a key, in place of the one that is there, if any. `Err` leaves the entries.
 #[tactic(auto, using(crate::proofs::Shared::lookup_shown, crate::proofs::Shared::length_shown))]
 fn store<K: Ord, V, A: Allocator + Copy>(
     table: &mut Table<K, V, A>,
@@ -55,32 +55,14 @@ fn store<K: Ord, V, A: Allocator + Copy>(
 where
     K: Drop,
     V: Drop,
-    requires { value_at (eq_by_cmp K.cmp) (shown table.old.entries) key ≡ None }
     ensures content { OnOk result (
-        IsInserted (eq_by_cmp K.cmp) (shown table.old.entries) key (arc_value value)
-        (shown table.new.entries)) }
-    ensures length { OnOk result (
-        length (shown table.new.entries) ≡ length (shown table.old.entries) + 1) }
-    ensures err { OnErr result (table.new.entries ≡ table.old.entries) }
-{
-    table.insert(key, value)?;
-    Ok(())
-}
-
-/// Stores an owner at a key, in place of the one that is there.
-#[tactic(auto, using(crate::proofs::Shared::lookup_shown))]
-fn put<K: Ord, V, A: Allocator + Copy>(
-    table: &mut Table<K, V, A>,
-    key: K,
-    value: Arc<V, A>,
-) -> Result<(), AllocError>
-where
-    K: Drop,
-    V: Drop,
-    ensures { OnOk result (
         (q : K) →
         value_at (eq_by_cmp K.cmp) (shown table.new.entries) q
         ≡ (if eq_by_cmp K.cmp key q then Some (arc_value value) else value_at (eq_by_cmp K.cmp) (shown table.old.entries) q)) }
+    ensures length { OnOk result (
+        value_at (eq_by_cmp K.cmp) (shown table.old.entries) key ≡ None →
+        length (shown table.new.entries) ≡ length (shown table.old.entries) + 1) }
+    ensures err { OnErr result (table.new.entries ≡ table.old.entries) }
 {
     table.insert(key, value)?;
     Ok(())
@@ -123,7 +105,7 @@ impl<K: Ord, V, A: Allocator + Copy> TreeState<K, V, A> {
         let mut table = BTreeMap::new(alloc);
         for (key, value) in items {
             let made = Arc::new(alloc, value)?;
-            put(&mut table, key, made)?;
+            store(&mut table, key, made)?;
         }
         Ok(TreeState { table, alloc })
     }

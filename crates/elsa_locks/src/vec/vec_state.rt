@@ -27,22 +27,6 @@ impl<V, A: Allocator> Model for VecState<V, A> {
     ghost view = { λ s. shown_items s.list.items };
 }
 
-/// Puts one more owner at the end.
-#[tactic(auto, using(crate::proofs::Shared::push_items))]
-fn append<V, A: Allocator + Copy>(
-    list: &mut Vec<Arc<V, A>, A>,
-    value: Arc<V, A>,
-) -> Result<(), AllocError>
-where
-    V: Drop,
-    ensures ok { OnOk result (
-        shown_items list.new.items ≡ shown_items list.old.items ++ arc_value value ∷ []) }
-    ensures err { OnErr result (list.new.items ≡ list.old.items) }
-{
-    list.push(value)?;
-    Ok(())
-}
-
 impl<V, A: Allocator + Copy> VecState<V, A> {
     /// An empty list. Takes no memory.
     pub fn new(alloc: A) -> Self
@@ -113,11 +97,12 @@ impl<V, A: Allocator + Copy> VecState<V, A> {
         ensures ok { OnOk result (self.new ≡ self.old ++ value ∷ []) }
         ensures err { OnErr result (self.new ≡ self.old) }
     {
-        let item = Arc::new(self.alloc, value)?;
-        append(&mut self.list, item)
+        self.push_get_index(value)?;
+        Ok(())
     }
 
     /// Puts the item at the end, and returns one more owner of it. `Err` leaves the list.
+    #[tactic(auto, using(crate::proofs::Shared::push_items))]
     pub fn push_get(&mut self, value: V) -> Result<Arc<V, A>, AllocError>
     where
         V: Drop,
@@ -127,12 +112,12 @@ impl<V, A: Allocator + Copy> VecState<V, A> {
     {
         let made = Arc::new(self.alloc, value)?;
         let answer = made.clone()?;
-        append(&mut self.list, made)?;
+        self.list.push(made)?;
         Ok(answer)
     }
 
     /// Puts the item at the end, and returns its place. `Err` leaves the list.
-    #[tactic(auto, using(crate::proofs::Shared::length_items))]
+    #[tactic(auto, using(crate::proofs::Shared::length_items, crate::proofs::Shared::push_items))]
     pub fn push_get_index(&mut self, value: V) -> Result<usize, AllocError>
     where
         V: Drop,
@@ -142,7 +127,7 @@ impl<V, A: Allocator + Copy> VecState<V, A> {
     {
         let place = self.len();
         let owner = Arc::new(self.alloc, value)?;
-        append(&mut self.list, owner)?;
+        self.list.push(owner)?;
         Ok(place)
     }
 

@@ -1,5 +1,5 @@
 // Copies of the first places, buffer by buffer.
-ghost use Rattle.std.specs.Prelude.{◌≡◌, ◌+◌, ◌^◌, ◌<◌, ◌≤◌, drop, take, length, slice_index_or, IfOk};
+ghost use Rattle.std.specs.Prelude.{◌≡◌, [], ◌+◌, ◌^◌, ◌<◌, ◌≤◌, drop, take, length, slice_index_or, IfOk, OnOk};
 ghost use Rattle.elsa_slots.specs.Ahead.{GoesOn};
 ghost use Rattle.elsa_machine.specs.Geometry.{IsAt, size_of, slots_before};
 
@@ -117,72 +117,43 @@ impl<T: Copy, A: Allocator + Copy> Slots<T, A> {
         }
     }
 
-    /// Copies the places below `n` into `target`, of which no buffer is open: whole buffers, and then the slots below `n`.
+    /// Copies the places below `n` into `target`, of which no buffer is open: whole buffers, and then the slots below `n`. Returns
+    /// the evidence of the buffer that the next place is in, if one is open there, and the rights to its further slots.
     /// No place from `n` on is read. On Err some buffers of `target` may be open, and it gives them back at its end.
     fn copy_to(
         &self,
         n: usize,
         prefix: &WrittenPrefix<T, Buffer<T, A>>,
         target: &Slots<T, A>,
-        further: WriteRights,
-    ) -> Result<(WrittenPrefix<T, Buffer<T, A>>, Ahead<T, A>), AllocError>
+        further: &mut WriteRights,
+        copied: &mut WrittenPrefix<T, Buffer<T, A>>,
+    ) -> Result<(Option<Written<Buffer<T, A>>>, WriteRights), AllocError>
         requires limit { n < 2 ^ 62 }
+
+        // The places that are copied were written; no buffer of the target is open, and no place copied.
         requires written { (prefix.now.buffer_slots ≡ self.now) × (n ≤ length prefix.now.items) }
-        requires target { (further.of ≡ target.now) × (length target.now ≡ 31) }
-        ensures copied { IfOk result (λ r.
-            (r.0.buffer_slots ≡ target.now) × (r.0.items ≡ take n prefix.now.items)) }
-        ensures ahead { IfOk result (λ r.
-            GoesOn target.now n r.1.opened r.1.slots.of r.1.further.of) }
+        requires target { (further.old.of ≡ target.now) × (length target.now ≡ 31) }
+        requires copied { (copied.old.buffer_slots ≡ target.now) × (copied.old.items ≡ []) }
+
+        // The places below `n` are copied, and what comes behind them can be written.
+        ensures copied { OnOk result ((copied.new.buffer_slots ≡ target.now)
+            × (copied.new.items ≡ take n prefix.now.items)) }
+        ensures ahead { IfOk result (λ r. GoesOn target.now n r.0 r.1.of further.new.of) }
     {
         let (whole, left) = whole_buffers(n);
-        let mut copied = WrittenPrefix::none(&further);
-        let mut further = further;
         for buffer in 0..whole {
             let right = further.take();
             let count = buffer_size(buffer);
-            let Ok((opened, slots)) = self.copy_buffer(
-                buffer,
-                count,
-                prefix,
-                target,
-                right,
-                &mut copied,
-            ) else {
-                further.discard();
-                copied.discard();
-                return Err(AllocError);
-            };
+            let (opened, slots) = self.copy_buffer(buffer, count, prefix, target, right, copied)?;
             opened.discard();
             slots.discard();
         }
         if left == 0 {
-            let slots = WriteRights::none();
-            let opened = None;
-            return Ok((
-                copied,
-                Ahead {
-                    opened,
-                    slots,
-                    further,
-                },
-            ));
+            return Ok((None, WriteRights::none()));
         }
         let right = further.take();
-        let Ok((opened, slots)) = self.copy_buffer(whole, left, prefix, target, right, &mut copied)
-        else {
-            further.discard();
-            copied.discard();
-            return Err(AllocError);
-        };
-        let opened = Some(opened);
-        Ok((
-            copied,
-            Ahead {
-                opened,
-                slots,
-                further,
-            },
-        ))
+        let (opened, slots) = self.copy_buffer(whole, left, prefix, target, right, copied)?;
+        Ok((Some(opened), slots))
     }
 
     /// A copy of the places below `n`, in buffers of its own. Every place below `n` was written, as `prefix` shows; no place
@@ -200,12 +171,23 @@ impl<T: Copy, A: Allocator + Copy> Slots<T, A> {
         ensures ahead { IfOk result (λ c.
             GoesOn c.slots n c.ahead.opened c.ahead.slots.of c.ahead.further.of) }
     {
-        let (slots, further) = Slots::new(self.alloc)?;
-        let (prefix, ahead) = self.copy_to(n, prefix, &slots, further)?;
-        Ok(Copied {
-            slots,
-            prefix,
-            ahead,
-        })
+        let (slots, mut further) = Slots::new(self.alloc)?;
+        let mut copied = WrittenPrefix::none(&further);
+        match self.copy_to(n, prefix, &slots, &mut further, &mut copied) {
+            Ok((opened, left)) => Ok(Copied {
+                slots,
+                prefix: copied,
+                ahead: Ahead {
+                    opened,
+                    slots: left,
+                    further,
+                },
+            }),
+            Err(error) => {
+                further.discard();
+                copied.discard();
+                Err(error)
+            }
+        }
     }
 }

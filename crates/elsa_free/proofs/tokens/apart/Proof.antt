@@ -7,6 +7,7 @@ use Rattle.elsa_free.specs.contracts.tokens.apart.Key.{name as #self}
 use Rattle.elsa_free.proofs.tokens.apart.Statement.{statement}
 use Rattle.elsa_free.proofs.tokens.apart.Code as code
 
+-- one name would have the same tickets twice
 pub apart_spec : {M : Type 1} → statement M
 apart_spec 𝓤 𝓛 𝓜 𝓡 wired =
     let H = 𝓛.H in let 𝓣 = tables 𝓤 H 𝓜 𝓡 𝓡.env in let fn = code.function in let c = clauses 𝓛 𝓜.mem 𝓡.returns in let En = ended in

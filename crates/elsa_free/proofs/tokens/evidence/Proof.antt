@@ -19,6 +19,7 @@ use Rattle.elsa_free.specs.contracts.tokens.evidence.Key.{name as #self}
 use Rattle.elsa_free.proofs.tokens.evidence.Statement.{statement}
 use Rattle.elsa_free.proofs.tokens.evidence.Code as code
 
+-- a history that was seen shows for good that the places of its list were written
 pub evidence_spec : {M : Type 1} → statement M
 evidence_spec 𝓤 𝓛 𝓜 𝓡 wired T B K _ _ _ g d h e _ _ =
     let H = 𝓛.H in let 𝓣 = tables 𝓤 H 𝓜 𝓡 𝓡.env in let T' : RattleType = param 0 T in let B' : RattleType = param 1 B in let K' : RattleType = param 2 K in let E' : RattleType = Event.the_row T' in let L' : RattleType = LinkedList.the_row E' Global.the_row galloc.ghosts in let En = ended T B K g d h e in

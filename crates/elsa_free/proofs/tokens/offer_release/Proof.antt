@@ -21,6 +21,7 @@ use Rattle.elsa_free.specs.contracts.tokens.offer_release.Key.{name as #self}
 use Rattle.elsa_free.proofs.tokens.offer_release.Statement.{statement}
 use Rattle.elsa_free.proofs.tokens.offer_release.Code as code
 
+-- the offer holds what the pusher gives back: the hold, the rights to the buffers, and the author
 pub offer_release_spec : {M : Type 1} → statement M
 offer_release_spec 𝓤 𝓛 𝓜 𝓡 wired T B K _ _ _ g d h e _ _ =
     let H = 𝓛.H in let 𝓣 = tables 𝓤 H 𝓜 𝓡 𝓡.env in let T' : RattleType = param 0 T in let B' : RattleType = param 1 B in let K' : RattleType = param 2 K in let E' : RattleType = Event.the_row T' in let L' : RattleType = LinkedList.the_row E' Global.the_row galloc.ghosts in let En = ended T B K g d h e in

@@ -19,6 +19,7 @@ use Rattle.elsa_free.specs.contracts.tokens.take_acquired_closed.Key.{name as #s
 use Rattle.elsa_free.proofs.tokens.take_acquired_closed.Statement.{statement}
 use Rattle.elsa_free.proofs.tokens.take_acquired_closed.Code as code
 
+-- where a buffer begins, what an acquire gained is the hold and the rights to the buffers from there on
 pub take_acquired_closed_spec : {M : Type 1} → statement M
 take_acquired_closed_spec 𝓤 𝓛 𝓜 𝓡 wired T B _ _ g d _ =
     let H = 𝓛.H in let 𝓣 = tables 𝓤 H 𝓜 𝓡 𝓡.env in let T' : RattleType = param 0 T in let B' : RattleType = param 1 B in let E' : RattleType = Event.the_row T' in let L' : RattleType = LinkedList.the_row E' Global.the_row galloc.ghosts in let En = ended T B g d in

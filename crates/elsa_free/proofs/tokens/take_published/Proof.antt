@@ -12,6 +12,7 @@ use Rattle.elsa_free.specs.contracts.tokens.take_published.Key.{name as #self}
 use Rattle.elsa_free.proofs.tokens.take_published.Statement.{statement}
 use Rattle.elsa_free.proofs.tokens.take_published.Code as code
 
+-- what a publish gained is the author, with one ticket fewer
 pub take_published_spec : {M : Type 1} → statement M
 take_published_spec 𝓤 𝓛 𝓜 𝓡 wired T B _ _ g d _ =
     let H = 𝓛.H in let 𝓣 = tables 𝓤 H 𝓜 𝓡 𝓡.env in let T' : RattleType = param 0 T in let B' : RattleType = param 1 B in let E' : RattleType = Event.the_row T' in let L' : RattleType = LinkedList.the_row E' Global.the_row galloc.ghosts in let En = ended T B g d in

@@ -12,6 +12,7 @@ use Rattle.elsa_free.specs.contracts.tokens.take_released.Key.{name as #self}
 use Rattle.elsa_free.proofs.tokens.take_released.Statement.{statement}
 use Rattle.elsa_free.proofs.tokens.take_released.Code as code
 
+-- what a release gained is the author, with all its tickets
 pub take_released_spec : {M : Type 1} → statement M
 take_released_spec 𝓤 𝓛 𝓜 𝓡 wired T B _ _ g d _ =
     let H = 𝓛.H in let 𝓣 = tables 𝓤 H 𝓜 𝓡 𝓡.env in let T' : RattleType = param 0 T in let B' : RattleType = param 1 B in let E' : RattleType = Event.the_row T' in let L' : RattleType = LinkedList.the_row E' Global.the_row galloc.ghosts in let En = ended T B g d in

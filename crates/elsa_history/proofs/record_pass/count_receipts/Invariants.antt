@@ -2,11 +2,13 @@ use Rattle.std.proofs.Common.{◌≡◌, ◌+◌, ◌≤◌, ◌↔◌, length, 
 use Rattle.elsa_history.specs.Receipts.{AreOf, receipt_count}
 use Rattle.elsa_history.proofs.record_pass.count_receipts.Given as goal
 
+-- what was taken is counted, and the passes are of the whole history exactly if those that are left are of the entries that are left
 abbrev pub invariant-loop-left : goal.invariant-loop-left
 invariant-loop-left g l =
     (l.count + l.left ≤ length l.entries)
     × (receipt_count l.passes.items + l.count ≡ receipt_count l.fn.passes.items)
     × (AreOf g.C.Command.PartialEq.eq g.C.Reply.PartialEq.eq l.passes.items (take l.left l.entries) ↔ AreOf g.C.Command.PartialEq.eq g.C.Reply.PartialEq.eq l.fn.passes.items l.entries)
 
+-- fewer entries are left each time
 abbrev pub decreases-loop-left : goal.decreases-loop-left
 decreases-loop-left g l = l.left

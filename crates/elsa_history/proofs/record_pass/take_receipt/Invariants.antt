@@ -3,6 +3,7 @@ use Rattle.std.specs.List.{AllByRecursion}
 use Rattle.elsa_history.specs.Receipts.{EndsElsewhere}
 use Rattle.elsa_history.proofs.record_pass.take_receipt.Given as goal
 
+-- nothing was taken so far, and no pass so far ends at the place
 abbrev pub invariant-loop-i : goal.invariant-loop-i
 invariant-loop-i g l =
     (l.passes.items ≡ l.fn.passes.items)

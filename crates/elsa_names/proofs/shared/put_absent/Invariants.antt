@@ -4,6 +4,7 @@ use Rattle.elsa_free.specs.SharedList.{items_of, mine}
 use Rattle.elsa_names.specs.Names.{Lacks}
 use Rattle.elsa_names.proofs.shared.put_absent.Given as goal
 
+-- the loop goes on, and the pass is the same, later
 abbrev pub invariant-loop : goal.invariant-loop
 invariant-loop g l =
     (goal.iterator-loop g).can_next l.iterator' × (goal.iterator-loop g).is_finite l.iterator'

@@ -5,6 +5,7 @@ use Rattle.elsa_free.specs.contracts.tokens.Author.new.Key.{name as #self}
 use Rattle.elsa_free.proofs.tokens.Author.new.Statement.{statement}
 use Rattle.elsa_free.proofs.tokens.Author.new.Code as code
 
+-- a fresh name has all its tickets
 pub new_spec : {M : Type 1} → statement M
 new_spec 𝓤 𝓛 𝓜 𝓡 wired =
     let H = 𝓛.H in let 𝓣 = tables 𝓤 H 𝓜 𝓡 𝓡.env in let fn = code.function in let c = clauses 𝓛 𝓜.mem 𝓡.returns in let En = ended in

@@ -22,7 +22,7 @@ copy_buffer-requires-2-clause-from g c =
 pub returns-clause-copied : goal.returns-clause-copied
 returns-clause-copied g c =
     let w = c.whole_buffers-whole in let all = behind c.args.n w.result.0 w.result.1 w.ensures.at in
-    (c.copy_buffer-2.ensures.same ∙ c.loop-buffer.invariant.0, c.in-Ok-copy_buffer.ensures.copied ∙ ap (λ k. take k c.args.prefix.now.items) all)
+    (c.copy_buffer-2.ensures.same ∙ c.loop-buffer.invariant.0, c.in_ok-opened-2.ensures.copied ∙ ap (λ k. take k c.args.prefix.now.items) all)
 
 pub returns-clause-ahead : goal.returns-clause-ahead
 returns-clause-ahead g c =
@@ -36,9 +36,9 @@ returns-clause-ahead g c =
       later = later;
       at = record {
         place = w.ensures.at;
-        evidence = c.in-Ok-copy_buffer.ensures.opened.0;
-        whole = c.in-Ok-copy_buffer.ensures.opened.1;
-        left = c.in-Ok-copy_buffer.ensures.left;
+        evidence = c.in_ok-opened-2.ensures.opened.0;
+        whole = c.in_ok-opened-2.ensures.opened.1;
+        left = c.in_ok-opened-2.ensures.left;
         rights = rest ∙ ap (λ k. drop k c.args.target.now) (let z : w.result.0 + 1 ≡ suc w.result.0 = omega arith in z);
       };
     }

@@ -8,6 +8,7 @@ use Rattle.elsa_slots.proofs.SlotLemmas.Prefix.{prefix_dup}
 use Rattle.elsa_slots.specs.contracts.slots.written_prefix.WrittenPrefix as C
 use Rattle.elsa_slots.proofs.slots.written_prefix.WrittenPrefix.TheLaw.Statement.{statement}
 
+-- evidence of many places can be had twice, so a borrow of it has it too
 pub shares : (T B : RattleType) (g : Ghosts B.Denot) (L : Laws T) (P : Laws B) → statement T B g L P
 shares T B g L P = of_Lends (C.struct T B g) (C.the_codes T.Denot B.Denot T.coded B.coded (marker.the_row RawPtr).coded) (C.the_heap T B g) (C.the_lent T B g)
     (λ d p. said_laws (prefix_written T B g.slot_names d.buffer_slots 0 d.items) (λ M 𝓤 𝓛. prefix_dup 𝓛 T B g.slot_names d.buffer_slots 0 d.items))

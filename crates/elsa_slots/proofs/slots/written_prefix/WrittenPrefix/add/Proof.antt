@@ -13,6 +13,7 @@ use Rattle.elsa_slots.specs.contracts.slots.written_prefix.WrittenPrefix.add.Key
 use Rattle.elsa_slots.proofs.slots.written_prefix.WrittenPrefix.add.Statement.{statement}
 use Rattle.elsa_slots.proofs.slots.written_prefix.WrittenPrefix.add.Code as code
 
+-- the evidence of the next place joins that of the places before it
 pub add_spec : {M : Type 1} → statement M
 add_spec 𝓤 𝓛 𝓜 𝓡 wired T B L P g d _ =
     let H = 𝓛.H in let 𝓣 = tables 𝓤 H 𝓜 𝓡 𝓡.env in let T' : RattleType = param 0 T in let B' : RattleType = param 1 B in let En = ended T B g d in let S : RattleType = WrittenPrefix.the_row T' B' g in

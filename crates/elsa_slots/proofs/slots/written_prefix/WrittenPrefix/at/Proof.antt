@@ -15,6 +15,7 @@ use Rattle.elsa_slots.proofs.slots.written_prefix.WrittenPrefix.at.Statement.{st
 use Rattle.elsa_slots.proofs.slots.written_prefix.WrittenPrefix.at.Code as code
 use Rattle.std.proofs.Common.{slice_get, Some}
 
+-- the evidence of one place is taken out of that of all, at the buffer and slot that the place has
 pub at_spec : {M : Type 1} → statement M
 at_spec 𝓤 𝓛 𝓜 𝓡 wired T B L P g d _ =
     let H = 𝓛.H in let 𝓣 = tables 𝓤 H 𝓜 𝓡 𝓡.env in let T' : RattleType = param 0 T in let B' : RattleType = param 1 B in let En = ended T B g d in let S : RattleType = WrittenPrefix.the_row T' B' g in
