@@ -5,7 +5,7 @@ ghost use Rattle.std.specs.Iterator.{Drains, IsFinite};
 ghost use Rattle.std.specs.List.{IsDistinct};
 ghost use Rattle.std.specs.Map.Iter.{ShowsInOrder, ShowsInReverse, deref};
 ghost use Rattle.std.specs.Option.{option_map};
-ghost use Rattle.elsa_index.specs.Content.{SetInserted, SetInsertedNew, SetCollects};
+ghost use Rattle.elsa_model.specs.Insertions.{SetInserted, SetInsertedNew, SetCollects};
 ghost use Rattle.elsa_index.specs.EqualityLaws.{same_set_equiv};
 ghost use Rattle.elsa_index.specs.Equality.{same_set, HaveSameValues};
 

@@ -1,4 +1,3 @@
 pub mod FirstWins
-pub mod MapEquality
 pub mod MapLent
 pub mod OrderedLent

@@ -11,7 +11,8 @@ ghost use Rattle.std.specs.Str.{bytes_eq};
 ghost use Rattle.std.specs.String.{string_bytes};
 ghost use Rattle.elsa_maps.specs.FirstWins.{Adds, HoldsLast, SameAt, entry_at, same_values, value_at};
 ghost use Rattle.elsa_maps.specs.MapLent.{lends_entries};
-ghost use Rattle.elsa_maps.specs.MapEquality.{same_values_equivalence, same_values_laws};
+ghost use Rattle.elsa_model.proofs.MapEquality.{same_values_equivalence, same_values_laws};
+ghost use Rattle.elsa_model.specs.FirstWins.{IsEqualMap};
 
 use bumpalo::Bump;
 use elsa_once::stable::StableDeref;
@@ -512,7 +513,10 @@ where
 
     ghost laws = { same_values_laws K.eq V.Borrow.eq K.Eq.laws V.Borrow.laws };
 
-    fn eq(&self, other: &Self) -> bool {
+    fn eq(&self, other: &Self) -> bool
+        ensures decides { result ≡ same_values K.eq V.Borrow.eq self.now other.now }
+        ensures as_maps { IsTrue result ↔ IsEqualMap K.eq V.Borrow.eq self.now other.now }
+    {
         self.entries == other.entries
     }
 }

@@ -2,7 +2,6 @@
 //!
 //! The laws follow from the contracts of the maps alone, as any caller's own proofs do.
 ghost use Rattle.std.specs.Prelude.{◌≡◌, ◌+◌, ◌⊎◌, ◌↔◌, All, Bool, false, true, IfOk, IsSome, IsTrue, None, OnErr, Some, if◌then◌else◌, length};
-ghost use Rattle.std.specs.Option.{option_eq};
 ghost use Rattle.std.specs.Ordering.{eq_by_cmp};
 ghost use Rattle.elsa_maps.specs.FirstWins.{Inserts, Keeps, value_at};
 
@@ -122,39 +121,4 @@ pub fn ordered_inserted_apart<'a, K: Ord + Clone + Drop, V: StableDeref<'a>, A: 
     tree.insert(key, value)?;
     copy.insert(other_key, other_value)?;
     Ok(copy)
-}
-
-/// Two hashed maps are equal exactly if at each key both have equal values or neither has one.
-pub fn hashed_equal_as_functions<
-    'a,
-    K: Eq + Hash,
-    V: StableDeref<'a>,
-    S: BuildHasher,
-    A: Allocator + Copy,
->(map: &FrozenMap<'a, K, V, S, A>, other: &FrozenMap<'a, K, V, S, A>) -> bool
-where
-    V::Borrow: PartialEq,
-    ensures equal { IsTrue result → (q : K) →
-        option_eq V.Borrow.eq (value_at K.eq map.now q) (value_at K.eq other.now q) ≡ true }
-    ensures only_equal { ((q : K) →
-        option_eq V.Borrow.eq (value_at K.eq map.now q) (value_at K.eq other.now q) ≡ true) →
-        IsTrue result }
-{
-    *map == *other
-}
-
-/// Two ordered maps are equal exactly if at each key both have equal values or neither has one.
-pub fn ordered_equal_as_functions<'a, K: Ord, V: StableDeref<'a>, A: Allocator + Copy>(
-    tree: &FrozenBTreeMap<'a, K, V, A>,
-    other: &FrozenBTreeMap<'a, K, V, A>,
-) -> bool
-where
-    V::Borrow: PartialEq,
-    ensures equal { IsTrue result → (q : K) →
-        option_eq V.Borrow.eq (value_at (eq_by_cmp K.cmp) tree.now q) (value_at (eq_by_cmp K.cmp) other.now q)
-        ≡ true }
-    ensures only_equal { ((q : K) → option_eq V.Borrow.eq (value_at (eq_by_cmp K.cmp) tree.now q) (value_at (eq_by_cmp K.cmp) other.now q) ≡ true) →
-        IsTrue result }
-{
-    *tree == *other
 }

@@ -13,7 +13,8 @@ ghost use Rattle.std.specs.Ordering.{eq_by_cmp, nat_cmp};
 ghost use Rattle.std.specs.Cmp.Lexicographic.{slice_cmp};
 ghost use Rattle.std.specs.String.{string_bytes};
 ghost use Rattle.elsa_maps.specs.FirstWins.{Adds, HoldsLast, SameAt, same_values, value_at};
-ghost use Rattle.elsa_maps.specs.MapEquality.{same_values_equivalence, same_values_laws};
+ghost use Rattle.elsa_model.proofs.MapEquality.{same_values_equivalence, same_values_laws};
+ghost use Rattle.elsa_model.specs.FirstWins.{IsEqualMap};
 ghost use Rattle.elsa_maps.specs.OrderedLent.{lends_entries};
 
 use bumpalo::Bump;
@@ -220,27 +221,6 @@ impl<'a, K: Ord, V: StableDeref<'a>, A: Allocator + Copy> FrozenBTreeMap<'a, K, 
 }
 
 impl<'a, K: Ord + Drop, V: StableDeref<'a>, A: Allocator + Copy> FrozenBTreeMap<'a, K, V, A> {
-    // Gives a key that is absent the value: one search.
-    fn add(&mut self, key: K, value: V) -> Result<V::Borrow, AllocError>
-        requires absent { value_at (eq_by_cmp K.cmp) self.old key ≡ None }
-        ensures stands { IfOk result (λ b. value_at (eq_by_cmp K.cmp) self.new key ≡ Some b) }
-        ensures new_target { IfOk result (λ b. V.shown b ≡ V.target value) }
-        ensures new_content { IfOk result (λ b.
-            Adds (eq_by_cmp K.cmp) (value_at (eq_by_cmp K.cmp) self.old)
-            (value_at (eq_by_cmp K.cmp) self.new) key b) }
-        ensures new_length { OnOk result (length self.new ≡ length self.old + 1) }
-
-        // The tree has it, or is as it was.
-        ensures new_entry { IfOk result (λ b. self.new ≡ insert_entry K.cmp self.old key b) }
-        ensures refused { OnErr result (self.new ≡ self.old) }
-    {
-        let Ok(borrow) = value.place(self.arena) else {
-            return Err(AllocError);
-        };
-        self.entries.insert(key, borrow)?;
-        Ok(borrow)
-    }
-
     /// Gives `key` the value, unless the map has a key that equals it, and returns the value that the key now has and
     /// whether the key was new.
     ///
@@ -452,7 +432,7 @@ impl<'a, V: StableDeref<'a>, A: Allocator + Copy> FrozenBTreeMap<'a, &'a str, V,
             return Ok(found);
         }
         let placed = self.arena.try_alloc_str(key)?;
-        self.add(placed, value)
+        self.insert(placed, value)
     }
 }
 
@@ -506,7 +486,11 @@ where
 
     ghost laws = { same_values_laws (eq_by_cmp K.cmp) V.Borrow.eq (eq_by_cmp_equiv K.total) V.Borrow.laws };
 
-    fn eq(&self, other: &Self) -> bool {
+    fn eq(&self, other: &Self) -> bool
+        ensures decides { result ≡ same_values (eq_by_cmp K.cmp) V.Borrow.eq self.now other.now }
+        ensures as_maps { IsTrue result
+            ↔ IsEqualMap (eq_by_cmp K.cmp) V.Borrow.eq self.now other.now }
+    {
         // They tell the proof that the keys ascend.
         let _lengths = (self.len(), other.len());
         self.entries == other.entries
