@@ -27,6 +27,7 @@ use std::marker::{Model, PhantomData};
 use std::ops::Index;
 
 /// A map that only grows, over values placed in an arena.
+#[derive(Drop)]
 pub struct FrozenIndexMap<
     'a,
     K: Eq + Hash,
@@ -46,17 +47,6 @@ impl<'a, K: Eq + Hash, V: StableDeref<'a>, S: BuildHasher, A: Allocator + Copy> 
     ghost Value = { List (K × V.Borrow) };
 
     ghost view = { λ m. m.map.entries };
-}
-
-impl<'a, K: Eq + Hash + Drop, V: StableDeref<'a>, S: BuildHasher + Drop, A: Allocator + Copy> Drop
-    for FrozenIndexMap<'a, K, V, S, A> {
-    fn drop(self) {
-        let FrozenIndexMap {
-            arena: _arena,
-            map: _map,
-            of: _of,
-        } = self;
-    }
 }
 
 impl<'a, K: Eq + Hash, V: StableDeref<'a>, A: Allocator + Copy> FrozenIndexMap<
@@ -139,10 +129,8 @@ impl<'a, K: Eq + Hash, V: StableDeref<'a>, S: BuildHasher, A: Allocator + Copy> 
         ensures pair { IfSome result (λ r. slice_get self.now r.0 ≡ Some (r.1, r.2)) }
         ensures value { option_map (λ r. r.2) result ≡ value_at K.eq self.now key.now }
     {
-        match self.map.get_full(key) {
-            Some((place, found, value)) => Some((place, *found, *value)),
-            None => None,
-        }
+        let (place, found, value) = self.map.get_full(key)?;
+        Some((place, *found, *value))
     }
 
     /// The pair at the place `index`, `None` exactly if there is no such place.
@@ -153,10 +141,8 @@ impl<'a, K: Eq + Hash, V: StableDeref<'a>, S: BuildHasher, A: Allocator + Copy> 
         K: Copy,
         ensures { result ≡ slice_get self.now index }
     {
-        match self.map.get_index(index) {
-            Some((key, value)) => Some((*key, *value)),
-            None => None,
-        }
+        let (key, value) = self.map.get_index(index)?;
+        Some((*key, *value))
     }
 
     /// What `f` returns for the value of this key. It is called once if the key is present, and else never.
@@ -240,17 +226,6 @@ impl<
     S: BuildHasher,
     A: Allocator + Copy,
 > FrozenIndexMap<'a, K, V, S, A> {
-    // The value's borrow, in the arena.
-    fn placed(&self, value: V) -> Result<V::Borrow, AllocError>
-        ensures { IfOk result (λ b. V.shown b ≡ V.target value) }
-    {
-        let borrow = match value.place(self.arena) {
-            Ok(borrow) => borrow,
-            Err(_) => return Err(AllocError),
-        };
-        Ok(borrow)
-    }
-
     /// Adds the pair last, unless the key is present, and returns its place, the value that the key now has and whether the
     /// key is new.
     ///
@@ -458,11 +433,11 @@ impl<
             (q : K) →
             lookup (K.eq q) self.new ≡ cond (K.eq key q) (Some b) (lookup (K.eq q) self.old)) }
     {
-        let given = self.placed(value)?;
-        match self.map.insert(key, given) {
-            Ok(_) => Ok(given),
-            Err(_) => Err(AllocError),
-        }
+        let Ok(placed) = value.place(self.arena) else {
+            return Err(AllocError);
+        };
+        self.map.insert(key, placed)?;
+        Ok(placed)
     }
 
     /// A map of the pairs, in which the last value of a key wins and the key keeps its first place.
@@ -533,7 +508,7 @@ impl<'a, K: Eq + Hash, V: StableDeref<'a>, S: BuildHasher, A: Allocator + Copy> 
     A,
 > {
     ghost use Rattle.std.specs.Borrow.{Bor, sem};
-    ghost use Rattle.elsa_index.specs.MapLent.{lends_pairs};
+    ghost use Rattle.elsa_index.specs.Lent.{lends_pairs};
 
     /// The pairs, to write: a new base begins with what is left in them. It takes no memory.
     pub fn as_mut(&mut self) -> &mut IndexMap<K, V::Borrow, S, A>

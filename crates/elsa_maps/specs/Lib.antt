@@ -1,3 +1,2 @@
 pub mod FirstWins
-pub mod MapLent
-pub mod OrderedLent
+pub mod Lent

@@ -15,7 +15,7 @@ ghost use Rattle.std.specs.String.{string_bytes};
 ghost use Rattle.elsa_maps.specs.FirstWins.{Adds, HoldsLast, SameAt, same_values, value_at};
 ghost use Rattle.elsa_model.proofs.MapEquality.{same_values_equivalence, same_values_laws};
 ghost use Rattle.elsa_model.specs.FirstWins.{IsEqualMap};
-ghost use Rattle.elsa_maps.specs.OrderedLent.{lends_entries};
+ghost use Rattle.elsa_maps.specs.Lent.{lends_tree};
 
 use bumpalo::Bump;
 use elsa_once::stable::StableDeref;
@@ -32,6 +32,7 @@ use std::ops::{Index, RangeBounds};
 /// outlasts later insertions and the map itself. The tree of the entries is in memory of the allocator `A`.
 ///
 /// Keys need `Ord` and nothing else; two keys are one where they compare `Equal`.
+#[derive(Drop)]
 pub struct FrozenBTreeMap<'a, K: Ord, V: StableDeref<'a>, A: Allocator + Copy = Global> {
     alloc: A,
     arena: &'a Bump,
@@ -45,18 +46,6 @@ impl<'a, K: Ord, V: StableDeref<'a>, A: Allocator + Copy> Model for FrozenBTreeM
     ghost Value = { List (K × V.Borrow) };
 
     ghost view = { λ m. m.entries.entries };
-}
-
-impl<'a, K: Ord + Drop, V: StableDeref<'a>, A: Allocator + Copy> Drop
-    for FrozenBTreeMap<'a, K, V, A> {
-    fn drop(self) {
-        let FrozenBTreeMap {
-            alloc: _alloc,
-            arena: _arena,
-            entries: _entries,
-            of: _of,
-        } = self;
-    }
 }
 
 impl<'a, K: Ord, V: StableDeref<'a>, A: Allocator + Copy> FrozenBTreeMap<'a, K, V, A> {
@@ -179,10 +168,8 @@ impl<'a, K: Ord, V: StableDeref<'a>, A: Allocator + Copy> FrozenBTreeMap<'a, K, 
         K: Copy,
         ensures { result ≡ slice_get self.now 0 }
     {
-        match self.entries.first_key_value() {
-            Some((key, value)) => Some((*key, *value)),
-            None => None,
-        }
+        let (key, value) = self.entries.first_key_value()?;
+        Some((*key, *value))
     }
 
     /// The entry with the greatest key, `None` exactly if the map is empty. Takes no memory; `O(log n)`.
@@ -191,10 +178,8 @@ impl<'a, K: Ord, V: StableDeref<'a>, A: Allocator + Copy> FrozenBTreeMap<'a, K, 
         K: Copy,
         ensures { result ≡ slice_get self.now (length self.now - 1) }
     {
-        match self.entries.last_key_value() {
-            Some((key, value)) => Some((*key, *value)),
-            None => None,
-        }
+        let (key, value) = self.entries.last_key_value()?;
+        Some((*key, *value))
     }
 
     /// The inner map, with each key's borrow. Takes no memory.
@@ -212,7 +197,7 @@ impl<'a, K: Ord, V: StableDeref<'a>, A: Allocator + Copy> FrozenBTreeMap<'a, K, 
 
     /// The inner map, borrowed for writing: it may change or remove anything, and what it leaves is a new base.
     pub fn as_mut(&mut self) -> &mut BTreeMap<K, V::Borrow, A>
-        ensures* writes_back { sem 𝓛 (lends_entries K.row V.row A.row V.Borrow.row K.Ord V.HasTarget
+        ensures* writes_back { sem 𝓛 (lends_tree K.row V.row A.row V.Borrow.row K.Ord V.HasTarget
             A.Allocator self.entry result) }
         ensures content { result.now.entries ≡ self.old }
     {
