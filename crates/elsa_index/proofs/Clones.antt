@@ -9,7 +9,7 @@ use Rattle.std.proofs.lemmas.Option.{get_or_from_slice_get}
 use Rattle.indexmap.specs.IndexMap.{insert_entry}
 use Rattle.indexmap.specs.Layout.{hash_map}
 use Rattle.indexmap.proofs.MapLemmas.{absent_before}
-use Rattle.elsa_index.specs.Content.{IsCloneOf}
+use Rattle.elsa_model.specs.Insertions.{IsCloneOf}
 use Rattle.elsa_index.proofs.Content.{new_key_goes_last, none_of}
 
 found_alike : {X : Type 0} (b : Bool) (v w : X) (r s : Option X) → is_some r ≡ is_some s → is_some (cond b (Some v) r) ≡ is_some (cond b (Some w) s)
@@ -20,13 +20,12 @@ module _ {K B : Type 0} (eq : K → K → Bool) (laws : IsEquivalence eq) (is_cl
   -- a key is found among the clones exactly where an equal one is found among the sources
   found_in_clones : (es fs : List (K × B)) (x y : K) → IsCloneOf eq is_clone es fs → eq x y ≡ true → is_some (lookup (eq y) fs) ≡ is_some (lookup (eq x) es)
   found_in_clones [] [] x y h e = refl
-  found_in_clones [] (f ∷ fs) x y h e = absurd h
-  found_in_clones (p ∷ es) [] x y h e = absurd h
   found_in_clones (p ∷ es) (f ∷ fs) x y h e =
       ap (λ b. is_some (cond b (Some f.1) (lookup (eq y) fs))) here ∙ found_alike (eq x p.0) f.1 p.1 (lookup (eq y) fs) (lookup (eq x) es) (found_in_clones es fs x y h.1 e)
     where
       here : eq y f.0 ≡ eq x p.0
       here = sym (laws.congr x y f.0 e) ∙ laws.symm x f.0 ∙ sym (laws.congr p.0 f.0 x h.0.1) ∙ laws.symm p.0 x
+  found_in_clones es fs x y h e = absurd h
 
   -- one more clone
   pub clone_more : (es fs gs : List (K × B)) (i : ℕ) (x y : K) (b : B) → i < length es → slice_get es i ≡ Some (x, b) → IsDistinct eq (keys_of es)

@@ -1,25 +1,20 @@
 -- What is collected from one more pair, or value.
 use Rattle.std.proofs.Common.{Some, None, Option, MatchOption, ℕ, length, position, slice_get, get_or, All, map, ◌≡◌, Bool, true, false, cond, if◌then◌else◌, List, [], ◌∷◌, ◌++◌, reverse, refl, sym, ap, subst, ◌∙◌, append-nil}
 use Rattle.std.specs.Cmp.{IsEquivalence}
-use Rattle.std.specs.List.{list_any, AllZip}
+use Rattle.std.specs.List.{list_any}
 use Rattle.std.specs.Map.{keys_of, lookup}
 use Rattle.std.proofs.lemmas.List.{map-append, reverse-append}
 use Rattle.std.proofs.lemmas.List.Elements.{All-nil, All-push}
 use Rattle.std.proofs.lemmas.List.Folds.{list_any_at}
 use Rattle.std.proofs.lemmas.List.Quantifiers.{position-Some}
 use Rattle.std.proofs.lemmas.Option.{get_or_from_slice_get}
+use Rattle.std.proofs.lemmas.Slice.Zip.{all_zipped_more}
 use Rattle.indexmap.specs.IndexMap.{insert_entry}
 use Rattle.indexmap.specs.IndexSet.{insert_key}
 use Rattle.indexmap.proofs.SetLemmas.{keys_insert_entry}
-use Rattle.elsa_index.specs.Content.{first_of_each, CollectsTargets, SetInserted, SetCollects}
+use Rattle.elsa_model.specs.Insertions.{first_of_each, CollectsTargets, SetInserted, SetCollects}
 use Rattle.elsa_index.proofs.Content.{none_passes}
-use Rattle.elsa_index.proofs.FirstOfEach.{first_of_each_push, same_any}
-
-zipped_push : {A B : Type 0} (R : A → B → Type 0) (xs : List A) (ys : List B) (x : A) (y : B) → AllZip R xs ys → R x y → AllZip R (xs ++ x ∷ []) (ys ++ y ∷ [])
-zipped_push R [] [] x y h r = (r, tt)
-zipped_push R (a ∷ xs) (b ∷ ys) x y h r = (h.0, zipped_push R xs ys x y h.1 r)
-zipped_push R [] (b ∷ ys) x y h r = absurd h
-zipped_push R (a ∷ xs) [] x y h r = absurd h
+use Rattle.elsa_model.proofs.FirstOfEach.{first_of_each_push, same_any}
 
 module _ {K B : Type 0} (eq : K → K → Bool) (laws : IsEquivalence eq) where
   last_first : (ps : List (K × B)) (k : K) (b : B) (q : K) → lookup (eq q) (reverse (ps ++ (k, b) ∷ [])) ≡ cond (eq k q) (Some b) (lookup (eq q) (reverse ps))
@@ -27,18 +22,16 @@ module _ {K B : Type 0} (eq : K → K → Bool) (laws : IsEquivalence eq) where
 
   keys_push : (ps es : List (K × B)) (k : K) (b : B) → keys_of es ≡ keys_of (first_of_each eq (λ p. p.0) [] ps) → keys_of (insert_entry eq es k b) ≡ keys_of (first_of_each eq (λ p. p.0) [] (ps ++ (k, b) ∷ []))
   keys_push ps es k b same =
-      keys_insert_entry eq es k b ∙ ap (λ l. insert_key eq l k) same ∙ by (list_any (eq k) (keys_of ps)) refl
+      keys_insert_entry eq es k b ∙ ap (λ l. insert_key eq l k) same
+      ∙ ap (λ c. if c then keys_of firsts else keys_of firsts ++ k ∷ []) (same_any eq (λ (p : K × B). p.0) laws k [] ps)
+      ∙ by (list_any (eq k) (keys_of ps)) ∙ sym (ap keys_of (first_of_each_push eq (λ (p : K × B). p.0) [] ps (k, b)))
     where
-      firsts : List K
-      firsts = keys_of (first_of_each eq (λ p. p.0) [] ps)
+      firsts : List (K × B)
+      firsts = first_of_each eq (λ p. p.0) [] ps
 
-      by : (c : Bool) → list_any (eq k) (keys_of ps) ≡ c → insert_key eq (keys_of (first_of_each eq (λ p. p.0) [] ps)) k ≡ keys_of (first_of_each eq (λ p. p.0) [] (ps ++ (k, b) ∷ []))
-      by true e =
-          ap (λ c. if c then firsts else firsts ++ k ∷ []) (same_any eq (λ (p : K × B). p.0) laws k [] ps ∙ e)
-          ∙ sym (ap keys_of (first_of_each_push eq (λ (p : K × B). p.0) [] ps (k, b) ∙ ap (λ c. first_of_each eq (λ p. p.0) [] ps ++ (if c then [] else (k, b) ∷ [])) e ∙ append-nil _))
-      by false e =
-          ap (λ c. if c then firsts else firsts ++ k ∷ []) (same_any eq (λ (p : K × B). p.0) laws k [] ps ∙ e)
-          ∙ sym (ap keys_of (first_of_each_push eq (λ (p : K × B). p.0) [] ps (k, b) ∙ ap (λ c. first_of_each eq (λ p. p.0) [] ps ++ (if c then [] else (k, b) ∷ [])) e) ∙ map-append (λ p. p.0) (first_of_each eq (λ p. p.0) [] ps) ((k, b) ∷ []))
+      by : (c : Bool) → (if c then keys_of firsts else keys_of firsts ++ k ∷ []) ≡ keys_of (firsts ++ (if c then [] else (k, b) ∷ []))
+      by true = ap keys_of (sym (append-nil firsts))
+      by false = sym (map-append (λ p. p.0) firsts ((k, b) ∷ []))
 
   -- one more pair
   pub collects_push : {V T : Type 0} (target : V → T) (shown : B → T) (xs : List (K × V)) (es fs : List (K × B)) (k : K) (v : V) (b : B)
@@ -46,13 +39,14 @@ module _ {K B : Type 0} (eq : K → K → Bool) (laws : IsEquivalence eq) where
       → CollectsTargets eq target shown (xs ++ (k, v) ∷ []) fs
   collects_push target shown xs es fs k v b (ps, zipped, (keys, values)) has is looks = (
     ps ++ (k, b) ∷ [],
-    zipped_push (λ x p. (p.0 ≡ x.0) × (shown p.1 ≡ target x.1)) xs ps (k, v) (k, b) zipped (refl, has),
+    all_zipped_more (λ x p. (p.0 ≡ x.0) × (shown p.1 ≡ target x.1)) xs ps (k, v) (k, b) zipped (refl, has),
     (
       ap keys_of is ∙ keys_push ps es k b keys,
       λ q. looks q ∙ ap (λ o. cond (eq k q) (Some b) o) (values q) ∙ sym (last_first ps k b q),
     ),
   )
 
+  -- nothing is collected from no pairs
   pub collects_none : {V T : Type 0} (target : V → T) (shown : B → T) (es : List (K × B)) → es ≡ [] → CollectsTargets eq {V = V} target shown [] es
   collects_none target shown es none = ([], tt, (ap keys_of none, λ k. ap (lookup (eq k)) none))
 

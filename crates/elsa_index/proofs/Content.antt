@@ -1,5 +1,5 @@
 -- What an insertion of a new value leaves.
-use Rattle.std.proofs.Common.{◌≡◌, ℕ, ◌<◌, Bool, true, false, true≢false, is_some, refl, sym, subst, List, [], ◌∷◌, ◌++◌, length, position, find, slice_get, ap, ◌∙◌, arith, Option, None, Some, MatchOption, cond, if◌then◌else◌}
+use Rattle.std.proofs.Common.{◌≡◌, ℕ, ◌<◌, Bool, true, false, true≢false, is_some, is_none, refl, sym, subst, List, [], ◌∷◌, ◌++◌, length, position, find, slice_get, ap, ◌∙◌, arith, Option, None, Some, MatchOption, if◌then◌else◌}
 use Rattle.std.proofs.lemmas.Grind.{common_steps}
 use Rattle.std.proofs.lemmas.List.{length-append}
 use Rattle.std.proofs.lemmas.List.Folds.{find_at, list_any_at, list_any_none, position_or_len_push}
@@ -12,7 +12,7 @@ use Rattle.indexmap.specs.IndexMap.{IndexMap, insert_entry}
 use Rattle.indexmap.specs.IndexSet.{insert_key}
 use Rattle.indexmap.proofs.CallerLemmas.{insert_entry-new}
 use Rattle.indexmap.proofs.MapLemmas.{some_index}
-use Rattle.elsa_index.specs.Content.{place_of, InsertedNew}
+use Rattle.elsa_model.specs.Insertions.{place_of, InsertedNew}
 
 -- where nothing passes, the count of those before the first is the length
 pub none_found : {X : Type 0} (t : X → Bool) (xs : List X) → position t xs ≡ None → position_or_len t xs ≡ length xs
@@ -53,15 +53,6 @@ none_of (Some x) h = absurd (true≢false h)
 pub place_of_last : {X : Type 0} (t : X → Bool) (xs : List X) (y : X) → position t xs ≡ None → t y ≡ true → position t (xs ++ y ∷ []) ≡ Some (length xs)
 place_of_last t xs y none passes = let e = none_found t xs none in grind (arith, common_steps, position_or_len_push, length-append)
 
--- and so is the value of a last pair
-pub value_of_last : {K B : Type 0} (t : K → Bool) (es : List (K × B)) (k : K) (b : B) → lookup t es ≡ None → t k ≡ true → lookup t (es ++ (k, b) ∷ []) ≡ Some b
-value_of_last t [] k b none passes = ap (λ c. cond c (Some b) None) passes
-value_of_last {K} {B} t (e ∷ es) k b none passes = by (t e.0) (λ later. value_of_last t es k b later passes) none
-  where
-    by : (c : Bool) → (lookup t es ≡ None → lookup t (es ++ (k, b) ∷ []) ≡ Some b) → cond c (Some e.1) (lookup t es) ≡ None → cond c (Some e.1) (lookup t (es ++ (k, b) ∷ [])) ≡ Some b
-    by true rest some = absurd (true≢false (ap is_some some))
-    by false rest later = rest later
-
 -- a key without a value has no place
 pub no_place : {K B : Type 0} (eq : K → K → Bool) (es : List (K × B)) (k : K) → lookup (eq k) es ≡ None → place_of eq es k ≡ None
 no_place eq es k none = none_of (position (eq k) (keys_of es)) (some_index (eq k) es ∙ ap is_some none)
@@ -74,8 +65,10 @@ no_value eq es k none = none_of (lookup (eq k) es) (sym (some_index (eq k) es) �
 pub new_pair_goes_last : {K B V T : Type 0} (eq : K → K → Bool) (target : V → T) (shown : B → T) (es : List (K × B)) (k : K) (v : V) (i : ℕ) (b : B) (fs : List (K × B))
     → lookup (eq k) es ≡ None → i ≡ length es → shown b ≡ target v → fs ≡ es ++ (k, b) ∷ [] → InsertedNew eq target shown es k v i b true fs
 new_pair_goes_last eq target shown es k v i b fs none at is left =
-    subst (λ o. MatchOption o ((i ≡ length es) × (shown b ≡ target v) × (true ≡ true) × (fs ≡ es ++ (k, b) ∷ [])) (λ j. (i ≡ j) × (lookup (eq k) es ≡ Some b) × (true ≡ false) × (fs ≡ es)))
-    (sym (no_place eq es k none)) (at, is, refl, left)
+    let gone = sym (no_place eq es k none) in (
+      subst (λ o. MatchOption o ((i ≡ length es) × (shown b ≡ target v) × (fs ≡ es ++ (k, b) ∷ [])) (λ j. (i ≡ j) × (lookup (eq k) es ≡ Some b) × (fs ≡ es))) gone (at, is, left),
+      ap is_none gone,
+    )
 
 -- some item passes a test that finds a place
 pub some_passes : {X : Type 0} (t : X → Bool) (xs : List X) (i : ℕ) → position t xs ≡ Some i → list_any t xs ≡ true

@@ -4,13 +4,13 @@ use Rattle.std.specs.Cmp.{IsEquivalence}
 use Rattle.std.specs.HashSet.Eq.{hash_set_eq_equiv}
 use Rattle.std.proofs.Common.{[], ◌∷◌, ap, subst}
 use Rattle.indexmap.specs.IndexSet.{IndexSet, index_set_eq}
-use Rattle.indexmap.specs.Layout.{key_set}
-use Rattle.elsa_index.specs.Equality.{same_set, as_map}
+use Rattle.indexmap.specs.Layout.{hash_map, key_set}
+use Rattle.elsa_index.specs.Equality.{same_set}
 
 module _ {B : Type 0} where
   -- a list of values as a set
   unfoldable pub as_set : List B → IndexSet B (Unit {0})
-  as_set bs = key_set (as_map (map (λ b. (b, tt {0})) bs))
+  as_set bs = key_set (hash_map (map (λ b. (b, tt {0})) bs) (tt {0}) 0)
 
   pub seen : (bs : List B) → map (λ (e : B × Unit {0}). e.0) (map (λ b. (b, tt {0})) bs) ≡ bs
   seen [] = refl

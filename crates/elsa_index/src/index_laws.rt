@@ -1,7 +1,8 @@
 //! What users may rely on across calls: each law is the contract of a function that makes the calls.
 ghost use Rattle.std.specs.Prelude.{◌≡◌, ◌+◌, ◌↔◌, ℕ, All, List, None, Some, false, true, if◌then◌else◌, length, position, slice_get, IfOk, IsSome, OnErr, IsPermutation, IsTrue};
-ghost use Rattle.elsa_index.specs.Equality.{same_map, same_set};
-ghost use Rattle.elsa_index.specs.Content.{place_of, value_of, Grows, Inserted, SetInserted, IsCloneOf};
+ghost use Rattle.elsa_index.specs.Equality.{same_set};
+ghost use Rattle.elsa_model.specs.FirstWins.{same_values, value_at};
+ghost use Rattle.elsa_model.specs.Insertions.{place_of, Grows, Inserted, SetInserted, IsCloneOf};
 
 use crate::index_map::FrozenIndexMap;
 use crate::index_set::FrozenIndexSet;
@@ -48,7 +49,7 @@ pub fn keeps_earlier_pairs<
     value: V,
 ) -> Result<(usize, V::Borrow, bool), AllocError>
     ensures kept { Grows map.old map.new }
-    ensures there { IfOk result (λ r. value_of K.eq map.new key ≡ Some r.1) }
+    ensures there { IfOk result (λ r. value_at K.eq map.new key ≡ Some r.1) }
     ensures there_at { IfOk result (λ r. place_of K.eq map.new key ≡ Some r.0) }
     ensures flag { IfOk result (λ r. IsTrue r.2 ↔ (place_of K.eq map.old key ≡ None)) }
     ensures grows { IfOk result (λ r. length map.new ≡ length map.old + (if r.2 then 1 else 0)) }
@@ -74,7 +75,7 @@ pub fn is_new_once<
     requires equal { K.eq first.0 again.0 ≡ true }
     ensures first { IfOk result (λ r. IsTrue r.0.2 ↔ (place_of K.eq map.old first.0 ≡ None)) }
     ensures once { IfOk result (λ r. r.1 ≡ (r.0.0, r.0.1, false)) }
-    ensures there { IfOk result (λ r. value_of K.eq map.new first.0 ≡ Some r.0.1) }
+    ensures there { IfOk result (λ r. value_at K.eq map.new first.0 ≡ Some r.0.1) }
     ensures there_at { IfOk result (λ r. place_of K.eq map.new first.0 ≡ Some r.0.0) }
     ensures between { IfOk result (λ _.
         All (λ pair. IsSome (place_of K.eq map.new pair.0)) between.items) }
@@ -124,7 +125,7 @@ pub fn are_equal<'a, K: Eq + Hash, V: StableDeref<'a>, S: BuildHasher, A: Alloca
 ) -> bool
 where
     <V as StableDeref<'a>>::Borrow: Eq,
-    ensures answered { result ≡ same_map K.eq V.Borrow.eq left.now right.now }
+    ensures answered { result ≡ same_values K.eq V.Borrow.eq left.now right.now }
     ensures blind_to_order { IsPermutation left.now right.now → IsTrue result }
 {
     // `is_empty` is called for its clause that no two keys are equal.

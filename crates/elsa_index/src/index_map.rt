@@ -4,9 +4,6 @@
 //! the contracts speak of, and `rebase`.
 ghost use Rattle.std.specs.Prelude.{◌≡◌, ◌++◌, ◌∷◌, ◌↔◌, [], ℕ, List, length, false, None, Ok, Some, slice_get, IfOk, IfSome, IsSome, IsSomeAnd, IsTrue, MatchOption, OnOk, OnErr, cond, is_some};
 ghost use Rattle.std.specs.Borrow.{Bor};
-ghost use Rattle.std.specs.Cmp;
-ghost use Rattle.std.specs.Cmp.{partial_equiv_from_equiv};
-ghost use Rattle.std.specs.HashMap.Eq.{hash_map_eq_symm, hash_map_eq_trans, hash_map_eq_refl};
 ghost use Rattle.std.specs.Iterator.{Drains, IsFinite};
 ghost use Rattle.std.specs.List.{IsDistinct};
 ghost use Rattle.std.specs.Map.{keys_of, lookup, values_of};
@@ -15,8 +12,9 @@ ghost use Rattle.std.specs.Option.{option_map, ForSome};
 ghost use Rattle.std.specs.Str.{bytes_eq};
 ghost use Rattle.std.specs.String.{string_bytes};
 ghost use Rattle.indexmap.specs.IndexMap.{insert_entry};
-ghost use Rattle.elsa_index.specs.Content.{place_of, value_of, Inserted, InsertedNew, IsCloneOf, CollectsTargets};
-ghost use Rattle.elsa_index.specs.Equality.{as_map, same_map, AgreeAtEachKey};
+ghost use Rattle.elsa_model.proofs.MapEquality.{same_values_equivalence, same_values_laws};
+ghost use Rattle.elsa_model.specs.FirstWins.{IsEqualMap, same_values, value_at};
+ghost use Rattle.elsa_model.specs.Insertions.{place_of, Inserted, InsertedNew, IsCloneOf, CollectsTargets};
 
 use bumpalo::Bump;
 use elsa_once::stable::StableDeref;
@@ -29,6 +27,7 @@ use std::marker::{Model, PhantomData};
 use std::ops::Index;
 
 /// A map that only grows, over values placed in an arena.
+#[derive(Drop)]
 pub struct FrozenIndexMap<
     'a,
     K: Eq + Hash,
@@ -48,17 +47,6 @@ impl<'a, K: Eq + Hash, V: StableDeref<'a>, S: BuildHasher, A: Allocator + Copy> 
     ghost Value = { List (K × V.Borrow) };
 
     ghost view = { λ m. m.map.entries };
-}
-
-impl<'a, K: Eq + Hash + Drop, V: StableDeref<'a>, S: BuildHasher + Drop, A: Allocator + Copy> Drop
-    for FrozenIndexMap<'a, K, V, S, A> {
-    fn drop(self) {
-        let FrozenIndexMap {
-            arena: _arena,
-            map: _map,
-            of: _of,
-        } = self;
-    }
 }
 
 impl<'a, K: Eq + Hash, V: StableDeref<'a>, A: Allocator + Copy> FrozenIndexMap<
@@ -126,7 +114,7 @@ impl<'a, K: Eq + Hash, V: StableDeref<'a>, S: BuildHasher, A: Allocator + Copy> 
     ///
     /// It takes no memory. `O(1)`: one hash.
     pub fn get(&self, key: &K) -> Option<V::Borrow>
-        ensures { result ≡ value_of K.eq self.now key.now }
+        ensures { result ≡ value_at K.eq self.now key.now }
     {
         self.map.get(key).copied()
     }
@@ -139,12 +127,10 @@ impl<'a, K: Eq + Hash, V: StableDeref<'a>, S: BuildHasher, A: Allocator + Copy> 
         K: Copy,
         ensures place { option_map (λ r. r.0) result ≡ place_of K.eq self.now key.now }
         ensures pair { IfSome result (λ r. slice_get self.now r.0 ≡ Some (r.1, r.2)) }
-        ensures value { option_map (λ r. r.2) result ≡ value_of K.eq self.now key.now }
+        ensures value { option_map (λ r. r.2) result ≡ value_at K.eq self.now key.now }
     {
-        match self.map.get_full(key) {
-            Some((place, found, value)) => Some((place, *found, *value)),
-            None => None,
-        }
+        let (place, found, value) = self.map.get_full(key)?;
+        Some((place, *found, *value))
     }
 
     /// The pair at the place `index`, `None` exactly if there is no such place.
@@ -155,18 +141,16 @@ impl<'a, K: Eq + Hash, V: StableDeref<'a>, S: BuildHasher, A: Allocator + Copy> 
         K: Copy,
         ensures { result ≡ slice_get self.now index }
     {
-        match self.map.get_index(index) {
-            Some((key, value)) => Some((*key, *value)),
-            None => None,
-        }
+        let (key, value) = self.map.get_index(index)?;
+        Some((*key, *value))
     }
 
     /// What `f` returns for the value of this key. It is called once if the key is present, and else never.
     ///
     /// It takes no memory of its own. `O(1)`: one hash.
     pub fn map_get<R, F: FnOnce(V::Borrow) -> R>(&self, key: &K, f: F) -> Option<R>
-        requires callable { ForSome (value_of K.eq self.now key.now) (F.pre f) }
-        ensures { MatchOption (value_of K.eq self.now key.now) (result ≡ None) (λ x.
+        requires callable { ForSome (value_at K.eq self.now key.now) (F.pre f) }
+        ensures { MatchOption (value_at K.eq self.now key.now) (result ≡ None) (λ x.
             IsSomeAnd result (F.post f x)) }
     {
         match self.map.get(key) {
@@ -177,7 +161,7 @@ impl<'a, K: Eq + Hash, V: StableDeref<'a>, S: BuildHasher, A: Allocator + Copy> 
 
     /// Whether a key of the map equals this one. It takes no memory. `O(1)`: one hash.
     pub fn contains_key(&self, key: &K) -> bool
-        ensures { result ≡ is_some (value_of K.eq self.now key.now) }
+        ensures { result ≡ is_some (value_at K.eq self.now key.now) }
     {
         self.map.contains_key(key)
     }
@@ -242,17 +226,6 @@ impl<
     S: BuildHasher,
     A: Allocator + Copy,
 > FrozenIndexMap<'a, K, V, S, A> {
-    // The value's borrow, in the arena.
-    fn placed(&self, value: V) -> Result<V::Borrow, AllocError>
-        ensures { IfOk result (λ b. V.shown b ≡ V.target value) }
-    {
-        let borrow = match value.place(self.arena) {
-            Ok(borrow) => borrow,
-            Err(_) => return Err(AllocError),
-        };
-        Ok(borrow)
-    }
-
     /// Adds the pair last, unless the key is present, and returns its place, the value that the key now has and whether the
     /// key is new.
     ///
@@ -266,14 +239,14 @@ impl<
         key: K,
         value: V,
     ) -> Result<(usize, V::Borrow, bool), AllocError>
-        ensures present { (x : V.Borrow) → value_of K.eq self.old key ≡ Some x →
+        ensures present { (x : V.Borrow) → value_at K.eq self.old key ≡ Some x →
             (i : ℕ) × (place_of K.eq self.old key ≡ Some i) × (result ≡ Ok (i, x, false))
             × (self.new ≡ self.old) }
         ensures accepted { IfOk result (λ r.
             InsertedNew K.eq V.target V.shown self.old key value r.0 r.1 r.2 self.new) }
         ensures refused { OnErr result (self.new ≡ self.old) }
         ensures only_new { OnErr result (place_of K.eq self.old key ≡ None) }
-        ensures stands { IfOk result (λ r. value_of K.eq self.new key ≡ Some r.1) }
+        ensures stands { IfOk result (λ r. value_at K.eq self.new key ≡ Some r.1) }
         ensures stands_at { IfOk result (λ r. place_of K.eq self.new key ≡ Some r.0) }
     {
         let Ok(found) = self.map.entry(key) else {
@@ -296,14 +269,14 @@ impl<
     ///
     /// Costs and the refusal are those of `insert_full_new`.
     pub fn insert_full(&mut self, key: K, value: V) -> Result<(usize, V::Borrow), AllocError>
-        ensures present { (x : V.Borrow) → value_of K.eq self.old key ≡ Some x →
+        ensures present { (x : V.Borrow) → value_at K.eq self.old key ≡ Some x →
             (i : ℕ) × (place_of K.eq self.old key ≡ Some i) × (result ≡ Ok (i, x))
             × (self.new ≡ self.old) }
         ensures accepted { IfOk result (λ r.
             Inserted K.eq V.target V.shown self.old key value r.0 r.1 self.new) }
         ensures refused { OnErr result (self.new ≡ self.old) }
         ensures only_new { OnErr result (place_of K.eq self.old key ≡ None) }
-        ensures stands { IfOk result (λ r. value_of K.eq self.new key ≡ Some r.1) }
+        ensures stands { IfOk result (λ r. value_at K.eq self.new key ≡ Some r.1) }
         ensures stands_at { IfOk result (λ r. place_of K.eq self.new key ≡ Some r.0) }
     {
         let (place, borrow, _) = self.insert_full_new(key, value)?;
@@ -314,13 +287,13 @@ impl<
     ///
     /// Costs and the refusal are those of `insert_full_new`.
     pub fn insert_new(&mut self, key: K, value: V) -> Result<(V::Borrow, bool), AllocError>
-        ensures present { (x : V.Borrow) → value_of K.eq self.old key ≡ Some x →
+        ensures present { (x : V.Borrow) → value_at K.eq self.old key ≡ Some x →
             (result ≡ Ok (x, false)) × (self.new ≡ self.old) }
         ensures accepted { IfOk result (λ r.
             (i : ℕ) × InsertedNew K.eq V.target V.shown self.old key value i r.0 r.1 self.new) }
         ensures refused { OnErr result (self.new ≡ self.old) }
         ensures only_new { OnErr result (place_of K.eq self.old key ≡ None) }
-        ensures stands { IfOk result (λ r. value_of K.eq self.new key ≡ Some r.0) }
+        ensures stands { IfOk result (λ r. value_at K.eq self.new key ≡ Some r.0) }
     {
         let (_, borrow, new) = self.insert_full_new(key, value)?;
         Ok((borrow, new))
@@ -330,13 +303,13 @@ impl<
     ///
     /// Costs and the refusal are those of `insert_full_new`.
     pub fn insert(&mut self, key: K, value: V) -> Result<V::Borrow, AllocError>
-        ensures present { (x : V.Borrow) → value_of K.eq self.old key ≡ Some x →
+        ensures present { (x : V.Borrow) → value_at K.eq self.old key ≡ Some x →
             (result ≡ Ok x) × (self.new ≡ self.old) }
         ensures accepted { IfOk result (λ b.
             (i : ℕ) × Inserted K.eq V.target V.shown self.old key value i b self.new) }
         ensures refused { OnErr result (self.new ≡ self.old) }
         ensures only_new { OnErr result (place_of K.eq self.old key ≡ None) }
-        ensures stands { IfOk result (λ b. value_of K.eq self.new key ≡ Some b) }
+        ensures stands { IfOk result (λ b. value_at K.eq self.new key ≡ Some b) }
     {
         let (_, borrow) = self.insert_full(key, value)?;
         Ok(borrow)
@@ -354,7 +327,7 @@ impl<'a, V: StableDeref<'a>, S: BuildHasher, A: Allocator + Copy> FrozenIndexMap
     ///
     /// It takes no memory. `O(1)`: one hash.
     pub fn get_text(&self, key: &str) -> Option<V::Borrow>
-        ensures { result ≡ value_of ⟦<&'a str as PartialEq>⟧.eq self.now key.entry }
+        ensures { result ≡ value_at ⟦<&'a str as PartialEq>⟧.eq self.now key.entry }
     {
         let found = self.map.get(key)?;
         Some(*found)
@@ -365,7 +338,7 @@ impl<'a, V: StableDeref<'a>, S: BuildHasher, A: Allocator + Copy> FrozenIndexMap
         ensures place { option_map (λ r. r.0) result
             ≡ place_of ⟦<&'a str as PartialEq>⟧.eq self.now key.entry }
         ensures value { option_map (λ r. r.1) result
-            ≡ value_of ⟦<&'a str as PartialEq>⟧.eq self.now key.entry }
+            ≡ value_at ⟦<&'a str as PartialEq>⟧.eq self.now key.entry }
     {
         let (place, _, found) = self.map.get_full(key)?;
         Some((place, *found))
@@ -383,7 +356,7 @@ impl<'a, V: StableDeref<'a>, S: BuildHasher, A: Allocator + Copy> FrozenIndexMap
         value: V,
     ) -> Result<(usize, V::Borrow), AllocError>
         ensures present { (x : V.Borrow) →
-            value_of ⟦<&'a str as PartialEq>⟧.eq self.old key.entry ≡ Some x →
+            value_at ⟦<&'a str as PartialEq>⟧.eq self.old key.entry ≡ Some x →
             (i : ℕ) × (place_of ⟦<&'a str as PartialEq>⟧.eq self.old key.entry ≡ Some i)
             × (result ≡ Ok (i, x)) × (self.new ≡ self.old) }
         ensures accepted { IfOk result (λ r.
@@ -394,7 +367,7 @@ impl<'a, V: StableDeref<'a>, S: BuildHasher, A: Allocator + Copy> FrozenIndexMap
         ensures only_new { OnErr result (
             place_of ⟦<&'a str as PartialEq>⟧.eq self.old key.entry ≡ None) }
         ensures stands { IfOk result (λ r.
-            value_of ⟦<&'a str as PartialEq>⟧.eq self.new key.entry ≡ Some r.1) }
+            value_at ⟦<&'a str as PartialEq>⟧.eq self.new key.entry ≡ Some r.1) }
         ensures stands_at { IfOk result (λ r.
             place_of ⟦<&'a str as PartialEq>⟧.eq self.new key.entry ≡ Some r.0) }
     {
@@ -410,7 +383,7 @@ impl<'a, V: StableDeref<'a>, S: BuildHasher, A: Allocator + Copy> FrozenIndexMap
     /// Costs and the refusal are those of `insert_full_text`.
     pub fn insert_text(&mut self, key: &str, value: V) -> Result<V::Borrow, AllocError>
         ensures present { (x : V.Borrow) →
-            value_of ⟦<&'a str as PartialEq>⟧.eq self.old key.entry ≡ Some x →
+            value_at ⟦<&'a str as PartialEq>⟧.eq self.old key.entry ≡ Some x →
             (result ≡ Ok x) × (self.new ≡ self.old) }
         ensures accepted { IfOk result (λ b.
             (i : ℕ) × (k : Bor (List ℕ)) × (k.now ≡ key.now)
@@ -419,7 +392,7 @@ impl<'a, V: StableDeref<'a>, S: BuildHasher, A: Allocator + Copy> FrozenIndexMap
         ensures only_new { OnErr result (
             place_of ⟦<&'a str as PartialEq>⟧.eq self.old key.entry ≡ None) }
         ensures stands { IfOk result (λ b.
-            value_of ⟦<&'a str as PartialEq>⟧.eq self.new key.entry ≡ Some b) }
+            value_at ⟦<&'a str as PartialEq>⟧.eq self.new key.entry ≡ Some b) }
     {
         let (_, borrow) = self.insert_full_text(key, value)?;
         Ok(borrow)
@@ -460,11 +433,11 @@ impl<
             (q : K) →
             lookup (K.eq q) self.new ≡ cond (K.eq key q) (Some b) (lookup (K.eq q) self.old)) }
     {
-        let given = self.placed(value)?;
-        match self.map.insert(key, given) {
-            Ok(_) => Ok(given),
-            Err(_) => Err(AllocError),
-        }
+        let Ok(placed) = value.place(self.arena) else {
+            return Err(AllocError);
+        };
+        self.map.insert(key, placed)?;
+        Ok(placed)
     }
 
     /// A map of the pairs, in which the last value of a key wins and the key keeps its first place.
@@ -535,7 +508,7 @@ impl<'a, K: Eq + Hash, V: StableDeref<'a>, S: BuildHasher, A: Allocator + Copy> 
     A,
 > {
     ghost use Rattle.std.specs.Borrow.{Bor, sem};
-    ghost use Rattle.elsa_index.specs.MapLent.{lends_pairs};
+    ghost use Rattle.elsa_index.specs.Lent.{lends_pairs};
 
     /// The pairs, to write: a new base begins with what is left in them. It takes no memory.
     pub fn as_mut(&mut self) -> &mut IndexMap<K, V::Borrow, S, A>
@@ -566,9 +539,9 @@ impl<'a, 'q, K: Eq + Hash, V: StableDeref<'a>, S: BuildHasher, A: Allocator + Co
     for FrozenIndexMap<'a, K, V, S, A> {
     type Output = V::Borrow;
 
-    ghost can_index = { λ m k. IsSome (value_of K.eq m k.now) };
+    ghost can_index = { λ m k. IsSome (value_at K.eq m k.now) };
 
-    ghost index_gives = { λ m k b. value_of K.eq m k.now ≡ Some b };
+    ghost index_gives = { λ m k b. value_at K.eq m k.now ≡ Some b };
 
     // The value at this key. The caller makes sure that the key is present.
     fn index(&self, key: &'q K) -> &V::Borrow {
@@ -593,16 +566,13 @@ impl<'a, K: Eq + Hash, V: StableDeref<'a>, S: BuildHasher, A: Allocator + Copy> 
 where
     <V as StableDeref<'a>>::Borrow: PartialEq,
 {
-    ghost eq = { same_map K.eq V.Borrow.eq };
+    ghost eq = { same_values K.eq V.Borrow.eq };
 
-    ghost laws = { let v = V.Borrow.laws in record {
-      symm = λ a b. hash_map_eq_symm K.eq V.Borrow.eq v.symm (as_map a) (as_map b);
-      trans = λ a b c. hash_map_eq_trans K.eq V.Borrow.eq K.Eq.laws v.trans (as_map a) (as_map b) (as_map c);
-    } };
+    ghost laws = { same_values_laws K.eq V.Borrow.eq K.Eq.laws V.Borrow.laws };
 
     fn eq(&self, other: &Self) -> bool
-        ensures decides { result ≡ same_map K.eq V.Borrow.eq self.now other.now }
-        ensures as_maps { IsTrue result ↔ AgreeAtEachKey K.eq V.Borrow.eq self.now other.now }
+        ensures decides { result ≡ same_values K.eq V.Borrow.eq self.now other.now }
+        ensures as_maps { IsTrue result ↔ IsEqualMap K.eq V.Borrow.eq self.now other.now }
     {
         self.map == other.map
     }
@@ -613,8 +583,5 @@ impl<'a, K: Eq + Hash, V: StableDeref<'a>, S: BuildHasher, A: Allocator + Copy> 
 where
     <V as StableDeref<'a>>::Borrow: Eq,
 {
-    ghost laws = { let v = V.Borrow.Eq.laws in Cmp.equiv (record {
-      symm = λ a b. hash_map_eq_symm K.eq V.Borrow.eq v.symm (as_map a) (as_map b);
-      trans = λ a b c. hash_map_eq_trans K.eq V.Borrow.eq K.Eq.laws (partial_equiv_from_equiv v).trans (as_map a) (as_map b) (as_map c);
-    }) (λ a. hash_map_eq_refl K.eq V.Borrow.eq v.refl (as_map a)) };
+    ghost laws = { same_values_equivalence K.eq V.Borrow.eq K.Eq.laws V.Borrow.PartialEq.laws V.Borrow.Eq.laws };
 }

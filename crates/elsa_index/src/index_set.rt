@@ -5,7 +5,7 @@ ghost use Rattle.std.specs.Iterator.{Drains, IsFinite};
 ghost use Rattle.std.specs.List.{IsDistinct};
 ghost use Rattle.std.specs.Map.Iter.{ShowsInOrder, ShowsInReverse, deref};
 ghost use Rattle.std.specs.Option.{option_map};
-ghost use Rattle.elsa_index.specs.Content.{SetInserted, SetInsertedNew, SetCollects};
+ghost use Rattle.elsa_model.specs.Insertions.{SetInserted, SetInsertedNew, SetCollects};
 ghost use Rattle.elsa_index.specs.EqualityLaws.{same_set_equiv};
 ghost use Rattle.elsa_index.specs.Equality.{same_set, HaveSameValues};
 
@@ -21,6 +21,7 @@ use std::marker::{Model, PhantomData};
 use std::ops::Index;
 
 /// A set that only grows, over values placed in an arena.
+#[derive(Drop)]
 pub struct FrozenIndexSet<
     'a,
     T: StableDeref<'a>,
@@ -45,20 +46,6 @@ where
     ghost Value = { List T.Borrow };
 
     ghost view = { λ m. m.set.keys };
-}
-
-impl<'a, T: StableDeref<'a>, S: BuildHasher + Drop, A: Allocator + Copy> Drop
-    for FrozenIndexSet<'a, T, S, A>
-where
-    <T as StableDeref<'a>>::Borrow: Eq + Hash,
-{
-    fn drop(self) {
-        let FrozenIndexSet {
-            arena: _arena,
-            set: _set,
-            of: _of,
-        } = self;
-    }
 }
 
 impl<'a, T: StableDeref<'a>, A: Allocator + Copy> FrozenIndexSet<
@@ -216,10 +203,8 @@ where
         ensures unique { IsDistinct T.Borrow.eq self.new }
     {
         let place = self.set.len();
-        match self.set.insert(value) {
-            Ok(_) => Ok(place),
-            Err(_) => Err(AllocError),
-        }
+        self.set.insert(value)?;
+        Ok(place)
     }
 }
 
@@ -246,9 +231,8 @@ where
         ensures stands { IfOk result (λ r. slice_get self.new r.0 ≡ Some r.1) }
         ensures stands_at { IfOk result (λ r. position (T.finds value) self.new ≡ Some r.0) }
     {
-        let borrow = match value.place(self.arena) {
-            Ok(borrow) => borrow,
-            Err(_) => return Err(AllocError),
+        let Ok(borrow) = value.place(self.arena) else {
+            return Err(AllocError);
         };
         let place = self.add(borrow)?;
         Ok((place, borrow))
@@ -365,7 +349,7 @@ where
     <T as StableDeref<'a>>::Borrow: Eq + Hash,
 {
     ghost use Rattle.std.specs.Borrow.{sem};
-    ghost use Rattle.elsa_index.specs.SetLent.{lends_values};
+    ghost use Rattle.elsa_index.specs.Lent.{lends_values};
 
     /// The values, to write: a new base begins with what is left in them. It takes no memory.
     pub fn as_mut(&mut self) -> &mut IndexSet<T::Borrow, S, A>

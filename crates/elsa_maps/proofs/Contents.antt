@@ -12,28 +12,20 @@ use Rattle.std.proofs.lemmas.List.Sums.{fold-append}
 use Rattle.std.proofs.lemmas.Map.Lookups.{btree_map_read_from_get}
 use Rattle.elsa_maps.specs.FirstWins.{Adds, HoldsLast, Inserts, Keeps, SameAt, value_at}
 
-module _ {K B : Type 0} (test : K → Bool) where
-  -- the key and the value that are found belong to one entry
-  pub entry_found : (es : List (K × B)) (k : K) (v : B) → Some k ≡ lookup_key test es → Some v ≡ lookup test es → Some (k, v) ≡ lookup_entry test es
-  entry_found [] k v found valued = cc
-  entry_found (e ∷ es) k v found valued = by (test e.0) found valued (entry_found es k v)
-    where
-      by : (b : Bool) → Some k ≡ cond b (Some e.0) (lookup_key test es) → Some v ≡ cond b (Some e.1) (lookup test es)
-          → (Some k ≡ lookup_key test es → Some v ≡ lookup test es → Some (k, v) ≡ lookup_entry test es) → Some (k, v) ≡ cond b (Some e) (lookup_entry test es)
-      by true f g rest =
-          let same_key : k ≡ e.0 = cc in
-          let same_value : v ≡ e.1 = cc in
-          λ i. Some (same_key i, same_value i)
-      by false f g rest = rest f g
+-- the two, if both are there
+abbrev pub both : {K B : Type 0} → Option K → Option B → Option (K × B)
+both o None = None
+both None (Some v) = None
+both (Some k) (Some v) = Some (k, v)
 
-  -- where no value is found there is no entry
-  pub entry_missing : (es : List (K × B)) → None ≡ lookup test es → None ≡ lookup_entry test es
-  entry_missing [] missing = refl
-  entry_missing (e ∷ es) missing = by (test e.0) missing (entry_missing es)
-    where
-      by : (b : Bool) → None ≡ cond b (Some e.1) (lookup test es) → (None ≡ lookup test es → None ≡ lookup_entry test es) → None ≡ cond b (Some e) (lookup_entry test es)
-      by true f rest = cc
-      by false f rest = rest f
+-- the key and the value that are found belong to one entry
+pub entry_found : {K B : Type 0} (test : K → Bool) (es : List (K × B)) → both (lookup_key test es) (lookup test es) ≡ lookup_entry test es
+entry_found test [] = refl
+entry_found test (e ∷ es) = by (test e.0) ∙ ap (cond (test e.0) (Some e)) (entry_found test es)
+  where
+    by : (b : Bool) → both (cond b (Some e.0) (lookup_key test es)) (cond b (Some e.1) (lookup test es)) ≡ cond b (Some e) (both (lookup_key test es) (lookup test es))
+    by true = refl
+    by false = refl
 
 module _ {K V B T : Type 0} (eq : K → K → Bool) (laws : IsEquivalence eq) (target : V → T) (shown : B → T) where
   -- nothing is collected from no pairs
@@ -79,17 +71,6 @@ module _ {K B : Type 0} (eq : K → K → Bool) (laws : IsEquivalence eq) where
         by (Some x) is r h same q y had = ap (λ gs. value_at eq gs q) (present x is).1 ∙ had
         by None is (Ok a) h same q y had = adds_keeps es (value_at eq fs) k a.0 is (h is) q y had
         by None is (Err e) h same q y had = ap (λ gs. value_at eq gs q) same ∙ had
-
-    -- where it is accepted the key has what it answers
-    pub insert_answers : IfOk result (λ r. value_at eq fs k ≡ Some r.0)
-    insert_answers = by (value_at eq es k) refl result refl adds
-      where
-        by : (o : Option B) → value_at eq es k ≡ o → (r : Result (B × Bool) E) → result ≡ r → (value_at eq es k ≡ None → IfOk r (λ a. Adds eq (value_at eq es) (value_at eq fs) k a.0)) → IfOk r (λ a. value_at eq fs k ≡ Some a.0)
-        by (Some x) is r same h =
-            let P : Result (B × Bool) E → Type 0 = λ s. IfOk s (λ a. value_at eq fs k ≡ Some a.0) in
-            subst P (sym (present x is).0 ∙ same) (ap (λ gs. value_at eq gs k) (present x is).1 ∙ is)
-        by None is (Ok a) same h = (h is k).0 (laws.refl k)
-        by None is (Err e) same h = tt
 
     -- where it is accepted the flag says whether the key was new
     pub insert_flag : (value_at eq es k ≡ None → IfOk result (λ r. r.1 ≡ true)) → IfOk result (λ r. (r.1 ≡ true) ↔ (value_at eq es k ≡ None))

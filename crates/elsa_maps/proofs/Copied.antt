@@ -15,12 +15,11 @@ module _ {F K B : Type 0} (T : F → K → B → Bool → B → F → Type 0) (l
     (step : (f : F) (k : K) (v : B) (b : Bool) (w : B) (f' : F) → T f k v b w f' → (x : B) (xs : List B) → left f ≡ x ∷ xs → (b ≡ true) × (w ≡ x) × (left f' ≡ xs)) (C : K → K → Type 0) (D : B → B → Type 0) where
   pub gets_values : (f : F) (ss es kept : List (K × B)) → left f ≡ values_of ss → AllZip (λ p q. C p.0 q.0 × D p.1 q.1) ss es → RetainsPairs T f es kept → AllZip (HasValueOf C) ss kept
   gets_values f [] [] kept is clones ran = subst (λ ks. AllZip (HasValueOf C) [] ks) (sym ran) tt
-  gets_values f [] (e ∷ es) kept is clones ran = absurd clones
-  gets_values f (s ∷ ss) [] kept is clones ran = absurd clones
   gets_values f (s ∷ ss) (e ∷ es) kept is clones ran =
       let a = step f e.0 e.1 ran.0 ran.1 ran.2 ran.4 s.1 (values_of ss) is in
       let rest = gets_values ran.2 ss es ran.3 a.2 clones.1 ran.5 in
       subst (λ ks. AllZip (HasValueOf C) (s ∷ ss) ks) (sym (ran.6 ∙ ap (λ b. cond b ((e.0, ran.1) ∷ ran.3) ran.3) a.0)) ((clones.0.0, a.1), rest)
+  gets_values f ss es kept is clones ran = absurd clones
 
 -- a clone is asked for where its source is
 alike : {K : Type 0} (eq : K → K → Bool) (laws : IsEquivalence eq) (q k c : K) → eq k c ≡ true → eq q c ≡ eq q k
@@ -30,6 +29,5 @@ module _ {K B : Type 0} (eq : K → K → Bool) (laws : IsEquivalence eq) (C : K
   -- a key has the same value in the clone
   pub same_at_clone : (ss ts : List (K × B)) → AllZip (HasValueOf C) ss ts → (q : K) → value_at eq ts q ≡ value_at eq ss q
   same_at_clone [] [] each q = refl
-  same_at_clone [] (t ∷ ts) each q = absurd each
-  same_at_clone (s ∷ ss) [] each q = absurd each
   same_at_clone (s ∷ ss) (t ∷ ts) each q = λ i. cond (alike eq laws q s.0 t.0 (equal s.0 t.0 each.0.0) i) (Some (each.0.1 i)) (same_at_clone ss ts each.1 q i)
+  same_at_clone ss ts each q = absurd each

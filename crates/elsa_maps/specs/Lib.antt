@@ -1,4 +1,2 @@
 pub mod FirstWins
-pub mod MapEquality
-pub mod MapLent
-pub mod OrderedLent
+pub mod Lent

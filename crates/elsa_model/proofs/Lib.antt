@@ -1,2 +1,5 @@
+pub mod Entries
+pub mod FirstOfEach
+pub mod Growing
 pub mod MapEquality
 pub mod Replay

@@ -1,5 +1,5 @@
 -- Equality of maps as partial functions (`same_values` of FirstWins) is an equivalence, and is what std answers.
-use Rattle.std.proofs.Common.{◌≡◌, Bool, true, false, true≢false, cond, ◌&&◌, List, [], ◌∷◌, ◌++◌, Option, None, Some, refl, sym, ap, ◌∙◌, ◌⊎◌, inl, inr}
+use Rattle.std.proofs.Common.{◌≡◌, ◌↔◌, Bool, true, false, true≢false, cond, ◌&&◌, List, [], ◌∷◌, ◌++◌, Option, None, Some, refl, sym, ap, ◌∙◌, ◌⊎◌, inl, inr}
 use Rattle.std.specs.Cmp.{IsEquivalence, IsPartialEquivalence, IsTotalOrder, both_ways, equiv, eq_by_cmp_equiv, first_so, second_so}
 use Rattle.std.specs.Cmp.Lexicographic.{pointwise}
 use Rattle.std.specs.HashMap.{HashMap, hash_map_eq}
@@ -26,10 +26,9 @@ module _ {B : Type 0} (E : B → B → Bool) where
 
   chains : ((x y z : B) → E x y ≡ true → E y z ≡ true → E x z ≡ true) → (p q r : Option B) → option_eq E p q ≡ true → option_eq E q r ≡ true → option_eq E p r ≡ true
   chains f None None r a b = b
-  chains f None (Some y) r a b = absurd (true≢false (sym a))
-  chains f (Some x) None r a b = absurd (true≢false (sym a))
   chains f (Some x) (Some y) None a b = b
   chains f (Some x) (Some y) (Some z) a b = f x y z a b
+  chains f p q r a b = absurd (true≢false (sym a))
 
   itself : ((x : B) → E x x ≡ true) → (p : Option B) → option_eq E p p ≡ true
   itself f None = refl
@@ -72,6 +71,10 @@ module _ {K B : Type 0} (eq : K → K → Bool) (E : B → B → Bool) where
         cases (inr found) b = along es fs q found.0 found.1 ∙ found.2
         cases (inl a) (inr found) = along es fs q found.0 found.1 ∙ found.2
 
+    -- a test that is the one for equal maps decides it
+    pub equal_as_maps : (es fs : List (K × B)) (b : Bool) → b ≡ same_values eq E es fs → (b ≡ true) ↔ IsEqualMap eq E es fs
+    equal_as_maps es fs b is = (λ yes. each_from_same es fs (sym is ∙ yes), λ each. is ∙ same_from_each es fs each)
+
     -- equality as partial functions is symmetric and transitive where equality of the values is
     pub same_values_laws : IsPartialEquivalence E → IsPartialEquivalence (same_values eq E)
     same_values_laws values = record {
@@ -104,8 +107,6 @@ module _ {K B : Type 0} (cmp : K → K → Ordering) (order : IsTotalOrder cmp) 
   -- lists that are equal one by one agree at each key
   pub each_from_one_by_one : (es fs : List (K × B)) → one_by_one es fs ≡ true → IsEqualMap eq E es fs
   each_from_one_by_one [] [] same q = refl
-  each_from_one_by_one [] (f ∷ fs) same q = absurd (true≢false (sym same))
-  each_from_one_by_one (e ∷ es) [] same q = absurd (true≢false (sym same))
   each_from_one_by_one (e ∷ es) (f ∷ fs) same q =
       let first = first_so (keys e.0 f.0 && E e.1 f.1) _ same in
       let tied : eq e.0 f.0 ≡ true = sym (ties e.0 f.0) ∙ first_so _ _ first in
@@ -115,6 +116,7 @@ module _ {K B : Type 0} (cmp : K → K → Ordering) (order : IsTotalOrder cmp) 
       by : (b : Bool) → E e.1 f.1 ≡ true → agree_at eq E es fs q ≡ true → option_eq E (cond b (Some e.1) (lookup (eq q) es)) (cond b (Some f.1) (lookup (eq q) fs)) ≡ true
       by true value rest = value
       by false value rest = rest
+  each_from_one_by_one es fs same q = absurd (true≢false (sym same))
 
   -- no later entry has a key that equals q, where the first has
   none_later : (e : K × B) (es : List (K × B)) (q : K) → IsStrictlySortedBy cmp (keys_of (e ∷ es)) → eq q e.0 ≡ true → lookup (eq q) es ≡ None

@@ -1,5 +1,5 @@
 -- Lemmas on calls one after the other.
-use Rattle.std.proofs.Common.{◌≡◌, ℕ, List, [], ◌∷◌, ◌++◌, length, slice_get, Some, Result, Ok, is_ok, if◌then◌else◌, refl, sym, ap, subst, ◌∙◌}
+use Rattle.std.proofs.Common.{◌≡◌, ℕ, List, [], ◌∷◌, ◌++◌, length, slice_get, Some, suc, Result, Ok, is_ok, if◌then◌else◌, refl, sym, ap, subst, ◌∙◌}
 use Rattle.elsa_model.specs.Replay.{Answered, Replays, IsRecorded}
 
 module _ {S C R : Type 0} (step : S → C → R → S → Type 0) where
@@ -7,8 +7,13 @@ module _ {S C R : Type 0} (step : S → C → R → S → Type 0) where
   pub answered_more : (s : S) (cs : List C) (rs : List R) (t : S) (c : C) (r : R) (u : S) → Answered step s cs rs t → step t c r u → Answered step s (cs ++ c ∷ []) (rs ++ r ∷ []) u
   answered_more s [] [] t c r u p q = (u, rw p q, refl)
   answered_more s (d ∷ ds) (q ∷ qs) t c r u p w = (p.0, p.1, answered_more p.0 ds qs t c r u p.2 w)
-  answered_more s [] (q ∷ qs) t c r u p w = absurd p
-  answered_more s (d ∷ ds) [] t c r u p w = absurd p
+  answered_more s cs rs t c r u p w = absurd p
+
+  -- each call has one reply
+  pub answered_length : (s : S) (cs : List C) (rs : List R) (t : S) → Answered step s cs rs t → length rs ≡ length cs
+  answered_length s [] [] t p = refl
+  answered_length s (c ∷ cs) (r ∷ rs) t p = ap suc (answered_length p.0 cs rs t p.2)
+  answered_length s cs rs t p = absurd p
 
   -- one more call, whose reply was pushed
   pub answered_push : {A E : Type 0} (s t u : S) (cs : List C) (rs qs : List R) (c : C) (r : R) (pushed : Result A E) (x : A) → Answered step s cs rs t → step t c r u

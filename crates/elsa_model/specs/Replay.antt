@@ -7,8 +7,7 @@ use Rattle.std.specs.Prelude.{◌≡◌, ℕ, List, [], ◌∷◌, map, Some, sl
 abbrev pub Answered : {S C R : Type 0} → (S → C → R → S → Type 0) → S → List C → List R → S → Type 0
 Answered step from [] [] to = from ≡ to
 Answered {S} step from (command ∷ later) (reply ∷ rest) to = (next : S) × step from command reply next × Answered step next later rest to
-Answered step from [] (reply ∷ rest) to = ⊥
-Answered step from (command ∷ later) [] to = ⊥
+Answered step from commands replies to = ⊥
 
 -- the same of a history, whose entries name who called, the command and the reply
 abbrev pub Replays : {S C R : Type 0} → (S → C → R → S → Type 0) → S → List (ℕ × C × R) → S → Type 0

@@ -1,5 +1,5 @@
 //! Any list of calls on an object, one after the other.
-ghost use Rattle.std.specs.Prelude.{◌≡◌, IfOk, OnErr};
+ghost use Rattle.std.specs.Prelude.{◌≡◌, IfOk, OnErr, length};
 ghost use Rattle.elsa_model.specs.Replay.{Answered};
 
 use crate::Call;
@@ -29,6 +29,7 @@ pub fn run<O, R: Copy, L, C: Call<O, R, L> + Drop, A: Allocator + Copy, B: Alloc
     requires { (s : C.State) (c : C) → C.refuses s c → C.steps s c refused s }
     ensures run { IfOk result (λ replies.
         Answered C.steps (C.state object.old) commands.items replies.items (C.state object.new)) }
+    ensures one_each { IfOk result (λ replies. length replies.items ≡ length commands.items) }
     ensures none_made { OnErr result (object.new ≡ object.old) }
 {
     let mut replies = Vec::with_capacity(alloc, commands.len())?;

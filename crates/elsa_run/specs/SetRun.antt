@@ -1,7 +1,7 @@
 -- Which replies the commands of `run_set` may get, and which epoch follows each of them. Each value is its own key.
-use Rattle.std.specs.Prelude.{◌≡◌, ◌⊎◌, ℕ, Bool, true, false, List, length, position, find, slice_get, Option, None, Some}
-use Rattle.elsa_index.specs.Content.{SetInserted, SetInsertedNew}
-use Rattle.elsa_run.specs.Runs.{Epoch, held, accept, epoch_from, RunsTo}
+use Rattle.std.specs.Prelude.{◌≡◌, ◌⊎◌, ℕ, Bool, List, length, position, find, slice_get, Option, None, Some, is_none}
+use Rattle.elsa_model.specs.Insertions.{SetInserted}
+use Rattle.elsa_run.specs.Runs.{Epoch, held, accept, epoch_from, InsertionAnswers, RunsTo}
 use Rattle.elsa_run.specs.declared.run_set.SetCommand.{SetCommand}
 use Rattle.elsa_run.specs.declared.run_set.SetCommand.TheVariants.{Insert, InsertFull, InsertNew, InsertFullNew, Get, IndexOf, At, Rebase}
 use Rattle.elsa_run.specs.declared.run_set.SetReply.{SetReply}
@@ -13,17 +13,12 @@ answered (Item b) = Some b
 answered (Full i b) = Some b
 answered (New b new) = Some b
 answered (FullNew i b new) = Some b
-answered (Found b) = None
-answered (Place i) = None
-answered Done = None
-answered NoMemory = None
+answered other = None
 
 module _ {V T B M : Type 0} (eq : B → B → Bool) (target : V → T) (shown : B → T) (finds : V → B → Bool) (asks : B → B → Bool) (values : M → List B) where
   -- an insertion where bs is held: the equal value's place and that value, or the last place and the given target, or a refusal
   abbrev pub InsertAnswers : List B → V → (ℕ → B → Bool → SetReply B) → SetReply B → Type 0
-  InsertAnswers bs v form r = ((i : ℕ) × (b : B) × (r ≡ form i b false) × (position (finds v) bs ≡ Some i) × (slice_get bs i ≡ Some b))
-      ⊎ ((b : B) × (r ≡ form (length bs) b true) × (position (finds v) bs ≡ None) × (shown b ≡ target v))
-      ⊎ ((r ≡ NoMemory) × (position (finds v) bs ≡ None))
+  InsertAnswers bs v = InsertionAnswers NoMemory (λ i b. slice_get bs i ≡ Some b) (λ b. shown b ≡ target v) (position (finds v) bs) (length bs)
 
   -- the replies that a command may get where bs is held
   abbrev pub Answers : List B → SetCommand V B M → SetReply B → Type 0
@@ -42,32 +37,23 @@ module _ {V T B M : Type 0} (eq : B → B → Bool) (target : V → T) (shown : 
   epoch_after e (InsertFull v) r = accept e (answered r)
   epoch_after e (InsertNew v) r = accept e (answered r)
   epoch_after e (InsertFullNew v) r = accept e (answered r)
-  epoch_after e (Get q) r = e
-  epoch_after e (IndexOf q) r = e
-  epoch_after e (At i) r = e
   epoch_after e (Rebase m) r = epoch_from (values m)
+  epoch_after e look r = e
 
   -- a run of these commands that begins with bs held ends with cs held
   abbrev pub SetRunsTo : List B → List (SetCommand V B M) → List (SetReply B) → List B → Type 0
   SetRunsTo = RunsTo (λ e bs. bs ≡ held eq (λ b. b) e) (λ e. Answers (held eq (λ b. b) e)) epoch_after
 
-  -- One call, by what it found: it may take bs to cs and get the reply r.
-  abbrev pub PlainStep : List B → V → (ℕ → B → SetReply B) → SetReply B → List B → Type 0
-  PlainStep bs v form r cs = ((i : ℕ) × (b : B) × (r ≡ form i b) × SetInserted target shown finds bs v i b cs)
-      ⊎ ((r ≡ NoMemory) × (position (finds v) bs ≡ None) × (cs ≡ bs))
-
-  -- the same of an insertion that tells whether the value was new
-  abbrev pub NewStep : List B → V → (ℕ → B → Bool → SetReply B) → SetReply B → List B → Type 0
-  NewStep bs v form r cs = ((i : ℕ) × (b : B) × (new : Bool) × (r ≡ form i b new) × SetInsertedNew target shown finds bs v i b new cs)
+  -- One call, by what it found: an insertion may take bs to cs and get the reply r, whose flag says whether the value was new.
+  abbrev pub InsertStep : List B → V → (ℕ → B → Bool → SetReply B) → SetReply B → List B → Type 0
+  InsertStep bs v form r cs = ((i : ℕ) × (b : B) × (r ≡ form i b (is_none (position (finds v) bs))) × SetInserted target shown finds bs v i b cs)
       ⊎ ((r ≡ NoMemory) × (position (finds v) bs ≡ None) × (cs ≡ bs))
 
   -- a command may take bs to cs and get the reply r
   abbrev pub Step : List B → SetCommand V B M → SetReply B → List B → Type 0
-  Step bs (Insert v) r cs = PlainStep bs v (λ i b. Item b) r cs
-  Step bs (InsertFull v) r cs = PlainStep bs v Full r cs
-  Step bs (InsertNew v) r cs = NewStep bs v (λ i b new. New b new) r cs
-  Step bs (InsertFullNew v) r cs = NewStep bs v FullNew r cs
-  Step bs (Get q) r cs = (r ≡ Found (find (asks q) bs)) × (cs ≡ bs)
-  Step bs (IndexOf q) r cs = (r ≡ Place (position (asks q) bs)) × (cs ≡ bs)
-  Step bs (At i) r cs = (r ≡ Found (slice_get bs i)) × (cs ≡ bs)
+  Step bs (Insert v) r cs = InsertStep bs v (λ i b new. Item b) r cs
+  Step bs (InsertFull v) r cs = InsertStep bs v (λ i b new. Full i b) r cs
+  Step bs (InsertNew v) r cs = InsertStep bs v (λ i b new. New b new) r cs
+  Step bs (InsertFullNew v) r cs = InsertStep bs v FullNew r cs
   Step bs (Rebase m) r cs = (r ≡ Done) × (cs ≡ values m)
+  Step bs look r cs = Answers bs look r × (cs ≡ bs)

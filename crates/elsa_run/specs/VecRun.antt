@@ -16,10 +16,7 @@ pushed_on e = e.base ++ e.accepted
 abbrev pub accepted_item : {B X : Type 0} → X → VecReply B → Option X
 accepted_item x Done = Some x
 accepted_item x (Item b) = Some x
-accepted_item x (Found o) = None
-accepted_item x (Count n) = None
-accepted_item x (Flag flag) = None
-accepted_item x NoMemory = None
+accepted_item x other = None
 
 module _ {T B X M : Type 0} (target : T → X) (shown : B → X) (inner : M → List B) where
   -- a look answers a borrow that shows what stands at place i, and None exactly if there is no such place
@@ -41,12 +38,8 @@ module _ {T B X M : Type 0} (target : T → X) (shown : B → X) (inner : M → 
   abbrev pub epoch_after : Epoch X → VecCommand T M → VecReply B → Epoch X
   epoch_after e (Push item) r = accept e (accepted_item (target item) r)
   epoch_after e (PushGet item) r = accept e (accepted_item (target item) r)
-  epoch_after e (Get i) r = e
-  epoch_after e First r = e
-  epoch_after e Last r = e
-  epoch_after e Len r = e
-  epoch_after e IsEmpty r = e
   epoch_after e (Rebase m) r = epoch_from (map shown (inner m))
+  epoch_after e look r = e
 
   -- what one call leaves where xs is held
   abbrev pub content_after : List X → VecCommand T M → VecReply B → List X

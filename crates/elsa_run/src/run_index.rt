@@ -2,7 +2,7 @@
 //!
 //! Every list of commands gets the model's reply: what is held is the base with the first accepted value of each
 //! further key.
-ghost use Rattle.std.specs.Prelude.{◌≡◌, IfOk, OnErr};
+ghost use Rattle.std.specs.Prelude.{◌≡◌, IfOk, OnErr, length};
 ghost use Rattle.elsa_run.specs.IndexRun.{IndexRunsTo};
 
 use elsa_index::index_map::FrozenIndexMap;
@@ -123,6 +123,7 @@ pub fn run_index<
     ensures run { IfOk result (λ replies.
         IndexRunsTo K.eq V.target V.shown (λ m. m.entries) map.old commands.items replies.items
         map.new) }
+    ensures one_each { IfOk result (λ replies. length replies.items ≡ length commands.items) }
     ensures none_made { OnErr result (map.new ≡ map.old) }
 {
     run(alloc, map, commands, IndexReply::NoMemory)

@@ -2,7 +2,7 @@
 //!
 //! Every list of commands gets the model's reply: each key has the base's value, or else the first
 //! accepted one of the epoch.
-ghost use Rattle.std.specs.Prelude.{◌≡◌, IfOk, OnErr};
+ghost use Rattle.std.specs.Prelude.{◌≡◌, IfOk, OnErr, length};
 ghost use Rattle.elsa_run.specs.MapRun.{MapRunsTo};
 
 use elsa_maps::map::MapForm;
@@ -96,6 +96,7 @@ pub fn run_map<'a, M: MapForm<'a>, A: Allocator + Copy>(
     ensures run { IfOk result (λ replies.
         MapRunsTo M.same M.Value.target M.Value.shown M.base_entries (M.entries map.old)
         commands.items replies.items (M.entries map.new)) }
+    ensures one_each { IfOk result (λ replies. length replies.items ≡ length commands.items) }
     ensures refused { OnErr result (M.entries map.new ≡ M.entries map.old) }
 {
     // Tells the proof that the keys' equality is an equivalence.

@@ -2,7 +2,7 @@
 //!
 //! Every list of commands gets the model's reply: what is held is the base with each further value once, in the
 //! order of the first insertions.
-ghost use Rattle.std.specs.Prelude.{◌≡◌, IfOk, OnErr};
+ghost use Rattle.std.specs.Prelude.{◌≡◌, IfOk, OnErr, length};
 ghost use Rattle.elsa_run.specs.SetRun.{SetRunsTo};
 
 use elsa_index::index_set::FrozenIndexSet;
@@ -129,6 +129,7 @@ where
     ensures run { IfOk result (λ replies.
         SetRunsTo T.Borrow.eq T.target T.shown T.finds T.Borrow.finds (λ m. m.keys) set.old
         commands.items replies.items set.new) }
+    ensures one_each { IfOk result (λ replies. length replies.items ≡ length commands.items) }
     ensures none_made { OnErr result (set.new ≡ set.old) }
 {
     run(alloc, set, commands, SetReply::NoMemory)

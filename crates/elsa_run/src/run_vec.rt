@@ -1,7 +1,7 @@
 //! Whole runs of calls on a vector.
 //!
 //! Every list of commands gets the model's reply: what is held is the base, and behind it the items of the accepted pushes.
-ghost use Rattle.std.specs.Prelude.{◌≡◌, IfOk, OnErr, map};
+ghost use Rattle.std.specs.Prelude.{◌≡◌, IfOk, OnErr, length, map};
 ghost use Rattle.elsa_run.specs.VecRun.{VecRunsTo};
 
 use elsa_model::{Call, run};
@@ -96,6 +96,7 @@ pub fn run_vec<'a, T: StableDeref<'a>, A: Allocator + Copy>(
     ensures run { IfOk result (λ replies.
         VecRunsTo T.target T.shown (λ m. m.items) (map T.shown items.old) commands.items
         replies.items (map T.shown items.new)) }
+    ensures one_each { IfOk result (λ replies. length replies.items ≡ length commands.items) }
     ensures none_made { OnErr result (items.new ≡ items.old) }
 {
     run(alloc, items, commands, VecReply::NoMemory)

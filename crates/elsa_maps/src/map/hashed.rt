@@ -10,8 +10,9 @@ ghost use Rattle.std.specs.Option.{ForSome};
 ghost use Rattle.std.specs.Str.{bytes_eq};
 ghost use Rattle.std.specs.String.{string_bytes};
 ghost use Rattle.elsa_maps.specs.FirstWins.{Adds, HoldsLast, SameAt, entry_at, same_values, value_at};
-ghost use Rattle.elsa_maps.specs.MapLent.{lends_entries};
-ghost use Rattle.elsa_maps.specs.MapEquality.{same_values_equivalence, same_values_laws};
+ghost use Rattle.elsa_maps.specs.Lent.{lends_table};
+ghost use Rattle.elsa_model.proofs.MapEquality.{same_values_equivalence, same_values_laws};
+ghost use Rattle.elsa_model.specs.FirstWins.{IsEqualMap};
 
 use bumpalo::Bump;
 use elsa_once::stable::StableDeref;
@@ -30,6 +31,7 @@ use std::ops::Index;
 ///
 /// The default hasher is fast and has a fixed seed; where strangers choose the keys, take a `SeededState` of `elsa` by
 /// [`with_hasher`](FrozenMap::with_hasher).
+#[derive(Drop)]
 pub struct FrozenMap<
     'a,
     K: Eq + Hash,
@@ -50,18 +52,6 @@ impl<'a, K: Eq + Hash, V: StableDeref<'a>, S: BuildHasher, A: Allocator + Copy> 
     ghost Value = { List (K × V.Borrow) };
 
     ghost view = { λ m. m.entries.entries };
-}
-
-impl<'a, K: Eq + Hash + Drop, V: StableDeref<'a>, S: BuildHasher + Drop, A: Allocator + Copy> Drop
-    for FrozenMap<'a, K, V, S, A> {
-    fn drop(self) {
-        let FrozenMap {
-            alloc: _alloc,
-            arena: _arena,
-            entries: _entries,
-            of: _of,
-        } = self;
-    }
 }
 
 impl<'a, K: Eq + Hash, V: StableDeref<'a>, A: Allocator + Copy> FrozenMap<
@@ -213,7 +203,7 @@ impl<'a, K: Eq + Hash, V: StableDeref<'a>, S: BuildHasher, A: Allocator + Copy> 
 
     /// The inner map, borrowed for writing: it may change or remove anything, and what it leaves is a new base.
     pub fn as_mut(&mut self) -> &mut HashMap<K, V::Borrow, S, A>
-        ensures* writes_back { sem 𝓛 (lends_entries K.row V.row S.row A.row V.Borrow.row
+        ensures* writes_back { sem 𝓛 (lends_table K.row V.row S.row A.row V.Borrow.row
             S.Hasher.row K.Hash V.HasTarget S.BuildHasher S.Hasher.Hasher A.Allocator self.entry
             result) }
         ensures content { result.now.entries ≡ self.old }
@@ -361,14 +351,11 @@ impl<
             (q : K) →
             value_at K.eq self.new q ≡ (if K.eq key q then Some b else value_at K.eq self.old q)) }
     {
-        let borrow = match value.place(self.arena) {
-            Ok(borrow) => borrow,
-            Err(_) => return Err(AllocError),
+        let Ok(placed) = value.place(self.arena) else {
+            return Err(AllocError);
         };
-        match self.entries.insert(key, borrow) {
-            Ok(_) => Ok(borrow),
-            Err(_) => Err(AllocError),
-        }
+        self.entries.insert(key, placed)?;
+        Ok(placed)
     }
 
     /// A map of the pairs in which, other than by insertions, the last value of a key wins.
@@ -512,7 +499,10 @@ where
 
     ghost laws = { same_values_laws K.eq V.Borrow.eq K.Eq.laws V.Borrow.laws };
 
-    fn eq(&self, other: &Self) -> bool {
+    fn eq(&self, other: &Self) -> bool
+        ensures decides { result ≡ same_values K.eq V.Borrow.eq self.now other.now }
+        ensures as_maps { IsTrue result ↔ IsEqualMap K.eq V.Borrow.eq self.now other.now }
+    {
         self.entries == other.entries
     }
 }

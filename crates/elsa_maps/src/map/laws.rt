@@ -2,14 +2,11 @@
 //!
 //! The laws follow from the contracts of the maps alone, as any caller's own proofs do.
 ghost use Rattle.std.specs.Prelude.{◌≡◌, ◌+◌, ◌⊎◌, ◌↔◌, All, Bool, false, true, IfOk, IsSome, IsTrue, None, OnErr, Some, if◌then◌else◌, length};
-ghost use Rattle.std.specs.Option.{option_eq};
-ghost use Rattle.std.specs.Ordering.{eq_by_cmp};
-ghost use Rattle.elsa_maps.specs.FirstWins.{Inserts, Keeps, value_at};
+ghost use Rattle.elsa_maps.specs.FirstWins.{Inserts, Keeps, SameAt, value_at};
 
-use super::{FrozenBTreeMap, FrozenMap, MapForm};
+use super::MapForm;
 use elsa_once::stable::StableDeref;
-use std::alloc::{AllocError, Allocator};
-use std::hash::{BuildHasher, Hash};
+use std::alloc::AllocError;
 
 /// An insertion, accepted or refused, keeps the value of every key that has one; the key has the returned value
 /// afterwards, and the flag is true exactly where the key was new, and the content grows by one entry.
@@ -69,92 +66,30 @@ pub fn is_new_once<'a, M: MapForm<'a>>(
     Ok((before, after))
 }
 
-/// A clone of a hashed map and its source are independent of each other: after an insertion into each, each is what the source was
-/// before, with its own insertion alone.
-pub fn hashed_inserted_apart<
-    'a,
-    K: Eq + Hash + Clone + Drop,
-    V: StableDeref<'a>,
-    S: BuildHasher + Clone + Drop,
-    A: Allocator + Copy,
->(
-    map: &mut FrozenMap<'a, K, V, S, A>,
-    one: (K, V),
-    other: (K, V),
-) -> Result<FrozenMap<'a, K, V, S, A>, AllocError>
-    requires equal_clones { (k c : K) → K.is_clone k c → K.eq k c ≡ true }
+/// A copy of a map, as `clone` gives, and the map itself are independent of each other: after an insertion into each, each is what the
+/// map was before, with its own insertion alone.
+pub fn inserted_apart<'a, M: MapForm<'a>>(
+    map: &mut M,
+    mut copy: M,
+    one: (M::Key, M::Value),
+    other: (M::Key, M::Value),
+) -> Result<M, AllocError>
+where
+    M: Drop,
+    requires alike { SameAt (value_at M.same (M.entries map.old)) (value_at M.same (M.entries copy)) }
     ensures source { IfOk result (λ _.
-        Inserts K.eq V.target V.shown (value_at K.eq map.old) one.0 one.1 (value_at K.eq map.new)) }
-    ensures copy { IfOk result (λ copy.
-        Inserts K.eq V.target V.shown (value_at K.eq map.old) other.0 other.1 (value_at K.eq copy)) }
-    ensures refused { OnErr result ((map.new ≡ map.old)
-        ⊎ Inserts K.eq V.target V.shown (value_at K.eq map.old) one.0 one.1 (value_at K.eq map.new)) }
+        Inserts M.same M.Value.target M.Value.shown (value_at M.same (M.entries map.old)) one.0
+        one.1 (value_at M.same (M.entries map.new))) }
+    ensures copy { IfOk result (λ copied.
+        Inserts M.same M.Value.target M.Value.shown (value_at M.same (M.entries map.old)) other.0
+        other.1 (value_at M.same (M.entries copied))) }
+    ensures refused { OnErr result ((M.entries map.new ≡ M.entries map.old)
+        ⊎ Inserts M.same M.Value.target M.Value.shown (value_at M.same (M.entries map.old)) one.0
+        one.1 (value_at M.same (M.entries map.new))) }
 {
     let (key, value) = one;
     let (other_key, other_value) = other;
-    let mut copy = map.clone()?;
     map.insert(key, value)?;
     copy.insert(other_key, other_value)?;
     Ok(copy)
-}
-
-/// A clone of an ordered map and its source are independent of each other: after an insertion into each, each is what the source was
-/// before, with its own insertion alone.
-pub fn ordered_inserted_apart<'a, K: Ord + Clone + Drop, V: StableDeref<'a>, A: Allocator + Copy>(
-    tree: &mut FrozenBTreeMap<'a, K, V, A>,
-    one: (K, V),
-    other: (K, V),
-) -> Result<FrozenBTreeMap<'a, K, V, A>, AllocError>
-    requires equal_clones { (k c : K) → K.is_clone k c → K.eq k c ≡ true }
-    ensures source { IfOk result (λ _.
-        Inserts (eq_by_cmp K.cmp) V.target V.shown (value_at (eq_by_cmp K.cmp) tree.old) one.0 one.1
-        (value_at (eq_by_cmp K.cmp) tree.new)) }
-    ensures copy { IfOk result (λ copy.
-        Inserts (eq_by_cmp K.cmp) V.target V.shown (value_at (eq_by_cmp K.cmp) tree.old) other.0
-        other.1 (value_at (eq_by_cmp K.cmp) copy)) }
-    ensures refused { OnErr result ((tree.new ≡ tree.old)
-        ⊎ Inserts (eq_by_cmp K.cmp) V.target V.shown (value_at (eq_by_cmp K.cmp) tree.old) one.0
-        one.1 (value_at (eq_by_cmp K.cmp) tree.new)) }
-{
-    let (key, value) = one;
-    let (other_key, other_value) = other;
-    let mut copy = tree.clone()?;
-    tree.insert(key, value)?;
-    copy.insert(other_key, other_value)?;
-    Ok(copy)
-}
-
-/// Two hashed maps are equal exactly if at each key both have equal values or neither has one.
-pub fn hashed_equal_as_functions<
-    'a,
-    K: Eq + Hash,
-    V: StableDeref<'a>,
-    S: BuildHasher,
-    A: Allocator + Copy,
->(map: &FrozenMap<'a, K, V, S, A>, other: &FrozenMap<'a, K, V, S, A>) -> bool
-where
-    V::Borrow: PartialEq,
-    ensures equal { IsTrue result → (q : K) →
-        option_eq V.Borrow.eq (value_at K.eq map.now q) (value_at K.eq other.now q) ≡ true }
-    ensures only_equal { ((q : K) →
-        option_eq V.Borrow.eq (value_at K.eq map.now q) (value_at K.eq other.now q) ≡ true) →
-        IsTrue result }
-{
-    *map == *other
-}
-
-/// Two ordered maps are equal exactly if at each key both have equal values or neither has one.
-pub fn ordered_equal_as_functions<'a, K: Ord, V: StableDeref<'a>, A: Allocator + Copy>(
-    tree: &FrozenBTreeMap<'a, K, V, A>,
-    other: &FrozenBTreeMap<'a, K, V, A>,
-) -> bool
-where
-    V::Borrow: PartialEq,
-    ensures equal { IsTrue result → (q : K) →
-        option_eq V.Borrow.eq (value_at (eq_by_cmp K.cmp) tree.now q) (value_at (eq_by_cmp K.cmp) other.now q)
-        ≡ true }
-    ensures only_equal { ((q : K) → option_eq V.Borrow.eq (value_at (eq_by_cmp K.cmp) tree.now q) (value_at (eq_by_cmp K.cmp) other.now q) ≡ true) →
-        IsTrue result }
-{
-    *tree == *other
 }

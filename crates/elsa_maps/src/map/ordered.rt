@@ -13,8 +13,9 @@ ghost use Rattle.std.specs.Ordering.{eq_by_cmp, nat_cmp};
 ghost use Rattle.std.specs.Cmp.Lexicographic.{slice_cmp};
 ghost use Rattle.std.specs.String.{string_bytes};
 ghost use Rattle.elsa_maps.specs.FirstWins.{Adds, HoldsLast, SameAt, same_values, value_at};
-ghost use Rattle.elsa_maps.specs.MapEquality.{same_values_equivalence, same_values_laws};
-ghost use Rattle.elsa_maps.specs.OrderedLent.{lends_entries};
+ghost use Rattle.elsa_model.proofs.MapEquality.{same_values_equivalence, same_values_laws};
+ghost use Rattle.elsa_model.specs.FirstWins.{IsEqualMap};
+ghost use Rattle.elsa_maps.specs.Lent.{lends_tree};
 
 use bumpalo::Bump;
 use elsa_once::stable::StableDeref;
@@ -31,6 +32,7 @@ use std::ops::{Index, RangeBounds};
 /// outlasts later insertions and the map itself. The tree of the entries is in memory of the allocator `A`.
 ///
 /// Keys need `Ord` and nothing else; two keys are one where they compare `Equal`.
+#[derive(Drop)]
 pub struct FrozenBTreeMap<'a, K: Ord, V: StableDeref<'a>, A: Allocator + Copy = Global> {
     alloc: A,
     arena: &'a Bump,
@@ -44,18 +46,6 @@ impl<'a, K: Ord, V: StableDeref<'a>, A: Allocator + Copy> Model for FrozenBTreeM
     ghost Value = { List (K × V.Borrow) };
 
     ghost view = { λ m. m.entries.entries };
-}
-
-impl<'a, K: Ord + Drop, V: StableDeref<'a>, A: Allocator + Copy> Drop
-    for FrozenBTreeMap<'a, K, V, A> {
-    fn drop(self) {
-        let FrozenBTreeMap {
-            alloc: _alloc,
-            arena: _arena,
-            entries: _entries,
-            of: _of,
-        } = self;
-    }
 }
 
 impl<'a, K: Ord, V: StableDeref<'a>, A: Allocator + Copy> FrozenBTreeMap<'a, K, V, A> {
@@ -178,10 +168,8 @@ impl<'a, K: Ord, V: StableDeref<'a>, A: Allocator + Copy> FrozenBTreeMap<'a, K, 
         K: Copy,
         ensures { result ≡ slice_get self.now 0 }
     {
-        match self.entries.first_key_value() {
-            Some((key, value)) => Some((*key, *value)),
-            None => None,
-        }
+        let (key, value) = self.entries.first_key_value()?;
+        Some((*key, *value))
     }
 
     /// The entry with the greatest key, `None` exactly if the map is empty. Takes no memory; `O(log n)`.
@@ -190,10 +178,8 @@ impl<'a, K: Ord, V: StableDeref<'a>, A: Allocator + Copy> FrozenBTreeMap<'a, K, 
         K: Copy,
         ensures { result ≡ slice_get self.now (length self.now - 1) }
     {
-        match self.entries.last_key_value() {
-            Some((key, value)) => Some((*key, *value)),
-            None => None,
-        }
+        let (key, value) = self.entries.last_key_value()?;
+        Some((*key, *value))
     }
 
     /// The inner map, with each key's borrow. Takes no memory.
@@ -211,7 +197,7 @@ impl<'a, K: Ord, V: StableDeref<'a>, A: Allocator + Copy> FrozenBTreeMap<'a, K, 
 
     /// The inner map, borrowed for writing: it may change or remove anything, and what it leaves is a new base.
     pub fn as_mut(&mut self) -> &mut BTreeMap<K, V::Borrow, A>
-        ensures* writes_back { sem 𝓛 (lends_entries K.row V.row A.row V.Borrow.row K.Ord V.HasTarget
+        ensures* writes_back { sem 𝓛 (lends_tree K.row V.row A.row V.Borrow.row K.Ord V.HasTarget
             A.Allocator self.entry result) }
         ensures content { result.now.entries ≡ self.old }
     {
@@ -220,27 +206,6 @@ impl<'a, K: Ord, V: StableDeref<'a>, A: Allocator + Copy> FrozenBTreeMap<'a, K, 
 }
 
 impl<'a, K: Ord + Drop, V: StableDeref<'a>, A: Allocator + Copy> FrozenBTreeMap<'a, K, V, A> {
-    // Gives a key that is absent the value: one search.
-    fn add(&mut self, key: K, value: V) -> Result<V::Borrow, AllocError>
-        requires absent { value_at (eq_by_cmp K.cmp) self.old key ≡ None }
-        ensures stands { IfOk result (λ b. value_at (eq_by_cmp K.cmp) self.new key ≡ Some b) }
-        ensures new_target { IfOk result (λ b. V.shown b ≡ V.target value) }
-        ensures new_content { IfOk result (λ b.
-            Adds (eq_by_cmp K.cmp) (value_at (eq_by_cmp K.cmp) self.old)
-            (value_at (eq_by_cmp K.cmp) self.new) key b) }
-        ensures new_length { OnOk result (length self.new ≡ length self.old + 1) }
-
-        // The tree has it, or is as it was.
-        ensures new_entry { IfOk result (λ b. self.new ≡ insert_entry K.cmp self.old key b) }
-        ensures refused { OnErr result (self.new ≡ self.old) }
-    {
-        let Ok(borrow) = value.place(self.arena) else {
-            return Err(AllocError);
-        };
-        self.entries.insert(key, borrow)?;
-        Ok(borrow)
-    }
-
     /// Gives `key` the value, unless the map has a key that equals it, and returns the value that the key now has and
     /// whether the key was new.
     ///
@@ -452,7 +417,7 @@ impl<'a, V: StableDeref<'a>, A: Allocator + Copy> FrozenBTreeMap<'a, &'a str, V,
             return Ok(found);
         }
         let placed = self.arena.try_alloc_str(key)?;
-        self.add(placed, value)
+        self.insert(placed, value)
     }
 }
 
@@ -506,7 +471,11 @@ where
 
     ghost laws = { same_values_laws (eq_by_cmp K.cmp) V.Borrow.eq (eq_by_cmp_equiv K.total) V.Borrow.laws };
 
-    fn eq(&self, other: &Self) -> bool {
+    fn eq(&self, other: &Self) -> bool
+        ensures decides { result ≡ same_values (eq_by_cmp K.cmp) V.Borrow.eq self.now other.now }
+        ensures as_maps { IsTrue result
+            ↔ IsEqualMap (eq_by_cmp K.cmp) V.Borrow.eq self.now other.now }
+    {
         // They tell the proof that the keys ascend.
         let _lengths = (self.len(), other.len());
         self.entries == other.entries

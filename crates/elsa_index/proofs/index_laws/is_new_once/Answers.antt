@@ -2,9 +2,9 @@ use Rattle.std.proofs.Common.{◌≡◌, position, sym, ap, ◌∙◌}
 use Rattle.std.proofs.lemmas.Iterator.Adapters.{YieldsList-from_vec}
 use Rattle.std.proofs.lemmas.Iterator.Consumers.{YieldsList-end}
 use Rattle.std.specs.Map.{keys_of, lookup}
-use Rattle.elsa_index.specs.Content.{Grows}
-use Rattle.elsa_index.proofs.Epochs.{found_all, found_more, found_once, grows_on, not_new, value_stays}
-use Rattle.elsa_index.proofs.Laws.{keys_grow, place_stays}
+use Rattle.elsa_model.specs.Insertions.{Grows}
+use Rattle.elsa_model.proofs.Growing.{found_all, found_more, grows_on, keys_grow, place_stays, value_stays}
+use Rattle.elsa_index.proofs.Laws.{found_once, not_new}
 use Rattle.elsa_index.proofs.index_laws.is_new_once.Goals as goal
 
 pub loop-pair-preserved : goal.loop-pair-preserved
@@ -13,7 +13,7 @@ loop-pair-preserved g c =
     let held = c.loop-pair.map in
     let left = c.keeps_earlier_pairs-in-loop-pair.new.map in
     let kept = c.keeps_earlier_pairs-in-loop-pair.ensures.kept in
-    let keys : Grows (keys_of held) (keys_of left) = keys_grow eq g.met.K.Eq.laws g.V.HasTarget.target g.V.HasTarget.shown _ _ kept in
+    let keys : Grows (keys_of held) (keys_of left) = keys_grow _ _ kept in
     let before = c.loop-pair.invariant in
     record {
       there = value_stays (eq c.args.first.0) held left _ kept before.there;
@@ -24,7 +24,7 @@ loop-pair-preserved g c =
 
 -- the last insertion keeps what the loop left
 grown : (g : _) (c : goal.In_ok-after g) → Grows (keys_of c.loop-pair.map) (keys_of c.keeps_earlier_pairs-2.new.map)
-grown g c = keys_grow g.K.PartialEq.eq g.met.K.Eq.laws g.V.HasTarget.target g.V.HasTarget.shown _ _ c.keeps_earlier_pairs-2.ensures.kept
+grown g c = keys_grow _ _ c.keeps_earlier_pairs-2.ensures.kept
 
 -- the two keys find the same
 alike : (g : _) (c : goal.In_ok-after g) → g.K.PartialEq.eq c.args.again.0 ≡ g.K.PartialEq.eq c.args.first.0

@@ -1,4 +1,5 @@
-use Rattle.elsa_index.proofs.Laws.{place_stays, set_grows_inserted}
+use Rattle.elsa_model.proofs.Growing.{place_stays}
+use Rattle.elsa_index.proofs.Laws.{set_grows_inserted}
 use Rattle.elsa_index.proofs.index_laws.set_insert_both.Goals as goal
 
 pub returns-clause-first_place : goal.returns-clause-first_place

@@ -1,8 +1,8 @@
 use Rattle.std.proofs.Common.{◌≡◌, position, slice_get, sym, ap, ◌∙◌}
 use Rattle.std.proofs.lemmas.Iterator.Adapters.{YieldsList-from_vec}
 use Rattle.std.proofs.lemmas.Iterator.Consumers.{YieldsList-end}
-use Rattle.elsa_index.proofs.Epochs.{found_all, found_more, found_once, grows_on, item_stays, not_new}
-use Rattle.elsa_index.proofs.Laws.{place_stays}
+use Rattle.elsa_model.proofs.Growing.{found_all, found_more, grows_on, item_stays, place_stays}
+use Rattle.elsa_index.proofs.Laws.{found_once, not_new}
 use Rattle.elsa_index.proofs.index_laws.set_is_new_once.Goals as goal
 
 pub loop-value-preserved : goal.loop-value-preserved

@@ -1,6 +1,6 @@
 use Rattle.std.proofs.Common.{◌≡◌, Some, position, slice_get}
-use Rattle.elsa_index.specs.Content.{Grows}
-use Rattle.elsa_index.proofs.Epochs.{AreFound}
+use Rattle.elsa_model.specs.Insertions.{Grows}
+use Rattle.elsa_model.proofs.Growing.{AreFound}
 use Rattle.elsa_index.proofs.index_laws.set_is_new_once.Given as goal
 
 abbrev pub invariant-loop-value : goal.invariant-loop-value

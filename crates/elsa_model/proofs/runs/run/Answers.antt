@@ -4,7 +4,7 @@ use Rattle.std.proofs.lemmas.Iterator.Adapters.{YieldsList-from_vec}
 use Rattle.std.proofs.lemmas.Iterator.Consumers.{YieldsList-end}
 use Rattle.std.proofs.lemmas.List.{length_push}
 use Rattle.elsa_model.specs.Replay.{Answered}
-use Rattle.elsa_model.proofs.Replay.{answered_push}
+use Rattle.elsa_model.proofs.Replay.{answered_length, answered_push}
 use Rattle.elsa_model.proofs.runs.run.Goals as goal
 
 pub loop-command-init : goal.loop-command-init
@@ -29,3 +29,6 @@ returns-clause-run g c =
     let it = c.into_iter-command-iterator.ensures.into_iter_gives in
     let t = YieldsList-end (YieldsList-from_vec {s = c.into_iter-command-iterator.result} c.args.commands.items it.0 (it.1 ∙ c.args.commands.ok.0)) c.loop-command.yielded c.loop-command.command-iterator c.loop-command.yielded_by c.next.result c.next.new.self c.in-None.is c.next.ensures.steps in
     subst (λ l. Answered g.C.Call.steps (g.C.Call.state c.args.object.now) l c.loop-command.replies.items (g.C.Call.state c.loop-command.object)) (sym (map-id c.loop-command.yielded) ∙ t.0) c.loop-command.invariant.run
+
+pub returns-clause-one_each : goal.returns-clause-one_each
+returns-clause-one_each g c = answered_length g.C.Call.steps _ _ _ _ (returns-clause-run g c)

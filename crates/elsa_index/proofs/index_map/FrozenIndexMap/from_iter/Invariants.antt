@@ -1,4 +1,4 @@
-use Rattle.elsa_index.specs.Content.{CollectsTargets}
+use Rattle.elsa_model.specs.Insertions.{CollectsTargets}
 use Rattle.elsa_index.proofs.index_map.FrozenIndexMap.from_iter.Given as goal
 
 abbrev pub invariant-loop-pair : goal.invariant-loop-pair

@@ -1,10 +1,9 @@
-use Rattle.std.proofs.Common.{◌≡◌, rules, sym, ◌∙◌}
-use Rattle.elsa_index.specs.Equality.{same_map}
-use Rattle.elsa_index.proofs.Equality.{same_map_decides}
+use Rattle.std.proofs.Common.{◌∙◌}
+use Rattle.elsa_model.proofs.MapEquality.{equal_as_maps, same_by_hash}
 use Rattle.elsa_index.proofs.index_map.FrozenIndexMapPartialEq.eq.Goals as goal
 
+pub returns-clause-decides : goal.returns-clause-decides
+returns-clause-decides g c = rw (← c.self.view_is, ← c.other.view_is) (c.eq.ensures ∙ same_by_hash g.K.PartialEq.eq g.V.Borrow.PartialEq.eq g.met.K.Eq.laws c.self.inside.map c.other.inside.map)
+
 pub returns-clause-as_maps : goal.returns-clause-as_maps
-returns-clause-as_maps g c =
-    let computed : c.eq.result ≡ same_map g.K.PartialEq.eq g.V.Borrow.PartialEq.eq c.args.self.now c.args.other.now = search rules in
-    let decides = same_map_decides g.K.PartialEq.eq g.V.Borrow.PartialEq.eq g.met.K.Eq.laws c.args.self.now c.args.other.now in
-    (λ yes. decides.0 (sym computed ∙ yes), λ same. computed ∙ decides.1 same)
+returns-clause-as_maps g c = equal_as_maps g.K.PartialEq.eq g.V.Borrow.PartialEq.eq g.met.K.Eq.laws _ _ _ (returns-clause-decides g c)

@@ -1,4 +1,4 @@
-use Rattle.elsa_index.specs.Content.{SetCollects}
+use Rattle.elsa_model.specs.Insertions.{SetCollects}
 use Rattle.elsa_index.proofs.index_set.FrozenIndexSet.from_iter.Given as goal
 
 abbrev pub invariant-loop-value : goal.invariant-loop-value

@@ -1,42 +1,25 @@
-use Rattle.std.proofs.Common.{◌≡◌, All, Bool, IsSome, List, [], ◌∷◌, ◌++◌, None, Option, Some, false, is_some, map, refl, subst, sym, ap, ◌∙◌}
+use Rattle.std.proofs.Common.{◌≡◌, IsSome, Some, false, is_some, sym, ap, ◌∙◌}
 use Rattle.std.proofs.lemmas.Iterator.Adapters.{YieldsList-from_vec}
 use Rattle.std.proofs.lemmas.Iterator.Consumers.{YieldsList-end}
-use Rattle.std.proofs.lemmas.List.Elements.{All-map, All-nil, All-push, All-same, All-weaker}
+use Rattle.std.proofs.lemmas.List.Elements.{All-nil}
 use Rattle.std.specs.HashMap.Eq.{lookup_congr}
-use Rattle.elsa_maps.specs.FirstWins.{Keeps, value_at}
+use Rattle.elsa_model.proofs.Growing.{all_more, all_of, some_stays}
+use Rattle.elsa_maps.specs.FirstWins.{value_at}
 use Rattle.elsa_maps.proofs.map.laws.is_new_once.Goals as goal
-
-module _ {K V B : Type 0} (eq : K → K → Bool) (es fs : List (K × B)) (pairs : List (K × V)) (has : All (λ pair. IsSome (value_at eq es pair.0)) pairs) where
-  -- what has a value keeps one
-  stays : Keeps (value_at eq es) (value_at eq fs) → (k : K) → IsSome (value_at eq es k) → IsSome (value_at eq fs k)
-  stays kept k = by (value_at eq es k) refl
-    where
-      by : (o : Option B) → value_at eq es k ≡ o → IsSome o → IsSome (value_at eq fs k)
-      by None is some = cc
-      by (Some v) is some = ap is_some (kept k v is)
-
-  -- one more pair
-  has_more : (pair : K × V) (v : B) → Keeps (value_at eq es) (value_at eq fs) → value_at eq fs pair.0 ≡ Some v → All (λ pair. IsSome (value_at eq fs pair.0)) (pairs ++ pair ∷ [])
-  has_more pair v kept there =
-      let P : K × V → Type 0 = λ pair. IsSome (value_at eq fs pair.0) in
-      All-push P pairs pair (All-weaker (λ pair. IsSome (value_at eq es pair.0)) P (λ pair. stays kept pair.0) pairs has) (ap is_some there)
-
-  -- the same of equal lists
-  has_same : (all : List (K × V)) → map (λ pair. pair) pairs ≡ all → fs ≡ es → All (λ pair. IsSome (value_at eq fs pair.0)) all
-  has_same all whole same =
-      let P : K × V → Type 0 = λ pair. IsSome (value_at eq fs pair.0) in
-      All-same P all (map (λ pair. pair) pairs) (sym whole) (All-map P (λ pair. pair) pairs (subst (λ gs. All (λ pair. IsSome (value_at eq gs pair.0)) pairs) (sym same) has))
 
 pub loop-pair-init : goal.loop-pair-init
 loop-pair-init g c = record { first = c.in_ok-before.ensures.there; between = All-nil _; kept = c.in_ok-before.ensures.kept }
 
 pub loop-pair-preserved : goal.loop-pair-preserved
 loop-pair-preserved g c =
+    let same = g.M.MapForm.same in
+    let held = g.M.MapForm.entries c.loop-pair.map in
+    let left = g.M.MapForm.entries c.keeps_earlier_values-in-loop-pair.new.map in
     let kept = c.keeps_earlier_values-in-loop-pair.ensures.kept in
     let before = c.loop-pair.invariant in
     record {
       first = kept _ _ before.first;
-      between = has_more g.M.MapForm.same (g.M.MapForm.entries c.loop-pair.map) (g.M.MapForm.entries c.keeps_earlier_values-in-loop-pair.new.map) c.loop-pair.yielded before.between c.in-Some.pair _ kept c.in_ok-keeps_earlier_values.ensures.there;
+      between = all_more (λ pair. IsSome (value_at same held pair.0)) (λ pair. IsSome (value_at same left pair.0)) (λ pair. some_stays _ _ (kept pair.0)) c.loop-pair.yielded before.between c.in-Some.pair (ap is_some c.in_ok-keeps_earlier_values.ensures.there);
       kept = λ q v had. kept q v (before.kept q v had);
     }
 
@@ -67,7 +50,10 @@ pub returns-clause-between : goal.returns-clause-between
 returns-clause-between g c =
     let it = c.into_iter-pair-iterator.ensures.into_iter_gives in
     let t = YieldsList-end (YieldsList-from_vec {s = c.into_iter-pair-iterator.result} c.args.between.items it.0 (it.1 ∙ c.args.between.ok.0)) c.loop-pair.yielded c.loop-pair.pair-iterator c.loop-pair.yielded_by c.next.result c.next.new.self c.in-None.is c.next.ensures.steps in
-    has_same g.M.MapForm.same (g.M.MapForm.entries c.loop-pair.map) (g.M.MapForm.entries c.insert_new.new.self) c.loop-pair.yielded c.loop-pair.invariant.between c.args.between.items t.0 (unchanged g c)
+    let same = g.M.MapForm.same in
+    let held = g.M.MapForm.entries c.loop-pair.map in
+    let left = g.M.MapForm.entries c.insert_new.new.self in
+    all_of (λ pair. IsSome (value_at same held pair.0)) (λ pair. IsSome (value_at same left pair.0)) (λ pair. some_stays _ _ (λ v there. ap (λ es. value_at same es pair.0) (unchanged g c) ∙ there)) c.loop-pair.yielded c.loop-pair.invariant.between c.args.between.items t.0
 
 pub returns-clause-kept : goal.returns-clause-kept
 returns-clause-kept g c = λ q v had. ap (λ entries. value_at g.M.MapForm.same entries q) (unchanged g c) ∙ c.loop-pair.invariant.kept q v had

@@ -3,42 +3,21 @@ use Rattle.std.proofs.Common.{◌≡◌, Bool, true, false, ◌||◌, if◌then�
 use Rattle.std.specs.Cmp.{IsEquivalence}
 use Rattle.std.specs.List.{list_any}
 use Rattle.std.proofs.lemmas.List.Folds.{list_any-append}
-use Rattle.elsa_index.specs.Content.{first_of_each}
+use Rattle.elsa_model.specs.Insertions.{first_of_each}
 
-or_nothing : (x y : Bool) → ((x || y) || false) ≡ (x || y)
-or_nothing true y = refl
-or_nothing false true = refl
-or_nothing false false = refl
-
-module _ {K : Type 0} (eq : K → K → Bool) (laws : IsEquivalence eq) (k : K) where
-  -- a key equal to one that the list has is had by the list
-  covered : (xs : List K) (a : K) → list_any (eq a) xs ≡ true → eq k a ≡ true → list_any (eq k) xs ≡ true
-  covered xs a h e = ap (λ t. list_any t xs) (λ j y. laws.congr k a y e j) ∙ h
-
-  or_covered : (xs : List K) (a : K) → list_any (eq a) xs ≡ true → (list_any (eq k) xs || eq k a) ≡ list_any (eq k) xs
-  or_covered xs a h = by (eq k a) refl
+module _ {K : Type 0} (eq : K → K → Bool) (laws : IsEquivalence eq) (k : K) (xs : List K) (a : K) (has : list_any (eq a) xs ≡ true) where
+  -- a key that equals one of the list adds none to it
+  adds_none : list_any (eq k) (xs ++ a ∷ []) ≡ list_any (eq k) xs
+  adds_none = list_any-append (eq k) xs (a ∷ []) ∙ by (list_any (eq k) xs) (eq k a) (λ same. ap (λ t. list_any t xs) (λ j y. laws.congr k a y same j) ∙ has)
     where
-      both : (b : Bool) → b ≡ true → (b || true) ≡ b
-      both b e = ap (λ c. c || true) e ∙ sym e
+      by : (x y : Bool) → (y ≡ true → x ≡ true) → (x || (y || false)) ≡ x
+      by true y covered = refl
+      by false true covered = sym (covered refl)
+      by false false covered = refl
 
-      nothing : (b : Bool) → (b || false) ≡ b
-      nothing true = refl
-      nothing false = refl
-
-      by : (b : Bool) → eq k a ≡ b → (list_any (eq k) xs || b) ≡ list_any (eq k) xs
-      by true e = both (list_any (eq k) xs) (covered xs a h e)
-      by false e = nothing (list_any (eq k) xs)
-
-  -- such a key may be left out
-  left_out : (xs : List K) (a : K) (ys : List K) → list_any (eq a) xs ≡ true → list_any (eq k) (xs ++ ys) ≡ list_any (eq k) ((xs ++ a ∷ []) ++ ys)
-  left_out xs a ys h =
-      list_any-append (eq k) xs ys ∙ ap (λ b. b || list_any (eq k) ys) (sym (or_covered xs a h) ∙ sym (step (list_any (eq k) xs) (eq k a)) ∙ sym (list_any-append (eq k) xs (a ∷ [])))
-      ∙ sym (list_any-append (eq k) (xs ++ a ∷ []) ys)
-    where
-      step : (x y : Bool) → (x || (y || false)) ≡ (x || y)
-      step true y = refl
-      step false true = refl
-      step false false = refl
+  -- so it may be left out
+  left_out : (ys : List K) → list_any (eq k) (xs ++ ys) ≡ list_any (eq k) ((xs ++ a ∷ []) ++ ys)
+  left_out ys = list_any-append (eq k) xs ys ∙ ap (λ b. b || list_any (eq k) ys) (sym adds_none) ∙ sym (list_any-append (eq k) (xs ++ a ∷ []) ys)
 
 module _ {X K : Type 0} (eq : K → K → Bool) (key : X → K) (laws : IsEquivalence eq) (k : K) where
   -- the first items have a key exactly if the items have it
@@ -51,7 +30,7 @@ module _ {X K : Type 0} (eq : K → K → Bool) (key : X → K) (laws : IsEquiva
 
       by : (b : Bool) → list_any (eq (key x)) before ≡ b → list_any (eq k) ((before ++ key x ∷ []) ++ map key rest) ≡ list_any (eq k) (before ++ key x ∷ map key xs)
           → list_any (eq k) (before ++ map key ((if b then [] else x ∷ []) ++ rest)) ≡ list_any (eq k) (before ++ key x ∷ map key xs)
-      by true e inside = left_out eq laws k before (key x) (map key rest) e ∙ inside
+      by true e inside = left_out eq laws k before (key x) e (map key rest) ∙ inside
       by false e inside = ap (list_any (eq k)) (sym (append_assoc before (key x ∷ []) (map key rest))) ∙ inside
 
 module _ {X K : Type 0} (eq : K → K → Bool) (key : X → K) where

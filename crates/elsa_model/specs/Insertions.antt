@@ -1,8 +1,9 @@
--- The content of an index form: a list of values, or of pairs, in the order of their first insertions.
+-- Content in the order of insertion: a list of values, or of pairs, in the order of their first insertions.
 -- What an insertion may leave is stated by cases on the place of an equal key in that list alone: no table or arena occurs.
-use Rattle.std.specs.Prelude.{◌≡◌, ℕ, Bool, true, false, List, [], ◌∷◌, ◌++◌, length, map, position, reverse, slice_get, All, Option, Some, MatchOption, IsTrue, if◌then◌else◌}
+use Rattle.std.specs.Prelude.{◌≡◌, ℕ, Bool, List, [], ◌∷◌, ◌++◌, length, map, position, reverse, slice_get, All, Option, Some, MatchOption, IsTrue, if◌then◌else◌, is_none}
 use Rattle.std.specs.List.{list_any, AllZip}
-use Rattle.std.specs.Map.{keys_of, lookup}
+use Rattle.std.specs.Map.{keys_of}
+use Rattle.elsa_model.specs.FirstWins.{value_at}
 
 -- ys begins with xs: each item stays at its place
 abbrev pub Grows : {X : Type 0} → List X → List X → Type 0
@@ -13,22 +14,16 @@ module _ {K B : Type 0} (eq : K → K → Bool) where
   abbrev pub place_of : List (K × B) → K → Option ℕ
   place_of es k = position (eq k) (keys_of es)
 
-  -- the value of the pair whose key equals k
-  abbrev pub value_of : List (K × B) → K → Option B
-  value_of es k = lookup (eq k) es
-
   module _ {V T : Type 0} (target : V → T) (shown : B → T) where
-    -- an insertion of k and v into es may answer place i, value b and whether the key is new, and leave fs
-    abbrev pub InsertedNew : List (K × B) → K → V → ℕ → B → Bool → List (K × B) → Type 0
-    InsertedNew es k v i b new fs = MatchOption (place_of es k)
-        ((i ≡ length es) × (shown b ≡ target v) × (new ≡ true) × (fs ≡ es ++ (k, b) ∷ []))
-        (λ j. (i ≡ j) × (value_of es k ≡ Some b) × (new ≡ false) × (fs ≡ es))
-
-    -- the same without the flag
+    -- an insertion of k and v into es may answer place i and value b, and leave fs
     abbrev pub Inserted : List (K × B) → K → V → ℕ → B → List (K × B) → Type 0
     Inserted es k v i b fs = MatchOption (place_of es k)
         ((i ≡ length es) × (shown b ≡ target v) × (fs ≡ es ++ (k, b) ∷ []))
-        (λ j. (i ≡ j) × (value_of es k ≡ Some b) × (fs ≡ es))
+        (λ j. (i ≡ j) × (value_at eq es k ≡ Some b) × (fs ≡ es))
+
+    -- the same, and whether the key is new
+    abbrev pub InsertedNew : List (K × B) → K → V → ℕ → B → Bool → List (K × B) → Type 0
+    InsertedNew es k v i b new fs = Inserted es k v i b fs × (new ≡ is_none (place_of es k))
 
   -- fs has the pairs of es in their order, each key a clone that equals its source, each value the same borrow
   abbrev pub IsCloneOf : (K → K → Type 0) → List (K × B) → List (K × B) → Type 0
@@ -36,17 +31,15 @@ module _ {K B : Type 0} (eq : K → K → Bool) where
 
 -- The same of a set, where each value is its own key.
 module _ {B V T : Type 0} (target : V → T) (shown : B → T) (finds : V → B → Bool) where
-  -- an insertion of v into bs may answer place i, stored value b and whether it is new, and leave cs
-  abbrev pub SetInsertedNew : List B → V → ℕ → B → Bool → List B → Type 0
-  SetInsertedNew bs v i b new cs = MatchOption (position (finds v) bs)
-      ((i ≡ length bs) × (shown b ≡ target v) × (new ≡ true) × (cs ≡ bs ++ b ∷ []))
-      (λ j. (i ≡ j) × (slice_get bs i ≡ Some b) × (new ≡ false) × (cs ≡ bs))
-
-  -- the same without the flag
+  -- an insertion of v into bs may answer place i and stored value b, and leave cs
   abbrev pub SetInserted : List B → V → ℕ → B → List B → Type 0
   SetInserted bs v i b cs = MatchOption (position (finds v) bs)
       ((i ≡ length bs) × (shown b ≡ target v) × (cs ≡ bs ++ b ∷ []))
       (λ j. (i ≡ j) × (slice_get bs i ≡ Some b) × (cs ≡ bs))
+
+  -- the same, and whether the value is new
+  abbrev pub SetInsertedNew : List B → V → ℕ → B → Bool → List B → Type 0
+  SetInsertedNew bs v i b new cs = SetInserted bs v i b cs × (new ≡ is_none (position (finds v) bs))
 
 -- Of items that come one after the other, those that come with a new key.
 module _ {X K : Type 0} (eq : K → K → Bool) (key : X → K) where
@@ -66,7 +59,7 @@ module _ {B V T : Type 0} (eq : B → B → Bool) (target : V → T) (shown : B 
 module _ {K B : Type 0} (eq : K → K → Bool) where
   -- the keys in the order of their first pairs, each with the value of its last
   abbrev pub Collects : List (K × B) → List (K × B) → Type 0
-  Collects ps es = (keys_of es ≡ keys_of (first_of_each eq (λ p. p.0) [] ps)) × ((k : K) → value_of eq es k ≡ value_of eq (reverse ps) k)
+  Collects ps es = (keys_of es ≡ keys_of (first_of_each eq (λ p. p.0) [] ps)) × ((k : K) → value_at eq es k ≡ value_at eq (reverse ps) k)
 
   -- es was collected from the given pairs, each value as a borrow of its target
   abbrev pub CollectsTargets : {V T : Type 0} → (V → T) → (B → T) → List (K × V) → List (K × B) → Type 0
