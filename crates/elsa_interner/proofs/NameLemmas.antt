@@ -1,39 +1,34 @@
--- Names as texts, and the borrows behind them.
-use Rattle.std.proofs.Common.{◌≡◌, ℕ, ◌+◌, ◌<◌, false, true≢false, Bool, true, cond, not, nat_lt, List, [], ◌∷◌, ◌++◌, length, get_or, map, position, slice_get, refl, ap, subst, sym, ◌∙◌, append-nil, arith, Option, Bor, None, Some, IfSome, MatchOption, inl, inr}
+-- Names as texts, the borrows behind them, and the table that has their places.
+use Rattle.std.proofs.Common.{◌≡◌, ℕ, ◌+◌, ◌<◌, ◌⊎◌, false, true≢false, Bool, true, List, [], ◌∷◌, ◌++◌, length, get_or, map, position, slice_get, refl, ap, subst, sym, ◌∙◌, append-nil, arith, Option, Bor, None, Some, IfSome, MatchOption, inl, inr}
 use mathlib.Core.List.{IsPrefix}
 use Rattle.std.proofs.lemmas.Grind.{common_steps}
 use Rattle.std.proofs.lemmas.List.{length-append, map-append, length-map}
 use Rattle.std.proofs.lemmas.List.Folds.{position_or_len_push}
 use Rattle.std.proofs.lemmas.List.Quantifiers.{position-Some}
-use Rattle.std.proofs.lemmas.List.Sums.{prefix_len-le-length}
+use Rattle.std.proofs.lemmas.List.Sums.{fails_before_first, position_or_len_is, prefix_len-le-length}
+use Rattle.std.proofs.Math.ListN.{get_or-append}
+use Rattle.std.proofs.Math.Seq.{get_or-append_seam}
 use Rattle.std.specs.Str.{bytes_eq}
-use Rattle.std.specs.List.{IsDistinct, AllByRecursion, position_or_len}
+use Rattle.std.specs.List.{position_or_len}
+use Rattle.std.specs.Option.{option_map}
 use Rattle.std.specs.Cmp.Lexicographic.{bytes_decides, nat_list_eq_equiv}
 use Rattle.std.proofs.lemmas.Bool.{cases_lt}
-use Rattle.std.proofs.lemmas.Map.Keys.{apart_from_distinct}
-use Rattle.std.proofs.lemmas.Option.{slice_get-get_or, slice_get_within, get_or_from_slice_get}
-use Rattle.elsa_interner.specs.Names.{Puts, IsOneToOne}
+use Rattle.std.proofs.lemmas.Option.{slice_get-get_or, slice_get-map, slice_get_cases, slice_get_within, get_or_from_slice_get}
+use Rattle.elsa_interner.specs.Names.{Puts, IsOneToOne, IsNumbered}
+use Rattle.elsa_table.specs.Table.{Entries, places, Has, Adds}
 
 abbrev shown : List (Bor (List ℕ)) → List (List ℕ)
 shown ks = map (λ b. b.now) ks
 
--- a test of what the values show finds the same place in the values
-place_in_map : {X Y : Type 0} (p : Y → Bool) (f : X → Y) (xs : List X) → position p (map f xs) ≡ position (λ x. p (f x)) xs
-place_in_map {X} p f xs = (λ j. cond (nat_lt (or_len xs j) (length-map xs f j)) (Some (or_len xs j)) None)
-  where
-    or_len : (ys : List X) → position_or_len p (map f ys) ≡ position_or_len (λ x. p (f x)) ys
-    or_len [] = refl
-    or_len (y ∷ ys) = ap (λ n. cond (not (p (f y))) (1 + n) 0) (or_len ys)
-
-pub place_of_text : (text : List ℕ) (ks : List (Bor (List ℕ))) → position (bytes_eq text) (map (λ b. b.now) ks) ≡ position (λ k. bytes_eq text k.now) ks
-place_of_text text ks = place_in_map (bytes_eq text) (λ b. b.now) ks
+-- a name that is pushed last
+pub shown_push : (ks ms cs : List (Bor (List ℕ))) (text : List ℕ) (b : Bor (List ℕ)) → ms ≡ ks → cs ≡ ms ++ b ∷ [] → b.now ≡ text → map (λ k. k.now) cs ≡ map (λ k. k.now) ks ++ text ∷ []
+shown_push ks ms cs text b same last copied =
+    ap shown last ∙ map-append (λ k. k.now) ms (b ∷ []) ∙ ap (λ l. shown l ++ b.now ∷ []) same ∙ ap (λ t. shown ks ++ t ∷ []) copied
 
 -- a new name is put last
-pub put_last : (ks cs : List (Bor (List ℕ))) (text copy : List ℕ) (n : ℕ) (b : Bor (List ℕ)) → copy ≡ text → position (λ k. bytes_eq text k.now) ks ≡ None
-    → n ≡ length ks → b.now ≡ copy → cs ≡ ks ++ b ∷ [] → Puts (map (λ c. c.now) ks) text n (map (λ c. c.now) cs)
-put_last ks cs text copy n b same none number placed last =
-    subst (λ o. MatchOption o ((n ≡ length (shown ks)) × (shown cs ≡ shown ks ++ text ∷ [])) (λ j. (n ≡ j) × (shown cs ≡ shown ks))) (sym (place_of_text text ks ∙ none))
-    (number ∙ sym (length-map ks (λ c. c.now)), ap shown last ∙ map-append (λ c. c.now) ks (b ∷ []) ∙ ap (λ t. shown ks ++ t ∷ []) (placed ∙ same))
+pub put_new : (names after : List (List ℕ)) (text : List ℕ) (n : ℕ) → position (bytes_eq text) names ≡ None → n ≡ length names → after ≡ names ++ text ∷ [] → Puts names text n after
+put_new names after text n none number last =
+    subst (λ o. MatchOption o ((n ≡ length names) × (after ≡ names ++ text ∷ [])) (λ j. (n ≡ j) × (after ≡ names))) (sym none) (number, last)
 
 -- the name at the place where a text is found is that text
 pub at_place : (names : List (List ℕ)) (text : List ℕ) (n : ℕ) → position (bytes_eq text) names ≡ Some n → slice_get names n ≡ Some text
@@ -71,28 +66,112 @@ kept_put names text n after h = by (position (bytes_eq text) names) h
     by None g = (text ∷ [], sym g.1)
     by (Some i) g = ([], append-nil names ∙ sym g.1)
 
-all_shown : (text : List ℕ) (ys : List (Bor (List ℕ))) → AllByRecursion (λ y. bytes_eq text y.now ≡ false) ys → AllByRecursion (λ t. bytes_eq text t ≡ false) (map (λ b. b.now) ys)
-all_shown text [] h = tt
-all_shown text (y ∷ ys) h = (h.0, all_shown text ys h.1)
+not_true : (b : Bool) → (b ≡ true → ⊥) → b ≡ false
+not_true true h = absurd (h refl)
+not_true false h = refl
 
-distinct_shown : (ks : List (Bor (List ℕ))) → IsDistinct (λ (a : Bor (List ℕ)) (b : Bor (List ℕ)). bytes_eq a.now b.now) ks → IsDistinct bytes_eq (map (λ b. b.now) ks)
-unfolding IsDistinct
-distinct_shown [] d = tt
-distinct_shown (k ∷ ks) d = (all_shown k.now ks d.0, distinct_shown ks d.1)
+-- the only place of a text is the first
+found_alone : (names : List (List ℕ)) (text : List ℕ) (i : ℕ) → IsOneToOne names → slice_get names i ≡ Some text → position (bytes_eq text) names ≡ Some i
+found_alone names text i one_to_one there =
+    let within = slice_get_within names i text there in
+    let first : position_or_len (bytes_eq text) names ≡ i = position_or_len_is (bytes_eq text) names i [] (omega arith) no_earlier (λ _. passes) in
+    grind (arith, common_steps, first, within)
+  where
+    passes : bytes_eq text (get_or names i []) ≡ true
+    passes = ap (bytes_eq text) (get_or_from_slice_get names i text [] there) ∙ nat_list_eq_equiv.refl text
 
-not_later : (names : List (List ℕ)) (i j : ℕ) (text : List ℕ) → IsDistinct bytes_eq names → slice_get names i ≡ Some text → slice_get names j ≡ Some text → i < j → ⊥
-not_later names i j text distinct at_i at_j before =
-    let apart = apart_from_distinct bytes_eq names i j text distinct before (slice_get_within names j text at_j) in
-    true≢false (sym (nat_list_eq_equiv.refl text) ∙ sym (λ k. bytes_eq (get_or_from_slice_get names i text text at_i k) (get_or_from_slice_get names j text text at_j k)) ∙ apart)
+    no_earlier : (k : ℕ) → k < i → bytes_eq text (get_or names k []) ≡ false
+    no_earlier k lt = not_true _ (λ e.
+        let within = slice_get_within names i text there in
+        let same : get_or names k [] ≡ text = sym ((bytes_decides text (get_or names k [])).0 e) in
+        let there_too : slice_get names k ≡ Some text = slice_get-get_or names k [] (omega arith) ∙ ap Some same in
+        omega (arith, one_to_one k i text there_too there, lt))
 
--- names that are unequal have one number each
-pub one_number_each : (ks : List (Bor (List ℕ))) → IsDistinct (λ (a : Bor (List ℕ)) (b : Bor (List ℕ)). bytes_eq a.now b.now) ks → IsOneToOne (map (λ b. b.now) ks)
-one_number_each ks d i j text at_i at_j =
-    let distinct = distinct_shown ks d in
-    elim (cases_lt i j) [
-      | inl before ↦ absurd (not_later (shown ks) i j text distinct at_i at_j before)
-      | inr after ↦ elim (cases_lt j i) [
-        | inl before ↦ absurd (not_later (shown ks) j i text distinct at_j at_i before)
-        | inr same ↦ omega arith
-      ]
+-- a text that is at no place is not found
+found_never : (names : List (List ℕ)) (text : List ℕ) → ((i : ℕ) → slice_get names i ≡ Some text → ⊥) → position (bytes_eq text) names ≡ None
+found_never names text never =
+    let last : position_or_len (bytes_eq text) names ≡ length names = position_or_len_is (bytes_eq text) names (length names) [] (omega arith) none_passes (λ lt. absurd (omega arith)) in
+    grind (arith, common_steps, last)
+  where
+    none_passes : (k : ℕ) → k < length names → bytes_eq text (get_or names k []) ≡ false
+    none_passes k lt = not_true _ (λ e. never k (slice_get-get_or names k [] lt ∙ ap Some (sym ((bytes_decides text (get_or names k [])).0 e))))
+
+-- and where it is not found, it is at no place
+never_there : (names : List (List ℕ)) (text : List ℕ) (i : ℕ) → position (bytes_eq text) names ≡ None → slice_get names i ≡ Some text → ⊥
+never_there names text i none there =
+    let within = slice_get_within names i text there in
+    let past : position_or_len (bytes_eq text) names ≡ length names = grind (arith, common_steps, prefix_len-le-length) in
+    let fails = fails_before_first (bytes_eq text) names i [] (omega (arith, past, within)) in
+    true≢false (sym (ap (bytes_eq text) (get_or_from_slice_get names i text [] there) ∙ nat_list_eq_equiv.refl text) ∙ fails)
+
+-- the name behind a borrow that compares equal
+named_here : (ks : List (Bor (List ℕ))) (text : List ℕ) (i : ℕ) (b : Bool) → i < length ks → ((d : Bor (List ℕ)) → b ≡ bytes_eq text (get_or ks i d).now) → bytes_eq text (get_or (shown ks) i []) ≡ b
+named_here ks text i b lt compared = elim ((slice_get_cases ks i).1) [
+  | inl h ↦ ap (bytes_eq text) (get_or_from_slice_get (shown ks) i h.0.now [] (slice_get-map (λ k. k.now) ks i ∙ ap (option_map (λ k. k.now)) h.2)) ∙ ap (λ k. bytes_eq text k.now) (sym h.3) ∙ sym (compared h.0)
+  | inr h ↦ absurd (omega (arith, h.0))
+]
+
+-- the place whose name the search accepted is the text's
+pub found_here : (ks : List (Bor (List ℕ))) (text : List ℕ) (i : ℕ) → IsOneToOne (map (λ k. k.now) ks) → i < length ks
+    → ((d : Bor (List ℕ)) → true ≡ bytes_eq text (get_or ks i d).now) → position (bytes_eq text) (map (λ k. k.now) ks) ≡ Some i
+found_here ks text i one_to_one lt compared =
+    let same = (bytes_decides text (get_or (shown ks) i [])).0 (named_here ks text i true lt compared) in
+    found_alone (shown ks) text i one_to_one (slice_get-get_or (shown ks) i [] (omega (arith, length-map ks (λ k. k.now))) ∙ ap Some (sym same))
+
+-- where the search refused each place that the text could have, it has none
+pub found_nowhere : (ks : List (Bor (List ℕ))) (text : List ℕ)
+    → ((i : ℕ) → slice_get (map (λ k. k.now) ks) i ≡ Some text → (d : Bor (List ℕ)) → false ≡ bytes_eq text (get_or ks i d).now) → position (bytes_eq text) (map (λ k. k.now) ks) ≡ None
+found_nowhere ks text refused = found_never (shown ks) text (λ i there.
+    let lt : i < length ks = omega (arith, slice_get_within (shown ks) i text there, length-map ks (λ k. k.now)) in
+    let passes = ap (bytes_eq text) (get_or_from_slice_get (shown ks) i text [] there) ∙ nat_list_eq_equiv.refl text in
+    true≢false (sym passes ∙ named_here ks text i false lt (refused i there)))
+
+-- a name is one of the names before, or the last
+split_last : (names : List (List ℕ)) (text : List ℕ) (i : ℕ) (word : List ℕ) → slice_get (names ++ text ∷ []) i ≡ Some word
+    → (slice_get names i ≡ Some word) ⊎ ((i ≡ length names) × (text ≡ word))
+split_last names text i word there =
+    let read = get_or_from_slice_get (names ++ text ∷ []) i word [] there in
+    let within = slice_get_within (names ++ text ∷ []) i word there in
+    elim (cases_lt i (length names)) [
+      | inl lt ↦ inl (slice_get-get_or names i [] lt ∙ ap Some (sym (get_or-append names (text ∷ []) [] i lt) ∙ read))
+      | inr ge ↦
+          let last : i ≡ length names = omega (arith, within, length-append names (text ∷ [])) in
+          inr (last, sym (get_or-append_seam names text [] []) ∙ ap (λ n. get_or (names ++ text ∷ []) n []) (sym last) ∙ read)
     ]
+
+-- a new name that the table has last
+pub numbered_put : (hash : List ℕ → ℕ) (before after : Entries) (names : List (List ℕ)) (text : List ℕ) (h place : ℕ) → IsNumbered hash before names
+    → h ≡ hash text → place ≡ places before → places after ≡ places before + 1 → Adds before h place after → position (bytes_eq text) names ≡ None
+    → IsNumbered hash after (names ++ text ∷ [])
+numbered_put hash before after names text h place old hashed placed more adds none = record {
+  counted = omega (arith, more, old.counted, length-append names (text ∷ []));
+  entered = λ i word there. elim (split_last names text i word there) [
+    | inl earlier ↦ adds.kept (hash word) i (old.entered i word earlier)
+    | inr last ↦
+        let at : place ≡ i = omega (arith, placed, old.counted, last.0) in
+        subst (λ n. Has after (hash word) n) at (subst (λ n. Has after n place) (hashed ∙ ap hash last.1) adds.added)
+  ];
+  within = λ x p has. elim (adds.only x p has) [
+    | inl earlier ↦ omega (arith, old.within x p earlier, length-append names (text ∷ []))
+    | inr last ↦ omega (arith, last.1, placed, old.counted, length-append names (text ∷ []))
+  ];
+  one_to_one = λ i j word at_i at_j. elim (split_last names text i word at_i) [
+    | inl a ↦ elim (split_last names text j word at_j) [
+      | inl b ↦ old.one_to_one i j word a b
+      | inr b ↦ absurd (never_there names text i none (a ∙ ap Some (sym b.1)))
+    ]
+    | inr a ↦ elim (split_last names text j word at_j) [
+      | inl b ↦ absurd (never_there names text j none (b ∙ ap Some (sym a.1)))
+      | inr b ↦ omega (arith, a.0, b.0)
+    ]
+  ];
+}
+
+-- a table without places numbers no names
+pub numbered_none : (hash : List ℕ → ℕ) (table : Entries) → places table ≡ 0 → ((h i : ℕ) → Has table h i → ⊥) → IsNumbered hash table []
+numbered_none hash table none empty = record {
+  counted = none;
+  entered = λ i text there. absurd (omega (arith, slice_get_within {A = List ℕ} [] i text there));
+  within = λ h i has. absurd (empty h i has);
+  one_to_one = λ i j text at_i at_j. absurd (omega (arith, slice_get_within {A = List ℕ} [] i text at_i));
+}

@@ -2,23 +2,62 @@
 //!
 //! [`Interner`] finds a name by its hash. [`intern_engine`] runs one over a reader's lines; it is generic over
 //! [`Source`] and [`Sink`], which [`Counted`] makes of any reader and writer of std.
-ghost use Rattle.std.specs.Prelude.{◌≡◌, ◌↔◌, ℕ, [], List, length, None, Some, slice_get, position, map, is_some, IfOk, IfSome, IsTrue, OnErr};
+ghost use Rattle.std.specs.Prelude.{◌≡◌, ◌↔◌, ℕ, [], List, length, None, Some, slice_get, position, map, is_some, slice_index_or, ◌<◌, IfErr, IfOk, IfSome, IsTrue, OnErr};
 ghost use Rattle.std.specs.Borrow.{Bor};
-ghost use Rattle.std.specs.Map.Iter.{ShowsInOrder, ShowsInReverse, deref};
+ghost use Rattle.std.specs.Iterator.Adapters.{IterYieldsInOrder, IterYieldsInReverse};
 ghost use Rattle.std.specs.Option.{option_map};
 ghost use Rattle.std.specs.Str.{bytes_eq};
 ghost use mathlib.Core.List.{IsPrefix};
-ghost use Rattle.elsa_interner.specs.Names.{Puts, IsOneToOne};
+ghost use Rattle.std.specs.Slice.Iter.{iter_rest};
+ghost use Rattle.elsa_interner.specs.Names.{Puts, IsOneToOne, text_hash};
+ghost use Rattle.elsa_table.specs.Table.{Has, IsVacancy};
 
 pub use crate::devices::{Counted, Failed, Sink, Source};
 pub use crate::engine::{EngineFault, intern_engine, intern_engine_with_hasher};
 use bumpalo::Bump;
-use elsa_index::index_set::FrozenIndexSet;
-use indexmap::set::Iter;
+use elsa_table::table::{PlaceTable, Vacancy};
 use std::alloc::{AllocError, Allocator, Global};
 use std::fmt::{self, Debug, Formatter, Write};
 use std::hash::{BuildHasher, BuildHasherDefault, FoldHasher};
 use std::marker::Model;
+use std::slice::Iter;
+
+/// The hash of a text, of 32 bits.
+#[inline(always)]
+fn name_hash<S: BuildHasher>(hash_builder: &S, text: &str) -> u32
+    ensures { result ≡ text_hash S.BuildHasher S.Hasher.Hasher hash_builder.now text.now }
+{
+    let hash = hash_builder.hash_one(text);
+    ((hash ^ (hash >> 32)) & 0xFFFF_FFFF) as u32
+}
+
+/// The place of the text in `names`, or else where the table has room for it.
+#[inline(always)]
+fn search<A: Allocator + Copy>(
+    names: &[&str],
+    table: &PlaceTable<A>,
+    hash: u32,
+    text: &str,
+) -> Result<usize, Vacancy>
+    // The table has each place of the text under the hash, and none beyond the names, which are one to one.
+    requires entered { (i : ℕ) → slice_get (map (λ b. b.now) names.now) i ≡ Some text.now →
+        Has table.now hash i }
+    requires within { (h i : ℕ) → Has table.now h i → i < length names.now }
+    requires one_to_one { IsOneToOne (map (λ b. b.now) names.now) }
+
+    ensures found { IfOk result (λ i.
+        position (bytes_eq text.now) (map (λ b. b.now) names.now) ≡ Some i) }
+    ensures absent { OnErr result
+        (position (bytes_eq text.now) (map (λ b. b.now) names.now) ≡ None) }
+    ensures vacancy { IfErr result (IsVacancy table.now hash) }
+{
+    let is_it = |place|
+        requires { place < length names.now }
+        ensures { (d : Bor (List ℕ)) →
+            result ≡ bytes_eq text.entry.now (slice_index_or names.entry.now place d).now }
+    { text == names[place] };
+    table.search(hash, is_it)
+}
 
 /// Names, each with a number: the first new name has 0, the next 1, and so on.
 ///
@@ -32,7 +71,9 @@ pub struct Interner<
     A: Allocator + Copy = Global,
 > {
     arena: &'a Bump,
-    names: FrozenIndexSet<'a, &'a str, S, A>,
+    names: Vec<&'a str, A>,
+    table: PlaceTable<A>,
+    hash_builder: S,
 }
 
 impl<'a, S: BuildHasher, A: Allocator + Copy> Model for Interner<'a, S, A> {
@@ -40,7 +81,12 @@ impl<'a, S: BuildHasher, A: Allocator + Copy> Model for Interner<'a, S, A> {
 
     ghost Value = { List (List ℕ) };
 
-    ghost view = { λ s. map (λ b. b.now) s.names };
+    ghost view = { λ s. map (λ b. b.now) s.names.items };
+
+    ghost use Rattle.elsa_interner.specs.Names.{text_hash, IsNumbered};
+
+    ghost invariant = { λ s. IsNumbered (text_hash S.BuildHasher S.Hasher.Hasher s.hash_builder)
+        s.table (map (λ b. b.now) s.names.items) };
 }
 
 impl<'a, A: Allocator + Copy> Interner<'a, BuildHasherDefault<FoldHasher>, A> {
@@ -62,20 +108,22 @@ impl<'a, S: BuildHasher, A: Allocator + Copy> Interner<'a, S, A> {
     {
         Interner {
             arena,
-            names: FrozenIndexSet::with_hasher(alloc, arena, hash_builder),
+            names: Vec::new(alloc),
+            table: PlaceTable::new(alloc),
+            hash_builder,
         }
     }
 
     /// The number of a name, or `None` if `put` never kept it.
     ///
     /// Takes no memory. `O(1)` hashed.
-    #[tactic(auto, using(crate::proofs::NameLemmas::place_of_text))]
     #[inline(always)]
     pub fn find(&self, text: &str) -> Option<usize>
         ensures place { result ≡ position (bytes_eq text.now) self.now }
         ensures named { IfSome result (λ n. slice_get self.now n ≡ Some text.now) }
     {
-        self.names.get_index_of(&text)
+        let hash = name_hash(&self.hash_builder, text);
+        search(self.names.as_slice(), &self.table, hash, text).ok()
     }
 
     /// The name with this number, or `None` if the number is at or above [`Interner::len`].
@@ -84,13 +132,12 @@ impl<'a, S: BuildHasher, A: Allocator + Copy> Interner<'a, S, A> {
     pub fn at(&self, number: usize) -> Option<&'a str>
         ensures { option_map (λ b. b.now) result ≡ slice_get self.now number }
     {
-        self.names.get_index(number)
+        self.names.get(number).copied()
     }
 
     /// How many names there are. The names are one to one with the numbers below it.
     ///
     /// Takes no memory. `O(1)`.
-    #[tactic(auto, using(crate::proofs::NameLemmas::one_number_each))]
     pub fn len(&self) -> usize
         ensures len { result ≡ length self.now }
         ensures one_to_one { IsOneToOne self.now }
@@ -116,9 +163,9 @@ impl<'a, S: BuildHasher, A: Allocator + Copy> Interner<'a, S, A> {
     ///
     /// No name can be put while it walks; `enumerate` gives the numbers.
     pub fn iter(&self) -> Iter<'_, &'a str>
-        ensures names { map (λ name. name.now) result ≡ self.now }
-        ensures runs { ShowsInOrder (deref {X = Bor (List ℕ)}) }
-        ensures runs_back { ShowsInReverse (deref {X = Bor (List ℕ)}) }
+        ensures names { map (λ name. name.now) (iter_rest result) ≡ self.now }
+        ensures runs { IterYieldsInOrder (Bor (List ℕ)) }
+        ensures runs_back { IterYieldsInReverse (Bor (List ℕ)) }
     {
         self.names.iter()
     }
@@ -127,7 +174,6 @@ impl<'a, S: BuildHasher, A: Allocator + Copy> Interner<'a, S, A> {
     ///
     /// A name that is there takes no memory and never fails. Of a new one a copy goes straight into the arena. `Err`
     /// means that memory was refused: the names stay as they were. `O(1)` hashed, and the copy.
-    #[tactic(auto, using(crate::proofs::NameLemmas::place_of_text))]
     #[inline(always)]
     pub fn put(&mut self, text: &str) -> Result<usize, AllocError>
         // The number that it has, or the next one for a new name; only a new one is refused, and then nothing changes.
@@ -142,11 +188,15 @@ impl<'a, S: BuildHasher, A: Allocator + Copy> Interner<'a, S, A> {
         ensures kept_at { (word : List ℕ) (i : ℕ) → position (bytes_eq word) self.old ≡ Some i →
             position (bytes_eq word) self.new ≡ Some i }
     {
-        if let Some(place) = self.names.get_index_of(&text) {
-            return Ok(place);
-        }
+        let hash = name_hash(&self.hash_builder, text);
+        let vacancy = match search(self.names.as_slice(), &self.table, hash, text) {
+            Ok(place) => return Ok(place),
+            Err(vacancy) => vacancy,
+        };
         let name = self.arena.try_alloc_str(text)?;
-        let (place, _) = self.names.insert_absent(name)?;
+        self.names.reserve(1)?;
+        let place = self.table.add(hash, vacancy)?;
+        self.names.push_reserved(name);
         Ok(place)
     }
 }

@@ -1,24 +1,44 @@
-use Rattle.std.proofs.Common.{rules, subst, ap, sym, ◌∙◌, map, position}
+use Rattle.std.proofs.Common.{◌≡◌, ℕ, List, length, map, position, Some, None, ap, subst, sym, ◌∙◌, arith}
+use Rattle.std.proofs.lemmas.List.{length-map}
+use Rattle.std.specs.Borrow.{Bor}
 use Rattle.std.specs.Str.{bytes_eq}
-use Rattle.elsa_interner.proofs.NameLemmas.{at_place, kept_put, place_of_text, put_last, stands_put}
-use Rattle.elsa_interner.specs.Names.{Puts}
+use Rattle.elsa_interner.specs.Names.{IsNumbered, Puts}
+use Rattle.elsa_interner.proofs.NameLemmas.{at_place, kept_put, numbered_put, put_new, shown_push, stands_put}
 use Rattle.elsa_interner.proofs.interner.Interner.put.Goals as goal
+
+pub search-requires-clause-within : goal.search-requires-clause-within
+search-requires-clause-within g c h i has =
+    omega (arith, c.self.invariant.within h i has, length-map c.self.inside.names.items (λ (b : Bor (List ℕ)). b.now), ap length c.as_slice.ensures.value)
+
+pub returns-in-Ok-clause-stands : goal.returns-in-Ok-clause-stands
+returns-in-Ok-clause-stands g c =
+    let text = c.args.text.now in
+    at_place c.args.self.now text c.in-Ok.place
+    (subst (λ l. position (bytes_eq text) l ≡ Some c.in-Ok.place) (ap (map (λ (b : Bor (List ℕ)). b.now)) c.as_slice.ensures.value ∙ c.self.view_is) c.in-Ok.ensures.found)
+
+pub invariant_of-self-2 : goal.invariant_of-self-2
+invariant_of-self-2 g c =
+    let ks = c.self.inside.names.items in
+    let text = c.args.text.now in
+    let last = shown_push ks c.reserve.new.self.items c.push_reserved.new.self.items text c.in_ok-name.name c.in_ok-reserve.ensures.items c.push_reserved.ensures.items c.in_ok-name.ensures in
+    let none = subst (λ l. position (bytes_eq text) (map (λ (b : Bor (List ℕ)). b.now) l) ≡ None) c.as_slice.ensures.value c.in-Err.ensures.absent in
+    subst (IsNumbered _ c.add.new.self) (sym last)
+    (numbered_put _ c.self.inside.table c.add.new.self _ text c.name_hash-hash.result c.in_ok-place.place c.self.invariant c.name_hash-hash.ensures c.in_ok-place.ensures.place c.in_ok-place.ensures.places c.in_ok-place.ensures.adds none)
 
 pub returns-clause-put : goal.returns-clause-put
 returns-clause-put g c =
-    let i = c.in_ok-place.ensures in
-    let p = put_last c.self.inside.names c.insert_absent.new.self c.args.text.now _ _ _ c.in_ok-name.ensures (search rules) i.place i.placed i.appended in
-    subst (λ l. Puts l c.args.text.now c.in_ok-place.place (map (λ b. b.now) c.insert_absent.new.self)) c.self.view_is p
-
-pub returns-in-Some-clause-stands : goal.returns-in-Some-clause-stands
-returns-in-Some-clause-stands g c =
+    let ks = c.self.inside.names.items in
     let text = c.args.text.now in
-    at_place c.args.self.now text c.in-Some.place (ap (position (bytes_eq text)) (sym c.self.view_is) ∙ place_of_text text c.self.inside.names ∙ search rules)
+    let last = shown_push ks c.reserve.new.self.items c.push_reserved.new.self.items text c.in_ok-name.name c.in_ok-reserve.ensures.items c.push_reserved.ensures.items c.in_ok-name.ensures in
+    let none = subst (λ l. position (bytes_eq text) (map (λ (b : Bor (List ℕ)). b.now) l) ≡ None) c.as_slice.ensures.value c.in-Err.ensures.absent in
+    let placed : c.in_ok-place.place ≡ length (map (λ (b : Bor (List ℕ)). b.now) ks) = omega (arith, c.in_ok-place.ensures.place, c.self.invariant.counted) in
+    subst (λ l. Puts l text c.in_ok-place.place (map (λ (b : Bor (List ℕ)). b.now) c.push_reserved.new.self.items)) c.self.view_is (put_new _ _ text c.in_ok-place.place none placed last)
+
+pub returns-clause-stands_at : goal.returns-clause-stands_at
+returns-clause-stands_at g c = stands_put c.args.self.now c.args.text.now c.in_ok-place.place (map (λ (b : Bor (List ℕ)). b.now) c.push_reserved.new.self.items) (returns-clause-put g c)
 
 pub returns-clause-stands : goal.returns-clause-stands
-returns-clause-stands g c =
-    let names = map (λ b. b.now) c.insert_absent.new.self in
-    at_place names c.args.text.now c.in_ok-place.place (stands_put c.args.self.now c.args.text.now c.in_ok-place.place names (returns-clause-put g c))
+returns-clause-stands g c = at_place (map (λ (b : Bor (List ℕ)). b.now) c.push_reserved.new.self.items) c.args.text.now c.in_ok-place.place (returns-clause-stands_at g c)
 
 pub returns-clause-kept : goal.returns-clause-kept
-returns-clause-kept g c = kept_put _ _ _ _ (returns-clause-put g c)
+returns-clause-kept g c = kept_put c.args.self.now c.args.text.now c.in_ok-place.place (map (λ (b : Bor (List ℕ)). b.now) c.push_reserved.new.self.items) (returns-clause-put g c)

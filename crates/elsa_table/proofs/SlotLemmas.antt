@@ -1,0 +1,172 @@
+-- What a probe passes, and what a written slot leaves as it was.
+use Rattle.std.proofs.Common.{◌≡◌, ◌≢◌, ℕ, ◌+◌, ◌-◌, ◌%◌, ◌^◌, ◌<◌, ◌⊎◌, inl, inr, List, length, ap, subst, sym, ◌∙◌, arith}
+use Rattle.std.proofs.Math.ListN.{set, length-set}
+use Rattle.std.proofs.lemmas.List.{get_or-set_same, get_or-set_other}
+use Rattle.std.proofs.lemmas.Bool.{cases_lt}
+use Rattle.std.proofs.lemmas.Nat.{and_le_r}
+use Rattle.elsa_table.specs.declared.slots.Slot.{Slot}
+use Rattle.elsa_table.specs.Slots.{vacant_slot, slot_of, slot_at, IsTaken, walk, probed, GoesOn, Reaches, IsFindable, EndsAt, Holds, Gains}
+use Rattle.elsa_table.specs.Table.{Adds}
+
+-- a probe stays among the slots
+pub walk_within : (count hash step : ℕ) → step < count → walk count hash step < count
+unfolding walk
+walk_within count hash step h = omega (arith, and_le_r ((hash + step) % 2 ^ 64) (count - 1))
+
+-- of each place with the hash that the first steps of a probe came to, M holds
+abbrev pub Missed : List Slot → ℕ → (ℕ → Type 0) → ℕ → Type 0
+Missed slots hash M step = (k : ℕ) → k < step → (place : ℕ) → probed slots hash k ≡ slot_of hash place → M place
+
+-- a slot that was vacant is written
+module _ (slots : List Slot) (slot : Slot) (i : ℕ) (ends : EndsAt slots slot.hash i) (taken : IsTaken slot) where
+  abbrev after : List Slot
+  after = set slots i slot
+
+  same_length : length after ≡ length slots
+  same_length = length-set slots i slot
+
+  written : slot_at after i ≡ slot
+  written = get_or-set_same slots i slot vacant_slot ends.within
+
+  -- what is taken is another slot
+  apart : (j : ℕ) → IsTaken (slot_at slots j) → j ≢ i
+  apart j is_taken e =
+      let zero : (slot_at slots j).number ≡ 0 = ap (λ n. (slot_at slots n).number) e ∙ ends.vacant in
+      omega (arith, is_taken, zero)
+
+  elsewhere : (j : ℕ) → j ≢ i → slot_at after j ≡ slot_at slots j
+  elsewhere j ne = get_or-set_other slots i j slot vacant_slot ne
+
+  taken_stays : (j : ℕ) → IsTaken (slot_at slots j) → slot_at after j ≡ slot_at slots j
+  taken_stays j is_taken = elsewhere j (apart j is_taken)
+
+  probed_same : (hash k : ℕ) → probed after hash k ≡ slot_at after (walk (length slots) hash k)
+  probed_same hash k = ap (λ n. slot_at after (walk n hash k)) same_length
+
+  goes_on_stays : (hash step : ℕ) → GoesOn slots hash step → GoesOn after hash step
+  goes_on_stays hash step on k lt =
+      subst IsTaken (sym (probed_same hash k ∙ taken_stays (walk (length slots) hash k) (on k lt))) (on k lt)
+
+  reaches_stays : (hash j : ℕ) → Reaches slots hash j → Reaches after hash j
+  reaches_stays hash j way = record {
+    step = way.step;
+    within = subst (λ n. way.step < n) (sym same_length) way.within;
+    there = ap (λ n. walk n hash way.step) same_length ∙ way.there;
+    goes_on = goes_on_stays hash way.step way.goes_on;
+  }
+
+  findable_stays : IsFindable slots → IsFindable after
+  findable_stays findable j lt is_taken = elim (cases_lt j i) [
+    | inl lower ↦ other (omega arith)
+    | inr ge ↦ elim (cases_lt i j) [
+      | inl higher ↦ other (omega arith)
+      | inr le ↦
+          let e : i ≡ j = omega arith in
+          subst (λ n. Reaches after (slot_at after n).hash n) e
+          (subst (λ s. Reaches after s.hash i) (sym written) (reaches_stays slot.hash i ends.reached))
+    ]
+  ]
+    where
+      other : j ≢ i → Reaches after (slot_at after j).hash j
+      other ne =
+          let same = elsewhere j ne in
+          subst (λ s. Reaches after s.hash j) (sym same)
+          (reaches_stays (slot_at slots j).hash j (findable j (subst (λ n. j < n) same_length lt) (subst IsTaken same is_taken)))
+
+  gains : Gains slots slot after
+  gains = record {
+    kept = λ s is_taken h. record {
+      at = h.at;
+      within = subst (λ n. h.at < n) (sym same_length) h.within;
+      there = taken_stays h.at (subst IsTaken (sym h.there) is_taken) ∙ h.there;
+    };
+    gained = record { at = i; within = subst (λ n. i < n) (sym same_length) ends.within; there = written };
+    only = only_one;
+  }
+    where
+      only_one : (s : Slot) → IsTaken s → Holds after s → Holds slots s ⊎ (s ≡ slot)
+      only_one s is_taken h = elim (cases_lt h.at i) [
+        | inl lower ↦ inl (old (omega arith))
+        | inr ge ↦ elim (cases_lt i h.at) [
+          | inl higher ↦ inl (old (omega arith))
+          | inr le ↦ let e : h.at ≡ i = omega arith in inr (sym h.there ∙ ap (slot_at after) e ∙ written)
+        ]
+      ]
+        where
+          old : h.at ≢ i → Holds slots s
+          old ne = record { at = h.at; within = subst (λ n. h.at < n) same_length h.within; there = sym (elsewhere h.at ne) ∙ h.there }
+
+pub findable_write : (slots : List Slot) (slot : Slot) (i : ℕ) → EndsAt slots slot.hash i → IsTaken slot → IsFindable slots → IsFindable (set slots i slot)
+findable_write slots slot i ends taken findable = findable_stays slots slot i ends taken findable
+
+pub gains_write : (slots : List Slot) (slot : Slot) (i : ℕ) → EndsAt slots slot.hash i → IsTaken slot → Gains slots slot (set slots i slot)
+gains_write slots slot i ends taken = gains slots slot i ends taken
+
+-- the slots that were entered so far, of those that are copied
+pub record Copied (slots : List Slot) (from : ℕ) (wider : List Slot) : Type 0 where
+  pub findable : IsFindable wider
+  pub entered : (i : ℕ) → i < from → IsTaken (slot_at slots i) → Holds wider (slot_at slots i)
+  pub only : (s : Slot) → IsTaken s → Holds wider s → Holds slots s
+
+-- vacant slots alone hold nothing that is to be found
+pub copied_none : (slots wider : List Slot) → ((i : ℕ) → i < length wider → slot_at wider i ≡ vacant_slot) → Copied slots 0 wider
+copied_none slots wider vacant = record {
+  findable = λ i lt taken. absurd (none i lt taken);
+  entered = λ i lt taken. absurd (omega arith);
+  only = λ s taken h. absurd (none h.at h.within (subst IsTaken (sym h.there) taken));
+}
+  where
+    none : (i : ℕ) → i < length wider → IsTaken (slot_at wider i) → ⊥
+    none i lt taken = let zero : (slot_at wider i).number ≡ 0 = ap (λ s. s.number) (vacant i lt) in omega (arith, zero, taken)
+
+-- a vacant slot is left out
+pub copied_vacant : (slots : List Slot) (from : ℕ) (wider : List Slot) → Copied slots from wider → (slot_at slots from).number ≡ 0 → Copied slots (from + 1) wider
+copied_vacant slots from wider so_far vacant = record {
+  findable = so_far.findable;
+  entered = λ i lt taken. elim (cases_lt i from) [
+    | inl lower ↦ so_far.entered i lower taken
+    | inr ge ↦
+        let e : from ≡ i = omega arith in
+        let zero : (slot_at slots i).number ≡ 0 = sym (ap (λ n. (slot_at slots n).number) e) ∙ vacant in
+        absurd (omega (arith, zero, taken))
+  ];
+  only = so_far.only;
+}
+
+-- a taken slot is entered
+pub copied_one : (slots : List Slot) (from : ℕ) (wider after : List Slot) (slot : Slot) → Copied slots from wider → from < length slots → slot ≡ slot_at slots from
+    → Gains wider slot after → IsFindable after → Copied slots (from + 1) after
+copied_one slots from wider after slot so_far within is gains findable = record {
+  findable = findable;
+  entered = λ i lt taken. elim (cases_lt i from) [
+    | inl lower ↦ gains.kept (slot_at slots i) taken (so_far.entered i lower taken)
+    | inr ge ↦ let e : from ≡ i = omega arith in subst (Holds after) (is ∙ ap (slot_at slots) e) gains.gained
+  ];
+  only = λ s taken h. elim (gains.only s taken h) [
+    | inl before ↦ so_far.only s taken before
+    | inr same ↦ record { at = from; within = within; there = sym is ∙ sym same }
+  ];
+}
+
+-- all are entered, and one more
+pub copied_all : (slots wider full : List Slot) (last : Slot) → Copied slots (length slots) wider → Gains wider last full → Gains slots last full
+copied_all slots wider full last copied gains = record {
+  kept = λ s taken h. gains.kept s taken
+      (subst (Holds wider) h.there (copied.entered h.at h.within (subst IsTaken (sym h.there) taken)));
+  gained = gains.gained;
+  only = λ s taken h. elim (gains.only s taken h) [
+    | inl before ↦ inl (copied.only s taken before)
+    | inr same ↦ inr same
+  ];
+}
+
+-- a slot more is a place more
+pub adds_place : (before full : List Slot) (count more hash place : ℕ) → Gains before (slot_of hash place) full → Adds (before, count) hash place (full, more)
+adds_place before full count more hash place gains = record {
+  kept = λ h p has. gains.kept (slot_of h p) (omega arith) has;
+  added = gains.gained;
+  only = λ h p has. elim (gains.only (slot_of h p) (omega arith) has) [
+    | inl old ↦ inl old
+    | inr same ↦ let numbers : p + 1 ≡ place + 1 = ap (λ s. s.number) same in inr (ap (λ s. s.hash) same, omega (arith, numbers))
+  ];
+}

@@ -1,0 +1,27 @@
+-- A table from hashes to places: its slots, and how many places it has.
+use Rattle.std.specs.Prelude.{◌≡◌, ℕ, ◌<◌, ◌⊎◌, List, length}
+use Rattle.elsa_table.specs.declared.slots.Slot.{Slot}
+use Rattle.elsa_table.specs.declared.table.Vacancy.{Vacancy}
+use Rattle.elsa_table.specs.Slots.{slot_of, EndsAt, Holds}
+
+-- what a table is: its slots, and the number of its places
+abbrev pub Entries : Type 0
+Entries = List Slot × ℕ
+
+-- how many places the table has
+abbrev pub places : Entries → ℕ
+places table = table.1
+
+-- the table has the place under the hash
+abbrev pub Has : Entries → ℕ → ℕ → Type 0
+Has table hash place = Holds table.0 (slot_of hash place)
+
+-- a search for the hash ended at this vacancy, if there was one
+abbrev pub IsVacancy : Entries → ℕ → Vacancy → Type 0
+IsVacancy table hash vacancy = vacancy.slot < length table.0 → EndsAt table.0 hash vacancy.slot
+
+-- the places afterwards are those from before, each under its hash, and one more
+pub record Adds (before : Entries) (hash place : ℕ) (after : Entries) : Type 0 where
+  pub kept : (h p : ℕ) → Has before h p → Has after h p
+  pub added : Has after hash place
+  pub only : (h p : ℕ) → Has after h p → Has before h p ⊎ ((h ≡ hash) × (p ≡ place))

@@ -1,0 +1,119 @@
+//! The slots of a table, as slices: how they are probed, filled and copied into more of them.
+ghost use Rattle.std.specs.Prelude.{◌≡◌, ℕ, ◌<◌, true, false, length, IfOk, IfErr, OnOk, OnErr, IfSome};
+ghost use Rattle.elsa_table.specs.Slots.{slot_of, walk, EndsAt, Gains, Holds, IsFindable, IsTaken};
+
+use std::alloc::{AllocError, Allocator};
+
+/// The hash of a place, and the place plus one; where that number is 0, nothing.
+#[derive(Clone, Copy)]
+pub struct Slot {
+    pub(crate) hash: u32,
+    pub(crate) number: u32,
+}
+
+/// A slot with nothing in it.
+const EMPTY: Slot = Slot { hash: 0, number: 0 };
+
+/// The fewest slots.
+const LEAST: usize = 8;
+
+/// Which of `count` slots a probe for `hash` comes to after `step` steps.
+#[tactic(auto, unfolding(crate::specs::Slots::walk))]
+#[inline(always)]
+fn walk(count: usize, hash: u32, step: usize) -> usize
+    requires { step < count }
+    ensures slot { result ≡ walk count hash step }
+    ensures within { result < count }
+{
+    (hash as usize).wrapping_add(step) & (count - 1)
+}
+
+/// The place with this hash that `is_it` accepts, or else the slot where one would go: `slots.len()` if there is none.
+#[inline(always)]
+pub(crate) fn search<F: Fn(usize) -> bool>(
+    slots: &[Slot],
+    hash: u32,
+    is_it: F,
+) -> Result<usize, usize>
+    requires findable { IsFindable slots.now }
+    requires callable { (place : ℕ) → Holds slots.now (slot_of hash place) → F.pre is_it place }
+
+    // What it finds it holds under the hash, and `is_it` accepted it; else `is_it` refused all such.
+    ensures found { IfOk result (λ p. Holds slots.now (slot_of hash p) × F.post is_it p true) }
+    ensures absent { OnErr result ((p : ℕ) → Holds slots.now (slot_of hash p) → F.post is_it p false) }
+    ensures ends { IfErr result (λ i. i < length slots.now → EndsAt slots.now hash i) }
+{
+    let count = slots.len();
+    for step in 0..count {
+        let at = walk(count, hash, step);
+        let slot = slots[at];
+        if slot.number == 0 {
+            return Err(at);
+        }
+        if slot.hash == hash {
+            let place = slot.number as usize - 1;
+            if is_it(place) {
+                return Ok(place);
+            }
+        }
+    }
+    Err(count)
+}
+
+/// The first slot of a probe for `hash` that has nothing in it.
+#[inline(always)]
+fn vacant(slots: &[Slot], hash: u32) -> Option<usize>
+    ensures { IfSome result (EndsAt slots.now hash) }
+{
+    let count = slots.len();
+    for step in 0..count {
+        let at = walk(count, hash, step);
+        if slots[at].number == 0 {
+            return Some(at);
+        }
+    }
+    None
+}
+
+/// Fills the first vacant slot of a probe.
+#[tactic(auto, using(crate::proofs::SlotLemmas::findable_write, crate::proofs::SlotLemmas::gains_write))]
+#[inline(always)]
+fn enter<A: Allocator>(slots: &mut Vec<Slot, A>, slot: Slot) -> Result<(), AllocError>
+    requires taken { IsTaken slot }
+    requires findable { IsFindable slots.old.items }
+    ensures gains { OnOk result (Gains slots.old.items slot slots.new.items) }
+    ensures findable { OnOk result (IsFindable slots.new.items) }
+{
+    let Some(at) = vacant(slots.as_slice(), slot.hash) else {
+        return Err(AllocError);
+    };
+    slots[at] = slot;
+    Ok(())
+}
+
+/// Twice as many slots, with what these hold and `last`.
+#[tactic(auto, using(crate::proofs::SlotLemmas::copied_none))]
+#[inline(never)]
+pub(crate) fn grown<A: Allocator>(
+    alloc: A,
+    slots: &[Slot],
+    last: Slot,
+) -> Result<Vec<Slot, A>, AllocError>
+    requires { IsTaken last }
+    ensures gains { IfOk result (λ wider. Gains slots.now last wider.items) }
+    ensures findable { IfOk result (λ wider. IsFindable wider.items) }
+{
+    let Some(twice) = slots.len().checked_mul(2) else {
+        return Err(AllocError);
+    };
+    let count = twice.max(LEAST);
+    let mut wider = Vec::with_capacity(alloc, count)?;
+    wider.resize(count, EMPTY)?;
+    for slot in slots {
+        if slot.number != 0 {
+            enter(&mut wider, *slot)?;
+        }
+    }
+    enter(&mut wider, last)?;
+    Ok(wider)
+}
