@@ -2,6 +2,7 @@
 use Rattle.std.specs.Prelude.{ℕ, zero, suc, ◌≡◌, ◌+◌, ◌*◌, ◌==◌, ◌<◌, ◌≤◌, All, Contains, IfSome, List, [], ◌∷◌, ◌++◌, length, slice_index_or, Option, Some, None, if◌then◌else◌}
 use Rattle.elsa_free.specs.declared.event.Entry.{Entry}
 use Rattle.elsa_free.specs.SharedList.{Vector, View}
+use Rattle.elsa.specs.declared.shared.Done.{Done}
 use Rattle.elsa.specs.declared.shared.SharedFault.{SharedFault}
 use Rattle.elsa.specs.declared.shared.SharedFault.TheVariants.{Memory, Gate, Check, Thread}
 
@@ -41,6 +42,13 @@ IsWorkOf vector before count worker pass fault =
 -- P holds of each place and the item there
 abbrev pub Each : {X : Type 0} → (ℕ → X → Type 0) → List X → Type 0
 Each {X} P xs = (place : ℕ) (other : X) → place < length xs → P place (slice_index_or xs place other)
+
+-- what the workers have handed back at the end: each its work, and this pass has seen as much
+abbrev pub HaveHandedBack : {A : Type 0} → Vector → List (Entry ℕ) → ℕ → ℕ → List (Done A) → View ℕ → Type 0
+HaveHandedBack vector before count workers done pass =
+    (pass.vector ≡ vector) × (length done ≡ workers)
+    × Each (λ worker d. IsWorkOf vector before count worker d.pass d.fault) done
+    × All (λ d. length d.pass.seen ≤ length pass.seen) done
 
 -- Each worker is an author of its own, who hadn't pushed when the workers began. Its entries have its numbers, in order, as far as its end lets it
 pub record HaveWorked (count : ℕ) (before seen : List (Entry ℕ)) (faults : List (Option SharedFault)) : Type 0 where

@@ -5,7 +5,7 @@
 ghost use Rattle.std.specs.Prelude.{◌≡◌, ◌≢◌, ◌⊎◌, ◌+◌, ◌*◌, ◌<◌, ◌≤◌, [], ◌∷◌, All, IfErr, IfOk, None, length, map, vec_capacity, vec_len};
 ghost use mathlib.Core.List.{IsPrefix};
 ghost use Rattle.elsa_free.specs.SharedList.{Continues, IsSamePass, mine};
-ghost use Rattle.elsa.specs.Workers.{Each, HasPushed, HaveWorked, IsFirstFault, IsPromiseOf, IsWorkOf, pushed_by};
+ghost use Rattle.elsa.specs.Workers.{Each, HasPushed, HaveHandedBack, HaveWorked, IsFirstFault, IsPromiseOf, IsWorkOf, pushed_by};
 
 use core::thread::Stack;
 use elsa_free::lock_free::{LockFreeFrozenVec, Pass};
@@ -59,6 +59,24 @@ struct WorkOf<'v, A: Allocator> {
 impl<'v, A: Allocator> Promise<Done<A>> for WorkOf<'v, A> {
     ghost kept_by = { λ of done.
         IsWorkOf of.vector.now of.pass.now.seen of.count of.worker done.pass done.fault };
+}
+
+/// What the thread of this worker promises.
+fn promise_of<'v, A: Allocator>(
+    vector: &'v LockFreeFrozenVec<u64, A>,
+    pass: &'v Pass<u64, A>,
+    worker: usize,
+    count: usize,
+) -> WorkOf<'v, A>
+    ensures { IsPromiseOf vector.now pass.now.seen count worker
+        result.vector.now result.pass.now.seen result.count result.worker }
+{
+    WorkOf {
+        vector,
+        pass,
+        worker,
+        count,
+    }
 }
 
 /// A pass of its own for a worker, which has seen what the one given has.
@@ -221,6 +239,63 @@ fn settle<A: Allocator + Copy>(
     faults
 }
 
+/// Has each worker push its numbers in a thread of its own, and returns what they hand back, with a pass that has seen as much.
+///
+/// `Err`: an allocation failed, before any thread was started. Every thread that was started has ended when it returns.
+fn run_workers<'v, R: Threads + Wait + Sync, G: Gate + Sync, A: Allocator + Copy + Send + Sync>(
+    rt: &R,
+    alloc: A,
+    vector: &'v LockFreeFrozenVec<u64, A>,
+    begun: &'v Pass<u64, A>,
+    mut longest: Pass<u64, A>,
+    workers: usize,
+    count: usize,
+    gate: &G,
+    stacks: &[usize],
+) -> Result<(Vec<Done<A>, A>, Pass<u64, A>), AllocError>
+    requires of { (longest.vector ≡ vector.now) × (longest.seen ≡ begun.now.seen) }
+    requires limits { (workers ≤ 16) × (count ≤ 100000) }
+    ensures { IfOk result (λ r.
+        HaveHandedBack vector.now begun.now.seen count workers r.0.items r.1) }
+{
+    let mut started = Vec::with_capacity(alloc, workers)?;
+    let done = Vec::with_capacity(alloc, workers)?;
+    Ok(thread::scope(
+        thread::scope_env(),
+        rt,
+        move |scope| -> (Vec<Done<A>, A>, Pass<u64, A>)
+            requires of { (longest.vector ≡ vector.now) × (longest.seen ≡ begun.now.seen) }
+            requires limits { (workers ≤ 16) × (count ≤ 100000) }
+            requires started { (vec_len started ≡ 0) × (workers ≤ vec_capacity started) }
+            requires done { (vec_len done ≡ 0) × (workers ≤ vec_capacity done) }
+            ensures { HaveHandedBack vector.entry.now begun.entry.now.seen count workers
+                result.0.items result.1 }
+        {
+            for worker in 0..workers {
+                let theirs = begin(vector, &mut longest);
+                let promise = promise_of(vector, begun, worker, count);
+                let run = move || -> Done<A>
+                    requires of { (theirs.vector ≡ vector.now) × (mine theirs ≡ []) }
+                    requires limits { (worker < 16) × (count ≤ 100000) }
+                    ensures same { IsSamePass theirs result.pass }
+                    ensures pushed { HasPushed count worker
+                        (pushed_by result.pass.author result.pass.seen) result.fault }
+                { work(rt, vector, gate, theirs, worker, count) };
+                let Ok(child) = stack_of(stacks, worker).spawn_scoped_with(scope, promise, run)
+                else {
+                    break;
+                };
+                let Ok(()) = started.push(child) else {
+                    unreachable!()
+                };
+            }
+            let done = join_all(rt, &mut longest, started, done, count);
+            let done = add_unstarted(vector, &mut longest, done, workers, begun, count);
+            (done, longest)
+        },
+    ))
+}
+
 /// Pushes `count` numbers from each of `workers` threads into the vector, and returns for each worker why it stopped before its last number,
 /// or `None` if it pushed them all. The pass has then seen what the workers pushed.
 ///
@@ -255,56 +330,10 @@ pub fn run_shared_into<R: Threads + Wait + Sync, G: Gate + Sync, A: Allocator + 
     ensures refused { IfErr result (λ _. pass.new ≡ pass.old) }
 {
     let faults = Vec::with_capacity(alloc, workers)?;
-    let mut started = Vec::with_capacity(alloc, workers)?;
-    let done = Vec::with_capacity(alloc, workers)?;
-    let mut longest = begin(vector, pass);
-    let begun = &*pass;
-    let (done, mut longest) = thread::scope(
-        thread::scope_env(),
-        rt,
-        move |scope| -> (Vec<Done<A>, A>, Pass<u64, A>)
-            requires of { (longest.vector ≡ vector.now) × (longest.seen ≡ begun.now.seen) }
-            requires limits { (workers ≤ 16) × (count ≤ 100000) }
-            requires started { (vec_len started ≡ 0) × (workers ≤ vec_capacity started) }
-            requires done { (vec_len done ≡ 0) × (workers ≤ vec_capacity done) }
-
-            // What each worker handed back, and a pass that has seen as much.
-            ensures of { result.1.vector ≡ vector.entry.now }
-            ensures len { vec_len result.0 ≡ workers }
-            ensures work { Each (λ worker d.
-                IsWorkOf vector.entry.now begun.entry.now.seen count worker d.pass d.fault)
-                result.0.items }
-            ensures seen { All (λ d. length d.pass.seen ≤ length result.1.seen) result.0.items }
-        {
-            for worker in 0..workers {
-                let theirs = begin(vector, &mut longest);
-                let Ok(child) = stack_of(stacks, worker).spawn_scoped_with(
-                    scope,
-                    WorkOf {
-                        vector,
-                        pass: begun,
-                        worker,
-                        count,
-                    },
-                    move || -> Done<A>
-                        requires of { (theirs.vector ≡ vector.now) × (mine theirs ≡ []) }
-                        requires limits { (worker < 16) × (count ≤ 100000) }
-                        ensures same { IsSamePass theirs result.pass }
-                        ensures pushed { HasPushed count worker
-                            (pushed_by result.pass.author result.pass.seen) result.fault }
-                    { work(rt, vector, gate, theirs, worker, count) },
-                ) else {
-                    break;
-                };
-                let Ok(()) = started.push(child) else {
-                    unreachable!()
-                };
-            }
-            let done = join_all(rt, &mut longest, started, done, count);
-            let done = add_unstarted(vector, &mut longest, done, workers, begun, count);
-            (done, longest)
-        },
-    );
+    let longest = begin(vector, pass);
+    let (done, mut longest) = run_workers(
+        rt, alloc, vector, &*pass, longest, workers, count, gate, stacks,
+    )?;
     pass.meet(&mut longest);
     Ok(settle(pass, done, faults))
 }

@@ -3,6 +3,8 @@
 #![tactic(auto)]
 
 #[cfg(test)]
+mod geometry_tests;
+#[cfg(test)]
 mod lock_free_tests;
 #[cfg(test)]
 mod machine_tests;
@@ -10,5 +12,7 @@ mod machine_tests;
 mod no_memory;
 #[cfg(test)]
 mod pass_tests;
+#[cfg(test)]
+mod schedule_rows;
 #[cfg(test)]
 mod slots_tests;

@@ -1,114 +1,11 @@
-//! Worked rows of the geometry and of the machine, whole worlds against worlds written by hand.
-use elsa_machine::geometry::{buffer_index, buffer_size, locate, prior_total_buffer_size};
-use elsa_machine::machine::{Answer, Event, Items, Plan, Turn, World, run};
+//! Worked rows of the machine, whole worlds against worlds written by hand.
+use crate::schedule_rows::{AnswerRow, PlanRow, Row, plans_of, schedule_of, world_of, wrong_row};
+use elsa_machine::machine::{Event, Items, Plan, Turn, run};
 use std::alloc::{AllocError, Allocator, Global};
 use test_alloc::Budget;
 
-#[derive(Clone, Copy)]
-enum PlanRow<'a> {
-    Pusher(&'a [u64]),
-    Reader(&'a [usize]),
-    Cloner,
-}
-
-#[derive(Clone, Copy)]
-enum AnswerRow<'a> {
-    Pushed(usize, usize),
-    Refused(usize),
-    Read(usize, usize, Option<u64>),
-    Cloned(usize, &'a [u64]),
-    CloneRefused(usize),
-}
-
-/// A schedule and the world that it leaves. A turn is a thread; the turn at `refused` is without memory.
-#[derive(Clone, Copy)]
-struct Row<'a> {
-    name: &'a str,
-    plans: &'a [PlanRow<'a>],
-    turns: &'a [usize],
-    refused: usize,
-    opened: usize,
-    items: &'a [u64],
-    events: &'a [Event],
-    answers: &'a [AnswerRow<'a>],
-}
-
-fn plans_of(alloc: Global, rows: &[PlanRow]) -> Result<Vec<Plan>, AllocError> {
-    let mut plans = Vec::new(alloc);
-    for row in rows {
-        plans.push(match *row {
-            PlanRow::Pusher(items) => Plan::Pusher(Items::from_vec(Vec::from_slice(alloc, items)?)),
-            PlanRow::Reader(indexes) => Plan::Reader(Items::from_vec(Vec::from_slice(
-                alloc, indexes,
-            )?)),
-            PlanRow::Cloner => Plan::Cloner,
-        })?;
-    }
-    Ok(plans)
-}
-
-fn schedule_of(alloc: Global, threads: &[usize], refused: usize) -> Result<Vec<Turn>, AllocError> {
-    let mut schedule = Vec::new(alloc);
-    for (i, thread) in threads.iter().enumerate() {
-        schedule.push(Turn {
-            thread: *thread,
-            memory: i != refused,
-        })?;
-    }
-    Ok(schedule)
-}
-
-fn answers_of(alloc: Global, rows: &[AnswerRow]) -> Result<Vec<Answer>, AllocError> {
-    let mut answers = Vec::new(alloc);
-    for row in rows {
-        answers.push(match *row {
-            AnswerRow::Pushed(thread, place) => Answer::Pushed { thread, place },
-            AnswerRow::Refused(thread) => Answer::Refused { thread },
-            AnswerRow::Read(thread, index, value) => Answer::Read {
-                thread,
-                index,
-                value,
-            },
-            AnswerRow::Cloned(thread, items) => Answer::Cloned {
-                thread,
-                items: Items::from_vec(Vec::from_slice(alloc, items)?),
-            },
-            AnswerRow::CloneRefused(thread) => Answer::CloneRefused { thread },
-        })?;
-    }
-    Ok(answers)
-}
-
-/// Each item with its place.
-fn writes_of(alloc: Global, items: &[u64]) -> Result<Items<(usize, u64)>, AllocError> {
-    let mut writes = Items::new(alloc);
-    for place in 0..items.len() {
-        writes.push((place, items[place]))?;
-    }
-    Ok(writes)
-}
-
-fn events_of(alloc: Global, events: &[Event]) -> Result<Items<Event>, AllocError> {
-    Ok(Items::from_vec(Vec::from_slice(alloc, events)?))
-}
-
-/// The world of a row in which nobody holds and each write was published.
-fn world_of(alloc: Global, row: &Row) -> Result<World, AllocError> {
-    let writes = writes_of(alloc, row.items)?;
-    let events = events_of(alloc, row.events)?;
-    let answers = Items::from_vec(answers_of(alloc, row.answers)?);
-    Ok(World {
-        length: row.items.len(),
-        held: None,
-        opened: row.opened,
-        writes,
-        events,
-        answers,
-    })
-}
-
 #[test]
-fn schedules_leave_their_worlds(rt: HostRuntime) -> Result<(), AllocError> {
+fn turns_of_a_done_thread_and_of_no_thread_do_nothing(rt: HostRuntime) -> Result<(), AllocError> {
     let alloc = rt.alloc();
     let append = |thread, item| Event::Append { thread, item };
     let look = |thread, length| Event::Look { thread, length };
@@ -133,6 +30,29 @@ fn schedules_leave_their_worlds(rt: HostRuntime) -> Result<(), AllocError> {
             events: &[],
             answers: &[],
         },
+        Row {
+            name: "turns of numbers beyond the plans, amid a push",
+            plans: &[PlanRow::Pusher(&[7])],
+            turns: &[1, 0, 2, 0, 1, 0, 1, 0, 99, 0, 1],
+            refused: 99,
+            opened: 1,
+            items: &[7],
+            events: &[append(0, 7)],
+            answers: &[AnswerRow::Pushed(0, 0)],
+        },
+    ];
+    assert_eq!(rt; wrong_row(alloc, &rows)?, None);
+    Ok(())
+}
+
+#[test]
+fn readers_and_clones_beside_a_push_see_the_list_before_it(
+    rt: HostRuntime,
+) -> Result<(), AllocError> {
+    let alloc = rt.alloc();
+    let append = |thread, item| Event::Append { thread, item };
+    let look = |thread, length| Event::Look { thread, length };
+    let rows = [
         Row {
             name: "a reader amid two pushers",
             plans: &[
@@ -160,6 +80,26 @@ fn schedules_leave_their_worlds(rt: HostRuntime) -> Result<(), AllocError> {
             ],
         },
         Row {
+            name: "a hold of three turns, amid another thread's",
+            plans: &[PlanRow::Pusher(&[7]), PlanRow::Cloner],
+            turns: &[0, 0, 1, 0, 1, 0, 1, 0],
+            refused: 99,
+            opened: 1,
+            items: &[7],
+            events: &[look(1, 0), append(0, 7)],
+            answers: &[AnswerRow::Cloned(1, &[]), AnswerRow::Pushed(0, 0)],
+        },
+    ];
+    assert_eq!(rt; wrong_row(alloc, &rows)?, None);
+    Ok(())
+}
+
+#[test]
+fn pushers_take_places_one_after_the_other(rt: HostRuntime) -> Result<(), AllocError> {
+    let alloc = rt.alloc();
+    let append = |thread, item| Event::Append { thread, item };
+    let rows = [
+        Row {
             name: "an acquire at an old length",
             plans: &[PlanRow::Pusher(&[4]), PlanRow::Pusher(&[5])],
             turns: &[0, 1, 0, 0, 0, 0, 1, 1, 1, 1, 1],
@@ -170,6 +110,42 @@ fn schedules_leave_their_worlds(rt: HostRuntime) -> Result<(), AllocError> {
             answers: &[AnswerRow::Pushed(0, 0), AnswerRow::Pushed(1, 1)],
         },
         Row {
+            name: "a peek while another thread holds sees nothing",
+            plans: &[PlanRow::Pusher(&[7]), PlanRow::Pusher(&[9])],
+            turns: &[0, 0, 1, 1, 0, 0, 0, 1, 1, 1, 1],
+            refused: 99,
+            opened: 1,
+            items: &[7, 9],
+            events: &[append(0, 7), append(1, 9)],
+            answers: &[AnswerRow::Pushed(0, 0), AnswerRow::Pushed(1, 1)],
+        },
+        Row {
+            name: "six turns of a pusher alone, whose length is old and whose buffer is closed",
+            plans: &[PlanRow::Pusher(&[7]), PlanRow::Pusher(&[9, 8, 6])],
+            turns: &[0, 1, 1, 1, 1, 1, 1, 1, 1, 1, 1, 1, 1, 1, 0, 0, 0, 0, 0, 0],
+            refused: 99,
+            opened: 2,
+            items: &[9, 8, 6, 7],
+            events: &[append(1, 9), append(1, 8), append(1, 6), append(0, 7)],
+            answers: &[
+                AnswerRow::Pushed(1, 0),
+                AnswerRow::Pushed(1, 1),
+                AnswerRow::Pushed(1, 2),
+                AnswerRow::Pushed(0, 3),
+            ],
+        },
+    ];
+    assert_eq!(rt; wrong_row(alloc, &rows)?, None);
+    Ok(())
+}
+
+#[test]
+fn a_thread_without_memory_is_told_so(rt: HostRuntime) -> Result<(), AllocError> {
+    let alloc = rt.alloc();
+    let append = |thread, item| Event::Append { thread, item };
+    let look = |thread, length| Event::Look { thread, length };
+    let rows = [
+        Row {
             name: "a buffer refused once",
             plans: &[PlanRow::Pusher(&[4, 5])],
             turns: &[0, 0, 0, 0, 0, 0, 0, 0, 0],
@@ -178,20 +154,6 @@ fn schedules_leave_their_worlds(rt: HostRuntime) -> Result<(), AllocError> {
             items: &[5],
             events: &[append(0, 5)],
             answers: &[AnswerRow::Refused(0), AnswerRow::Pushed(0, 0)],
-        },
-        Row {
-            name: "a clone amid pushes",
-            plans: &[PlanRow::Pusher(&[1, 2]), PlanRow::Cloner],
-            turns: &[0, 0, 0, 0, 0, 1, 0, 0, 0, 0, 1],
-            refused: 99,
-            opened: 1,
-            items: &[1, 2],
-            events: &[append(0, 1), look(1, 1), append(0, 2)],
-            answers: &[
-                AnswerRow::Pushed(0, 0),
-                AnswerRow::Pushed(0, 1),
-                AnswerRow::Cloned(1, &[1]),
-            ],
         },
         Row {
             name: "a clone refused at its second copy",
@@ -205,6 +167,31 @@ fn schedules_leave_their_worlds(rt: HostRuntime) -> Result<(), AllocError> {
                 AnswerRow::Pushed(0, 0),
                 AnswerRow::Pushed(0, 1),
                 AnswerRow::CloneRefused(1),
+            ],
+        },
+    ];
+    assert_eq!(rt; wrong_row(alloc, &rows)?, None);
+    Ok(())
+}
+
+#[test]
+fn a_clone_has_what_was_published_when_it_looked(rt: HostRuntime) -> Result<(), AllocError> {
+    let alloc = rt.alloc();
+    let append = |thread, item| Event::Append { thread, item };
+    let look = |thread, length| Event::Look { thread, length };
+    let rows = [
+        Row {
+            name: "a clone amid pushes",
+            plans: &[PlanRow::Pusher(&[1, 2]), PlanRow::Cloner],
+            turns: &[0, 0, 0, 0, 0, 1, 0, 0, 0, 0, 1],
+            refused: 99,
+            opened: 1,
+            items: &[1, 2],
+            events: &[append(0, 1), look(1, 1), append(0, 2)],
+            answers: &[
+                AnswerRow::Pushed(0, 0),
+                AnswerRow::Pushed(0, 1),
+                AnswerRow::Cloned(1, &[1]),
             ],
         },
         Row {
@@ -232,78 +219,7 @@ fn schedules_leave_their_worlds(rt: HostRuntime) -> Result<(), AllocError> {
             ],
         },
     ];
-    for row in &rows {
-        let plans = plans_of(alloc, row.plans)?;
-        let schedule = schedule_of(alloc, row.turns, row.refused)?;
-        let world = run(alloc, &plans, &schedule)?;
-        assert_eq!(rt; world, world_of(alloc, row)?, "{}", row.name);
-    }
-    Ok(())
-}
-
-#[test]
-fn threads_end_in_counted_turns(rt: HostRuntime) -> Result<(), AllocError> {
-    let alloc = rt.alloc();
-    let append = |thread, item| Event::Append { thread, item };
-    let rows = [
-        Row {
-            name: "a peek while another thread holds sees nothing",
-            plans: &[PlanRow::Pusher(&[7]), PlanRow::Pusher(&[9])],
-            turns: &[0, 0, 1, 1, 0, 0, 0, 1, 1, 1, 1],
-            refused: 99,
-            opened: 1,
-            items: &[7, 9],
-            events: &[append(0, 7), append(1, 9)],
-            answers: &[AnswerRow::Pushed(0, 0), AnswerRow::Pushed(1, 1)],
-        },
-        Row {
-            name: "turns of numbers beyond the plans, amid a push",
-            plans: &[PlanRow::Pusher(&[7])],
-            turns: &[1, 0, 2, 0, 1, 0, 1, 0, 99, 0, 1],
-            refused: 99,
-            opened: 1,
-            items: &[7],
-            events: &[append(0, 7)],
-            answers: &[AnswerRow::Pushed(0, 0)],
-        },
-        Row {
-            name: "six turns of a pusher alone, whose length is old and whose buffer is closed",
-            plans: &[PlanRow::Pusher(&[7]), PlanRow::Pusher(&[9, 8, 6])],
-            turns: &[0, 1, 1, 1, 1, 1, 1, 1, 1, 1, 1, 1, 1, 1, 0, 0, 0, 0, 0, 0],
-            refused: 99,
-            opened: 2,
-            items: &[9, 8, 6, 7],
-            events: &[append(1, 9), append(1, 8), append(1, 6), append(0, 7)],
-            answers: &[
-                AnswerRow::Pushed(1, 0),
-                AnswerRow::Pushed(1, 1),
-                AnswerRow::Pushed(1, 2),
-                AnswerRow::Pushed(0, 3),
-            ],
-        },
-        Row {
-            name: "a hold of three turns, amid another thread's",
-            plans: &[PlanRow::Pusher(&[7]), PlanRow::Cloner],
-            turns: &[0, 0, 1, 0, 1, 0, 1, 0],
-            refused: 99,
-            opened: 1,
-            items: &[7],
-            events: &[
-                Event::Look {
-                    thread: 1,
-                    length: 0,
-                },
-                append(0, 7),
-            ],
-            answers: &[AnswerRow::Cloned(1, &[]), AnswerRow::Pushed(0, 0)],
-        },
-    ];
-    for row in &rows {
-        let plans = plans_of(alloc, row.plans)?;
-        let schedule = schedule_of(alloc, row.turns, row.refused)?;
-        let world = run(alloc, &plans, &schedule)?;
-        assert_eq!(rt; world, world_of(alloc, row)?, "{}", row.name);
-    }
+    assert_eq!(rt; wrong_row(alloc, &rows)?, None);
     Ok(())
 }
 
@@ -418,58 +334,6 @@ fn each_request_of_a_run_refused_in_turn(rt: HostRuntime) -> Result<(), AllocErr
     }
     assert_eq!(rt; budget.given(), budget.granted());
     Ok(())
-}
-
-#[test]
-fn buffers_open_as_the_list_grows(rt: HostRuntime) -> Result<(), AllocError> {
-    let alloc = rt.alloc();
-    let items = [0; 16];
-    let plans = plans_of(alloc, &[PlanRow::Pusher(&items)])?;
-
-    // Turns, then the length and the slots in open buffers after them. The fourth is amid the push at length 3.
-    for (turns, length, slots) in [
-        (0, 0, 0),
-        (5, 1, 3),
-        (13, 3, 3),
-        (16, 3, 15),
-        (18, 4, 15),
-        (62, 15, 15),
-        (67, 16, 63),
-    ] {
-        let schedule = schedule_of(alloc, vec![in alloc; 0; turns]?.as_slice(), 99)?;
-        let world = run(alloc, &plans, &schedule)?;
-        let good = world.length == length && prior_total_buffer_size(world.opened) == slots;
-        assert!(rt; good, "after {turns} turns");
-    }
-    Ok(())
-}
-
-/// The greatest place.
-const LAST: usize = (1 << 62) - 2;
-
-/// Whether a place lies in this buffer at this slot.
-fn lies_at(place: usize, buffer: usize, slot: usize) -> bool {
-    place <= LAST && buffer_index(place) == buffer && locate(place) == (buffer, slot)
-}
-
-#[test]
-fn places_lie_in_buffers(rt: HostRuntime) {
-    for (place, buffer, slot) in [
-        (0, 0, 0),
-        (2, 0, 2),
-        (3, 1, 0),
-        (14, 1, 11),
-        (15, 2, 0),
-        (62, 2, 47),
-        (63, 3, 0),
-        (LAST, 30, 3458764513820540927),
-    ] {
-        assert!(rt; lies_at(place, buffer, slot), "at {place}");
-    }
-    assert!(rt; buffer_size(0) == 3 && buffer_size(31) == 13835058055282163712);
-    assert!(rt;
-        prior_total_buffer_size(0) == 0 && prior_total_buffer_size(31) == 4611686018427387903
-    );
 }
 
 #[test]

@@ -12,14 +12,14 @@ use Rattle.elsa.proofs.shared.run_shared_into.Goals as goal
 -- what each worker handed back is its work, and the list at the end has what its author had pushed
 pub returns-clause-pushed : goal.returns-clause-pushed
 returns-clause-pushed g c =
-    let made = c.scoped-done.ensures.1 in let count = c.args.count in
-    let done : List (Done g.row.A.Denot) = c.scoped-done.result.0.items in
+    let made = c.in_ok-done.ensures in let count = c.args.count in
+    let done : List (Done g.row.A.Denot) = c.in_ok-done.done.items in
     let before : List (Entry ℕ) = c.args.pass.now.seen in let seen : List (Entry ℕ) = c.settle.new.pass.seen in
     let begun : c.begin-longest.new.pass.seen ≡ before = ap (λ (p : View ℕ). p.seen) c.begin-longest.ensures.same in
     let ended : seen ≡ c.meet.new.self.seen = ap (λ (p : View ℕ). p.seen) c.settle.ensures.same in
     let pre : IsPrefix before seen = subst (λ (es : List (Entry ℕ)). IsPrefix before es) (sym ended) (subst (λ (es : List (Entry ℕ)). IsPrefix es c.meet.new.self.seen) begun c.meet.ensures.seen.0) in
     let worked : HaveWorked count before seen (map (λ (d : Done g.row.A.Denot). d.fault) done) =
     have_worked (λ (d : Done g.row.A.Denot). d.pass.author) seen (λ (d : Done g.row.A.Denot). d.fault) count before done pre
-    (λ worker d below. let w = made.1.1.0 worker d below in let same = c.settle.ensures.pushed worker d below in
+    (λ worker d below. let w = made.2 worker d below in let same = c.settle.ensures.pushed worker d below in
     (ap (pushed_by _) (sym begun) ∙ w.1, (w.2.0, same ∙ w.2.1, w.2.2))) in
     subst (λ (faults : List (Option SharedFault)). HaveWorked count before seen faults) (sym c.settle.ensures.faults) worked

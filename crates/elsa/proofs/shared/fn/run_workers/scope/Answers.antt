@@ -8,8 +8,8 @@ use Rattle.elsa.specs.declared.shared.WorkOf.{WorkOf}
 use Rattle.elsa.specs.Workers.{Each, IsPromiseOf, IsWorkOf, pushed_by}
 use Rattle.elsa.proofs.Places.{Each-push}
 use Rattle.elsa.proofs.Pushed.{nothing_pushed}
-use Rattle.elsa.proofs.shared.fn.run_shared_into.scope.Goals as goal
-use Rattle.elsa.proofs.shared.fn.run_shared_into.scope.Goals.{else-loop-worker-test, then-loop-worker-test+in_default}
+use Rattle.elsa.proofs.shared.fn.run_workers.scope.Goals as goal
+use Rattle.elsa.proofs.shared.fn.run_workers.scope.Goals.{else-loop-worker-test, then-loop-worker-test+in_default}
 
 -- what `work` promises of the pass that it was given is the work of this worker
 pub spawn_scoped_with-requires-clause-keeps : goal.spawn_scoped_with-requires-clause-keeps
@@ -17,16 +17,18 @@ spawn_scoped_with-requires-clause-keeps g c κs within done did =
     let theirs = c.begin-theirs.result in let made = c.begin-theirs.ensures in let begun = c.captures.begun.now.seen in
     let seen : theirs.seen ≡ begun = made.seen ∙ c.loop-worker.invariant.1 in
     let none : pushed_by theirs.author begun ≡ [] = ap (λ (es : List (Entry ℕ)). pushed_by theirs.author es) (sym seen) ∙ nothing_pushed theirs.author theirs.seen made.nothing_mine in
-    (did.0.0 ∙ made.of, ap (λ (a : ℕ). pushed_by a begun) did.0.1 ∙ none, did.1)
+    let vector = c.captures.vector.now in let count = c.captures.count in let of = c.promise_of-promise.ensures in
+    let kept : IsWorkOf vector begun count c.loop-worker.worker done.pass done.fault = (did.0.0 ∙ made.of, ap (λ (a : ℕ). pushed_by a begun) did.0.1 ∙ none, did.1) in
+    rw (of.0, of.1, of.2, of.3) kept
 
 -- one worker more was started
 pub loop-worker-preserved : goal.loop-worker-preserved
 loop-worker-preserved g c =
-    let was = c.loop-worker.invariant in let started = c.loop-worker.started in let made = c.in-Ok.ensures.ok in
+    let was = c.loop-worker.invariant in let started = c.loop-worker.started in let made = c.in-Ok.ensures.ok in let of = c.promise_of-promise.ensures in
     let Handle : Type 0 = PromisedHandle (Done g.row.A.Denot) (WorkOf g.row.A.Denot) in
     let IsFor : ℕ → Handle → Type 0 = λ worker h. IsPromiseOf c.captures.vector.now c.captures.begun.now.seen c.captures.count worker h.promise.vector.now h.promise.pass.now.seen h.promise.count h.promise.worker in
     let items : c.push.new.self.items ≡ started.items ++ c.in-Ok.child ∷ [] = search rules in
-    let here : IsFor (length started.items) c.in-Ok.child = (ap (λ (w : WorkOf g.row.A.Denot). w.vector.now) made, ap (λ (w : WorkOf g.row.A.Denot). w.pass.now.seen) made, ap (λ (w : WorkOf g.row.A.Denot). w.count) made, ap (λ (w : WorkOf g.row.A.Denot). w.worker) made ∙ search rules) in (
+    let here : IsFor (length started.items) c.in-Ok.child = (ap (λ (w : WorkOf g.row.A.Denot). w.vector.now) made ∙ of.0, ap (λ (w : WorkOf g.row.A.Denot). w.pass.now.seen) made ∙ of.1, ap (λ (w : WorkOf g.row.A.Denot). w.count) made ∙ of.2, ap (λ (w : WorkOf g.row.A.Denot). w.worker) made ∙ (of.3 ∙ search rules)) in (
       search rules,
       search rules,
       search rules,

@@ -1,0 +1,57 @@
+//! Worked rows of the geometry: which place lies in which buffer, and when a buffer is opened.
+use crate::schedule_rows::{PlanRow, plans_of, schedule_of};
+use elsa_machine::geometry::{buffer_index, buffer_size, locate, prior_total_buffer_size};
+use elsa_machine::machine::run;
+use std::alloc::AllocError;
+
+#[test]
+fn buffers_open_as_the_list_grows(rt: HostRuntime) -> Result<(), AllocError> {
+    let alloc = rt.alloc();
+    let items = [0; 16];
+    let plans = plans_of(alloc, &[PlanRow::Pusher(&items)])?;
+
+    // Turns, then the length and the slots in open buffers after them. The fourth is amid the push at length 3.
+    for (turns, length, slots) in [
+        (0, 0, 0),
+        (5, 1, 3),
+        (13, 3, 3),
+        (16, 3, 15),
+        (18, 4, 15),
+        (62, 15, 15),
+        (67, 16, 63),
+    ] {
+        let schedule = schedule_of(alloc, vec![in alloc; 0; turns]?.as_slice(), 99)?;
+        let world = run(alloc, &plans, &schedule)?;
+        let good = world.length == length && prior_total_buffer_size(world.opened) == slots;
+        assert!(rt; good, "after {turns} turns");
+    }
+    Ok(())
+}
+
+/// The greatest place.
+const LAST: usize = (1 << 62) - 2;
+
+/// Whether a place lies in this buffer at this slot.
+fn lies_at(place: usize, buffer: usize, slot: usize) -> bool {
+    place <= LAST && buffer_index(place) == buffer && locate(place) == (buffer, slot)
+}
+
+#[test]
+fn places_lie_in_buffers(rt: HostRuntime) {
+    for (place, buffer, slot) in [
+        (0, 0, 0),
+        (2, 0, 2),
+        (3, 1, 0),
+        (14, 1, 11),
+        (15, 2, 0),
+        (62, 2, 47),
+        (63, 3, 0),
+        (LAST, 30, 3458764513820540927),
+    ] {
+        assert!(rt; lies_at(place, buffer, slot), "at {place}");
+    }
+    assert!(rt; buffer_size(0) == 3 && buffer_size(31) == 13835058055282163712);
+    assert!(rt;
+        prior_total_buffer_size(0) == 0 && prior_total_buffer_size(31) == 4611686018427387903
+    );
+}

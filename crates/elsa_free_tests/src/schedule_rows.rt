@@ -1,0 +1,126 @@
+//! Rows of schedules, with the worlds that they leave, written by hand.
+use elsa_machine::machine::{Answer, Event, Items, Plan, Turn, World, run};
+use std::alloc::{AllocError, Allocator, Global};
+
+/// A plan of a thread.
+#[derive(Clone, Copy)]
+pub enum PlanRow<'a> {
+    Pusher(&'a [u64]),
+    Reader(&'a [usize]),
+    Cloner,
+}
+
+/// An answer: the thread, then its place, index or items.
+#[derive(Clone, Copy)]
+pub enum AnswerRow<'a> {
+    Pushed(usize, usize),
+    Refused(usize),
+    Read(usize, usize, Option<u64>),
+    Cloned(usize, &'a [u64]),
+    CloneRefused(usize),
+}
+
+/// A schedule and the world that it leaves. A turn is a thread; the turn at `refused` is without memory.
+#[derive(Clone, Copy)]
+pub struct Row<'a> {
+    pub name: &'a str,
+    pub plans: &'a [PlanRow<'a>],
+    pub turns: &'a [usize],
+    pub refused: usize,
+    pub opened: usize,
+    pub items: &'a [u64],
+    pub events: &'a [Event],
+    pub answers: &'a [AnswerRow<'a>],
+}
+
+/// The plans of these rows.
+pub fn plans_of(alloc: Global, rows: &[PlanRow]) -> Result<Vec<Plan>, AllocError> {
+    let mut plans = Vec::new(alloc);
+    for row in rows {
+        plans.push(match *row {
+            PlanRow::Pusher(items) => Plan::Pusher(Items::from_vec(Vec::from_slice(alloc, items)?)),
+            PlanRow::Reader(indexes) => Plan::Reader(Items::from_vec(Vec::from_slice(
+                alloc, indexes,
+            )?)),
+            PlanRow::Cloner => Plan::Cloner,
+        })?;
+    }
+    Ok(plans)
+}
+
+/// A turn of each of these threads; the one at `refused` is without memory.
+pub fn schedule_of(
+    alloc: Global,
+    threads: &[usize],
+    refused: usize,
+) -> Result<Vec<Turn>, AllocError> {
+    let mut schedule = Vec::new(alloc);
+    for (i, thread) in threads.iter().enumerate() {
+        schedule.push(Turn {
+            thread: *thread,
+            memory: i != refused,
+        })?;
+    }
+    Ok(schedule)
+}
+
+fn answers_of(alloc: Global, rows: &[AnswerRow]) -> Result<Vec<Answer>, AllocError> {
+    let mut answers = Vec::new(alloc);
+    for row in rows {
+        answers.push(match *row {
+            AnswerRow::Pushed(thread, place) => Answer::Pushed { thread, place },
+            AnswerRow::Refused(thread) => Answer::Refused { thread },
+            AnswerRow::Read(thread, index, value) => Answer::Read {
+                thread,
+                index,
+                value,
+            },
+            AnswerRow::Cloned(thread, items) => Answer::Cloned {
+                thread,
+                items: Items::from_vec(Vec::from_slice(alloc, items)?),
+            },
+            AnswerRow::CloneRefused(thread) => Answer::CloneRefused { thread },
+        })?;
+    }
+    Ok(answers)
+}
+
+/// Each item with its place.
+fn writes_of(alloc: Global, items: &[u64]) -> Result<Items<(usize, u64)>, AllocError> {
+    let mut writes = Items::new(alloc);
+    for place in 0..items.len() {
+        writes.push((place, items[place]))?;
+    }
+    Ok(writes)
+}
+
+fn events_of(alloc: Global, events: &[Event]) -> Result<Items<Event>, AllocError> {
+    Ok(Items::from_vec(Vec::from_slice(alloc, events)?))
+}
+
+/// The world of a row in which nobody holds and each write was published.
+pub fn world_of(alloc: Global, row: &Row) -> Result<World, AllocError> {
+    let writes = writes_of(alloc, row.items)?;
+    let events = events_of(alloc, row.events)?;
+    let answers = Items::from_vec(answers_of(alloc, row.answers)?);
+    Ok(World {
+        length: row.items.len(),
+        held: None,
+        opened: row.opened,
+        writes,
+        events,
+        answers,
+    })
+}
+
+/// The name of the first row whose schedule leaves another world than the row's, if there is one.
+pub fn wrong_row<'a>(alloc: Global, rows: &[Row<'a>]) -> Result<Option<&'a str>, AllocError> {
+    for row in rows {
+        let plans = plans_of(alloc, row.plans)?;
+        let schedule = schedule_of(alloc, row.turns, row.refused)?;
+        if run(alloc, &plans, &schedule)? != world_of(alloc, row)? {
+            return Ok(Some(row.name));
+        }
+    }
+    Ok(None)
+}
