@@ -8,9 +8,7 @@ use Rattle.std.proofs.lemmas.List.Sums.{fails_before_first, prefix_len-le-length
 use Rattle.std.proofs.lemmas.Option.{slice_get_past}
 use Rattle.std.specs.List.{list_any, position_or_len}
 use Rattle.std.specs.Map.{keys_of, lookup}
-use Rattle.indexmap.specs.IndexMap.{IndexMap, insert_entry}
 use Rattle.indexmap.specs.IndexSet.{insert_key}
-use Rattle.indexmap.proofs.CallerLemmas.{insert_entry-new}
 use Rattle.indexmap.proofs.MapLemmas.{some_index}
 use Rattle.elsa_model.specs.Insertions.{place_of, InsertedNew}
 
