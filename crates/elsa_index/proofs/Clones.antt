@@ -8,9 +8,10 @@ use Rattle.std.proofs.lemmas.List.Elements.{all_zip_more}
 use Rattle.std.proofs.lemmas.Option.{get_or_from_slice_get}
 use Rattle.indexmap.specs.IndexMap.{insert_entry}
 use Rattle.indexmap.specs.Layout.{hash_map}
+use Rattle.indexmap.proofs.CallerLemmas.{insert_entry-new}
 use Rattle.indexmap.proofs.MapLemmas.{absent_before}
 use Rattle.elsa_model.specs.Insertions.{IsCloneOf}
-use Rattle.elsa_index.proofs.Content.{new_key_goes_last, none_of}
+use Rattle.elsa_index.proofs.Content.{none_of}
 
 found_alike : {X : Type 0} (b : Bool) (v w : X) (r s : Option X) → is_some r ≡ is_some s → is_some (cond b (Some v) r) ≡ is_some (cond b (Some w) s)
 found_alike true v w r s h = refl
@@ -31,7 +32,7 @@ module _ {K B : Type 0} (eq : K → K → Bool) (laws : IsEquivalence eq) (is_cl
   pub clone_more : (es fs gs : List (K × B)) (i : ℕ) (x y : K) (b : B) → i < length es → slice_get es i ≡ Some (x, b) → IsDistinct eq (keys_of es)
       → IsCloneOf eq is_clone (take i es) fs → is_clone x y → eq x y ≡ true → gs ≡ insert_entry eq fs y b → IsCloneOf eq is_clone (take (i + 1) es) gs
   clone_more es fs gs i x y b within at distinct before cloned same is =
-      subst (IsCloneOf eq is_clone (take (i + 1) es)) (sym (is ∙ new_key_goes_last eq (hash_map fs (tt {0}) 0) y b absent))
+      subst (IsCloneOf eq is_clone (take (i + 1) es)) (sym (is ∙ insert_entry-new eq (hash_map fs (tt {0}) 0) y b absent))
       (all_zip_more (λ p q. is_clone p.0 q.0 × (eq p.0 q.0 ≡ true) × (q.1 ≡ p.1)) es fs i (x, b) (y, b) within (sym here) before (cloned, same, refl))
     where
       here : get_or es i (x, b) ≡ (x, b)

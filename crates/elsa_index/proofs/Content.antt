@@ -8,9 +8,7 @@ use Rattle.std.proofs.lemmas.List.Sums.{fails_before_first, prefix_len-le-length
 use Rattle.std.proofs.lemmas.Option.{slice_get_past}
 use Rattle.std.specs.List.{list_any, position_or_len}
 use Rattle.std.specs.Map.{keys_of, lookup}
-use Rattle.indexmap.specs.IndexMap.{IndexMap, insert_entry}
 use Rattle.indexmap.specs.IndexSet.{insert_key}
-use Rattle.indexmap.proofs.CallerLemmas.{insert_entry-new}
 use Rattle.indexmap.proofs.MapLemmas.{some_index}
 use Rattle.elsa_model.specs.Insertions.{place_of, InsertedNew}
 
@@ -39,10 +37,6 @@ found_within t xs i e = grind (arith, common_steps, e)
 
 pub found_nowhere : {X : Type 0} (t : X → Bool) (xs : List X) → position t xs ≡ None → find t xs ≡ None
 found_nowhere t xs e = find_at t xs ∙ ap (slice_get xs) (none_found t xs e) ∙ slice_get_past xs (length xs) (omega arith)
-
--- a new key goes last
-pub new_key_goes_last : {K B S : Type 0} (eq : K → K → Bool) (m : IndexMap K B S) (k : K) (b : B) → lookup (eq k) m.entries ≡ None → insert_entry eq m.entries k b ≡ m.entries ++ (k, b) ∷ []
-new_key_goes_last eq m k b none = insert_entry-new eq m k b none
 
 -- what is not there is None
 pub none_of : {X : Type 0} (o : Option X) → is_some o ≡ false → o ≡ None

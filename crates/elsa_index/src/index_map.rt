@@ -93,12 +93,7 @@ impl<'a, K: Eq + Hash, V: StableDeref<'a>, S: BuildHasher, A: Allocator + Copy> 
     pub fn into_map(self) -> IndexMap<K, V::Borrow, S, A>
         ensures content { result.entries ≡ self.entry }
     {
-        let FrozenIndexMap {
-            arena: _,
-            map: inner,
-            of: _,
-        } = self;
-        inner
+        self.map
     }
 
     /// The place of the pair with this key, `None` exactly if there is none.

@@ -170,12 +170,7 @@ where
     pub fn into_set(self) -> IndexSet<T::Borrow, S, A>
         ensures content { result.keys ≡ self.entry }
     {
-        let FrozenIndexSet {
-            arena: _,
-            set: inner,
-            of: _,
-        } = self;
-        inner
+        self.set
     }
 
     /// A set with the same content, in the same arena, under a clone of the hash builder.

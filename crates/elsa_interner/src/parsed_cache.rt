@@ -4,9 +4,7 @@
 ghost use Rattle.std.specs.Prelude.{◌≡◌, [], List, ℕ, false, None, Some, Ok, Err, IfOk, IfSome, OnErr, length};
 ghost use Rattle.std.specs.Borrow.{Bor};
 ghost use Rattle.std.specs.Fn.{FnOnceReturnsAt};
-ghost use Rattle.std.specs.String.{string_bytes};
-ghost use Rattle.elsa_maps.specs.FirstWins.{value_at};
-ghost use Rattle.elsa_interner.specs.Cached.{Cached};
+ghost use Rattle.elsa_interner.specs.Cached.{Cached, FailsToLoad, KeepsOthers, LoadsText, resource_at, text_at};
 
 use bumpalo::Bump;
 use elsa_maps::map::FrozenMap;
@@ -79,14 +77,14 @@ impl<'a, T: Copy + 'a, S: BuildHasher, A: Allocator + Copy> ParsedCache<'a, T, S
 
     /// The value of the path, `None` exactly if it has none. Takes no memory; one hash.
     pub fn get(&self, path: &str) -> Option<&'a T>
-        ensures { result ≡ value_at ⟦<&'a str as PartialEq>⟧.eq self.now.resources path.entry }
+        ensures { result ≡ resource_at ⟦<&'a str as PartialEq>⟧.eq self.now path.entry }
     {
         self.values.get_text(path)
     }
 
     /// The text of the path, `None` exactly if it has none. Takes no memory; one hash.
     pub fn text(&self, path: &str) -> Option<&'a str>
-        ensures { result ≡ value_at ⟦<&'a str as PartialEq>⟧.eq self.now.texts path.entry }
+        ensures { result ≡ text_at ⟦<&'a str as PartialEq>⟧.eq self.now path.entry }
     {
         self.texts.get_text(path)
     }
@@ -106,34 +104,32 @@ impl<'a, T: Copy + 'a, S: BuildHasher, A: Allocator + Copy> ParsedCache<'a, T, S
     ) -> Result<Option<&'a str>, L>
     where
         F: Drop,
-        requires loader { value_at ⟦<&'a str as PartialEq>⟧.eq self.old.texts path ≡ None →
+        requires loader { text_at ⟦<&'a str as PartialEq>⟧.eq self.old path ≡ None →
             F.IsAlwaysCallable load }
 
         // A text that is there is returned, and nothing changes. Else the loader's is, and stays.
         ensures present { (t : Bor (List ℕ)) →
-            value_at ⟦<&'a str as PartialEq>⟧.eq self.old.texts path.entry ≡ Some t →
+            text_at ⟦<&'a str as PartialEq>⟧.eq self.old path.entry ≡ Some t →
             (result ≡ Ok (Some t)) × (self.new ≡ self.old) }
         ensures loaded { (t : Bor (List ℕ)) →
-            value_at ⟦<&'a str as PartialEq>⟧.eq self.old.texts path.entry ≡ None →
-            value_at ⟦<&'a str as PartialEq>⟧.eq self.new.texts path.entry ≡ Some t →
-            (s : _) × FnOnceReturnsAt F.FnOnce load path.now (Ok s) × (t.now ≡ string_bytes s) }
+            text_at ⟦<&'a str as PartialEq>⟧.eq self.old path.entry ≡ None →
+            text_at ⟦<&'a str as PartialEq>⟧.eq self.new path.entry ≡ Some t →
+            LoadsText F.FnOnce load path.entry t.now }
         ensures stays { IfOk result (λ o. IfSome o (λ t.
-            value_at ⟦<&'a str as PartialEq>⟧.eq self.new.texts path.entry ≡ Some t)) }
+            text_at ⟦<&'a str as PartialEq>⟧.eq self.new path.entry ≡ Some t)) }
 
         // Whatever the result, all else stays.
-        ensures others { (q : Bor (List ℕ)) → ⟦<&'a str as PartialEq>⟧.eq path.entry q ≡ false →
-            value_at ⟦<&'a str as PartialEq>⟧.eq self.new.texts q
-            ≡ value_at ⟦<&'a str as PartialEq>⟧.eq self.old.texts q }
+        ensures others { KeepsOthers ⟦<&'a str as PartialEq>⟧.eq self.old self.new path.entry }
         ensures values { self.new.resources ≡ self.old.resources }
 
         // No room for the text, or an error of the loader: nothing changes.
         ensures no_memory { result ≡ Ok None →
             (self.new ≡ self.old)
-            × (value_at ⟦<&'a str as PartialEq>⟧.eq self.old.texts path.entry ≡ None) }
+            × (text_at ⟦<&'a str as PartialEq>⟧.eq self.old path.entry ≡ None) }
         ensures no_room { result ≡ Ok None →
             (s : _) × FnOnceReturnsAt F.FnOnce load path.now (Ok s) }
         ensures not_loaded { (e : L) → result ≡ Err e →
-            (self.new ≡ self.old) × FnOnceReturnsAt F.FnOnce load path.now (Err e) }
+            (self.new ≡ self.old) × FailsToLoad F.FnOnce load path.entry e }
     {
         if let Some(text) = self.texts.get_text(path) {
             return Ok(Some(text));
@@ -160,58 +156,48 @@ impl<'a, T: Copy + 'a, S: BuildHasher, A: Allocator + Copy> ParsedCache<'a, T, S
     where
         F: Drop,
         G: Drop,
-        requires loader { value_at ⟦<&'a str as PartialEq>⟧.eq self.old.resources path ≡ None →
-            value_at ⟦<&'a str as PartialEq>⟧.eq self.old.texts path ≡ None →
+        requires loader { resource_at ⟦<&'a str as PartialEq>⟧.eq self.old path ≡ None →
+            text_at ⟦<&'a str as PartialEq>⟧.eq self.old path ≡ None →
             F.IsAlwaysCallable load }
-        requires parser { value_at ⟦<&'a str as PartialEq>⟧.eq self.old.resources path ≡ None →
+        requires parser { resource_at ⟦<&'a str as PartialEq>⟧.eq self.old path ≡ None →
             G.IsAlwaysCallable parse }
 
         // A value that is there.
         ensures present { (v : Bor T) →
-            value_at ⟦<&'a str as PartialEq>⟧.eq self.old.resources path.entry ≡ Some v →
+            resource_at ⟦<&'a str as PartialEq>⟧.eq self.old path.entry ≡ Some v →
             (result ≡ Ok v) × (self.new ≡ self.old) }
 
         // A value that is made now: of the text that the path has then, which is the loader's if it is new.
-        ensures made { value_at ⟦<&'a str as PartialEq>⟧.eq self.old.resources path.entry ≡ None →
+        ensures made { resource_at ⟦<&'a str as PartialEq>⟧.eq self.old path.entry ≡ None →
             IfOk result (λ v.
             (t : Bor (List ℕ))
-            × (value_at ⟦<&'a str as PartialEq>⟧.eq self.new.texts path.entry ≡ Some t)
+            × (text_at ⟦<&'a str as PartialEq>⟧.eq self.new path.entry ≡ Some t)
             × G.post parse t (Ok v.now)) }
         ensures loaded { (t : Bor (List ℕ)) →
-            value_at ⟦<&'a str as PartialEq>⟧.eq self.old.texts path.entry ≡ None →
-            value_at ⟦<&'a str as PartialEq>⟧.eq self.new.texts path.entry ≡ Some t →
-            (s : _) × FnOnceReturnsAt F.FnOnce load path.now (Ok s) × (t.now ≡ string_bytes s) }
+            text_at ⟦<&'a str as PartialEq>⟧.eq self.old path.entry ≡ None →
+            text_at ⟦<&'a str as PartialEq>⟧.eq self.new path.entry ≡ Some t →
+            LoadsText F.FnOnce load path.entry t.now }
 
         // What stays.
         ensures stays { IfOk result (λ v.
-            value_at ⟦<&'a str as PartialEq>⟧.eq self.new.resources path.entry ≡ Some v) }
-        ensures text_stays { (t : Bor (List ℕ)) →
-            value_at ⟦<&'a str as PartialEq>⟧.eq self.old.texts path.entry ≡ Some t →
-            value_at ⟦<&'a str as PartialEq>⟧.eq self.new.texts path.entry ≡ Some t }
-        ensures other_texts { (q : Bor (List ℕ)) →
-            ⟦<&'a str as PartialEq>⟧.eq path.entry q ≡ false →
-            value_at ⟦<&'a str as PartialEq>⟧.eq self.new.texts q
-            ≡ value_at ⟦<&'a str as PartialEq>⟧.eq self.old.texts q }
-        ensures other_values { (q : Bor (List ℕ)) →
-            ⟦<&'a str as PartialEq>⟧.eq path.entry q ≡ false →
-            value_at ⟦<&'a str as PartialEq>⟧.eq self.new.resources q
-            ≡ value_at ⟦<&'a str as PartialEq>⟧.eq self.old.resources q }
+            resource_at ⟦<&'a str as PartialEq>⟧.eq self.new path.entry ≡ Some v) }
+        ensures others { KeepsOthers ⟦<&'a str as PartialEq>⟧.eq self.old self.new path.entry }
 
         // Refusals: by whom, and what each leaves.
         ensures refused { OnErr result (self.new.resources ≡ self.old.resources) }
         ensures not_loaded { (e : L) → result ≡ Err (CacheFault.Load e) →
-            (self.new ≡ self.old) × FnOnceReturnsAt F.FnOnce load path.now (Err e) }
+            (self.new ≡ self.old) × FailsToLoad F.FnOnce load path.entry e }
         ensures not_parsed { (e : P) → result ≡ Err (CacheFault.Parse e) →
             (t : Bor (List ℕ))
-            × (value_at ⟦<&'a str as PartialEq>⟧.eq self.new.texts path.entry ≡ Some t)
+            × (text_at ⟦<&'a str as PartialEq>⟧.eq self.new path.entry ≡ Some t)
             × G.post parse t (Err e) }
 
         // Memory was refused for the text where the path has none, else for the value.
         ensures no_text { result ≡ Err CacheFault.Memory →
-            value_at ⟦<&'a str as PartialEq>⟧.eq self.new.texts path.entry ≡ None →
+            text_at ⟦<&'a str as PartialEq>⟧.eq self.new path.entry ≡ None →
             (s : _) × FnOnceReturnsAt F.FnOnce load path.now (Ok s) }
         ensures no_value { (t : Bor (List ℕ)) → result ≡ Err CacheFault.Memory →
-            value_at ⟦<&'a str as PartialEq>⟧.eq self.new.texts path.entry ≡ Some t →
+            text_at ⟦<&'a str as PartialEq>⟧.eq self.new path.entry ≡ Some t →
             (v : T) × G.post parse t (Ok v) }
     {
         if let Some(value) = self.values.get_text(path) {

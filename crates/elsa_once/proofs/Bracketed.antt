@@ -112,7 +112,7 @@ sorted_place {B} cmp target items r bracket = by r bracket
 -- ---- where the answers hang on the item alone
 
 -- a search splits a list as a search of a slice does
-splits_list : {F B : Type 0} (step : F → B → Ordering → F → Type 0) (items : List B) (start : F) (r : Result ℕ ℕ) → Searched step items start (λ calls. Brackets (length items) (Answered calls) r)
+pub splits_list : {F B : Type 0} (step : F → B → Ordering → F → Type 0) (items : List B) (start : F) (r : Result ℕ ℕ) → Searched step items start (λ calls. Brackets (length items) (Answered calls) r)
     → (o : B → Ordering) → ((d : B) → AnswersByPlace step items start (λ k. o (get_or items k d))) → IsBinarySearchResult o items r
 splits_list step items start (Ok i) found o said = λ d. sym (said d found.calls found.end i Equal found.in_turn found.bracket)
 splits_list {B = B} step items start (Err i) found o said =
@@ -121,7 +121,7 @@ splits_list {B = B} step items start (Err i) found o said =
     ((λ k d low high. (at d).1 k high), λ k d low high. (at d).2 k low high)
 
 -- a partition parts a list as that of a slice does
-parts_list : {F B : Type 0} (step : F → B → Bool → F → Type 0) (items : List B) (start : F) (i : ℕ) → Searched step items start (λ calls. IsBetween (length items) (Answered calls) true false i)
+pub parts_list : {F B : Type 0} (step : F → B → Bool → F → Type 0) (items : List B) (start : F) (i : ℕ) → Searched step items start (λ calls. IsBetween (length items) (Answered calls) true false i)
     → (test : B → Bool) → ((d : B) → AnswersByPlace step items start (λ k. test (get_or items k d))) → IsPartitionedBy test items → IsPartitionPoint (λ b. test b ≡ true) (λ b. test b ≡ false) items i
 parts_list {B = B} step items start i found test said =
     λ falls.
@@ -130,20 +130,13 @@ parts_list {B = B} step items start i found test said =
 
 -- a closure that stays as it is
 module _ {F B R : Type 0} (step : F → B → R → F → Type 0) (items : List B) (start : F) (o : B → R) (by_item : AnswersByItem step start o) where
-  said_by_item : (d : B) → AnswersByPlace step items start (λ k. o (get_or items k d))
+  -- answers by the place, too
+  pub said_by_item : (d : B) → AnswersByPlace step items start (λ k. o (get_or items k d))
   said_by_item d calls end i r made answered = read (slice_get items i) refl (answered_so step items start (λ item r. r ≡ o item) by_item calls end i r made answered)
     where
       read : (found : Option B) → slice_get items i ≡ found → IsSomeAnd found (λ item. r ≡ o item) → r ≡ o (get_or items i d)
       read None at h = absurd h
       read (Some item) at h = h ∙ ap o (sym (get_or_from_slice_get items i item d at))
-
-pub splits_by_item : {F B : Type 0} (step : F → B → Ordering → F → Type 0) (items : List B) (start : F) (r : Result ℕ ℕ) → Searched step items start (λ calls. Brackets (length items) (Answered calls) r)
-    → (o : B → Ordering) → AnswersByItem step start o → IsBinarySearchResult o items r
-splits_by_item step items start r found o by_item = splits_list step items start r found o (said_by_item step items start o by_item)
-
-pub parts_by_item : {F B : Type 0} (step : F → B → Bool → F → Type 0) (items : List B) (start : F) (i : ℕ) → Searched step items start (λ calls. IsBetween (length items) (Answered calls) true false i)
-    → (test : B → Bool) → AnswersByItem step start test → IsPartitionedBy test items → IsPartitionPoint (λ b. test b ≡ true) (λ b. test b ≡ false) items i
-parts_by_item step items start i found test by_item = parts_list step items start i found test (said_by_item step items start test by_item)
 
 -- a closure that may change
 module _ {F B R : Type 0} (g : Mut F (B × Unit {0}) R) (P : B → R → Type 0) (items : List B) (start : F) (always : AlwaysReturns g (λ a r. P a.0 r) start) where
@@ -163,18 +156,11 @@ module _ {F B R : Type 0} (g : Mut F (B × Unit {0}) R) (P : B → R → Type 0)
   answered_by_item (c ∷ cs) end i r (before, item, made, at, s) (inr earlier) = answered_by_item cs before i r made earlier
 
 module _ {F B R : Type 0} (g : Mut F (B × Unit {0}) R) (items : List B) (start : F) (o : B → R) (always : AlwaysReturns g (λ a r. r ≡ o a.0) start) where
-  by_place : (d : B) → AnswersByPlace (λ p b r q. Called g p (b, tt) r q) items start (λ k. o (get_or items k d))
-  by_place d calls end i r made answered =
+  -- each call about a place answers what its item says
+  pub said_by_place : (d : B) → AnswersByPlace (λ p b r q. Called g p (b, tt) r q) items start (λ k. o (get_or items k d))
+  said_by_place d calls end i r made answered =
       let call = answered_by_item g (λ b r. r ≡ o b) items start always calls end i r made answered in
       call.2 ∙ ap o (sym (get_or_from_slice_get items i call.0 d call.1))
-
-pub splits_items : {F B : Type 0} (g : Mut F (B × Unit {0}) Ordering) (items : List B) (start : F) (r : Result ℕ ℕ) → Searched (λ p b r q. Called g p (b, tt) r q) items start (λ calls. Brackets (length items) (Answered calls) r)
-    → (o : B → Ordering) → AlwaysReturns g (λ a r. r ≡ o a.0) start → IsBinarySearchResult o items r
-splits_items g items start r found o always = splits_list (λ p b r q. Called g p (b, tt) r q) items start r found o (by_place g items start o always)
-
-pub parts_items : {F B : Type 0} (g : Mut F (B × Unit {0}) Bool) (items : List B) (start : F) (i : ℕ) → Searched (λ p b r q. Called g p (b, tt) r q) items start (λ calls. IsBetween (length items) (Answered calls) true false i)
-    → (test : B → Bool) → AlwaysReturns g (λ a r. r ≡ test a.0) start → IsPartitionedBy test items → IsPartitionPoint (λ b. test b ≡ true) (λ b. test b ≡ false) items i
-parts_items g items start i found test always = parts_list (λ p b r q. Called g p (b, tt) r q) items start i found test (by_place g items start test always)
 
 -- ---- where an item was found
 

@@ -5,10 +5,7 @@ ghost use Rattle.std.specs.Map.{lookup};
 ghost use Rattle.std.specs.Ordering.{eq_by_cmp};
 
 use bumpalo::Bump;
-use elsa_maps::map::laws::{
-    hashed_equal_as_functions, hashed_inserted_apart, ordered_equal_as_functions,
-    ordered_inserted_apart,
-};
+use elsa_maps::map::laws::inserted_apart;
 use elsa_maps::map::{FrozenBTreeMap, FrozenMap};
 use elsa_once::stable::Own;
 use std::alloc::{AllocError, Global};
@@ -141,7 +138,7 @@ fn equality_asks_for_no_hash_and_no_order(rt: HostRuntime) -> Result<(), Fail> {
     let down = [(NoHash(2), Own(20)), (NoHash(1), Own(10))];
     let mut first = without_hash(alloc, &arena, up)?;
     let second = without_hash(alloc, &arena, down)?;
-    let equal = ordered_equal_as_functions(&first, &second);
+    let equal = first == second;
     first.insert(NoHash(3), Own(30))?;
     assert!(rt; equal && first != second);
     Ok(())
@@ -178,8 +175,9 @@ fn parted<'a>(
 ) -> Result<(Seeded<'a>, Seeded<'a>, bool), AllocError> {
     let mut map: Seeded<'a> = FrozenMap::with_hasher(alloc, arena, hasher);
     map.insert(1, "a")?;
-    let equal = hashed_equal_as_functions(&map, &map.clone()?);
-    let copy = hashed_inserted_apart(&mut map, (1, "c"), (2, "b"))?;
+    let copy = map.clone()?;
+    let equal = map == copy;
+    let copy = inserted_apart(&mut map, copy, (1, "c"), (2, "b"))?;
     let inner = copy.into_map();
     let between = inner.get(&2).copied();
     Ok((
@@ -222,7 +220,8 @@ fn in_a_clone<'a>(
     let mut map: Named<'a> = FrozenBTreeMap::new(alloc, arena);
     let key = String::from_str(alloc, key)?;
     let first = String::from_str(alloc, "first")?;
-    let copy = ordered_inserted_apart(&mut map, (first, "b"), (key.clone()?, "a"))?;
+    let copy = map.clone()?;
+    let copy = inserted_apart(&mut map, copy, (first, "b"), (key.clone()?, "a"))?;
     Ok(with_key(&copy, key.clone()?, "c")?.get(&key))
 }
 
