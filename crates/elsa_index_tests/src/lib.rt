@@ -13,6 +13,8 @@ mod engine_tests;
 mod hasher_tests;
 #[cfg(test)]
 mod index_tests;
+#[cfg(test)]
+mod name_tests;
 pub mod odd_keys;
 #[cfg(test)]
 mod parsed_cache_tests;

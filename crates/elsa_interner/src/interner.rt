@@ -1,6 +1,6 @@
 //! Names, numbered by their first `put`, and the engine that answers lines about them.
 //!
-//! [`Interner`] finds a name by its hash. [`intern_engine`] runs one over a reader's lines; it is generic over
+//! [`Interner`] finds a name by its hash, in one search of a table of places (`elsa_table`), also where the name is new. [`intern_engine`] runs one over a reader's lines; it is generic over
 //! [`Source`] and [`Sink`], which [`Counted`] makes of any reader and writer of std.
 ghost use Rattle.std.specs.Prelude.{◌≡◌, ◌↔◌, ℕ, [], List, length, None, Some, slice_get, position, map, is_some, slice_index_or, ◌<◌, IfErr, IfOk, IfSome, IsTrue, OnErr};
 ghost use Rattle.std.specs.Borrow.{Bor};
@@ -63,7 +63,7 @@ fn search<A: Allocator + Copy>(
 ///
 /// In contracts an interner is the list of its names, each as its bytes; a name's number is its place there.
 /// The names lie in the arena that the caller lends, so a borrow that [`Interner::at`] answers outlives the
-/// interner. `alloc` gives the table's memory.
+/// interner. `alloc` gives the memory of the table and of the list of names.
 #[derive(Drop)]
 pub struct Interner<
     'a,
@@ -173,7 +173,8 @@ impl<'a, S: BuildHasher, A: Allocator + Copy> Interner<'a, S, A> {
     /// The number of a name, which is kept if it is new and then has the number that [`Interner::len`] was.
     ///
     /// A name that is there takes no memory and never fails. Of a new one a copy goes straight into the arena. `Err`
-    /// means that memory was refused: the names stay as they were. `O(1)` hashed, and the copy.
+    /// means that memory was refused, or that there are 2^32 - 1 names: the names stay as they were. One hash and one
+    /// search: `O(1)` hashed, and the copy.
     #[inline(always)]
     pub fn put(&mut self, text: &str) -> Result<usize, AllocError>
         // The number that it has, or the next one for a new name; only a new one is refused, and then nothing changes.
