@@ -1,0 +1,156 @@
+//! Closures that a locked map calls: another thread's call waits until they have returned.
+use crate::marks::Mark;
+use elsa_locks::map::{FrozenBTreeMap, FrozenMap};
+use std::alloc::Global;
+use std::sync::Wait;
+use std::test::Fail;
+use std::thread;
+use std::thread::Threads;
+
+type Hashed = FrozenMap<u64, u64>;
+
+type Ordered = FrozenBTreeMap<u64, u64>;
+
+// What a closure and a thread that makes a call beside it tell each other.
+#[derive(Drop)]
+struct Hold {
+    runs: Mark,
+    asks: Mark,
+    answered: Mark,
+    held: Mark,
+}
+
+impl Hold {
+    fn new() -> Hold {
+        Hold {
+            runs: Mark::new(),
+            asks: Mark::new(),
+            answered: Mark::new(),
+            held: Mark::new(),
+        }
+    }
+
+    // In the closure: notes whether the other thread's call stays unanswered while it runs.
+    fn run(&self) {
+        self.runs.raise(1);
+        if self.asks.comes_to(1) && !self.answered.comes_soon(1) {
+            self.held.raise(1);
+        }
+    }
+
+    // In the closure, which makes a 6.
+    fn make(&self) -> u64 {
+        self.run();
+        6
+    }
+}
+
+// A call of a locked map that takes a closure, and a call that must wait for it.
+trait Holding {
+    // Makes the call with a closure, and says whether it answered 6.
+    fn holds<R: Wait>(&self, rt: &R, hold: &Hold) -> bool;
+
+    // Makes the call beside it.
+    fn asks<R: Wait>(&self, rt: &R);
+}
+
+// The calls of a hashed map that make a value under the lock, by number; beside them a read.
+#[derive(Drop)]
+struct Making {
+    map: Hashed,
+    call: u64,
+}
+
+impl Making {
+    fn of(alloc: Global, call: u64) -> Making {
+        Making {
+            map: FrozenMap::new(alloc),
+            call,
+        }
+    }
+}
+
+fn is_six<E>(made: Result<u64, E>) -> bool
+where
+    E: Drop,
+{
+    match made {
+        Ok(value) => value == 6,
+        Err(_) => false,
+    }
+}
+
+impl Holding for Making {
+    fn holds<R: Wait>(&self, rt: &R, hold: &Hold) -> bool {
+        match self.call {
+            0 => matches!(self.map.insert_with(rt, 1, || hold.make()), Ok(value) if *value == 6),
+            1 => {
+                matches!(self.map.insert_with_key(rt, 1, |_| hold.make()), Ok(value) if *value == 6)
+            }
+            2 => is_six(self.map.get_copy_or_insert_with(rt, 1, || hold.make())),
+            _ => is_six(self.map.get_copy_or_insert_with_key(rt, 1, |_| hold.make())),
+        }
+    }
+
+    fn asks<R: Wait>(&self, rt: &R) {
+        let _ = self.map.get_copy(rt, &2);
+    }
+}
+
+// Reading with a closure; beside it an insertion.
+impl Holding for Hashed {
+    fn holds<R: Wait>(&self, rt: &R, hold: &Hold) -> bool {
+        self.map_get(rt, &1, |_| hold.make()) == Some(6)
+    }
+
+    fn asks<R: Wait>(&self, rt: &R) {
+        let _ = self.insert(rt, 2, 9);
+    }
+}
+
+impl Holding for Ordered {
+    fn holds<R: Wait>(&self, rt: &R, hold: &Hold) -> bool {
+        self.map_get(rt, &1, |_| hold.make()) == Some(6)
+    }
+
+    fn asks<R: Wait>(&self, rt: &R) {
+        let _ = self.insert(rt, 2, 9);
+    }
+}
+
+// Makes the other call while the closure runs.
+fn asks_beside<R: Wait, H: Holding>(rt: &R, map: &H, hold: &Hold) -> bool {
+    if !hold.runs.comes_to(1) {
+        return false;
+    }
+    hold.asks.raise(1);
+    map.asks(rt);
+    hold.answered.raise(1);
+    true
+}
+
+// Whether the call beside the closure waited for it.
+fn is_held<R: Threads + Wait + Sync, H: Holding + Sync>(rt: &R, map: &H) -> bool {
+    let own = Hold::new();
+    let hold = &own;
+    let (made, asked) = thread::join(rt, || map.holds(rt, hold), || asks_beside(rt, map, hold));
+    made && asked && hold.held.is_at(1)
+}
+
+// A closure that is called outside the lock lets another thread's call be answered while it runs.
+#[test]
+fn a_closure_that_makes_a_value_runs_under_the_lock(rt: HostRuntime) -> Result<(), Fail> {
+    for call in 0..4u64 {
+        assert!(rt; is_held(&rt, &Making::of(rt.alloc(), call)));
+    }
+    Ok(())
+}
+
+#[test]
+fn a_closure_that_reads_a_value_runs_under_the_lock(rt: HostRuntime) -> Result<(), Fail> {
+    let hashed: Hashed = FrozenMap::new(rt.alloc());
+    let ordered: Ordered = FrozenBTreeMap::new(rt.alloc());
+    assert!(rt; hashed.insert(&rt, 1, 6).is_ok() && ordered.insert(&rt, 1, 6).is_ok());
+    assert!(rt; is_held(&rt, &hashed) && is_held(&rt, &ordered));
+    Ok(())
+}
