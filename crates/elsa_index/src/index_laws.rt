@@ -51,6 +51,7 @@ pub fn keeps_earlier_pairs<
     ensures kept { Grows map.old map.new }
     ensures there { IfOk result (λ r. value_at K.eq map.new key ≡ Some r.1) }
     ensures there_at { IfOk result (λ r. place_of K.eq map.new key ≡ Some r.0) }
+    // Whether the key or value was new, and what that adds.
     ensures flag { IfOk result (λ r. IsTrue r.2 ↔ (place_of K.eq map.old key ≡ None)) }
     ensures grows { IfOk result (λ r. length map.new ≡ length map.old + (if r.2 then 1 else 0)) }
     ensures refused { OnErr result (map.new ≡ map.old) }
@@ -77,6 +78,7 @@ pub fn is_new_once<
     ensures once { IfOk result (λ r. r.1 ≡ (r.0.0, r.0.1, false)) }
     ensures there { IfOk result (λ r. value_at K.eq map.new first.0 ≡ Some r.0.1) }
     ensures there_at { IfOk result (λ r. place_of K.eq map.new first.0 ≡ Some r.0.0) }
+    // All else stays.
     ensures between { IfOk result (λ _.
         All (λ pair. IsSome (place_of K.eq map.new pair.0)) between.items) }
     ensures kept { Grows map.old map.new }
@@ -180,6 +182,7 @@ where
     ensures kept { Grows set.old set.new }
     ensures there { IfOk result (λ r. slice_get set.new r.0 ≡ Some r.1) }
     ensures there_at { IfOk result (λ r. position (T.finds value) set.new ≡ Some r.0) }
+    // Whether the key or value was new, and what that adds.
     ensures flag { IfOk result (λ r. IsTrue r.2 ↔ (position (T.finds value) set.old ≡ None)) }
     ensures grows { IfOk result (λ r. length set.new ≡ length set.old + (if r.2 then 1 else 0)) }
     ensures refused { OnErr result (set.new ≡ set.old) }
@@ -207,6 +210,7 @@ where
     ensures once { IfOk result (λ r. r.1 ≡ (r.0.0, r.0.1, false)) }
     ensures there { IfOk result (λ r. slice_get set.new r.0.0 ≡ Some r.0.1) }
     ensures there_at { IfOk result (λ r. position (T.finds first) set.new ≡ Some r.0.0) }
+    // All else stays.
     ensures between { IfOk result (λ _.
         All (λ value. IsSome (position (T.finds value) set.new)) between.items) }
     ensures kept { Grows set.old set.new }

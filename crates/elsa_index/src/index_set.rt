@@ -221,6 +221,8 @@ where
         ensures place { IfOk result (λ r. r.0 ≡ length self.old) }
         ensures placed { IfOk result (λ r. T.shown r.1 ≡ T.target value) }
         ensures appended { IfOk result (λ r. self.new ≡ self.old ++ r.1 ∷ []) }
+
+        // A refusal changes nothing, and an added value is found.
         ensures refused { OnErr result (self.new ≡ self.old) }
         ensures unique { OnOk result (IsDistinct T.Borrow.eq self.new) }
         ensures stands { IfOk result (λ r. slice_get self.new r.0 ≡ Some r.1) }

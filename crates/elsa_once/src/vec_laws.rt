@@ -138,6 +138,7 @@ pub fn read_on<'a, T: StableDeref<'a>, A: Allocator + Copy>(
     ensures before { result.0 ≡ None }
     ensures pushed { OnOk result.1 (Gains T.target T.shown items.old item items.new) }
     ensures refused { OnErr result.1 (items.new ≡ items.old) }
+    // What is read on.
     ensures after { result.2 ≡ slice_get items.new (length items.old) }
     ensures shows { IfSome result.2 (λ b. T.shown b ≡ T.target item) }
     ensures at_end { cursor.new ≡ length items.new }

@@ -48,9 +48,8 @@ pub trait MapForm<'a> {
         ensures new_target { value_at same (entries self.old) key ≡ None →
             IfOk result (λ r. Self.Value.shown r.0 ≡ Self.Value.target value) }
         ensures new_content { value_at same (entries self.old) key ≡ None →
-            IfOk result (λ r.
-            Adds same (value_at same (entries self.old)) (value_at same (entries self.new)) key
-            r.0) }
+            IfOk result (λ r. Adds same (value_at same (entries self.old))
+            (value_at same (entries self.new)) key r.0) }
         ensures new_length { value_at same (entries self.old) key ≡ None →
             OnOk result (length (entries self.new) ≡ length (entries self.old) + 1) }
         ensures refused { OnErr result (entries self.new ≡ entries self.old) }
@@ -68,9 +67,8 @@ pub trait MapForm<'a> {
         ensures new_target { value_at same (entries self.old) key ≡ None →
             IfOk result (λ b. Self.Value.shown b ≡ Self.Value.target value) }
         ensures new_content { value_at same (entries self.old) key ≡ None →
-            IfOk result (λ b.
-            Adds same (value_at same (entries self.old)) (value_at same (entries self.new)) key
-            b) }
+            IfOk result (λ b. Adds same (value_at same (entries self.old))
+            (value_at same (entries self.new)) key b) }
         ensures new_length { value_at same (entries self.old) key ≡ None →
             OnOk result (length (entries self.new) ≡ length (entries self.old) + 1) }
         ensures refused { OnErr result (entries self.new ≡ entries self.old) }

@@ -217,8 +217,7 @@ impl<'a, K: Ord + Drop, V: StableDeref<'a>, A: Allocator + Copy> FrozenBTreeMap<
         ensures new_target { value_at (eq_by_cmp K.cmp) self.old key ≡ None →
             IfOk result (λ r. V.shown r.0 ≡ V.target value) }
         ensures new_content { value_at (eq_by_cmp K.cmp) self.old key ≡ None →
-            IfOk result (λ r.
-            Adds (eq_by_cmp K.cmp) (value_at (eq_by_cmp K.cmp) self.old)
+            IfOk result (λ r. Adds (eq_by_cmp K.cmp) (value_at (eq_by_cmp K.cmp) self.old)
             (value_at (eq_by_cmp K.cmp) self.new) key r.0) }
         ensures new_length { value_at (eq_by_cmp K.cmp) self.old key ≡ None →
             OnOk result (length self.new ≡ length self.old + 1) }
@@ -239,8 +238,7 @@ impl<'a, K: Ord + Drop, V: StableDeref<'a>, A: Allocator + Copy> FrozenBTreeMap<
         ensures new_target { value_at (eq_by_cmp K.cmp) self.old key ≡ None →
             IfOk result (λ b. V.shown b ≡ V.target value) }
         ensures new_content { value_at (eq_by_cmp K.cmp) self.old key ≡ None →
-            IfOk result (λ b.
-            Adds (eq_by_cmp K.cmp) (value_at (eq_by_cmp K.cmp) self.old)
+            IfOk result (λ b. Adds (eq_by_cmp K.cmp) (value_at (eq_by_cmp K.cmp) self.old)
             (value_at (eq_by_cmp K.cmp) self.new) key b) }
         ensures new_length { value_at (eq_by_cmp K.cmp) self.old key ≡ None →
             OnOk result (length self.new ≡ length self.old + 1) }
@@ -397,8 +395,7 @@ impl<'a, V: StableDeref<'a>, A: Allocator + Copy> FrozenBTreeMap<'a, &'a str, V,
         ensures new_target { value_at (eq_by_cmp ⟦<&'a str as Ord>⟧.cmp) self.old key.entry ≡ None →
             IfOk result (λ b. V.shown b ≡ V.target value) }
         ensures new_content { value_at (eq_by_cmp ⟦<&'a str as Ord>⟧.cmp) self.old key.entry ≡ None →
-            IfOk result (λ b.
-            Adds (eq_by_cmp ⟦<&'a str as Ord>⟧.cmp)
+            IfOk result (λ b. Adds (eq_by_cmp ⟦<&'a str as Ord>⟧.cmp)
             (value_at (eq_by_cmp ⟦<&'a str as Ord>⟧.cmp) self.old)
             (value_at (eq_by_cmp ⟦<&'a str as Ord>⟧.cmp) self.new) key.entry b) }
         ensures new_length { value_at (eq_by_cmp ⟦<&'a str as Ord>⟧.cmp) self.old key.entry ≡ None →
