@@ -222,7 +222,7 @@ fn finds_by_length(texts: &Texts<'_>, rows: &[(usize, Result<usize, usize>)]) ->
 fn shorter(texts: &Texts<'_>, limit: usize) -> usize
     ensures { IsPartitionedBy (λ text. ltb (length text.now) limit) texts.now →
         IsPartitionPoint (λ text. ltb (length text.now) limit ≡ true)
-            (λ text. ltb (length text.now) limit ≡ false) texts.now result }
+        (λ text. ltb (length text.now) limit ≡ false) texts.now result }
 {
     texts.partition_point(|text| text.len() < limit)
 }
