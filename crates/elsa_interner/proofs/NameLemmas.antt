@@ -87,6 +87,11 @@ found_alone names text i one_to_one there =
         let there_too : slice_get names k ≡ Some text = slice_get-get_or names k [] (omega arith) ∙ ap Some same in
         omega (arith, one_to_one k i text there_too there, lt))
 
+-- a put of a text that is a name already: its only place, and the names as they are
+pub put_there : (names : List (List ℕ)) (text : List ℕ) (n : ℕ) → IsOneToOne names → slice_get names n ≡ Some text → Puts names text n names
+put_there names text n one_to_one there =
+    subst (λ o. MatchOption o ((n ≡ length names) × (names ≡ names ++ text ∷ [])) (λ i. (n ≡ i) × (names ≡ names))) (sym (found_alone names text n one_to_one there)) (refl, refl)
+
 -- a text that is at no place is not found
 found_never : (names : List (List ℕ)) (text : List ℕ) → ((i : ℕ) → slice_get names i ≡ Some text → ⊥) → position (bytes_eq text) names ≡ None
 found_never names text never =

@@ -10,7 +10,7 @@ use crate::devices::{Failed, Sink, Source};
 use crate::interner::Interner;
 use crate::pending::Pending;
 use crate::reply::{Reply, answer_to, text_of};
-use crate::request::request_of;
+use crate::request::{Request, request_of};
 use bumpalo::Bump;
 use itoa::Buffer;
 use std::alloc::Allocator;
@@ -18,6 +18,12 @@ use std::hash::{BuildHasher, BuildHasherDefault, FoldHasher};
 
 /// How many bytes are read at once.
 const PIECE: usize = 8192;
+
+/// For how many lines the table is read before the first of them is answered.
+const AHEAD: usize = 16;
+
+/// The table of fewer names fits in the processor's caches, and isn't read ahead.
+const MANY: usize = 1 << 16;
 
 /// Why the engine stopped before the input's end.
 #[derive(Clone, Copy, Debug, PartialEq, Eq)]
@@ -54,9 +60,26 @@ impl<'a, S: BuildHasher, A: Allocator + Copy> Session<'a, S, A> {
         }
     }
 
-    /// The answer to the line that has begun and ends so.
+    /// For each of the next lines a number that the name that it puts may have. No read of the table waits for another one, so their cache misses overlap.
     #[inline(always)]
-    fn finish<C: Chunk>(&mut self, end: C) -> Reply<'a>
+    fn guesses<C: Chunk>(&self, chunk: C) -> [usize; AHEAD] {
+        let mut guesses = [usize::MAX; AHEAD];
+        let mut rest = chunk;
+        for i in 0..AHEAD {
+            let Some((line, later)) = rest.cut() else {
+                return guesses;
+            };
+            if let Request::Put(name) = line.request() {
+                guesses[i] = self.names.guess(name);
+            }
+            rest = later;
+        }
+        guesses
+    }
+
+    /// The answer to the line that has begun and ends so; a name that it puts may be at `guess`.
+    #[inline(always)]
+    fn finish<C: Chunk>(&mut self, end: C, guess: usize) -> Reply<'a>
         ensures finished { IsFinished self.old.names self.old.line.items self.old.skips
             (C.bytes end) (shown result) self.new.names }
         ensures line { self.new.line.items ≡ [] }
@@ -68,13 +91,13 @@ impl<'a, S: BuildHasher, A: Allocator + Copy> Session<'a, S, A> {
             return Reply::NoMemory;
         }
         if self.line.is_empty() {
-            return answer_to(&mut self.names, end.request());
+            return answer_to(&mut self.names, end.request(), guess);
         }
         if self.line.extend_from_slice(end.as_bytes()).is_err() {
             self.line.clear();
             return Reply::NoMemory;
         }
-        let answer = answer_to(&mut self.names, request_of(self.line.as_slice()));
+        let answer = answer_to(&mut self.names, request_of(self.line.as_slice()), guess);
         self.line.clear();
         answer
     }
@@ -103,10 +126,12 @@ impl<'a, S: BuildHasher, A: Allocator + Copy> Session<'a, S, A> {
         self.skips || !self.line.is_empty()
     }
 
-    /// Answers the lines that end in the chunk.
+    /// Answers the lines that end in the chunk. With `is_ahead` the table is read for several of them at once; it is inlined, so that a call without it does none of that.
+    #[inline(always)]
     fn feed<C: Chunk, W: Sink>(
         &mut self,
         chunk: C,
+        is_ahead: bool,
         out: &mut Pending,
         writer: &mut W,
     ) -> Result<(), Failed>
@@ -120,10 +145,18 @@ impl<'a, S: BuildHasher, A: Allocator + Copy> Session<'a, S, A> {
     {
         let mut digits = Buffer::new();
         let mut rest = chunk;
+        let mut guesses = [usize::MAX; AHEAD];
+        let mut turn = AHEAD;
         while let Some((end, later)) = rest.cut() {
-            let answer = self.finish(end);
+            if is_ahead && turn >= AHEAD {
+                guesses = self.guesses(rest);
+                turn = 0;
+            }
+            let guess = if is_ahead { guesses[turn] } else { usize::MAX };
+            let answer = self.finish(end, guess);
             out.push_line(writer, text_of(answer, &mut digits))?;
             rest = later;
+            turn = turn.wrapping_add(1);
         }
         self.keep(rest.as_bytes());
         Ok(())
@@ -144,9 +177,11 @@ impl<'a, S: BuildHasher, A: Allocator + Copy> Session<'a, S, A> {
             piece.now (W.held writer.old) out.old (W.held writer.new)) }
         ensures failed { OnErr result (FailedOnce (W.failures writer.old) (W.failures writer.new)) }
     {
+        let is_ahead = self.names.len() >= MANY;
         match str::from_utf8(piece) {
-            Ok(text) => self.feed(text, out, writer),
-            Err(_) => self.feed(piece, out, writer),
+            Ok(text) if is_ahead => self.feed(text, true, out, writer),
+            Ok(text) => self.feed(text, false, out, writer),
+            Err(_) => self.feed(piece, false, out, writer),
         }
     }
 
@@ -189,7 +224,7 @@ impl<'a, S: BuildHasher, A: Allocator + Copy> Session<'a, S, A> {
             return Ok(());
         }
         let none: &[u8] = &[];
-        let answer = self.finish(none);
+        let answer = self.finish(none, usize::MAX);
         let mut digits = Buffer::new();
         out.push_line(writer, text_of(answer, &mut digits))?;
         out.flush(writer)

@@ -200,6 +200,27 @@ impl<'a, S: BuildHasher, A: Allocator + Copy> Interner<'a, S, A> {
         self.names.push_reserved(name);
         Ok(place)
     }
+
+    /// A number that the text may have, or any other. Takes no memory.
+    #[inline(always)]
+    pub(crate) fn guess(&self, text: &str) -> usize {
+        self.table.guess(name_hash(&self.hash_builder, text))
+    }
+
+    /// As [`Interner::put`]; the name at `guess`, any number, is compared before the search.
+    #[inline(always)]
+    pub(crate) fn put_guessed(&mut self, text: &str, guess: usize) -> Result<usize, AllocError>
+        ensures put { IfOk result (λ n. Puts self.old text.now n self.new) }
+        ensures refused { OnErr result (self.new ≡ self.old) }
+        ensures only_new { OnErr result (position (bytes_eq text.now) self.old ≡ None) }
+    {
+        if let Some(name) = self.names.get(guess) {
+            if text == *name {
+                return Ok(guess);
+            }
+        }
+        self.put(text)
+    }
 }
 
 /// `{:?}` writes the names, in the order of their numbers, as of a `Vec` of them: `["x", "y"]`.

@@ -24,17 +24,18 @@ pub enum Reply<'a> {
     NoMemory,
 }
 
-/// Does what is asked.
+/// Does what is asked. A name that is put may be at `guess`.
 #[tactic(auto, using(crate::proofs::ReplyLemmas::put_replies))]
 #[inline(always)]
 pub fn answer_to<'a, S: BuildHasher, A: Allocator + Copy>(
     names: &mut Interner<'a, S, A>,
     request: Request<'_>,
+    guess: usize,
 ) -> Reply<'a>
     ensures { Replies names.old (asked request.entry) (shown result) names.new }
 {
     match request {
-        Request::Put(name) => match names.put(name) {
+        Request::Put(name) => match names.put_guessed(name, guess) {
             Ok(n) => Reply::Number(n),
             Err(_) => Reply::NoMemory,
         },

@@ -74,6 +74,17 @@ impl<A: Allocator + Copy> PlaceTable<A> {
         }
     }
 
+    /// A place that may have this hash, read from one slot, or any other number: nothing is claimed of it. Takes no memory.
+    #[inline(always)]
+    pub fn guess(&self, hash: u32) -> usize {
+        let first = hash as usize & self.slots.len().wrapping_sub(1);
+        let Some(slot) = self.slots.get(first).copied() else {
+            return usize::MAX;
+        };
+        let place = (slot.number as usize).wrapping_sub(1);
+        if slot.hash == hash { place } else { usize::MAX }
+    }
+
     /// Adds the next place under the hash, and returns it: how many places there were.
     ///
     /// The vacancy is of a search for this hash, since which the table is as it was. The slots double where three quarters of
