@@ -57,6 +57,13 @@ def cases(seed, quick):
             else:
                 parts.append(chance.choice(lines))
         yield f"mixture {count}", b"\n".join(parts) + chance.choice([b"", b"\n", b"\n\n"])
+    # so many names that the engine reads the table for several lines at once
+    many = [b"put n%d" % number for number in range(70_000)]
+    for _ in range(10_000):
+        number = chance.randrange(75_000)
+        many.append(chance.choice([b"put n%d", b"find n%d", b"put m%d", b"at %d"]) % number)
+        many += [chance.choice(lines)] if chance.random() < 0.05 else []
+    yield "70,000 names and a mixture", b"\n".join(many)
     if not quick:
         long = bytes(chance.choice(b"abcdefghijklmnop") for _ in range(10_000_000))
         yield "lines of 10 MB", b"put " + long + b"\nlen\nput " + long + b"\nat 0\n" + long + b"\nat " + b"0" * 10_000_000 + b"\nput " + long + b"\xc3"
