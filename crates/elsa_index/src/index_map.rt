@@ -27,7 +27,6 @@ use std::marker::{Model, PhantomData};
 use std::ops::Index;
 
 /// A map that only grows, over values placed in an arena.
-#[derive(Drop)]
 pub struct FrozenIndexMap<
     'a,
     K: Eq + Hash,
@@ -47,6 +46,17 @@ impl<'a, K: Eq + Hash, V: StableDeref<'a>, S: BuildHasher, A: Allocator + Copy> 
     ghost Value = { List (K × V.Borrow) };
 
     ghost view = { λ m. m.map.entries };
+}
+
+impl<'a, K: Eq + Hash + Drop, V: StableDeref<'a>, S: BuildHasher + Drop, A: Allocator + Copy> Drop
+    for FrozenIndexMap<'a, K, V, S, A> {
+    fn drop(self) {
+        let FrozenIndexMap {
+            arena: _arena,
+            map: _map,
+            of: _of,
+        } = self;
+    }
 }
 
 impl<'a, K: Eq + Hash, V: StableDeref<'a>, A: Allocator + Copy> FrozenIndexMap<

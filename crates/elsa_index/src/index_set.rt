@@ -21,7 +21,6 @@ use std::marker::{Model, PhantomData};
 use std::ops::Index;
 
 /// A set that only grows, over values placed in an arena.
-#[derive(Drop)]
 pub struct FrozenIndexSet<
     'a,
     T: StableDeref<'a>,
@@ -46,6 +45,20 @@ where
     ghost Value = { List T.Borrow };
 
     ghost view = { λ m. m.set.keys };
+}
+
+impl<'a, T: StableDeref<'a>, S: BuildHasher + Drop, A: Allocator + Copy> Drop
+    for FrozenIndexSet<'a, T, S, A>
+where
+    <T as StableDeref<'a>>::Borrow: Eq + Hash,
+{
+    fn drop(self) {
+        let FrozenIndexSet {
+            arena: _arena,
+            set: _set,
+            of: _of,
+        } = self;
+    }
 }
 
 impl<'a, T: StableDeref<'a>, A: Allocator + Copy> FrozenIndexSet<

@@ -53,7 +53,6 @@ pub enum LoadFault {
 }
 
 /// Texts and resources by path. The caller places the paths in the arena.
-#[derive(Drop)]
 pub struct ResourceCache<'a, A: Allocator + Copy = Global> {
     texts: FrozenMap<'a, &'a str, String, BuildHasherDefault<FoldHasher>, A>,
     resources: FrozenMap<'a, &'a str, Own<Resource<'a>>, BuildHasherDefault<FoldHasher>, A>,
@@ -68,6 +67,15 @@ impl<'a, A: Allocator + Copy> Model for ResourceCache<'a, A> {
     ghost Value = { Cached (Bor (List ℕ)) (Bor (List ℕ)) (Bor Resource) };
 
     ghost view = { λ c. record { texts = c.texts; resources = c.resources } };
+}
+
+impl<'a, A: Allocator + Copy> Drop for ResourceCache<'a, A> {
+    fn drop(self) {
+        let ResourceCache {
+            texts: _texts,
+            resources: _resources,
+        } = self;
+    }
 }
 
 impl<'a, A: Allocator + Copy> ResourceCache<'a, A> {

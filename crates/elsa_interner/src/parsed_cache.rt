@@ -25,7 +25,6 @@ pub enum CacheFault<L, P> {
 }
 
 /// Texts by path, and what was made of them, which may borrow from its text. Both lie in the arena.
-#[derive(Drop)]
 pub struct ParsedCache<
     'a,
     T: Copy + 'a,
@@ -44,6 +43,16 @@ impl<'a, T: Copy + 'a, S: BuildHasher, A: Allocator + Copy> Model for ParsedCach
     ghost Value = { Cached (Bor (List ℕ)) (Bor (List ℕ)) (Bor T) };
 
     ghost view = { λ c. record { texts = c.texts; resources = c.values } };
+}
+
+impl<'a, T: Copy + 'a, S: BuildHasher + Drop, A: Allocator + Copy> Drop
+    for ParsedCache<'a, T, S, A> {
+    fn drop(self) {
+        let ParsedCache {
+            texts: _texts,
+            values: _values,
+        } = self;
+    }
 }
 
 impl<'a, T: Copy + 'a, A: Allocator + Copy> ParsedCache<'a, T, BuildHasherDefault<FoldHasher>, A> {

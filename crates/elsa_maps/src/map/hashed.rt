@@ -31,7 +31,6 @@ use std::ops::Index;
 ///
 /// The default hasher is fast and has a fixed seed; where strangers choose the keys, take a `SeededState` of `elsa` by
 /// [`with_hasher`](FrozenMap::with_hasher).
-#[derive(Drop)]
 pub struct FrozenMap<
     'a,
     K: Eq + Hash,
@@ -52,6 +51,18 @@ impl<'a, K: Eq + Hash, V: StableDeref<'a>, S: BuildHasher, A: Allocator + Copy> 
     ghost Value = { List (K × V.Borrow) };
 
     ghost view = { λ m. m.entries.entries };
+}
+
+impl<'a, K: Eq + Hash + Drop, V: StableDeref<'a>, S: BuildHasher + Drop, A: Allocator + Copy> Drop
+    for FrozenMap<'a, K, V, S, A> {
+    fn drop(self) {
+        let FrozenMap {
+            alloc: _alloc,
+            arena: _arena,
+            entries: _entries,
+            of: _of,
+        } = self;
+    }
 }
 
 impl<'a, K: Eq + Hash, V: StableDeref<'a>, A: Allocator + Copy> FrozenMap<

@@ -32,7 +32,6 @@ use std::ops::{Index, RangeBounds};
 /// outlasts later insertions and the map itself. The tree of the entries is in memory of the allocator `A`.
 ///
 /// Keys need `Ord` and nothing else; two keys are one where they compare `Equal`.
-#[derive(Drop)]
 pub struct FrozenBTreeMap<'a, K: Ord, V: StableDeref<'a>, A: Allocator + Copy = Global> {
     alloc: A,
     arena: &'a Bump,
@@ -46,6 +45,18 @@ impl<'a, K: Ord, V: StableDeref<'a>, A: Allocator + Copy> Model for FrozenBTreeM
     ghost Value = { List (K × V.Borrow) };
 
     ghost view = { λ m. m.entries.entries };
+}
+
+impl<'a, K: Ord + Drop, V: StableDeref<'a>, A: Allocator + Copy> Drop
+    for FrozenBTreeMap<'a, K, V, A> {
+    fn drop(self) {
+        let FrozenBTreeMap {
+            alloc: _alloc,
+            arena: _arena,
+            entries: _entries,
+            of: _of,
+        } = self;
+    }
 }
 
 impl<'a, K: Ord, V: StableDeref<'a>, A: Allocator + Copy> FrozenBTreeMap<'a, K, V, A> {
