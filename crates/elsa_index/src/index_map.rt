@@ -103,7 +103,12 @@ impl<'a, K: Eq + Hash, V: StableDeref<'a>, S: BuildHasher, A: Allocator + Copy> 
     pub fn into_map(self) -> IndexMap<K, V::Borrow, S, A>
         ensures content { result.entries ≡ self.entry }
     {
-        self.map
+        let FrozenIndexMap {
+            arena: _,
+            map: inner,
+            of: _,
+        } = self;
+        inner
     }
 
     /// The place of the pair with this key, `None` exactly if there is none.

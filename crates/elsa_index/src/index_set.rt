@@ -183,7 +183,12 @@ where
     pub fn into_set(self) -> IndexSet<T::Borrow, S, A>
         ensures content { result.keys ≡ self.entry }
     {
-        self.set
+        let FrozenIndexSet {
+            arena: _,
+            set: inner,
+            of: _,
+        } = self;
+        inner
     }
 
     /// A set with the same content, in the same arena, under a clone of the hash builder.

@@ -203,7 +203,13 @@ impl<'a, K: Eq + Hash, V: StableDeref<'a>, S: BuildHasher, A: Allocator + Copy> 
     pub fn into_map(self) -> HashMap<K, V::Borrow, S, A>
         ensures { result.entries ≡ self.entry }
     {
-        self.entries
+        let FrozenMap {
+            alloc: _,
+            arena: _,
+            entries: inner_map,
+            of: _,
+        } = self;
+        inner_map
     }
 
     /// The inner map, borrowed for writing: it may change or remove anything, and what it leaves is a new base.

@@ -197,7 +197,13 @@ impl<'a, K: Ord, V: StableDeref<'a>, A: Allocator + Copy> FrozenBTreeMap<'a, K, 
     pub fn into_map(self) -> BTreeMap<K, V::Borrow, A>
         ensures { result.entries ≡ self.entry }
     {
-        self.entries
+        let FrozenBTreeMap {
+            alloc: _,
+            arena: _,
+            entries: inner_map,
+            of: _,
+        } = self;
+        inner_map
     }
 
     /// The inner map, borrowed for writing: it may change or remove anything, and what it leaves is a new base.
