@@ -16,7 +16,7 @@ use std::hash::{BuildHasher, Hash};
 /// A map in which the first value of a key stays, however it finds its keys.
 ///
 /// Its calls mean what they mean at [`FrozenMap`] and [`FrozenBTreeMap`], and code over `M: MapForm<R>` is proved once
-/// for both.
+/// for both. `R` is the reference to the arena, `&'a Bump<P>`.
 pub trait MapForm<R> {
     /// What the map is asked by.
     type Key: Drop;
