@@ -8,7 +8,7 @@ use std::alloc::AllocError;
 /// Gives a key its value, and returns whether the key was new. A key that was there keeps the value that it had.
 ///
 /// `Err` on an allocation failure, only for a new key: nothing has changed.
-pub fn is_new_in<'a, M: MapForm<'a>>(
+pub fn is_new_in<R, M: MapForm<R>>(
     content: &mut M,
     key: M::Key,
     value: M::Value,
@@ -29,11 +29,11 @@ pub fn is_new_in<'a, M: MapForm<'a>>(
 /// Gives a key its value, unless it has one, and returns the value that it then has.
 ///
 /// `Err` on an allocation failure, only for a new key: nothing has changed.
-pub fn first_in<'a, M: MapForm<'a>>(
+pub fn first_in<R, M: MapForm<R>>(
     content: &mut M,
     key: M::Key,
     value: M::Value,
-) -> Result<<M::Value as StableDeref<'a>>::Borrow, AllocError>
+) -> Result<<M::Value as StableDeref<R>>::Borrow, AllocError>
     ensures present { (kept : M.Value.Borrow) →
         lookup (M.same key) (M.entries content.old) ≡ Some kept →
         (result ≡ Ok kept) × (M.entries content.new ≡ M.entries content.old) }

@@ -8,11 +8,11 @@ use std::alloc::{AllocError, Global};
 /// The replies to commands on a map of any form.
 ///
 /// `Err` on an allocation failure: nothing was done.
-pub fn replies_of_map<'a, M: MapForm<'a>>(
+pub fn replies_of_map<R, M: MapForm<R>>(
     alloc: Global,
     content: &mut M,
     commands: Vec<MapCommand<M::Key, M::Value, M::Base>>,
-) -> Result<Vec<MapReply<<M::Value as StableDeref<'a>>::Borrow>>, AllocError>
+) -> Result<Vec<MapReply<<M::Value as StableDeref<R>>::Borrow>>, AllocError>
     ensures { OnErr result (M.entries content.new ≡ M.entries content.old) }
 {
     run_map(alloc, content, commands)

@@ -12,20 +12,20 @@ use Rattle.elsa_index.specs.contracts.index_map.FrozenIndexMap.{the_row as map_r
 use Rattle.elsa_index.specs.contracts.index_set.FrozenIndexSet.{the_row as set_row}
 use mir.Syntax.{named}
 
-module _ (K V S A B H : RattleType) (key : HashMembers K.Denot) (t : target.Ghosts V.Denot B.Denot) (b : builder.Ghosts S.Denot H.Denot) (h : hasher.Ghosts H.Denot) (heap : alloc.Ghosts A.Denot) where
+module _ (K V S A P B H : RattleType) (key : HashMembers K.Denot) (t : target.Ghosts V.Denot B.Denot) (b : builder.Ghosts S.Denot H.Denot) (h : hasher.Ghosts H.Denot) (heap : alloc.Ghosts A.Denot) (parent : alloc.Ghosts P.Denot) where
   -- the inner map's type, as the logic holds it
   abbrev pub inner_map : RattleType
   inner_map = inner_map_row K B S A H (record { eq = key.eq }) (record { hash_input = key.hash_input }) b h heap
 
   -- the map holds the pairs that are left behind r
   abbrev pub lends_pairs : MutBor (List (K.Denot × B.Denot)) → MutBor inner_map.Denot → Fml
-  lends_pairs m r = Lends (map_row (record { mir = named 1; lft = [] }) K V S A B H (record { eq = key.eq }) (record { hash_input = key.hash_input }) t b h heap) inner_map m r (λ w. w.entries)
+  lends_pairs m r = Lends (map_row (record { mir = named 1; lft = [] }) K V S A P H B parent (record { eq = key.eq }) (record { hash_input = key.hash_input }) b h heap t) inner_map m r (λ w. w.entries)
 
-module _ (T S A B H : RattleType) (value : HashMembers B.Denot) (t : target.Ghosts T.Denot B.Denot) (b : builder.Ghosts S.Denot H.Denot) (h : hasher.Ghosts H.Denot) (heap : alloc.Ghosts A.Denot) where
+module _ (T S A P B H : RattleType) (value : HashMembers B.Denot) (t : target.Ghosts T.Denot B.Denot) (b : builder.Ghosts S.Denot H.Denot) (h : hasher.Ghosts H.Denot) (heap : alloc.Ghosts A.Denot) (parent : alloc.Ghosts P.Denot) where
   -- the inner set's type
   abbrev pub inner_set : RattleType
   inner_set = inner_set_row B S A H (record { eq = value.eq }) (record { hash_input = value.hash_input }) b h heap
 
   -- the set holds the values that are left behind r
   abbrev pub lends_values : MutBor (List B.Denot) → MutBor inner_set.Denot → Fml
-  lends_values m r = Lends (set_row (record { mir = named 1; lft = [] }) T S A B H t b h heap (record { eq = value.eq }) (record { hash_input = value.hash_input })) inner_set m r (λ w. w.keys)
+  lends_values m r = Lends (set_row (record { mir = named 1; lft = [] }) T S A P H B parent b h heap t (record { eq = value.eq }) (record { hash_input = value.hash_input })) inner_set m r (λ w. w.keys)

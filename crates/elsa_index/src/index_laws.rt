@@ -7,6 +7,7 @@ ghost use Rattle.elsa_model.specs.Insertions.{place_of, Grows, Inserted, SetInse
 use crate::index_map::FrozenIndexMap;
 use crate::index_set::FrozenIndexSet;
 use crate::look_up::LookUp;
+use bumpalo::Bump;
 use elsa_once::stable::StableDeref;
 use std::alloc::{AllocError, Allocator};
 use std::hash::{BuildHasher, Hash};
@@ -18,11 +19,12 @@ use std::hash::{BuildHasher, Hash};
 pub fn insert_both<
     'a,
     K: Eq + Hash + Copy,
-    V: StableDeref<'a>,
+    P: Allocator,
+    V: StableDeref<&'a Bump<P>>,
     S: BuildHasher,
     A: Allocator + Copy,
 >(
-    map: &mut FrozenIndexMap<'a, K, V, S, A>,
+    map: &mut FrozenIndexMap<'a, K, V, S, A, P>,
     first: (K, V),
     second: (K, V),
 ) -> Result<(usize, usize), AllocError>
@@ -40,11 +42,12 @@ pub fn insert_both<
 pub fn keeps_earlier_pairs<
     'a,
     K: Eq + Hash + Drop,
-    V: StableDeref<'a>,
+    P: Allocator,
+    V: StableDeref<&'a Bump<P>>,
     S: BuildHasher,
     A: Allocator + Copy,
 >(
-    map: &mut FrozenIndexMap<'a, K, V, S, A>,
+    map: &mut FrozenIndexMap<'a, K, V, S, A, P>,
     key: K,
     value: V,
 ) -> Result<(usize, V::Borrow, bool), AllocError>
@@ -64,11 +67,12 @@ pub fn keeps_earlier_pairs<
 pub fn is_new_once<
     'a,
     K: Eq + Hash + Drop,
-    V: StableDeref<'a>,
+    P: Allocator,
+    V: StableDeref<&'a Bump<P>>,
     S: BuildHasher,
     A: Allocator + Copy,
 >(
-    map: &mut FrozenIndexMap<'a, K, V, S, A>,
+    map: &mut FrozenIndexMap<'a, K, V, S, A, P>,
     first: (K, V),
     between: Vec<(K, V)>,
     again: (K, V),
@@ -98,14 +102,15 @@ pub fn is_new_once<
 pub fn clone_and_part<
     'a,
     K: Eq + Hash + Clone + Drop,
-    V: StableDeref<'a>,
+    P: Allocator,
+    V: StableDeref<&'a Bump<P>>,
     S: BuildHasher + Clone + Drop,
     A: Allocator + Copy,
 >(
-    map: &mut FrozenIndexMap<'a, K, V, S, A>,
+    map: &mut FrozenIndexMap<'a, K, V, S, A, P>,
     own: (K, V),
     other: (K, V),
-) -> Result<FrozenIndexMap<'a, K, V, S, A>, AllocError>
+) -> Result<FrozenIndexMap<'a, K, V, S, A, P>, AllocError>
     requires faithful { (x y : K) → K.is_clone x y → IsTrue (K.eq x y) }
     ensures source { IfOk result (λ m.
         (i : ℕ) × (b : V.Borrow) × Inserted K.eq V.target V.shown map.old own.0 own.1 i b map.new) }
@@ -121,12 +126,16 @@ pub fn clone_and_part<
 }
 
 /// Whether two maps are equal: order plays no part.
-pub fn are_equal<'a, K: Eq + Hash, V: StableDeref<'a>, S: BuildHasher, A: Allocator + Copy>(
-    left: &FrozenIndexMap<'a, K, V, S, A>,
-    right: &FrozenIndexMap<'a, K, V, S, A>,
-) -> bool
+pub fn are_equal<
+    'a,
+    K: Eq + Hash,
+    P: Allocator,
+    V: StableDeref<&'a Bump<P>>,
+    S: BuildHasher,
+    A: Allocator + Copy,
+>(left: &FrozenIndexMap<'a, K, V, S, A, P>, right: &FrozenIndexMap<'a, K, V, S, A, P>) -> bool
 where
-    <V as StableDeref<'a>>::Borrow: Eq,
+    <V as StableDeref<&'a Bump<P>>>::Borrow: Eq,
     ensures answered { result ≡ same_values K.eq V.Borrow.eq left.now right.now }
     ensures blind_to_order { IsPermutation left.now right.now → IsTrue result }
 {
@@ -136,12 +145,15 @@ where
 }
 
 /// Whether two sets are equal: order plays no part.
-pub fn sets_are_equal<'a, T: StableDeref<'a>, S: BuildHasher, A: Allocator + Copy>(
-    first: &FrozenIndexSet<'a, T, S, A>,
-    second: &FrozenIndexSet<'a, T, S, A>,
-) -> bool
+pub fn sets_are_equal<
+    'a,
+    P: Allocator,
+    T: StableDeref<&'a Bump<P>>,
+    S: BuildHasher,
+    A: Allocator + Copy,
+>(first: &FrozenIndexSet<'a, T, S, A, P>, second: &FrozenIndexSet<'a, T, S, A, P>) -> bool
 where
-    <T as StableDeref<'a>>::Borrow: Eq + Hash,
+    <T as StableDeref<&'a Bump<P>>>::Borrow: Eq + Hash,
     ensures answered { result ≡ same_set T.Borrow.eq first.now second.now }
     ensures blind_to_order { IsPermutation first.now second.now → IsTrue result }
 {
@@ -154,12 +166,17 @@ where
 /// value.
 pub fn set_insert_both<
     'a,
-    T: StableDeref<'a> + LookUp<<T as StableDeref<'a>>::Borrow>,
+    P: Allocator,
+    T: StableDeref<&'a Bump<P>> + LookUp<<T as StableDeref<&'a Bump<P>>>::Borrow>,
     S: BuildHasher,
     A: Allocator + Copy,
->(set: &mut FrozenIndexSet<'a, T, S, A>, first: T, second: T) -> Result<(usize, usize), AllocError>
+>(
+    set: &mut FrozenIndexSet<'a, T, S, A, P>,
+    first: T,
+    second: T,
+) -> Result<(usize, usize), AllocError>
 where
-    <T as StableDeref<'a>>::Borrow: Eq + Hash,
+    <T as StableDeref<&'a Bump<P>>>::Borrow: Eq + Hash,
     ensures kept { Grows set.old set.new }
     ensures first_place { IfOk result (λ r. position (T.finds first) set.new ≡ Some r.0) }
     ensures second_place { IfOk result (λ r. position (T.finds second) set.new ≡ Some r.1) }
@@ -173,12 +190,16 @@ where
 /// borrow afterwards, and the flag is true exactly where it was new and the set grows by one value.
 pub fn set_keeps_earlier_values<
     'a,
-    T: StableDeref<'a> + LookUp<<T as StableDeref<'a>>::Borrow>,
+    P: Allocator,
+    T: StableDeref<&'a Bump<P>> + LookUp<<T as StableDeref<&'a Bump<P>>>::Borrow>,
     S: BuildHasher,
     A: Allocator + Copy,
->(set: &mut FrozenIndexSet<'a, T, S, A>, value: T) -> Result<(usize, T::Borrow, bool), AllocError>
+>(
+    set: &mut FrozenIndexSet<'a, T, S, A, P>,
+    value: T,
+) -> Result<(usize, T::Borrow, bool), AllocError>
 where
-    <T as StableDeref<'a>>::Borrow: Eq + Hash,
+    <T as StableDeref<&'a Bump<P>>>::Borrow: Eq + Hash,
     ensures kept { Grows set.old set.new }
     ensures there { IfOk result (λ r. slice_get set.new r.0 ≡ Some r.1) }
     ensures there_at { IfOk result (λ r. position (T.finds value) set.new ≡ Some r.0) }
@@ -194,17 +215,18 @@ where
 /// borrow, whatever is inserted between them, all of which the set then has: in one epoch a value is new at most once.
 pub fn set_is_new_once<
     'a,
-    T: StableDeref<'a> + LookUp<<T as StableDeref<'a>>::Borrow>,
+    P: Allocator,
+    T: StableDeref<&'a Bump<P>> + LookUp<<T as StableDeref<&'a Bump<P>>>::Borrow>,
     S: BuildHasher,
     A: Allocator + Copy,
 >(
-    set: &mut FrozenIndexSet<'a, T, S, A>,
+    set: &mut FrozenIndexSet<'a, T, S, A, P>,
     first: T,
     between: Vec<T>,
     again: T,
 ) -> Result<((usize, T::Borrow, bool), (usize, T::Borrow, bool)), AllocError>
 where
-    <T as StableDeref<'a>>::Borrow: Eq + Hash,
+    <T as StableDeref<&'a Bump<P>>>::Borrow: Eq + Hash,
     requires equal { (b : T.Borrow) → T.finds again b ≡ T.finds first b }
     ensures first { IfOk result (λ r. IsTrue r.0.2 ↔ (position (T.finds first) set.old ≡ None)) }
     ensures once { IfOk result (λ r. r.1 ≡ (r.0.0, r.0.1, false)) }

@@ -3,7 +3,8 @@
 //! A new key goes last, and a present key keeps its place and its value. The layers above use the list of pairs that
 //! the contracts speak of, and `rebase`.
 ghost use Rattle.std.specs.Prelude.{◌≡◌, ◌++◌, ◌∷◌, ◌↔◌, [], ℕ, List, length, false, None, Ok, Some, slice_get, IfOk, IfSome, IsSome, IsSomeAnd, IsTrue, MatchOption, OnOk, OnErr, cond, is_some};
-ghost use Rattle.std.specs.Borrow.{Bor};
+ghost use Rattle.std.specs.Borrow.{Bor, sem};
+ghost use Rattle.elsa_index.specs.Lent.{lends_pairs};
 ghost use Rattle.std.specs.Iterator.{Drains, IsFinite};
 ghost use Rattle.std.specs.List.{IsDistinct};
 ghost use Rattle.std.specs.Map.{keys_of, lookup, values_of};
@@ -26,21 +27,28 @@ use std::hash::{BuildHasher, BuildHasherDefault, FoldHasher, Hash};
 use std::marker::{Model, PhantomData};
 use std::ops::Index;
 
-/// A map that only grows, over values placed in an arena.
+/// A map that only grows, over values placed in an arena. `A` is the allocator of its table, `P` that of the arena.
 pub struct FrozenIndexMap<
     'a,
     K: Eq + Hash,
-    V: StableDeref<'a>,
+    V,
     S: BuildHasher = BuildHasherDefault<FoldHasher>,
     A: Allocator + Copy = Global,
-> {
-    arena: &'a Bump,
+    P: Allocator = Global,
+>
+where
+    V: StableDeref<&'a Bump<P>>,
+{
+    arena: &'a Bump<P>,
     map: IndexMap<K, V::Borrow, S, A>,
     of: PhantomData<V>,
 }
 
-impl<'a, K: Eq + Hash, V: StableDeref<'a>, S: BuildHasher, A: Allocator + Copy> Model
-    for FrozenIndexMap<'a, K, V, S, A> {
+impl<'a, K: Eq + Hash, V, S: BuildHasher, A: Allocator + Copy, P: Allocator> Model
+    for FrozenIndexMap<'a, K, V, S, A, P>
+where
+    V: StableDeref<&'a Bump<P>>,
+{
     ghost use Rattle.std.specs.Prelude.{List};
 
     ghost Value = { List (K × V.Borrow) };
@@ -48,8 +56,11 @@ impl<'a, K: Eq + Hash, V: StableDeref<'a>, S: BuildHasher, A: Allocator + Copy> 
     ghost view = { λ m. m.map.entries };
 }
 
-impl<'a, K: Eq + Hash + Drop, V: StableDeref<'a>, S: BuildHasher + Drop, A: Allocator + Copy> Drop
-    for FrozenIndexMap<'a, K, V, S, A> {
+impl<'a, K: Eq + Hash + Drop, V, S: BuildHasher + Drop, A: Allocator + Copy, P: Allocator> Drop
+    for FrozenIndexMap<'a, K, V, S, A, P>
+where
+    V: StableDeref<&'a Bump<P>>,
+{
     fn drop(self) {
         let FrozenIndexMap {
             arena: _arena,
@@ -59,37 +70,38 @@ impl<'a, K: Eq + Hash + Drop, V: StableDeref<'a>, S: BuildHasher + Drop, A: Allo
     }
 }
 
-impl<'a, K: Eq + Hash, V: StableDeref<'a>, A: Allocator + Copy> FrozenIndexMap<
+impl<
     'a,
-    K,
-    V,
-    BuildHasherDefault<FoldHasher>,
-    A,
-> {
+    K: Eq + Hash,
+    P: Allocator,
+    V: StableDeref<&'a Bump<P>>,
+    A: Allocator + Copy,
+> FrozenIndexMap<'a, K, V, BuildHasherDefault<FoldHasher>, A, P> {
     /// An empty map that hashes as std's maps do by default. It takes no memory.
-    pub fn new(alloc: A, arena: &'a Bump) -> Self
+    pub fn new(alloc: A, arena: &'a Bump<P>) -> Self
         ensures { result ≡ [] }
     {
         FrozenIndexMap::with_hasher(alloc, arena, BuildHasherDefault::new())
     }
 }
 
-impl<'a, K: Eq + Hash, V: StableDeref<'a>, S: BuildHasher, A: Allocator + Copy> FrozenIndexMap<
+impl<
     'a,
-    K,
-    V,
-    S,
-    A,
-> {
+    K: Eq + Hash,
+    P: Allocator,
+    V: StableDeref<&'a Bump<P>>,
+    S: BuildHasher,
+    A: Allocator + Copy,
+> FrozenIndexMap<'a, K, V, S, A, P> {
     /// An empty map that hashes by `hash_builder`. It takes no memory.
-    pub fn with_hasher(alloc: A, arena: &'a Bump, hash_builder: S) -> Self
+    pub fn with_hasher(alloc: A, arena: &'a Bump<P>, hash_builder: S) -> Self
         ensures { result ≡ [] }
     {
         FrozenIndexMap::from_map(arena, IndexMap::with_hasher(alloc, hash_builder))
     }
 
     /// A map with this content, which goes on in the given arena. It takes no memory.
-    pub fn from_map(arena: &'a Bump, map: IndexMap<K, V::Borrow, S, A>) -> Self
+    pub fn from_map(arena: &'a Bump<P>, map: IndexMap<K, V::Borrow, S, A>) -> Self
         ensures content { result ≡ map.entries }
     {
         FrozenIndexMap {
@@ -227,15 +239,26 @@ impl<'a, K: Eq + Hash, V: StableDeref<'a>, S: BuildHasher, A: Allocator + Copy> 
     {
         self.len() == 0
     }
+
+    /// The pairs, to write: a new base begins with what is left in them. It takes no memory.
+    pub fn as_mut(&mut self) -> &mut IndexMap<K, V::Borrow, S, A>
+        ensures* writes_back { sem 𝓛 (lends_pairs K.row V.row S.row A.row P.row V.Borrow.row
+            S.Hasher.row K.Hash V.HasTarget S.BuildHasher S.Hasher.Hasher A.Allocator P.Allocator
+            self.entry result) }
+        ensures content { result.now.entries ≡ self.old }
+    {
+        &mut self.map
+    }
 }
 
 impl<
     'a,
     K: Eq + Hash + Drop,
-    V: StableDeref<'a>,
+    P: Allocator,
+    V: StableDeref<&'a Bump<P>>,
     S: BuildHasher,
     A: Allocator + Copy,
-> FrozenIndexMap<'a, K, V, S, A> {
+> FrozenIndexMap<'a, K, V, S, A, P> {
     /// Adds the pair last, unless the key is present, and returns its place, the value that the key now has and whether the
     /// key is new.
     ///
@@ -326,13 +349,13 @@ impl<
     }
 }
 
-impl<'a, V: StableDeref<'a>, S: BuildHasher, A: Allocator + Copy> FrozenIndexMap<
+impl<
     'a,
-    &'a str,
-    V,
-    S,
-    A,
-> {
+    P: Allocator,
+    V: StableDeref<&'a Bump<P>>,
+    S: BuildHasher,
+    A: Allocator + Copy,
+> FrozenIndexMap<'a, &'a str, V, S, A, P> {
     /// The value of the key that reads as `key` does, `None` exactly if there is none.
     ///
     /// It takes no memory. `O(1)`: one hash.
@@ -409,13 +432,14 @@ impl<'a, V: StableDeref<'a>, S: BuildHasher, A: Allocator + Copy> FrozenIndexMap
     }
 }
 
-impl<'a, B: Allocator, V: StableDeref<'a>, S: BuildHasher, A: Allocator + Copy> FrozenIndexMap<
+impl<
     'a,
-    String<B>,
-    V,
-    S,
-    A,
-> {
+    B: Allocator,
+    P: Allocator,
+    V: StableDeref<&'a Bump<P>>,
+    S: BuildHasher,
+    A: Allocator + Copy,
+> FrozenIndexMap<'a, String<B>, V, S, A, P> {
     /// The value of the key that reads as `key` does, `None` exactly if there is none: [`get`](FrozenIndexMap::get) without a
     /// `String`.
     ///
@@ -431,10 +455,11 @@ impl<'a, B: Allocator, V: StableDeref<'a>, S: BuildHasher, A: Allocator + Copy> 
 impl<
     'a,
     K: Eq + Hash + Drop,
-    V: StableDeref<'a>,
+    P: Allocator,
+    V: StableDeref<&'a Bump<P>>,
     S: BuildHasher + Drop,
     A: Allocator + Copy,
-> FrozenIndexMap<'a, K, V, S, A> {
+> FrozenIndexMap<'a, K, V, S, A, P> {
     // Gives a key a value, whether or not it is present.
     fn set(&mut self, key: K, value: V) -> Result<V::Borrow, AllocError>
         ensures placed { IfOk result (λ b. V.shown b ≡ V.target value) }
@@ -456,7 +481,7 @@ impl<
     /// refused room.
     pub fn from_iter<I: IntoIterator<Item = (K, V)>>(
         alloc: A,
-        arena: &'a Bump,
+        arena: &'a Bump<P>,
         hash_builder: S,
         pairs: I,
     ) -> Result<Self, AllocError>
@@ -508,35 +533,7 @@ impl<
         let alloc = *map.allocator();
         map.into_iter().collect(alloc)
     }
-}
 
-impl<'a, K: Eq + Hash, V: StableDeref<'a>, S: BuildHasher, A: Allocator + Copy> FrozenIndexMap<
-    'a,
-    K,
-    V,
-    S,
-    A,
-> {
-    ghost use Rattle.std.specs.Borrow.{Bor, sem};
-    ghost use Rattle.elsa_index.specs.Lent.{lends_pairs};
-
-    /// The pairs, to write: a new base begins with what is left in them. It takes no memory.
-    pub fn as_mut(&mut self) -> &mut IndexMap<K, V::Borrow, S, A>
-        ensures* writes_back { sem 𝓛 (lends_pairs K.row V.row S.row A.row V.Borrow.row S.Hasher.row
-            K.Hash V.HasTarget S.BuildHasher S.Hasher.Hasher A.Allocator self.entry result) }
-        ensures content { result.now.entries ≡ self.old }
-    {
-        &mut self.map
-    }
-}
-
-impl<
-    'a,
-    K: Eq + Hash + Drop,
-    V: StableDeref<'a>,
-    S: BuildHasher + Drop,
-    A: Allocator + Copy,
-> FrozenIndexMap<'a, K, V, S, A> {
     /// Begins anew with another content, as a write through `as_mut` does. It takes no memory.
     pub fn rebase(&mut self, base: IndexMap<K, V::Borrow, S, A>)
         ensures { self.new ≡ base.entries }
@@ -545,8 +542,11 @@ impl<
     }
 }
 
-impl<'a, 'q, K: Eq + Hash, V: StableDeref<'a>, S: BuildHasher, A: Allocator + Copy> Index<&'q K>
-    for FrozenIndexMap<'a, K, V, S, A> {
+impl<'a, 'q, K: Eq + Hash, V, S: BuildHasher, A: Allocator + Copy, P: Allocator> Index<&'q K>
+    for FrozenIndexMap<'a, K, V, S, A, P>
+where
+    V: StableDeref<&'a Bump<P>>,
+{
     type Output = V::Borrow;
 
     ghost can_index = { λ m k. IsSome (value_at K.eq m k.now) };
@@ -560,10 +560,11 @@ impl<'a, 'q, K: Eq + Hash, V: StableDeref<'a>, S: BuildHasher, A: Allocator + Co
 }
 
 /// `{:?}` writes the pairs, in the order of their first insertions, as of an `IndexMap`: `{"y": 1, "x": 2}`.
-impl<'a, K: Eq + Hash + Debug, V: StableDeref<'a>, S: BuildHasher, A: Allocator + Copy> Debug
-    for FrozenIndexMap<'a, K, V, S, A>
+impl<'a, K: Eq + Hash + Debug, V, S: BuildHasher, A: Allocator + Copy, P: Allocator> Debug
+    for FrozenIndexMap<'a, K, V, S, A, P>
 where
-    <V as StableDeref<'a>>::Borrow: Debug,
+    V: StableDeref<&'a Bump<P>>,
+    <V as StableDeref<&'a Bump<P>>>::Borrow: Debug,
 {
     fn fmt<W: Write>(&self, f: &mut Formatter<W>) -> fmt::Result {
         self.map.fmt(f)
@@ -571,10 +572,11 @@ where
 }
 
 // Two maps are equal where they have equal values at each key, in any order.
-impl<'a, K: Eq + Hash, V: StableDeref<'a>, S: BuildHasher, A: Allocator + Copy> PartialEq
-    for FrozenIndexMap<'a, K, V, S, A>
+impl<'a, K: Eq + Hash, V, S: BuildHasher, A: Allocator + Copy, P: Allocator> PartialEq
+    for FrozenIndexMap<'a, K, V, S, A, P>
 where
-    <V as StableDeref<'a>>::Borrow: PartialEq,
+    V: StableDeref<&'a Bump<P>>,
+    <V as StableDeref<&'a Bump<P>>>::Borrow: PartialEq,
 {
     ghost eq = { same_values K.eq V.Borrow.eq };
 
@@ -588,10 +590,11 @@ where
     }
 }
 
-impl<'a, K: Eq + Hash, V: StableDeref<'a>, S: BuildHasher, A: Allocator + Copy> Eq
-    for FrozenIndexMap<'a, K, V, S, A>
+impl<'a, K: Eq + Hash, V, S: BuildHasher, A: Allocator + Copy, P: Allocator> Eq
+    for FrozenIndexMap<'a, K, V, S, A, P>
 where
-    <V as StableDeref<'a>>::Borrow: Eq,
+    V: StableDeref<&'a Bump<P>>,
+    <V as StableDeref<&'a Bump<P>>>::Borrow: Eq,
 {
     ghost laws = { same_values_equivalence K.eq V.Borrow.eq K.Eq.laws V.Borrow.PartialEq.laws V.Borrow.Eq.laws };
 }

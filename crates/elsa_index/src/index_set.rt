@@ -1,5 +1,6 @@
 //! A set whose values keep the order of their first insertions.
 ghost use Rattle.std.specs.Prelude.{◌≡◌, ◌++◌, ◌∷◌, ◌<◌, ◌↔◌, [], ℕ, List, length, None, Some, slice_get, position, find, IfOk, IfSome, OnOk, OnErr, IsTrue, is_some};
+ghost use Rattle.std.specs.Borrow.{sem};
 ghost use Rattle.std.specs.Cmp.{partial_equiv_from_equiv};
 ghost use Rattle.std.specs.Iterator.{Drains, IsFinite};
 ghost use Rattle.std.specs.List.{IsDistinct};
@@ -8,6 +9,7 @@ ghost use Rattle.std.specs.Option.{option_map};
 ghost use Rattle.elsa_model.specs.Insertions.{SetInserted, SetInsertedNew, SetCollects};
 ghost use Rattle.elsa_index.specs.EqualityLaws.{same_set_equiv};
 ghost use Rattle.elsa_index.specs.Equality.{same_set, HaveSameValues};
+ghost use Rattle.elsa_index.specs.Lent.{lends_values};
 
 use crate::look_up::LookUp;
 use bumpalo::Bump;
@@ -20,24 +22,27 @@ use std::hash::{BuildHasher, BuildHasherDefault, FoldHasher, Hash};
 use std::marker::{Model, PhantomData};
 use std::ops::Index;
 
-/// A set that only grows, over values placed in an arena.
+/// A set that only grows, over values placed in an arena. `A` is the allocator of its table, `P` that of the arena.
 pub struct FrozenIndexSet<
     'a,
-    T: StableDeref<'a>,
+    T,
     S: BuildHasher = BuildHasherDefault<FoldHasher>,
     A: Allocator + Copy = Global,
+    P: Allocator = Global,
 >
 where
+    T: StableDeref<&'a Bump<P>>,
     T::Borrow: Eq + Hash,
 {
-    arena: &'a Bump,
+    arena: &'a Bump<P>,
     set: IndexSet<T::Borrow, S, A>,
     of: PhantomData<T>,
 }
 
-impl<'a, T: StableDeref<'a>, S: BuildHasher, A: Allocator + Copy> Model
-    for FrozenIndexSet<'a, T, S, A>
+impl<'a, T, S: BuildHasher, A: Allocator + Copy, P: Allocator> Model
+    for FrozenIndexSet<'a, T, S, A, P>
 where
+    T: StableDeref<&'a Bump<P>>,
     T::Borrow: Eq + Hash,
 {
     ghost use Rattle.std.specs.Prelude.{List};
@@ -47,10 +52,10 @@ where
     ghost view = { λ m. m.set.keys };
 }
 
-impl<'a, T: StableDeref<'a>, S: BuildHasher + Drop, A: Allocator + Copy> Drop
-    for FrozenIndexSet<'a, T, S, A>
+impl<'a, P: Allocator, T: StableDeref<&'a Bump<P>>, S: BuildHasher + Drop, A: Allocator + Copy> Drop
+    for FrozenIndexSet<'a, T, S, A, P>
 where
-    <T as StableDeref<'a>>::Borrow: Eq + Hash,
+    <T as StableDeref<&'a Bump<P>>>::Borrow: Eq + Hash,
 {
     fn drop(self) {
         let FrozenIndexSet {
@@ -61,29 +66,36 @@ where
     }
 }
 
-impl<'a, T: StableDeref<'a>, A: Allocator + Copy> FrozenIndexSet<
+impl<'a, P: Allocator, T: StableDeref<&'a Bump<P>>, A: Allocator + Copy> FrozenIndexSet<
     'a,
     T,
     BuildHasherDefault<FoldHasher>,
     A,
+    P,
 >
 where
-    <T as StableDeref<'a>>::Borrow: Eq + Hash,
+    <T as StableDeref<&'a Bump<P>>>::Borrow: Eq + Hash,
 {
     /// An empty set that hashes as std's maps do by default. It takes no memory.
-    pub fn new(alloc: A, arena: &'a Bump) -> Self
+    pub fn new(alloc: A, arena: &'a Bump<P>) -> Self
         ensures { result ≡ [] }
     {
         FrozenIndexSet::with_hasher(alloc, arena, BuildHasherDefault::new())
     }
 }
 
-impl<'a, T: StableDeref<'a>, S: BuildHasher, A: Allocator + Copy> FrozenIndexSet<'a, T, S, A>
+impl<
+    'a,
+    P: Allocator,
+    T: StableDeref<&'a Bump<P>>,
+    S: BuildHasher,
+    A: Allocator + Copy,
+> FrozenIndexSet<'a, T, S, A, P>
 where
-    <T as StableDeref<'a>>::Borrow: Eq + Hash,
+    <T as StableDeref<&'a Bump<P>>>::Borrow: Eq + Hash,
 {
     /// An empty set that hashes by `hash_builder`. It takes no memory.
-    pub fn with_hasher(alloc: A, arena: &'a Bump, hash_builder: S) -> Self
+    pub fn with_hasher(alloc: A, arena: &'a Bump<P>, hash_builder: S) -> Self
         ensures { result ≡ [] }
     {
         FrozenIndexSet::from_set(arena, IndexSet::with_hasher(alloc, hash_builder))
@@ -169,7 +181,7 @@ where
     }
 
     /// A set with this content, which goes on in the given arena. It takes no memory.
-    pub fn from_set(arena: &'a Bump, set: IndexSet<T::Borrow, S, A>) -> Self
+    pub fn from_set(arena: &'a Bump<P>, set: IndexSet<T::Borrow, S, A>) -> Self
         ensures content { result ≡ set.keys }
     {
         FrozenIndexSet {
@@ -219,16 +231,27 @@ where
         self.set.insert(value)?;
         Ok(place)
     }
+
+    /// The values, to write: a new base begins with what is left in them. It takes no memory.
+    pub fn as_mut(&mut self) -> &mut IndexSet<T::Borrow, S, A>
+        ensures* writes_back { sem 𝓛 (lends_values T.row S.row A.row P.row T.Borrow.row
+            S.Hasher.row T.Borrow.Hash T.HasTarget S.BuildHasher S.Hasher.Hasher A.Allocator
+            P.Allocator self.entry result) }
+        ensures content { result.now.keys ≡ self.old }
+    {
+        &mut self.set
+    }
 }
 
 impl<
     'a,
-    T: StableDeref<'a> + LookUp<<T as StableDeref<'a>>::Borrow>,
+    P: Allocator,
+    T: StableDeref<&'a Bump<P>> + LookUp<<T as StableDeref<&'a Bump<P>>>::Borrow>,
     S: BuildHasher,
     A: Allocator + Copy,
-> FrozenIndexSet<'a, T, S, A>
+> FrozenIndexSet<'a, T, S, A, P>
 where
-    <T as StableDeref<'a>>::Borrow: Eq + Hash,
+    <T as StableDeref<&'a Bump<P>>>::Borrow: Eq + Hash,
 {
     /// Adds a value that is absent last, and returns its place and its borrow: the call for one that has looked.
     ///
@@ -327,12 +350,13 @@ where
 
 impl<
     'a,
-    T: StableDeref<'a> + LookUp<<T as StableDeref<'a>>::Borrow>,
+    P: Allocator,
+    T: StableDeref<&'a Bump<P>> + LookUp<<T as StableDeref<&'a Bump<P>>>::Borrow>,
     S: BuildHasher + Drop,
     A: Allocator + Copy,
-> FrozenIndexSet<'a, T, S, A>
+> FrozenIndexSet<'a, T, S, A, P>
 where
-    <T as StableDeref<'a>>::Borrow: Eq + Hash,
+    <T as StableDeref<&'a Bump<P>>>::Borrow: Eq + Hash,
 {
     /// A set of the values, which keeps the first of equal ones.
     ///
@@ -340,7 +364,7 @@ where
     /// `AllocError` comes only where the arena or the table got no memory.
     pub fn from_iter<I: IntoIterator<Item = T>>(
         alloc: A,
-        arena: &'a Bump,
+        arena: &'a Bump<P>,
         hash_builder: S,
         values: I,
     ) -> Result<Self, AllocError>
@@ -359,26 +383,15 @@ where
     }
 }
 
-impl<'a, T: StableDeref<'a>, S: BuildHasher, A: Allocator + Copy> FrozenIndexSet<'a, T, S, A>
+impl<
+    'a,
+    P: Allocator,
+    T: StableDeref<&'a Bump<P>>,
+    S: BuildHasher + Drop,
+    A: Allocator + Copy,
+> FrozenIndexSet<'a, T, S, A, P>
 where
-    <T as StableDeref<'a>>::Borrow: Eq + Hash,
-{
-    ghost use Rattle.std.specs.Borrow.{sem};
-    ghost use Rattle.elsa_index.specs.Lent.{lends_values};
-
-    /// The values, to write: a new base begins with what is left in them. It takes no memory.
-    pub fn as_mut(&mut self) -> &mut IndexSet<T::Borrow, S, A>
-        ensures* writes_back { sem 𝓛 (lends_values T.row S.row A.row T.Borrow.row S.Hasher.row
-            T.Borrow.Hash T.HasTarget S.BuildHasher S.Hasher.Hasher A.Allocator self.entry result) }
-        ensures content { result.now.keys ≡ self.old }
-    {
-        &mut self.set
-    }
-}
-
-impl<'a, T: StableDeref<'a>, S: BuildHasher + Drop, A: Allocator + Copy> FrozenIndexSet<'a, T, S, A>
-where
-    <T as StableDeref<'a>>::Borrow: Eq + Hash,
+    <T as StableDeref<&'a Bump<P>>>::Borrow: Eq + Hash,
 {
     /// Begins anew with another content, as a write through `as_mut` does. It takes no memory.
     pub fn rebase(&mut self, base: IndexSet<T::Borrow, S, A>)
@@ -388,10 +401,11 @@ where
     }
 }
 
-impl<'a, T: StableDeref<'a>, S: BuildHasher, A: Allocator + Copy> Index<usize>
-    for FrozenIndexSet<'a, T, S, A>
+impl<'a, P: Allocator, T: StableDeref<&'a Bump<P>>, S: BuildHasher, A: Allocator + Copy> Index<
+    usize,
+> for FrozenIndexSet<'a, T, S, A, P>
 where
-    <T as StableDeref<'a>>::Borrow: Eq + Hash,
+    <T as StableDeref<&'a Bump<P>>>::Borrow: Eq + Hash,
 {
     type Output = T::Borrow;
 
@@ -406,10 +420,10 @@ where
 }
 
 /// `{:?}` writes the values, in the order of their first insertions, as of an `IndexSet`: `{"y", "x"}`.
-impl<'a, T: StableDeref<'a>, S: BuildHasher, A: Allocator + Copy> Debug
-    for FrozenIndexSet<'a, T, S, A>
+impl<'a, P: Allocator, T: StableDeref<&'a Bump<P>>, S: BuildHasher, A: Allocator + Copy> Debug
+    for FrozenIndexSet<'a, T, S, A, P>
 where
-    <T as StableDeref<'a>>::Borrow: Eq + Hash + Debug,
+    <T as StableDeref<&'a Bump<P>>>::Borrow: Eq + Hash + Debug,
 {
     fn fmt<W: Write>(&self, f: &mut Formatter<W>) -> fmt::Result {
         self.set.fmt(f)
@@ -417,10 +431,10 @@ where
 }
 
 // Two sets are equal where they have the same values, in any order.
-impl<'a, T: StableDeref<'a>, S: BuildHasher, A: Allocator + Copy> PartialEq
-    for FrozenIndexSet<'a, T, S, A>
+impl<'a, P: Allocator, T: StableDeref<&'a Bump<P>>, S: BuildHasher, A: Allocator + Copy> PartialEq
+    for FrozenIndexSet<'a, T, S, A, P>
 where
-    <T as StableDeref<'a>>::Borrow: Eq + Hash,
+    <T as StableDeref<&'a Bump<P>>>::Borrow: Eq + Hash,
 {
     ghost eq = { same_set T.Borrow.eq };
 
@@ -434,9 +448,10 @@ where
     }
 }
 
-impl<'a, T: StableDeref<'a>, S: BuildHasher, A: Allocator + Copy> Eq for FrozenIndexSet<'a, T, S, A>
+impl<'a, P: Allocator, T: StableDeref<&'a Bump<P>>, S: BuildHasher, A: Allocator + Copy> Eq
+    for FrozenIndexSet<'a, T, S, A, P>
 where
-    <T as StableDeref<'a>>::Borrow: Eq + Hash,
+    <T as StableDeref<&'a Bump<P>>>::Borrow: Eq + Hash,
 {
     ghost laws = { same_set_equiv T.Borrow.Eq.laws };
 }

@@ -1,19 +1,19 @@
-//! The index map as a form of map: code over `M: MapForm<'a>` takes it too, and doesn't see the order.
+//! The index map as a form of map: code over `M: MapForm<R>` takes it too, and doesn't see the order.
 
 use crate::index_map::FrozenIndexMap;
+use bumpalo::Bump;
 use elsa_maps::map::MapForm;
 use elsa_once::stable::StableDeref;
 use indexmap::IndexMap;
 use std::alloc::{AllocError, Allocator};
 use std::hash::{BuildHasher, Hash};
 
-impl<
-    'a,
-    K: Eq + Hash + Drop,
-    V: StableDeref<'a>,
-    S: BuildHasher + Drop,
-    A: Allocator + Copy,
-> MapForm<'a> for FrozenIndexMap<'a, K, V, S, A> {
+impl<'a, K: Eq + Hash + Drop, V, S: BuildHasher + Drop, A: Allocator + Copy, P: Allocator> MapForm<
+    &'a Bump<P>,
+> for FrozenIndexMap<'a, K, V, S, A, P>
+where
+    V: StableDeref<&'a Bump<P>>,
+{
     type Key = K;
 
     type Value = V;

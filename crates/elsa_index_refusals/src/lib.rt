@@ -5,6 +5,8 @@
 #![tactic(auto)]
 
 #[cfg(test)]
+mod arena_refusals;
+#[cfg(test)]
 mod lines_refused;
 #[cfg(test)]
 mod map_refusals;

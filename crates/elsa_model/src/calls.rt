@@ -6,8 +6,8 @@ use std::alloc::AllocError;
 /// A call with its arguments, as a value: what an object of type `O` is told to do, and answers by an `R`.
 ///
 /// A type of commands says once what its calls mean, as steps from state to state; [`crate::run`] makes a list of them,
-/// and a recorder writes down which were made. An impl over a bound with a lifetime, as `M: MapForm<'a>`, names it by `L`,
-/// as `&'a ()`; all others have `()` there.
+/// and a recorder writes down which were made. An impl over a bound with a parameter that nothing else names, as `M: MapForm<R>`, names it
+/// by `L`; all others have `()` there.
 pub trait Call<O, R, L> {
     /// What a state of the object is.
     ghost State: { Type 0 };

@@ -9,14 +9,15 @@ ghost use Rattle.elsa_once.specs.Vec.{Gains, GainsAll};
 
 use crate::stable::StableDeref;
 use crate::vec::{Cursor, FrozenVec};
+use bumpalo::Bump;
 use std::alloc::{AllocError, Allocator};
 use std::cmp::Ordering;
 
 // ---- content
 
 /// A push, accepted or refused, keeps the earlier content: it begins as before, and a place that had an item has the same one.
-pub fn looked_up_round_a_push<'a, T: StableDeref<'a>, A: Allocator + Copy>(
-    items: &mut FrozenVec<'a, T, A>,
+pub fn looked_up_round_a_push<'a, P: Allocator, T: StableDeref<&'a Bump<P>>, A: Allocator + Copy>(
+    items: &mut FrozenVec<'a, T, A, P>,
     place: usize,
     item: T,
 ) -> (Option<T::Borrow>, Result<(), AllocError>, Option<T::Borrow>)
@@ -34,11 +35,12 @@ pub fn looked_up_round_a_push<'a, T: StableDeref<'a>, A: Allocator + Copy>(
 /// A borrow stays good after further pushes, which leave it at its place, and after the vector's end, of which the inner one is left.
 pub fn outlives_its_vector<
     'a,
-    T: StableDeref<'a>,
+    P: Allocator,
+    T: StableDeref<&'a Bump<P>>,
     A: Allocator + Copy,
     I: Iterator<Item = T> + Drop,
 >(
-    mut items: FrozenVec<'a, T, A>,
+    mut items: FrozenVec<'a, T, A, P>,
     item: T,
     further: I,
 ) -> Result<(T::Borrow, Vec<T::Borrow, A>), AllocError>
@@ -55,11 +57,11 @@ pub fn outlives_its_vector<
 }
 
 /// A clone and its source are independent of each other.
-pub fn pushed_apart<'a, T: StableDeref<'a>, A: Allocator + Copy>(
-    items: &mut FrozenVec<'a, T, A>,
+pub fn pushed_apart<'a, P: Allocator, T: StableDeref<&'a Bump<P>>, A: Allocator + Copy>(
+    items: &mut FrozenVec<'a, T, A, P>,
     one: T,
     other: T,
-) -> Result<FrozenVec<'a, T, A>, AllocError>
+) -> Result<FrozenVec<'a, T, A, P>, AllocError>
     ensures source { IfOk result (λ _. Gains T.target T.shown items.old one items.new) }
     ensures copy { IfOk result (λ copy. Gains T.target T.shown items.old other copy) }
     ensures refused { OnErr result ((items.new ≡ items.old)
@@ -74,12 +76,12 @@ pub fn pushed_apart<'a, T: StableDeref<'a>, A: Allocator + Copy>(
 // ---- equality
 
 /// Two vectors of one content are equal: so a vector equals itself.
-pub fn equal_where_the_same<'a, T: StableDeref<'a>, A: Allocator + Copy>(
-    one: &FrozenVec<'a, T, A>,
-    other: &FrozenVec<'a, T, A>,
+pub fn equal_where_the_same<'a, P: Allocator, T: StableDeref<&'a Bump<P>>, A: Allocator + Copy>(
+    one: &FrozenVec<'a, T, A, P>,
+    other: &FrozenVec<'a, T, A, P>,
 ) -> bool
 where
-    <T as StableDeref<'a>>::Borrow: Eq,
+    <T as StableDeref<&'a Bump<P>>>::Borrow: Eq,
     ensures answered { result ≡ pointwise T.Borrow.eq one.now other.now }
     ensures equal { one.now ≡ other.now → IsTrue result }
 {
@@ -87,12 +89,12 @@ where
 }
 
 /// Which of two vectors comes first makes no difference.
-pub fn equal_both_ways<'a, T: StableDeref<'a>, A: Allocator + Copy>(
-    one: &FrozenVec<'a, T, A>,
-    other: &FrozenVec<'a, T, A>,
+pub fn equal_both_ways<'a, P: Allocator, T: StableDeref<&'a Bump<P>>, A: Allocator + Copy>(
+    one: &FrozenVec<'a, T, A, P>,
+    other: &FrozenVec<'a, T, A, P>,
 ) -> (bool, bool)
 where
-    <T as StableDeref<'a>>::Borrow: PartialEq,
+    <T as StableDeref<&'a Bump<P>>>::Borrow: PartialEq,
     ensures answered { (result.0 ≡ pointwise T.Borrow.eq one.now other.now)
         × (result.1 ≡ pointwise T.Borrow.eq other.now one.now) }
     ensures same { result.0 ≡ result.1 }
@@ -101,13 +103,13 @@ where
 }
 
 /// Two vectors that equal a third are equal.
-pub fn equal_through<'a, T: StableDeref<'a>, A: Allocator + Copy>(
-    one: &FrozenVec<'a, T, A>,
-    middle: &FrozenVec<'a, T, A>,
-    other: &FrozenVec<'a, T, A>,
+pub fn equal_through<'a, P: Allocator, T: StableDeref<&'a Bump<P>>, A: Allocator + Copy>(
+    one: &FrozenVec<'a, T, A, P>,
+    middle: &FrozenVec<'a, T, A, P>,
+    other: &FrozenVec<'a, T, A, P>,
 ) -> (bool, bool, bool)
 where
-    <T as StableDeref<'a>>::Borrow: PartialEq,
+    <T as StableDeref<&'a Bump<P>>>::Borrow: PartialEq,
     ensures one { result.0 ≡ pointwise T.Borrow.eq one.now middle.now }
     ensures other { result.1 ≡ pointwise T.Borrow.eq middle.now other.now }
     ensures both { result.2 ≡ pointwise T.Borrow.eq one.now other.now }
@@ -119,9 +121,9 @@ where
 // ---- walks
 
 /// A walk gives each item once, in order, and ends.
-pub fn walked<'a, T: StableDeref<'a>, A: Allocator + Copy, B: Allocator>(
+pub fn walked<'a, P: Allocator, T: StableDeref<&'a Bump<P>>, A: Allocator + Copy, B: Allocator>(
     alloc: B,
-    items: &FrozenVec<'a, T, A>,
+    items: &FrozenVec<'a, T, A, P>,
 ) -> Result<Vec<T::Borrow, B>, AllocError>
     ensures { IfOk result (λ walked. walked.items ≡ items.now) }
 {
@@ -129,8 +131,8 @@ pub fn walked<'a, T: StableDeref<'a>, A: Allocator + Copy, B: Allocator>(
 }
 
 /// A cursor at the end goes on after a push: it returns None before it, and then what was pushed.
-pub fn read_on<'a, T: StableDeref<'a>, A: Allocator + Copy>(
-    items: &mut FrozenVec<'a, T, A>,
+pub fn read_on<'a, P: Allocator, T: StableDeref<&'a Bump<P>>, A: Allocator + Copy>(
+    items: &mut FrozenVec<'a, T, A, P>,
     cursor: &mut Cursor,
     item: T,
 ) -> (Option<T::Borrow>, Result<(), AllocError>, Option<T::Borrow>)
@@ -151,10 +153,13 @@ pub fn read_on<'a, T: StableDeref<'a>, A: Allocator + Copy>(
 // ---- searches
 
 /// Where the closure's results depend on the item alone, a search returns what a search of a slice does, also where the calls change the closure.
-pub fn place_by_order<'a, T: StableDeref<'a>, A: Allocator + Copy, F: FnMut(T::Borrow) -> Ordering>(
-    items: &FrozenVec<'a, T, A>,
-    order: F,
-) -> Result<usize, usize>
+pub fn place_by_order<
+    'a,
+    P: Allocator,
+    T: StableDeref<&'a Bump<P>>,
+    A: Allocator + Copy,
+    F: FnMut(T::Borrow) -> Ordering,
+>(items: &FrozenVec<'a, T, A, P>, order: F) -> Result<usize, usize>
     requires { F.IsAlwaysCallable order }
     ensures { (o : T.Borrow → Ordering) → AlwaysReturns F.FnMut (λ a r. r ≡ o a.0) order →
         IsBinarySearchResult o items.now result }
@@ -163,10 +168,13 @@ pub fn place_by_order<'a, T: StableDeref<'a>, A: Allocator + Copy, F: FnMut(T::B
 }
 
 /// The same of a partition.
-pub fn place_by_test<'a, T: StableDeref<'a>, A: Allocator + Copy, F: FnMut(T::Borrow) -> bool>(
-    items: &FrozenVec<'a, T, A>,
-    belongs: F,
-) -> usize
+pub fn place_by_test<
+    'a,
+    P: Allocator,
+    T: StableDeref<&'a Bump<P>>,
+    A: Allocator + Copy,
+    F: FnMut(T::Borrow) -> bool,
+>(items: &FrozenVec<'a, T, A, P>, belongs: F) -> usize
     requires { F.IsAlwaysCallable belongs }
     ensures { (test : T.Borrow → Bool) → AlwaysReturns F.FnMut (λ a r. r ≡ test a.0) belongs →
         IsPartitionedBy test items.now →

@@ -5,6 +5,7 @@
 ghost use Rattle.std.specs.Prelude.{◌≡◌, IfOk, OnErr, length};
 ghost use Rattle.elsa_run.specs.IndexRun.{IndexRunsTo};
 
+use bumpalo::Bump;
 use elsa_index::index_map::FrozenIndexMap;
 use elsa_model::{Call, run};
 use elsa_once::stable::StableDeref;
@@ -56,11 +57,14 @@ pub enum IndexReply<B> {
     NoMemory,
 }
 
-impl<'a, K: Eq + Hash + Drop, V: StableDeref<'a>, S: BuildHasher + Drop, A: Allocator + Copy> Call<
-    FrozenIndexMap<'a, K, V, S, A>,
+impl<'a, K: Eq + Hash + Drop, V, S: BuildHasher + Drop, A: Allocator + Copy, P: Allocator> Call<
+    FrozenIndexMap<'a, K, V, S, A, P>,
     IndexReply<V::Borrow>,
     (),
-> for IndexCommand<K, V, IndexMap<K, V::Borrow, S, A>> {
+> for IndexCommand<K, V, IndexMap<K, V::Borrow, S, A>>
+where
+    V: StableDeref<&'a Bump<P>>,
+{
     ghost use Rattle.std.specs.Prelude.{[], List};
     ghost use Rattle.elsa_run.specs.IndexRun.{Step};
     ghost use Rattle.elsa_run.specs.declared.run_index.IndexReply.{IndexReply};
@@ -78,7 +82,7 @@ impl<'a, K: Eq + Hash + Drop, V: StableDeref<'a>, S: BuildHasher + Drop, A: Allo
 
     fn apply(
         self,
-        map: &mut FrozenIndexMap<'a, K, V, S, A>,
+        map: &mut FrozenIndexMap<'a, K, V, S, A, P>,
     ) -> Result<IndexReply<V::Borrow>, AllocError> {
         match self {
             IndexCommand::Insert(key, value) => Ok(IndexReply::Item(map.insert(key, value)?)),
@@ -112,12 +116,13 @@ impl<'a, K: Eq + Hash + Drop, V: StableDeref<'a>, S: BuildHasher + Drop, A: Allo
 pub fn run_index<
     'a,
     K: Eq + Hash + Drop,
-    V: StableDeref<'a>,
+    P: Allocator,
+    V: StableDeref<&'a Bump<P>>,
     S: BuildHasher + Drop,
     A: Allocator + Copy,
 >(
     alloc: A,
-    map: &mut FrozenIndexMap<'a, K, V, S, A>,
+    map: &mut FrozenIndexMap<'a, K, V, S, A, P>,
     commands: Vec<IndexCommand<K, V, IndexMap<K, V::Borrow, S, A>>, A>,
 ) -> Result<Vec<IndexReply<V::Borrow>, A>, AllocError>
     ensures run { IfOk result (λ replies.

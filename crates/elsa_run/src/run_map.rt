@@ -46,7 +46,7 @@ pub enum MapReply<B> {
     NoMemory,
 }
 
-impl<'a, M: MapForm<'a>> Call<M, MapReply<<M::Value as StableDeref<'a>>::Borrow>, &'a ()>
+impl<R, M: MapForm<R>> Call<M, MapReply<<M::Value as StableDeref<R>>::Borrow>, R>
     for MapCommand<M::Key, M::Value, M::Base> {
     ghost use Rattle.std.specs.Prelude.{[], List};
     ghost use Rattle.elsa_run.specs.MapRun.{Step};
@@ -66,7 +66,7 @@ impl<'a, M: MapForm<'a>> Call<M, MapReply<<M::Value as StableDeref<'a>>::Borrow>
     fn apply(
         self,
         map: &mut M,
-    ) -> Result<MapReply<<M::Value as StableDeref<'a>>::Borrow>, AllocError> {
+    ) -> Result<MapReply<<M::Value as StableDeref<R>>::Borrow>, AllocError> {
         match self {
             MapCommand::Insert(key, value) => Ok(MapReply::Item(map.insert(key, value)?)),
             MapCommand::InsertNew(key, value) => {
@@ -88,11 +88,11 @@ impl<'a, M: MapForm<'a>> Call<M, MapReply<<M::Value as StableDeref<'a>>::Borrow>
 ///
 /// The room for all replies is made first, so `Err` means that no call was made. A call whose allocation fails gets the reply
 /// `NoMemory`, and the run goes on.
-pub fn run_map<'a, M: MapForm<'a>, A: Allocator + Copy>(
+pub fn run_map<R, M: MapForm<R>, A: Allocator + Copy>(
     alloc: A,
     map: &mut M,
     commands: Vec<MapCommand<M::Key, M::Value, M::Base>>,
-) -> Result<Vec<MapReply<<M::Value as StableDeref<'a>>::Borrow>, A>, AllocError>
+) -> Result<Vec<MapReply<<M::Value as StableDeref<R>>::Borrow>, A>, AllocError>
     ensures run { IfOk result (λ replies.
         MapRunsTo M.same M.Value.target M.Value.shown M.base_entries (M.entries map.old)
         commands.items replies.items (M.entries map.new)) }

@@ -5,6 +5,7 @@
 ghost use Rattle.std.specs.Prelude.{◌≡◌, IfOk, OnErr, length};
 ghost use Rattle.elsa_run.specs.SetRun.{SetRunsTo};
 
+use bumpalo::Bump;
 use elsa_index::index_set::FrozenIndexSet;
 use elsa_index::look_up::LookUp;
 use elsa_model::{Call, run};
@@ -57,13 +58,16 @@ pub enum SetReply<B> {
 
 impl<
     'a,
-    T: StableDeref<'a> + LookUp<<T as StableDeref<'a>>::Borrow>,
+    P: Allocator,
+    T: StableDeref<&'a Bump<P>> + LookUp<<T as StableDeref<&'a Bump<P>>>::Borrow>,
     S: BuildHasher + Drop,
     A: Allocator + Copy,
-> Call<FrozenIndexSet<'a, T, S, A>, SetReply<T::Borrow>, ()>
+> Call<FrozenIndexSet<'a, T, S, A, P>, SetReply<T::Borrow>, ()>
     for SetCommand<T, T::Borrow, IndexSet<T::Borrow, S, A>>
 where
-    <T as StableDeref<'a>>::Borrow: Eq + Hash + LookUp<<T as StableDeref<'a>>::Borrow>,
+    <T as StableDeref<&'a Bump<P>>>::Borrow: Eq
+        + Hash
+        + LookUp<<T as StableDeref<&'a Bump<P>>>::Borrow>,
 {
     ghost use Rattle.std.specs.Prelude.{[], List};
     ghost use Rattle.elsa_run.specs.SetRun.{Step};
@@ -83,7 +87,7 @@ where
 
     fn apply(
         self,
-        set: &mut FrozenIndexSet<'a, T, S, A>,
+        set: &mut FrozenIndexSet<'a, T, S, A, P>,
     ) -> Result<SetReply<T::Borrow>, AllocError> {
         match self {
             SetCommand::Insert(value) => Ok(SetReply::Item(set.insert(value)?)),
@@ -116,16 +120,19 @@ where
 /// refused gets the reply `NoMemory`, which comes only for an absent value, and the run goes on.
 pub fn run_set<
     'a,
-    T: StableDeref<'a> + LookUp<<T as StableDeref<'a>>::Borrow>,
+    P: Allocator,
+    T: StableDeref<&'a Bump<P>> + LookUp<<T as StableDeref<&'a Bump<P>>>::Borrow>,
     S: BuildHasher + Drop,
     A: Allocator + Copy,
 >(
     alloc: A,
-    set: &mut FrozenIndexSet<'a, T, S, A>,
+    set: &mut FrozenIndexSet<'a, T, S, A, P>,
     commands: Vec<SetCommand<T, T::Borrow, IndexSet<T::Borrow, S, A>>, A>,
 ) -> Result<Vec<SetReply<T::Borrow>, A>, AllocError>
 where
-    <T as StableDeref<'a>>::Borrow: Eq + Hash + LookUp<<T as StableDeref<'a>>::Borrow>,
+    <T as StableDeref<&'a Bump<P>>>::Borrow: Eq
+        + Hash
+        + LookUp<<T as StableDeref<&'a Bump<P>>>::Borrow>,
     ensures run { IfOk result (λ replies.
         SetRunsTo T.Borrow.eq T.target T.shown T.finds T.Borrow.finds (λ m. m.keys) set.old
         commands.items replies.items set.new) }

@@ -4,6 +4,7 @@
 ghost use Rattle.std.specs.Prelude.{◌≡◌, IfOk, OnErr, length, map};
 ghost use Rattle.elsa_run.specs.VecRun.{VecRunsTo};
 
+use bumpalo::Bump;
 use elsa_model::{Call, run};
 use elsa_once::stable::StableDeref;
 use elsa_once::vec::FrozenVec;
@@ -48,8 +49,11 @@ pub enum VecReply<B> {
 }
 
 // What each call means: `Answers` says which reply it may get, `content_after` what it leaves.
-impl<'a, T: StableDeref<'a>, A: Allocator + Copy> Call<FrozenVec<'a, T, A>, VecReply<T::Borrow>, ()>
-    for VecCommand<T, Vec<T::Borrow, A>> {
+impl<'a, P: Allocator, T: StableDeref<&'a Bump<P>>, A: Allocator + Copy> Call<
+    FrozenVec<'a, T, A, P>,
+    VecReply<T::Borrow>,
+    (),
+> for VecCommand<T, Vec<T::Borrow, A>> {
     ghost use Rattle.std.specs.Prelude.{[], List, map};
     ghost use Rattle.elsa_run.specs.VecRun.{Step};
     ghost use Rattle.elsa_run.specs.declared.run_vec.VecReply.{VecReply};
@@ -64,7 +68,7 @@ impl<'a, T: StableDeref<'a>, A: Allocator + Copy> Call<FrozenVec<'a, T, A>, VecR
 
     ghost refuses = { λ xs c. Step T.target T.shown (λ m. m.items) xs c VecReply.NoMemory xs };
 
-    fn apply(self, items: &mut FrozenVec<'a, T, A>) -> Result<VecReply<T::Borrow>, AllocError> {
+    fn apply(self, items: &mut FrozenVec<'a, T, A, P>) -> Result<VecReply<T::Borrow>, AllocError> {
         match self {
             VecCommand::Push(item) => {
                 items.push(item)?;
@@ -88,9 +92,9 @@ impl<'a, T: StableDeref<'a>, A: Allocator + Copy> Call<FrozenVec<'a, T, A>, VecR
 ///
 /// The room for all replies is made before the first call, so `AllocError` means that no call was made. A call whose allocation fails gets the
 /// reply `NoMemory`, which comes only for a push, and the run goes on.
-pub fn run_vec<'a, T: StableDeref<'a>, A: Allocator + Copy>(
+pub fn run_vec<'a, P: Allocator, T: StableDeref<&'a Bump<P>>, A: Allocator + Copy>(
     alloc: A,
-    items: &mut FrozenVec<'a, T, A>,
+    items: &mut FrozenVec<'a, T, A, P>,
     commands: Vec<VecCommand<T, Vec<T::Borrow, A>>, A>,
 ) -> Result<Vec<VecReply<T::Borrow>, A>, AllocError>
     ensures run { IfOk result (λ replies.

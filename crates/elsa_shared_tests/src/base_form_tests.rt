@@ -43,7 +43,7 @@ fn forms_of_a_vector_of_borrows(rt: HostRuntime) -> Result<(), Fail> {
 }
 
 /// What a key has in either map after an insertion.
-fn kept_in<'a, V: StableDeref<'a>, M: MapForm<'a, Key = u64, Value = V>>(
+fn kept_in<R, V: StableDeref<R>, M: MapForm<R, Key = u64, Value = V>>(
     map: &mut M,
     value: V,
 ) -> Result<(V::Borrow, bool), AllocError> {

@@ -119,7 +119,7 @@ fn forms_of_an_ordered_map_of_numbers(rt: HostRuntime) -> Result<(), Fail> {
 // ---- either map
 
 /// Whether a map of either form has one key behind an insertion, and none behind a base that is empty.
-fn is_form<'a, V: StableDeref<'a>, M: MapForm<'a, Key = u64, Value = V>>(
+fn is_form<R, V: StableDeref<R>, M: MapForm<R, Key = u64, Value = V>>(
     map: &mut M,
     value: V,
     base: M::Base,

@@ -7,6 +7,7 @@ ghost use Rattle.std.specs.Ordering.{eq_by_cmp};
 ghost use Rattle.elsa_maps.specs.FirstWins.{Adds, value_at};
 
 use super::{FrozenBTreeMap, FrozenMap};
+use bumpalo::Bump;
 use elsa_once::stable::StableDeref;
 use std::alloc::{AllocError, Allocator};
 use std::collections::{BTreeMap, HashMap};
@@ -14,14 +15,14 @@ use std::hash::{BuildHasher, Hash};
 
 /// A map in which the first value of a key stays, however it finds its keys.
 ///
-/// Its calls mean what they mean at [`FrozenMap`] and [`FrozenBTreeMap`], and code over `M: MapForm<'a>` is proved once
-/// for both.
-pub trait MapForm<'a> {
+/// Its calls mean what they mean at [`FrozenMap`] and [`FrozenBTreeMap`], and code over `M: MapForm<R>` is proved once
+/// for both. `R` is the reference to the arena, `&'a Bump<P>`.
+pub trait MapForm<R> {
     /// What the map is asked by.
     type Key: Drop;
 
     /// What an insertion places in the arena.
-    type Value: StableDeref<'a>;
+    type Value: StableDeref<R>;
 
     /// The inner map, with each key's borrow.
     type Base: Drop;
@@ -40,7 +41,7 @@ pub trait MapForm<'a> {
         &mut self,
         key: Self::Key,
         value: Self::Value,
-    ) -> Result<(<Self::Value as StableDeref<'a>>::Borrow, bool), AllocError>
+    ) -> Result<(<Self::Value as StableDeref<R>>::Borrow, bool), AllocError>
         ensures present { (x : Self.Value.Borrow) → value_at same (entries self.old) key ≡ Some x →
             (result ≡ Ok (x, false)) × (entries self.new ≡ entries self.old) }
         ensures stands { IfOk result (λ r. value_at same (entries self.new) key ≡ Some r.0) }
@@ -60,7 +61,7 @@ pub trait MapForm<'a> {
         &mut self,
         key: Self::Key,
         value: Self::Value,
-    ) -> Result<<Self::Value as StableDeref<'a>>::Borrow, AllocError>
+    ) -> Result<<Self::Value as StableDeref<R>>::Borrow, AllocError>
         ensures present { (x : Self.Value.Borrow) → value_at same (entries self.old) key ≡ Some x →
             (result ≡ Ok x) × (entries self.new ≡ entries self.old) }
         ensures stands { IfOk result (λ b. value_at same (entries self.new) key ≡ Some b) }
@@ -75,7 +76,7 @@ pub trait MapForm<'a> {
         ensures only_new { OnErr result (value_at same (entries self.old) key ≡ None) };
 
     /// The value at `key`, or `None` exactly if there is none.
-    fn get(&self, key: &Self::Key) -> Option<<Self::Value as StableDeref<'a>>::Borrow>
+    fn get(&self, key: &Self::Key) -> Option<<Self::Value as StableDeref<R>>::Borrow>
         ensures { result ≡ value_at same (entries self.now) key.now };
 
     /// The number of entries.
@@ -95,13 +96,12 @@ pub trait MapForm<'a> {
         ensures { entries self.new ≡ base_entries base };
 }
 
-impl<
-    'a,
-    K: Eq + Hash + Drop,
-    V: StableDeref<'a>,
-    S: BuildHasher + Drop,
-    A: Allocator + Copy,
-> MapForm<'a> for FrozenMap<'a, K, V, S, A> {
+impl<'a, K: Eq + Hash + Drop, V, S: BuildHasher + Drop, A: Allocator + Copy, P: Allocator> MapForm<
+    &'a Bump<P>,
+> for FrozenMap<'a, K, V, S, A, P>
+where
+    V: StableDeref<&'a Bump<P>>,
+{
     type Key = K;
 
     type Value = V;
@@ -139,8 +139,9 @@ impl<
     }
 }
 
-impl<'a, K: Ord + Drop, V: StableDeref<'a>, A: Allocator + Copy> MapForm<'a>
-    for FrozenBTreeMap<'a, K, V, A> {
+impl<'a, K: Ord + Drop, P: Allocator, V: StableDeref<&'a Bump<P>>, A: Allocator + Copy> MapForm<
+    &'a Bump<P>,
+> for FrozenBTreeMap<'a, K, V, A, P> {
     type Key = K;
 
     type Value = V;

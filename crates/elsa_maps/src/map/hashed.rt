@@ -27,25 +27,32 @@ use std::ops::Index;
 /// A map in which the first value of a key stays, and a key is found by its hash.
 ///
 /// Each value is placed in the arena that the map was made over, and returned as a borrow with the arena's lifetime: the borrow
-/// outlasts later insertions and the map itself. The table of the entries is in memory of the allocator `A`.
+/// outlasts later insertions and the map itself. The table of the entries is in memory of the allocator `A`, and `P` is the allocator of the arena.
 ///
 /// The default hasher is fast and has a fixed seed; where strangers choose the keys, take a `SeededState` of `elsa` by
 /// [`with_hasher`](FrozenMap::with_hasher).
 pub struct FrozenMap<
     'a,
     K: Eq + Hash,
-    V: StableDeref<'a>,
+    V,
     S: BuildHasher = BuildHasherDefault<FoldHasher>,
     A: Allocator + Copy = Global,
-> {
+    P: Allocator = Global,
+>
+where
+    V: StableDeref<&'a Bump<P>>,
+{
     alloc: A,
-    arena: &'a Bump,
+    arena: &'a Bump<P>,
     entries: HashMap<K, V::Borrow, S, A>,
     of: PhantomData<V>,
 }
 
-impl<'a, K: Eq + Hash, V: StableDeref<'a>, S: BuildHasher, A: Allocator + Copy> Model
-    for FrozenMap<'a, K, V, S, A> {
+impl<'a, K: Eq + Hash, V, S: BuildHasher, A: Allocator + Copy, P: Allocator> Model
+    for FrozenMap<'a, K, V, S, A, P>
+where
+    V: StableDeref<&'a Bump<P>>,
+{
     ghost use Rattle.std.specs.Prelude.{List};
 
     ghost Value = { List (K × V.Borrow) };
@@ -53,8 +60,11 @@ impl<'a, K: Eq + Hash, V: StableDeref<'a>, S: BuildHasher, A: Allocator + Copy> 
     ghost view = { λ m. m.entries.entries };
 }
 
-impl<'a, K: Eq + Hash + Drop, V: StableDeref<'a>, S: BuildHasher + Drop, A: Allocator + Copy> Drop
-    for FrozenMap<'a, K, V, S, A> {
+impl<'a, K: Eq + Hash + Drop, V, S: BuildHasher + Drop, A: Allocator + Copy, P: Allocator> Drop
+    for FrozenMap<'a, K, V, S, A, P>
+where
+    V: StableDeref<&'a Bump<P>>,
+{
     fn drop(self) {
         let FrozenMap {
             alloc: _alloc,
@@ -65,34 +75,36 @@ impl<'a, K: Eq + Hash + Drop, V: StableDeref<'a>, S: BuildHasher + Drop, A: Allo
     }
 }
 
-impl<'a, K: Eq + Hash, V: StableDeref<'a>, A: Allocator + Copy> FrozenMap<
+impl<'a, K: Eq + Hash, P: Allocator, V: StableDeref<&'a Bump<P>>, A: Allocator + Copy> FrozenMap<
     'a,
     K,
     V,
     BuildHasherDefault<FoldHasher>,
     A,
+    P,
 > {
     /// An empty map with the default hasher, over `arena` for its values and `alloc` for its table.
     ///
     /// Takes no memory.
-    pub fn new(alloc: A, arena: &'a Bump) -> Self
+    pub fn new(alloc: A, arena: &'a Bump<P>) -> Self
         ensures { result ≡ [] }
     {
         FrozenMap::with_hasher(alloc, arena, BuildHasherDefault::new())
     }
 }
 
-impl<'a, K: Eq + Hash, V: StableDeref<'a>, S: BuildHasher, A: Allocator + Copy> FrozenMap<
+impl<
     'a,
-    K,
-    V,
-    S,
-    A,
-> {
+    K: Eq + Hash,
+    P: Allocator,
+    V: StableDeref<&'a Bump<P>>,
+    S: BuildHasher,
+    A: Allocator + Copy,
+> FrozenMap<'a, K, V, S, A, P> {
     /// An empty map that hashes its keys by `hash_builder`.
     ///
     /// Takes no memory.
-    pub fn with_hasher(alloc: A, arena: &'a Bump, hash_builder: S) -> Self
+    pub fn with_hasher(alloc: A, arena: &'a Bump<P>, hash_builder: S) -> Self
         ensures { result ≡ [] }
     {
         FrozenMap::from_map(alloc, arena, HashMap::with_hasher(alloc, hash_builder))
@@ -102,7 +114,7 @@ impl<'a, K: Eq + Hash, V: StableDeref<'a>, S: BuildHasher, A: Allocator + Copy> 
     ///
     /// Takes no memory. `alloc` is for the memory that [`clone`](FrozenMap::clone) and
     /// [`into_tuple_vec`](FrozenMap::into_tuple_vec) take: std's map can't be asked for its allocator.
-    pub fn from_map(alloc: A, arena: &'a Bump, map: HashMap<K, V::Borrow, S, A>) -> Self
+    pub fn from_map(alloc: A, arena: &'a Bump<P>, map: HashMap<K, V::Borrow, S, A>) -> Self
         ensures { result ≡ map.entries }
     {
         FrozenMap {
@@ -214,22 +226,23 @@ impl<'a, K: Eq + Hash, V: StableDeref<'a>, S: BuildHasher, A: Allocator + Copy> 
 
     /// The inner map, borrowed for writing: it may change or remove anything, and what it leaves is a new base.
     pub fn as_mut(&mut self) -> &mut HashMap<K, V::Borrow, S, A>
-        ensures* writes_back { sem 𝓛 (lends_table K.row V.row S.row A.row V.Borrow.row
-            S.Hasher.row K.Hash V.HasTarget S.BuildHasher S.Hasher.Hasher A.Allocator self.entry
-            result) }
+        ensures* writes_back { sem 𝓛 (lends_table K.row V.row S.row A.row P.row V.Borrow.row
+            S.Hasher.row K.Hash V.HasTarget S.BuildHasher S.Hasher.Hasher A.Allocator P.Allocator
+            self.entry result) }
         ensures content { result.now.entries ≡ self.old }
     {
         &mut self.entries
     }
 }
 
-impl<'a, K: Eq + Hash + Drop, V: StableDeref<'a>, S: BuildHasher, A: Allocator + Copy> FrozenMap<
+impl<
     'a,
-    K,
-    V,
-    S,
-    A,
-> {
+    K: Eq + Hash + Drop,
+    P: Allocator,
+    V: StableDeref<&'a Bump<P>>,
+    S: BuildHasher,
+    A: Allocator + Copy,
+> FrozenMap<'a, K, V, S, A, P> {
     /// Gives `key` the value, unless the map has a key that equals it, and returns the value that the key now has and
     /// whether the key was new.
     ///
@@ -290,7 +303,14 @@ impl<'a, K: Eq + Hash + Drop, V: StableDeref<'a>, S: BuildHasher, A: Allocator +
     }
 }
 
-impl<'a, V: StableDeref<'a>, S: BuildHasher, A: Allocator + Copy> FrozenMap<'a, &'a str, V, S, A> {
+impl<'a, P: Allocator, V: StableDeref<&'a Bump<P>>, S: BuildHasher, A: Allocator + Copy> FrozenMap<
+    'a,
+    &'a str,
+    V,
+    S,
+    A,
+    P,
+> {
     /// The value at the text `key`, or `None` exactly if no key of the map reads the same. Takes no memory; one hash and one search.
     pub fn get_text(&self, key: &str) -> Option<V::Borrow>
         ensures { result ≡ value_at ⟦<&'a str as PartialEq>⟧.eq self.now key.entry }
@@ -331,13 +351,14 @@ impl<'a, V: StableDeref<'a>, S: BuildHasher, A: Allocator + Copy> FrozenMap<'a, 
     }
 }
 
-impl<'a, B: Allocator, V: StableDeref<'a>, S: BuildHasher, A: Allocator + Copy> FrozenMap<
+impl<
     'a,
-    String<B>,
-    V,
-    S,
-    A,
-> {
+    B: Allocator,
+    P: Allocator,
+    V: StableDeref<&'a Bump<P>>,
+    S: BuildHasher,
+    A: Allocator + Copy,
+> FrozenMap<'a, String<B>, V, S, A, P> {
     /// The value at the text `key`, or `None` exactly if no key of the map reads the same: [`get`](FrozenMap::get) without a `String`.
     /// Takes no memory; one hash and one search.
     pub fn get_text(&self, key: &str) -> Option<V::Borrow>
@@ -351,10 +372,11 @@ impl<'a, B: Allocator, V: StableDeref<'a>, S: BuildHasher, A: Allocator + Copy> 
 impl<
     'a,
     K: Eq + Hash + Drop,
-    V: StableDeref<'a>,
+    P: Allocator,
+    V: StableDeref<&'a Bump<P>>,
     S: BuildHasher + Drop,
     A: Allocator + Copy,
-> FrozenMap<'a, K, V, S, A> {
+> FrozenMap<'a, K, V, S, A, P> {
     // Gives a key this value, whether or not it has one.
     fn replace(&mut self, key: K, value: V) -> Result<V::Borrow, AllocError>
         ensures target { IfOk result (λ b. V.shown b ≡ V.target value) }
@@ -376,7 +398,7 @@ impl<
     /// `Err` and drops what was collected. Which of several equal keys the map then shows is left open.
     pub fn from_iter<I: IntoIterator<Item = (K, V)>>(
         alloc: A,
-        arena: &'a Bump,
+        arena: &'a Bump<P>,
         hash_builder: S,
         pairs: I,
     ) -> Result<Self, AllocError>
@@ -476,8 +498,11 @@ fn copied<K: Eq + Hash + Clone, B: Copy, S: BuildHasher + Clone, A: Allocator + 
     Ok(copy)
 }
 
-impl<'a, 'q, K: Eq + Hash, V: StableDeref<'a>, S: BuildHasher, A: Allocator + Copy> Index<&'q K>
-    for FrozenMap<'a, K, V, S, A> {
+impl<'a, 'q, K: Eq + Hash, V, S: BuildHasher, A: Allocator + Copy, P: Allocator> Index<&'q K>
+    for FrozenMap<'a, K, V, S, A, P>
+where
+    V: StableDeref<&'a Bump<P>>,
+{
     type Output = V::Borrow;
 
     ghost can_index = { λ m k. IsSome (value_at K.eq m k.now) };
@@ -490,10 +515,11 @@ impl<'a, 'q, K: Eq + Hash, V: StableDeref<'a>, S: BuildHasher, A: Allocator + Co
 }
 
 /// `{:?}` writes each entry once, in the order of [`iter`](FrozenMap::iter), as of a `HashMap`: `{"x": 1}`.
-impl<'a, K: Eq + Hash + Debug, V: StableDeref<'a>, S: BuildHasher, A: Allocator + Copy> Debug
-    for FrozenMap<'a, K, V, S, A>
+impl<'a, K: Eq + Hash + Debug, V, S: BuildHasher, A: Allocator + Copy, P: Allocator> Debug
+    for FrozenMap<'a, K, V, S, A, P>
 where
-    <V as StableDeref<'a>>::Borrow: Debug,
+    V: StableDeref<&'a Bump<P>>,
+    <V as StableDeref<&'a Bump<P>>>::Borrow: Debug,
 {
     fn fmt<W: Write>(&self, f: &mut Formatter<W>) -> fmt::Result {
         self.entries.fmt(f)
@@ -501,9 +527,10 @@ where
 }
 
 // Two maps are equal where each key has equal values in both, or none in either.
-impl<'a, K: Eq + Hash, V: StableDeref<'a>, S: BuildHasher, A: Allocator + Copy> PartialEq
-    for FrozenMap<'a, K, V, S, A>
+impl<'a, K: Eq + Hash, V, S: BuildHasher, A: Allocator + Copy, P: Allocator> PartialEq
+    for FrozenMap<'a, K, V, S, A, P>
 where
+    V: StableDeref<&'a Bump<P>>,
     V::Borrow: PartialEq,
 {
     ghost eq = { same_values K.eq V.Borrow.eq };
@@ -518,9 +545,10 @@ where
     }
 }
 
-impl<'a, K: Eq + Hash, V: StableDeref<'a>, S: BuildHasher, A: Allocator + Copy> Eq
-    for FrozenMap<'a, K, V, S, A>
+impl<'a, K: Eq + Hash, V, S: BuildHasher, A: Allocator + Copy, P: Allocator> Eq
+    for FrozenMap<'a, K, V, S, A, P>
 where
+    V: StableDeref<&'a Bump<P>>,
     V::Borrow: Eq,
 {
     ghost laws = { same_values_equivalence K.eq V.Borrow.eq K.Eq.laws V.Borrow.PartialEq.laws V.Borrow.Eq.laws };

@@ -10,11 +10,11 @@ use std::alloc::AllocError;
 
 /// An insertion, accepted or refused, keeps the value of every key that has one; the key has the returned value
 /// afterwards, and the flag is true exactly where the key was new, and the content grows by one entry.
-pub fn keeps_earlier_values<'a, M: MapForm<'a>>(
+pub fn keeps_earlier_values<R, M: MapForm<R>>(
     map: &mut M,
     key: M::Key,
     value: M::Value,
-) -> Result<(<M::Value as StableDeref<'a>>::Borrow, bool), AllocError>
+) -> Result<(<M::Value as StableDeref<R>>::Borrow, bool), AllocError>
     ensures kept { Keeps (value_at M.same (M.entries map.old)) (value_at M.same (M.entries map.new)) }
     ensures there { IfOk result (λ r. value_at M.same (M.entries map.new) key ≡ Some r.0) }
     ensures flag { IfOk result (λ r. IsTrue r.1 ↔ (value_at M.same (M.entries map.old) key ≡ None)) }
@@ -30,15 +30,15 @@ pub fn keeps_earlier_values<'a, M: MapForm<'a>>(
 
 /// Of two insertions of one key the second is told that the key wasn't new and returns the first one's value, whatever
 /// is inserted between them, all of which the map then has: in one epoch a key is new at most once.
-pub fn is_new_once<'a, M: MapForm<'a>>(
+pub fn is_new_once<R, M: MapForm<R>>(
     map: &mut M,
     first: (M::Key, M::Value),
     between: Vec<(M::Key, M::Value)>,
     again: (M::Key, M::Value),
 ) -> Result<
     (
-        (<M::Value as StableDeref<'a>>::Borrow, bool),
-        (<M::Value as StableDeref<'a>>::Borrow, bool),
+        (<M::Value as StableDeref<R>>::Borrow, bool),
+        (<M::Value as StableDeref<R>>::Borrow, bool),
     ),
     AllocError,
 >
@@ -68,7 +68,7 @@ pub fn is_new_once<'a, M: MapForm<'a>>(
 
 /// A copy of a map, as `clone` gives, and the map itself are independent of each other: after an insertion into each, each is what the
 /// map was before, with its own insertion alone.
-pub fn inserted_apart<'a, M: MapForm<'a>>(
+pub fn inserted_apart<R, M: MapForm<R>>(
     map: &mut M,
     mut copy: M,
     one: (M::Key, M::Value),

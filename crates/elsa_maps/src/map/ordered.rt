@@ -29,17 +29,23 @@ use std::ops::{Index, RangeBounds};
 /// A map in which the first value of a key stays, and whose keys are in order.
 ///
 /// Each value is placed in the arena that the map was made over, and returned as a borrow with the arena's lifetime: the borrow
-/// outlasts later insertions and the map itself. The tree of the entries is in memory of the allocator `A`.
+/// outlasts later insertions and the map itself. The tree of the entries is in memory of the allocator `A`, and `P` is the allocator of the arena.
 ///
 /// Keys need `Ord` and nothing else; two keys are one where they compare `Equal`.
-pub struct FrozenBTreeMap<'a, K: Ord, V: StableDeref<'a>, A: Allocator + Copy = Global> {
+pub struct FrozenBTreeMap<'a, K: Ord, V, A: Allocator + Copy = Global, P: Allocator = Global>
+where
+    V: StableDeref<&'a Bump<P>>,
+{
     alloc: A,
-    arena: &'a Bump,
+    arena: &'a Bump<P>,
     entries: BTreeMap<K, V::Borrow, A>,
     of: PhantomData<V>,
 }
 
-impl<'a, K: Ord, V: StableDeref<'a>, A: Allocator + Copy> Model for FrozenBTreeMap<'a, K, V, A> {
+impl<'a, K: Ord, V, A: Allocator + Copy, P: Allocator> Model for FrozenBTreeMap<'a, K, V, A, P>
+where
+    V: StableDeref<&'a Bump<P>>,
+{
     ghost use Rattle.std.specs.Prelude.{List};
 
     ghost Value = { List (K × V.Borrow) };
@@ -47,8 +53,8 @@ impl<'a, K: Ord, V: StableDeref<'a>, A: Allocator + Copy> Model for FrozenBTreeM
     ghost view = { λ m. m.entries.entries };
 }
 
-impl<'a, K: Ord + Drop, V: StableDeref<'a>, A: Allocator + Copy> Drop
-    for FrozenBTreeMap<'a, K, V, A> {
+impl<'a, K: Ord + Drop, P: Allocator, V: StableDeref<&'a Bump<P>>, A: Allocator + Copy> Drop
+    for FrozenBTreeMap<'a, K, V, A, P> {
     fn drop(self) {
         let FrozenBTreeMap {
             alloc: _alloc,
@@ -59,11 +65,17 @@ impl<'a, K: Ord + Drop, V: StableDeref<'a>, A: Allocator + Copy> Drop
     }
 }
 
-impl<'a, K: Ord, V: StableDeref<'a>, A: Allocator + Copy> FrozenBTreeMap<'a, K, V, A> {
+impl<'a, K: Ord, P: Allocator, V: StableDeref<&'a Bump<P>>, A: Allocator + Copy> FrozenBTreeMap<
+    'a,
+    K,
+    V,
+    A,
+    P,
+> {
     /// An empty map, over `arena` for its values and `alloc` for its tree.
     ///
     /// Takes no memory.
-    pub fn new(alloc: A, arena: &'a Bump) -> Self
+    pub fn new(alloc: A, arena: &'a Bump<P>) -> Self
         ensures { result ≡ [] }
     {
         FrozenBTreeMap::from_map(alloc, arena, BTreeMap::new(alloc))
@@ -73,7 +85,7 @@ impl<'a, K: Ord, V: StableDeref<'a>, A: Allocator + Copy> FrozenBTreeMap<'a, K, 
     ///
     /// Takes no memory. `alloc` is for the memory that [`clone`](FrozenBTreeMap::clone) and
     /// [`into_tuple_vec`](FrozenBTreeMap::into_tuple_vec) take: std's map can't be asked for its allocator.
-    pub fn from_map(alloc: A, arena: &'a Bump, map: BTreeMap<K, V::Borrow, A>) -> Self
+    pub fn from_map(alloc: A, arena: &'a Bump<P>, map: BTreeMap<K, V::Borrow, A>) -> Self
         ensures { result ≡ map.entries }
     {
         FrozenBTreeMap {
@@ -208,15 +220,21 @@ impl<'a, K: Ord, V: StableDeref<'a>, A: Allocator + Copy> FrozenBTreeMap<'a, K, 
 
     /// The inner map, borrowed for writing: it may change or remove anything, and what it leaves is a new base.
     pub fn as_mut(&mut self) -> &mut BTreeMap<K, V::Borrow, A>
-        ensures* writes_back { sem 𝓛 (lends_tree K.row V.row A.row V.Borrow.row K.Ord V.HasTarget
-            A.Allocator self.entry result) }
+        ensures* writes_back { sem 𝓛 (lends_tree K.row V.row A.row P.row V.Borrow.row K.Ord
+            V.HasTarget A.Allocator P.Allocator self.entry result) }
         ensures content { result.now.entries ≡ self.old }
     {
         &mut self.entries
     }
 }
 
-impl<'a, K: Ord + Drop, V: StableDeref<'a>, A: Allocator + Copy> FrozenBTreeMap<'a, K, V, A> {
+impl<
+    'a,
+    K: Ord + Drop,
+    P: Allocator,
+    V: StableDeref<&'a Bump<P>>,
+    A: Allocator + Copy,
+> FrozenBTreeMap<'a, K, V, A, P> {
     /// Gives `key` the value, unless the map has a key that equals it, and returns the value that the key now has and
     /// whether the key was new.
     ///
@@ -288,7 +306,7 @@ impl<'a, K: Ord + Drop, V: StableDeref<'a>, A: Allocator + Copy> FrozenBTreeMap<
     /// Which of several equal keys the map then shows is left open.
     pub fn from_iter<I: IntoIterator<Item = (K, V)>>(
         alloc: A,
-        arena: &'a Bump,
+        arena: &'a Bump<P>,
         pairs: I,
     ) -> Result<Self, AllocError>
         requires ends { (s : I.IntoIter) → I.into_iter_gives pairs s →
@@ -345,11 +363,12 @@ fn insert_placed<
     'a,
     K: Ord + Drop,
     B: Copy,
-    V: StableDeref<'a, Borrow = B>,
+    P: Allocator,
+    V: StableDeref<&'a Bump<P>, Borrow = B>,
     A: Allocator + Copy,
 >(
     tree: &'x mut BTreeMap<K, B, A>,
-    arena: &'a Bump,
+    arena: &'a Bump<P>,
     key: K,
     value: V,
 ) -> Result<(B, bool), AllocError>
@@ -388,7 +407,13 @@ fn insert_placed<
     Ok((*kept, true))
 }
 
-impl<'a, V: StableDeref<'a>, A: Allocator + Copy> FrozenBTreeMap<'a, &'a str, V, A> {
+impl<'a, P: Allocator, V: StableDeref<&'a Bump<P>>, A: Allocator + Copy> FrozenBTreeMap<
+    'a,
+    &'a str,
+    V,
+    A,
+    P,
+> {
     /// The value at the text `key`, or `None` exactly if no key of the map reads the same. Takes no memory; one search.
     pub fn get_text(&self, key: &str) -> Option<V::Borrow>
         ensures { result ≡ value_at (eq_by_cmp ⟦<&'a str as Ord>⟧.cmp) self.now key.entry }
@@ -429,12 +454,13 @@ impl<'a, V: StableDeref<'a>, A: Allocator + Copy> FrozenBTreeMap<'a, &'a str, V,
     }
 }
 
-impl<'a, B: Allocator, V: StableDeref<'a>, A: Allocator + Copy> FrozenBTreeMap<
+impl<
     'a,
-    String<B>,
-    V,
-    A,
-> {
+    B: Allocator,
+    P: Allocator,
+    V: StableDeref<&'a Bump<P>>,
+    A: Allocator + Copy,
+> FrozenBTreeMap<'a, String<B>, V, A, P> {
     /// The value at the text `key`, or `None` exactly if no key of the map reads the same: [`get`](FrozenBTreeMap::get) without a
     /// `String`. Takes no memory; one search.
     pub fn get_text(&self, key: &str) -> Option<V::Borrow>
@@ -446,8 +472,8 @@ impl<'a, B: Allocator, V: StableDeref<'a>, A: Allocator + Copy> FrozenBTreeMap<
     }
 }
 
-impl<'a, 'q, K: Ord, V: StableDeref<'a>, A: Allocator + Copy> Index<&'q K>
-    for FrozenBTreeMap<'a, K, V, A> {
+impl<'a, 'q, K: Ord, P: Allocator, V: StableDeref<&'a Bump<P>>, A: Allocator + Copy> Index<&'q K>
+    for FrozenBTreeMap<'a, K, V, A, P> {
     type Output = V::Borrow;
 
     ghost can_index = { λ m k. IsSome (value_at (eq_by_cmp K.cmp) m k.now) };
@@ -460,10 +486,10 @@ impl<'a, 'q, K: Ord, V: StableDeref<'a>, A: Allocator + Copy> Index<&'q K>
 }
 
 /// `{:?}` writes the entries, ascending by key, as of a `BTreeMap`: `{1: "x", 2: "y"}`.
-impl<'a, K: Ord + Debug, V: StableDeref<'a>, A: Allocator + Copy> Debug
-    for FrozenBTreeMap<'a, K, V, A>
+impl<'a, K: Ord + Debug, P: Allocator, V: StableDeref<&'a Bump<P>>, A: Allocator + Copy> Debug
+    for FrozenBTreeMap<'a, K, V, A, P>
 where
-    <V as StableDeref<'a>>::Borrow: Debug,
+    <V as StableDeref<&'a Bump<P>>>::Borrow: Debug,
 {
     fn fmt<W: Write>(&self, f: &mut Formatter<W>) -> fmt::Result {
         self.entries.fmt(f)
@@ -471,7 +497,8 @@ where
 }
 
 // Two maps are equal where each key has equal values in both, or none in either.
-impl<'a, K: Ord, V: StableDeref<'a>, A: Allocator + Copy> PartialEq for FrozenBTreeMap<'a, K, V, A>
+impl<'a, K: Ord, P: Allocator, V: StableDeref<&'a Bump<P>>, A: Allocator + Copy> PartialEq
+    for FrozenBTreeMap<'a, K, V, A, P>
 where
     V::Borrow: PartialEq,
 {
@@ -490,7 +517,8 @@ where
     }
 }
 
-impl<'a, K: Ord, V: StableDeref<'a>, A: Allocator + Copy> Eq for FrozenBTreeMap<'a, K, V, A>
+impl<'a, K: Ord, P: Allocator, V: StableDeref<&'a Bump<P>>, A: Allocator + Copy> Eq
+    for FrozenBTreeMap<'a, K, V, A, P>
 where
     V::Borrow: Eq,
 {

@@ -5,6 +5,7 @@ ghost use Rattle.std.specs.Iterator.SizeHint.{IsWithinCount};
 
 use crate::stable::StableDeref;
 use crate::vec::FrozenVec;
+use bumpalo::Bump;
 use std::alloc::{Allocator, Global};
 use std::marker::Model;
 
@@ -35,9 +36,9 @@ impl Cursor {
     /// The item at the cursor's place; the cursor then moves on by one.
     ///
     /// At the end it returns None and keeps its place, so it goes on after a later push. Asked of a vector with fewer items than its place, it returns None.
-    pub fn next<'a, T: StableDeref<'a>, A: Allocator + Copy>(
+    pub fn next<'a, P: Allocator, T: StableDeref<&'a Bump<P>>, A: Allocator + Copy>(
         &mut self,
-        items: &FrozenVec<'a, T, A>,
+        items: &FrozenVec<'a, T, A, P>,
     ) -> Option<T::Borrow>
         ensures item { result ≡ slice_get items.now self.old }
         ensures place { self.new ≡ (if is_some result then self.old + 1 else self.old) }
@@ -54,14 +55,20 @@ impl Cursor {
 
 /// Gives the items of a vector, in order or from the back; contracts see it as the list of the items that are left.
 #[derive(Drop)]
-pub struct Iter<'v, 'a, T: StableDeref<'a>, A: Allocator + Copy = Global> {
-    items: &'v FrozenVec<'a, T, A>,
+pub struct Iter<'v, 'a, T, A: Allocator + Copy = Global, P: Allocator = Global>
+where
+    T: StableDeref<&'a Bump<P>>,
+{
+    items: &'v FrozenVec<'a, T, A, P>,
     place: usize,
     end: usize,
 }
 
 // An iterator is the list of the items from its place to its end.
-impl<'v, 'a, T: StableDeref<'a>, A: Allocator + Copy> Model for Iter<'v, 'a, T, A> {
+impl<'v, 'a, T, A: Allocator + Copy, P: Allocator> Model for Iter<'v, 'a, T, A, P>
+where
+    T: StableDeref<&'a Bump<P>>,
+{
     ghost use Rattle.std.specs.Prelude.{List, ◌-◌, ◌≤◌, drop, length, take};
 
     ghost Value = { List T.Borrow };
@@ -71,8 +78,8 @@ impl<'v, 'a, T: StableDeref<'a>, A: Allocator + Copy> Model for Iter<'v, 'a, T, 
     ghost invariant = { λ it. (it.place ≤ it.end) × (it.end ≤ length it.items.now) };
 }
 
-impl<'v, 'a, T: StableDeref<'a>, A: Allocator + Copy> Iter<'v, 'a, T, A> {
-    pub(crate) fn new(items: &'v FrozenVec<'a, T, A>) -> Self
+impl<'v, 'a, P: Allocator, T: StableDeref<&'a Bump<P>>, A: Allocator + Copy> Iter<'v, 'a, T, A, P> {
+    pub(crate) fn new(items: &'v FrozenVec<'a, T, A, P>) -> Self
         ensures { result ≡ items.now }
     {
         Iter {
@@ -83,7 +90,8 @@ impl<'v, 'a, T: StableDeref<'a>, A: Allocator + Copy> Iter<'v, 'a, T, A> {
     }
 }
 
-impl<'v, 'a, T: StableDeref<'a>, A: Allocator + Copy> Iterator for Iter<'v, 'a, T, A> {
+impl<'v, 'a, P: Allocator, T: StableDeref<&'a Bump<P>>, A: Allocator + Copy> Iterator
+    for Iter<'v, 'a, T, A, P> {
     type Item = T::Borrow;
 
     ghost next_gives = { YieldsFirst (λ left. left) };
@@ -109,7 +117,8 @@ impl<'v, 'a, T: StableDeref<'a>, A: Allocator + Copy> Iterator for Iter<'v, 'a, 
     }
 }
 
-impl<'v, 'a, T: StableDeref<'a>, A: Allocator + Copy> DoubleEndedIterator for Iter<'v, 'a, T, A> {
+impl<'v, 'a, P: Allocator, T: StableDeref<&'a Bump<P>>, A: Allocator + Copy> DoubleEndedIterator
+    for Iter<'v, 'a, T, A, P> {
     ghost next_back_gives = { YieldsLast (λ left. left) };
 
     fn next_back(&mut self) -> Option<T::Borrow> {
@@ -121,7 +130,8 @@ impl<'v, 'a, T: StableDeref<'a>, A: Allocator + Copy> DoubleEndedIterator for It
     }
 }
 
-impl<'v, 'a, T: StableDeref<'a>, A: Allocator + Copy> ExactSizeIterator for Iter<'v, 'a, T, A> {
+impl<'v, 'a, P: Allocator, T: StableDeref<&'a Bump<P>>, A: Allocator + Copy> ExactSizeIterator
+    for Iter<'v, 'a, T, A, P> {
     fn len(&self) -> usize {
         self.end - self.place
     }

@@ -2,7 +2,7 @@ use Rattle.std.proofs.Common.{ap, is_none, ◌∙◌}
 use Rattle.std.proofs.lemmas.Result.{IfOk-weaker}
 use Rattle.elsa_index.proofs.Content.{no_place}
 use Rattle.elsa_index.proofs.Form.{adds_pair}
-use Rattle.elsa_index.proofs.map_form.FrozenIndexMapMapForm.insert_new.Goals as goal
+use Rattle.elsa_index.proofs.map_form.FrozenIndexMapMapFormRefBump.insert_new.Goals as goal
 
 pub returns-clause-new_flag : goal.returns-clause-new_flag
 returns-clause-new_flag g c = λ none. IfOk-weaker c.insert_new.result _ _ (λ r h. h.1.1 ∙ ap is_none (no_place g.K.PartialEq.eq _ _ none)) c.insert_new.ensures.accepted

@@ -1,6 +1,6 @@
 use Rattle.std.proofs.lemmas.Result.{IfOk-weaker}
 use Rattle.elsa_index.proofs.Form.{adds_pair}
-use Rattle.elsa_index.proofs.map_form.FrozenIndexMapMapForm.insert.Goals as goal
+use Rattle.elsa_index.proofs.map_form.FrozenIndexMapMapFormRefBump.insert.Goals as goal
 
 pub returns-clause-new_target : goal.returns-clause-new_target
 returns-clause-new_target g c = λ none. IfOk-weaker c.insert.result _ _ (λ r h. (adds_pair g.K.PartialEq.eq g.met.K.Eq.laws g.V.HasTarget.target g.V.HasTarget.shown _ _ _ _ h.0 r none h.1).0) c.insert.ensures.accepted
