@@ -9,10 +9,9 @@ use crate::chunk::Chunk;
 use crate::devices::{Failed, Sink, Source};
 use crate::interner::Interner;
 use crate::pending::Pending;
-use crate::reply::{Reply, answer_to, text_of};
+use crate::reply::{Reply, answer_to, push_reply};
 use crate::request::{Request, request_of};
 use bumpalo::Bump;
-use itoa::Buffer;
 use std::alloc::Allocator;
 use std::hash::{BuildHasher, BuildHasherDefault, FoldHasher};
 
@@ -143,7 +142,6 @@ impl<'a, S: BuildHasher, A: Allocator + Copy> Session<'a, S, A> {
             (C.bytes chunk) (W.held writer.old) out.old (W.held writer.new)) }
         ensures failed { OnErr result (FailedOnce (W.failures writer.old) (W.failures writer.new)) }
     {
-        let mut digits = Buffer::new();
         let mut rest = chunk;
         let mut guesses = [usize::MAX; AHEAD];
         let mut turn = AHEAD;
@@ -154,7 +152,7 @@ impl<'a, S: BuildHasher, A: Allocator + Copy> Session<'a, S, A> {
             }
             let guess = if is_ahead { guesses[turn] } else { usize::MAX };
             let answer = self.finish(end, guess);
-            out.push_line(writer, text_of(answer, &mut digits))?;
+            push_reply(out, writer, answer)?;
             rest = later;
             turn = turn.wrapping_add(1);
         }
@@ -225,8 +223,7 @@ impl<'a, S: BuildHasher, A: Allocator + Copy> Session<'a, S, A> {
         }
         let none: &[u8] = &[];
         let answer = self.finish(none, usize::MAX);
-        let mut digits = Buffer::new();
-        out.push_line(writer, text_of(answer, &mut digits))?;
+        push_reply(out, writer, answer)?;
         out.flush(writer)
     }
 }
