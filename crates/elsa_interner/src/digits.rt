@@ -34,7 +34,7 @@ static PAIRS: [u8; 200] =
 pub const SHORT: usize = 100_000_000;
 
 /// How many bytes [`number_line`] is read in.
-pub const LINE: usize = 16;
+pub const LINE: usize = 9;
 
 /// How many digits a number has. No processor could foretell it, so nothing branches: each choice is of two numbers that are known.
 #[tactic(auto, using(itoa::proofs::Decimal::length_four, itoa::proofs::Decimal::length_pair, itoa::proofs::Decimal::length_two, itoa::proofs::Decimal::length_one))]
@@ -42,7 +42,7 @@ pub const LINE: usize = 16;
 pub fn digit_count(n: usize) -> usize
     requires { n < SHORT }
     ensures length { result ≡ length (decimal n) }
-    ensures few { result ≤ 8 }
+    ensures few { (1 ≤ result) × (result ≤ 8) }
 {
     let (four, short) = if n >= 10_000 { (4, n / 10_000) } else { (0, n) };
     let (two, last) = if short >= 100 {
@@ -66,7 +66,7 @@ fn pair(number: usize) -> [u8; 2]
 
 /// The number in eight digits, with zeros in front, and byte 10 behind them. What lies behind that is there to be read and means nothing.
 #[inline(always)]
-pub fn number_line(n: usize) -> [u8; 24]
+pub fn number_line(n: usize) -> [u8; 16]
     requires { n < SHORT }
     ensures { take (length (decimal n) + 1) (drop (8 - length (decimal n)) result)
         ≡ decimal n ++ (10 ∷ []) }
@@ -74,7 +74,5 @@ pub fn number_line(n: usize) -> [u8; 24]
     let (high, low) = (n / 10_000, n % 10_000);
     let ([a, b], [c, d]) = (pair(high / 100), pair(high % 100));
     let ([e, f], [g, h]) = (pair(low / 100), pair(low % 100));
-    [
-        a, b, c, d, e, f, g, h, b'\n', 0, 0, 0, 0, 0, 0, 0, 0, 0, 0, 0, 0, 0, 0, 0,
-    ]
+    [a, b, c, d, e, f, g, h, b'\n', 0, 0, 0, 0, 0, 0, 0]
 }

@@ -14,4 +14,4 @@ returns c =
     let d5 : n % 10000 / 100 % 10 ≡ n / 10 / 10 % 10 = omega (arith, short) in
     let d6 : n % 10000 % 100 / 10 ≡ n / 10 % 10 = omega (arith, short) in
     let d7 : n % 10000 % 100 % 10 ≡ n % 10 = omega (arith, short) in
-    rw (c.pair.ensures, c.pair-2.ensures, c.pair-3.ensures, c.pair-4.ensures, d0, d1, d2, d3, d4, d5, d6, d7) (line_behind_zeros n (0 ∷ 0 ∷ 0 ∷ 0 ∷ 0 ∷ 0 ∷ 0 ∷ 0 ∷ 0 ∷ 0 ∷ 0 ∷ 0 ∷ 0 ∷ 0 ∷ 0 ∷ []) short c.ranges.n.fits)
+    rw (c.pair.ensures, c.pair-2.ensures, c.pair-3.ensures, c.pair-4.ensures, d0, d1, d2, d3, d4, d5, d6, d7) (line_behind_zeros n (0 ∷ 0 ∷ 0 ∷ 0 ∷ 0 ∷ 0 ∷ 0 ∷ []) short c.ranges.n.fits)
