@@ -76,11 +76,11 @@ impl<'a, S: BuildHasher, A: Allocator + Copy> Session<'a, S, A> {
         guesses
     }
 
-    /// The answer to the line that has begun and ends so; a name that it puts may be at `guess`.
-    #[inline(always)]
-    fn finish<C: Chunk>(&mut self, end: C, guess: usize) -> Reply<'a>
+    /// The answer to the line that has begun in a piece before and ends so, or that is skipped.
+    #[inline(never)]
+    fn finish_begun(&mut self, end: &[u8]) -> Reply<'a>
         ensures finished { IsFinished self.old.names self.old.line.items self.old.skips
-            (C.bytes end) (shown result) self.new.names }
+            end.now (shown result) self.new.names }
         ensures line { self.new.line.items ≡ [] }
         ensures skips { self.new.skips ≡ false }
     {
@@ -89,16 +89,28 @@ impl<'a, S: BuildHasher, A: Allocator + Copy> Session<'a, S, A> {
             self.line.clear();
             return Reply::NoMemory;
         }
-        if self.line.is_empty() {
-            return answer_to(&mut self.names, end.request(), guess);
-        }
-        if self.line.extend_from_slice(end.as_bytes()).is_err() {
+        if self.line.extend_from_slice(end).is_err() {
             self.line.clear();
             return Reply::NoMemory;
         }
-        let answer = answer_to(&mut self.names, request_of(self.line.as_slice()), guess);
+        let request = request_of(self.line.as_slice());
+        let answer = answer_to(&mut self.names, request, usize::MAX);
         self.line.clear();
         answer
+    }
+
+    /// The answer to the line that has begun and ends so; a name that it puts may be at `guess`.
+    #[inline(always)]
+    fn finish<C: Chunk>(&mut self, end: C, guess: usize) -> Reply<'a>
+        ensures finished { IsFinished self.old.names self.old.line.items self.old.skips
+            (C.bytes end) (shown result) self.new.names }
+        ensures line { self.new.line.items ≡ [] }
+        ensures skips { self.new.skips ≡ false }
+    {
+        if self.skips || !self.line.is_empty() {
+            return self.finish_begun(end.as_bytes());
+        }
+        answer_to(&mut self.names, end.request(), guess)
     }
 
     /// Keeps a piece of a line that goes on. The rest of a line that was refused memory isn't kept, and takes none.
