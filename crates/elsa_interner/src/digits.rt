@@ -31,15 +31,15 @@ static PAIRS: [u8; 200] =
     *b"00010203040506070809101112131415161718192021222324252627282930313233343536373839404142434445464748495051525354555657585960616263646566676869707172737475767778798081828384858687888990919293949596979899";
 
 /// The numbers below this one have at most eight digits.
-pub const SHORT: usize = 100_000_000;
+pub(crate) const SHORT: usize = 100_000_000;
 
-/// How many bytes [`number_line`] is read in.
-pub const LINE: usize = 9;
+/// How many bytes of a [`number_line`] are copied: at most eight digits, byte 10, and what lies behind a shorter number.
+pub(crate) const LINE: usize = 9;
 
 /// How many digits a number has. No processor could foretell it, so nothing branches: each choice is of two numbers that are known.
 #[tactic(auto, using(itoa::proofs::Decimal::length_four, itoa::proofs::Decimal::length_pair, itoa::proofs::Decimal::length_two, itoa::proofs::Decimal::length_one))]
 #[inline(always)]
-pub fn digit_count(n: usize) -> usize
+pub(crate) fn digit_count(n: usize) -> usize
     requires { n < SHORT }
     ensures length { result ≡ length (decimal n) }
     ensures few { (1 ≤ result) × (result ≤ 8) }
@@ -66,7 +66,7 @@ fn pair(number: usize) -> [u8; 2]
 
 /// The number in eight digits, with zeros in front, and byte 10 behind them. What lies behind that is there to be read and means nothing.
 #[inline(always)]
-pub fn number_line(n: usize) -> [u8; 16]
+pub(crate) fn number_line(n: usize) -> [u8; 16]
     requires { n < SHORT }
     ensures { take (length (decimal n) + 1) (drop (8 - length (decimal n)) result)
         ≡ decimal n ++ (10 ∷ []) }

@@ -1,5 +1,3 @@
-use Rattle.std.proofs.Common.{◌/◌, ◌%◌, ◌^◌, ap, ◌∙◌}
-use Rattle.std.specs.Int.Bits.{bit_xor}
 use Rattle.std.proofs.lemmas.Nat.{and_mask}
 use Rattle.elsa_interner.specs.Names.{text_hash}
 use Rattle.elsa_interner.proofs.interner.name_hash.Goals as goal
