@@ -1,4 +1,5 @@
 mod FirstCharacters
+mod DigitLemmas
 pub mod EngineLemmas
 pub mod NameLemmas
 pub mod ReplyLemmas

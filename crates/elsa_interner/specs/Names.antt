@@ -2,8 +2,6 @@
 -- The names are one list of texts, each text as its bytes; a name's number is its place in that list.
 -- What a `put` answers is told by where the list has the text before the call, so no table and no arena occurs.
 use Rattle.std.specs.Prelude.{◌≡◌, ℕ, ◌<◌, ◌/◌, ◌%◌, ◌^◌, List, [], ◌∷◌, ◌++◌, length, position, slice_get, Some, MatchOption, bit_xor}
-use Rattle.std.specs.Hash as written
-use Rattle.std.specs.List.{fold}
 use Rattle.std.specs.Str.{bytes_eq}
 use Rattle.std.specs.declared.hash.BuildHasher as builder
 use Rattle.std.specs.declared.hash.Hasher as hasher
@@ -19,10 +17,10 @@ Puts names text n after = MatchOption (position (bytes_eq text) names)
 abbrev pub IsOneToOne : List (List ℕ) → Type 0
 IsOneToOne names = (i j : ℕ) (text : List ℕ) → slice_get names i ≡ Some text → slice_get names j ≡ Some text → i ≡ j
 
--- the hash that a table has a text under: the two halves of what the hasher finishes with, joined by xor
+-- the hash that a table has a text under: the two halves of what the hasher finishes with behind the text's bytes, joined by xor
 unfoldable pub text_hash : {S H : Type 0} → builder.Ghosts S H → hasher.Ghosts H → S → List ℕ → ℕ
 text_hash b h state text =
-    let hash = h.finish (fold h.write (b.build_hasher state) (written.str text)) in
+    let hash = h.finish (h.write (b.build_hasher state) text) in
     bit_xor hash (hash / 2 ^ 32) % 2 ^ 32
 
 -- a table has each name's place under the name's hash, and no place besides; no two names are equal

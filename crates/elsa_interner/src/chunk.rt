@@ -45,18 +45,22 @@ fn near_end(piece: &[u8]) -> usize
     ends.trailing_zeros() as usize
 }
 
-/// The place of the first byte 10. Most lines are short, so the first sixteen bytes are looked at by themselves, all at once.
+/// The place of the first byte 10, or else how many bytes there are. Most lines are short, so the first sixteen bytes are looked at by themselves, all at
+/// once.
 #[inline(always)]
-fn line_end(piece: &[u8]) -> Option<usize>
-    ensures { IsFirstByte (is_byte 10) piece.now result }
+fn line_end(piece: &[u8]) -> usize
+    ensures within { result ≤ length piece.now }
+    ensures before { (k : ℕ) → k < result → is_byte 10 (slice_index piece.now k) ≡ false }
+    ensures there { result < length piece.now →
+        is_byte 10 (slice_index piece.now result) ≡ true }
 {
     if piece.len() >= 16 {
         let near = near_end(piece);
         if near < 16 {
-            return Some(near);
+            return near;
         }
     }
-    memchr(10, piece)
+    memchr(10, piece).unwrap_or(piece.len())
 }
 
 /// A line up to its byte 10, and what follows.
@@ -65,7 +69,10 @@ fn cut_line(piece: &[u8]) -> Option<(&[u8], &[u8])>
     ensures { MatchOption result (IsInside piece.now) (λ p.
         IsInside p.0.now × (piece.now ≡ p.0.now ++ (10 ∷ p.1.now))) }
 {
-    let at = line_end(piece)?;
+    let at = line_end(piece);
+    if at == piece.len() {
+        return None;
+    }
     Some((&piece[..at], &piece[at + 1..]))
 }
 

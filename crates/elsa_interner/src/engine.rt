@@ -9,10 +9,9 @@ use crate::chunk::Chunk;
 use crate::devices::{Failed, Sink, Source};
 use crate::interner::Interner;
 use crate::pending::Pending;
-use crate::reply::{Reply, answer_to, text_of};
+use crate::reply::{Reply, answer_to, push_reply};
 use crate::request::{Request, request_of};
 use bumpalo::Bump;
-use itoa::Buffer;
 use std::alloc::Allocator;
 use std::hash::{BuildHasher, BuildHasherDefault, FoldHasher};
 
@@ -77,11 +76,11 @@ impl<'a, S: BuildHasher, A: Allocator + Copy> Session<'a, S, A> {
         guesses
     }
 
-    /// The answer to the line that has begun and ends so; a name that it puts may be at `guess`.
-    #[inline(always)]
-    fn finish<C: Chunk>(&mut self, end: C, guess: usize) -> Reply<'a>
+    /// The answer to the line that has begun in a piece before and ends so, or that is skipped.
+    #[inline(never)]
+    fn finish_begun(&mut self, end: &[u8]) -> Reply<'a>
         ensures finished { IsFinished self.old.names self.old.line.items self.old.skips
-            (C.bytes end) (shown result) self.new.names }
+            end.now (shown result) self.new.names }
         ensures line { self.new.line.items ≡ [] }
         ensures skips { self.new.skips ≡ false }
     {
@@ -90,16 +89,28 @@ impl<'a, S: BuildHasher, A: Allocator + Copy> Session<'a, S, A> {
             self.line.clear();
             return Reply::NoMemory;
         }
-        if self.line.is_empty() {
-            return answer_to(&mut self.names, end.request(), guess);
-        }
-        if self.line.extend_from_slice(end.as_bytes()).is_err() {
+        if self.line.extend_from_slice(end).is_err() {
             self.line.clear();
             return Reply::NoMemory;
         }
-        let answer = answer_to(&mut self.names, request_of(self.line.as_slice()), guess);
+        let request = request_of(self.line.as_slice());
+        let answer = answer_to(&mut self.names, request, usize::MAX);
         self.line.clear();
         answer
+    }
+
+    /// The answer to the line that has begun and ends so; a name that it puts may be at `guess`.
+    #[inline(always)]
+    fn finish<C: Chunk>(&mut self, end: C, guess: usize) -> Reply<'a>
+        ensures finished { IsFinished self.old.names self.old.line.items self.old.skips
+            (C.bytes end) (shown result) self.new.names }
+        ensures line { self.new.line.items ≡ [] }
+        ensures skips { self.new.skips ≡ false }
+    {
+        if self.skips || !self.line.is_empty() {
+            return self.finish_begun(end.as_bytes());
+        }
+        answer_to(&mut self.names, end.request(), guess)
     }
 
     /// Keeps a piece of a line that goes on. The rest of a line that was refused memory isn't kept, and takes none.
@@ -143,7 +154,6 @@ impl<'a, S: BuildHasher, A: Allocator + Copy> Session<'a, S, A> {
             (C.bytes chunk) (W.held writer.old) out.old (W.held writer.new)) }
         ensures failed { OnErr result (FailedOnce (W.failures writer.old) (W.failures writer.new)) }
     {
-        let mut digits = Buffer::new();
         let mut rest = chunk;
         let mut guesses = [usize::MAX; AHEAD];
         let mut turn = AHEAD;
@@ -154,7 +164,7 @@ impl<'a, S: BuildHasher, A: Allocator + Copy> Session<'a, S, A> {
             }
             let guess = if is_ahead { guesses[turn] } else { usize::MAX };
             let answer = self.finish(end, guess);
-            out.push_line(writer, text_of(answer, &mut digits))?;
+            push_reply(out, writer, answer)?;
             rest = later;
             turn = turn.wrapping_add(1);
         }
@@ -225,8 +235,7 @@ impl<'a, S: BuildHasher, A: Allocator + Copy> Session<'a, S, A> {
         }
         let none: &[u8] = &[];
         let answer = self.finish(none, usize::MAX);
-        let mut digits = Buffer::new();
-        out.push_line(writer, text_of(answer, &mut digits))?;
+        push_reply(out, writer, answer)?;
         out.flush(writer)
     }
 }

@@ -18,16 +18,19 @@ use bumpalo::Bump;
 use elsa_table::table::{PlaceTable, Vacancy};
 use std::alloc::{AllocError, Allocator, Global};
 use std::fmt::{self, Debug, Formatter, Write};
-use std::hash::{BuildHasher, BuildHasherDefault, FoldHasher};
+use std::hash::{BuildHasher, BuildHasherDefault, FoldHasher, Hasher};
 use std::marker::Model;
 use std::slice::Iter;
 
-/// The hash of a text, of 32 bits.
+/// The hash of a text, of 32 bits. The hasher is given its bytes alone: std's hash of a text has byte 255 behind them, which parts a text from what follows, and
+/// here nothing does.
 #[inline(always)]
 fn name_hash<S: BuildHasher>(hash_builder: &S, text: &str) -> u32
     ensures { result ≡ text_hash S.BuildHasher S.Hasher.Hasher hash_builder.now text.now }
 {
-    let hash = hash_builder.hash_one(text);
+    let mut hasher = hash_builder.build_hasher();
+    hasher.write(text.as_bytes());
+    let hash = hasher.finish();
     ((hash ^ (hash >> 32)) & 0xFFFF_FFFF) as u32
 }
 
@@ -117,7 +120,7 @@ impl<'a, S: BuildHasher, A: Allocator + Copy> Interner<'a, S, A> {
     /// The number of a name, or `None` if `put` never kept it.
     ///
     /// Takes no memory. `O(1)` hashed.
-    #[inline(always)]
+    #[inline]
     pub fn find(&self, text: &str) -> Option<usize>
         ensures place { result ≡ position (bytes_eq text.now) self.now }
         ensures named { IfSome result (λ n. slice_get self.now n ≡ Some text.now) }

@@ -1,9 +1,12 @@
 //! Answers that wait to be written, in an array of a fixed size: small answers become large writes, and none takes memory.
-ghost use Rattle.std.specs.Prelude.{◌≡◌, [], ◌∷◌, ◌++◌, ◌≤◌, ◌+◌, length, OnOk, OnErr};
+ghost use Rattle.std.specs.Prelude.{◌≡◌, [], ◌∷◌, ◌++◌, ◌≤◌, ◌<◌, ◌+◌, length, OnOk, OnErr};
+ghost use Rattle.std.specs.Fmt.{decimal};
 ghost use Rattle.std.specs.Io.KnownBytes.{Appends};
 ghost use Rattle.elsa_interner.specs.Devices.{FailedOnce, AppendsSome, Queued};
 
 use crate::devices::{Failed, Sink};
+use crate::digits::{LINE, SHORT, digit_count, number_line};
+use itoa::Buffer;
 use std::marker::Model;
 
 /// How many bytes may wait.
@@ -94,6 +97,38 @@ impl Pending {
             return Ok(());
         }
         write_all(writer, piece)
+    }
+
+    /// Adds the line of a number.
+    #[inline(always)]
+    fn add_number(&mut self, n: usize)
+        requires short { n < SHORT }
+        requires room { length self.old + LINE ≤ ROOM }
+        ensures { self.new ≡ self.old ++ (decimal n ++ (10 ∷ [])) }
+    {
+        let count = digit_count(n);
+        let from = 8 - count;
+        let line = number_line(n);
+        self.bytes[self.len..self.len + LINE].copy_from_slice(&line[from..from + LINE]);
+        self.len += count + 1;
+    }
+
+    /// Adds a line: a number, and byte 10 behind it.
+    #[inline(always)]
+    pub fn push_number<W: Sink>(&mut self, writer: &mut W, n: usize) -> Result<(), Failed>
+        ensures ok { OnOk result (Queued (W.held writer.old) self.old (W.held writer.new) self.new
+            (decimal n ++ (10 ∷ []))) }
+        ensures calm { OnOk result (W.failures writer.new ≡ W.failures writer.old) }
+        ensures err { OnErr result (AppendsSome (W.held writer.old) (W.held writer.new)
+            (self.old ++ (decimal n ++ (10 ∷ [])))) }
+        ensures failed { OnErr result (FailedOnce (W.failures writer.old) (W.failures writer.new)) }
+    {
+        if n < SHORT && self.len <= ROOM - LINE {
+            self.add_number(n);
+            return Ok(());
+        }
+        let mut digits = Buffer::new();
+        self.push_line(writer, digits.format(n).as_bytes())
     }
 
     /// Adds a line: a piece, and byte 10 behind it.

@@ -1,11 +1,13 @@
-//! The answer to a request, and its text.
-ghost use Rattle.std.specs.Prelude.{◌≡◌};
+//! The answer to a request, and its line.
+ghost use Rattle.std.specs.Prelude.{◌≡◌, [], ◌∷◌, ◌++◌, OnOk, OnErr};
+ghost use Rattle.elsa_interner.specs.Devices.{FailedOnce, AppendsSome, Queued};
 ghost use Rattle.elsa_interner.specs.Lines.{Replies};
 ghost use Rattle.elsa_interner.specs.Replies.{asked, shown};
 
+use crate::devices::{Failed, Sink};
 use crate::interner::Interner;
+use crate::pending::Pending;
 use crate::request::Request;
-use itoa::Buffer;
 use std::alloc::Allocator;
 use std::hash::BuildHasher;
 
@@ -52,16 +54,25 @@ pub fn answer_to<'a, S: BuildHasher, A: Allocator + Copy>(
     }
 }
 
-/// The text of a reply, which may lie in `digits`.
+/// Adds a reply as a line to what waits.
 #[inline(always)]
-pub fn text_of<'b>(reply: Reply<'b>, digits: &'b mut Buffer) -> &'b [u8]
-    ensures { result.now ≡ shown reply.entry }
+pub fn push_reply<W: Sink>(
+    out: &mut Pending,
+    writer: &mut W,
+    reply: Reply<'_>,
+) -> Result<(), Failed>
+    ensures ok { OnOk result (Queued (W.held writer.old) out.old (W.held writer.new) out.new
+        (shown reply.entry ++ (10 ∷ []))) }
+    ensures calm { OnOk result (W.failures writer.new ≡ W.failures writer.old) }
+    ensures err { OnErr result (AppendsSome (W.held writer.old) (W.held writer.new)
+        (out.old ++ (shown reply.entry ++ (10 ∷ [])))) }
+    ensures failed { OnErr result (FailedOnce (W.failures writer.old) (W.failures writer.new)) }
 {
     match reply {
-        Reply::Number(n) => digits.format(n).as_bytes(),
-        Reply::Name(name) => name.as_bytes(),
-        Reply::Nothing => b"none",
-        Reply::BadLine => b"bad line",
-        Reply::NoMemory => b"no memory",
+        Reply::Number(n) => out.push_number(writer, n),
+        Reply::Name(name) => out.push_line(writer, name.as_bytes()),
+        Reply::Nothing => out.push_line(writer, b"none"),
+        Reply::BadLine => out.push_line(writer, b"bad line"),
+        Reply::NoMemory => out.push_line(writer, b"no memory"),
     }
 }
