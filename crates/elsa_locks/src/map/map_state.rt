@@ -94,7 +94,7 @@ where
         IsInserted K.eq (shown table.old.entries) key value (shown table.new.entries)) }
     ensures length { OnOk result (
         length (shown table.new.entries) ≡ length (shown table.old.entries) + 1) }
-    ensures err { OnErr result (table.new ≡ table.old) }
+    ensures refused { OnErr result (table.new ≡ table.old) }
 {
     let made = Arc::new(alloc, value)?;
     let answer = made.clone()?;
@@ -136,7 +136,7 @@ impl<K: Eq + Hash, V, A: Allocator + Copy> MapState<K, V, A> {
     where
         V: Drop,
         ensures answer { IfOk result (λ a. option_map arc_value a ≡ value_at K.eq self.now key.now) }
-        ensures err_only_if_there { OnErr result (is_some (value_at K.eq self.now key.now) ≡ true) }
+        ensures only_there { OnErr result (is_some (value_at K.eq self.now key.now) ≡ true) }
     {
         match find(&self.table, key) {
             Some(value) => Ok(Some(value.clone()?)),
@@ -179,11 +179,14 @@ impl<K: Eq + Hash, V, A: Allocator + Copy> MapState<K, V, A> {
     where
         K: Drop,
         V: Drop,
-        ensures answer { IfOk result (λ a. value_at K.eq self.new key ≡ Some (arc_value a.0)) }
+        ensures stands { IfOk result (λ a. value_at K.eq self.new key ≡ Some (arc_value a.0)) }
         ensures new { IfOk result (λ a. IsTrue a.1 ↔ (value_at K.eq self.old key ≡ None)) }
+        ensures present { (x : V) → value_at K.eq self.old key ≡ Some x → self.new ≡ self.old }
         ensures content { OnOk result (IsInserted K.eq self.old key value self.new) }
         ensures length { IfOk result (λ a. length self.new ≡ length self.old + (if a.1 then 1 else 0)) }
-        ensures err { OnErr result (IsSameContent K.eq self.old self.new) }
+
+        // A refusal changes nothing.
+        ensures refused { OnErr result (IsSameContent K.eq self.old self.new) }
     {
         if let Some(there) = find(&self.table, &key) {
             return Ok((there.clone()?, false));
@@ -200,9 +203,12 @@ impl<K: Eq + Hash, V, A: Allocator + Copy> MapState<K, V, A> {
     where
         K: Drop,
         V: Drop,
-        ensures answer { IfOk result (λ a. value_at K.eq self.new key ≡ Some (arc_value a)) }
+        ensures stands { IfOk result (λ a. value_at K.eq self.new key ≡ Some (arc_value a)) }
+        ensures present { (x : V) → value_at K.eq self.old key ≡ Some x → self.new ≡ self.old }
+        ensures new_length { value_at K.eq self.old key ≡ None →
+            OnOk result (length self.new ≡ length self.old + 1) }
         ensures content { OnOk result (IsInserted K.eq self.old key value self.new) }
-        ensures err { OnErr result (IsSameContent K.eq self.old self.new) }
+        ensures refused { OnErr result (IsSameContent K.eq self.old self.new) }
     {
         Ok(self.insert_new(key, value)?.0)
     }
@@ -219,8 +225,13 @@ impl<K: Eq + Hash, V, A: Allocator + Copy> MapState<K, V, A> {
         requires { value_at K.eq self.old key ≡ None → F.pre f }
         ensures answer { IfOk result (λ a.
             UnwrapsOrElse (value_at K.eq self.old key) (F.post f) (arc_value a)) }
+        ensures present { (x : V) → value_at K.eq self.old key ≡ Some x → self.new ≡ self.old }
+        ensures new_length { value_at K.eq self.old key ≡ None →
+            OnOk result (length self.new ≡ length self.old + 1) }
         ensures content { IfOk result (λ a. IsInserted K.eq self.old key (arc_value a) self.new) }
-        ensures err { OnErr result (IsSameContent K.eq self.old self.new) }
+
+        // A refusal changes nothing.
+        ensures refused { OnErr result (IsSameContent K.eq self.old self.new) }
     {
         if let Some(found) = find(&self.table, &key) {
             return Ok(found.clone()?);
@@ -244,8 +255,13 @@ impl<K: Eq + Hash, V, A: Allocator + Copy> MapState<K, V, A> {
         ensures answer { IfOk result (λ a.
             UnwrapsOrElse (value_at K.eq self.old key) (FnOnceReturnsAt F.FnOnce f key)
             (arc_value a)) }
+        ensures present { (x : V) → value_at K.eq self.old key ≡ Some x → self.new ≡ self.old }
+        ensures new_length { value_at K.eq self.old key ≡ None →
+            OnOk result (length self.new ≡ length self.old + 1) }
         ensures content { IfOk result (λ a. IsInserted K.eq self.old key (arc_value a) self.new) }
-        ensures err { OnErr result (IsSameContent K.eq self.old self.new) }
+
+        // A refusal changes nothing.
+        ensures refused { OnErr result (IsSameContent K.eq self.old self.new) }
     {
         match find(&self.table, &key) {
             Some(there) => return Ok(there.clone()?),
@@ -263,11 +279,16 @@ impl<K: Eq + Hash, V, A: Allocator + Copy> MapState<K, V, A> {
     where
         K: Drop,
         V: Copy,
-        ensures answer { IfOk result (λ a. value_at K.eq self.new key ≡ Some a.0) }
+        ensures stands { IfOk result (λ a. value_at K.eq self.new key ≡ Some a.0) }
         ensures new { IfOk result (λ a. IsTrue a.1 ↔ (value_at K.eq self.old key ≡ None)) }
+        ensures present { (x : V) → value_at K.eq self.old key ≡ Some x → self.new ≡ self.old }
+        ensures new_length { value_at K.eq self.old key ≡ None →
+            OnOk result (length self.new ≡ length self.old + 1) }
         ensures content { OnOk result (IsInserted K.eq self.old key value self.new) }
-        ensures err { OnErr result (IsSameContent K.eq self.old self.new) }
-        ensures err_only_if_absent { OnErr result (value_at K.eq self.old key ≡ None) }
+
+        // A refusal changes nothing, and comes only for an absent key.
+        ensures refused { OnErr result (IsSameContent K.eq self.old self.new) }
+        ensures only_new { OnErr result (value_at K.eq self.old key ≡ None) }
     {
         if let Some(owner) = find(&self.table, &key) {
             return Ok((**owner, false));
@@ -284,10 +305,15 @@ impl<K: Eq + Hash, V, A: Allocator + Copy> MapState<K, V, A> {
     where
         K: Drop,
         V: Copy,
-        ensures answer { IfOk result (λ v. value_at K.eq self.new key ≡ Some v) }
+        ensures stands { IfOk result (λ v. value_at K.eq self.new key ≡ Some v) }
+        ensures present { (x : V) → value_at K.eq self.old key ≡ Some x → self.new ≡ self.old }
+        ensures new_length { value_at K.eq self.old key ≡ None →
+            OnOk result (length self.new ≡ length self.old + 1) }
         ensures content { OnOk result (IsInserted K.eq self.old key value self.new) }
-        ensures err { OnErr result (IsSameContent K.eq self.old self.new) }
-        ensures err_only_if_absent { OnErr result (value_at K.eq self.old key ≡ None) }
+
+        // A refusal changes nothing, and comes only for an absent key.
+        ensures refused { OnErr result (IsSameContent K.eq self.old self.new) }
+        ensures only_new { OnErr result (value_at K.eq self.old key ≡ None) }
     {
         Ok(self.get_copy_or_insert_new(key, value)?.0)
     }
@@ -306,9 +332,14 @@ impl<K: Eq + Hash, V, A: Allocator + Copy> MapState<K, V, A> {
         F: Drop,
         requires { value_at K.eq self.old key ≡ None → F.pre f }
         ensures answer { IfOk result (UnwrapsOrElse (value_at K.eq self.old key) (F.post f)) }
+        ensures present { (x : V) → value_at K.eq self.old key ≡ Some x → self.new ≡ self.old }
+        ensures new_length { value_at K.eq self.old key ≡ None →
+            OnOk result (length self.new ≡ length self.old + 1) }
         ensures content { IfOk result (λ v. IsInserted K.eq self.old key v self.new) }
-        ensures err { OnErr result (IsSameContent K.eq self.old self.new) }
-        ensures err_only_if_absent { OnErr result (value_at K.eq self.old key ≡ None) }
+
+        // A refusal changes nothing, and comes only for an absent key.
+        ensures refused { OnErr result (IsSameContent K.eq self.old self.new) }
+        ensures only_new { OnErr result (value_at K.eq self.old key ≡ None) }
     {
         if let Some(kept) = find(&self.table, &key) {
             return Ok(**kept);
@@ -332,9 +363,14 @@ impl<K: Eq + Hash, V, A: Allocator + Copy> MapState<K, V, A> {
         requires { value_at K.eq self.old key ≡ None → FnOnceTakesAt F.FnOnce f key }
         ensures answer { IfOk result (
             UnwrapsOrElse (value_at K.eq self.old key) (FnOnceReturnsAt F.FnOnce f key)) }
+        ensures present { (x : V) → value_at K.eq self.old key ≡ Some x → self.new ≡ self.old }
+        ensures new_length { value_at K.eq self.old key ≡ None →
+            OnOk result (length self.new ≡ length self.old + 1) }
         ensures content { IfOk result (λ v. IsInserted K.eq self.old key v self.new) }
-        ensures err { OnErr result (IsSameContent K.eq self.old self.new) }
-        ensures err_only_if_absent { OnErr result (value_at K.eq self.old key ≡ None) }
+
+        // A refusal changes nothing, and comes only for an absent key.
+        ensures refused { OnErr result (IsSameContent K.eq self.old self.new) }
+        ensures only_new { OnErr result (value_at K.eq self.old key ≡ None) }
     {
         match find(&self.table, &key) {
             Some(there) => return Ok(**there),

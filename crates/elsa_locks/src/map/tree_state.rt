@@ -62,7 +62,7 @@ where
     ensures length { OnOk result (
         value_at (eq_by_cmp K.cmp) (shown table.old.entries) key ≡ None →
         length (shown table.new.entries) ≡ length (shown table.old.entries) + 1) }
-    ensures err { OnErr result (table.new.entries ≡ table.old.entries) }
+    ensures refused { OnErr result (table.new.entries ≡ table.old.entries) }
 {
     table.insert(key, value)?;
     Ok(())
@@ -134,7 +134,7 @@ impl<K: Ord, V, A: Allocator + Copy> TreeState<K, V, A> {
         V: Drop,
         ensures answer { IfOk result (λ a.
             option_map arc_value a ≡ value_at (eq_by_cmp K.cmp) self.now key.now) }
-        ensures err_only_if_there { OnErr result (
+        ensures only_there { OnErr result (
             is_some (value_at (eq_by_cmp K.cmp) self.now key.now) ≡ true) }
     {
         match find(&self.table, key) {
@@ -179,12 +179,16 @@ impl<K: Ord, V, A: Allocator + Copy> TreeState<K, V, A> {
     where
         K: Drop,
         V: Drop,
-        ensures answer { IfOk result (λ a.
+        ensures stands { IfOk result (λ a.
             value_at (eq_by_cmp K.cmp) self.new key ≡ Some (arc_value a.0)) }
         ensures new { IfOk result (λ a. IsTrue a.1 ↔ (value_at (eq_by_cmp K.cmp) self.old key ≡ None)) }
+        ensures present { (x : V) → value_at (eq_by_cmp K.cmp) self.old key ≡ Some x →
+            self.new ≡ self.old }
         ensures content { OnOk result (IsInserted (eq_by_cmp K.cmp) self.old key value self.new) }
         ensures length { IfOk result (λ a. length self.new ≡ length self.old + (if a.1 then 1 else 0)) }
-        ensures err { OnErr result (self.new ≡ self.old) }
+
+        // A refusal changes nothing.
+        ensures refused { OnErr result (self.new ≡ self.old) }
     {
         if let Some(there) = find(&self.table, &key) {
             return Ok((there.clone()?, false));
@@ -202,10 +206,14 @@ impl<K: Ord, V, A: Allocator + Copy> TreeState<K, V, A> {
     where
         K: Drop,
         V: Drop,
-        ensures answer { IfOk result (λ a.
+        ensures stands { IfOk result (λ a.
             value_at (eq_by_cmp K.cmp) self.new key ≡ Some (arc_value a)) }
+        ensures present { (x : V) → value_at (eq_by_cmp K.cmp) self.old key ≡ Some x →
+            self.new ≡ self.old }
+        ensures new_length { value_at (eq_by_cmp K.cmp) self.old key ≡ None →
+            OnOk result (length self.new ≡ length self.old + 1) }
         ensures content { OnOk result (IsInserted (eq_by_cmp K.cmp) self.old key value self.new) }
-        ensures err { OnErr result (self.new ≡ self.old) }
+        ensures refused { OnErr result (self.new ≡ self.old) }
     {
         Ok(self.insert_new(key, value)?.0)
     }
@@ -217,11 +225,17 @@ impl<K: Ord, V, A: Allocator + Copy> TreeState<K, V, A> {
     where
         K: Drop,
         V: Copy,
-        ensures answer { IfOk result (λ a. value_at (eq_by_cmp K.cmp) self.new key ≡ Some a.0) }
+        ensures stands { IfOk result (λ a. value_at (eq_by_cmp K.cmp) self.new key ≡ Some a.0) }
         ensures new { IfOk result (λ a. IsTrue a.1 ↔ (value_at (eq_by_cmp K.cmp) self.old key ≡ None)) }
+        ensures present { (x : V) → value_at (eq_by_cmp K.cmp) self.old key ≡ Some x →
+            self.new ≡ self.old }
+        ensures new_length { value_at (eq_by_cmp K.cmp) self.old key ≡ None →
+            OnOk result (length self.new ≡ length self.old + 1) }
         ensures content { OnOk result (IsInserted (eq_by_cmp K.cmp) self.old key value self.new) }
-        ensures err { OnErr result (self.new ≡ self.old) }
-        ensures err_only_if_absent { OnErr result (value_at (eq_by_cmp K.cmp) self.old key ≡ None) }
+
+        // A refusal changes nothing, and comes only for an absent key.
+        ensures refused { OnErr result (self.new ≡ self.old) }
+        ensures only_new { OnErr result (value_at (eq_by_cmp K.cmp) self.old key ≡ None) }
     {
         if let Some(owner) = find(&self.table, &key) {
             return Ok((**owner, false));

@@ -69,7 +69,7 @@ impl<V, A: Allocator + Copy> VecState<V, A> {
     where
         V: Drop,
         ensures answer { IfOk result (λ a. option_map arc_value a ≡ slice_get self.now place) }
-        ensures err_only_if_there { OnErr result (place < length self.now) }
+        ensures only_there { OnErr result (place < length self.now) }
     {
         match self.list.get(place) {
             Some(value) => Ok(Some(value.clone()?)),
@@ -95,7 +95,7 @@ impl<V, A: Allocator + Copy> VecState<V, A> {
     where
         V: Drop,
         ensures ok { OnOk result (self.new ≡ self.old ++ value ∷ []) }
-        ensures err { OnErr result (self.new ≡ self.old) }
+        ensures refused { OnErr result (self.new ≡ self.old) }
     {
         self.push_get_index(value)?;
         Ok(())
@@ -108,7 +108,7 @@ impl<V, A: Allocator + Copy> VecState<V, A> {
         V: Drop,
         ensures answer { IfOk result (λ a. arc_value a ≡ value) }
         ensures ok { OnOk result (self.new ≡ self.old ++ value ∷ []) }
-        ensures err { OnErr result (self.new ≡ self.old) }
+        ensures refused { OnErr result (self.new ≡ self.old) }
     {
         let made = Arc::new(self.alloc, value)?;
         let answer = made.clone()?;
@@ -123,7 +123,7 @@ impl<V, A: Allocator + Copy> VecState<V, A> {
         V: Drop,
         ensures answer { IfOk result (λ place. place ≡ length self.old) }
         ensures ok { OnOk result (self.new ≡ self.old ++ value ∷ []) }
-        ensures err { OnErr result (self.new ≡ self.old) }
+        ensures refused { OnErr result (self.new ≡ self.old) }
     {
         let place = self.len();
         let owner = Arc::new(self.alloc, value)?;
