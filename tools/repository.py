@@ -39,8 +39,13 @@ def is_program(name):
     return (root / "crates" / name / "src" / "main.rt").is_file()
 
 
-def has_tests(name):
-    return any("#[test]" in it.read_text() for it in (root / "crates" / name / "src").rglob("*.rt"))
+def source_lines(name):
+    return [line.strip() for it in (root / "crates" / name / "src").rglob("*.rt") for line in it.read_text().splitlines()]
+
+
+def tests_in(name):
+    """How many tests the crate has."""
+    return source_lines(name).count("#[test]")
 
 
 def processors():

@@ -1,5 +1,5 @@
 -- Lemmas on clones: a clone has the content of its source where a clone of a key is equal to the key.
-use Rattle.std.proofs.Common.{◌≡◌, ◌∙◌, Bool, true, false, List, [], ◌∷◌, ◌++◌, refl, sym}
+use Rattle.std.proofs.Common.{◌≡◌, ◌∙◌, Bool, true, false, List, [], ◌∷◌, refl, sym}
 use Rattle.std.specs.Map.{lookup, keys_of}
 use Rattle.std.specs.Set.{is_member}
 use Rattle.std.specs.List.{AllZip, AllByRecursion, IsDistinct}
@@ -8,7 +8,11 @@ use Rattle.std.specs.declared.sync.Arc.{Arc}
 use Rattle.std.specs.Arc.{arc_value}
 use Rattle.std.proofs.lemmas.Map.Made.{is_some-lookup}
 use Rattle.elsa_model.specs.FirstWins.{value_at, IsKeys}
-use Rattle.elsa_locks.specs.Shared.{shown}
+use Rattle.elsa_locks.specs.Shared.{shown, shown_items}
+
+-- an equality answers the same of a clone as of the key
+same_right : {K : Type 0} (eq : K → K → Bool) → IsEquivalence eq → (q a b : K) → eq a b ≡ true → eq q b ≡ eq q a
+same_right eq laws q a b e = laws.symm q b ∙ (sym (laws.congr a b q e) ∙ laws.symm a q)
 
 -- a clone of each entry, whose key equals the key and whose owner shows the same, has the same content
 pub copied : {K V Z : Type 0} (eq : K → K → Bool) (C : K → K → Type 0) → IsEquivalence eq → ((a b : K) → C a b → eq a b ≡ true) → (q : K) (es fs : List (K × Arc V Z)) → AllZip (λ p r. C p.0 r.0 × (arc_value r.1 ≡ arc_value p.1)) es fs → lookup (eq q) (shown fs) ≡ lookup (eq q) (shown es)
@@ -16,20 +20,16 @@ copied eq C laws clones q [] [] h = refl
 copied eq C laws clones q [] (f ∷ fs) h = absurd h
 copied eq C laws clones q (e ∷ es) [] h = absurd h
 copied eq C laws clones q (e ∷ es) (f ∷ fs) h =
-    let k : eq q f.0 ≡ eq q e.0 = laws.symm q f.0 ∙ (sym (laws.congr e.0 f.0 q (clones e.0 f.0 h.0.0)) ∙ laws.symm e.0 q) in
+    let k : eq q f.0 ≡ eq q e.0 = same_right eq laws q e.0 f.0 (clones e.0 f.0 h.0.0) in
     let i : lookup (eq q) (shown fs) ≡ lookup (eq q) (shown es) = copied eq C laws clones q es fs h.1 in
     rw (k, h.0.1, i) refl
 
--- keys cloned one by one
-pub zip_snoc : {A B : Type 0} (R : A → B → Type 0) (xs : List A) (ys : List B) (x : A) (y : B) → AllZip R xs ys → R x y → AllZip R (xs ++ x ∷ []) (ys ++ y ∷ [])
-zip_snoc R [] [] x y h r = (r, tt)
-zip_snoc R [] (b ∷ ys) x y h r = absurd h
-zip_snoc R (a ∷ xs) [] x y h r = absurd h
-zip_snoc R (a ∷ xs) (b ∷ ys) x y h r = (h.0, zip_snoc R xs ys x y h.1 r)
-
--- an equality answers the same of a clone as of the key
-same_right : {K : Type 0} (eq : K → K → Bool) → IsEquivalence eq → (q a b : K) → eq a b ≡ true → eq q b ≡ eq q a
-same_right eq laws q a b e = laws.symm q b ∙ (sym (laws.congr a b q e) ∙ laws.symm a q)
+-- clones of owners show the same items
+pub copied_items : {V Z : Type 0} (es fs : List (Arc V Z)) → AllZip (λ x y. arc_value y ≡ arc_value x) es fs → shown_items fs ≡ shown_items es
+copied_items [] [] h = refl
+copied_items [] (f ∷ fs) h = absurd h
+copied_items (e ∷ es) [] h = absurd h
+copied_items (e ∷ es) (f ∷ fs) h = rw (h.0, copied_items es fs h.1) refl
 
 member_clones : {K : Type 0} (eq : K → K → Bool) (C : K → K → Type 0) → IsEquivalence eq → ((a b : K) → C a b → eq a b ≡ true) → (q : K) (ks vs : List K) → AllZip C ks vs → is_member eq vs q ≡ is_member eq ks q
 member_clones eq C laws clones q [] [] h = refl

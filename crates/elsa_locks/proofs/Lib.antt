@@ -1,6 +1,2 @@
 pub mod Clones
-pub mod Collected
-pub mod Equals
-pub mod Items
-pub mod Ordered
 pub mod Shared

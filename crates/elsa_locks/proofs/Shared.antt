@@ -1,6 +1,6 @@
 -- Lemmas on values behind an `Arc`: what a list of owners shows.
-use Rattle.std.proofs.Common.{◌≡◌, ℕ, zero, suc, Bool, List, [], ◌∷◌, ◌++◌, length, slice_get, ap, refl}
-use Rattle.std.specs.Option.{option_map}
+use Rattle.std.proofs.Common.{◌≡◌, ℕ, zero, suc, Bool, List, [], ◌∷◌, ◌++◌, Option, Some, None, length, slice_get, ap, refl}
+use Rattle.std.specs.Option.{option_eq, option_map}
 use Rattle.std.specs.Map.{lookup, keys_of}
 use Rattle.std.specs.List.{IsDistinct}
 use Rattle.std.specs.List.Sorted.{IsStrictlySortedBy}
@@ -14,6 +14,16 @@ use Rattle.elsa_locks.specs.Shared.{shown, shown_items}
 -- a look-up in what the owners show shows what the owner found shows
 pub lookup_shown : {K V Z : Type 0} (test : K → Bool) (es : List (K × Arc V Z)) → lookup test (shown es) ≡ option_map arc_value (lookup test es)
 lookup_shown test es = lookup-map_values arc_value test es
+
+option_eq_shown : {V Z : Type 0} (E : V → V → Bool) (a b : Option (Arc V Z)) → option_eq (λ x y. E (arc_value x) (arc_value y)) a b ≡ option_eq E (option_map arc_value a) (option_map arc_value b)
+option_eq_shown E None None = refl
+option_eq_shown E None (Some y) = refl
+option_eq_shown E (Some x) None = refl
+option_eq_shown E (Some x) (Some y) = refl
+
+-- owners that are looked up are compared as the values that they show
+pub compared_shown : {K V Z : Type 0} (E : V → V → Bool) (test : K → Bool) (es fs : List (K × Arc V Z)) → option_eq (λ x y. E (arc_value x) (arc_value y)) (lookup test es) (lookup test fs) ≡ option_eq E (lookup test (shown es)) (lookup test (shown fs))
+compared_shown E test es fs = rw (lookup_shown test es, lookup_shown test fs) (option_eq_shown E (lookup test es) (lookup test fs))
 
 -- as many values are shown as there are entries
 pub length_shown : {K V Z : Type 0} (es : List (K × Arc V Z)) → length (shown es) ≡ length es

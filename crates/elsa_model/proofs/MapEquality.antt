@@ -1,75 +1,36 @@
 -- Equality of maps as partial functions (`same_values` of FirstWins) is an equivalence, and is what std answers.
-use Rattle.std.proofs.Common.{◌≡◌, ◌↔◌, Bool, true, false, true≢false, cond, ◌&&◌, List, [], ◌∷◌, ◌++◌, Option, None, Some, refl, sym, ap, ◌∙◌, ◌⊎◌, inl, inr}
+use Rattle.std.proofs.Common.{◌≡◌, ◌↔◌, ℕ, Bool, true, false, true≢false, cond, ◌&&◌, List, [], ◌∷◌, None, Some, refl, sym, ap, ◌∙◌}
 use Rattle.std.specs.Cmp.{IsEquivalence, IsPartialEquivalence, IsTotalOrder, both_ways, equiv, eq_by_cmp_equiv, first_so, second_so}
 use Rattle.std.specs.Cmp.Lexicographic.{pointwise}
 use Rattle.std.specs.HashMap.{HashMap, hash_map_eq}
-use Rattle.std.specs.HashMap.Eq.{get_from_hash_map_eq, hash_map_eq_from_get, lookup_congr}
-use Rattle.std.specs.List.{list_all}
+use Rattle.std.specs.HashMap.Eq.{get_from_hash_map_eq, hash_map_eq_from_get, hash_map_eq_refl, hash_map_eq_symm, hash_map_eq_trans}
+use Rattle.std_collections.specs.Layout.HashMap.{hash_map}
 use Rattle.std.specs.List.Sorted.{IsStrictlySortedBy}
 use Rattle.std.specs.Map.{keys_of, lookup}
 use Rattle.std.specs.Option.{option_eq}
 use Rattle.std.specs.Ordering.{eq_by_cmp, is_eq, ordering_reverse}
 use Rattle.std.specs.declared.cmp.Ordering.{Ordering}
 use Rattle.std.specs.declared.cmp.Ordering.TheVariants.{Less, Equal, Greater}
-use Rattle.std.proofs.lemmas.List.Folds.{list_all-append}
 use Rattle.std.proofs.lemmas.Map.{lookup-none}
 use Rattle.std.proofs.lemmas.Map.Entries.{none_below_head, none_past_head}
 use Rattle.std.proofs.lemmas.Map.Keys.{IsDistinct-from_sorted, sorted_tail}
 use Rattle.elsa_model.specs.FirstWins.{IsEqualMap, same_values, value_at}
-
-module _ {B : Type 0} (E : B → B → Bool) where
-  flips : ((x y : B) → E x y ≡ E y x) → (p q : Option B) → option_eq E p q ≡ option_eq E q p
-  flips f None None = refl
-  flips f None (Some y) = refl
-  flips f (Some x) None = refl
-  flips f (Some x) (Some y) = f x y
-
-  chains : ((x y z : B) → E x y ≡ true → E y z ≡ true → E x z ≡ true) → (p q r : Option B) → option_eq E p q ≡ true → option_eq E q r ≡ true → option_eq E p r ≡ true
-  chains f None None r a b = b
-  chains f (Some x) (Some y) None a b = b
-  chains f (Some x) (Some y) (Some z) a b = f x y z a b
-  chains f p q r a b = absurd (true≢false (sym a))
-
-  itself : ((x : B) → E x x ≡ true) → (p : Option B) → option_eq E p p ≡ true
-  itself f None = refl
-  itself f (Some x) = f x
-
-all_pass : {K : Type 0} (t : K → Bool) → ((k : K) → t k ≡ true) → (ks : List K) → list_all t ks ≡ true
-all_pass t each [] = refl
-all_pass t each (k ∷ ks) = ap (λ b. b && list_all t ks) (each k) ∙ all_pass t each ks
-
--- q has no value, or it equals a key that passes
-none_or_passing : {K B : Type 0} (eq : K → K → Bool) (t : K → Bool) (q : K) (es : List (K × B)) → list_all t (keys_of es) ≡ true → (lookup (eq q) es ≡ None) ⊎ ((k : K) × (eq q k ≡ true) × (t k ≡ true))
-none_or_passing eq t q [] all = inl refl
-none_or_passing {K} {B} eq t q (e ∷ es) all = next (eq q e.0) refl (none_or_passing eq t q es (second_so (t e.0) _ all))
-  where
-    next : (b : Bool) → eq q e.0 ≡ b → (lookup (eq q) es ≡ None) ⊎ ((k : K) × (eq q k ≡ true) × (t k ≡ true)) → (cond (eq q e.0) (Some e.1) (lookup (eq q) es) ≡ None) ⊎ ((k : K) × (eq q k ≡ true) × (t k ≡ true))
-    next true is rest = inr (e.0, is, first_so (t e.0) _ all)
-    next false is (inl none) = inl (ap (λ b. cond b (Some e.1) (lookup (eq q) es)) is ∙ none)
-    next false is (inr found) = inr found
 
 module _ {K B : Type 0} (eq : K → K → Bool) (E : B → B → Bool) where
   -- whether the two have equal values at q
   abbrev agree_at : List (K × B) → List (K × B) → K → Bool
   agree_at es fs q = option_eq E (value_at eq es q) (value_at eq fs q)
 
+  -- a hashed map with these entries, of which std's lemmas speak
+  abbrev table : List (K × B) → HashMap K B ℕ
+  table es = hash_map es 0 0
+
   pub same_from_each : (es fs : List (K × B)) → IsEqualMap eq E es fs → same_values eq E es fs ≡ true
-  same_from_each es fs each = all_pass (agree_at es fs) each (keys_of es ++ keys_of fs)
+  same_from_each es fs each = hash_map_eq_from_get eq E (table es) (table fs) each
 
   module _ (laws : IsEquivalence eq) where
-    along : (es fs : List (K × B)) (q k : K) → eq q k ≡ true → agree_at es fs q ≡ agree_at es fs k
-    along es fs q k is = λ i. option_eq E (lookup_congr eq laws.congr es q k is i) (lookup_congr eq laws.congr fs q k is i)
-
     pub each_from_same : (es fs : List (K × B)) → same_values eq E es fs ≡ true → IsEqualMap eq E es fs
-    each_from_same es fs same q =
-        let both = sym (list_all-append (agree_at es fs) (keys_of es) (keys_of fs)) ∙ same in
-        cases (none_or_passing eq (agree_at es fs) q es (first_so _ _ both)) (none_or_passing eq (agree_at es fs) q fs (second_so (list_all (agree_at es fs) (keys_of es)) _ both))
-      where
-        cases : (lookup (eq q) es ≡ None) ⊎ ((k : K) × (eq q k ≡ true) × (agree_at es fs k ≡ true))
-            → (lookup (eq q) fs ≡ None) ⊎ ((k : K) × (eq q k ≡ true) × (agree_at es fs k ≡ true)) → agree_at es fs q ≡ true
-        cases (inl a) (inl b) = λ i. option_eq E (a i) (b i)
-        cases (inr found) b = along es fs q found.0 found.1 ∙ found.2
-        cases (inl a) (inr found) = along es fs q found.0 found.1 ∙ found.2
+    each_from_same es fs same q = get_from_hash_map_eq eq E laws (table es) (table fs) same q
 
     -- a test that is the one for equal maps decides it
     pub equal_as_maps : (es fs : List (K × B)) (b : Bool) → b ≡ same_values eq E es fs → (b ≡ true) ↔ IsEqualMap eq E es fs
@@ -78,17 +39,17 @@ module _ {K B : Type 0} (eq : K → K → Bool) (E : B → B → Bool) where
     -- equality as partial functions is symmetric and transitive where equality of the values is
     pub same_values_laws : IsPartialEquivalence E → IsPartialEquivalence (same_values eq E)
     same_values_laws values = record {
-      symm = λ es fs. both_ways _ _ (λ same. same_from_each fs es (λ q. flips E values.symm _ _ ∙ each_from_same es fs same q)) (λ same. same_from_each es fs (λ q. flips E values.symm _ _ ∙ each_from_same fs es same q));
-      trans = λ es fs gs a b. same_from_each es gs (λ q. chains E values.trans _ _ _ (each_from_same es fs a q) (each_from_same fs gs b q));
+      symm = λ es fs. hash_map_eq_symm eq E values.symm (table es) (table fs);
+      trans = λ es fs gs. hash_map_eq_trans eq E laws values.trans (table es) (table fs) (table gs);
     }
 
     -- and reflexive where that is
     pub same_values_equivalence : IsPartialEquivalence E → IsEquivalence E → IsEquivalence (same_values eq E)
-    same_values_equivalence partly values = equiv (same_values_laws partly) (λ es. same_from_each es es (λ q. itself E values.refl (value_at eq es q)))
+    same_values_equivalence partly values = equiv (same_values_laws partly) (λ es. hash_map_eq_refl eq E values.refl (table es))
 
     -- std's equality of hashed maps decides it
     pub same_by_hash : {S : Type 0} (m n : HashMap K B S) → hash_map_eq eq E m n ≡ same_values eq E m.entries n.entries
-    same_by_hash m n = both_ways _ _ (λ same. same_from_each m.entries n.entries (get_from_hash_map_eq eq E laws m n same)) (λ same. hash_map_eq_from_get eq E m n (each_from_same m.entries n.entries same))
+    same_by_hash m n = refl
 
 module _ {K B : Type 0} (cmp : K → K → Ordering) (order : IsTotalOrder cmp) (keys : K → K → Bool) (ties : (x y : K) → keys x y ≡ is_eq (cmp x y)) (E : B → B → Bool) where
   abbrev eq : K → K → Bool

@@ -3,9 +3,10 @@
 -- all that is said of a map is said of the function value_at, and of the number of entries. Nothing here knows of tables,
 -- hashes, trees or memory.
 -- Keys are told apart by an equality eq that need not be identity: a key may be asked for by any key that equals it.
-use Rattle.std.specs.Prelude.{◌≡◌, ℕ, Bool, true, false, Option, None, Some, is_some, List, ◌++◌, length, reverse, if◌then◌else◌}
-use Rattle.std.specs.List.{IsDistinct, list_all}
-use Rattle.std.specs.Map.{keys_of, lookup, lookup_entry}
+use Rattle.std.specs.Prelude.{◌≡◌, ℕ, Bool, true, false, Option, None, Some, is_some, List, length, reverse, if◌then◌else◌}
+use Rattle.std.specs.HashMap.{entries_eq}
+use Rattle.std.specs.List.{IsDistinct}
+use Rattle.std.specs.Map.{lookup, lookup_entry}
 use Rattle.std.specs.Option.{option_eq, option_map}
 use Rattle.std.specs.Set.{is_member}
 
@@ -67,7 +68,7 @@ module _ {K B : Type 0} (eq : K → K → Bool) where
 
   -- the test for that, at each key of either
   abbrev pub same_values : (B → B → Bool) → List (K × B) → List (K × B) → Bool
-  same_values same these those = list_all (λ k. option_eq same (value_at eq these k) (value_at eq those k)) (keys_of these ++ keys_of those)
+  same_values same these those = entries_eq eq (λ p q. same p.1 q.1) these those
 
   -- the list has exactly the keys of the content, each once
   abbrev pub IsKeys : (K → Option B) → List K → Type 0

@@ -1,7 +1,7 @@
 //! What the collections of this house have in common: the words in which their contracts speak of contents, the lemmas
 //! about those words, and runs of calls on any of them.
 //!
-//! It stands on std alone. The words are in `specs/`: first-wins content, content in the order of insertion, replay.
+//! It stands on std and its collections. The words are in `specs/`: first-wins content, content in the order of insertion, replay.
 #![tactic(auto)]
 
 mod calls;

@@ -35,48 +35,6 @@ impl<K: Ord, V, A: Allocator + Copy> FrozenBTreeMap<K, V, A> {
         }
     }
 
-    /// The map of the items: each key has the value of its last pair. `O(n log n)`. Takes no lock.
-    ///
-    /// `Err` where the memory of an `Arc` or of a growth was refused; what was collected is dropped.
-    pub fn from_iter<I: Iterator<Item = (K, V)> + Drop>(
-        alloc: A,
-        items: I,
-    ) -> Result<Self, AllocError>
-    where
-        K: Drop,
-        V: Drop,
-        requires can { I.can_next items }
-        requires ends { IsFinite (I.remaining items) }
-    {
-        let made = TreeState::from_iter(alloc, items)?;
-        Ok(FrozenBTreeMap {
-            lock: RwLock::new(made),
-        })
-    }
-
-    /// An owner of the value that the key has afterwards: its own if it is present, else the one given.
-    pub fn insert(&self, rt: &impl Wait, key: K, value: V) -> Result<Arc<V, A>, AllocError>
-    where
-        K: Drop,
-        V: Drop,
-    {
-        self.lock.write(rt).insert(key, value)
-    }
-
-    /// `insert`, with whether the key was new.
-    pub fn insert_new(
-        &self,
-        rt: &impl Wait,
-        key: K,
-        value: V,
-    ) -> Result<(Arc<V, A>, bool), AllocError>
-    where
-        K: Drop,
-        V: Drop,
-    {
-        self.lock.write(rt).insert_new(key, value)
-    }
-
     /// An owner of the value at the key, or `None` if the key is absent.
     pub fn get(&self, rt: &impl Wait, key: &K) -> Result<Option<Arc<V, A>>, AllocError>
     where
@@ -88,9 +46,7 @@ impl<K: Ord, V, A: Allocator + Copy> FrozenBTreeMap<K, V, A> {
     /// What the one call of `f` on the value at the key returns, or `None`, without a call, if the key is absent.
     ///
     /// `f` runs while this call shares the lock: an inserting call on the same map in it may wait for ever.
-    pub fn map_get<R, F: FnOnce(&V) -> R>(&self, rt: &impl Wait, key: &K, f: F) -> Option<R>
-    where
-        F: Drop,
+    pub fn map_get<R, F: FnOnce(&V) -> R + Drop>(&self, rt: &impl Wait, key: &K, f: F) -> Option<R>
         requires { F.IsAlwaysCallable f }
     {
         self.lock.read(rt).map_get(key, f)
@@ -132,14 +88,44 @@ impl<K: Ord, V, A: Allocator + Copy> FrozenBTreeMap<K, V, A> {
         let copied = self.lock.read(rt).copy()?;
         Ok(other.lock.read(rt).same(&copied))
     }
+}
+
+impl<K: Ord + Drop, V: Drop, A: Allocator + Copy> FrozenBTreeMap<K, V, A> {
+    /// The map of the items: each key has the value of its last pair. `O(n log n)`. Takes no lock.
+    ///
+    /// `Err` where the memory of an `Arc` or of a growth was refused; what was collected is dropped.
+    pub fn from_iter<I: Iterator<Item = (K, V)> + Drop>(
+        alloc: A,
+        items: I,
+    ) -> Result<Self, AllocError>
+        requires can { I.can_next items }
+        requires ends { IsFinite (I.remaining items) }
+    {
+        let made = TreeState::from_iter(alloc, items)?;
+        Ok(FrozenBTreeMap {
+            lock: RwLock::new(made),
+        })
+    }
+
+    /// An owner of the value that the key has afterwards: its own if it is present, else the one given.
+    pub fn insert(&self, rt: &impl Wait, key: K, value: V) -> Result<Arc<V, A>, AllocError> {
+        self.lock.write(rt).insert(key, value)
+    }
+
+    /// `insert`, with whether the key was new.
+    pub fn insert_new(
+        &self,
+        rt: &impl Wait,
+        key: K,
+        value: V,
+    ) -> Result<(Arc<V, A>, bool), AllocError> {
+        self.lock.write(rt).insert_new(key, value)
+    }
 
     /// The entries, each once, ascending by key. Takes no lock, since the owner has the map alone.
     ///
     /// `Err` drops the map.
     pub fn into_tuple_vec(self) -> Result<Vec<(K, Arc<V, A>), A>, AllocError>
-    where
-        K: Drop,
-        V: Drop,
         ensures { IfOk result (λ v. IsStrictlySortedBy K.cmp (keys_of v.items)) }
     {
         let FrozenBTreeMap { lock } = self;

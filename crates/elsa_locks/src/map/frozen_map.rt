@@ -28,63 +28,6 @@ impl<K: Eq + Hash, V, A: Allocator + Copy> FrozenMap<K, V, A> {
         }
     }
 
-    /// An owner of the value that the key has afterwards: its own if it is present, else the one given.
-    pub fn insert(&self, rt: &impl Wait, key: K, value: V) -> Result<Arc<V, A>, AllocError>
-    where
-        K: Drop,
-        V: Drop,
-    {
-        self.lock.write(rt).insert(key, value)
-    }
-
-    /// `insert`, with whether the key was new.
-    pub fn insert_new(
-        &self,
-        rt: &impl Wait,
-        key: K,
-        value: V,
-    ) -> Result<(Arc<V, A>, bool), AllocError>
-    where
-        K: Drop,
-        V: Drop,
-    {
-        self.lock.write(rt).insert_new(key, value)
-    }
-
-    /// `insert` of what `f` returns, which is called only where the key is absent and room was made for it.
-    ///
-    /// `f` runs while this call has the lock alone: a call on the same map in it may wait for ever.
-    pub fn insert_with<F: FnOnce() -> V>(
-        &self,
-        rt: &impl Wait,
-        key: K,
-        f: F,
-    ) -> Result<Arc<V, A>, AllocError>
-    where
-        K: Drop,
-        V: Drop,
-        F: Drop,
-        requires { F.IsAlwaysCallable f }
-    {
-        self.lock.write(rt).insert_with(key, f)
-    }
-
-    /// `insert_with` for an `f` that is given the key.
-    pub fn insert_with_key<F: FnOnce(&K) -> V>(
-        &self,
-        rt: &impl Wait,
-        key: K,
-        f: F,
-    ) -> Result<Arc<V, A>, AllocError>
-    where
-        K: Drop,
-        V: Drop,
-        F: Drop,
-        requires { F.IsAlwaysCallable f }
-    {
-        self.lock.write(rt).insert_with_key(key, f)
-    }
-
     /// An owner of the value at the key, or `None` if the key is absent.
     pub fn get(&self, rt: &impl Wait, key: &K) -> Result<Option<Arc<V, A>>, AllocError>
     where
@@ -96,9 +39,7 @@ impl<K: Eq + Hash, V, A: Allocator + Copy> FrozenMap<K, V, A> {
     /// What the one call of `f` on the value at the key returns, or `None`, without a call, if the key is absent.
     ///
     /// `f` runs while this call shares the lock: an inserting call on the same map in it may wait for ever.
-    pub fn map_get<R, F: FnOnce(&V) -> R>(&self, rt: &impl Wait, key: &K, f: F) -> Option<R>
-    where
-        F: Drop,
+    pub fn map_get<R, F: FnOnce(&V) -> R + Drop>(&self, rt: &impl Wait, key: &K, f: F) -> Option<R>
         requires { F.IsAlwaysCallable f }
     {
         self.lock.read(rt).map_get(key, f)
@@ -110,49 +51,6 @@ impl<K: Eq + Hash, V, A: Allocator + Copy> FrozenMap<K, V, A> {
         V: Copy,
     {
         self.lock.read(rt).get_copy(key)
-    }
-
-    /// A copy of the value that the key has afterwards. A present key takes no memory.
-    pub fn get_copy_or_insert(&self, rt: &impl Wait, key: K, value: V) -> Result<V, AllocError>
-    where
-        K: Drop,
-        V: Copy,
-    {
-        self.lock.write(rt).get_copy_or_insert(key, value)
-    }
-
-    /// `get_copy_or_insert` of what `f` returns, which is called only where the key is absent and room was made for it.
-    ///
-    /// `f` runs while this call has the lock alone: a call on the same map in it may wait for ever.
-    pub fn get_copy_or_insert_with<F: FnOnce() -> V>(
-        &self,
-        rt: &impl Wait,
-        key: K,
-        f: F,
-    ) -> Result<V, AllocError>
-    where
-        K: Drop,
-        V: Copy,
-        F: Drop,
-        requires { F.IsAlwaysCallable f }
-    {
-        self.lock.write(rt).get_copy_or_insert_with(key, f)
-    }
-
-    /// `get_copy_or_insert_with` for an `f` that is given the key.
-    pub fn get_copy_or_insert_with_key<F: FnOnce(&K) -> V>(
-        &self,
-        rt: &impl Wait,
-        key: K,
-        f: F,
-    ) -> Result<V, AllocError>
-    where
-        K: Drop,
-        V: Copy,
-        F: Drop,
-        requires { F.IsAlwaysCallable f }
-    {
-        self.lock.write(rt).get_copy_or_insert_with_key(key, f)
     }
 
     /// A clone of each key, each once, in no specified order. `O(n)`.
@@ -201,21 +99,94 @@ impl<K: Eq + Hash, V, A: Allocator + Copy> FrozenMap<K, V, A> {
         Ok(other.lock.read(rt).same(&copied))
     }
 
+    /// The table itself, to write: it may change or remove anything. Takes no lock, since the owner has the map alone.
+    pub fn as_mut(&mut self) -> &mut HashMap<K, Arc<V, A>, BuildHasherDefault<FoldHasher>, A> {
+        self.lock.get_mut().table_mut()
+    }
+}
+
+impl<K: Eq + Hash + Drop, V: Drop, A: Allocator + Copy> FrozenMap<K, V, A> {
+    /// An owner of the value that the key has afterwards: its own if it is present, else the one given.
+    pub fn insert(&self, rt: &impl Wait, key: K, value: V) -> Result<Arc<V, A>, AllocError> {
+        self.lock.write(rt).insert(key, value)
+    }
+
+    /// `insert`, with whether the key was new.
+    pub fn insert_new(
+        &self,
+        rt: &impl Wait,
+        key: K,
+        value: V,
+    ) -> Result<(Arc<V, A>, bool), AllocError> {
+        self.lock.write(rt).insert_new(key, value)
+    }
+
+    /// `insert` of what `f` returns, which is called only where the key is absent and room was made for it.
+    ///
+    /// `f` runs while this call has the lock alone: a call on the same map in it may wait for ever.
+    pub fn insert_with<F: FnOnce() -> V + Drop>(
+        &self,
+        rt: &impl Wait,
+        key: K,
+        f: F,
+    ) -> Result<Arc<V, A>, AllocError>
+        requires { F.IsAlwaysCallable f }
+    {
+        self.lock.write(rt).insert_with(key, f)
+    }
+
+    /// `insert_with` for an `f` that is given the key.
+    pub fn insert_with_key<F: FnOnce(&K) -> V + Drop>(
+        &self,
+        rt: &impl Wait,
+        key: K,
+        f: F,
+    ) -> Result<Arc<V, A>, AllocError>
+        requires { F.IsAlwaysCallable f }
+    {
+        self.lock.write(rt).insert_with_key(key, f)
+    }
+
     /// The entries, each once, in no specified order. Takes no lock, since the owner has the map alone.
     ///
     /// `Err` drops the map.
     pub fn into_tuple_vec(self) -> Result<Vec<(K, Arc<V, A>), A>, AllocError>
-    where
-        K: Drop,
-        V: Drop,
         ensures { IfOk result (λ v. IsDistinct K.eq (keys_of v.items)) }
     {
         let FrozenMap { lock } = self;
         lock.into_inner().into_tuple_vec()
     }
+}
 
-    /// The table itself, to write: it may change or remove anything. Takes no lock, since the owner has the map alone.
-    pub fn as_mut(&mut self) -> &mut HashMap<K, Arc<V, A>, BuildHasherDefault<FoldHasher>, A> {
-        self.lock.get_mut().table_mut()
+impl<K: Eq + Hash + Drop, V: Copy, A: Allocator + Copy> FrozenMap<K, V, A> {
+    /// A copy of the value that the key has afterwards. A present key takes no memory.
+    pub fn get_copy_or_insert(&self, rt: &impl Wait, key: K, value: V) -> Result<V, AllocError> {
+        self.lock.write(rt).get_copy_or_insert(key, value)
+    }
+
+    /// `get_copy_or_insert` of what `f` returns, which is called only where the key is absent and room was made for it.
+    ///
+    /// `f` runs while this call has the lock alone: a call on the same map in it may wait for ever.
+    pub fn get_copy_or_insert_with<F: FnOnce() -> V + Drop>(
+        &self,
+        rt: &impl Wait,
+        key: K,
+        f: F,
+    ) -> Result<V, AllocError>
+        requires { F.IsAlwaysCallable f }
+    {
+        self.lock.write(rt).get_copy_or_insert_with(key, f)
+    }
+
+    /// `get_copy_or_insert_with` for an `f` that is given the key.
+    pub fn get_copy_or_insert_with_key<F: FnOnce(&K) -> V + Drop>(
+        &self,
+        rt: &impl Wait,
+        key: K,
+        f: F,
+    ) -> Result<V, AllocError>
+        requires { F.IsAlwaysCallable f }
+    {
+        self.lock.write(rt).get_copy_or_insert_with_key(key, f)
     }
 }

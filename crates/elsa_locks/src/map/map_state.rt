@@ -62,10 +62,11 @@ fn make_room<K: Eq + Hash, V, A: Allocator + Copy>(
 
 /// Stores an owner at a key that is absent. Takes no memory.
 #[tactic(auto, using(crate::proofs::Shared::lookup_shown, crate::proofs::Shared::length_shown))]
-fn store<K: Eq + Hash, V, A: Allocator + Copy>(table: &mut Table<K, V, A>, key: K, value: Arc<V, A>)
-where
-    K: Drop,
-    V: Drop,
+fn store<K: Eq + Hash + Drop, V: Drop, A: Allocator + Copy>(
+    table: &mut Table<K, V, A>,
+    key: K,
+    value: Arc<V, A>,
+)
     requires room { 0 < spare table.old }
     requires absent { value_at K.eq (shown table.old.entries) key ≡ None }
     ensures content { IsInserted K.eq (shown table.old.entries) key (arc_value value)
@@ -76,15 +77,12 @@ where
 }
 
 /// Adds a value at a key that is absent, and returns one more owner of it.
-fn add<K: Eq + Hash, V, A: Allocator + Copy>(
+fn add<K: Eq + Hash + Drop, V: Drop, A: Allocator + Copy>(
     table: &mut Table<K, V, A>,
     alloc: A,
     key: K,
     value: V,
 ) -> Result<Arc<V, A>, AllocError>
-where
-    K: Drop,
-    V: Drop,
     requires room { 0 < spare table.old }
     requires absent { value_at K.eq (shown table.old.entries) key ≡ None }
 
@@ -94,7 +92,7 @@ where
         IsInserted K.eq (shown table.old.entries) key value (shown table.new.entries)) }
     ensures length { OnOk result (
         length (shown table.new.entries) ≡ length (shown table.old.entries) + 1) }
-    ensures err { OnErr result (table.new ≡ table.old) }
+    ensures refused { OnErr result (table.new ≡ table.old) }
 {
     let made = Arc::new(alloc, value)?;
     let answer = made.clone()?;
@@ -136,7 +134,7 @@ impl<K: Eq + Hash, V, A: Allocator + Copy> MapState<K, V, A> {
     where
         V: Drop,
         ensures answer { IfOk result (λ a. option_map arc_value a ≡ value_at K.eq self.now key.now) }
-        ensures err_only_if_there { OnErr result (is_some (value_at K.eq self.now key.now) ≡ true) }
+        ensures only_there { OnErr result (is_some (value_at K.eq self.now key.now) ≡ true) }
     {
         match find(&self.table, key) {
             Some(value) => Ok(Some(value.clone()?)),
@@ -157,9 +155,7 @@ impl<K: Eq + Hash, V, A: Allocator + Copy> MapState<K, V, A> {
     }
 
     /// What the one call of `f` on the value at the key returns, or `None`, without a call, if the key is absent.
-    pub fn map_get<R, F: FnOnce(&V) -> R>(&self, key: &K, f: F) -> Option<R>
-    where
-        F: Drop,
+    pub fn map_get<R, F: FnOnce(&V) -> R + Drop>(&self, key: &K, f: F) -> Option<R>
         requires { IfSome (value_at K.eq self.now key.now) (FnOnceTakesAt F.FnOnce f) }
         ensures called { IfSome result (λ r.
             IfSome (value_at K.eq self.now key.now) (λ v. FnOnceReturnsAt F.FnOnce f v r)) }
@@ -169,181 +165,6 @@ impl<K: Eq + Hash, V, A: Allocator + Copy> MapState<K, V, A> {
             Some(value) => Some(f(&**value)),
             None => None,
         }
-    }
-
-    /// An owner of the value that the key has afterwards, and whether the key was new.
-    ///
-    /// A present key keeps its value, and the key and the value passed in are dropped. A new key takes one
-    /// request for the value's `Arc`, and one more where the table has to grow. `Err` leaves the content.
-    pub fn insert_new(&mut self, key: K, value: V) -> Result<(Arc<V, A>, bool), AllocError>
-    where
-        K: Drop,
-        V: Drop,
-        ensures answer { IfOk result (λ a. value_at K.eq self.new key ≡ Some (arc_value a.0)) }
-        ensures new { IfOk result (λ a. IsTrue a.1 ↔ (value_at K.eq self.old key ≡ None)) }
-        ensures content { OnOk result (IsInserted K.eq self.old key value self.new) }
-        ensures length { IfOk result (λ a. length self.new ≡ length self.old + (if a.1 then 1 else 0)) }
-        ensures err { OnErr result (IsSameContent K.eq self.old self.new) }
-    {
-        if let Some(there) = find(&self.table, &key) {
-            return Ok((there.clone()?, false));
-        }
-        make_room(&mut self.table)?;
-        let answer = add(&mut self.table, self.alloc, key, value)?;
-        Ok((answer, true))
-    }
-
-    /// An owner of the value that the key has afterwards: its own if it is present, else the one given.
-    ///
-    /// Existing values are never overwritten. `Err` leaves the content.
-    pub fn insert(&mut self, key: K, value: V) -> Result<Arc<V, A>, AllocError>
-    where
-        K: Drop,
-        V: Drop,
-        ensures answer { IfOk result (λ a. value_at K.eq self.new key ≡ Some (arc_value a)) }
-        ensures content { OnOk result (IsInserted K.eq self.old key value self.new) }
-        ensures err { OnErr result (IsSameContent K.eq self.old self.new) }
-    {
-        Ok(self.insert_new(key, value)?.0)
-    }
-
-    /// `insert` of what `f` returns, which is called only where the key is absent.
-    ///
-    /// The order is: look up; make room; call `f`; make the `Arc`; share it; store. So `f` isn't called where the room
-    /// failed, and its result is dropped where a later step failed. `Err` leaves the content.
-    pub fn insert_with<F: FnOnce() -> V>(&mut self, key: K, f: F) -> Result<Arc<V, A>, AllocError>
-    where
-        K: Drop,
-        V: Drop,
-        F: Drop,
-        requires { value_at K.eq self.old key ≡ None → F.pre f }
-        ensures answer { IfOk result (λ a.
-            UnwrapsOrElse (value_at K.eq self.old key) (F.post f) (arc_value a)) }
-        ensures content { IfOk result (λ a. IsInserted K.eq self.old key (arc_value a) self.new) }
-        ensures err { OnErr result (IsSameContent K.eq self.old self.new) }
-    {
-        if let Some(found) = find(&self.table, &key) {
-            return Ok(found.clone()?);
-        }
-        make_room(&mut self.table)?;
-        let made = f();
-        add(&mut self.table, self.alloc, key, made)
-    }
-
-    /// `insert_with` for an `f` that is given the key.
-    pub fn insert_with_key<F: FnOnce(&K) -> V>(
-        &mut self,
-        key: K,
-        f: F,
-    ) -> Result<Arc<V, A>, AllocError>
-    where
-        K: Drop,
-        V: Drop,
-        F: Drop,
-        requires { value_at K.eq self.old key ≡ None → FnOnceTakesAt F.FnOnce f key }
-        ensures answer { IfOk result (λ a.
-            UnwrapsOrElse (value_at K.eq self.old key) (FnOnceReturnsAt F.FnOnce f key)
-            (arc_value a)) }
-        ensures content { IfOk result (λ a. IsInserted K.eq self.old key (arc_value a) self.new) }
-        ensures err { OnErr result (IsSameContent K.eq self.old self.new) }
-    {
-        match find(&self.table, &key) {
-            Some(there) => return Ok(there.clone()?),
-            None => {}
-        }
-        make_room(&mut self.table)?;
-        let made = f(&key);
-        add(&mut self.table, self.alloc, key, made)
-    }
-
-    /// A copy of the value that the key has afterwards, and whether the key was new.
-    ///
-    /// A present key takes no memory and always succeeds. `Err` leaves the content.
-    pub fn get_copy_or_insert_new(&mut self, key: K, value: V) -> Result<(V, bool), AllocError>
-    where
-        K: Drop,
-        V: Copy,
-        ensures answer { IfOk result (λ a. value_at K.eq self.new key ≡ Some a.0) }
-        ensures new { IfOk result (λ a. IsTrue a.1 ↔ (value_at K.eq self.old key ≡ None)) }
-        ensures content { OnOk result (IsInserted K.eq self.old key value self.new) }
-        ensures err { OnErr result (IsSameContent K.eq self.old self.new) }
-        ensures err_only_if_absent { OnErr result (value_at K.eq self.old key ≡ None) }
-    {
-        if let Some(owner) = find(&self.table, &key) {
-            return Ok((**owner, false));
-        }
-        make_room(&mut self.table)?;
-        store(&mut self.table, key, Arc::new(self.alloc, value)?);
-        Ok((value, true))
-    }
-
-    /// A copy of the value that the key has afterwards: its own if it is present, else the one given.
-    ///
-    /// A present key takes no memory and always succeeds. `Err` leaves the content.
-    pub fn get_copy_or_insert(&mut self, key: K, value: V) -> Result<V, AllocError>
-    where
-        K: Drop,
-        V: Copy,
-        ensures answer { IfOk result (λ v. value_at K.eq self.new key ≡ Some v) }
-        ensures content { OnOk result (IsInserted K.eq self.old key value self.new) }
-        ensures err { OnErr result (IsSameContent K.eq self.old self.new) }
-        ensures err_only_if_absent { OnErr result (value_at K.eq self.old key ≡ None) }
-    {
-        Ok(self.get_copy_or_insert_new(key, value)?.0)
-    }
-
-    /// `get_copy_or_insert` of what `f` returns, which is called only where the key is absent.
-    ///
-    /// The order is: look up; make room; call `f`; make the `Arc`; store. `Err` leaves the content.
-    pub fn get_copy_or_insert_with<F: FnOnce() -> V>(
-        &mut self,
-        key: K,
-        f: F,
-    ) -> Result<V, AllocError>
-    where
-        K: Drop,
-        V: Copy,
-        F: Drop,
-        requires { value_at K.eq self.old key ≡ None → F.pre f }
-        ensures answer { IfOk result (UnwrapsOrElse (value_at K.eq self.old key) (F.post f)) }
-        ensures content { IfOk result (λ v. IsInserted K.eq self.old key v self.new) }
-        ensures err { OnErr result (IsSameContent K.eq self.old self.new) }
-        ensures err_only_if_absent { OnErr result (value_at K.eq self.old key ≡ None) }
-    {
-        if let Some(kept) = find(&self.table, &key) {
-            return Ok(**kept);
-        }
-        make_room(&mut self.table)?;
-        let value = f();
-        store(&mut self.table, key, Arc::new(self.alloc, value)?);
-        Ok(value)
-    }
-
-    /// `get_copy_or_insert_with` for an `f` that is given the key.
-    pub fn get_copy_or_insert_with_key<F: FnOnce(&K) -> V>(
-        &mut self,
-        key: K,
-        f: F,
-    ) -> Result<V, AllocError>
-    where
-        K: Drop,
-        V: Copy,
-        F: Drop,
-        requires { value_at K.eq self.old key ≡ None → FnOnceTakesAt F.FnOnce f key }
-        ensures answer { IfOk result (
-            UnwrapsOrElse (value_at K.eq self.old key) (FnOnceReturnsAt F.FnOnce f key)) }
-        ensures content { IfOk result (λ v. IsInserted K.eq self.old key v self.new) }
-        ensures err { OnErr result (IsSameContent K.eq self.old self.new) }
-        ensures err_only_if_absent { OnErr result (value_at K.eq self.old key ≡ None) }
-    {
-        match find(&self.table, &key) {
-            Some(there) => return Ok(**there),
-            None => {}
-        }
-        make_room(&mut self.table)?;
-        let value = f(&key);
-        store(&mut self.table, key, Arc::new(self.alloc, value)?);
-        Ok(value)
     }
 
     /// A clone of each key, each once, in no specified order. `O(n)`, one request for the list besides the keys' clones.
@@ -385,11 +206,108 @@ impl<K: Eq + Hash, V, A: Allocator + Copy> MapState<K, V, A> {
         self.table == other.table
     }
 
+    /// The table itself, to write.
+    pub(crate) fn table_mut(&mut self) -> &mut Table<K, V, A>
+        ensures { shown result.now.entries ≡ self.old }
+    {
+        &mut self.table
+    }
+}
+
+impl<K: Eq + Hash + Drop, V: Drop, A: Allocator + Copy> MapState<K, V, A> {
+    /// An owner of the value that the key has afterwards, and whether the key was new.
+    ///
+    /// A present key keeps its value, and the key and the value passed in are dropped. A new key takes one
+    /// request for the value's `Arc`, and one more where the table has to grow. `Err` leaves the content.
+    pub fn insert_new(&mut self, key: K, value: V) -> Result<(Arc<V, A>, bool), AllocError>
+        ensures stands { IfOk result (λ a. value_at K.eq self.new key ≡ Some (arc_value a.0)) }
+        ensures new { IfOk result (λ a. IsTrue a.1 ↔ (value_at K.eq self.old key ≡ None)) }
+        ensures present { (x : V) → value_at K.eq self.old key ≡ Some x → self.new ≡ self.old }
+        ensures content { OnOk result (IsInserted K.eq self.old key value self.new) }
+        ensures length { IfOk result (λ a. length self.new ≡ length self.old + (if a.1 then 1 else 0)) }
+
+        // A refusal changes nothing.
+        ensures refused { OnErr result (IsSameContent K.eq self.old self.new) }
+    {
+        if let Some(there) = find(&self.table, &key) {
+            return Ok((there.clone()?, false));
+        }
+        make_room(&mut self.table)?;
+        let answer = add(&mut self.table, self.alloc, key, value)?;
+        Ok((answer, true))
+    }
+
+    /// An owner of the value that the key has afterwards: its own if it is present, else the one given.
+    ///
+    /// Existing values are never overwritten. `Err` leaves the content.
+    pub fn insert(&mut self, key: K, value: V) -> Result<Arc<V, A>, AllocError>
+        ensures stands { IfOk result (λ a. value_at K.eq self.new key ≡ Some (arc_value a)) }
+        ensures present { (x : V) → value_at K.eq self.old key ≡ Some x → self.new ≡ self.old }
+        ensures new_length { value_at K.eq self.old key ≡ None →
+            OnOk result (length self.new ≡ length self.old + 1) }
+        ensures content { OnOk result (IsInserted K.eq self.old key value self.new) }
+        ensures refused { OnErr result (IsSameContent K.eq self.old self.new) }
+    {
+        Ok(self.insert_new(key, value)?.0)
+    }
+
+    /// `insert` of what `f` returns, which is called only where the key is absent.
+    ///
+    /// The order is: look up; make room; call `f`; make the `Arc`; share it; store. So `f` isn't called where the room
+    /// failed, and its result is dropped where a later step failed. `Err` leaves the content.
+    pub fn insert_with<F: FnOnce() -> V + Drop>(
+        &mut self,
+        key: K,
+        f: F,
+    ) -> Result<Arc<V, A>, AllocError>
+        requires { value_at K.eq self.old key ≡ None → F.pre f }
+        ensures answer { IfOk result (λ a.
+            UnwrapsOrElse (value_at K.eq self.old key) (F.post f) (arc_value a)) }
+        ensures present { (x : V) → value_at K.eq self.old key ≡ Some x → self.new ≡ self.old }
+        ensures new_length { value_at K.eq self.old key ≡ None →
+            OnOk result (length self.new ≡ length self.old + 1) }
+        ensures content { IfOk result (λ a. IsInserted K.eq self.old key (arc_value a) self.new) }
+
+        // A refusal changes nothing.
+        ensures refused { OnErr result (IsSameContent K.eq self.old self.new) }
+    {
+        if let Some(found) = find(&self.table, &key) {
+            return Ok(found.clone()?);
+        }
+        make_room(&mut self.table)?;
+        let made = f();
+        add(&mut self.table, self.alloc, key, made)
+    }
+
+    /// `insert_with` for an `f` that is given the key.
+    pub fn insert_with_key<F: FnOnce(&K) -> V + Drop>(
+        &mut self,
+        key: K,
+        f: F,
+    ) -> Result<Arc<V, A>, AllocError>
+        requires { value_at K.eq self.old key ≡ None → FnOnceTakesAt F.FnOnce f key }
+        ensures answer { IfOk result (λ a.
+            UnwrapsOrElse (value_at K.eq self.old key) (FnOnceReturnsAt F.FnOnce f key)
+            (arc_value a)) }
+        ensures present { (x : V) → value_at K.eq self.old key ≡ Some x → self.new ≡ self.old }
+        ensures new_length { value_at K.eq self.old key ≡ None →
+            OnOk result (length self.new ≡ length self.old + 1) }
+        ensures content { IfOk result (λ a. IsInserted K.eq self.old key (arc_value a) self.new) }
+
+        // A refusal changes nothing.
+        ensures refused { OnErr result (IsSameContent K.eq self.old self.new) }
+    {
+        match find(&self.table, &key) {
+            Some(there) => return Ok(there.clone()?),
+            None => {}
+        }
+        make_room(&mut self.table)?;
+        let made = f(&key);
+        add(&mut self.table, self.alloc, key, made)
+    }
+
     /// The entries, each once, in no specified order. `Err` drops the map.
     pub fn into_tuple_vec(self) -> Result<Vec<(K, Arc<V, A>), A>, AllocError>
-    where
-        K: Drop,
-        V: Drop,
         ensures pairs { IfOk result (λ v. shown v.items ≡ self) }
         ensures distinct { IfOk result (λ v. IsDistinct K.eq (keys_of v.items)) }
     {
@@ -400,11 +318,102 @@ impl<K: Eq + Hash, V, A: Allocator + Copy> MapState<K, V, A> {
         }
         Ok(pairs)
     }
+}
 
-    /// The table itself, to write.
-    pub(crate) fn table_mut(&mut self) -> &mut Table<K, V, A>
-        ensures { shown result.now.entries ≡ self.old }
+impl<K: Eq + Hash + Drop, V: Copy, A: Allocator + Copy> MapState<K, V, A> {
+    /// A copy of the value that the key has afterwards, and whether the key was new.
+    ///
+    /// A present key takes no memory and always succeeds. `Err` leaves the content.
+    pub fn get_copy_or_insert_new(&mut self, key: K, value: V) -> Result<(V, bool), AllocError>
+        ensures stands { IfOk result (λ a. value_at K.eq self.new key ≡ Some a.0) }
+        ensures new { IfOk result (λ a. IsTrue a.1 ↔ (value_at K.eq self.old key ≡ None)) }
+        ensures present { (x : V) → value_at K.eq self.old key ≡ Some x → self.new ≡ self.old }
+        ensures new_length { value_at K.eq self.old key ≡ None →
+            OnOk result (length self.new ≡ length self.old + 1) }
+        ensures content { OnOk result (IsInserted K.eq self.old key value self.new) }
+
+        // A refusal changes nothing, and comes only for an absent key.
+        ensures refused { OnErr result (IsSameContent K.eq self.old self.new) }
+        ensures only_new { OnErr result (value_at K.eq self.old key ≡ None) }
     {
-        &mut self.table
+        if let Some(owner) = find(&self.table, &key) {
+            return Ok((**owner, false));
+        }
+        make_room(&mut self.table)?;
+        store(&mut self.table, key, Arc::new(self.alloc, value)?);
+        Ok((value, true))
+    }
+
+    /// A copy of the value that the key has afterwards: its own if it is present, else the one given.
+    ///
+    /// A present key takes no memory and always succeeds. `Err` leaves the content.
+    pub fn get_copy_or_insert(&mut self, key: K, value: V) -> Result<V, AllocError>
+        ensures stands { IfOk result (λ v. value_at K.eq self.new key ≡ Some v) }
+        ensures present { (x : V) → value_at K.eq self.old key ≡ Some x → self.new ≡ self.old }
+        ensures new_length { value_at K.eq self.old key ≡ None →
+            OnOk result (length self.new ≡ length self.old + 1) }
+        ensures content { OnOk result (IsInserted K.eq self.old key value self.new) }
+
+        // A refusal changes nothing, and comes only for an absent key.
+        ensures refused { OnErr result (IsSameContent K.eq self.old self.new) }
+        ensures only_new { OnErr result (value_at K.eq self.old key ≡ None) }
+    {
+        Ok(self.get_copy_or_insert_new(key, value)?.0)
+    }
+
+    /// `get_copy_or_insert` of what `f` returns, which is called only where the key is absent.
+    ///
+    /// The order is: look up; make room; call `f`; make the `Arc`; store. `Err` leaves the content.
+    pub fn get_copy_or_insert_with<F: FnOnce() -> V + Drop>(
+        &mut self,
+        key: K,
+        f: F,
+    ) -> Result<V, AllocError>
+        requires { value_at K.eq self.old key ≡ None → F.pre f }
+        ensures answer { IfOk result (UnwrapsOrElse (value_at K.eq self.old key) (F.post f)) }
+        ensures present { (x : V) → value_at K.eq self.old key ≡ Some x → self.new ≡ self.old }
+        ensures new_length { value_at K.eq self.old key ≡ None →
+            OnOk result (length self.new ≡ length self.old + 1) }
+        ensures content { IfOk result (λ v. IsInserted K.eq self.old key v self.new) }
+
+        // A refusal changes nothing, and comes only for an absent key.
+        ensures refused { OnErr result (IsSameContent K.eq self.old self.new) }
+        ensures only_new { OnErr result (value_at K.eq self.old key ≡ None) }
+    {
+        if let Some(kept) = find(&self.table, &key) {
+            return Ok(**kept);
+        }
+        make_room(&mut self.table)?;
+        let value = f();
+        store(&mut self.table, key, Arc::new(self.alloc, value)?);
+        Ok(value)
+    }
+
+    /// `get_copy_or_insert_with` for an `f` that is given the key.
+    pub fn get_copy_or_insert_with_key<F: FnOnce(&K) -> V + Drop>(
+        &mut self,
+        key: K,
+        f: F,
+    ) -> Result<V, AllocError>
+        requires { value_at K.eq self.old key ≡ None → FnOnceTakesAt F.FnOnce f key }
+        ensures answer { IfOk result (
+            UnwrapsOrElse (value_at K.eq self.old key) (FnOnceReturnsAt F.FnOnce f key)) }
+        ensures present { (x : V) → value_at K.eq self.old key ≡ Some x → self.new ≡ self.old }
+        ensures new_length { value_at K.eq self.old key ≡ None →
+            OnOk result (length self.new ≡ length self.old + 1) }
+        ensures content { IfOk result (λ v. IsInserted K.eq self.old key v self.new) }
+
+        // A refusal changes nothing, and comes only for an absent key.
+        ensures refused { OnErr result (IsSameContent K.eq self.old self.new) }
+        ensures only_new { OnErr result (value_at K.eq self.old key ≡ None) }
+    {
+        match find(&self.table, &key) {
+            Some(there) => return Ok(**there),
+            None => {}
+        }
+        make_room(&mut self.table)?;
+        let value = f(&key);
+        store(&mut self.table, key, Arc::new(self.alloc, value)?);
+        Ok(value)
     }
 }

@@ -47,14 +47,11 @@ fn find<'m, K: Ord, V, A: Allocator>(table: &'m Table<K, V, A>, key: &K) -> Opti
 
 /// Stores an owner at a key, in place of the one that is there, if any. `Err` leaves the entries.
 #[tactic(auto, using(crate::proofs::Shared::lookup_shown, crate::proofs::Shared::length_shown))]
-fn store<K: Ord, V, A: Allocator + Copy>(
+fn store<K: Ord + Drop, V: Drop, A: Allocator + Copy>(
     table: &mut Table<K, V, A>,
     key: K,
     value: Arc<V, A>,
 ) -> Result<(), AllocError>
-where
-    K: Drop,
-    V: Drop,
     ensures content { OnOk result (
         (q : K) →
         value_at (eq_by_cmp K.cmp) (shown table.new.entries) q
@@ -62,7 +59,7 @@ where
     ensures length { OnOk result (
         value_at (eq_by_cmp K.cmp) (shown table.old.entries) key ≡ None →
         length (shown table.new.entries) ≡ length (shown table.old.entries) + 1) }
-    ensures err { OnErr result (table.new.entries ≡ table.old.entries) }
+    ensures refused { OnErr result (table.new.entries ≡ table.old.entries) }
 {
     table.insert(key, value)?;
     Ok(())
@@ -84,30 +81,6 @@ impl<K: Ord, V, A: Allocator + Copy> TreeState<K, V, A> {
         ensures { result ≡ shown map.entries }
     {
         TreeState { table: map, alloc }
-    }
-
-    /// The map of the items: each key has the value of its last pair. `O(n log n)`.
-    ///
-    /// `Err` where the memory of an `Arc` or of a growth was refused; what was collected is dropped.
-    pub fn from_iter<I: Iterator<Item = (K, V)> + Drop>(
-        alloc: A,
-        items: I,
-    ) -> Result<Self, AllocError>
-    where
-        K: Drop,
-        V: Drop,
-        requires can { I.can_next items }
-        requires ends { IsFinite (I.remaining items) }
-        ensures { IfOk result (λ m.
-            (pairs : List (K × V)) × Drains I.next_gives items pairs
-            × IsCollected (eq_by_cmp K.cmp) pairs m) }
-    {
-        let mut table = BTreeMap::new(alloc);
-        for (key, value) in items {
-            let made = Arc::new(alloc, value)?;
-            store(&mut table, key, made)?;
-        }
-        Ok(TreeState { table, alloc })
     }
 
     /// The number of entries; their keys ascend.
@@ -134,7 +107,7 @@ impl<K: Ord, V, A: Allocator + Copy> TreeState<K, V, A> {
         V: Drop,
         ensures answer { IfOk result (λ a.
             option_map arc_value a ≡ value_at (eq_by_cmp K.cmp) self.now key.now) }
-        ensures err_only_if_there { OnErr result (
+        ensures only_there { OnErr result (
             is_some (value_at (eq_by_cmp K.cmp) self.now key.now) ≡ true) }
     {
         match find(&self.table, key) {
@@ -156,9 +129,7 @@ impl<K: Ord, V, A: Allocator + Copy> TreeState<K, V, A> {
     }
 
     /// What the one call of `f` on the value at the key returns, or `None`, without a call, if the key is absent.
-    pub fn map_get<R, F: FnOnce(&V) -> R>(&self, key: &K, f: F) -> Option<R>
-    where
-        F: Drop,
+    pub fn map_get<R, F: FnOnce(&V) -> R + Drop>(&self, key: &K, f: F) -> Option<R>
         requires { IfSome (value_at (eq_by_cmp K.cmp) self.now key.now) (FnOnceTakesAt F.FnOnce f) }
         ensures called { IfSome result (λ r.
             IfSome (value_at (eq_by_cmp K.cmp) self.now key.now) (λ v.
@@ -171,45 +142,6 @@ impl<K: Ord, V, A: Allocator + Copy> TreeState<K, V, A> {
         }
     }
 
-    /// An owner of the value that the key has afterwards, and whether the key was new.
-    ///
-    /// A present key keeps its value, and the key and the value passed in are dropped. A new key takes one
-    /// request for the value's `Arc`, and more where the tree has to grow. `Err` leaves the entries.
-    pub fn insert_new(&mut self, key: K, value: V) -> Result<(Arc<V, A>, bool), AllocError>
-    where
-        K: Drop,
-        V: Drop,
-        ensures answer { IfOk result (λ a.
-            value_at (eq_by_cmp K.cmp) self.new key ≡ Some (arc_value a.0)) }
-        ensures new { IfOk result (λ a. IsTrue a.1 ↔ (value_at (eq_by_cmp K.cmp) self.old key ≡ None)) }
-        ensures content { OnOk result (IsInserted (eq_by_cmp K.cmp) self.old key value self.new) }
-        ensures length { IfOk result (λ a. length self.new ≡ length self.old + (if a.1 then 1 else 0)) }
-        ensures err { OnErr result (self.new ≡ self.old) }
-    {
-        if let Some(there) = find(&self.table, &key) {
-            return Ok((there.clone()?, false));
-        }
-        let made = Arc::new(self.alloc, value)?;
-        let answer = made.clone()?;
-        store(&mut self.table, key, made)?;
-        Ok((answer, true))
-    }
-
-    /// An owner of the value that the key has afterwards: its own if it is present, else the one given.
-    ///
-    /// Existing values are never overwritten. `Err` leaves the entries.
-    pub fn insert(&mut self, key: K, value: V) -> Result<Arc<V, A>, AllocError>
-    where
-        K: Drop,
-        V: Drop,
-        ensures answer { IfOk result (λ a.
-            value_at (eq_by_cmp K.cmp) self.new key ≡ Some (arc_value a)) }
-        ensures content { OnOk result (IsInserted (eq_by_cmp K.cmp) self.old key value self.new) }
-        ensures err { OnErr result (self.new ≡ self.old) }
-    {
-        Ok(self.insert_new(key, value)?.0)
-    }
-
     /// A copy of the value that the key has afterwards, and whether the key was new.
     ///
     /// A present key takes no memory and always succeeds. `Err` leaves the entries.
@@ -217,11 +149,17 @@ impl<K: Ord, V, A: Allocator + Copy> TreeState<K, V, A> {
     where
         K: Drop,
         V: Copy,
-        ensures answer { IfOk result (λ a. value_at (eq_by_cmp K.cmp) self.new key ≡ Some a.0) }
+        ensures stands { IfOk result (λ a. value_at (eq_by_cmp K.cmp) self.new key ≡ Some a.0) }
         ensures new { IfOk result (λ a. IsTrue a.1 ↔ (value_at (eq_by_cmp K.cmp) self.old key ≡ None)) }
+        ensures present { (x : V) → value_at (eq_by_cmp K.cmp) self.old key ≡ Some x →
+            self.new ≡ self.old }
+        ensures new_length { value_at (eq_by_cmp K.cmp) self.old key ≡ None →
+            OnOk result (length self.new ≡ length self.old + 1) }
         ensures content { OnOk result (IsInserted (eq_by_cmp K.cmp) self.old key value self.new) }
-        ensures err { OnErr result (self.new ≡ self.old) }
-        ensures err_only_if_absent { OnErr result (value_at (eq_by_cmp K.cmp) self.old key ≡ None) }
+
+        // A refusal changes nothing, and comes only for an absent key.
+        ensures refused { OnErr result (self.new ≡ self.old) }
+        ensures only_new { OnErr result (value_at (eq_by_cmp K.cmp) self.old key ≡ None) }
     {
         if let Some(owner) = find(&self.table, &key) {
             return Ok((**owner, false));
@@ -257,13 +195,74 @@ impl<K: Ord, V, A: Allocator + Copy> TreeState<K, V, A> {
         }
         *mine == *theirs
     }
+}
+
+impl<K: Ord + Drop, V: Drop, A: Allocator + Copy> TreeState<K, V, A> {
+    /// The map of the items: each key has the value of its last pair. `O(n log n)`.
+    ///
+    /// `Err` where the memory of an `Arc` or of a growth was refused; what was collected is dropped.
+    pub fn from_iter<I: Iterator<Item = (K, V)> + Drop>(
+        alloc: A,
+        items: I,
+    ) -> Result<Self, AllocError>
+        requires can { I.can_next items }
+        requires ends { IsFinite (I.remaining items) }
+        ensures { IfOk result (λ m.
+            (pairs : List (K × V)) × Drains I.next_gives items pairs
+            × IsCollected (eq_by_cmp K.cmp) pairs m) }
+    {
+        let mut table = BTreeMap::new(alloc);
+        for (key, value) in items {
+            let made = Arc::new(alloc, value)?;
+            store(&mut table, key, made)?;
+        }
+        Ok(TreeState { table, alloc })
+    }
+
+    /// An owner of the value that the key has afterwards, and whether the key was new.
+    ///
+    /// A present key keeps its value, and the key and the value passed in are dropped. A new key takes one
+    /// request for the value's `Arc`, and more where the tree has to grow. `Err` leaves the entries.
+    pub fn insert_new(&mut self, key: K, value: V) -> Result<(Arc<V, A>, bool), AllocError>
+        ensures stands { IfOk result (λ a.
+            value_at (eq_by_cmp K.cmp) self.new key ≡ Some (arc_value a.0)) }
+        ensures new { IfOk result (λ a. IsTrue a.1 ↔ (value_at (eq_by_cmp K.cmp) self.old key ≡ None)) }
+        ensures present { (x : V) → value_at (eq_by_cmp K.cmp) self.old key ≡ Some x →
+            self.new ≡ self.old }
+        ensures content { OnOk result (IsInserted (eq_by_cmp K.cmp) self.old key value self.new) }
+        ensures length { IfOk result (λ a. length self.new ≡ length self.old + (if a.1 then 1 else 0)) }
+
+        // A refusal changes nothing.
+        ensures refused { OnErr result (self.new ≡ self.old) }
+    {
+        if let Some(there) = find(&self.table, &key) {
+            return Ok((there.clone()?, false));
+        }
+        let made = Arc::new(self.alloc, value)?;
+        let answer = made.clone()?;
+        store(&mut self.table, key, made)?;
+        Ok((answer, true))
+    }
+
+    /// An owner of the value that the key has afterwards: its own if it is present, else the one given.
+    ///
+    /// Existing values are never overwritten. `Err` leaves the entries.
+    pub fn insert(&mut self, key: K, value: V) -> Result<Arc<V, A>, AllocError>
+        ensures stands { IfOk result (λ a.
+            value_at (eq_by_cmp K.cmp) self.new key ≡ Some (arc_value a)) }
+        ensures present { (x : V) → value_at (eq_by_cmp K.cmp) self.old key ≡ Some x →
+            self.new ≡ self.old }
+        ensures new_length { value_at (eq_by_cmp K.cmp) self.old key ≡ None →
+            OnOk result (length self.new ≡ length self.old + 1) }
+        ensures content { OnOk result (IsInserted (eq_by_cmp K.cmp) self.old key value self.new) }
+        ensures refused { OnErr result (self.new ≡ self.old) }
+    {
+        Ok(self.insert_new(key, value)?.0)
+    }
 
     /// The entries, each once, ascending by key. `Err` drops the map.
     #[tactic(auto, using(crate::proofs::Shared::sorted_shown))]
     pub fn into_tuple_vec(self) -> Result<Vec<(K, Arc<V, A>), A>, AllocError>
-    where
-        K: Drop,
-        V: Drop,
         ensures pairs { IfOk result (λ v. shown v.items ≡ self) }
         ensures ascending { IfOk result (λ v. IsStrictlySortedBy K.cmp (keys_of v.items)) }
     {

@@ -31,38 +31,6 @@ impl<V, A: Allocator + Copy> FrozenVec<V, A> {
         }
     }
 
-    /// Puts the item at the end.
-    pub fn push(&self, rt: &impl Wait, value: V) -> Result<(), AllocError>
-    where
-        V: Drop,
-    {
-        self.lock.write(rt).push(value)
-    }
-
-    /// Puts the item at the end, and returns one more owner of it.
-    pub fn push_get(&self, rt: &impl Wait, value: V) -> Result<Arc<V, A>, AllocError>
-    where
-        V: Drop,
-    {
-        self.lock.write(rt).push_get(value)
-    }
-
-    /// Puts the item at the end, and returns its place, counted from 0.
-    pub fn push_get_index(&self, rt: &impl Wait, value: V) -> Result<usize, AllocError>
-    where
-        V: Drop,
-    {
-        self.lock.write(rt).push_get_index(value)
-    }
-
-    /// An owner of the item at the place, or `None` at or past the end.
-    pub fn get(&self, rt: &impl Wait, place: usize) -> Result<Option<Arc<V, A>>, AllocError>
-    where
-        V: Drop,
-    {
-        self.lock.read(rt).get(place)
-    }
-
     /// The number of items. Takes no memory.
     pub fn len(&self, rt: &impl Wait) -> usize {
         self.lock.read(rt).len()
@@ -71,29 +39,6 @@ impl<V, A: Allocator + Copy> FrozenVec<V, A> {
     /// Whether there is no item. Takes no memory.
     pub fn is_empty(&self, rt: &impl Wait) -> bool {
         self.lock.read(rt).is_empty()
-    }
-
-    /// A list with the same items, which are shared. Later pushes into either leave the other. `O(n)`.
-    pub fn clone(&self, rt: &impl Wait) -> Result<Self, AllocError>
-    where
-        V: Drop,
-    {
-        let copied = self.lock.read(rt).copy()?;
-        Ok(FrozenVec {
-            lock: RwLock::new(copied),
-        })
-    }
-
-    /// Whether both have as many items, equal place by place by `==`. `O(n)`.
-    ///
-    /// It copies its own content under its lock, releases it, and compares under the other's, so a list may be compared
-    /// with itself, and two threads may compare two lists both ways round. `Err` only where the copy failed.
-    pub fn equals(&self, rt: &impl Wait, other: &Self) -> Result<bool, AllocError>
-    where
-        V: PartialEq + Drop,
-    {
-        let copied = self.lock.read(rt).copy()?;
-        Ok(other.lock.read(rt).same(&copied))
     }
 
     /// A walk from place 0. Takes no lock and no memory; each `next` takes the lock by itself.
@@ -118,6 +63,48 @@ impl<V, A: Allocator + Copy> FrozenVec<V, A> {
     }
 }
 
+impl<V: Drop, A: Allocator + Copy> FrozenVec<V, A> {
+    /// Puts the item at the end.
+    pub fn push(&self, rt: &impl Wait, value: V) -> Result<(), AllocError> {
+        self.lock.write(rt).push(value)
+    }
+
+    /// Puts the item at the end, and returns one more owner of it.
+    pub fn push_get(&self, rt: &impl Wait, value: V) -> Result<Arc<V, A>, AllocError> {
+        self.lock.write(rt).push_get(value)
+    }
+
+    /// Puts the item at the end, and returns its place, counted from 0.
+    pub fn push_get_index(&self, rt: &impl Wait, value: V) -> Result<usize, AllocError> {
+        self.lock.write(rt).push_get_index(value)
+    }
+
+    /// An owner of the item at the place, or `None` at or past the end.
+    pub fn get(&self, rt: &impl Wait, place: usize) -> Result<Option<Arc<V, A>>, AllocError> {
+        self.lock.read(rt).get(place)
+    }
+
+    /// A list with the same items, which are shared. Later pushes into either leave the other. `O(n)`.
+    pub fn clone(&self, rt: &impl Wait) -> Result<Self, AllocError> {
+        let copied = self.lock.read(rt).copy()?;
+        Ok(FrozenVec {
+            lock: RwLock::new(copied),
+        })
+    }
+
+    /// Whether both have as many items, equal place by place by `==`. `O(n)`.
+    ///
+    /// It copies its own content under its lock, releases it, and compares under the other's, so a list may be compared
+    /// with itself, and two threads may compare two lists both ways round. `Err` only where the copy failed.
+    pub fn equals(&self, rt: &impl Wait, other: &Self) -> Result<bool, AllocError>
+    where
+        V: PartialEq,
+    {
+        let copied = self.lock.read(rt).copy()?;
+        Ok(other.lock.read(rt).same(&copied))
+    }
+}
+
 /// A walk over a [`FrozenVec`] that may grow meanwhile. Contracts see the place that it asks for next.
 #[derive(Drop)]
 pub struct Iter<'a, V, A: Allocator = Global> {
@@ -133,14 +120,12 @@ impl<'a, V, A: Allocator> Model for Iter<'a, V, A> {
     ghost view = { λ i. i.place };
 }
 
-impl<'a, V, A: Allocator + Copy> Iter<'a, V, A> {
+impl<'a, V: Drop, A: Allocator + Copy> Iter<'a, V, A> {
     /// An owner of the item at the walk's place, and moves on by one; `None` at the end, where the walk keeps its place
     /// and so goes on after a later push. Each call looks at the length afresh. May wait.
     ///
     /// `Err` only where one more owner couldn't be made; the walk keeps its place then.
     pub fn next(&mut self, rt: &impl Wait) -> Result<Option<Arc<V, A>>, AllocError>
-    where
-        V: Drop,
         ensures moves { IfOk result (λ a. IfSome a (λ _. self.new ≡ self.old + 1)) }
         ensures end { IfOk result (λ a. IfNone a (self.new ≡ self.old)) }
         ensures err { OnErr result (self.new ≡ self.old) }

@@ -61,22 +61,6 @@ impl<V, A: Allocator + Copy> VecState<V, A> {
         self.list.is_empty()
     }
 
-    /// An owner of the item at the place, or `None` at or past the end. `O(1)`.
-    ///
-    /// `Err` only where one more owner couldn't be made.
-    #[tactic(auto, using(crate::proofs::Shared::get_items))]
-    pub fn get(&self, place: usize) -> Result<Option<Arc<V, A>>, AllocError>
-    where
-        V: Drop,
-        ensures answer { IfOk result (λ a. option_map arc_value a ≡ slice_get self.now place) }
-        ensures err_only_if_there { OnErr result (place < length self.now) }
-    {
-        match self.list.get(place) {
-            Some(value) => Ok(Some(value.clone()?)),
-            None => Ok(None),
-        }
-    }
-
     /// A copy of the item at the place, or `None` at or past the end. `O(1)`. Takes no memory.
     #[tactic(auto, using(crate::proofs::Shared::get_items))]
     pub fn get_copy(&self, place: usize) -> Option<V>
@@ -88,59 +72,6 @@ impl<V, A: Allocator + Copy> VecState<V, A> {
             Some(value) => Some(**value),
             None => None,
         }
-    }
-
-    /// Puts the item at the end. `Err` leaves the list.
-    pub fn push(&mut self, value: V) -> Result<(), AllocError>
-    where
-        V: Drop,
-        ensures ok { OnOk result (self.new ≡ self.old ++ value ∷ []) }
-        ensures err { OnErr result (self.new ≡ self.old) }
-    {
-        self.push_get_index(value)?;
-        Ok(())
-    }
-
-    /// Puts the item at the end, and returns one more owner of it. `Err` leaves the list.
-    #[tactic(auto, using(crate::proofs::Shared::push_items))]
-    pub fn push_get(&mut self, value: V) -> Result<Arc<V, A>, AllocError>
-    where
-        V: Drop,
-        ensures answer { IfOk result (λ a. arc_value a ≡ value) }
-        ensures ok { OnOk result (self.new ≡ self.old ++ value ∷ []) }
-        ensures err { OnErr result (self.new ≡ self.old) }
-    {
-        let made = Arc::new(self.alloc, value)?;
-        let answer = made.clone()?;
-        self.list.push(made)?;
-        Ok(answer)
-    }
-
-    /// Puts the item at the end, and returns its place. `Err` leaves the list.
-    #[tactic(auto, using(crate::proofs::Shared::length_items, crate::proofs::Shared::push_items))]
-    pub fn push_get_index(&mut self, value: V) -> Result<usize, AllocError>
-    where
-        V: Drop,
-        ensures answer { IfOk result (λ place. place ≡ length self.old) }
-        ensures ok { OnOk result (self.new ≡ self.old ++ value ∷ []) }
-        ensures err { OnErr result (self.new ≡ self.old) }
-    {
-        let place = self.len();
-        let owner = Arc::new(self.alloc, value)?;
-        self.list.push(owner)?;
-        Ok(place)
-    }
-
-    /// A list with the same items, which are shared. `O(n)`. Later pushes into either leave the other.
-    pub fn copy(&self) -> Result<Self, AllocError>
-    where
-        V: Drop,
-        ensures { IfOk result (λ copied. copied ≡ self.now) }
-    {
-        Ok(VecState {
-            list: self.list.clone()?,
-            alloc: self.alloc,
-        })
     }
 
     /// Whether both have as many items, equal place by place by `==`. `O(n)`. Takes no memory.
@@ -165,5 +96,66 @@ impl<V, A: Allocator + Copy> VecState<V, A> {
         ensures { shown_items result.now.items ≡ self.old }
     {
         &mut self.list
+    }
+}
+
+impl<V: Drop, A: Allocator + Copy> VecState<V, A> {
+    /// An owner of the item at the place, or `None` at or past the end. `O(1)`.
+    ///
+    /// `Err` only where one more owner couldn't be made.
+    #[tactic(auto, using(crate::proofs::Shared::get_items))]
+    pub fn get(&self, place: usize) -> Result<Option<Arc<V, A>>, AllocError>
+        ensures answer { IfOk result (λ a. option_map arc_value a ≡ slice_get self.now place) }
+        ensures only_there { OnErr result (place < length self.now) }
+    {
+        match self.list.get(place) {
+            Some(value) => Ok(Some(value.clone()?)),
+            None => Ok(None),
+        }
+    }
+
+    /// Puts the item at the end. `Err` leaves the list.
+    pub fn push(&mut self, value: V) -> Result<(), AllocError>
+        ensures ok { OnOk result (self.new ≡ self.old ++ value ∷ []) }
+        ensures refused { OnErr result (self.new ≡ self.old) }
+    {
+        self.push_get_index(value)?;
+        Ok(())
+    }
+
+    /// Puts the item at the end, and returns one more owner of it. `Err` leaves the list.
+    #[tactic(auto, using(crate::proofs::Shared::push_items))]
+    pub fn push_get(&mut self, value: V) -> Result<Arc<V, A>, AllocError>
+        ensures answer { IfOk result (λ a. arc_value a ≡ value) }
+        ensures ok { OnOk result (self.new ≡ self.old ++ value ∷ []) }
+        ensures refused { OnErr result (self.new ≡ self.old) }
+    {
+        let made = Arc::new(self.alloc, value)?;
+        let answer = made.clone()?;
+        self.list.push(made)?;
+        Ok(answer)
+    }
+
+    /// Puts the item at the end, and returns its place. `Err` leaves the list.
+    #[tactic(auto, using(crate::proofs::Shared::length_items, crate::proofs::Shared::push_items))]
+    pub fn push_get_index(&mut self, value: V) -> Result<usize, AllocError>
+        ensures answer { IfOk result (λ place. place ≡ length self.old) }
+        ensures ok { OnOk result (self.new ≡ self.old ++ value ∷ []) }
+        ensures refused { OnErr result (self.new ≡ self.old) }
+    {
+        let place = self.len();
+        let owner = Arc::new(self.alloc, value)?;
+        self.list.push(owner)?;
+        Ok(place)
+    }
+
+    /// A list with the same items, which are shared. `O(n)`. Later pushes into either leave the other.
+    pub fn copy(&self) -> Result<Self, AllocError>
+        ensures { IfOk result (λ copied. copied ≡ self.now) }
+    {
+        Ok(VecState {
+            list: self.list.clone()?,
+            alloc: self.alloc,
+        })
     }
 }

@@ -1,14 +1,15 @@
 use Rattle.std.proofs.Common.{◌≡◌, map, arith}
 use Rattle.std.specs.Map.{keys_of}
 use Rattle.std.proofs.lemmas.List.{map-append}
+use Rattle.std.proofs.lemmas.List.Elements.{AllZip-push}
 use Rattle.std.proofs.lemmas.Grind.{common_steps}
-use Rattle.elsa_locks.proofs.Clones.{zip_snoc, keys_of_clones}
+use Rattle.elsa_locks.proofs.Clones.{keys_of_clones}
 use Rattle.elsa_locks.proofs.Shared.{keys_shown, distinct_shown}
 use Rattle.elsa_locks.proofs.map.map_state.MapState.keys_cloned.Goals as goal
 
 pub loop-key-preserved : goal.loop-key-preserved
 loop-key-preserved g c = (
-  rw (c.in_ok-push.ensures.items, map-append) (zip_snoc _ _ _ _ _ c.loop-key.invariant.0 c.in_ok-clone.ensures.cases),
+  rw (c.in_ok-push.ensures.items, map-append) (AllZip-push _ _ _ _ _ c.loop-key.invariant.0 c.in_ok-clone.ensures.cases),
   grind (arith, common_steps, c.loop-key.invariant.1, c.in-Some.ensures.steps),
 )
 

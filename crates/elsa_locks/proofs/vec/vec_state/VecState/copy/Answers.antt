@@ -1,4 +1,4 @@
-use Rattle.elsa_locks.proofs.Items.{copied_items}
+use Rattle.elsa_locks.proofs.Clones.{copied_items}
 use Rattle.elsa_locks.proofs.vec.vec_state.VecState.copy.Goals as goal
 
 pub returns : goal.returns
