@@ -2,12 +2,15 @@
 //! crate over `elsa` alone makes.
 #![tactic(auto)]
 
-pub mod cached;
+#[cfg(test)]
+mod cached;
 #[cfg(test)]
 mod caller_tests;
-pub mod kept;
+#[cfg(test)]
+mod kept;
 #[cfg(test)]
 mod printed_form_tests;
 #[cfg(test)]
 mod rare_form_tests;
-pub mod replayed;
+#[cfg(test)]
+mod replayed;

@@ -15,7 +15,8 @@ mod hasher_tests;
 mod index_tests;
 #[cfg(test)]
 mod name_tests;
-pub mod odd_keys;
+#[cfg(test)]
+mod odd_keys;
 #[cfg(test)]
 mod parsed_cache_tests;
 #[cfg(test)]

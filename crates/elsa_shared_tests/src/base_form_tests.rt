@@ -50,26 +50,27 @@ fn kept_in<R, V: StableDeref<R>, M: MapForm<R, Key = u64, Value = V>>(
     map.insert_new(7, value)
 }
 
-/// Whether both maps keep the first value by one function, and are taken apart and made again.
-fn are_maps(alloc: Global) -> Result<bool, AllocError> {
-    let arena = Bump::new(alloc);
-    let mut hashed: FrozenMap<'_, u64, &str> = FrozenMap::new(alloc, &arena);
-    let mut ordered: FrozenBTreeMap<'_, u64, &str> = FrozenBTreeMap::new(alloc, &arena);
-    let first = kept_in(&mut hashed, "x")? == ("x", true)
-        && kept_in(&mut ordered, "y")? == ("y", true);
-    let hashed: FrozenMap<'_, u64, &str> = FrozenMap::from_map(alloc, &arena, hashed.into_map());
-    let ordered: FrozenBTreeMap<'_, u64, &str> = FrozenBTreeMap::from_map(
-        alloc,
-        &arena,
-        ordered.into_map(),
-    );
-    let pairs = ordered.into_tuple_vec()?;
-    Ok(first && hashed.get(&7) == Some("x") && pairs.as_slice() == [(7, "y")].as_slice())
+/// Whether a hashed map keeps the first value, and is taken apart and made again.
+fn is_hashed(alloc: Global, arena: &Bump) -> Result<bool, AllocError> {
+    let mut map: FrozenMap<'_, u64, &str> = FrozenMap::new(alloc, arena);
+    let is_first = kept_in(&mut map, "x")? == ("x", true);
+    let map: FrozenMap<'_, u64, &str> = FrozenMap::from_map(alloc, arena, map.into_map());
+    Ok(is_first && map.get(&7) == Some("x"))
+}
+
+/// The same of an ordered map, by the same function `kept_in`.
+fn is_ordered(alloc: Global, arena: &Bump) -> Result<bool, AllocError> {
+    let mut map: FrozenBTreeMap<'_, u64, &str> = FrozenBTreeMap::new(alloc, arena);
+    let is_first = kept_in(&mut map, "y")? == ("y", true);
+    let map: FrozenBTreeMap<'_, u64, &str> = FrozenBTreeMap::from_map(alloc, arena, map.into_map());
+    let pairs = map.into_tuple_vec()?;
+    Ok(is_first && pairs.as_slice() == [(7, "y")].as_slice())
 }
 
 #[test]
 fn forms_of_inner_maps(rt: HostRuntime) -> Result<(), Fail> {
-    assert!(rt; are_maps(rt.alloc())?);
+    let arena = Bump::new(rt.alloc());
+    assert!(rt; is_hashed(rt.alloc(), &arena)? && is_ordered(rt.alloc(), &arena)?);
     Ok(())
 }
 

@@ -3,7 +3,8 @@
 
 #[cfg(test)]
 mod base_form_tests;
-pub mod filled;
+#[cfg(test)]
+mod filled;
 #[cfg(test)]
 mod form_tests;
 #[cfg(test)]
