@@ -37,22 +37,22 @@ fn found<'a>(
     ]
 }
 
-#[test]
-fn a_text_keeps_its_first_value_in_each_map(rt: HostRuntime) -> Result<(), Fail> {
-    let alloc = rt.alloc();
+/// Whether each map keeps the first of two values of a text, and has no other text.
+fn keeps_the_first(alloc: Global) -> Result<bool, AllocError> {
     let arena = Bump::new(alloc);
     let mut hashed = FrozenMap::new(alloc, &arena);
     let mut ordered = FrozenBTreeMap::new(alloc, &arena);
     let mut indexed = FrozenIndexMap::new(alloc, &arena);
-    for value in [7, 8] {
-        let kept = kept(alloc, &mut hashed, &mut ordered, &mut indexed, value)?;
-        assert_eq!(rt; kept, [7; 3]);
-    }
-    assert_eq!(rt;
-        found(&hashed, &ordered, &indexed, "best friend"),
-        [Some(7); 3]
-    );
-    assert_eq!(rt; found(&hashed, &ordered, &indexed, "lonely"), [None; 3]);
+    let first = kept(alloc, &mut hashed, &mut ordered, &mut indexed, 7)?;
+    let next = kept(alloc, &mut hashed, &mut ordered, &mut indexed, 8)?;
+    let is_found = found(&hashed, &ordered, &indexed, "best friend") == [Some(7); 3];
+    let is_absent = found(&hashed, &ordered, &indexed, "lonely") == [None; 3];
+    Ok(first == [7; 3] && next == [7; 3] && is_found && is_absent)
+}
+
+#[test]
+fn a_text_keeps_its_first_value_in_each_map(rt: HostRuntime) -> Result<(), Fail> {
+    assert!(rt; keeps_the_first(rt.alloc())?);
     Ok(())
 }
 
@@ -114,15 +114,20 @@ fn walked<'a>(names: &Interner<'a>) -> (usize, usize) {
     (front, back)
 }
 
-#[test]
-fn names_are_walked_in_the_order_of_their_numbers(rt: HostRuntime) -> Result<(), Fail> {
-    let arena = Bump::new(rt.alloc());
-    let mut names = Interner::new(rt.alloc(), &arena);
-    assert!(rt; names.is_empty() && !names.contains("bb"));
+/// Whether an interner has the names that it was given and no other, and is walked both ways in the order of their numbers.
+fn has_its_names(alloc: Global) -> Result<bool, AllocError> {
+    let arena = Bump::new(alloc);
+    let mut names = Interner::new(alloc, &arena);
+    let is_new = names.is_empty() && !names.contains("bb");
     for name in ["ccc", "a", "bb", "a"] {
         names.put(name)?;
     }
-    assert!(rt; !names.is_empty() && names.contains("bb") && !names.contains("b"));
-    assert_eq!(rt; walked(&names), (312, 213));
+    let is_filled = !names.is_empty() && names.contains("bb") && !names.contains("b");
+    Ok(is_new && is_filled && walked(&names) == (312, 213))
+}
+
+#[test]
+fn names_are_walked_in_the_order_of_their_numbers(rt: HostRuntime) -> Result<(), Fail> {
+    assert!(rt; has_its_names(rt.alloc())?);
     Ok(())
 }
