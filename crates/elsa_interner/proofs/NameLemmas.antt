@@ -12,7 +12,7 @@ use Rattle.std.specs.Str.{bytes_eq}
 use Rattle.std.specs.List.{position_or_len}
 use Rattle.std.specs.Option.{option_map}
 use Rattle.std.specs.Cmp.Lexicographic.{bytes_decides, nat_list_eq_equiv}
-use Rattle.std.proofs.lemmas.Bool.{cases_lt}
+use Rattle.std.proofs.lemmas.Bool.{cases_lt, false_from_ne_true}
 use Rattle.std.proofs.lemmas.Option.{slice_get-get_or, slice_get-map, slice_get_cases, slice_get_within, get_or_from_slice_get}
 use Rattle.elsa_interner.specs.Names.{Puts, IsOneToOne, IsNumbered}
 use Rattle.elsa_table.specs.Table.{Entries, places, Has, Adds}
@@ -66,10 +66,6 @@ kept_put names text n after h = by (position (bytes_eq text) names) h
     by None g = (text ∷ [], sym g.1)
     by (Some i) g = ([], append-nil names ∙ sym g.1)
 
-not_true : (b : Bool) → (b ≡ true → ⊥) → b ≡ false
-not_true true h = absurd (h refl)
-not_true false h = refl
-
 -- the only place of a text is the first
 found_alone : (names : List (List ℕ)) (text : List ℕ) (i : ℕ) → IsOneToOne names → slice_get names i ≡ Some text → position (bytes_eq text) names ≡ Some i
 found_alone names text i one_to_one there =
@@ -81,7 +77,7 @@ found_alone names text i one_to_one there =
     passes = ap (bytes_eq text) (get_or_from_slice_get names i text [] there) ∙ nat_list_eq_equiv.refl text
 
     no_earlier : (k : ℕ) → k < i → bytes_eq text (get_or names k []) ≡ false
-    no_earlier k lt = not_true _ (λ e.
+    no_earlier k lt = false_from_ne_true _ (λ e.
         let within = slice_get_within names i text there in
         let same : get_or names k [] ≡ text = sym ((bytes_decides text (get_or names k [])).0 e) in
         let there_too : slice_get names k ≡ Some text = slice_get-get_or names k [] (omega arith) ∙ ap Some same in
@@ -99,7 +95,7 @@ found_never names text never =
     grind (arith, common_steps, last)
   where
     none_passes : (k : ℕ) → k < length names → bytes_eq text (get_or names k []) ≡ false
-    none_passes k lt = not_true _ (λ e. never k (slice_get-get_or names k [] lt ∙ ap Some (sym ((bytes_decides text (get_or names k [])).0 e))))
+    none_passes k lt = false_from_ne_true _ (λ e. never k (slice_get-get_or names k [] lt ∙ ap Some (sym ((bytes_decides text (get_or names k [])).0 e))))
 
 -- and where it is not found, it is at no place
 never_there : (names : List (List ℕ)) (text : List ℕ) (i : ℕ) → position (bytes_eq text) names ≡ None → slice_get names i ≡ Some text → ⊥

@@ -106,6 +106,16 @@ AnswersAll names (line ∷ lines) [] names' = ⊥
 AnswersAll names (line ∷ lines) (answer ∷ answers) names' =
     (next : List (List ℕ)) × Answers names line answer next × AnswersAll next lines answers names'
 
--- the bytes are answer lines, one for each of the lines, from no names on
-abbrev pub IsAnswered : List (List ℕ) → List ℕ → Type 0
-IsAnswered lines written = (answers : List (List ℕ)) × (names : List (List ℕ)) × AnswersAll [] lines answers names × (written ≡ ended answers)
+-- the bytes are answer lines, one for each of the lines, from no names on to these
+abbrev pub IsAnsweredTo : List (List ℕ) → List (List ℕ) → List ℕ → Type 0
+IsAnsweredTo names lines written = (answers : List (List ℕ)) × AnswersAll [] lines answers names × (written ≡ ended answers)
+
+-- the second bytes answer the lines of the first, those that a byte 10 ends
+abbrev pub AnswersLines : List ℕ → List ℕ → Type 0
+AnswersLines bytes written =
+    (lines : List (List ℕ)) × (tail : List ℕ) × (names : List (List ℕ)) × IsCut bytes lines tail × IsAnsweredTo names lines written
+
+-- the second bytes answer the lines of the first, the last one too
+abbrev pub AnswersInput : List ℕ → List ℕ → Type 0
+AnswersInput bytes written =
+    (lines : List (List ℕ)) × (tail : List ℕ) × (names : List (List ℕ)) × IsCut bytes lines tail × IsAnsweredTo names (with_tail lines tail) written

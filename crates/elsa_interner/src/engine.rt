@@ -1,8 +1,8 @@
 //! An answer line for each line of the input.
 ghost use Rattle.std.specs.Prelude.{◌≡◌, ◌<◌, ◌^◌, ◌-◌, [], ◌∷◌, ◌++◌, ℕ, List, false, true, length, IsTrue, OnOk, OnErr, MatchOption};
-ghost use Rattle.elsa_interner.specs.Devices.{FailedOnce, AppendsSome, Queued};
-ghost use Rattle.elsa_interner.specs.Engine.{HasAnswered, HasAnsweredAll, HasAnsweredSome};
-ghost use Rattle.elsa_interner.specs.Feeding.{IsInside, IsSoFar, IsFinished, Feeds, FeedsSome, Ends, EndsSome};
+ghost use Rattle.elsa_interner.specs.Devices.{CountsFault};
+ghost use Rattle.elsa_interner.specs.Engine.{HasRun, CountsRun};
+ghost use Rattle.elsa_interner.specs.Feeding.{IsSoFar, IsFinished, Feeds, Ends};
 ghost use Rattle.elsa_interner.specs.Replies.{shown};
 
 use crate::chunk::Chunk;
@@ -79,10 +79,8 @@ impl<'a, S: BuildHasher, A: Allocator + Copy> Session<'a, S, A> {
     /// The answer to the line that has begun in a piece before and ends so, or that is skipped.
     #[inline(never)]
     fn finish_begun(&mut self, end: &[u8]) -> Reply<'a>
-        ensures finished { IsFinished self.old.names self.old.line.items self.old.skips
-            end.now (shown result) self.new.names }
-        ensures line { self.new.line.items ≡ [] }
-        ensures skips { self.new.skips ≡ false }
+        ensures { IsFinished self.old.names self.old.line.items self.old.skips
+            end.now (shown result) self.new.names self.new.line.items self.new.skips }
     {
         if self.skips {
             self.skips = false;
@@ -102,10 +100,8 @@ impl<'a, S: BuildHasher, A: Allocator + Copy> Session<'a, S, A> {
     /// The answer to the line that has begun and ends so; a name that it puts may be at `guess`.
     #[inline(always)]
     fn finish<C: Chunk>(&mut self, end: C, guess: usize) -> Reply<'a>
-        ensures finished { IsFinished self.old.names self.old.line.items self.old.skips
-            (C.bytes end) (shown result) self.new.names }
-        ensures line { self.new.line.items ≡ [] }
-        ensures skips { self.new.skips ≡ false }
+        ensures { IsFinished self.old.names self.old.line.items self.old.skips
+            (C.bytes end) (shown result) self.new.names self.new.line.items self.new.skips }
     {
         if self.skips || !self.line.is_empty() {
             return self.finish_begun(end.as_bytes());
@@ -137,7 +133,7 @@ impl<'a, S: BuildHasher, A: Allocator + Copy> Session<'a, S, A> {
         self.skips || !self.line.is_empty()
     }
 
-    /// Answers the lines that end in the chunk. With `is_ahead` the table is read for several of them at once; it is inlined, so that a call without it does none of that.
+    /// Answers the lines that end in the chunk, and writes the answers. With `is_ahead` the table is read for several of them at once; it is inlined, so that a call without it does none of that.
     #[inline(always)]
     fn feed<C: Chunk, W: Sink>(
         &mut self,
@@ -146,13 +142,11 @@ impl<'a, S: BuildHasher, A: Allocator + Copy> Session<'a, S, A> {
         out: &mut Pending,
         writer: &mut W,
     ) -> Result<(), Failed>
-        ensures ok { OnOk result (Feeds self.old.names self.old.line.items self.old.skips
-            (C.bytes chunk) self.new.names self.new.line.items self.new.skips (W.held writer.old)
-            out.old (W.held writer.new) out.new) }
-        ensures calm { OnOk result (W.failures writer.new ≡ W.failures writer.old) }
-        ensures err { OnErr result (FeedsSome self.old.names self.old.line.items self.old.skips
-            (C.bytes chunk) (W.held writer.old) out.old (W.held writer.new)) }
-        ensures failed { OnErr result (FailedOnce (W.failures writer.old) (W.failures writer.new)) }
+        ensures feeds { Feeds result self.old.names self.old.line.items self.old.skips
+            (C.bytes chunk) self.new.names self.new.line.items self.new.skips
+            (W.held writer.old) out.old (W.held writer.new) out.new }
+        ensures none { OnOk result (out.new ≡ []) }
+        ensures counts { CountsFault result (W.failures writer.old) (W.failures writer.new) }
     {
         let mut rest = chunk;
         let mut guesses = [usize::MAX; AHEAD];
@@ -169,23 +163,21 @@ impl<'a, S: BuildHasher, A: Allocator + Copy> Session<'a, S, A> {
             turn = turn.wrapping_add(1);
         }
         self.keep(rest.as_bytes());
-        Ok(())
+        out.flush(writer)
     }
 
-    /// Answers the lines that end in the piece. Where it is a text as a whole, none of its lines is looked at again.
+    /// Answers the lines that end in the piece, and writes the answers. Where it is a text as a whole, none of its lines is looked at again.
     fn feed_bytes<W: Sink>(
         &mut self,
         piece: &[u8],
         out: &mut Pending,
         writer: &mut W,
     ) -> Result<(), Failed>
-        ensures ok { OnOk result (Feeds self.old.names self.old.line.items self.old.skips piece.now
-            self.new.names self.new.line.items self.new.skips (W.held writer.old) out.old
-            (W.held writer.new) out.new) }
-        ensures calm { OnOk result (W.failures writer.new ≡ W.failures writer.old) }
-        ensures err { OnErr result (FeedsSome self.old.names self.old.line.items self.old.skips
-            piece.now (W.held writer.old) out.old (W.held writer.new)) }
-        ensures failed { OnErr result (FailedOnce (W.failures writer.old) (W.failures writer.new)) }
+        ensures feeds { Feeds result self.old.names self.old.line.items self.old.skips
+            piece.now self.new.names self.new.line.items self.new.skips
+            (W.held writer.old) out.old (W.held writer.new) out.new }
+        ensures none { OnOk result (out.new ≡ []) }
+        ensures counts { CountsFault result (W.failures writer.old) (W.failures writer.new) }
     {
         let is_ahead = self.names.len() >= MANY;
         match str::from_utf8(piece) {
@@ -195,40 +187,13 @@ impl<'a, S: BuildHasher, A: Allocator + Copy> Session<'a, S, A> {
         }
     }
 
-    /// Answers the lines that end in the piece, and writes the answers.
-    fn turn<W: Sink>(
-        &mut self,
-        piece: &[u8],
-        out: &mut Pending,
-        writer: &mut W,
-    ) -> Result<(), Failed>
-        requires { out.old ≡ [] }
-
-        // All lines that end in the piece are answered, and no answer waits.
-        ensures ok { OnOk result (Feeds self.old.names self.old.line.items self.old.skips piece.now
-            self.new.names self.new.line.items self.new.skips (W.held writer.old) []
-            (W.held writer.new) []) }
-        ensures none { OnOk result (out.new ≡ []) }
-        ensures calm { OnOk result (W.failures writer.new ≡ W.failures writer.old) }
-
-        // The writer failed, and took a beginning of the answers.
-        ensures err { OnErr result (FeedsSome self.old.names self.old.line.items self.old.skips
-            piece.now (W.held writer.old) [] (W.held writer.new)) }
-        ensures failed { OnErr result (FailedOnce (W.failures writer.old) (W.failures writer.new)) }
-    {
-        self.feed_bytes(piece, out, writer)?;
-        out.flush(writer)
-    }
-
     /// Answers the last line, which has no byte 10.
     fn end<W: Sink>(&mut self, out: &mut Pending, writer: &mut W) -> Result<(), Failed>
         requires { out.old ≡ [] }
-        ensures ok { OnOk result (Ends self.old.names self.old.line.items self.old.skips
-            (W.held writer.old) (W.held writer.new)) }
-        ensures calm { OnOk result (W.failures writer.new ≡ W.failures writer.old) }
-        ensures err { OnErr result (EndsSome self.old.names self.old.line.items self.old.skips
-            (W.held writer.old) (W.held writer.new)) }
-        ensures failed { OnErr result (FailedOnce (W.failures writer.old) (W.failures writer.new)) }
+        ensures ends { Ends result self.old.names self.old.line.items self.old.skips
+            (W.held writer.old) out.old (W.held writer.new) out.new }
+        ensures none { OnOk result (out.new ≡ []) }
+        ensures counts { CountsFault result (W.failures writer.old) (W.failures writer.new) }
     {
         if !self.has_begun() {
             return Ok(());
@@ -267,35 +232,13 @@ pub fn intern_engine<'a, A: Allocator + Copy, R: Source, W: Sink>(
     reader: &mut R,
     writer: &mut W,
 ) -> Result<(), EngineFault>
-    // The input has ended, and each line is answered.
-    ensures ok { OnOk result (HasAnsweredAll (R.left reader.old) (R.left reader.new)
-        (W.held writer.old) (W.held writer.new)) }
-    ensures calm { OnOk result ((R.failures reader.new ≡ R.failures reader.old)
-        × (W.failures writer.new ≡ W.failures writer.old)) }
+    // What was read is answered: all of it, or as far as the run came.
+    ensures answers { HasRun result (R.left reader.old) (R.left reader.new)
+        (W.held writer.old) (W.held writer.new) }
 
-    // The reader failed: what was read is answered.
-    ensures read { result ≡ Err EngineFault.Read →
-        HasAnswered 0 (R.left reader.old) (R.left reader.new) (W.held writer.old)
-        (W.held writer.new) }
-    ensures read_failed { result ≡ Err EngineFault.Read →
-        FailedOnce (R.failures reader.old) (R.failures reader.new)
-        × (W.failures writer.new ≡ W.failures writer.old) }
-
-    // The writer failed, and took a beginning of the answers.
-    ensures write { result ≡ Err EngineFault.Write →
-        HasAnsweredSome (R.left reader.old) (R.left reader.new) (W.held writer.old)
-        (W.held writer.new) }
-    ensures write_failed { result ≡ Err EngineFault.Write →
-        FailedOnce (W.failures writer.old) (W.failures writer.new)
-        × (R.failures reader.new ≡ R.failures reader.old) }
-
-    // No end after 2^64 - 1 reads: what was read is answered.
-    ensures endless { result ≡ Err EngineFault.Endless →
-        HasAnswered (2 ^ 64 - 1) (R.left reader.old) (R.left reader.new) (W.held writer.old)
-        (W.held writer.new) }
-    ensures endless_calm { result ≡ Err EngineFault.Endless →
-        (R.failures reader.new ≡ R.failures reader.old)
-        × (W.failures writer.new ≡ W.failures writer.old) }
+    // Only the device that failed has counted a failure.
+    ensures counts { CountsRun result (R.failures reader.old) (R.failures reader.new)
+        (W.failures writer.old) (W.failures writer.new) }
 {
     intern_engine_with_hasher(
         alloc,
@@ -320,35 +263,13 @@ pub fn intern_engine_with_hasher<
     reader: &mut R,
     writer: &mut W,
 ) -> Result<(), EngineFault>
-    // The input has ended, and each line is answered.
-    ensures ok { OnOk result (HasAnsweredAll (R.left reader.old) (R.left reader.new)
-        (W.held writer.old) (W.held writer.new)) }
-    ensures calm { OnOk result ((R.failures reader.new ≡ R.failures reader.old)
-        × (W.failures writer.new ≡ W.failures writer.old)) }
+    // What was read is answered: all of it, or as far as the run came.
+    ensures answers { HasRun result (R.left reader.old) (R.left reader.new)
+        (W.held writer.old) (W.held writer.new) }
 
-    // The reader failed: what was read is answered.
-    ensures read { result ≡ Err EngineFault.Read →
-        HasAnswered 0 (R.left reader.old) (R.left reader.new) (W.held writer.old)
-        (W.held writer.new) }
-    ensures read_failed { result ≡ Err EngineFault.Read →
-        FailedOnce (R.failures reader.old) (R.failures reader.new)
-        × (W.failures writer.new ≡ W.failures writer.old) }
-
-    // The writer failed, and took a beginning of the answers.
-    ensures write { result ≡ Err EngineFault.Write →
-        HasAnsweredSome (R.left reader.old) (R.left reader.new) (W.held writer.old)
-        (W.held writer.new) }
-    ensures write_failed { result ≡ Err EngineFault.Write →
-        FailedOnce (W.failures writer.old) (W.failures writer.new)
-        × (R.failures reader.new ≡ R.failures reader.old) }
-
-    // No end after 2^64 - 1 reads: what was read is answered.
-    ensures endless { result ≡ Err EngineFault.Endless →
-        HasAnswered (2 ^ 64 - 1) (R.left reader.old) (R.left reader.new) (W.held writer.old)
-        (W.held writer.new) }
-    ensures endless_calm { result ≡ Err EngineFault.Endless →
-        (R.failures reader.new ≡ R.failures reader.old)
-        × (W.failures writer.new ≡ W.failures writer.old) }
+    // Only the device that failed has counted a failure.
+    ensures counts { CountsRun result (R.failures reader.old) (R.failures reader.new)
+        (W.failures writer.old) (W.failures writer.new) }
 {
     let mut session = Session::new(alloc, arena, hash_builder);
     let mut out = Pending::new();
@@ -363,7 +284,7 @@ pub fn intern_engine_with_hasher<
             };
             return Ok(());
         }
-        let Ok(()) = session.turn(&piece[..n], &mut out, writer) else {
+        let Ok(()) = session.feed_bytes(&piece[..n], &mut out, writer) else {
             return Err(EngineFault::Write);
         };
     }

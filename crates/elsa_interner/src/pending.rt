@@ -1,8 +1,7 @@
 //! Answers that wait to be written, in an array of a fixed size: small answers become large writes, and none takes memory.
-ghost use Rattle.std.specs.Prelude.{◌≡◌, [], ◌∷◌, ◌++◌, ◌≤◌, ◌<◌, ◌+◌, length, OnOk, OnErr};
+ghost use Rattle.std.specs.Prelude.{◌≡◌, [], ◌∷◌, ◌++◌, ◌≤◌, ◌<◌, ◌+◌, length, OnOk};
 ghost use Rattle.std.specs.Fmt.{decimal};
-ghost use Rattle.std.specs.Io.KnownBytes.{Appends};
-ghost use Rattle.elsa_interner.specs.Devices.{FailedOnce, AppendsSome, Queued};
+ghost use Rattle.elsa_interner.specs.Devices.{Adds, CountsFault};
 
 use crate::devices::{Failed, Sink};
 use crate::digits::{LINE, SHORT, digit_count, number_line};
@@ -13,12 +12,9 @@ use std::marker::Model;
 const ROOM: usize = 8192;
 
 /// Writes the whole piece, in as many writes as the writer wants.
-#[tactic(auto, using(crate::proofs::EngineLemmas::KnownBytes::appends_none, crate::proofs::EngineLemmas::KnownBytes::appends_more))]
 fn write_all<W: Sink>(writer: &mut W, piece: &[u8]) -> Result<(), Failed>
-    ensures ok { OnOk result (Appends (W.held writer.old) (W.held writer.new) piece.now) }
-    ensures calm { OnOk result (W.failures writer.new ≡ W.failures writer.old) }
-    ensures err { OnErr result (AppendsSome (W.held writer.old) (W.held writer.new) piece.now) }
-    ensures failed { OnErr result (FailedOnce (W.failures writer.old) (W.failures writer.new)) }
+    ensures adds { Adds result (W.held writer.old) [] (W.held writer.new) [] piece.now }
+    ensures counts { CountsFault result (W.failures writer.old) (W.failures writer.new) }
 {
     let mut at = 0;
     while at < piece.len() {
@@ -57,11 +53,9 @@ impl Pending {
 
     /// Writes all that waits; where the writer fails, what is left of it is given up.
     pub fn flush<W: Sink>(&mut self, writer: &mut W) -> Result<(), Failed>
-        ensures ok { OnOk result (Appends (W.held writer.old) (W.held writer.new) self.old) }
+        ensures adds { Adds result (W.held writer.old) self.old (W.held writer.new) self.new [] }
         ensures none { OnOk result (self.new ≡ []) }
-        ensures calm { OnOk result (W.failures writer.new ≡ W.failures writer.old) }
-        ensures err { OnErr result (AppendsSome (W.held writer.old) (W.held writer.new) self.old) }
-        ensures failed { OnErr result (FailedOnce (W.failures writer.old) (W.failures writer.new)) }
+        ensures counts { CountsFault result (W.failures writer.old) (W.failures writer.new) }
     {
         let len = self.len;
         self.len = 0;
@@ -80,12 +74,8 @@ impl Pending {
 
     /// Adds a piece; where there is no room for it, what waits is written first.
     fn push<W: Sink>(&mut self, writer: &mut W, piece: &[u8]) -> Result<(), Failed>
-        ensures ok { OnOk result (
-            Queued (W.held writer.old) self.old (W.held writer.new) self.new piece.now) }
-        ensures calm { OnOk result (W.failures writer.new ≡ W.failures writer.old) }
-        ensures err { OnErr result (
-            AppendsSome (W.held writer.old) (W.held writer.new) (self.old ++ piece.now)) }
-        ensures failed { OnErr result (FailedOnce (W.failures writer.old) (W.failures writer.new)) }
+        ensures adds { Adds result (W.held writer.old) self.old (W.held writer.new) self.new piece.now }
+        ensures counts { CountsFault result (W.failures writer.old) (W.failures writer.new) }
     {
         if piece.len() <= ROOM - self.len {
             self.add(piece);
@@ -116,12 +106,9 @@ impl Pending {
     /// Adds a line: a number, and byte 10 behind it.
     #[inline(always)]
     pub fn push_number<W: Sink>(&mut self, writer: &mut W, n: usize) -> Result<(), Failed>
-        ensures ok { OnOk result (Queued (W.held writer.old) self.old (W.held writer.new) self.new
-            (decimal n ++ (10 ∷ []))) }
-        ensures calm { OnOk result (W.failures writer.new ≡ W.failures writer.old) }
-        ensures err { OnErr result (AppendsSome (W.held writer.old) (W.held writer.new)
-            (self.old ++ (decimal n ++ (10 ∷ [])))) }
-        ensures failed { OnErr result (FailedOnce (W.failures writer.old) (W.failures writer.new)) }
+        ensures adds { Adds result (W.held writer.old) self.old (W.held writer.new) self.new
+            (decimal n ++ (10 ∷ [])) }
+        ensures counts { CountsFault result (W.failures writer.old) (W.failures writer.new) }
     {
         if n < SHORT && self.len <= ROOM - LINE {
             self.add_number(n);
@@ -134,12 +121,9 @@ impl Pending {
     /// Adds a line: a piece, and byte 10 behind it.
     #[inline(always)]
     pub fn push_line<W: Sink>(&mut self, writer: &mut W, piece: &[u8]) -> Result<(), Failed>
-        ensures ok { OnOk result (Queued (W.held writer.old) self.old (W.held writer.new) self.new
-            (piece.now ++ (10 ∷ []))) }
-        ensures calm { OnOk result (W.failures writer.new ≡ W.failures writer.old) }
-        ensures err { OnErr result (AppendsSome (W.held writer.old) (W.held writer.new)
-            (self.old ++ (piece.now ++ (10 ∷ [])))) }
-        ensures failed { OnErr result (FailedOnce (W.failures writer.old) (W.failures writer.new)) }
+        ensures adds { Adds result (W.held writer.old) self.old (W.held writer.new) self.new
+            (piece.now ++ (10 ∷ [])) }
+        ensures counts { CountsFault result (W.failures writer.old) (W.failures writer.new) }
     {
         if piece.len() < ROOM - self.len {
             self.add(piece);

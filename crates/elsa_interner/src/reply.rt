@@ -1,6 +1,6 @@
 //! The answer to a request, and its line.
-ghost use Rattle.std.specs.Prelude.{◌≡◌, [], ◌∷◌, ◌++◌, OnOk, OnErr};
-ghost use Rattle.elsa_interner.specs.Devices.{FailedOnce, AppendsSome, Queued};
+ghost use Rattle.std.specs.Prelude.{[], ◌∷◌, ◌++◌};
+ghost use Rattle.elsa_interner.specs.Devices.{Adds, CountsFault};
 ghost use Rattle.elsa_interner.specs.Lines.{Replies};
 ghost use Rattle.elsa_interner.specs.Replies.{asked, shown};
 
@@ -61,12 +61,9 @@ pub fn push_reply<W: Sink>(
     writer: &mut W,
     reply: Reply<'_>,
 ) -> Result<(), Failed>
-    ensures ok { OnOk result (Queued (W.held writer.old) out.old (W.held writer.new) out.new
-        (shown reply.entry ++ (10 ∷ []))) }
-    ensures calm { OnOk result (W.failures writer.new ≡ W.failures writer.old) }
-    ensures err { OnErr result (AppendsSome (W.held writer.old) (W.held writer.new)
-        (out.old ++ (shown reply.entry ++ (10 ∷ [])))) }
-    ensures failed { OnErr result (FailedOnce (W.failures writer.old) (W.failures writer.new)) }
+    ensures adds { Adds result (W.held writer.old) out.old (W.held writer.new) out.new
+        (shown reply.entry ++ (10 ∷ [])) }
+    ensures counts { CountsFault result (W.failures writer.old) (W.failures writer.new) }
 {
     match reply {
         Reply::Number(n) => out.push_number(writer, n),

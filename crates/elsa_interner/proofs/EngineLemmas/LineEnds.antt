@@ -1,6 +1,7 @@
 -- Where the first line of a piece ends, and that a text may be cut there.
-use Rattle.std.proofs.Common.{◌≡◌, ℕ, suc, ◌+◌, ◌-◌, ◌%◌, ◌^◌, ◌<◌, ◌≤◌, true, false, cond, not, nat_eq, map, replicate, w8, take, drop, get_or, List, [], ◌∷◌, ◌++◌, length, refl, arith, sym, ap, subst, ◌∙◌}
+use Rattle.std.proofs.Common.{◌≡◌, ℕ, ◌+◌, ◌-◌, ◌%◌, ◌^◌, ◌<◌, ◌≤◌, true, false, cond, not, nat_eq, map, replicate, w8, take, drop, get_or, List, ◌∷◌, ◌++◌, length, arith, sym, ap, subst, ◌∙◌}
 use Rattle.std.proofs.lemmas.List.{length-append, length-take}
+use Rattle.std.proofs.Math.Seq.{drop-append-add, get_or-append_seam, take-append_seam}
 use Rattle.std.proofs.lemmas.Simd.{bitmask_splat, none_from_empty_mask, run_in_chunk_fails, run_in_chunk_le, run_in_chunk_stops, trailing_mask_l}
 use Rattle.std.specs.Simd.Lanes.{mask_l, top, zip2}
 use lib.Count.{count_trailing_zeros}
@@ -43,31 +44,18 @@ near_there xs room some l =
     let from_zero : 0 + count_trailing_zeros 64 (ends_of xs) ≡ count_trailing_zeros 64 (ends_of xs) = omega arith in
     subst (λ n. is_byte 10 (get_or xs n 0) ≡ true) from_zero (run_in_chunk_stops (is_byte 10) xs 0 16 _ 0 (omega arith) (counted xs room some) l)
 
-byte_there : (line later : List ℕ) → get_or (line ++ 10 ∷ later) (length line) 0 ≡ 10
-byte_there [] later = refl
-byte_there (b ∷ bs) later = byte_there bs later
-
 within_text : (line later : List ℕ) → length line < length (line ++ 10 ∷ later)
 within_text line later = rw length-append (omega arith)
 
 -- a text may be cut behind a byte 10
 pub boundary_behind : (text line later : List ℕ) → text ≡ line ++ 10 ∷ later → IsUtf8 text → IsCharBoundary text (length line + 1)
 boundary_behind text line later is u =
-    IsCharBoundary-after_ascii text (length line) u (rw is (within_text line later)) (rw (is, byte_there line later) (omega arith))
-
-front_part : (line rest : List ℕ) → take (length line) (line ++ rest) ≡ line
-front_part [] rest = refl
-front_part (b ∷ bs) rest = ap (λ t. b ∷ t) (front_part bs rest)
-
-back_part : (line later : List ℕ) → drop (suc (length line)) (line ++ 10 ∷ later) ≡ later
-back_part [] later = refl
-back_part (b ∷ bs) later = back_part bs later
+    IsCharBoundary-after_ascii text (length line) u (rw is (within_text line later)) (rw (is, get_or-append_seam line 10 later 0) (omega arith))
 
 -- the two parts of a text that is cut at a byte 10
 pub parts_of_text : (text line later front back : List ℕ) → text ≡ line ++ 10 ∷ later → IsInside line → front ≡ take (length line - 0) text → back ≡ drop (length line + 1) text → IsInside front × (text ≡ front ++ 10 ∷ back)
 parts_of_text text line later front back is inside f b =
     let none : length line - 0 ≡ length line = omega arith in
-    let same_front = f ∙ (ap (λ n. take n text) none ∙ (ap (λ t. take (length line) t) is ∙ front_part line (10 ∷ later))) in
-    let next : length line + 1 ≡ suc (length line) = omega arith in
-    let same_back = b ∙ (ap (λ t. drop (length line + 1) t) is ∙ (ap (λ n. drop n (line ++ 10 ∷ later)) next ∙ back_part line later)) in
+    let same_front = f ∙ (ap (λ n. take n text) none ∙ ap (λ t. take (length line) t) is ∙ take-append_seam line (10 ∷ later)) in
+    let same_back = b ∙ (ap (λ t. drop (length line + 1) t) is ∙ drop-append-add line (10 ∷ later) 1) in
     (subst IsInside (sym same_front) inside, is ∙ (ap (λ t. t ++ 10 ∷ later) (sym same_front) ∙ ap (λ t. front ++ 10 ∷ t) (sym same_back)))

@@ -1,11 +1,16 @@
-use Rattle.std.proofs.Common.{◌∙◌, arith}
-use Rattle.std.proofs.lemmas.List.{length-drop}
-use Rattle.elsa_interner.proofs.EngineLemmas.KnownBytes.{appends_more, rest_is, err_of_take}
+use Rattle.std.proofs.Common.{◌∙◌, arith, refl}
+use Rattle.std.proofs.KnownBytes.{Appends-nil}
+use Rattle.std.proofs.lemmas.List.{append-nil, length-drop, take_all, take_rest}
+use Rattle.std.proofs.lemmas.Result.{MatchResult-from_err}
+use Rattle.elsa_interner.proofs.EngineLemmas.KnownBytes.{appends_more, some_of_take}
 use Rattle.elsa_interner.proofs.pending.write_all.Goals as goal
+
+pub loop-at-init : goal.loop-at-init
+loop-at-init g c = record { some = Appends-nil _; calm = refl; within = omega arith }
 
 pub loop-at-preserved : goal.loop-at-preserved
 loop-at-preserved g c =
-    let whole = rest_is c.args.piece.now c.loop-at.at in
+    let whole = take_rest c.args.piece.now c.loop-at.at in
     let bytes = rw whole at c.in_ok-at.ensures.bytes in
     let bound = rw whole at c.in_ok-at.ensures.within in
     record {
@@ -14,5 +19,10 @@ loop-at-preserved g c =
       within = let at_most = rw length-drop at bound in omega arith;
     }
 
-pub returns-in_err-at-clause-err : goal.returns-in_err-at-clause-err
-returns-in_err-at-clause-err g c = err_of_take _ (g.W.Sink.held c.args.writer.now) (g.W.Sink.held c.loop-at.writer) (g.W.Sink.held c.write.new.self) c.args.piece.now c.loop-at.at c.loop-at.invariant.some c.in_err-at.ensures.bytes
+pub returns-in_err-at-clause-adds : goal.returns-in_err-at-clause-adds
+returns-in_err-at-clause-adds g c =
+    MatchResult-from_err _ _ _ c.from_residual.ensures.0
+    (λ _. some_of_take (g.W.Sink.held c.args.writer.now) (g.W.Sink.held c.loop-at.writer) (g.W.Sink.held c.write.new.self) c.args.piece.now c.loop-at.at c.loop-at.invariant.some c.in_err-at.ensures.bytes)
+
+pub returns-clause-adds : goal.returns-clause-adds
+returns-clause-adds g c = (_, c.loop-at.invariant.some, append-nil _ ∙ take_all c.loop-at.at c.args.piece.now (omega arith))

@@ -1,13 +1,16 @@
-use Rattle.std.proofs.Common.{◌≡◌, ◌++◌, List, ℕ, length}
+use Rattle.std.proofs.Common.{◌≡◌, List, ℕ, Bool, length, Option}
+use Rattle.std.specs.Prelude.{Result}
 use Rattle.elsa_interner.specs.Feeding.{Feeds}
+use Rattle.elsa_interner.specs.declared.devices.Failed.{Failed}
 use Rattle.elsa_interner.proofs.engine.Session.feed.Given as goal
 
+-- what the rest of the chunk comes to from here, the chunk comes to
 abbrev pub invariant-loop-end : goal.invariant-loop-end
 invariant-loop-end g l = record {
   calm : g.W.Sink.failures l.writer ≡ g.W.Sink.failures l.fn.writer;
-  fed : List ℕ;
-  joined : fed ++ g.C.Chunk.bytes l.rest ≡ g.C.Chunk.bytes l.fn.chunk;
-  feeds : Feeds l.fn.self.names l.fn.self.line.items l.fn.self.skips fed l.self.names l.self.line.items l.self.skips (g.W.Sink.held l.fn.writer) l.fn.out (g.W.Sink.held l.writer) l.out;
+  feeds : (r : Result (Unit {0}) Failed) (names : List (List ℕ)) (line : List ℕ) (skips : Bool) (new : Option (List ℕ)) (waits : List ℕ)
+      → Feeds r l.self.names l.self.line.items l.self.skips (g.C.Chunk.bytes l.rest) names line skips (g.W.Sink.held l.writer) l.out new waits
+      → Feeds r l.fn.self.names l.fn.self.line.items l.fn.self.skips (g.C.Chunk.bytes l.fn.chunk) names line skips (g.W.Sink.held l.fn.writer) l.fn.out new waits;
 }
 
 abbrev pub decreases-loop-end : goal.decreases-loop-end
