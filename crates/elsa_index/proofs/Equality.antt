@@ -2,11 +2,9 @@
 use Rattle.std.specs.Prelude.{Bool, List, Decides}
 use Rattle.std.specs.Cmp.{IsEquivalence}
 use Rattle.std.specs.HashSet.Eq.{hash_set_eq_decides}
-use Rattle.std.proofs.Common.{subst}
 use Rattle.elsa_index.specs.Equality.{same_set, HaveSameValues}
-use Rattle.elsa_index.specs.EqualityLaws.{as_set, seen}
+use Rattle.elsa_index.specs.EqualityLaws.{as_set}
 
 -- whether a value is in both lists or in neither
 pub same_set_decides : {B : Type 0} {eq : B → B → Bool} (laws : IsEquivalence eq) (bs cs : List B) → Decides (same_set eq bs cs) (HaveSameValues eq bs cs)
-unfolding as_set
-same_set_decides {B} {eq} laws bs cs = subst (λ (p : List B × List B). Decides (same_set eq p.0 p.1) (HaveSameValues eq p.0 p.1)) (λ i. (seen bs i, seen cs i)) (hash_set_eq_decides laws (as_set bs) (as_set cs))
+same_set_decides laws bs cs = hash_set_eq_decides laws (as_set bs) (as_set cs)

@@ -1,5 +1,5 @@
 -- What stays of a content that grows, and what one insertion leaves.
-use Rattle.std.proofs.Common.{◌≡◌, ℕ, Bool, true, false, List, [], ◌∷◌, ◌++◌, length, position, slice_get, refl, sym, ap, ◌∙◌, append-nil, Option, None, Some, MatchOption, IsPermutation, IsTrue, ◌↔◌}
+use Rattle.std.proofs.Common.{◌≡◌, ℕ, Bool, true, false, List, [], ◌∷◌, ◌++◌, length, position, refl, sym, ap, ◌∙◌, Option, None, Some, MatchOption, IsPermutation, IsTrue, ◌↔◌}
 use Rattle.std.specs.Cmp.{IsEquivalence}
 use Rattle.std.specs.List.{IsDistinct}
 use Rattle.std.specs.Map.{keys_of, lookup}
@@ -8,51 +8,29 @@ use Rattle.std.proofs.lemmas.List.{length-map, map-append}
 use Rattle.std.proofs.lemmas.List.Sorted.{list_any-IsPermutation}
 use Rattle.indexmap.proofs.MapLemmas.{lookup_permutation}
 use Rattle.elsa_model.specs.FirstWins.{same_values, value_at}
-use Rattle.elsa_model.specs.Insertions.{place_of, Grows, Inserted, SetInserted}
+use Rattle.elsa_model.specs.Insertions.{place_of, Inserted}
 use Rattle.elsa_model.proofs.Entries.{found_last}
 use Rattle.elsa_model.proofs.MapEquality.{same_from_each}
 use Rattle.elsa_index.specs.Equality.{same_set}
 use Rattle.elsa_index.proofs.Equality.{same_set_decides}
 use Rattle.elsa_index.proofs.Content.{no_value, place_of_last}
 
-module _ {K V T B : Type 0} (eq : K → K → Bool) (laws : IsEquivalence eq) (target : V → T) (shown : B → T) where
-  -- an insertion leaves what was there
-  pub grows_inserted : (es : List (K × B)) (k : K) (v : V) (i : ℕ) (b : B) (fs : List (K × B)) → Inserted eq target shown es k v i b fs → Grows es fs
-  grows_inserted es k v i b fs h = by (place_of eq es k) h
-    where
-      by : (o : Option ℕ) → MatchOption o ((i ≡ length es) × (shown b ≡ target v) × (fs ≡ es ++ (k, b) ∷ [])) (λ j. (i ≡ j) × (value_at eq es k ≡ Some b) × (fs ≡ es)) → Grows es fs
-      by None g = ((k, b) ∷ [], g.2)
-      by (Some j) g = ([], g.2 ∙ sym (append-nil es))
+-- after an insertion the key stands at the place that was answered, and has the value that was answered
+pub stands_inserted : {K V T B : Type 0} (eq : K → K → Bool) (laws : IsEquivalence eq) (target : V → T) (shown : B → T) (es : List (K × B)) (k : K) (v : V) (i : ℕ) (b : B) (fs : List (K × B))
+    → Inserted eq target shown es k v i b fs → (place_of eq fs k ≡ Some i) × (value_at eq fs k ≡ Some b)
+stands_inserted eq laws target shown es k v i b fs h = by (place_of eq es k) refl h
+  where
+    by : (o : Option ℕ) → place_of eq es k ≡ o → MatchOption o ((i ≡ length es) × (shown b ≡ target v) × (fs ≡ es ++ (k, b) ∷ [])) (λ j. (i ≡ j) × (value_at eq es k ≡ Some b) × (fs ≡ es)) → (place_of eq fs k ≡ Some i) × (value_at eq fs k ≡ Some b)
+    by None at g = (
+      ap (λ l. place_of eq l k) g.2 ∙ ap (position (eq k)) (map-append (λ p. p.0) es ((k, b) ∷ [])) ∙ place_of_last (eq k) (keys_of es) k at (laws.refl k) ∙ ap Some (length-map es (λ p. p.0) ∙ sym g.0),
+      ap (lookup (eq k)) g.2 ∙ found_last (eq k) es k b (no_value eq es k at) (laws.refl k),
+    )
+    by (Some j) at g = (ap (λ l. place_of eq l k) g.2 ∙ at ∙ ap Some (sym g.0), ap (lookup (eq k)) g.2 ∙ g.1)
 
-  -- the key stands at the place that was answered
-  pub place_inserted : (es : List (K × B)) (k : K) (v : V) (i : ℕ) (b : B) (fs : List (K × B)) → Inserted eq target shown es k v i b fs → place_of eq fs k ≡ Some i
-  place_inserted es k v i b fs h = by (place_of eq es k) refl h
-    where
-      by : (o : Option ℕ) → place_of eq es k ≡ o → MatchOption o ((i ≡ length es) × (shown b ≡ target v) × (fs ≡ es ++ (k, b) ∷ [])) (λ j. (i ≡ j) × (value_at eq es k ≡ Some b) × (fs ≡ es)) → place_of eq fs k ≡ Some i
-      by None at g = ap (λ l. place_of eq l k) g.2 ∙ ap (position (eq k)) (map-append (λ p. p.0) es ((k, b) ∷ [])) ∙ place_of_last (eq k) (keys_of es) k at (laws.refl k) ∙ ap Some (length-map es (λ p. p.0) ∙ sym g.0)
-      by (Some j) at g = ap (λ l. place_of eq l k) g.2 ∙ at ∙ ap Some (sym g.0)
-
-  -- and has the value that was answered
-  pub value_inserted : (es : List (K × B)) (k : K) (v : V) (i : ℕ) (b : B) (fs : List (K × B)) → Inserted eq target shown es k v i b fs → value_at eq fs k ≡ Some b
-  value_inserted es k v i b fs h = by (place_of eq es k) refl h
-    where
-      by : (o : Option ℕ) → place_of eq es k ≡ o → MatchOption o ((i ≡ length es) × (shown b ≡ target v) × (fs ≡ es ++ (k, b) ∷ [])) (λ j. (i ≡ j) × (value_at eq es k ≡ Some b) × (fs ≡ es)) → value_at eq fs k ≡ Some b
-      by None at g = ap (lookup (eq k)) g.2 ∙ found_last (eq k) es k b (no_value eq es k at) (laws.refl k)
-      by (Some j) at g = ap (lookup (eq k)) g.2 ∙ g.1
-
-module _ {B V T : Type 0} (eq : B → B → Bool) (laws : IsEquivalence eq) (target : V → T) (shown : B → T) (finds : V → B → Bool)
-    (finds_target : (v : V) (b k : B) → shown b ≡ target v → finds v k ≡ eq b k) where
-  -- an insertion leaves what was there
-  pub set_grows_inserted : (bs : List B) (v : V) (i : ℕ) (b : B) (cs : List B) → SetInserted target shown finds bs v i b cs → Grows bs cs
-  set_grows_inserted bs v i b cs h = by (position (finds v) bs) h
-    where
-      by : (o : Option ℕ) → MatchOption o ((i ≡ length bs) × (shown b ≡ target v) × (cs ≡ bs ++ b ∷ [])) (λ j. (i ≡ j) × (slice_get bs i ≡ Some b) × (cs ≡ bs)) → Grows bs cs
-      by None g = (b ∷ [], g.2)
-      by (Some j) g = ([], g.2 ∙ sym (append-nil bs))
-
-  -- a value that nothing was found for stands last, where it goes last
-  pub set_place_added : (bs : List B) (v : V) (i : ℕ) (b : B) (cs : List B) → position (finds v) bs ≡ None → i ≡ length bs → shown b ≡ target v → cs ≡ bs ++ b ∷ [] → position (finds v) cs ≡ Some i
-  set_place_added bs v i b cs none at is left = ap (position (finds v)) left ∙ place_of_last (finds v) bs b none (finds_target v b b is ∙ laws.refl b) ∙ ap Some (sym at)
+-- a value that nothing was found for stands last, where it goes last
+pub set_place_added : {B V T : Type 0} (eq : B → B → Bool) (laws : IsEquivalence eq) (target : V → T) (shown : B → T) (finds : V → B → Bool) (finds_target : (v : V) (b k : B) → shown b ≡ target v → finds v k ≡ eq b k)
+    (bs : List B) (v : V) (i : ℕ) (b : B) (cs : List B) → position (finds v) bs ≡ None → i ≡ length bs → shown b ≡ target v → cs ≡ bs ++ b ∷ [] → position (finds v) cs ≡ Some i
+set_place_added eq laws target shown finds finds_target bs v i b cs none at is left = ap (position (finds v)) left ∙ place_of_last (finds v) bs b none (finds_target v b b is ∙ laws.refl b) ∙ ap Some (sym at)
 
 -- the same pairs in another order are the same map
 pub same_in_any_order : {K B : Type 0} (eq : K → K → Bool) (laws : IsEquivalence eq) (same : B → B → Bool) (same_laws : IsEquivalence same) (es fs : List (K × B))
@@ -69,10 +47,14 @@ pub same_set_in_any_order : {B : Type 0} (eq : B → B → Bool) (laws : IsEquiv
 same_set_in_any_order eq laws bs cs moved = (same_set_decides laws bs cs).1 (λ q. list_any-IsPermutation (eq q) bs cs moved)
 
 -- a flag that is true only for what has no place is false for what has one
-pub not_new : (b : Bool) (o : Option ℕ) (i : ℕ) → IsTrue b ↔ (o ≡ None) → o ≡ Some i → b ≡ false
+not_new : (b : Bool) (o : Option ℕ) (i : ℕ) → IsTrue b ↔ (o ≡ None) → o ≡ Some i → b ≡ false
 not_new false o i says at = refl
 not_new true o i says at = let none = says.0 refl in absurd (cc)
 
--- what is found twice is one
-pub found_once : {X : Type 0} (o : Option X) (x y : X) → o ≡ Some x → o ≡ Some y → x ≡ y
-found_once o x y one other = let both = sym one ∙ other in cc
+-- of two insertions of what is found alike, the second is told the place and the value of the first, and that nothing was new
+pub told_again : {X B : Type 0} (at was : (X → Bool) → Option ℕ) (value : (X → Bool) → ℕ → Option B) (t u : X → Bool) → u ≡ t → (i : ℕ) (b : B) (s : ℕ × B × Bool)
+    → at t ≡ Some i → value t i ≡ Some b → was t ≡ Some i → at u ≡ Some s.0 → value u s.0 ≡ Some s.1 → IsTrue s.2 ↔ (was u ≡ None) → s ≡ (i, b, false)
+told_again at was value t u same i b s first stored before again found flag =
+    let place : s.0 ≡ i = cc in
+    let item : s.1 ≡ b = cc in
+    λ j. (place j, item j, not_new s.2 (was u) i flag (ap was same ∙ before) j)

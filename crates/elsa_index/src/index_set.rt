@@ -241,6 +241,15 @@ where
     {
         &mut self.set
     }
+
+    /// Begins anew with another content, as a write through `as_mut` does. It takes no memory.
+    pub fn rebase(&mut self, base: IndexSet<T::Borrow, S, A>)
+    where
+        S: Drop,
+        ensures { self.new ≡ base.keys }
+    {
+        *self.as_mut() = base;
+    }
 }
 
 impl<
@@ -346,18 +355,7 @@ where
         let (_, borrow) = self.insert_full(value)?;
         Ok(borrow)
     }
-}
 
-impl<
-    'a,
-    P: Allocator,
-    T: StableDeref<&'a Bump<P>> + LookUp<<T as StableDeref<&'a Bump<P>>>::Borrow>,
-    S: BuildHasher + Drop,
-    A: Allocator + Copy,
-> FrozenIndexSet<'a, T, S, A, P>
-where
-    <T as StableDeref<&'a Bump<P>>>::Borrow: Eq + Hash,
-{
     /// A set of the values, which keeps the first of equal ones.
     ///
     /// Each value whose target is absent is placed in the arena; the others are dropped. Two hashes a value at most.
@@ -368,6 +366,8 @@ where
         hash_builder: S,
         values: I,
     ) -> Result<Self, AllocError>
+    where
+        S: Drop,
         requires ends { (s : I.IntoIter) → I.into_iter_gives values s →
             I.IntoIter.can_next s × IsFinite (I.IntoIter.remaining s) }
         ensures collects { IfOk result (λ m.
@@ -380,24 +380,6 @@ where
             set.insert_full(value)?;
         }
         Ok(set)
-    }
-}
-
-impl<
-    'a,
-    P: Allocator,
-    T: StableDeref<&'a Bump<P>>,
-    S: BuildHasher + Drop,
-    A: Allocator + Copy,
-> FrozenIndexSet<'a, T, S, A, P>
-where
-    <T as StableDeref<&'a Bump<P>>>::Borrow: Eq + Hash,
-{
-    /// Begins anew with another content, as a write through `as_mut` does. It takes no memory.
-    pub fn rebase(&mut self, base: IndexSet<T::Borrow, S, A>)
-        ensures { self.new ≡ base.keys }
-    {
-        *self.as_mut() = base;
     }
 }
 

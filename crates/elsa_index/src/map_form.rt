@@ -31,9 +31,9 @@ where
         FrozenIndexMap::insert_new(self, key, value)
     }
 
-    #[tactic(auto, using(crate::proofs::Content::no_value))]
     fn insert(&mut self, key: K, value: V) -> Result<V::Borrow, AllocError> {
-        FrozenIndexMap::insert(self, key, value)
+        let (borrow, _) = MapForm::insert_new(self, key, value)?;
+        Ok(borrow)
     }
 
     fn get(&self, key: &K) -> Option<V::Borrow> {

@@ -1,23 +1,16 @@
 -- Which replies the commands of `run_map` may get, and which epoch follows each of them. A map has no order: what it holds is seen through the list
 -- of the base and of the first accepted insertion of each further key, by the value at each key and the number of entries.
-use Rattle.std.specs.Prelude.{◌≡◌, ◌+◌, ◌↔◌, ◌⊎◌, Bool, true, false, IsTrue, List, length, Option, None, Some}
-use Rattle.std.specs.Option.{option_map}
+use Rattle.std.specs.Prelude.{◌≡◌, ◌+◌, ◌↔◌, ◌⊎◌, Bool, true, false, IsTrue, List, length, None, Some}
 use Rattle.elsa_model.specs.FirstWins.{Adds, SameAt, value_at}
-use Rattle.elsa_run.specs.Runs.{Epoch, held, accept, epoch_from, RunsTo}
+use Rattle.elsa_run.specs.Runs.{Change, held, RunsTo, Kept, Added, Replaced}
 use Rattle.elsa_run.specs.declared.run_map.MapCommand.{MapCommand}
 use Rattle.elsa_run.specs.declared.run_map.MapCommand.TheVariants.{Insert, InsertNew, Get, Len, IsEmpty, Rebase}
 use Rattle.elsa_run.specs.declared.run_map.MapReply.{MapReply}
 use Rattle.elsa_run.specs.declared.run_map.MapReply.TheVariants.{Item, New, Found, Count, Flag, Done, NoMemory}
 
--- the entries are what the epoch holds: the same value at each key, and as many
-abbrev pub Holds : {K B : Type 0} → (K → K → Bool) → Epoch (K × B) → List (K × B) → Type 0
-Holds eq e entries = SameAt (value_at eq (held eq (λ p. p.0) e)) (value_at eq entries) × (length entries ≡ length (held eq (λ p. p.0) e))
-
--- the value that the reply to an insertion answers, unless it was refused
-abbrev pub answered : {B : Type 0} → MapReply B → Option B
-answered (Item b) = Some b
-answered (New b new) = Some b
-answered other = None
+-- the two are one content: the same value at each key, and as many entries
+abbrev pub IsSame : {K B : Type 0} → (K → K → Bool) → List (K × B) → List (K × B) → Type 0
+IsSame eq es fs = SameAt (value_at eq es) (value_at eq fs) × (length fs ≡ length es)
 
 module _ {K V T B M : Type 0} (eq : K → K → Bool) (target : V → T) (shown : B → T) (base_entries : M → List (K × B)) where
   -- an insertion where es is held: the value that the key has, or the given target, or a refusal of an absent key
@@ -35,16 +28,16 @@ module _ {K V T B M : Type 0} (eq : K → K → Bool) (target : V → T) (shown 
   Answers es IsEmpty r = (flag : Bool) × (r ≡ Flag flag) × (IsTrue flag ↔ (length es ≡ 0))
   Answers es (Rebase m) r = r ≡ Done
 
-  -- the epoch after a command and its reply: an accepted insertion is noted, `Rebase` begins a new one
-  abbrev pub epoch_after : Epoch (K × B) → MapCommand K V M → MapReply B → Epoch (K × B)
-  epoch_after e (Insert k v) r = accept e (option_map (λ b. (k, b)) (answered r))
-  epoch_after e (InsertNew k v) r = accept e (option_map (λ b. (k, b)) (answered r))
-  epoch_after e (Rebase m) r = epoch_from (base_entries m)
-  epoch_after e look r = e
+  -- what a command changes by its reply: an accepted insertion is noted, `Rebase` begins a new epoch
+  abbrev pub change : MapCommand K V M → MapReply B → Change (K × B)
+  change (Insert k v) (Item b) = Added (k, b)
+  change (InsertNew k v) (New b new) = Added (k, b)
+  change (Rebase m) r = Replaced (base_entries m)
+  change c r = Kept
 
   -- a run that begins with these entries ends with those
   abbrev pub MapRunsTo : List (K × B) → List (MapCommand K V M) → List (MapReply B) → List (K × B) → Type 0
-  MapRunsTo = RunsTo (Holds eq) (λ e. Answers (held eq (λ p. p.0) e)) epoch_after
+  MapRunsTo = RunsTo (held eq (λ p. p.0)) (IsSame eq) Answers change
 
   -- One call: an insertion answers the value that the key has, adds the given target, or is refused and changes nothing.
   abbrev pub InsertStep : List (K × B) → K → V → (B → Bool → MapReply B) → MapReply B → List (K × B) → Type 0

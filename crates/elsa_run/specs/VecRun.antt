@@ -1,8 +1,8 @@
 -- Which replies the commands of `run_vec` may get, and which epoch follows each of them. What is held is a list of targets: the base of the
 -- epoch, and behind it the items of its accepted pushes, in order.
-use Rattle.std.specs.Prelude.{◌≡◌, ◌↔◌, ◌⊎◌, ◌-◌, ℕ, Bool, List, [], ◌++◌, length, map, slice_get, Option, None, Some, IsTrue}
+use Rattle.std.specs.Prelude.{◌≡◌, ◌↔◌, ◌⊎◌, ◌-◌, ℕ, Bool, List, [], ◌++◌, length, map, slice_get, Option, IsTrue}
 use Rattle.std.specs.Option.{option_map}
-use Rattle.elsa_run.specs.Runs.{Epoch, accept, epoch_from, RunsTo}
+use Rattle.elsa_run.specs.Runs.{Change, Epoch, RunsTo, StepsTo, Kept, Added, Replaced}
 use Rattle.elsa_run.specs.declared.run_vec.VecCommand.{VecCommand}
 use Rattle.elsa_run.specs.declared.run_vec.VecCommand.TheVariants.{Push, PushGet, Get, First, Last, Len, IsEmpty, Rebase}
 use Rattle.elsa_run.specs.declared.run_vec.VecReply.{VecReply}
@@ -11,12 +11,6 @@ use Rattle.elsa_run.specs.declared.run_vec.VecReply.TheVariants.{Done, Item, Fou
 -- what is held: the base, and the items of the accepted pushes
 abbrev pub pushed_on : {X : Type 0} → Epoch X → List X
 pushed_on e = e.base ++ e.accepted
-
--- a push with this item was accepted, unless its reply says that memory was refused
-abbrev pub accepted_item : {B X : Type 0} → X → VecReply B → Option X
-accepted_item x Done = Some x
-accepted_item x (Item b) = Some x
-accepted_item x other = None
 
 module _ {T B X M : Type 0} (target : T → X) (shown : B → X) (inner : M → List B) where
   -- a look answers a borrow that shows what stands at place i, and None exactly if there is no such place
@@ -34,21 +28,17 @@ module _ {T B X M : Type 0} (target : T → X) (shown : B → X) (inner : M → 
   Answers xs IsEmpty r = (flag : Bool) × (r ≡ Flag flag) × (IsTrue flag ↔ (xs ≡ []))
   Answers xs (Rebase m) r = r ≡ Done
 
-  -- the epoch after a command and its reply: an accepted push is noted, `Rebase` begins a new one
-  abbrev pub epoch_after : Epoch X → VecCommand T M → VecReply B → Epoch X
-  epoch_after e (Push item) r = accept e (accepted_item (target item) r)
-  epoch_after e (PushGet item) r = accept e (accepted_item (target item) r)
-  epoch_after e (Rebase m) r = epoch_from (map shown (inner m))
-  epoch_after e look r = e
-
-  -- what one call leaves where xs is held
-  abbrev pub content_after : List X → VecCommand T M → VecReply B → List X
-  content_after xs c r = pushed_on (epoch_after (epoch_from xs) c r)
+  -- what a command changes by its reply: an accepted push is noted, `Rebase` begins a new epoch
+  abbrev pub change : VecCommand T M → VecReply B → Change X
+  change (Push item) Done = Added (target item)
+  change (PushGet item) (Item b) = Added (target item)
+  change (Rebase m) r = Replaced (map shown (inner m))
+  change c r = Kept
 
   -- a run of these commands that begins with xs held ends with ys held
   abbrev pub VecRunsTo : List X → List (VecCommand T M) → List (VecReply B) → List X → Type 0
-  VecRunsTo = RunsTo (λ e xs. xs ≡ pushed_on e) (λ e. Answers (pushed_on e)) epoch_after
+  VecRunsTo = RunsTo pushed_on ◌≡◌ Answers change
 
   -- a command may take xs to ys and get the reply r
   abbrev pub Step : List X → VecCommand T M → VecReply B → List X → Type 0
-  Step xs c r ys = Answers xs c r × (ys ≡ content_after xs c r)
+  Step = StepsTo pushed_on ◌≡◌ Answers change

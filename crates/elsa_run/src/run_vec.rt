@@ -48,7 +48,7 @@ pub enum VecReply<B> {
     NoMemory,
 }
 
-// What each call means: `Answers` says which reply it may get, `content_after` what it leaves.
+// What each call means: `Answers` says which reply it may get, `change` what it changes.
 impl<'a, P: Allocator, T: StableDeref<&'a Bump<P>>, A: Allocator + Copy> Call<
     FrozenVec<'a, T, A, P>,
     VecReply<T::Borrow>,

@@ -3,7 +3,7 @@ use Rattle.std.proofs.Common.{rules, ◌≡◌, length, None, subst, sym, refl}
 use Rattle.std.specs.Map.{lookup}
 use Rattle.indexmap.specs.Entry.{entry_map_ref, entry_index, entry_key, entry_value, map_with_value}
 use Rattle.elsa_index.proofs.Content.{new_pair_goes_last}
-use Rattle.elsa_index.proofs.Laws.{place_inserted, value_inserted}
+use Rattle.elsa_index.proofs.Laws.{stands_inserted}
 use Rattle.elsa_index.proofs.index_map.FrozenIndexMap.insert_full_new.Goals as goal
 
 pub returns-clause-accepted : goal.returns-clause-accepted
@@ -18,7 +18,7 @@ returns-clause-accepted g c =
     new_pair_goes_last g.K.PartialEq.eq g.V.HasTarget.target g.V.HasTarget.shown c.args.self.now c.args.key c.args.value c.index-place.result c.in-Ok-place.borrow _ none at is (search (rules, same, keyed))
 
 pub returns-clause-stands : goal.returns-clause-stands
-returns-clause-stands g c = value_inserted g.K.PartialEq.eq g.met.K.Eq.laws g.V.HasTarget.target g.V.HasTarget.shown _ _ _ _ _ _ (returns-clause-accepted g c).0
+returns-clause-stands g c = (stands_inserted g.K.PartialEq.eq g.met.K.Eq.laws g.V.HasTarget.target g.V.HasTarget.shown _ _ _ _ _ _ (returns-clause-accepted g c).0).1
 
 pub returns-clause-stands_at : goal.returns-clause-stands_at
-returns-clause-stands_at g c = place_inserted g.K.PartialEq.eq g.met.K.Eq.laws g.V.HasTarget.target g.V.HasTarget.shown _ _ _ _ _ _ (returns-clause-accepted g c).0
+returns-clause-stands_at g c = (stands_inserted g.K.PartialEq.eq g.met.K.Eq.laws g.V.HasTarget.target g.V.HasTarget.shown _ _ _ _ _ _ (returns-clause-accepted g c).0).0

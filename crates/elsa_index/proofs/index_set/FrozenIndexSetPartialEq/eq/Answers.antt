@@ -1,4 +1,4 @@
-use Rattle.std.proofs.Common.{◌≡◌, rules, sym, ◌∙◌}
+use Rattle.std.proofs.Common.{◌≡◌, rules}
 use Rattle.elsa_index.specs.Equality.{same_set}
 use Rattle.elsa_index.proofs.Equality.{same_set_decides}
 use Rattle.elsa_index.proofs.index_set.FrozenIndexSetPartialEq.eq.Goals as goal
@@ -6,5 +6,4 @@ use Rattle.elsa_index.proofs.index_set.FrozenIndexSetPartialEq.eq.Goals as goal
 pub returns-clause-as_sets : goal.returns-clause-as_sets
 returns-clause-as_sets g c =
     let computed : c.eq.result ≡ same_set g.T.Borrow.PartialEq.eq c.args.self.now c.args.other.now = search rules in
-    let decides = same_set_decides g.met.T.Borrow.Eq.laws c.args.self.now c.args.other.now in
-    (λ yes. decides.0 (sym computed ∙ yes), λ same. computed ∙ decides.1 same)
+    rw computed (same_set_decides g.met.T.Borrow.Eq.laws c.args.self.now c.args.other.now)
