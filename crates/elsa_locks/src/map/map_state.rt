@@ -37,7 +37,7 @@ impl<K: Eq + Hash, V, A: Allocator> Model for MapState<K, V, A> {
 }
 
 /// The owner at the key, if it is present.
-#[tactic(auto, using(crate::proofs::Shared::lookup_shown))]
+#[tactic(auto, using(crate::proofs::Shared::shows))]
 fn find<'m, K: Eq + Hash, V, A: Allocator>(
     table: &'m Table<K, V, A>,
     key: &K,
@@ -49,7 +49,7 @@ fn find<'m, K: Eq + Hash, V, A: Allocator>(
 }
 
 /// Makes room for one more key.
-#[tactic(auto, using(crate::proofs::Shared::lookup_shown, crate::proofs::Shared::length_shown))]
+#[tactic(auto, using(crate::proofs::Shared::shows))]
 fn make_room<K: Eq + Hash, V, A: Allocator + Copy>(
     table: &mut Table<K, V, A>,
 ) -> Result<(), AllocError>
@@ -61,7 +61,7 @@ fn make_room<K: Eq + Hash, V, A: Allocator + Copy>(
 }
 
 /// Stores an owner at a key that is absent. Takes no memory.
-#[tactic(auto, using(crate::proofs::Shared::lookup_shown, crate::proofs::Shared::length_shown))]
+#[tactic(auto, using(crate::proofs::Shared::shows))]
 fn store<K: Eq + Hash + Drop, V: Drop, A: Allocator + Copy>(
     table: &mut Table<K, V, A>,
     key: K,
@@ -112,7 +112,7 @@ impl<K: Eq + Hash, V, A: Allocator + Copy> MapState<K, V, A> {
     }
 
     /// The number of entries; no two of them have equal keys.
-    #[tactic(auto, using(crate::proofs::Shared::distinct_shown))]
+    #[tactic(auto, using(crate::proofs::Shared::shows))]
     pub fn len(&self) -> usize
         ensures len { result ≡ length self.now }
         ensures distinct { IsDistinct K.eq (keys_of self.now) }
@@ -136,10 +136,7 @@ impl<K: Eq + Hash, V, A: Allocator + Copy> MapState<K, V, A> {
         ensures answer { IfOk result (λ a. option_map arc_value a ≡ value_at K.eq self.now key.now) }
         ensures only_there { OnErr result (is_some (value_at K.eq self.now key.now) ≡ true) }
     {
-        match find(&self.table, key) {
-            Some(value) => Ok(Some(value.clone()?)),
-            None => Ok(None),
-        }
+        find(&self.table, key).cloned()
     }
 
     /// A copy of the value at the key, or `None` if the key is absent. `O(1)` hashed. Takes no memory.
@@ -148,10 +145,7 @@ impl<K: Eq + Hash, V, A: Allocator + Copy> MapState<K, V, A> {
         V: Copy,
         ensures { result ≡ value_at K.eq self.now key.now }
     {
-        match find(&self.table, key) {
-            Some(value) => Some(**value),
-            None => None,
-        }
+        find(&self.table, key).map(|value| **value)
     }
 
     /// What the one call of `f` on the value at the key returns, or `None`, without a call, if the key is absent.
@@ -168,7 +162,7 @@ impl<K: Eq + Hash, V, A: Allocator + Copy> MapState<K, V, A> {
     }
 
     /// A clone of each key, each once, in no specified order. `O(n)`, one request for the list besides the keys' clones.
-    #[tactic(auto, using(crate::proofs::Shared::keys_shown))]
+    #[tactic(auto, using(crate::proofs::Shared::shows))]
     pub fn keys_cloned(&self) -> Result<Vec<K, A>, AllocError>
     where
         K: Clone + Drop,
@@ -307,6 +301,7 @@ impl<K: Eq + Hash + Drop, V: Drop, A: Allocator + Copy> MapState<K, V, A> {
     }
 
     /// The entries, each once, in no specified order. `Err` drops the map.
+    #[tactic(auto, using(crate::proofs::Shared::shows))]
     pub fn into_tuple_vec(self) -> Result<Vec<(K, Arc<V, A>), A>, AllocError>
         ensures pairs { IfOk result (λ v. shown v.items ≡ self) }
         ensures distinct { IfOk result (λ v. IsDistinct K.eq (keys_of v.items)) }

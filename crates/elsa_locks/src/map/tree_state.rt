@@ -37,7 +37,7 @@ impl<K: Ord, V, A: Allocator> Model for TreeState<K, V, A> {
 }
 
 /// The owner at the key, if it is present.
-#[tactic(auto, using(crate::proofs::Shared::lookup_shown))]
+#[tactic(auto, using(crate::proofs::Shared::shows))]
 fn find<'m, K: Ord, V, A: Allocator>(table: &'m Table<K, V, A>, key: &K) -> Option<&'m Arc<V, A>>
     ensures { option_map (λ a. arc_value a.now) result
         ≡ value_at (eq_by_cmp K.cmp) (shown table.now.entries) key.now }
@@ -46,7 +46,7 @@ fn find<'m, K: Ord, V, A: Allocator>(table: &'m Table<K, V, A>, key: &K) -> Opti
 }
 
 /// Stores an owner at a key, in place of the one that is there, if any. `Err` leaves the entries.
-#[tactic(auto, using(crate::proofs::Shared::lookup_shown, crate::proofs::Shared::length_shown))]
+#[tactic(auto, using(crate::proofs::Shared::shows))]
 fn store<K: Ord + Drop, V: Drop, A: Allocator + Copy>(
     table: &mut Table<K, V, A>,
     key: K,
@@ -84,7 +84,7 @@ impl<K: Ord, V, A: Allocator + Copy> TreeState<K, V, A> {
     }
 
     /// The number of entries; their keys ascend.
-    #[tactic(auto, using(crate::proofs::Shared::sorted_shown))]
+    #[tactic(auto, using(crate::proofs::Shared::shows))]
     pub fn len(&self) -> usize
         ensures len { result ≡ length self.now }
         ensures ascending { IsStrictlySortedBy K.cmp (keys_of self.now) }
@@ -110,10 +110,7 @@ impl<K: Ord, V, A: Allocator + Copy> TreeState<K, V, A> {
         ensures only_there { OnErr result (
             is_some (value_at (eq_by_cmp K.cmp) self.now key.now) ≡ true) }
     {
-        match find(&self.table, key) {
-            Some(value) => Ok(Some(value.clone()?)),
-            None => Ok(None),
-        }
+        find(&self.table, key).cloned()
     }
 
     /// A copy of the value at the key, or `None` if the key is absent. `O(log n)`. Takes no memory.
@@ -122,10 +119,7 @@ impl<K: Ord, V, A: Allocator + Copy> TreeState<K, V, A> {
         V: Copy,
         ensures { result ≡ value_at (eq_by_cmp K.cmp) self.now key.now }
     {
-        match find(&self.table, key) {
-            Some(value) => Some(**value),
-            None => None,
-        }
+        find(&self.table, key).map(|value| **value)
     }
 
     /// What the one call of `f` on the value at the key returns, or `None`, without a call, if the key is absent.
@@ -189,11 +183,9 @@ impl<K: Ord, V, A: Allocator + Copy> TreeState<K, V, A> {
         V: PartialEq,
         ensures { IsTrue result ↔ IsEqualMap (eq_by_cmp K.cmp) V.eq self.now other.now }
     {
-        let (mine, theirs) = (&self.table, &other.table);
-        if mine.len() != theirs.len() {
-            return false;
-        }
-        *mine == *theirs
+        // They tell the proof that the keys ascend.
+        let _lengths = (self.len(), other.len());
+        self.table == other.table
     }
 }
 
@@ -261,7 +253,7 @@ impl<K: Ord + Drop, V: Drop, A: Allocator + Copy> TreeState<K, V, A> {
     }
 
     /// The entries, each once, ascending by key. `Err` drops the map.
-    #[tactic(auto, using(crate::proofs::Shared::sorted_shown))]
+    #[tactic(auto, using(crate::proofs::Shared::shows))]
     pub fn into_tuple_vec(self) -> Result<Vec<(K, Arc<V, A>), A>, AllocError>
         ensures pairs { IfOk result (λ v. shown v.items ≡ self) }
         ensures ascending { IfOk result (λ v. IsStrictlySortedBy K.cmp (keys_of v.items)) }

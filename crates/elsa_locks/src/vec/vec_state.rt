@@ -47,7 +47,7 @@ impl<V, A: Allocator + Copy> VecState<V, A> {
     }
 
     /// The number of items.
-    #[tactic(auto, using(crate::proofs::Shared::length_items))]
+    #[tactic(auto, using(crate::proofs::Shared::shows))]
     pub fn len(&self) -> usize
         ensures { result ≡ length self.now }
     {
@@ -62,19 +62,17 @@ impl<V, A: Allocator + Copy> VecState<V, A> {
     }
 
     /// A copy of the item at the place, or `None` at or past the end. `O(1)`. Takes no memory.
-    #[tactic(auto, using(crate::proofs::Shared::get_items))]
+    #[tactic(auto, using(crate::proofs::Shared::shows))]
     pub fn get_copy(&self, place: usize) -> Option<V>
     where
         V: Copy,
         ensures { result ≡ slice_get self.now place }
     {
-        match self.list.get(place) {
-            Some(value) => Some(**value),
-            None => None,
-        }
+        self.list.get(place).map(|value| **value)
     }
 
     /// Whether both have as many items, equal place by place by `==`. `O(n)`. Takes no memory.
+    #[tactic(auto, using(crate::proofs::Shared::shows))]
     pub fn same(&self, other: &Self) -> bool
     where
         V: PartialEq,
@@ -103,15 +101,12 @@ impl<V: Drop, A: Allocator + Copy> VecState<V, A> {
     /// An owner of the item at the place, or `None` at or past the end. `O(1)`.
     ///
     /// `Err` only where one more owner couldn't be made.
-    #[tactic(auto, using(crate::proofs::Shared::get_items))]
+    #[tactic(auto, using(crate::proofs::Shared::shows))]
     pub fn get(&self, place: usize) -> Result<Option<Arc<V, A>>, AllocError>
         ensures answer { IfOk result (λ a. option_map arc_value a ≡ slice_get self.now place) }
         ensures only_there { OnErr result (place < length self.now) }
     {
-        match self.list.get(place) {
-            Some(value) => Ok(Some(value.clone()?)),
-            None => Ok(None),
-        }
+        self.list.get(place).cloned()
     }
 
     /// Puts the item at the end. `Err` leaves the list.
@@ -124,7 +119,7 @@ impl<V: Drop, A: Allocator + Copy> VecState<V, A> {
     }
 
     /// Puts the item at the end, and returns one more owner of it. `Err` leaves the list.
-    #[tactic(auto, using(crate::proofs::Shared::push_items))]
+    #[tactic(auto, using(crate::proofs::Shared::shows))]
     pub fn push_get(&mut self, value: V) -> Result<Arc<V, A>, AllocError>
         ensures answer { IfOk result (λ a. arc_value a ≡ value) }
         ensures ok { OnOk result (self.new ≡ self.old ++ value ∷ []) }
@@ -137,7 +132,7 @@ impl<V: Drop, A: Allocator + Copy> VecState<V, A> {
     }
 
     /// Puts the item at the end, and returns its place. `Err` leaves the list.
-    #[tactic(auto, using(crate::proofs::Shared::length_items, crate::proofs::Shared::push_items))]
+    #[tactic(auto, using(crate::proofs::Shared::shows))]
     pub fn push_get_index(&mut self, value: V) -> Result<usize, AllocError>
         ensures answer { IfOk result (λ place. place ≡ length self.old) }
         ensures ok { OnOk result (self.new ≡ self.old ++ value ∷ []) }
@@ -150,6 +145,7 @@ impl<V: Drop, A: Allocator + Copy> VecState<V, A> {
     }
 
     /// A list with the same items, which are shared. `O(n)`. Later pushes into either leave the other.
+    #[tactic(auto, using(crate::proofs::Clones::copied_items))]
     pub fn copy(&self) -> Result<Self, AllocError>
         ensures { IfOk result (λ copied. copied ≡ self.now) }
     {

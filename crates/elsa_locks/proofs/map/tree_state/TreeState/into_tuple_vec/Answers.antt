@@ -1,5 +1,0 @@
-use Rattle.std.proofs.Common.{◌∷◌, [], ◌++◌, ◌∙◌, ap}
-use Rattle.elsa_locks.proofs.map.tree_state.TreeState.into_tuple_vec.Goals as goal
-
-pub loop-pair-preserved : goal.loop-pair-preserved
-loop-pair-preserved g c = c.in_ok-push.ensures.items ∙ ap (λ w. w ++ c.in-Some.pair ∷ []) c.loop-pair.invariant

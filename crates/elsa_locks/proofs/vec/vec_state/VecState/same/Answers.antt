@@ -1,7 +1,0 @@
-use Rattle.std.proofs.Common.{sym, ◌∙◌}
-use Rattle.std.specs.Arc.{arc_value}
-use Rattle.std.specs.Cmp.Derive.Mapped.{pointwise-map}
-use Rattle.elsa_locks.proofs.vec.vec_state.VecState.same.Goals as goal
-
-pub returns : goal.returns
-returns g c = rw (← c.self.view_is, ← c.other.view_is) (c.eq.ensures ∙ sym (pointwise-map arc_value g.V.PartialEq.eq c.self.inside.list.items c.other.inside.list.items))
