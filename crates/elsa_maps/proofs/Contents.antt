@@ -1,15 +1,11 @@
 -- Look-ups in a list of entries, and what pairs leave when they are collected.
-use Rattle.std.proofs.Common.{◌≡◌, ◌↔◌, Bool, true, false, true≢false, cond, subst, is_some, Result, Ok, Err, IfOk, OnErr, List, [], ◌∷◌, ◌++◌, reverse, Option, None, Some, length, refl, sym, ap, ◌∙◌}
-use Rattle.std.specs.BTreeMap as tree
-use Rattle.std.specs.BTreeMap.{BTreeMap}
-use Rattle.std.specs.Cmp.{IsEquivalence, IsTotalOrder}
+use Rattle.std.proofs.Common.{◌≡◌, ◌↔◌, Bool, true, false, true≢false, cond, subst, is_some, Result, Ok, Err, IfOk, OnErr, List, [], ◌∷◌, ◌++◌, reverse, Option, None, Some, refl, sym, ap, ◌∙◌}
+use Rattle.std.specs.Cmp.{IsEquivalence}
 use Rattle.std.specs.HashMap.Eq.{lookup_congr}
 use Rattle.std.specs.Map.{lookup, lookup_entry, lookup_key, update, update_all}
 use Rattle.std.specs.Option.{option_map}
-use Rattle.std.specs.declared.cmp.Ordering.{Ordering}
-use Rattle.std.proofs.lemmas.List.{length-map, reverse-append}
+use Rattle.std.proofs.lemmas.List.{reverse-append}
 use Rattle.std.proofs.lemmas.List.Sums.{fold-append}
-use Rattle.std.proofs.lemmas.Map.Lookups.{btree_map_read_from_get}
 use Rattle.elsa_maps.specs.FirstWins.{Adds, HoldsLast, Inserts, Keeps, SameAt, value_at}
 
 -- the two, if both are there
@@ -89,9 +85,3 @@ module _ {K B : Type 0} (eq : K → K → Bool) (laws : IsEquivalence eq) where
   copies_more pairs es fs k c v held same looks q =
       looks q ∙ ap (λ b. cond b (Some v) (value_at eq es q)) (sym (laws.congr k c q same)) ∙ ap (cond (eq k q) (Some v)) (held q)
       ∙ sym (ap (λ f. f q) (fold-append (λ g p. update eq g p.0 (Some p.1)) (λ _. None) pairs ((k, v) ∷ [])))
-
--- ordered maps with the same value at each key have as many entries
-pub same_count : {K B : Type 0} {cmp : K → K → Ordering} (order : IsTotalOrder cmp) (m n : BTreeMap K B) → tree.IsOrdered cmp m → tree.IsOrdered cmp n
-    → ((q : K) → tree.get cmp m q ≡ tree.get cmp n q) → length m.entries ≡ length n.entries
-same_count {K} {B} order m n s t same =
-    sym (length-map m.entries (λ (e : K × B). (tt {0}, e.1))) ∙ ap length (btree_map_read_from_get order m n s t same {B = Unit {0}} (λ k. tt) (λ x y e. refl)) ∙ length-map n.entries (λ (e : K × B). (tt {0}, e.1))

@@ -377,20 +377,6 @@ impl<
     S: BuildHasher + Drop,
     A: Allocator + Copy,
 > FrozenMap<'a, K, V, S, A, P> {
-    // Gives a key this value, whether or not it has one.
-    fn replace(&mut self, key: K, value: V) -> Result<V::Borrow, AllocError>
-        ensures target { IfOk result (λ b. V.shown b ≡ V.target value) }
-        ensures content { IfOk result (λ b.
-            (q : K) →
-            value_at K.eq self.new q ≡ (if K.eq key q then Some b else value_at K.eq self.old q)) }
-    {
-        let Ok(placed) = value.place(self.arena) else {
-            return Err(AllocError);
-        };
-        self.entries.insert(key, placed)?;
-        Ok(placed)
-    }
-
     /// A map of the pairs in which, other than by insertions, the last value of a key wins.
     ///
     /// Each value is placed in the arena. The table makes room for as many entries as the iterator says will come at least (its
@@ -410,14 +396,16 @@ impl<
     {
         let pairs = pairs.into_iter();
         let mut table = HashMap::with_hasher(alloc, hash_builder);
-        // Fewer keys may come than the hint says, so its refusal is left to `replace`.
+        // Fewer keys may come than the hint says, so its refusal is left to `insert`.
         let _room = table.reserve(pairs.size_hint().0);
-        let mut made = FrozenMap::from_map(alloc, arena, table);
         for pair in pairs {
             let (key, value) = pair;
-            made.replace(key, value)?;
+            let Ok(placed) = value.place(arena) else {
+                return Err(AllocError);
+            };
+            table.insert(key, placed)?;
         }
-        Ok(made)
+        Ok(FrozenMap::from_map(alloc, arena, table))
     }
 
     /// A map with the same content over the same arena, whose borrows are shared. Later insertions into either leave the
@@ -437,18 +425,6 @@ impl<
             return Ok(FrozenMap::from_map(self.alloc, self.arena, copy));
         }
         // The clone of the hasher may hash a key otherwise, which is no reason to refuse.
-        self.clone_by_entries()
-    }
-
-    // The clone, entry by entry.
-    fn clone_by_entries(&self) -> Result<Self, AllocError>
-    where
-        K: Clone,
-        S: Clone,
-        requires equal_clones { (k c : K) → K.is_clone k c → K.eq k c ≡ true }
-        ensures content { IfOk result (λ copy. SameAt (value_at K.eq self.now) (value_at K.eq copy)) }
-        ensures count { IfOk result (λ copy. length copy ≡ length self.now) }
-    {
         let hash_builder = self.entries.hasher().clone()?;
         let mut copy = HashMap::with_capacity_and_hasher(self.alloc, self.len(), hash_builder)?;
         for (key, value) in &self.entries {

@@ -62,7 +62,7 @@ pub fn is_new_once<R, M: MapForm<R>>(
         keeps_earlier_values(map, key, value)?;
     }
     let (again_key, again_value) = again;
-    let after = map.insert_new(again_key, again_value)?;
+    let after = keeps_earlier_values(map, again_key, again_value)?;
     Ok((before, after))
 }
 

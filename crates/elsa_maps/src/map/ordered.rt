@@ -1,5 +1,5 @@
 //! The map that keeps its keys in order.
-ghost use Rattle.std.specs.Prelude.{◌≡◌, ◌+◌, ◌↔◌, [], List, Bool, false, true, None, IfOk, IsSome, IsSomeAnd, IsTrue, MatchOption, OnErr, OnOk, Some, if◌then◌else◌, ◌-◌, is_some, length, slice_get};
+ghost use Rattle.std.specs.Prelude.{◌≡◌, ◌+◌, ◌↔◌, [], ◌∷◌, List, Bool, false, true, None, IfOk, IsSome, IsSomeAnd, IsTrue, MatchOption, OnErr, OnOk, Some, if◌then◌else◌, ◌-◌, is_some, length, slice_get};
 ghost use Rattle.std.specs.BTreeMap.{insert_entry};
 ghost use Rattle.std.specs.BTreeMap.Range.{IsLeBy, IsLtBy, entries_between};
 ghost use Rattle.std.specs.Borrow.{sem};
@@ -285,21 +285,6 @@ impl<
         Ok(self.insert_new(key, value)?.0)
     }
 
-    // Gives a key this value, whether or not it has one.
-    fn replace(&mut self, key: K, value: V) -> Result<V::Borrow, AllocError>
-        ensures target { IfOk result (λ b. V.shown b ≡ V.target value) }
-        ensures content { IfOk result (λ b.
-            (q : K) →
-            value_at (eq_by_cmp K.cmp) self.new q ≡
-            (if eq_by_cmp K.cmp key q then Some b else value_at (eq_by_cmp K.cmp) self.old q)) }
-    {
-        let Ok(placed) = value.place(self.arena) else {
-            return Err(AllocError);
-        };
-        self.entries.insert(key, placed)?;
-        Ok(placed)
-    }
-
     /// A map of the pairs in which, other than by insertions, the last value of a key wins.
     ///
     /// Each value is placed in the arena. On an allocation failure it returns `Err` and drops what was collected.
@@ -315,12 +300,15 @@ impl<
             (s : I.IntoIter) × (xs : List (K × V)) × I.into_iter_gives pairs s
             × Drains I.IntoIter.next_gives s xs × HoldsLast (eq_by_cmp K.cmp) V.target V.shown xs m) }
     {
-        let mut made = FrozenBTreeMap::new(alloc, arena);
+        let mut tree = BTreeMap::new(alloc);
         for pair in pairs {
             let (key, value) = pair;
-            made.replace(key, value)?;
+            let Ok(placed) = value.place(arena) else {
+                return Err(AllocError);
+            };
+            tree.insert(key, placed)?;
         }
-        Ok(made)
+        Ok(FrozenBTreeMap::from_map(alloc, arena, tree))
     }
 
     /// A map with the same content over the same arena, whose borrows are shared. Later insertions into either leave the
@@ -335,13 +323,7 @@ impl<
             SameAt (value_at (eq_by_cmp K.cmp) self.now) (value_at (eq_by_cmp K.cmp) copy)) }
         ensures count { IfOk result (λ copy. length copy ≡ length self.now) }
     {
-        let mut copy = BTreeMap::new(self.alloc);
-        for (key, value) in &self.entries {
-            let key = key.clone()?;
-            let Ok(_) = copy.insert(key, *value) else {
-                return Err(AllocError);
-            };
-        }
+        let copy = copied(&self.entries)?;
         Ok(FrozenBTreeMap::from_map(self.alloc, self.arena, copy))
     }
 
@@ -405,6 +387,33 @@ fn insert_placed<
         return Err(AllocError);
     };
     Ok((*kept, true))
+}
+
+// The tree copied whole: no key is searched for.
+fn copied<K: Ord + Clone + Drop, B: Copy, A: Allocator + Copy>(
+    tree: &BTreeMap<K, B, A>,
+) -> Result<BTreeMap<K, B, A>, AllocError>
+    requires equal_clones { (k c : K) → K.is_clone k c → K.eq k c ≡ true }
+    ensures content { IfOk result (λ copy.
+        SameAt (value_at (eq_by_cmp K.cmp) tree.now.entries)
+        (value_at (eq_by_cmp K.cmp) copy.entries)) }
+    ensures count { IfOk result (λ copy. length copy.entries ≡ length tree.now.entries) }
+{
+    let mut copy = tree.clone()?;
+    // What a clone of a value is, is left open by its type: each gets its source's value itself.
+    let mut values = tree.values();
+    let from_source = move |_key: &K, value: &mut B| -> bool
+        ensures kept { result ≡ true }
+        ensures in_order { (own : B) → (rest : List B) → values.entry ≡ own ∷ rest →
+            (value.new ≡ own) × (values.exit ≡ rest) }
+    {
+        if let Some(own) = values.next() {
+            *value = *own;
+        }
+        true
+    };
+    copy.retain(from_source);
+    Ok(copy)
 }
 
 impl<'a, P: Allocator, V: StableDeref<&'a Bump<P>>, A: Allocator + Copy> FrozenBTreeMap<

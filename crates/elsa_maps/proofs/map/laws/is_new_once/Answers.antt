@@ -1,4 +1,5 @@
-use Rattle.std.proofs.Common.{◌≡◌, IsSome, Some, false, is_some, sym, ap, ◌∙◌}
+use Rattle.std.proofs.Common.{◌≡◌, IsSome, Some, is_some, sym, ap, ◌∙◌}
+use Rattle.std.proofs.lemmas.Bool.{false_from_ne_true}
 use Rattle.std.proofs.lemmas.Iterator.Adapters.{YieldsList-from_vec}
 use Rattle.std.proofs.lemmas.Iterator.Consumers.{YieldsList-end}
 use Rattle.std.proofs.lemmas.List.Elements.{All-nil}
@@ -31,20 +32,14 @@ returns-in_err-keeps_earlier_values-clause-kept g c =
 found : (g : _) (c : goal.In_ok-after g) → value_at g.M.MapForm.same (g.M.MapForm.entries c.loop-pair.map) c.args.again.0 ≡ Some c.in_ok-before.before.0
 found g c = sym (lookup_congr g.M.MapForm.same c.len-count.ensures.equivalence.congr (g.M.MapForm.entries c.loop-pair.map) c.args.first.0 c.args.again.0 c.requires.equal) ∙ c.loop-pair.invariant.first
 
-answered : (g : _) (c : goal.In_ok-after g) → c.in_ok-after.after ≡ (c.in_ok-before.before.0, false)
-answered g c = let is = (c.in_ok-after.ensures.present _ (found g c)).0 in cc
-
-unchanged : (g : _) (c : goal.In_ok-after g) → g.M.MapForm.entries c.insert_new.new.self ≡ g.M.MapForm.entries c.loop-pair.map
-unchanged g c = (c.in_ok-after.ensures.present _ (found g c)).1
-
 pub returns-clause-once : goal.returns-clause-once
-returns-clause-once g c = ap (λ r. r.1) (answered g c)
+returns-clause-once g c = false_from_ne_true _ (λ yes. let none = c.in_ok-after.ensures.flag.0 yes in let some = found g c in cc)
 
 pub returns-clause-same_value : goal.returns-clause-same_value
-returns-clause-same_value g c = ap (λ r. r.0) (answered g c)
+returns-clause-same_value g c = let some = c.in_ok-after.ensures.kept _ _ (found g c) in let there = c.in_ok-after.ensures.there in cc
 
 pub returns-clause-there : goal.returns-clause-there
-returns-clause-there g c = ap (λ entries. value_at g.M.MapForm.same entries c.args.first.0) (unchanged g c) ∙ c.loop-pair.invariant.first
+returns-clause-there g c = c.in_ok-after.ensures.kept _ _ c.loop-pair.invariant.first
 
 pub returns-clause-between : goal.returns-clause-between
 returns-clause-between g c =
@@ -52,8 +47,8 @@ returns-clause-between g c =
     let t = YieldsList-end (YieldsList-from_vec {s = c.into_iter-pair-iterator.result} c.args.between.items it.0 (it.1 ∙ c.args.between.ok.0)) c.loop-pair.yielded c.loop-pair.pair-iterator c.loop-pair.yielded_by c.next.result c.next.new.self c.in-None.is c.next.ensures.steps in
     let same = g.M.MapForm.same in
     let held = g.M.MapForm.entries c.loop-pair.map in
-    let left = g.M.MapForm.entries c.insert_new.new.self in
-    all_of (λ pair. IsSome (value_at same held pair.0)) (λ pair. IsSome (value_at same left pair.0)) (λ pair. some_stays _ _ (λ v there. ap (λ es. value_at same es pair.0) (unchanged g c) ∙ there)) c.loop-pair.yielded c.loop-pair.invariant.between c.args.between.items t.0
+    let left = g.M.MapForm.entries c.keeps_earlier_values-2.new.map in
+    all_of (λ pair. IsSome (value_at same held pair.0)) (λ pair. IsSome (value_at same left pair.0)) (λ pair. some_stays _ _ (c.in_ok-after.ensures.kept pair.0)) c.loop-pair.yielded c.loop-pair.invariant.between c.args.between.items t.0
 
 pub returns-clause-kept : goal.returns-clause-kept
-returns-clause-kept g c = λ q v had. ap (λ entries. value_at g.M.MapForm.same entries q) (unchanged g c) ∙ c.loop-pair.invariant.kept q v had
+returns-clause-kept g c = λ q v had. c.in_ok-after.ensures.kept q v (c.loop-pair.invariant.kept q v had)

@@ -1,6 +1,5 @@
 use Rattle.std.proofs.Common.{ap, ◌∙◌}
 use Rattle.std.specs.Option.{option_map}
-use Rattle.elsa_maps.specs.FirstWins.{value_at}
 use Rattle.elsa_maps.proofs.Contents.{holds_none, holds_more}
 use Rattle.elsa_maps.proofs.map.hashed.FrozenMap.from_iter.Goals as goal
 
@@ -8,9 +7,9 @@ use Rattle.elsa_maps.proofs.map.hashed.FrozenMap.from_iter.Goals as goal
 pub loop-pair-init : goal.loop-pair-init
 loop-pair-init g c q =
     let shown = g.V.HasTarget.shown in
-    ap (λ es. option_map shown (value_at g.K.PartialEq.eq es q)) c.from_map-made.ensures ∙ ap (option_map shown) (c.reserve-room.ensures.entries.2 q)
+    ap (option_map shown) (c.reserve-room.ensures.entries.2 q)
     ∙ holds_none g.K.PartialEq.eq g.met.K.Eq.laws g.V.HasTarget.target shown _ c.with_hasher-table.ensures.empty q
 
 pub loop-pair-preserved : goal.loop-pair-preserved
 loop-pair-preserved g c =
-    holds_more g.K.PartialEq.eq g.met.K.Eq.laws g.V.HasTarget.target g.V.HasTarget.shown c.loop-pair.yielded c.loop-pair.made c.replace.new.self c.in-Some.pair.0 c.in-Some.pair.1 _ c.loop-pair.invariant c.in_ok-replace.ensures.target c.in_ok-replace.ensures.content
+    holds_more g.K.PartialEq.eq g.met.K.Eq.laws g.V.HasTarget.target g.V.HasTarget.shown c.loop-pair.yielded c.loop-pair.table.entries c.insert.new.self.entries c.in-Some.pair.0 c.in-Some.pair.1 _ c.loop-pair.invariant c.in-Ok.ensures.placed c.in_ok-insert.ensures.updates.0

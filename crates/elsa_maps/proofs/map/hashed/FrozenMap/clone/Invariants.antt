@@ -3,7 +3,7 @@ use Rattle.std.specs.List.{IsDistinct}
 use Rattle.std.specs.Map.{keys_of, update_all}
 use Rattle.std.specs.Map.Iter.{deref_pair}
 use Rattle.elsa_maps.specs.FirstWins.{value_at}
-use Rattle.elsa_maps.proofs.map.hashed.FrozenMap.clone_by_entries.Given as goal
+use Rattle.elsa_maps.proofs.map.hashed.FrozenMap.clone.Given as goal
 
 abbrev pub invariant-loop-key : goal.invariant-loop-key
 invariant-loop-key g l = record {
