@@ -82,6 +82,7 @@ impl Debug for SeededHasher {
 
 /// The two halves of the product, joined by xor.
 #[inline(always)]
+#[tactic(auto, unfolding(core::specs::Hash::FoldHasher::folded_multiply))]
 fn folded_product(a: u64, b: u64) -> u64
     ensures { result ≡ folded_multiply a b }
 {
@@ -91,6 +92,7 @@ fn folded_product(a: u64, b: u64) -> u64
 
 /// The four bytes from a place on, the lowest first.
 #[inline(always)]
+#[tactic(auto, unfolding(core::specs::Hash::FoldHasher::read_u32))]
 fn half_word(bytes: &[u8], at: usize) -> u64
     requires { at + 4 ≤ length bytes.now }
     ensures { result ≡ read_u32 bytes.now at }
@@ -100,6 +102,7 @@ fn half_word(bytes: &[u8], at: usize) -> u64
 
 /// The eight bytes from a place on, the lowest first.
 #[inline(always)]
+#[tactic(auto, unfolding(core::specs::Hash::FoldHasher::read_u64))]
 fn word(bytes: &[u8], at: usize) -> u64
     requires { at + 8 ≤ length bytes.now }
     ensures { result ≡ read_u64 bytes.now at }
@@ -109,6 +112,7 @@ fn word(bytes: &[u8], at: usize) -> u64
 
 /// Up to eight bytes as one word, by reads that may overlap.
 #[inline(always)]
+#[tactic(auto, unfolding(core::specs::Hash::FoldHasher::read_short))]
 fn short_word(bytes: &[u8]) -> u64
     ensures { result ≡ read_short bytes.now }
 {
