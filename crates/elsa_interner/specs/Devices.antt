@@ -21,5 +21,5 @@ abbrev pub CountsFault : {T E : Type 0} → Result T E → ℕ → ℕ → Type 
 CountsFault result old new = MatchResult result (λ _. new ≡ old) (λ _. FailedOnce old new)
 
 -- the piece was added to what waits; or the writer failed, and took a beginning of all that
-abbrev pub Adds : {T E : Type 0} → Result T E → Option (List ℕ) → List ℕ → Option (List ℕ) → List ℕ → List ℕ → Type 0
-Adds result old waited new waits piece = MatchResult result (λ _. Queued old waited new waits piece) (λ _. AppendsSome old new (waited ++ piece))
+abbrev pub Queues : {T E : Type 0} → Result T E → Option (List ℕ) → List ℕ → Option (List ℕ) → List ℕ → List ℕ → Type 0
+Queues result old waited new waits piece = MatchResult result (λ _. Queued old waited new waits piece) (λ _. AppendsSome old new (waited ++ piece))

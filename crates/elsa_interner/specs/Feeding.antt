@@ -1,7 +1,7 @@
 -- What the engine's own steps do: how far a run has come, and how one piece of the input moves it on.
 -- No public contract cites these words; they say what one private function leaves for the next.
 use Rattle.std.specs.Prelude.{◌≡◌, ◌≢◌, ℕ, ◌<◌, Bool, true, false, List, [], ◌++◌, Option, Result, MatchResult, length, All, codes}
-use Rattle.elsa_interner.specs.Devices.{Adds}
+use Rattle.elsa_interner.specs.Devices.{Queues}
 use Rattle.elsa_interner.specs.Lines.{IsCut, Answers, IsAnsweredTo, AnswersLines, AnswersInput}
 
 -- no byte is 10
@@ -35,9 +35,9 @@ Comes result bytes names line skips written = MatchResult result (λ _. IsReache
 pub record Feeds {T E : Type 0} (result : Result T E) (names : List (List ℕ)) (line : List ℕ) (skips : Bool) (piece : List ℕ) (names' : List (List ℕ)) (line' : List ℕ) (skips' : Bool)
     (old : Option (List ℕ)) (waited : List ℕ) (new : Option (List ℕ)) (waits : List ℕ) : Type 0 where
   pub from : (before written : List ℕ) → IsReached before names line skips written
-      → (more : List ℕ) × Comes result (before ++ piece) names' line' skips' (written ++ more) × Adds result old waited new waits more
+      → (more : List ℕ) × Comes result (before ++ piece) names' line' skips' (written ++ more) × Queues result old waited new waits more
 
 -- the input has ended, and all its lines are answered
 pub record Ends {T E : Type 0} (result : Result T E) (names : List (List ℕ)) (line : List ℕ) (skips : Bool)
     (old : Option (List ℕ)) (waited : List ℕ) (new : Option (List ℕ)) (waits : List ℕ) : Type 0 where
-  pub from : (bytes written : List ℕ) → IsReached bytes names line skips written → (more : List ℕ) × AnswersInput bytes (written ++ more) × Adds result old waited new waits more
+  pub from : (bytes written : List ℕ) → IsReached bytes names line skips written → (more : List ℕ) × AnswersInput bytes (written ++ more) × Queues result old waited new waits more

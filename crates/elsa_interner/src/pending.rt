@@ -1,7 +1,7 @@
 //! Answers that wait to be written, in an array of a fixed size: small answers become large writes, and none takes memory.
 ghost use Rattle.std.specs.Prelude.{◌≡◌, [], ◌∷◌, ◌++◌, ◌≤◌, ◌<◌, ◌+◌, length, OnOk};
 ghost use Rattle.std.specs.Fmt.{decimal};
-ghost use Rattle.elsa_interner.specs.Devices.{Adds, CountsFault};
+ghost use Rattle.elsa_interner.specs.Devices.{Queues, CountsFault};
 
 use crate::devices::{Failed, Sink};
 use crate::digits::{LINE, SHORT, digit_count, number_line};
@@ -13,7 +13,7 @@ const ROOM: usize = 8192;
 
 /// Writes the whole piece, in as many writes as the writer wants.
 fn write_all<W: Sink>(writer: &mut W, piece: &[u8]) -> Result<(), Failed>
-    ensures adds { Adds result (W.held writer.old) [] (W.held writer.new) [] piece.now }
+    ensures adds { Queues result (W.held writer.old) [] (W.held writer.new) [] piece.now }
     ensures counts { CountsFault result (W.failures writer.old) (W.failures writer.new) }
 {
     let mut at = 0;
@@ -53,7 +53,7 @@ impl Pending {
 
     /// Writes all that waits; where the writer fails, what is left of it is given up.
     pub fn flush<W: Sink>(&mut self, writer: &mut W) -> Result<(), Failed>
-        ensures adds { Adds result (W.held writer.old) self.old (W.held writer.new) self.new [] }
+        ensures adds { Queues result (W.held writer.old) self.old (W.held writer.new) self.new [] }
         ensures none { OnOk result (self.new ≡ []) }
         ensures counts { CountsFault result (W.failures writer.old) (W.failures writer.new) }
     {
@@ -74,7 +74,7 @@ impl Pending {
 
     /// Adds a piece; where there is no room for it, what waits is written first.
     fn push<W: Sink>(&mut self, writer: &mut W, piece: &[u8]) -> Result<(), Failed>
-        ensures adds { Adds result (W.held writer.old) self.old (W.held writer.new) self.new piece.now }
+        ensures adds { Queues result (W.held writer.old) self.old (W.held writer.new) self.new piece.now }
         ensures counts { CountsFault result (W.failures writer.old) (W.failures writer.new) }
     {
         if piece.len() <= ROOM - self.len {
@@ -106,7 +106,7 @@ impl Pending {
     /// Adds a line: a number, and byte 10 behind it.
     #[inline(always)]
     pub fn push_number<W: Sink>(&mut self, writer: &mut W, n: usize) -> Result<(), Failed>
-        ensures adds { Adds result (W.held writer.old) self.old (W.held writer.new) self.new
+        ensures adds { Queues result (W.held writer.old) self.old (W.held writer.new) self.new
             (decimal n ++ (10 ∷ [])) }
         ensures counts { CountsFault result (W.failures writer.old) (W.failures writer.new) }
     {
@@ -121,7 +121,7 @@ impl Pending {
     /// Adds a line: a piece, and byte 10 behind it.
     #[inline(always)]
     pub fn push_line<W: Sink>(&mut self, writer: &mut W, piece: &[u8]) -> Result<(), Failed>
-        ensures adds { Adds result (W.held writer.old) self.old (W.held writer.new) self.new
+        ensures adds { Queues result (W.held writer.old) self.old (W.held writer.new) self.new
             (piece.now ++ (10 ∷ [])) }
         ensures counts { CountsFault result (W.failures writer.old) (W.failures writer.new) }
     {

@@ -1,6 +1,6 @@
 //! The answer to a request, and its line.
 ghost use Rattle.std.specs.Prelude.{[], ◌∷◌, ◌++◌};
-ghost use Rattle.elsa_interner.specs.Devices.{Adds, CountsFault};
+ghost use Rattle.elsa_interner.specs.Devices.{Queues, CountsFault};
 ghost use Rattle.elsa_interner.specs.Lines.{Replies};
 ghost use Rattle.elsa_interner.specs.Replies.{asked, shown};
 
@@ -61,7 +61,7 @@ pub fn push_reply<W: Sink>(
     writer: &mut W,
     reply: Reply<'_>,
 ) -> Result<(), Failed>
-    ensures adds { Adds result (W.held writer.old) out.old (W.held writer.new) out.new
+    ensures adds { Queues result (W.held writer.old) out.old (W.held writer.new) out.new
         (shown reply.entry ++ (10 ∷ [])) }
     ensures counts { CountsFault result (W.failures writer.old) (W.failures writer.new) }
 {

@@ -7,7 +7,7 @@ use Rattle.std.proofs.lemmas.Result.{MatchResult-from_err, MatchResult-weaker}
 use Rattle.std.specs.Prelude.{Result}
 use Rattle.std.specs.Result.{IsErr}
 use Rattle.std.specs.Io.KnownBytes.{Appends, Keeps}
-use Rattle.elsa_interner.specs.Devices.{Adds, AppendsSome, Queued}
+use Rattle.elsa_interner.specs.Devices.{Queues, AppendsSome, Queued}
 
 pub appends_more : (a b c : Option (List ℕ)) (piece : List ℕ) (i n : ℕ) → Appends a b (take i piece) → Appends b c (take n (drop i piece)) → Appends a c (take (i + n) piece)
 appends_more a b c piece i n p q = rw take-add (Appends-trans a b c (take i piece) (take n (drop i piece)) p q)
@@ -30,16 +30,16 @@ moved gone more waits waited' waited xs ys p q =
     append_assoc gone more waits ∙ (ap (λ t. gone ++ t) q ∙ (sym (append_assoc gone waited' ys) ∙ (ap (λ t. t ++ ys) p ∙ append_assoc waited xs ys)))
 
 -- where the writer fails at a piece, it took a beginning of that and of any piece after it
-pub adds_failed : {T E : Type 0} (r : Result T E) (a b : Option (List ℕ)) (w v xs ys : List ℕ) → IsErr r → AppendsSome a b (w ++ xs) → Adds r a w b v (xs ++ ys)
+pub adds_failed : {T E : Type 0} (r : Result T E) (a b : Option (List ℕ)) (w v xs ys : List ℕ) → IsErr r → AppendsSome a b (w ++ xs) → Queues r a w b v (xs ++ ys)
 adds_failed r a b w v xs ys failed s =
     MatchResult-from_err r _ _ failed (λ _. (s.0, s.1 ++ ys, sym (append_assoc s.0 s.1 ys) ∙ ap (λ t. t ++ ys) s.2 ∙ append_assoc w xs ys, s.3))
 
 -- a piece after one that was added
-pub adds_both : {T E : Type 0} (r : Result T E) (a b c : Option (List ℕ)) (w v u xs ys : List ℕ) → Queued a w b v xs → Adds r b v c u ys → Adds r a w c u (xs ++ ys)
+pub adds_both : {T E : Type 0} (r : Result T E) (a b c : Option (List ℕ)) (w v u xs ys : List ℕ) → Queued a w b v xs → Queues r b v c u ys → Queues r a w c u (xs ++ ys)
 adds_both r a b c w v u xs ys p q = MatchResult-weaker r q
     (λ _ k. (p.0 ++ k.0, Appends-trans a b c p.0 k.0 p.1 k.1, moved p.0 k.0 u v w xs ys p.2 k.2))
     (λ _ s. (p.0 ++ s.0, s.1, moved p.0 s.0 s.1 v w xs ys p.2 s.2, Appends-trans a b c p.0 s.0 p.1 s.3))
 
 -- what waits, and the piece, were written
-pub adds_flushed : {T E : Type 0} (r : Result T E) (a b c : Option (List ℕ)) (w v u xs : List ℕ) → Queued a w b v xs → Adds r b v c u [] → Adds r a w c u xs
-adds_flushed r a b c w v u xs p q = subst (λ t. Adds r a w c u t) (append-nil xs) (adds_both r a b c w v u xs [] p q)
+pub adds_flushed : {T E : Type 0} (r : Result T E) (a b c : Option (List ℕ)) (w v u xs : List ℕ) → Queued a w b v xs → Queues r b v c u [] → Queues r a w c u xs
+adds_flushed r a b c w v u xs p q = subst (λ t. Queues r a w c u t) (append-nil xs) (adds_both r a b c w v u xs [] p q)

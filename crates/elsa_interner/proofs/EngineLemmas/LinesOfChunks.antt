@@ -7,7 +7,7 @@ use Rattle.std.proofs.lemmas.List.Elements.{All-append, All-cons, All-nil}
 use Rattle.std.proofs.lemmas.Result.{MatchResult-from_err}
 use Rattle.std.specs.Prelude.{Option, Result, Ok, Err}
 use Rattle.std.specs.Result.{IsErr}
-use Rattle.elsa_interner.specs.Devices.{Adds, AppendsSome, Queued}
+use Rattle.elsa_interner.specs.Devices.{Queues, AppendsSome, Queued}
 use Rattle.elsa_interner.specs.Lines.{Answers, AnswersAll, AnswersLines, IsAnsweredTo, ended, with_tail}
 use Rattle.elsa_interner.specs.Feeding.{IsInside, IsSoFar, IsFinished, IsReached, Comes, Feeds, Ends}
 use Rattle.elsa_interner.proofs.EngineLemmas.KnownBytes.{adds_both, adds_failed}
@@ -141,7 +141,7 @@ feeds_stop r piece end later answer line line1 line' names names1 names' skips s
 
 -- no line of a piece ends, and what waits is written
 pub feeds_tail : {T E : Type 0} (r : Result T E) (piece line line' : List ℕ) (names names' : List (List ℕ)) (skips skips' : Bool) (a b : Option (List ℕ)) (w v : List ℕ)
-    → IsInside piece → ((tail : List ℕ) → IsSoFar line skips tail → IsSoFar line' skips' (tail ++ piece)) → names' ≡ names → Adds r a w b v [] → Feeds r names line skips piece names' line' skips' a w b v
+    → IsInside piece → ((tail : List ℕ) → IsSoFar line skips tail → IsSoFar line' skips' (tail ++ piece)) → names' ≡ names → Queues r a w b v [] → Feeds r names line skips piece names' line' skips' a w b v
 feeds_tail r piece line line' names names' skips skips' a b w v inside keeps same flushed = record {
   from = λ before written reached.
       ([], subst (λ t. Comes r (before ++ piece) names' line' skips' t) (sym (append-nil written)) (comes r _ _ _ _ _ (reached_tail before written piece line line' names names' skips skips' reached inside keeps same)), flushed);
@@ -153,7 +153,7 @@ tail_counts lines (b ∷ bs) some = refl
 
 -- the last line has begun
 pub ends_line : {T E : Type 0} (r : Result T E) (line line' answer : List ℕ) (names names' : List (List ℕ)) (skips skips' : Bool) (a b : Option (List ℕ)) (w v : List ℕ)
-    → IsFinished names line skips [] answer names' line' skips' → ((tail : List ℕ) → IsSoFar line skips tail → 0 < length tail) → Adds r a w b v (answer ++ 10 ∷ []) → Ends r names line skips a w b v
+    → IsFinished names line skips [] answer names' line' skips' → ((tail : List ℕ) → IsSoFar line skips tail → 0 < length tail) → Queues r a w b v (answer ++ 10 ∷ []) → Ends r names line skips a w b v
 ends_line r line line' answer names names' skips skips' a b w v f some added = record {
   from = λ bytes written reached.
       let asks = subst (λ t. Answers names t answer names') (append-nil reached.tail) (finished_answers names names' line [] answer reached.tail line' skips skips' f reached.so_far) in

@@ -1,5 +1,5 @@
 use Rattle.std.proofs.Common.{[], subst, sym}
-use Rattle.elsa_interner.specs.Devices.{Adds}
+use Rattle.elsa_interner.specs.Devices.{Queues}
 use Rattle.elsa_interner.proofs.EngineLemmas.KnownBytes.{adds_both, adds_failed}
 use Rattle.elsa_interner.proofs.pending.Pending.push.Goals as goal
 
@@ -13,4 +13,4 @@ returns-clause-adds g c =
     let b = g.W.Sink.held c.flush.new.writer in
     let d = g.W.Sink.held c.write_all.new.writer in
     adds_both c.write_all.result (g.W.Sink.held c.args.writer.now) b d c.args.self.now c.flush.new.self c.flush.new.self [] c.args.piece.now c.in_ok-flush.ensures.adds
-    (subst (λ t. Adds c.write_all.result b t d t c.args.piece.now) (sym c.in_ok-flush.ensures.none) c.write_all.ensures.adds)
+    (subst (λ t. Queues c.write_all.result b t d t c.args.piece.now) (sym c.in_ok-flush.ensures.none) c.write_all.ensures.adds)
