@@ -74,7 +74,8 @@ impl Pending {
 
     /// Adds a piece; where there is no room for it, what waits is written first.
     fn push<W: Sink>(&mut self, writer: &mut W, piece: &[u8]) -> Result<(), Failed>
-        ensures adds { Queues result (W.held writer.old) self.old (W.held writer.new) self.new piece.now }
+        ensures adds { Queues result (W.held writer.old) self.old (W.held writer.new) self.new
+            piece.now }
         ensures counts { CountsFault result (W.failures writer.old) (W.failures writer.new) }
     {
         if piece.len() <= ROOM - self.len {
