@@ -28,6 +28,10 @@ mod pass_form_tests;
 #[cfg(test)]
 mod placed_name_tests;
 #[cfg(test)]
+mod printed_form_tests;
+#[cfg(test)]
+mod rare_form_tests;
+#[cfg(test)]
 mod run_form_tests;
 #[cfg(test)]
 mod search_form_tests;
