@@ -21,8 +21,8 @@ const PIECE: usize = 8192;
 /// For how many lines the table is read before the first of them is answered.
 const AHEAD: usize = 16;
 
-/// The table of fewer names fits in the processor's caches, and isn't read ahead.
-const MANY: usize = 1 << 16;
+/// The table of fewer names fits in the processor's nearest caches, and isn't read ahead.
+const MANY: usize = 1 << 15;
 
 /// Why the engine stopped before the input's end.
 #[derive(Clone, Copy, Debug, PartialEq, Eq)]
@@ -59,19 +59,24 @@ impl<'a, S: BuildHasher, A: Allocator + Copy> Session<'a, S, A> {
         }
     }
 
-    /// For each of the next lines a number that the name that it puts may have. No read of the table waits for another one, so their cache misses overlap.
+    /// For each of the next lines a number that the name that it puts may have. The table is read in a loop of its own, which is short enough that the processor
+    /// begins all sixteen reads before the first one has come from memory.
     #[inline(always)]
     fn guesses<C: Chunk>(&self, chunk: C) -> [usize; AHEAD] {
-        let mut guesses = [usize::MAX; AHEAD];
+        let mut hashes = [0; AHEAD];
         let mut rest = chunk;
         for i in 0..AHEAD {
             let Some((line, later)) = rest.cut() else {
-                return guesses;
+                break;
             };
             if let Request::Put(name) = line.request() {
-                guesses[i] = self.names.guess(name);
+                hashes[i] = self.names.hash(name);
             }
             rest = later;
+        }
+        let mut guesses = [usize::MAX; AHEAD];
+        for i in 0..AHEAD {
+            guesses[i] = self.names.guess(hashes[i]);
         }
         guesses
     }

@@ -204,10 +204,16 @@ impl<'a, S: BuildHasher, A: Allocator + Copy> Interner<'a, S, A> {
         Ok(place)
     }
 
-    /// A number that the text may have, or any other. Takes no memory.
+    /// The hash of a text, for [`Interner::guess`]. Takes no memory.
     #[inline(always)]
-    pub(crate) fn guess(&self, text: &str) -> usize {
-        self.table.guess(name_hash(&self.hash_builder, text))
+    pub(crate) fn hash(&self, text: &str) -> u32 {
+        name_hash(&self.hash_builder, text)
+    }
+
+    /// A number that a text with this hash may have, or any other. Takes no memory.
+    #[inline(always)]
+    pub(crate) fn guess(&self, hash: u32) -> usize {
+        self.table.guess(hash)
     }
 
     /// As [`Interner::put`]; the name at `guess`, any number, is compared before the search.
