@@ -22,7 +22,7 @@ const PIECE: usize = 8192;
 const AHEAD: usize = 16;
 
 /// The table of fewer names fits in the processor's nearest caches, and isn't read ahead.
-const MANY: usize = 1 << 15;
+const MANY: usize = 1 << 16;
 
 /// Why the engine stopped before the input's end.
 #[derive(Clone, Copy, Debug, PartialEq, Eq)]

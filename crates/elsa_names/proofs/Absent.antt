@@ -45,6 +45,13 @@ module _ {A : Type 0} where
   prefix_and_next (y ∷ xs) [] x p e = absurd (cc p.1)
   prefix_and_next (y ∷ xs) (z ∷ zs) x p e = let more = prefix_and_next xs zs x (p.0, cc p.1) e in let same : y ≡ z = cc p.1 in (more.0, cc (more.1, same))
 
+  -- a beginning behind which there is nothing is the whole
+  pub whole_prefix : (xs zs : List A) → IsPrefix xs zs → slice_get zs (length xs) ≡ None → xs ≡ zs
+  whole_prefix [] [] p e = refl
+  whole_prefix [] (z ∷ zs) p e = absurd (cc e)
+  whole_prefix (y ∷ xs) [] p e = absurd (cc p.1)
+  whole_prefix (y ∷ xs) (z ∷ zs) p e = let same : y ≡ z = cc p.1 in let rest = whole_prefix xs zs (p.0, cc p.1) e in cc (same, rest)
+
   -- what is found has its place
   pub has_position : (test : A → Bool) (xs : List A) (i : ℕ) → position test xs ≡ Some i → (y : A) × (slice_get xs i ≡ Some y) × (test y ≡ true)
   has_position test [] i e = absurd (cc e)

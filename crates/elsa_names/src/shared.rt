@@ -35,10 +35,11 @@ fn find<T: Copy + Drop + Hash, Q: Equivalent<T>, S: BuildHasher, A: Allocator + 
     ensures continues { Continues pass.old pass.new }
     ensures index { IsPrefix index.new.keys (items_of pass.new.seen) }
 
-    // The name is at the place, or isn't in the index.
+    // The name is at the place; or the index, which then has all that the pass has seen, lacks it.
     ensures found { IfOk result (λ a. IfSome a (λ i.
         HasAt Q.equivalent (items_of pass.new.seen) i wanted)) }
     ensures absent { IfOk result (λ a. IfNone a (Lacks (Q.equivalent wanted) index.new.keys)) }
+    ensures whole { IfOk result (λ a. IfNone a (index.new.keys ≡ items_of pass.new.seen)) }
 {
     if let Some(place) = index.get_index_of(wanted) {
         return Ok(Some(place));
@@ -328,6 +329,26 @@ impl<T: Copy + Drop + Hash, A: Allocator + Copy> SharedInterner<T, A> {
         answer
     }
 
+    /// The place of a name, or `None` if the pass, which then has read to the end, has seen none that is equal to it.
+    ///
+    /// It puts nothing and never waits. A name in the pass's index takes no memory and no atomic step. Else the pass reads on, and
+    /// indexes each name that it hasn't. `Err`: an allocation for the index failed; the same call may succeed later. `O(1)` for a
+    /// name in the index, else `O(m)` for the `m` names that it reads on.
+    pub fn find<S: BuildHasher>(
+        &self,
+        names: &mut NamePass<T, S, A>,
+        name: T,
+    ) -> Result<Option<usize>, AllocError>
+        requires of { names.old.vector ≡ self.now }
+        ensures continues { Continues names.old names.new }
+        ensures found { IfOk result (λ a. IfSome a (λ i.
+            HasAt T.eq (items_of names.new.seen) i name)) }
+        ensures absent { IfOk result (λ a. IfNone a
+            (Lacks (T.eq name) (items_of names.new.seen))) }
+    {
+        find(&self.names, &mut names.pass, &mut names.index, &name)
+    }
+
     /// The name at a place: `None` exactly if the place is at or above the number of names that the pass has then seen.
     ///
     /// A place that the pass has seen is read with no atomic step; for one at or above that it first reads the number of names, by
@@ -342,6 +363,22 @@ impl<T: Copy + Drop + Hash, A: Allocator + Copy> SharedInterner<T, A> {
 }
 
 impl<'a, A: Allocator + Copy> SharedInterner<&'a str, A> {
+    /// The place of a text, which may be short-lived: as [`find`](Self::find).
+    pub fn find_text<S: BuildHasher>(
+        &self,
+        names: &mut NamePass<&'a str, S, A>,
+        text: &str,
+    ) -> Result<Option<usize>, AllocError>
+        requires of { names.old.vector ≡ self.now }
+        ensures continues { Continues names.old names.new }
+        ensures found { IfOk result (λ a. IfSome a (λ i.
+            HasTextAt (items_of names.new.seen) i text.now)) }
+        ensures absent { IfOk result (λ a. IfNone a
+            (Lacks (λ name. bytes_eq text.now name.now) (items_of names.new.seen))) }
+    {
+        find(&self.names, &mut names.pass, &mut names.index, text)
+    }
+
     /// The place of a text of any length, which is put there if no thread had put it. Every thread gets the same place for it.
     ///
     /// As [`put`](Self::put), for a text that may be short-lived. Where the pass has read to the end and found no equal text, a copy

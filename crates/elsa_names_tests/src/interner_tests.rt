@@ -62,6 +62,62 @@ fn two_passes_find_each_others_names(rt: HostRuntime) -> Result<(), Fail> {
     Ok(())
 }
 
+/// The place at which a pass finds a name, without a put; 100 where memory is refused.
+fn find<A: Allocator + Copy>(
+    interner: &SharedInterner<Name, A>,
+    names: &mut Names<A>,
+    text: &str,
+) -> Option<usize>
+    requires { names.old.vector ≡ interner.now }
+    ensures { names.new.vector ≡ names.old.vector }
+{
+    let name = Name::new(text).ok()?;
+    interner.find(names, name).unwrap_or(Some(100))
+}
+
+/// Whether a pass that puts nothing finds the names of another one, and no others.
+fn finds_without_a_put<R: Wait>(rt: &R, interner: &SharedInterner) -> bool {
+    let mut p = interner.pass();
+    let mut q = interner.pass();
+    put(rt, interner, &mut p, "a") == Some(0)
+        && put(rt, interner, &mut p, "b") == Some(1)
+        && find(interner, &mut q, "b") == Some(1)
+        && find(interner, &mut q, "a") == Some(0)
+        && find(interner, &mut q, "c").is_none()
+        && put(rt, interner, &mut p, "c") == Some(2)
+        && find(interner, &mut q, "c") == Some(2)
+}
+
+#[test]
+fn a_pass_finds_names_that_it_did_not_put(rt: HostRuntime) -> Result<(), Fail> {
+    let interner = SharedInterner::<Name>::new(rt.alloc())?;
+    assert!(rt; finds_without_a_put(&rt, &interner));
+    Ok(())
+}
+
+/// Whether a look-up whose index is refused its memory finds the name later.
+fn found_after_a_refusal<R: Wait>(
+    rt: &R,
+    budget: &Budget<Global>,
+    interner: &SharedInterner<Name, &Budget<Global>>,
+) -> bool {
+    let mut p = interner.pass();
+    let mut q = interner.pass();
+    let first = put(rt, interner, &mut p, "a");
+    budget.refuse_next(1);
+    let refused = find(interner, &mut q, "a");
+    budget.refuse_next(0);
+    first == Some(0) && refused == Some(100) && find(interner, &mut q, "a") == Some(0)
+}
+
+#[test]
+fn a_refused_look_up_succeeds_later(rt: HostRuntime) -> Result<(), Fail> {
+    let budget = Budget::new(rt.alloc());
+    let interner = SharedInterner::<Name, _>::new(&budget)?;
+    assert!(rt; found_after_a_refusal(&rt, &budget, &interner));
+    Ok(())
+}
+
 #[test]
 fn a_refused_first_put_succeeds_later(rt: HostRuntime) -> Result<(), Fail> {
     let budget = Budget::new(rt.alloc());

@@ -50,6 +50,29 @@ fn reads_the_other<'a, R: Wait>(
     Ok(first && second && nothing_placed && interner.at(&mut q, 1) == Some(""))
 }
 
+/// Whether a pass that put nothing finds the texts of another one, and no others.
+fn finds_without_a_put<'a, R: Wait>(
+    rt: &R,
+    alloc: Global,
+    arena: &'a Bump,
+) -> Result<bool, AllocError> {
+    let interner: SharedInterner<&'a str> = SharedInterner::new(alloc)?;
+    let mut p = interner.pass();
+    let mut q = interner.pass();
+    let first = twice(rt, &interner, &mut p, arena, "best friend")? == (0, 0)
+        && twice(rt, &interner, &mut p, arena, "")? == (1, 1);
+    let found = interner.find_text(&mut q, "")? == Some(1);
+    let absent = interner.find_text(&mut q, "best")?.is_none();
+    Ok(first && found && absent && interner.find_text(&mut q, "best friend")? == Some(0))
+}
+
+#[test]
+fn a_pass_finds_texts_that_it_did_not_put(rt: HostRuntime) -> Result<(), Fail> {
+    let arena = Bump::new(rt.alloc());
+    assert!(rt; finds_without_a_put(&rt, rt.alloc(), &arena)?);
+    Ok(())
+}
+
 #[test]
 fn a_text_that_another_pass_put_is_read_and_not_placed(rt: HostRuntime) -> Result<(), Fail> {
     let one = Bump::new(rt.alloc());

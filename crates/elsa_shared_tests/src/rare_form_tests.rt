@@ -72,7 +72,8 @@ fn meets(rt: &impl Wait, alloc: Global, name: Name) -> Result<bool, AllocError> 
     let number = names.put(rt, &mut one, name)?;
     let nothing = other.seen_len() == 0;
     other.meet(&mut one);
-    Ok(nothing && other.seen_len() == 1 && names.at(&mut other, number) == Some(name))
+    let found = names.find(&mut other, name)?;
+    Ok(nothing && other.seen_len() == 1 && found == Some(number))
 }
 
 #[test]
@@ -82,7 +83,7 @@ fn forms_of_passes_with_a_secret(rt: HostRuntime) -> Result<(), Fail> {
     Ok(())
 }
 
-/// The numbers of a text that is put twice, and the room that is left in the buffer which has its copy.
+/// The number of a text that is put and is then found, and the room that is left in the buffer which has its copy.
 fn puts_of_a_text<'a>(
     rt: &impl Wait,
     alloc: Global,
@@ -92,7 +93,7 @@ fn puts_of_a_text<'a>(
     let names: SharedInterner<&'a str> = SharedInterner::new(alloc)?;
     let mut pass = names.pass();
     let first = names.put_text(rt, &mut pass, &mut buffer, text)?;
-    let second = names.put_text(rt, &mut pass, &mut buffer, text)?;
+    let second = names.find_text(&mut pass, text)?.unwrap_or(100);
     Ok((first, second, buffer.room()))
 }
 

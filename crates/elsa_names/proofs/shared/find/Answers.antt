@@ -1,8 +1,8 @@
-use Rattle.std.proofs.Common.{◌≡◌, ◌+◌, ◌∷◌, [], ◌∙◌, ℕ, List, Some, false, ap, length, length-append, position, subst, sym}
+use Rattle.std.proofs.Common.{◌≡◌, ◌+◌, ◌∷◌, [], ◌∙◌, ℕ, List, Some, false, ap, arith, length, length-append, position, slice_get, subst, sym}
 use base.Growing.{prefix_trans}
 use mathlib.Core.List.{IsPrefix}
 use Rattle.elsa_free.specs.SharedList.{items_of}
-use Rattle.elsa_names.proofs.Absent.{get_of_prefix, has_position, indexed, items_prefix, lacks_more}
+use Rattle.elsa_names.proofs.Absent.{get_of_prefix, has_position, indexed, items_prefix, lacks_more, whole_prefix}
 use Rattle.elsa_names.specs.Names.{Lacks}
 use Rattle.elsa_names.proofs.shared.find.Goals as goal
 
@@ -36,4 +36,12 @@ loop-place-preserved g c =
       step.1,
       ap (λ (k : ℕ). k + 1) inv.5 ∙ sym (ap (λ (l : List g.row.T.Denot). length l) step.0 ∙ length-append keys (next ∷ [])),
       subst (λ (l : List g.row.T.Denot). Lacks test l) (sym step.0) (lacks_more test keys next inv.6 other),
+      omega (arith, c.in-Some-get_as.ensures.limit),
     )
+
+pub returns-in_default-get_as-clause-whole : goal.returns-in_default-get_as-clause-whole
+returns-in_default-get_as-clause-whole g c =
+    let inv = c.loop-place.invariant in let before = c.loop-place.pass.seen in let now = c.get_as.new.pass.seen in
+    let keys = c.loop-place.index.keys in
+    let first : IsPrefix keys (items_of now) = prefix_trans keys (items_of before) (items_of now) inv.4 (items_prefix before now c.get_as.ensures.continues.1) in
+    whole_prefix keys (items_of now) first (ap (λ (k : ℕ). slice_get (items_of now) k) (sym inv.5) ∙ sym c.in_default-get_as.ensures.item)
