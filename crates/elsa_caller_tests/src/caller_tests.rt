@@ -5,7 +5,7 @@ use crate::replayed::replies_of_map;
 use bumpalo::Bump;
 use elsa::cache::{CacheFault, ParsedCache};
 use elsa::run::{MapCommand, MapReply};
-use elsa::{FrozenBTreeMap, FrozenMap, Own};
+use elsa::{FrozenBTreeMap, FrozenIndexMap, FrozenMap, Own};
 use std::alloc::{AllocError, Global};
 use std::convert::Infallible;
 use std::test::*;
@@ -26,10 +26,19 @@ fn kept_ordered(alloc: Global) -> Result<(bool, bool), AllocError> {
     Ok((kept, is_new_in(&mut map, 7, "c")?))
 }
 
+/// The same of an index map.
+fn kept_indexed(alloc: Global) -> Result<(bool, bool), AllocError> {
+    let arena = Bump::new(alloc);
+    let mut map: FrozenIndexMap<'_, u64, &str> = FrozenIndexMap::new(alloc, &arena);
+    let kept = first_in(&mut map, 7, "fox")? == "fox" && first_in(&mut map, 7, "b")? == "fox";
+    Ok((kept, is_new_in(&mut map, 7, "c")?))
+}
+
 #[test]
 fn a_key_keeps_its_first_value_in_each_form(rt: HostRuntime) -> Result<(), Fail> {
     assert_eq!(rt; kept_hashed(rt.alloc())?, (true, false));
     assert_eq!(rt; kept_ordered(rt.alloc())?, (true, false));
+    assert_eq!(rt; kept_indexed(rt.alloc())?, (true, false));
     Ok(())
 }
 
