@@ -60,8 +60,8 @@ impl<'a, S: BuildHasher, A: Allocator + Copy> Session<'a, S, A> {
     }
 
     /// For each of the next lines a number that the name that it puts may have. The table is read in a loop of its own, which is short enough that the processor
-    /// begins all sixteen reads before the first one has come from memory.
-    #[inline(always)]
+    /// begins all sixteen reads before the first one has come from memory. Out of line, so that the loop over the lines of few names stays short.
+    #[inline(never)]
     fn guesses<C: Chunk>(&self, chunk: C) -> [usize; AHEAD] {
         let mut hashes = [0; AHEAD];
         let mut rest = chunk;
