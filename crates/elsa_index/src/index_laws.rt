@@ -8,34 +8,10 @@ use crate::index_map::FrozenIndexMap;
 use crate::index_set::FrozenIndexSet;
 use crate::look_up::LookUp;
 use bumpalo::Bump;
+use elsa_model::for_its_clause;
 use elsa_once::stable::StableDeref;
 use std::alloc::{AllocError, Allocator};
 use std::hash::{BuildHasher, Hash};
-
-/// Two insertions, one after the other, and the places that they returned.
-///
-/// What the map held before is at its old places, also where an insertion is refused, and each returned place keeps its
-/// key.
-pub fn insert_both<
-    'a,
-    K: Eq + Hash + Copy,
-    P: Allocator,
-    V: StableDeref<&'a Bump<P>>,
-    S: BuildHasher,
-    A: Allocator + Copy,
->(
-    map: &mut FrozenIndexMap<'a, K, V, S, A, P>,
-    first: (K, V),
-    second: (K, V),
-) -> Result<(usize, usize), AllocError>
-    ensures kept { Grows map.old map.new }
-    ensures first_place { IfOk result (λ r. place_of K.eq map.new first.0 ≡ Some r.0) }
-    ensures second_place { IfOk result (λ r. place_of K.eq map.new second.0 ≡ Some r.1) }
-{
-    let (place, _) = map.insert_full(first.0, first.1)?;
-    let (next, _) = map.insert_full(second.0, second.1)?;
-    Ok((place, next))
-}
 
 /// An insertion, accepted or refused, keeps each earlier pair at its place; the key has the returned place and value afterwards, and
 /// the flag is true exactly where the key was new and the map grows by one pair.
@@ -139,8 +115,8 @@ where
     ensures answered { result ≡ same_values K.eq V.Borrow.eq left.now right.now }
     ensures blind_to_order { IsPermutation left.now right.now → IsTrue result }
 {
-    // `is_empty` is called for its clause that no two keys are equal.
-    let _empty = right.is_empty();
+    // No two keys are equal.
+    for_its_clause(right.is_empty());
     left == right
 }
 
@@ -158,32 +134,6 @@ where
     ensures blind_to_order { IsPermutation first.now second.now → IsTrue result }
 {
     first == second
-}
-
-/// Two insertions into a set, one after the other, and the places that they returned.
-///
-/// What the set held before is at its old places, also where an insertion is refused, and each returned place keeps its
-/// value.
-pub fn set_insert_both<
-    'a,
-    P: Allocator,
-    T: StableDeref<&'a Bump<P>> + LookUp<<T as StableDeref<&'a Bump<P>>>::Borrow>,
-    S: BuildHasher,
-    A: Allocator + Copy,
->(
-    set: &mut FrozenIndexSet<'a, T, S, A, P>,
-    first: T,
-    second: T,
-) -> Result<(usize, usize), AllocError>
-where
-    <T as StableDeref<&'a Bump<P>>>::Borrow: Eq + Hash,
-    ensures kept { Grows set.old set.new }
-    ensures first_place { IfOk result (λ r. position (T.finds first) set.new ≡ Some r.0) }
-    ensures second_place { IfOk result (λ r. position (T.finds second) set.new ≡ Some r.1) }
-{
-    let (place, _) = set.insert_full(first)?;
-    let (next, _) = set.insert_full(second)?;
-    Ok((place, next))
 }
 
 /// An insertion into a set, accepted or refused, keeps each earlier value at its place; the value has the returned place and

@@ -18,6 +18,7 @@ ghost use Rattle.elsa_model.specs.FirstWins.{IsEqualMap, same_values, value_at};
 ghost use Rattle.elsa_model.specs.Insertions.{place_of, Inserted, InsertedNew, IsCloneOf, CollectsTargets};
 
 use bumpalo::Bump;
+use elsa_model::for_its_clause;
 use elsa_once::stable::StableDeref;
 use indexmap::IndexMap;
 use indexmap::map::{Entry, Iter, Keys, Values};
@@ -529,7 +530,7 @@ impl<
         ensures once { IfOk result (λ pairs. IsDistinct K.eq (keys_of pairs.items)) }
     {
         let map = self.into_map();
-        let _len = map.len();
+        for_its_clause(map.len());
         let alloc = *map.allocator();
         map.into_iter().collect(alloc)
     }

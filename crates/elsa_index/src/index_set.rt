@@ -13,6 +13,7 @@ ghost use Rattle.elsa_index.specs.Lent.{lends_values};
 
 use crate::look_up::LookUp;
 use bumpalo::Bump;
+use elsa_model::for_its_clause;
 use elsa_once::stable::StableDeref;
 use indexmap::IndexSet;
 use indexmap::set::Iter;
@@ -301,8 +302,8 @@ where
         ensures stands { IfOk result (λ r. slice_get self.new r.0 ≡ Some r.1) }
         ensures stands_at { IfOk result (λ r. position (T.finds value) self.new ≡ Some r.0) }
     {
-        // `len` is called for its clause that the values are unequal.
-        let _len = self.set.len();
+        // The values are unequal.
+        for_its_clause(self.set.len());
         if let Some(place) = value.position(&self.set) {
             return Ok((place, self.set[place], false));
         }

@@ -2,8 +2,8 @@
 use crate::odd_keys::{Fold, SameHash};
 use bumpalo::Bump;
 use elsa_index::index_laws::{
-    are_equal, clone_and_part, insert_both, is_new_once, keeps_earlier_pairs, set_insert_both,
-    set_is_new_once, set_keeps_earlier_values, sets_are_equal,
+    are_equal, clone_and_part, is_new_once, keeps_earlier_pairs, set_is_new_once,
+    set_keeps_earlier_values, sets_are_equal,
 };
 use elsa_index::index_map::FrozenIndexMap;
 use elsa_index::index_set::FrozenIndexSet;
@@ -396,7 +396,8 @@ fn forms_of_values(rt: HostRuntime) -> Result<(), Fail> {
 
 fn laws_of_a_map(alloc: Global, arena: &Bump) -> Result<bool, AllocError> {
     let mut map: Texts<'_> = FrozenIndexMap::new(alloc, arena);
-    let places = insert_both(&mut map, (5, "a"), (4, "b"))?;
+    let five = keeps_earlier_pairs(&mut map, 5, "a")?;
+    let four = keeps_earlier_pairs(&mut map, 4, "b")?;
     let (first, again) = is_new_once(
         &mut map,
         (6, "c"),
@@ -405,7 +406,8 @@ fn laws_of_a_map(alloc: Global, arena: &Bump) -> Result<bool, AllocError> {
     )?;
     let last = keeps_earlier_pairs(&mut map, 7, "z")?;
     Ok(
-        places == (0, 1)
+        five.0 == 0
+            && four.0 == 1
             && first == (2, "c", true)
             && again == (2, "c", false)
             && last == (3, "e", false),
@@ -414,14 +416,15 @@ fn laws_of_a_map(alloc: Global, arena: &Bump) -> Result<bool, AllocError> {
 
 fn laws_of_a_set(alloc: Global, arena: &Bump) -> Result<bool, AllocError> {
     let mut set: Set<'_> = FrozenIndexSet::new(alloc, arena);
-    let a = String::from_str(alloc, "a")?;
-    let places = set_insert_both(&mut set, a, String::from_str(alloc, "b")?)?;
+    let a = set_keeps_earlier_values(&mut set, String::from_str(alloc, "a")?)?;
+    let b = set_keeps_earlier_values(&mut set, String::from_str(alloc, "b")?)?;
     let between = vec![in alloc; String::from_str(alloc, "d")?]?;
     let c = String::from_str(alloc, "c")?;
     let (first, again) = set_is_new_once(&mut set, c, between, String::from_str(alloc, "c")?)?;
     let last = set_keeps_earlier_values(&mut set, String::from_str(alloc, "d")?)?;
     Ok(
-        places == (0, 1)
+        a.0 == 0
+            && b.0 == 1
             && first == (2, "c", true)
             && again == (2, "c", false)
             && last == (3, "d", false),

@@ -3,13 +3,14 @@ ghost use Rattle.std.specs.Prelude.{◌≡◌, ◌<◌, ◌^◌, ◌-◌, [], �
 ghost use Rattle.elsa_interner.specs.Devices.{CountsFault};
 ghost use Rattle.elsa_interner.specs.Engine.{HasRun, CountsRun};
 ghost use Rattle.elsa_interner.specs.Feeding.{IsSoFar, IsFinished, Feeds, Ends};
-ghost use Rattle.elsa_interner.specs.Replies.{shown};
+ghost use Rattle.elsa_interner.specs.Lines.{Replies};
+ghost use Rattle.elsa_interner.specs.Replies.{asked, shown};
 
 use crate::chunk::Chunk;
 use crate::devices::{Failed, Sink, Source};
 use crate::interner::Interner;
 use crate::pending::Pending;
-use crate::reply::{Reply, answer_to, push_reply};
+use crate::reply::{Reply, push_reply};
 use crate::request::{Request, request_of};
 use bumpalo::Bump;
 use std::alloc::Allocator;
@@ -33,6 +34,34 @@ pub enum EngineFault {
     Write,
     /// The reader gave bytes in 2^64 - 1 reads.
     Endless,
+}
+
+/// Does what is asked. A name that is put may be at `guess`.
+#[tactic(auto, using(crate::proofs::ReplyLemmas::put_replies))]
+#[inline(always)]
+fn answer_to<'a, S: BuildHasher, A: Allocator + Copy>(
+    names: &mut Interner<'a, S, A>,
+    request: Request<'_>,
+    guess: usize,
+) -> Reply<'a>
+    ensures { Replies names.old (asked request.entry) (shown result) names.new }
+{
+    match request {
+        Request::Put(name) => match names.put_guessed(name, guess) {
+            Ok(n) => Reply::Number(n),
+            Err(_) => Reply::NoMemory,
+        },
+        Request::Find(name) => match names.find(name) {
+            Some(n) => Reply::Number(n),
+            None => Reply::Nothing,
+        },
+        Request::At(n) => match names.at(n as usize) {
+            Some(name) => Reply::Name(name),
+            None => Reply::Nothing,
+        },
+        Request::Len => Reply::Number(names.len()),
+        Request::Bad => Reply::BadLine,
+    }
 }
 
 /// The names so far, and the line that has begun.

@@ -1,15 +1,10 @@
-//! The answer to a request, and its line.
+//! An answer, and its line.
 ghost use Rattle.std.specs.Prelude.{[], ◌∷◌, ◌++◌};
 ghost use Rattle.elsa_interner.specs.Devices.{Queues, CountsFault};
-ghost use Rattle.elsa_interner.specs.Lines.{Replies};
-ghost use Rattle.elsa_interner.specs.Replies.{asked, shown};
+ghost use Rattle.elsa_interner.specs.Replies.{shown};
 
 use crate::devices::{Failed, Sink};
-use crate::interner::Interner;
 use crate::pending::Pending;
-use crate::request::Request;
-use std::alloc::Allocator;
-use std::hash::BuildHasher;
 
 /// The answer to a request.
 #[derive(Clone, Copy)]
@@ -24,34 +19,6 @@ pub enum Reply<'a> {
     BadLine,
     /// Memory was refused.
     NoMemory,
-}
-
-/// Does what is asked. A name that is put may be at `guess`.
-#[tactic(auto, using(crate::proofs::ReplyLemmas::put_replies))]
-#[inline(always)]
-pub fn answer_to<'a, S: BuildHasher, A: Allocator + Copy>(
-    names: &mut Interner<'a, S, A>,
-    request: Request<'_>,
-    guess: usize,
-) -> Reply<'a>
-    ensures { Replies names.old (asked request.entry) (shown result) names.new }
-{
-    match request {
-        Request::Put(name) => match names.put_guessed(name, guess) {
-            Ok(n) => Reply::Number(n),
-            Err(_) => Reply::NoMemory,
-        },
-        Request::Find(name) => match names.find(name) {
-            Some(n) => Reply::Number(n),
-            None => Reply::Nothing,
-        },
-        Request::At(n) => match names.at(n as usize) {
-            Some(name) => Reply::Name(name),
-            None => Reply::Nothing,
-        },
-        Request::Len => Reply::Number(names.len()),
-        Request::Bad => Reply::BadLine,
-    }
 }
 
 /// Adds a reply as a line to what waits.

@@ -69,7 +69,5 @@ pub fn request_of(line: &[u8]) -> Request<'_>
 pub fn request_of_known(line: &str) -> Request<'_>
     ensures { asked result ≡ command_of line.now }
 {
-    // `as_bytes` is called for its clause that they are UTF-8.
-    let _bytes = line.as_bytes();
     request_of_text(line)
 }

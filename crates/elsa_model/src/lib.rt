@@ -9,3 +9,7 @@ mod runs;
 
 pub use calls::Call;
 pub use runs::run;
+
+/// Takes what a call returned that is made for its clause alone: a proof needs what the call promises, and nothing needs its answer.
+#[inline(always)]
+pub fn for_its_clause<T: Copy>(_answer: T) {}

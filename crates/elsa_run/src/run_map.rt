@@ -6,7 +6,7 @@ ghost use Rattle.std.specs.Prelude.{◌≡◌, IfOk, OnErr, length};
 ghost use Rattle.elsa_run.specs.MapRun.{MapRunsTo};
 
 use elsa_maps::map::MapForm;
-use elsa_model::{Call, run};
+use elsa_model::{Call, for_its_clause, run};
 use elsa_once::stable::StableDeref;
 use std::alloc::{AllocError, Allocator};
 
@@ -99,7 +99,7 @@ pub fn run_map<R, M: MapForm<R>, A: Allocator + Copy>(
     ensures one_each { IfOk result (λ replies. length replies.items ≡ length commands.items) }
     ensures refused { OnErr result (M.entries map.new ≡ M.entries map.old) }
 {
-    // Tells the proof that the keys' equality is an equivalence.
-    let _count = map.len();
+    // The keys' equality is an equivalence.
+    for_its_clause(map.len());
     run(alloc, map, commands, MapReply::NoMemory)
 }

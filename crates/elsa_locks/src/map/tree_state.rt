@@ -10,6 +10,7 @@ ghost use Rattle.std.specs.Iterator.{Drains, IsFinite};
 ghost use Rattle.elsa_model.specs.FirstWins.{value_at, IsSameContent, IsInserted, IsEqualMap, IsCollected, CloneIsEqual};
 ghost use Rattle.elsa_locks.specs.Shared.{shown};
 
+use elsa_model::for_its_clause;
 use std::alloc::{AllocError, Allocator, Global};
 use std::collections::BTreeMap;
 use std::marker::Model;
@@ -183,8 +184,8 @@ impl<K: Ord, V, A: Allocator + Copy> TreeState<K, V, A> {
         V: PartialEq,
         ensures { IsTrue result ↔ IsEqualMap (eq_by_cmp K.cmp) V.eq self.now other.now }
     {
-        // They tell the proof that the keys ascend.
-        let _lengths = (self.len(), other.len());
+        // The keys of both ascend.
+        for_its_clause((self.len(), other.len()));
         self.table == other.table
     }
 }

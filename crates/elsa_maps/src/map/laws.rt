@@ -5,6 +5,7 @@ ghost use Rattle.std.specs.Prelude.{◌≡◌, ◌+◌, ◌⊎◌, ◌↔◌, Al
 ghost use Rattle.elsa_maps.specs.FirstWins.{Inserts, Keeps, SameAt, value_at};
 
 use super::MapForm;
+use elsa_model::for_its_clause;
 use elsa_once::stable::StableDeref;
 use std::alloc::AllocError;
 
@@ -23,8 +24,8 @@ pub fn keeps_earlier_values<R, M: MapForm<R>>(
     ensures refused { OnErr result (M.entries map.new ≡ M.entries map.old) }
     ensures only_new { OnErr result (value_at M.same (M.entries map.old) key ≡ None) }
 {
-    // Tells the proof that the keys' equality is an equivalence.
-    let _count = map.len();
+    // The keys' equality is an equivalence.
+    for_its_clause(map.len());
     map.insert_new(key, value)
 }
 
@@ -53,8 +54,8 @@ pub fn is_new_once<R, M: MapForm<R>>(
         All (λ pair. IsSome (value_at M.same (M.entries map.new) pair.0)) between.items) }
     ensures kept { Keeps (value_at M.same (M.entries map.old)) (value_at M.same (M.entries map.new)) }
 {
-    // Tells the proof that the keys' equality is an equivalence.
-    let _count = map.len();
+    // The keys' equality is an equivalence.
+    for_its_clause(map.len());
     let (first_key, first_value) = first;
     let before = keeps_earlier_values(map, first_key, first_value)?;
     for pair in between {

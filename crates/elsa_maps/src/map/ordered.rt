@@ -18,6 +18,7 @@ ghost use Rattle.elsa_model.specs.FirstWins.{IsEqualMap};
 ghost use Rattle.elsa_maps.specs.Lent.{lends_tree};
 
 use bumpalo::Bump;
+use elsa_model::for_its_clause;
 use elsa_once::stable::StableDeref;
 use std::alloc::{AllocError, Allocator, Global};
 use std::collections::BTreeMap;
@@ -520,8 +521,8 @@ where
         ensures as_maps { IsTrue result
             ↔ IsEqualMap (eq_by_cmp K.cmp) V.Borrow.eq self.now other.now }
     {
-        // They tell the proof that the keys ascend.
-        let _lengths = (self.len(), other.len());
+        // The keys of both ascend.
+        for_its_clause((self.len(), other.len()));
         self.entries == other.entries
     }
 }

@@ -3,4 +3,4 @@ use Rattle.elsa_run.proofs.MapRuns.{map_runs}
 use Rattle.elsa_run.proofs.run_map.run_map.Goals as goal
 
 pub returns-clause-run : goal.returns-clause-run
-returns-clause-run g c = IfOk-weaker c.run.result _ _ (λ replies answered. map_runs g.M.MapForm.same c.len-count.ensures.equivalence g.M.Value.HasTarget.target g.M.Value.HasTarget.shown g.M.MapForm.base_entries _ _ _ _ answered) c.run.ensures.run
+returns-clause-run g c = IfOk-weaker c.run.result _ _ (λ replies answered. map_runs g.M.MapForm.same c.len.ensures.equivalence g.M.Value.HasTarget.target g.M.Value.HasTarget.shown g.M.MapForm.base_entries _ _ _ _ answered) c.run.ensures.run

@@ -30,7 +30,7 @@ returns-in_err-keeps_earlier_values-clause-kept g c =
 
 -- the second insertion finds what the first one answered
 found : (g : _) (c : goal.In_ok-after g) → value_at g.M.MapForm.same (g.M.MapForm.entries c.loop-pair.map) c.args.again.0 ≡ Some c.in_ok-before.before.0
-found g c = sym (lookup_congr g.M.MapForm.same c.len-count.ensures.equivalence.congr (g.M.MapForm.entries c.loop-pair.map) c.args.first.0 c.args.again.0 c.requires.equal) ∙ c.loop-pair.invariant.first
+found g c = sym (lookup_congr g.M.MapForm.same c.len.ensures.equivalence.congr (g.M.MapForm.entries c.loop-pair.map) c.args.first.0 c.args.again.0 c.requires.equal) ∙ c.loop-pair.invariant.first
 
 pub returns-clause-once : goal.returns-clause-once
 returns-clause-once g c = false_from_ne_true _ (λ yes. let none = c.in_ok-after.ensures.flag.0 yes in let some = found g c in cc)
