@@ -1,17 +1,19 @@
 -- Lemmas on counts: of the keys of a map's entries, and of the receipts of a history.
-use Rattle.std.proofs.Common.{◌≡◌, ◌∙◌, ◌+◌, ◌<◌, ◌≤◌, ◌==◌, ◌≢◌, ap, inl, inr, ℕ, zero, suc, Bool, cond, List, [], ◌∷◌, length, length-append, slice_get, set, Some, refl, sym, arith}
+use Rattle.std.proofs.Common.{◌≡◌, ◌∙◌, ◌+◌, ◌<◌, ◌≤◌, ◌==◌, ◌≢◌, ◌⊎◌, ap, inl, inr, ℕ, zero, suc, Bool, cond, All, List, [], ◌∷◌, length, length-append, get_or, slice_get, set, Some, refl, sym, arith}
 use Rattle.std.specs.Map.{keys_of}
 use Rattle.std.proofs.Common.{Ordering}
 use Rattle.std.specs.Ordering.{eq_by_cmp}
 use Rattle.std.specs.List.Sorted.{IsStrictlySortedBy}
 use Rattle.std.proofs.lemmas.Map.Keys.{IsDistinct-from_sorted}
-use Rattle.std.specs.List.{IsDistinct, AllByRecursion}
+use Rattle.std.specs.List.{IsDistinct, sum_by}
 use Rattle.std.proofs.lemmas.Map.Made.{is_some-lookup}
 use Rattle.std.proofs.lemmas.List.{length-map}
+use Rattle.std.proofs.lemmas.List.Sums.{sum_by-cons, sum_by-set}
+use Rattle.std.proofs.lemmas.Option.{get_or_from_slice_get, slice_get_within}
 use Rattle.std.proofs.lemmas.Bool.{cases_lt}
 use Rattle.elsa_model.specs.FirstWins.{value_at, HasCount}
 use Rattle.elsa_history.specs.Receipts.{receipts_for, receipts_at, receipt_count, AreReceipts, AreOf, LacksAReceipt, IsTakenFrom}
-use Rattle.elsa_history.proofs.Receipts.{each_below, test_at, test_off}
+use Rattle.elsa_history.proofs.Receipts.{each_below, sum_zero, test_at, test_off}
 
 -- a map has as many entries as keys, which are distinct
 pub has_count : {K V : Type 0} (eq : K → K → Bool) (es : List (K × V)) → IsDistinct eq (keys_of es) → HasCount eq (value_at eq es) (length es)
@@ -45,76 +47,67 @@ total_at k (suc n) l = elim (cases_lt k n) [
   | inr b ↦ let s : total (λ i. cond (k == i) 1 0) n ≡ 0 = total_zero _ n (λ i m. test_off k i (omega arith)) in let t : ◌≡◌ {A = ℕ} (cond (k == n) 1 0) 1 = test_at k n (omega arith) in omega arith
 ]
 
-pass_total : {C R : Type 0} (n : ℕ) (rs : List (ℕ × C × R)) → AllByRecursion (λ r. r.0 < n) rs → total (λ i. receipts_for i rs) n ≡ length rs
-pass_total n [] h = total_zero _ n (λ i l. refl)
-pass_total n (r ∷ rs) h =
-    let a : total (λ i. receipts_for i (r ∷ rs)) n ≡ total (λ i. cond (r.0 == i) 1 0) n + total (λ i. receipts_for i rs) n = total_add (λ i. cond (r.0 == i) 1 0) (λ i. receipts_for i rs) _ n (λ i. refl) in
-    let b : total (λ i. cond (r.0 == i) 1 0) n ≡ 1 = total_at r.0 n h.0 in
-    let c : total (λ i. receipts_for i rs) n ≡ length rs = pass_total n rs h.1 in
-    omega arith
+-- sums over a list, place by place, are the sum of what each item comes to
+total_sum : {X : Type 0} (f : ℕ → X → ℕ) (g : X → ℕ) (n : ℕ) (xs : List X) → All (λ x. total (λ i. f i x) n ≡ g x) xs → total (λ i. sum_by (f i) xs) n ≡ sum_by g xs
+total_sum f g n [] h = total_zero _ n (λ i l. refl)
+total_sum f g n (x ∷ xs) h =
+    let added = total_add (λ i. f i x) (λ i. sum_by (f i) xs) (λ i. sum_by (f i) (x ∷ xs)) n (λ i. sum_by-cons (f i) x xs) in
+    let here : total (λ i. f i x) n ≡ g x = h 0 x (omega arith) in
+    let rest : total (λ i. sum_by (f i) xs) n ≡ sum_by g xs = total_sum f g n xs (λ k d lt. h (suc k) d (omega (arith, lt))) in
+    omega (arith, added, here, rest, sum_by-cons g x xs)
 
-passes_total : {C R : Type 0} (n : ℕ) (ps : List (ℕ × List (ℕ × C × R))) → AllByRecursion (λ p. AllByRecursion (λ r. r.0 < n) p.1) ps → total (λ i. receipts_at i ps) n ≡ receipt_count ps
-passes_total n [] h = total_zero _ n (λ i l. refl)
-passes_total n (p ∷ ps) h =
-    let a : total (λ i. receipts_at i (p ∷ ps)) n ≡ total (λ i. receipts_for i p.1) n + total (λ i. receipts_at i ps) n = total_add (λ i. receipts_for i p.1) (λ i. receipts_at i ps) _ n (λ i. refl) in
-    let b : total (λ i. receipts_for i p.1) n ≡ length p.1 = pass_total n p.1 h.0 in
-    let c : total (λ i. receipts_at i ps) n ≡ receipt_count ps = passes_total n ps h.1 in
-    omega arith
+ones : {X : Type 0} (xs : List X) → sum_by (λ x. 1) xs ≡ length xs
+ones [] = refl
+ones (x ∷ xs) = omega (arith, sum_by-cons (λ y. 1) x xs, ones xs)
 
--- counts of at most 1 add up to at most n, to n only if each is 1, and to less only if one is 0
-total_most : (f : ℕ → ℕ) (n : ℕ) → ((i : ℕ) → f i ≤ 1) → total f n ≤ n
+passes_total : {C R : Type 0} (n : ℕ) (ps : List (ℕ × List (ℕ × C × R))) → All (λ p. All (λ r. r.0 < n) p.1) ps → total (λ i. receipts_at i ps) n ≡ receipt_count ps
+passes_total n ps h = total_sum (λ i p. receipts_for i p.1) _ n ps (λ k d lt.
+    let rs = (get_or ps k d).1 in
+    total_sum (λ i r. cond (r.0 == i) 1 0) (λ r. 1) n rs (λ j c less. total_at (get_or rs j c).0 n (h k d lt j c less)) ∙ ones rs)
+
+-- counts of at most 1 add up to n, and each is 1, or to less, and one is 0
+full_or_gap : (f : ℕ → ℕ) (n : ℕ) → ((i : ℕ) → f i ≤ 1) → ((total f n ≡ n) × ((i : ℕ) → i < n → f i ≡ 1)) ⊎ ((total f n < n) × (i : ℕ) × (i < n) × (f i ≡ 0))
 unfolding total
-total_most f zero o = omega arith
-total_most f (suc n) o = let a : total f n ≤ n = total_most f n o in let b : f n ≤ 1 = o n in omega arith
+full_or_gap f zero most = inl (refl, λ i l. absurd (omega (arith, l)))
+full_or_gap f (suc n) most = by (full_or_gap f n most)
+  where
+    here : f n ≤ 1
+    here = most n
 
-total_full : (f : ℕ → ℕ) (n : ℕ) → ((i : ℕ) → f i ≤ 1) → total f n ≡ n → (i : ℕ) → i < n → f i ≡ 1
-unfolding total
-total_full f zero o h i l = absurd (omega arith)
-total_full f (suc n) o h i l =
-    let a : total f n ≤ n = total_most f n o in
-    let b : f n ≤ 1 = o n in
-    elim (cases_lt i n) [
-      | inl k ↦ total_full f n o (omega arith) i k
-      | inr k ↦ let s : i ≡ n = omega arith in let e : f n ≡ 1 = omega arith in ap f s ∙ e
+    by : ((total f n ≡ n) × ((i : ℕ) → i < n → f i ≡ 1)) ⊎ ((total f n < n) × (i : ℕ) × (i < n) × (f i ≡ 0)) → ((total f n + f n ≡ suc n) × ((i : ℕ) → i < suc n → f i ≡ 1)) ⊎ ((total f n + f n < suc n) × (i : ℕ) × (i < suc n) × (f i ≡ 0))
+    by (inr (less, i, low, none)) = inr (omega (arith, less, here), i, omega (arith, low), none)
+    by (inl (full, each)) = elim (cases_lt (f n) 1) [
+      | inl none ↦ inr (omega (arith, full, none), n, omega arith, omega (arith, none))
+      | inr one ↦ inl (omega (arith, full, one, here), λ i l. elim (cases_lt i n) [
+        | inl k ↦ each i k
+        | inr k ↦ let last : i ≡ n = omega (arith, k, l) in ap f last ∙ omega (arith, one, here)
+      ])
     ]
 
-total_gap : (f : ℕ → ℕ) (n : ℕ) → ((i : ℕ) → f i ≤ 1) → total f n ≢ n → (i : ℕ) × (i < n) × (f i ≡ 0)
-unfolding total
-total_gap f zero o h = absurd (h refl)
-total_gap f (suc n) o h = elim (cases_lt (f n) 1) [
-  | inl k ↦ (n, omega arith, omega arith)
-  | inr k ↦
-      let b : f n ≤ 1 = o n in
-      let r = total_gap f n o (λ e. h (omega arith)) in
-      (r.0, omega arith, r.2)
-]
-
 -- passes without receipts have none
-pub count_nil : {C R : Type 0} (ps : List (ℕ × List (ℕ × C × R))) → AllByRecursion (λ p. p.1 ≡ []) ps → receipt_count ps ≡ 0
-count_nil [] h = refl
-count_nil {C} {R} (p ∷ ps) h =
-    let a : receipt_count ps ≡ 0 = count_nil ps h.1 in
-    let b : length p.1 ≡ 0 = ap (λ (rs : List (ℕ × C × R)). length rs) h.0 in
-    omega arith
+pub count_nil : {C R : Type 0} (ps : List (ℕ × List (ℕ × C × R))) → All (λ p. p.1 ≡ []) ps → receipt_count ps ≡ 0
+count_nil ps h = sum_zero _ ps (λ k d lt. ap (λ rs. length rs) (h k d lt))
 
 -- a pass that has one receipt less makes one receipt less
 pub count_set : {C R : Type 0} (ps : List (ℕ × List (ℕ × C × R))) (i : ℕ) (p q : ℕ × List (ℕ × C × R)) (n : ℕ) (r : C × R) → slice_get ps i ≡ Some p → IsTakenFrom n r p q → receipt_count (set ps i q) + 1 ≡ receipt_count ps
-count_set [] i p q n r at taken = absurd (cc)
-count_set {C} {R} (x ∷ ps) zero p q n r at taken =
-    let e : x ≡ p = cc in
-    let l : length x.1 ≡ length q.1 + 1 = ap (λ (w : ℕ × List (ℕ × C × R)). length w.1) e ∙ (ap (λ (rs : List (ℕ × C × R)). length rs) taken.1 ∙ length-append q.1 ((n, r.0, r.1) ∷ [])) in
-    omega arith
-count_set (x ∷ ps) (suc i) p q n r at taken =
-    let a : receipt_count (set ps i q) + 1 ≡ receipt_count ps = count_set ps i p q n r at taken in omega arith
+count_set ps i p q n r at taken =
+    let moved = sum_by-set (λ pass. length pass.1) ps i q p (slice_get_within ps i p at) in
+    let one : length (get_or ps i p).1 ≡ length q.1 + 1 = ap (λ pass. length pass.1) (get_or_from_slice_get ps i p p at) ∙ ap (λ rs. length rs) taken.1 ∙ length-append q.1 ((n, r.0, r.1) ∷ []) in
+    omega (arith, moved, one)
 
 -- receipts of a history are it where there are as many as entries, and else an entry has none
-pub all_receipts : {C R : Type 0} (eqc : C → C → Bool) (eqr : R → R → Bool) (ps : List (ℕ × List (ℕ × C × R))) (es : List (ℕ × C × R)) → AreOf eqc eqr ps es → receipt_count ps ≡ length es → AreReceipts eqc eqr ps es
-all_receipts eqc eqr ps es a h =
-    let t = passes_total (length es) ps (each_below eqc eqr es ps a.right) in
-    record { once = total_full (λ i. receipts_at i ps) (length es) a.once (t ∙ h); right = a.right; rising = a.rising }
+module _ {C R : Type 0} (eqc : C → C → Bool) (eqr : R → R → Bool) (ps : List (ℕ × List (ℕ × C × R))) (es : List (ℕ × C × R)) (a : AreOf eqc eqr ps es) where
+  sums : total (λ i. receipts_at i ps) (length es) ≡ receipt_count ps
+  sums = passes_total (length es) ps (each_below eqc eqr es ps a.right)
 
--- receipts of a history, of another number than its entries, leave out an entry
-pub lacks_one : {C R : Type 0} (eqc : C → C → Bool) (eqr : R → R → Bool) (ps : List (ℕ × List (ℕ × C × R))) (es : List (ℕ × C × R)) → AreOf eqc eqr ps es → receipt_count ps ≢ length es → LacksAReceipt ps es
-lacks_one eqc eqr ps es a h =
-    let t = passes_total (length es) ps (each_below eqc eqr es ps a.right) in
-    total_gap (λ i. receipts_at i ps) (length es) a.once (λ e. h (sym t ∙ e))
+  pub all_receipts : receipt_count ps ≡ length es → AreReceipts eqc eqr ps es
+  all_receipts h = elim (full_or_gap (λ i. receipts_at i ps) (length es) a.once) [
+    | inl full ↦ record { once = full.1; right = a.right; rising = a.rising }
+    | inr gap ↦ absurd (omega (arith, gap.0, sums, h))
+  ]
+
+  pub lacks_one : receipt_count ps ≢ length es → LacksAReceipt ps es
+  lacks_one h = elim (full_or_gap (λ i. receipts_at i ps) (length es) a.once) [
+    | inl full ↦ absurd (h (sym sums ∙ full.0))
+    | inr gap ↦ (gap.1, gap.2, gap.3)
+  ]

@@ -1,27 +1,24 @@
 -- Lemmas on receipts, for taking them one by one from the last entry to the first.
-use Rattle.std.proofs.Common.{◌≡◌, ◌+◌, ◌-◌, ◌<◌, ◌≤◌, ◌==◌, ◌≢◌, inl, inr, ℕ, suc, zero, Bool, cond, List, [], ◌∷◌, ◌++◌, length, slice_get, get_or, set, take, take_all, IsSomeAnd, Some, refl, sym, ap, subst, ◌∙◌, arith, length-append}
-use Rattle.std.specs.List.{AllByRecursion}
-use Rattle.std.proofs.lemmas.Option.{slice_get-get_or}
-use Rattle.std.proofs.lemmas.Bool.{cases_lt}
+use Rattle.std.proofs.Common.{◌≡◌, ◌+◌, ◌-◌, ◌<◌, ◌≤◌, ◌==◌, ◌≢◌, ◌↔◌, inl, inr, ℕ, suc, zero, Bool, cond, All, List, [], ◌∷◌, ◌++◌, length, slice_get, get_or, set, take, take_all, IsSomeAnd, Some, refl, sym, ap, subst, ◌∙◌, arith, length-append}
+use Rattle.std.specs.List.{sum_by}
+use Rattle.std.proofs.lemmas.Bool.{cases_eq, cases_lt}
 use Rattle.std.proofs.lemmas.Bool.Decides.{nat_tests}
+use Rattle.std.proofs.lemmas.List.{get_or-set_other, get_or-set_same, length-set, take_more}
+use Rattle.std.proofs.lemmas.List.Elements.{All-nil, All-push, All-same, All-set}
+use Rattle.std.proofs.lemmas.List.Quantifiers.{all_pairs_push}
+use Rattle.std.proofs.lemmas.List.Sums.{get_or-le-sum_by, sum_by-le, sum_by-set, sum_by_push}
+use Rattle.std.proofs.lemmas.Option.{get_or_from_slice_get, slice_get-get_or, slice_get_within}
+use Rattle.std.proofs.Math.ListN.{get_or-append}
+use Rattle.std.proofs.Math.Seq.{get_or-append_seam}
 use Rattle.elsa_history.specs.Receipts.{receipts_for, receipts_at, Rises, IsCall, IsAtPlace, AreOf, EndsElsewhere, IsTakenFrom}
 
 -- ---- lists
-all_front : {X : Type 0} (P : X → Type 0) (xs ys : List X) → AllByRecursion P (xs ++ ys) → AllByRecursion P xs
-all_front P [] ys h = tt
-all_front P (x ∷ xs) ys h = (h.0, all_front P xs ys h.1)
+all_front : {X : Type 0} (P : X → Type 0) (xs ys : List X) → All P (xs ++ ys) → All P xs
+all_front P xs ys h k d lt = subst P (get_or-append xs ys d k lt) (h k d (omega (arith, lt, length-append xs ys)))
 
-all_back : {X : Type 0} (P : X → Type 0) (xs ys : List X) → AllByRecursion P (xs ++ ys) → AllByRecursion P ys
-all_back P [] ys h = h
-all_back P (x ∷ xs) ys h = all_back P xs ys h.1
-
-all_join : {X : Type 0} (P : X → Type 0) (xs ys : List X) → AllByRecursion P xs → AllByRecursion P ys → AllByRecursion P (xs ++ ys)
-all_join P [] ys h k = k
-all_join P (x ∷ xs) ys h k = (h.0, all_join P xs ys h.1 k)
-
-all_map : {X : Type 0} (P Q : X → Type 0) (f : (x : X) → P x → Q x) (xs : List X) → AllByRecursion P xs → AllByRecursion Q xs
-all_map P Q f [] h = tt
-all_map P Q f (x ∷ xs) h = (f x h.0, all_map P Q f xs h.1)
+-- what holds of the first so many holds of all, if there are no more
+pub all_taken : {X : Type 0} (P : X → Type 0) (xs : List X) (n : ℕ) → length xs ≤ n → All P (take n xs) → All P xs
+all_taken P xs n l h = All-same P xs (take n xs) (sym (take_all n xs l)) h
 
 get_within : {X : Type 0} (P : X → Type 0) (xs : List X) (i : ℕ) → IsSomeAnd (slice_get xs i) P → i < length xs
 get_within P [] i h = absurd h
@@ -37,99 +34,17 @@ get_last : {X : Type 0} (xs : List X) (x : X) → slice_get (xs ++ x ∷ []) (le
 get_last [] x = refl
 get_last (y ∷ xs) x = get_last xs x
 
--- ---- places that rise
-rises_front : {C R : Type 0} (rs : List (ℕ × C × R)) (r : ℕ × C × R) → Rises (rs ++ r ∷ []) → Rises rs
-rises_front [] r h = tt
-rises_front (s ∷ rs) r h = (all_front (λ q. s.0 < q.0) rs (r ∷ []) h.0, rises_front rs r h.1)
+-- the item that was read at a place
+pub here : {X : Type 0} (xs : List X) (i : ℕ) (x : X) → i < length xs → x ≡ get_or xs i x → slice_get xs i ≡ Some x
+here xs i x l e = slice_get-get_or xs i x l ∙ ap Some (sym e)
 
-rises_snoc : {C R : Type 0} (rs : List (ℕ × C × R)) (r : ℕ × C × R) → Rises rs → AllByRecursion (λ q. q.0 < r.0) rs → Rises (rs ++ r ∷ [])
-rises_snoc [] r h b = (tt, tt)
-rises_snoc (s ∷ rs) r h b = (all_join (λ q. s.0 < q.0) rs (r ∷ []) h.0 (b.0, tt), rises_snoc rs r h.1 b.1)
+-- one item more than the first
+pub take_front : {X : Type 0} (xs : List X) (k : ℕ) (x : X) → 0 < k → k ≤ length xs → x ≡ get_or xs (k - 1) x → take (k - 1) xs ++ x ∷ [] ≡ take k xs
+take_front xs k x some within is =
+    let on : k - 1 + 1 ≡ k = omega (arith, some) in
+    ap (λ y. take (k - 1) xs ++ y ∷ []) is ∙ sym (take_more xs (k - 1) x (omega (arith, some, within))) ∙ ap (λ n. take n xs) on
 
 -- ---- counts
-for_append : {C R : Type 0} (i : ℕ) (rs ss : List (ℕ × C × R)) → receipts_for i (rs ++ ss) ≡ receipts_for i rs + receipts_for i ss
-for_append i [] ss = omega arith
-for_append i (r ∷ rs) ss = let e : receipts_for i (rs ++ ss) ≡ receipts_for i rs + receipts_for i ss = for_append i rs ss in omega arith
-
-at_append : {C R : Type 0} (i : ℕ) (ps qs : List (ℕ × List (ℕ × C × R))) → receipts_at i (ps ++ qs) ≡ receipts_at i ps + receipts_at i qs
-at_append i [] qs = omega arith
-at_append i (p ∷ ps) qs = let e : receipts_at i (ps ++ qs) ≡ receipts_at i ps + receipts_at i qs = at_append i ps qs in omega arith
-
-none_below : {C R : Type 0} (n : ℕ) (rs : List (ℕ × C × R)) → AllByRecursion (λ q. q.0 < n) rs → receipts_for n rs ≡ 0
-none_below n [] h = refl
-none_below n (r ∷ rs) h = let e : receipts_for n rs ≡ 0 = none_below n rs h.1 in let k : r.0 < n = h.0 in grind (arith, nat_tests)
-
-none_at_below : {C R : Type 0} (n : ℕ) (ps : List (ℕ × List (ℕ × C × R))) → AllByRecursion (λ p. AllByRecursion (λ q. q.0 < n) p.1) ps → receipts_at n ps ≡ 0
-none_at_below n [] h = refl
-none_at_below n (p ∷ ps) h = let a = none_below n p.1 h.0 in let b = none_at_below n ps h.1 in omega arith
-
--- ---- a receipt at its place
-at_place_less : {C R : Type 0} (eqc : C → C → Bool) (eqr : R → R → Bool) (es : List (ℕ × C × R)) (e : ℕ × C × R) (n : ℕ) (r : ℕ × C × R) → r.0 < length es → IsAtPlace eqc eqr (es ++ e ∷ []) n r → IsAtPlace eqc eqr es n r
-at_place_less eqc eqr es e n r h k = let P : _ → Type 0 = λ o. IsSomeAnd o (IsCall eqc eqr n r) in subst P (get_less es (e ∷ []) r.0 h) k
-
-at_place_more : {C R : Type 0} (eqc : C → C → Bool) (eqr : R → R → Bool) (es : List (ℕ × C × R)) (e : ℕ × C × R) (n : ℕ) (r : ℕ × C × R) → IsAtPlace eqc eqr es n r → IsAtPlace eqc eqr (es ++ e ∷ []) n r
-at_place_more eqc eqr es e n r k = let P : _ → Type 0 = λ o. IsSomeAnd o (IsCall eqc eqr n r) in subst P (sym (get_less es (e ∷ []) r.0 (get_within _ es r.0 k))) k
-
-at_place_below : {C R : Type 0} (eqc : C → C → Bool) (eqr : R → R → Bool) (es : List (ℕ × C × R)) (n : ℕ) (r : ℕ × C × R) → IsAtPlace eqc eqr es n r → r.0 < length es
-at_place_below eqc eqr es n r k = get_within _ es r.0 k
-
-at_last : {C R : Type 0} (eqc : C → C → Bool) (eqr : R → R → Bool) (es : List (ℕ × C × R)) (e : ℕ × C × R) (n : ℕ) (r : ℕ × C × R) → r.0 ≡ length es → IsAtPlace eqc eqr (es ++ e ∷ []) n r → IsCall eqc eqr n r e
-at_last eqc eqr es e n r h k = let P : _ → Type 0 = λ o. IsSomeAnd o (IsCall eqc eqr n r) in subst P (ap (slice_get (es ++ e ∷ [])) h ∙ get_last es e) k
-
-from_last : {C R : Type 0} (eqc : C → C → Bool) (eqr : R → R → Bool) (es : List (ℕ × C × R)) (e : ℕ × C × R) (n : ℕ) (r : ℕ × C × R) → r.0 ≡ length es → IsCall eqc eqr n r e → IsAtPlace eqc eqr (es ++ e ∷ []) n r
-from_last eqc eqr es e n r h k = let P : _ → Type 0 = λ o. IsSomeAnd o (IsCall eqc eqr n r) in subst P (sym (ap (slice_get (es ++ e ∷ [])) h ∙ get_last es e)) k
-
--- receipts of the longer history, none of which is for its last entry
-all_less : {C R : Type 0} (eqc : C → C → Bool) (eqr : R → R → Bool) (es : List (ℕ × C × R)) (e : ℕ × C × R) (n : ℕ) (rs : List (ℕ × C × R)) → receipts_for (length es) rs ≡ 0 → AllByRecursion (IsAtPlace eqc eqr (es ++ e ∷ []) n) rs → AllByRecursion (IsAtPlace eqc eqr es n) rs
-all_less eqc eqr es e n [] z h = tt
-all_less eqc eqr es e n (r ∷ rs) z h =
-    let b : r.0 < length (es ++ e ∷ []) = at_place_below eqc eqr (es ++ e ∷ []) n r h.0 in
-    let l : length (es ++ e ∷ []) ≡ length es + 1 = length-append es (e ∷ []) in
-    let k : r.0 < length es = grind (arith, nat_tests) in
-    (at_place_less eqc eqr es e n r k h.0, all_less eqc eqr es e n rs (omega arith) h.1)
-
-each_less : {C R : Type 0} (eqc : C → C → Bool) (eqr : R → R → Bool) (es : List (ℕ × C × R)) (e : ℕ × C × R) (ps : List (ℕ × List (ℕ × C × R))) → receipts_at (length es) ps ≡ 0 → AllByRecursion (λ p. AllByRecursion (IsAtPlace eqc eqr (es ++ e ∷ []) p.0) p.1) ps → AllByRecursion (λ p. AllByRecursion (IsAtPlace eqc eqr es p.0) p.1) ps
-each_less eqc eqr es e [] z h = tt
-each_less eqc eqr es e (p ∷ ps) z h = (all_less eqc eqr es e p.0 p.1 (omega arith) h.0, each_less eqc eqr es e ps (omega arith) h.1)
-
-each_more : {C R : Type 0} (eqc : C → C → Bool) (eqr : R → R → Bool) (es : List (ℕ × C × R)) (e : ℕ × C × R) (ps : List (ℕ × List (ℕ × C × R))) → AllByRecursion (λ p. AllByRecursion (IsAtPlace eqc eqr es p.0) p.1) ps → AllByRecursion (λ p. AllByRecursion (IsAtPlace eqc eqr (es ++ e ∷ []) p.0) p.1) ps
-each_more eqc eqr es e ps h = all_map _ _ (λ p k. all_map _ _ (λ r q. at_place_more eqc eqr es e p.0 r q) p.1 k) ps h
-
--- receipts of a history are for places in it
-pub each_below : {C R : Type 0} (eqc : C → C → Bool) (eqr : R → R → Bool) (es : List (ℕ × C × R)) (ps : List (ℕ × List (ℕ × C × R))) → AllByRecursion (λ p. AllByRecursion (IsAtPlace eqc eqr es p.0) p.1) ps → AllByRecursion (λ p. AllByRecursion (λ r. r.0 < length es) p.1) ps
-each_below eqc eqr es ps h = all_map _ _ (λ p k. all_map _ _ (λ r q. at_place_below eqc eqr es p.0 r q) p.1 k) ps h
-
--- ---- no pass ends at the place
-none_for : {C R : Type 0} (n : ℕ) (rs : List (ℕ × C × R)) → Rises rs → AllByRecursion (λ q. q.0 < n + 1) rs → EndsElsewhere n rs → receipts_for n rs ≡ 0
-none_for n [] h b e = refl
-none_for n (r ∷ []) h b e = let k : r.0 ≢ n = e in grind (arith, nat_tests)
-none_for n (r ∷ (s ∷ rs)) h b e =
-    let z : receipts_for n (s ∷ rs) ≡ 0 = none_for n (s ∷ rs) h.1 b.1 e in
-    let k : r.0 < s.0 = h.0.0 in
-    let l : s.0 < n + 1 = b.1.0 in
-    grind (arith, nat_tests)
-
-none_at : {C R : Type 0} (n : ℕ) (ps : List (ℕ × List (ℕ × C × R))) → AllByRecursion (λ p. Rises p.1) ps → AllByRecursion (λ p. AllByRecursion (λ q. q.0 < n + 1) p.1) ps → AllByRecursion (λ p. EndsElsewhere n p.1) ps → receipts_at n ps ≡ 0
-none_at n [] h b e = refl
-none_at n (p ∷ ps) h b e =
-    let z : receipts_for n p.1 ≡ 0 = none_for n p.1 h.0 b.0 e.0 in
-    let w : receipts_at n ps ≡ 0 = none_at n ps h.1 b.1 e.1 in
-    omega arith
-
--- where no pass ends at the place of the last entry, the receipts are of the history exactly if they are of the shorter one
-pub of_skipped : {C R : Type 0} (eqc : C → C → Bool) (eqr : R → R → Bool) (ps : List (ℕ × List (ℕ × C × R))) (es : List (ℕ × C × R)) (e : ℕ × C × R) → AllByRecursion (λ p. EndsElsewhere (length es) p.1) ps
-    → (AreOf eqc eqr ps es → AreOf eqc eqr ps (es ++ e ∷ [])) × (AreOf eqc eqr ps (es ++ e ∷ []) → AreOf eqc eqr ps es)
-of_skipped eqc eqr ps es e h =
-    let l : length (es ++ e ∷ []) ≡ length es + 1 = length-append es (e ∷ []) in
-    let P : ℕ → Type 0 = λ m. AllByRecursion (λ p. AllByRecursion (λ q. q.0 < m) p.1) ps in (
-      (λ a. record { once = a.once; right = each_more eqc eqr es e ps a.right; rising = a.rising }),
-      (λ a.
-          let b : P (length es + 1) = subst P l (each_below eqc eqr (es ++ e ∷ []) ps a.right) in
-          let z : receipts_at (length es) ps ≡ 0 = none_at (length es) ps a.rising b h in
-          record { once = a.once; right = each_less eqc eqr es e ps z a.right; rising = a.rising }),
-    )
-
--- ---- numbers
 -- 1 is counted at the number itself
 pub test_at : (k n : ℕ) → k ≡ n → ◌≡◌ {A = ℕ} (cond (k == n) 1 0) 1
 test_at k n e = grind (arith, nat_tests)
@@ -138,163 +53,155 @@ test_at k n e = grind (arith, nat_tests)
 pub test_off : (k n : ℕ) → k ≢ n → ◌≡◌ {A = ℕ} (cond (k == n) 1 0) 0
 test_off k n e = grind (arith, nat_tests)
 
--- a count that is at most 1, and 0 at n, is at most 1 with one more at n
-most_more : (f : ℕ → ℕ) (n : ℕ) → ((i : ℕ) → f i ≤ 1) → f n ≡ 0 → (i k : ℕ) → k ≡ n → (m : ℕ) → m ≡ f i + cond (k == i) 1 0 → m ≤ 1
-most_more f n o z i k e m c = elim (cases_lt i n) [
-  | inl a ↦ let t : ◌≡◌ {A = ℕ} (cond (k == i) 1 0) 0 = test_off k i (omega arith) in let u : f i ≤ 1 = o i in omega arith
-  | inr b ↦ elim (cases_lt n i) [
-    | inl a ↦ let t : ◌≡◌ {A = ℕ} (cond (k == i) 1 0) 0 = test_off k i (omega arith) in let u : f i ≤ 1 = o i in omega arith
-    | inr d ↦ let s : i ≡ n = omega arith in let t : ◌≡◌ {A = ℕ} (cond (k == i) 1 0) 1 = test_at k i (e ∙ sym s) in let u : f i ≡ 0 = ap f s ∙ z in omega arith
-  ]
-]
+-- counts add up to 0 exactly if each is 0
+pub sum_zero : {X : Type 0} (f : X → ℕ) (xs : List X) → All (λ x. f x ≡ 0) xs → sum_by f xs ≡ 0
+sum_zero f xs h = let most = sum_by-le f 0 xs (λ k d lt. let z = h k d lt in omega (arith, z)) in omega (arith, most)
 
-taken_one : (k n : ℕ) → k ≡ n → (m w : ℕ) → m ≡ w + cond (k == n) 1 0 → m ≤ 1 → w ≡ 0
-taken_one k n e m w c o = let t : ◌≡◌ {A = ℕ} (cond (k == n) 1 0) 1 = test_at k n e in omega arith
+each_zero : {X : Type 0} (f : X → ℕ) (xs : List X) → sum_by f xs ≡ 0 → All (λ x. f x ≡ 0) xs
+each_zero f xs z k d lt = let most = get_or-le-sum_by f xs k d lt in omega (arith, most, z)
 
-most_less : (m w x : ℕ) → m ≡ w + x → m ≤ 1 → w ≤ 1
-most_less m w x c o = omega arith
+rises_front : {C R : Type 0} (rs : List (ℕ × C × R)) (r : ℕ × C × R) → Rises (rs ++ r ∷ []) → Rises rs
+rises_front rs r h i j d before within =
+    let less = h i j d before (omega (arith, within, length-append rs (r ∷ []))) in
+    omega (arith, less, ap (λ s. s.0) (get_or-append rs (r ∷ []) d i (omega (arith, before, within))), ap (λ s. s.0) (get_or-append rs (r ∷ []) d j within))
 
--- ---- one receipt less
-one_less : {C R : Type 0} (i : ℕ) (xs bs : List (ℕ × List (ℕ × C × R))) (n : ℕ) (rs : List (ℕ × C × R)) (r : ℕ × C × R) → receipts_at i (xs ++ (n, rs ++ r ∷ []) ∷ bs) ≡ receipts_at i (xs ++ (n, rs) ∷ bs) + cond (r.0 == i) 1 0
-one_less i xs bs n rs r =
-    let a : receipts_at i (xs ++ (n, rs ++ r ∷ []) ∷ bs) ≡ receipts_at i xs + receipts_at i ((n, rs ++ r ∷ []) ∷ bs) = at_append i xs ((n, rs ++ r ∷ []) ∷ bs) in
-    let b : receipts_at i (xs ++ (n, rs) ∷ bs) ≡ receipts_at i xs + receipts_at i ((n, rs) ∷ bs) = at_append i xs ((n, rs) ∷ bs) in
-    let c : receipts_for i (rs ++ r ∷ []) ≡ receipts_for i rs + receipts_for i (r ∷ []) = for_append i rs (r ∷ []) in
-    omega arith
+-- where no pass ends at a place, and none goes beyond it, no receipt is for it
+none_for : {C R : Type 0} (n m : ℕ) (rs : List (ℕ × C × R)) → m ≡ n + 1 → Rises rs → All (λ q. q.0 < m) rs → EndsElsewhere n rs → receipts_for n rs ≡ 0
+none_for n m rs next rises below ends = sum_zero _ rs (λ k d lt.
+    let last : (get_or rs (length rs - 1) d).0 ≢ n = rw (slice_get-get_or rs (length rs - 1) d (omega (arith, lt))) at ends in
+    let low = below (length rs - 1) d (omega (arith, lt)) in
+    test_off (get_or rs k d).0 n (elim (cases_lt k (length rs - 1)) [
+      | inl before ↦ let less = rises k (length rs - 1) d before (omega (arith, lt)) in omega (arith, less, low, next)
+      | inr end ↦ let same : k ≡ length rs - 1 = omega (arith, end, lt) in subst (λ i. (get_or rs i d).0 ≢ n) (sym same) last
+    ]))
 
--- with the receipt of a further entry the receipts are of the longer history
-of_more : {C R : Type 0} (eqc : C → C → Bool) (eqr : R → R → Bool) (xs bs : List (ℕ × List (ℕ × C × R))) (n : ℕ) (rs : List (ℕ × C × R)) (r : ℕ × C × R) (es : List (ℕ × C × R)) (e : ℕ × C × R) → r.0 ≡ length es → IsCall eqc eqr n r e → AreOf eqc eqr (xs ++ (n, rs) ∷ bs) es → AreOf eqc eqr (xs ++ (n, rs ++ r ∷ []) ∷ bs) (es ++ e ∷ [])
-of_more {C} {R} eqc eqr xs bs n rs r es e at call a =
-    let P : _ → Type 0 = λ (p : ℕ × List (ℕ × C × R)). AllByRecursion (IsAtPlace eqc eqr (es ++ e ∷ []) p.0) p.1 in
-    let Q : _ → Type 0 = λ (p : ℕ × List (ℕ × C × R)). Rises p.1 in
-    let right = each_more eqc eqr es e (xs ++ (n, rs) ∷ bs) a.right in
-    let below = each_below eqc eqr es (xs ++ (n, rs) ∷ bs) a.right in
-    let mine = all_back P xs ((n, rs) ∷ bs) right in
-    let rise = all_back Q xs ((n, rs) ∷ bs) a.rising in
-    let B : _ → Type 0 = λ (p : ℕ × List (ℕ × C × R)). AllByRecursion (λ q. q.0 < length es) p.1 in
-    let low = (all_back B xs ((n, rs) ∷ bs) below).0 in
-    let L : ℕ → Type 0 = λ m. AllByRecursion (λ q. q.0 < m) rs in
-    record {
-      once = λ i.
-          let c : receipts_at i (xs ++ (n, rs ++ r ∷ []) ∷ bs) ≡ receipts_at i (xs ++ (n, rs) ∷ bs) + cond (r.0 == i) 1 0 = one_less i xs bs n rs r in
-          let z : receipts_at (length es) (xs ++ (n, rs) ∷ bs) ≡ 0 = none_at_below (length es) (xs ++ (n, rs) ∷ bs) below in
-          most_more (λ j. receipts_at j (xs ++ (n, rs) ∷ bs)) (length es) a.once z i r.0 at _ c;
-      right = all_join P xs ((n, rs ++ r ∷ []) ∷ bs) (all_front P xs ((n, rs) ∷ bs) right) (all_join (IsAtPlace eqc eqr (es ++ e ∷ []) n) rs (r ∷ []) mine.0 (from_last eqc eqr es e n r at call, tt), mine.1);
-      rising = all_join Q xs ((n, rs ++ r ∷ []) ∷ bs) (all_front Q xs ((n, rs) ∷ bs) a.rising) (rises_snoc rs r rise.0 (subst L (sym at) low), rise.1);
-    }
+-- ---- receipts of a history and of one with an entry more
+-- they are for places in it
+pub each_below : {C R : Type 0} (eqc : C → C → Bool) (eqr : R → R → Bool) (es : List (ℕ × C × R)) (ps : List (ℕ × List (ℕ × C × R))) → All (λ p. All (IsAtPlace eqc eqr es p.0) p.1) ps → All (λ p. All (λ r. r.0 < length es) p.1) ps
+each_below eqc eqr es ps h k d lt j c less = get_within _ es (get_or (get_or ps k d).1 j c).0 (h k d lt j c less)
 
--- and without it those of the shorter one
-of_less : {C R : Type 0} (eqc : C → C → Bool) (eqr : R → R → Bool) (xs bs : List (ℕ × List (ℕ × C × R))) (n : ℕ) (rs : List (ℕ × C × R)) (r : ℕ × C × R) (es : List (ℕ × C × R)) (e : ℕ × C × R) → r.0 ≡ length es → AreOf eqc eqr (xs ++ (n, rs ++ r ∷ []) ∷ bs) (es ++ e ∷ []) → AreOf eqc eqr (xs ++ (n, rs) ∷ bs) es × IsCall eqc eqr n r e
-of_less {C} {R} eqc eqr xs bs n rs r es e at a =
-    let P : _ → Type 0 = λ (p : ℕ × List (ℕ × C × R)). AllByRecursion (IsAtPlace eqc eqr (es ++ e ∷ []) p.0) p.1 in
-    let Q : _ → Type 0 = λ (p : ℕ × List (ℕ × C × R)). Rises p.1 in
-    let I : ℕ × C × R → Type 0 = IsAtPlace eqc eqr (es ++ e ∷ []) n in
-    let mine = all_back P xs ((n, rs ++ r ∷ []) ∷ bs) a.right in
-    let rise = all_back Q xs ((n, rs ++ r ∷ []) ∷ bs) a.rising in
-    let c : receipts_at (length es) (xs ++ (n, rs ++ r ∷ []) ∷ bs) ≡ receipts_at (length es) (xs ++ (n, rs) ∷ bs) + cond (r.0 == length es) 1 0 = one_less (length es) xs bs n rs r in
-    let o : receipts_at (length es) (xs ++ (n, rs ++ r ∷ []) ∷ bs) ≤ 1 = a.once (length es) in
-    let z : receipts_at (length es) (xs ++ (n, rs) ∷ bs) ≡ 0 = taken_one r.0 (length es) at _ _ c o in
-    let right : AllByRecursion P (xs ++ (n, rs) ∷ bs) = all_join P xs ((n, rs) ∷ bs) (all_front P xs ((n, rs ++ r ∷ []) ∷ bs) a.right) (all_front I rs (r ∷ []) mine.0, mine.1) in (
-      record {
-        once = λ i. most_less _ _ _ (one_less i xs bs n rs r) (a.once i);
-        right = each_less eqc eqr es e (xs ++ (n, rs) ∷ bs) z right;
-        rising = all_join Q xs ((n, rs) ∷ bs) (all_front Q xs ((n, rs ++ r ∷ []) ∷ bs) a.rising) (rises_front rs r rise.0, rise.1);
-      },
-      at_last eqc eqr es e n r at (all_back I rs (r ∷ []) mine.0).0,
+module _ {C R : Type 0} (eqc : C → C → Bool) (eqr : R → R → Bool) (es : List (ℕ × C × R)) (e : ℕ × C × R) where
+  abbrev longer : List (ℕ × C × R)
+  longer = es ++ e ∷ []
+
+  one_longer : length longer ≡ length es + 1
+  one_longer = length-append es (e ∷ [])
+
+  each_more : (ps : List (ℕ × List (ℕ × C × R))) → All (λ p. All (IsAtPlace eqc eqr es p.0) p.1) ps → All (λ p. All (IsAtPlace eqc eqr longer p.0) p.1) ps
+  each_more ps h k d lt j c less =
+      let n = (get_or ps k d).0 in let r = get_or (get_or ps k d).1 j c in
+      subst (λ o. IsSomeAnd o (IsCall eqc eqr n r)) (sym (get_less es (e ∷ []) r.0 (each_below eqc eqr es ps h k d lt j c less))) (h k d lt j c less)
+
+  -- where none is for the entry, they are of the shorter one
+  each_less : (ps : List (ℕ × List (ℕ × C × R))) → receipts_at (length es) ps ≡ 0 → All (λ p. All (IsAtPlace eqc eqr longer p.0) p.1) ps → All (λ p. All (IsAtPlace eqc eqr es p.0) p.1) ps
+  each_less ps none h k d lt j c less =
+      let n = (get_or ps k d).0 in let r = get_or (get_or ps k d).1 j c in
+      let inside = get_within _ longer r.0 (h k d lt j c less) in
+      let other = each_zero _ (get_or ps k d).1 (each_zero _ ps none k d lt) j c less in
+      let low : r.0 < length es = grind (arith, nat_tests, inside, one_longer, other) in
+      subst (λ o. IsSomeAnd o (IsCall eqc eqr n r)) (get_less es (e ∷ []) r.0 low) (h k d lt j c less)
+
+  -- where no pass ends at the place of the last entry, the receipts are of the history exactly if they are of the shorter one
+  pub of_skipped : (ps : List (ℕ × List (ℕ × C × R))) → All (λ p. EndsElsewhere (length es) p.1) ps → AreOf eqc eqr ps es ↔ AreOf eqc eqr ps longer
+  of_skipped ps elsewhere = (
+    (λ a. record { once = a.once; right = each_more ps a.right; rising = a.rising }),
+    (λ a.
+        let low = each_below eqc eqr longer ps a.right in
+        let none = sum_zero _ ps (λ k d lt. none_for (length es) (length longer) (get_or ps k d).1 one_longer (a.rising k d lt) (low k d lt) (elsewhere k d lt)) in
+        record { once = a.once; right = each_less ps none a.right; rising = a.rising }),
+  )
+
+  -- One pass more: p, which is q with one receipt more, stands at place i of the passes, and q in its place in `left`.
+  module _ (ps : List (ℕ × List (ℕ × C × R))) (i : ℕ) (q : ℕ × List (ℕ × C × R)) (r : C × R) (at : slice_get ps i ≡ Some (q.0, q.1 ++ (length es, r.0, r.1) ∷ [])) where
+    abbrev last : ℕ × C × R
+    last = (length es, r.0, r.1)
+
+    abbrev p : ℕ × List (ℕ × C × R)
+    p = (q.0, q.1 ++ last ∷ [])
+
+    abbrev left : List (ℕ × List (ℕ × C × R))
+    left = set ps i q
+
+    inside : i < length ps
+    inside = slice_get_within ps i p at
+
+    stands : (d : ℕ × List (ℕ × C × R)) → get_or ps i d ≡ p
+    stands d = get_or_from_slice_get ps i p d at
+
+    counted : (k : ℕ) → receipts_at k ps ≡ receipts_at k left + cond (length es == k) 1 0
+    counted k =
+        let moved = sum_by-set (λ pass. receipts_for k pass.1) ps i q p inside in
+        let one : receipts_for k (get_or ps i p).1 ≡ receipts_for k q.1 + cond (length es == k) 1 0 = ap (λ pass. receipts_for k pass.1) (stands p) ∙ sum_by_push (λ s. cond (s.0 == k) 1 0) q.1 last in
+        omega (arith, moved, one)
+
+    -- what holds of all that are left, and of p, holds of the passes
+    all_back : (P : ℕ × List (ℕ × C × R) → Type 0) → All P left → P p → All P ps
+    all_back P h mine k d lt = elim (cases_eq k i) [
+      | inl same ↦ subst P (sym (ap (λ j. get_or ps j d) same ∙ stands d)) mine
+      | inr other ↦ subst P (get_or-set_other ps i k q d other) (h k d (omega (arith, lt, length-set ps i q)))
+    ]
+
+    -- without the receipt they are of the shorter history, and the receipt is the entry's
+    of_less : AreOf eqc eqr ps longer → AreOf eqc eqr left es × IsCall eqc eqr q.0 last e
+    of_less a =
+        let mine : All (IsAtPlace eqc eqr longer q.0) p.1 = subst (λ pass. All (IsAtPlace eqc eqr longer pass.0) pass.1) (stands p) (a.right i p inside) in
+        let rise : Rises p.1 = subst (λ pass. Rises pass.1) (stands p) (a.rising i p inside) in
+        let once = a.once (length es) in
+        let none : receipts_at (length es) left ≡ 0 = omega (arith, counted (length es), once, test_at (length es) (length es) refl) in
+        let its : IsAtPlace eqc eqr longer q.0 (get_or p.1 (length q.1) last) = mine (length q.1) last (omega (arith, length-append q.1 (last ∷ []))) in (
+          record {
+            once = λ k. let most = a.once k in omega (arith, counted k, most);
+            right = each_less left none (All-set (λ pass. All (IsAtPlace eqc eqr longer pass.0) pass.1) ps i q (all_front (IsAtPlace eqc eqr longer q.0) q.1 (last ∷ []) mine) a.right);
+            rising = All-set (λ pass. Rises pass.1) ps i q (rises_front q.1 last rise) a.rising;
+          },
+          subst (λ o. IsSomeAnd o (IsCall eqc eqr q.0 last)) (get_last es e) (subst (IsAtPlace eqc eqr longer q.0) (get_or-append_seam q.1 last [] last) its),
+        )
+
+    -- with the receipt, which is the entry's, they are of the longer one
+    of_more : IsCall eqc eqr q.0 last e → AreOf eqc eqr left es → AreOf eqc eqr ps longer
+    of_more call a =
+        let within : i < length left = omega (arith, inside, length-set ps i q) in
+        let more = each_more left a.right in
+        let low = each_below eqc eqr es left a.right in
+        let q_stands : get_or left i q ≡ q = get_or-set_same ps i q q inside in
+        let mine : All (IsAtPlace eqc eqr longer q.0) q.1 = subst (λ pass. All (IsAtPlace eqc eqr longer pass.0) pass.1) q_stands (more i q within) in
+        let rise : Rises q.1 = subst (λ pass. Rises pass.1) q_stands (a.rising i q within) in
+        let below : All (λ s. s.0 < length es) q.1 = subst (λ pass. All (λ s. s.0 < length es) pass.1) q_stands (low i q within) in
+        let none : receipts_at (length es) left ≡ 0 = sum_zero _ left (λ k d lt. sum_zero _ (get_or left k d).1 (λ j c less. let under = low k d lt j c less in test_off _ (length es) (omega (arith, under)))) in
+        record {
+          once = λ k. elim (cases_eq k (length es)) [
+            | inl same ↦ subst (λ n. receipts_at n ps ≤ 1) (sym same) (omega (arith, counted (length es), none, test_at (length es) (length es) refl))
+            | inr other ↦ let most = a.once k in omega (arith, counted k, most, test_off (length es) k (λ is. other (sym is)))
+          ];
+          right = all_back (λ pass. All (IsAtPlace eqc eqr longer pass.0) pass.1) more (All-push (IsAtPlace eqc eqr longer q.0) q.1 last mine (subst (λ o. IsSomeAnd o (IsCall eqc eqr q.0 last)) (sym (get_last es e)) call));
+          rising = all_back (λ pass. Rises pass.1) a.rising (all_pairs_push (λ s u. s.0 < u.0) q.1 last rise below);
+        }
+
+-- Where a pass's last receipt is taken: if it is the entry's, the passes are of the longer history exactly if they are now of the shorter one; if it isn't, they
+-- weren't of the longer one.
+pub taken_last : {C R : Type 0} (eqc : C → C → Bool) (eqr : R → R → Bool) (ps : List (ℕ × List (ℕ × C × R))) (i : ℕ) (p q : ℕ × List (ℕ × C × R)) (n : ℕ) (r : C × R) (e : ℕ × C × R)
+    → slice_get ps i ≡ Some p → IsTakenFrom n r p q → (es : List (ℕ × C × R)) → length es ≡ n
+    → (IsCall eqc eqr q.0 (n, r.0, r.1) e → AreOf eqc eqr (set ps i q) es ↔ AreOf eqc eqr ps (es ++ e ∷ [])) × ((IsCall eqc eqr q.0 (n, r.0, r.1) e → ⊥) → AreOf eqc eqr ps (es ++ e ∷ []) → ⊥)
+taken_last eqc eqr ps i p q n r e at (number, receipts) es is =
+    let place : (n, r.0, r.1) ≡ (length es, r.0, r.1) = ap (λ m. (m, r.0, r.1)) (sym is) in
+    let whole : p ≡ (q.0, q.1 ++ (length es, r.0, r.1) ∷ []) = ap (λ m. (m, p.1)) number ∙ ap (λ rs. (q.0, rs)) (receipts ∙ ap (λ s. q.1 ++ s ∷ []) place) in
+    let now = at ∙ ap Some whole in (
+      (λ call. (of_more eqc eqr es e ps i q r now (subst (λ s. IsCall eqc eqr q.0 s e) place call), (λ b. (of_less eqc eqr es e ps i q r now b).0))),
+      (λ other b. other (subst (λ s. IsCall eqc eqr q.0 s e) (sym place) (of_less eqc eqr es e ps i q r now b).1)),
     )
 
 -- ---- no entries
--- passes without receipts are of the history without entries
-pub of_nil : {C R : Type 0} (eqc : C → C → Bool) (eqr : R → R → Bool) (ps : List (ℕ × List (ℕ × C × R))) → AllByRecursion (λ p. p.1 ≡ []) ps → AreOf eqc eqr ps []
-of_nil {C} {R} eqc eqr ps h =
-    record {
-      once = λ i. let z : receipts_at i ps ≡ 0 = none_at_below i ps (all_map _ (λ p. AllByRecursion (λ q. q.0 < i) p.1) (λ p e. let F : List (ℕ × C × R) → Type 0 = λ rs. AllByRecursion (λ q. q.0 < i) rs in subst F (sym e) tt) ps h) in omega arith;
-      right = all_map _ (λ p. AllByRecursion (IsAtPlace eqc eqr [] p.0) p.1) (λ p e. let F : List (ℕ × C × R) → Type 0 = λ rs. AllByRecursion (IsAtPlace eqc eqr [] p.0) rs in subst F (sym e) tt) ps h;
-      rising = all_map _ (λ p. Rises p.1) (λ p e. let F : List (ℕ × C × R) → Type 0 = Rises in subst F (sym e) tt) ps h;
-    }
+-- passes are of the history without entries exactly if none has a receipt
+pub of_nil : {C R : Type 0} (eqc : C → C → Bool) (eqr : R → R → Bool) (ps : List (ℕ × List (ℕ × C × R))) → All (λ p. p.1 ≡ []) ps → AreOf eqc eqr ps []
+of_nil {C} {R} eqc eqr ps h = record {
+  once = λ i. let z : receipts_at i ps ≡ 0 = sum_zero _ ps (λ k d lt. ap (receipts_for i) (h k d lt)) in omega (arith, z);
+  right = λ k d lt. subst (All (IsAtPlace eqc eqr [] (get_or ps k d).0)) (sym (h k d lt)) (All-nil _);
+  rising = λ k d lt. subst Rises (sym (h k d lt)) (λ i j c before within. absurd (omega (arith, within)));
+}
 
-no_receipts : {C R : Type 0} (eqc : C → C → Bool) (eqr : R → R → Bool) (n : ℕ) (rs : List (ℕ × C × R)) → AllByRecursion (IsAtPlace eqc eqr [] n) rs → rs ≡ []
-no_receipts eqc eqr n [] h = refl
-no_receipts eqc eqr n (r ∷ rs) h = absurd h.0
-
--- and no pass of that history has a receipt
-pub none_of_nil : {C R : Type 0} (eqc : C → C → Bool) (eqr : R → R → Bool) (ps : List (ℕ × List (ℕ × C × R))) → AreOf eqc eqr ps [] → AllByRecursion (λ p. p.1 ≡ []) ps
-none_of_nil eqc eqr ps a = all_map _ _ (λ p h. no_receipts eqc eqr p.0 p.1 h) ps a.right
-
--- ---- the last receipt
-ends_at : {C R : Type 0} (n : ℕ) (rs : List (ℕ × C × R)) (k : ℕ) (r : ℕ × C × R) → k + 1 ≡ length rs → slice_get rs k ≡ Some r → r.0 ≢ n → EndsElsewhere n rs
-ends_at n [] k r l h ne = tt
-ends_at n (x ∷ []) zero r l h ne = let e : x ≡ r = cc in λ is. ne (ap (λ q. q.0) (sym e) ∙ is)
-ends_at n (x ∷ []) (suc k) r l h ne = absurd (omega arith)
-ends_at n (x ∷ (y ∷ ys)) zero r l h ne = absurd (omega arith)
-ends_at n (x ∷ (y ∷ ys)) (suc k) r l h ne = ends_at n (y ∷ ys) k r (omega arith) h ne
-
--- a pass whose last receipt is for another place ends elsewhere
-pub ends_other : {C R : Type 0} (n : ℕ) (rs : List (ℕ × C × R)) (r : ℕ × C × R) → slice_get rs (length rs - 1) ≡ Some r → r.0 ≢ n → EndsElsewhere n rs
-ends_other n [] r h ne = tt
-ends_other n (x ∷ xs) r h ne = ends_at n (x ∷ xs) (length (x ∷ xs) - 1) r (omega arith) h ne
-
--- ---- one pass of a list
-pair_from : {A B : Type 0} (p : A × B) (a : A) (b : B) → p.0 ≡ a → p.1 ≡ b → p ≡ (a, b)
-pair_from p a b e f = ap (λ x. (x, p.1)) e ∙ ap (λ y. (a, y)) f
-
-split_at : {X : Type 0} (xs : List X) (i : ℕ) (x y : X) → slice_get xs i ≡ Some x → (front : List X) × (back : List X) × (xs ≡ front ++ x ∷ back) × (set xs i y ≡ front ++ y ∷ back)
-split_at [] i x y h = absurd (cc)
-split_at (z ∷ zs) zero x y h = let e : z ≡ x = cc in ([], zs, ap (λ w. w ∷ zs) e, refl)
-split_at (z ∷ zs) (suc i) x y h =
-    let r = split_at zs i x y h in
-    (z ∷ r.0, r.1, ap (λ w. z ∷ w) r.2, ap (λ w. z ∷ w) r.3)
-
--- where the receipt taken is the entry's, the passes are of the longer history exactly if they are now of the shorter one
-pub take_yes : {C R : Type 0} (eqc : C → C → Bool) (eqr : R → R → Bool) (ps : List (ℕ × List (ℕ × C × R))) (i : ℕ) (p q : ℕ × List (ℕ × C × R)) (n : ℕ) (r : C × R) (e : ℕ × C × R) → slice_get ps i ≡ Some p → IsTakenFrom n r p q → IsCall eqc eqr q.0 (n, r.0, r.1) e → (es : List (ℕ × C × R)) → length es ≡ n → (AreOf eqc eqr (set ps i q) es → AreOf eqc eqr ps (es ++ e ∷ [])) × (AreOf eqc eqr ps (es ++ e ∷ []) → AreOf eqc eqr (set ps i q) es)
-take_yes {C} {R} eqc eqr ps i p q n r e at taken call es l =
-    let s = split_at ps i p q at in
-    let is : p ≡ (q.0, q.1 ++ (n, r.0, r.1) ∷ []) = pair_from p q.0 _ taken.0 taken.1 in
-    let whole : ps ≡ s.0 ++ (q.0, q.1 ++ (n, r.0, r.1) ∷ []) ∷ s.1 = s.2 ∙ ap (λ w. s.0 ++ w ∷ s.1) is in
-    let A : List (ℕ × List (ℕ × C × R)) → Type 0 = λ w. AreOf eqc eqr w es in
-    let B : List (ℕ × List (ℕ × C × R)) → Type 0 = λ w. AreOf eqc eqr w (es ++ e ∷ []) in (
-      (λ a. subst B (sym whole) (of_more eqc eqr s.0 s.1 q.0 q.1 (n, r.0, r.1) es e (sym l) call (subst A s.3 a))),
-      (λ b. subst A (sym s.3) (of_less eqc eqr s.0 s.1 q.0 q.1 (n, r.0, r.1) es e (sym l) (subst B whole b)).0),
-    )
-
--- where the receipt taken isn't the entry's, the passes weren't of this history
-pub take_no : {C R : Type 0} (eqc : C → C → Bool) (eqr : R → R → Bool) (ps : List (ℕ × List (ℕ × C × R))) (i : ℕ) (p q : ℕ × List (ℕ × C × R)) (n : ℕ) (r : C × R) (e : ℕ × C × R) → slice_get ps i ≡ Some p → IsTakenFrom n r p q → (IsCall eqc eqr q.0 (n, r.0, r.1) e → ⊥) → (es : List (ℕ × C × R)) → length es ≡ n → AreOf eqc eqr ps (es ++ e ∷ []) → ⊥
-take_no {C} {R} eqc eqr ps i p q n r e at taken call es l b =
-    let s = split_at ps i p q at in
-    let is : p ≡ (q.0, q.1 ++ (n, r.0, r.1) ∷ []) = pair_from p q.0 _ taken.0 taken.1 in
-    let whole : ps ≡ s.0 ++ (q.0, q.1 ++ (n, r.0, r.1) ∷ []) ∷ s.1 = s.2 ∙ ap (λ w. s.0 ++ w ∷ s.1) is in
-    let B : List (ℕ × List (ℕ × C × R)) → Type 0 = λ w. AreOf eqc eqr w (es ++ e ∷ []) in
-    call (of_less eqc eqr s.0 s.1 q.0 q.1 (n, r.0, r.1) es e (sym l) (subst B whole b)).1
-
--- ---- as far as a loop has come
--- what holds of all holds at a place
-pub all_at : {X : Type 0} (P : X → Type 0) (xs : List X) (i : ℕ) (x : X) → slice_get xs i ≡ Some x → AllByRecursion P xs → P x
-all_at P [] i x e h = absurd (cc)
-all_at P (y ∷ ys) zero x e h = let k : y ≡ x = cc in subst P k h.0
-all_at P (y ∷ ys) (suc i) x e h = all_at P ys i x e h.1
-
--- what holds of as many as there are holds of all
-pub all_taken : {X : Type 0} (P : X → Type 0) (xs : List X) (n : ℕ) → length xs ≤ n → AllByRecursion P (take n xs) → AllByRecursion P xs
-all_taken P xs n l h = subst (AllByRecursion P) (take_all n xs l) h
-
--- the item at a place below the length
-pub here : {X : Type 0} (xs : List X) (i : ℕ) (x : X) → i < length xs → x ≡ get_or xs i x → slice_get xs i ≡ Some x
-here xs i x l e = slice_get-get_or xs i x l ∙ ap Some (sym e)
-
-take_step : {X : Type 0} (xs : List X) (j : ℕ) (x : X) → slice_get xs j ≡ Some x → take j xs ++ x ∷ [] ≡ take (suc j) xs
-take_step [] j x e = absurd (cc)
-take_step (y ∷ ys) zero x e = let k : x ≡ y = cc in ap (λ w. w ∷ []) k
-take_step (y ∷ ys) (suc j) x e = ap (λ w. y ∷ w) (take_step ys j x e)
-
--- one item more than the first
-pub take_front : {X : Type 0} (xs : List X) (k : ℕ) (x : X) → 0 < k → slice_get xs (k - 1) ≡ Some x → take (k - 1) xs ++ x ∷ [] ≡ take k xs
-take_front xs zero x p e = absurd (omega arith)
-take_front {X} xs (suc j) x p e =
-    let k : suc j - 1 ≡ j = omega arith in
-    let E : ℕ → Type 0 = λ m. slice_get xs m ≡ Some x in
-    let F : ℕ → Type 0 = λ m. take m xs ++ x ∷ [] ≡ take (suc j) xs in
-    subst F (sym k) (take_step xs j x (subst E k e))
-
--- what holds of no items holds of the first none
-pub take_start : {X : Type 0} (P : List X → Type 0) (xs : List X) (n : ℕ) → n ≤ 0 → P [] → P (take n xs)
-take_start P xs n l h = let z : n ≡ 0 = omega arith in let Q : ℕ → Type 0 = λ m. P (take m xs) in subst Q (sym z) h
+pub none_of_nil : {C R : Type 0} (eqc : C → C → Bool) (eqr : R → R → Bool) (ps : List (ℕ × List (ℕ × C × R))) → AreOf eqc eqr ps [] → All (λ p. p.1 ≡ []) ps
+none_of_nil {C} {R} eqc eqr ps a k d lt = by (get_or ps k d).1 (a.right k d lt)
+  where
+    by : (rs : List (ℕ × C × R)) → All (IsAtPlace eqc eqr [] (get_or ps k d).0) rs → rs ≡ []
+    by [] h = refl
+    by (r ∷ rs) h = absurd (h 0 r (omega arith))

@@ -3,28 +3,23 @@
 -- a command and a reply. An entry of the history is a caller's number, a command and a reply, and its place is where it
 -- stands. Receipts and history are read here as they lie side by side: no entry without its one receipt, no receipt that
 -- the history doesn't bear out, and no caller whose calls stand in another order than the one in which it made them.
-use Rattle.std.specs.Prelude.{◌≡◌, ◌+◌, ◌<◌, ◌≤◌, ◌==◌, ◌≢◌, ℕ, Bool, true, List, [], ◌∷◌, ◌++◌, length, slice_get, IsSomeAnd, if◌then◌else◌, ⊤}
-use Rattle.std.specs.List.{AllByRecursion}
+use Rattle.std.specs.Prelude.{◌≡◌, ◌-◌, ◌<◌, ◌≤◌, ◌==◌, ◌≢◌, ℕ, Bool, true, List, [], ◌∷◌, ◌++◌, All, AllPairs, count_by, length, slice_get, sum_by, IfSome, IsSomeAnd}
 
 -- how many of a pass's receipts are for the place
 abbrev pub receipts_for : {C R : Type 0} → ℕ → List (ℕ × C × R) → ℕ
-receipts_for place [] = 0
-receipts_for place (receipt ∷ rest) = (if receipt.0 == place then 1 else 0) + receipts_for place rest
+receipts_for place receipts = count_by (λ receipt. receipt.0 == place) receipts
 
 -- how many receipts of the passes are for the place
 abbrev pub receipts_at : {C R : Type 0} → ℕ → List (ℕ × List (ℕ × C × R)) → ℕ
-receipts_at place [] = 0
-receipts_at place (pass ∷ rest) = receipts_for place pass.1 + receipts_at place rest
+receipts_at place passes = sum_by (λ pass. receipts_for place pass.1) passes
 
 -- how many receipts the passes have: one for each accepted call
 abbrev pub receipt_count : {C R : Type 0} → List (ℕ × List (ℕ × C × R)) → ℕ
-receipt_count [] = 0
-receipt_count (pass ∷ rest) = length pass.1 + receipt_count rest
+receipt_count passes = sum_by (λ pass. length pass.1) passes
 
 -- the places of a pass's receipts rise
 abbrev pub Rises : {C R : Type 0} → List (ℕ × C × R) → Type 0
-Rises [] = ⊤
-Rises (receipt ∷ rest) = AllByRecursion (λ later. receipt.0 < later.0) rest × Rises rest
+Rises receipts = AllPairs (λ earlier later. earlier.0 < later.0) receipts
 
 -- the entry is of the caller with that number, and has the receipt's command and reply, by the `==` of their types
 pub record IsCall {C R : Type 0} (eqc : C → C → Bool) (eqr : R → R → Bool) (caller : ℕ) (receipt entry : ℕ × C × R) : Type 0 where
@@ -40,15 +35,15 @@ IsAtPlace eqc eqr history number receipt = IsSomeAnd (slice_get history receipt.
 -- the places rise within each pass
 pub record AreReceipts {C R : Type 0} (eqc : C → C → Bool) (eqr : R → R → Bool) (passes : List (ℕ × List (ℕ × C × R))) (history : List (ℕ × C × R)) : Type 0 where
   pub once : (place : ℕ) → place < length history → receipts_at place passes ≡ 1
-  pub right : AllByRecursion (λ pass. AllByRecursion (IsAtPlace eqc eqr history pass.0) pass.1) passes
-  pub rising : AllByRecursion (λ pass. Rises pass.1) passes
+  pub right : All (λ pass. All (IsAtPlace eqc eqr history pass.0) pass.1) passes
+  pub rising : All (λ pass. Rises pass.1) passes
 
 -- the receipts of the passes are of the history: each is of the entry at its place, no place has two, and the places rise
 -- within each pass
 pub record AreOf {C R : Type 0} (eqc : C → C → Bool) (eqr : R → R → Bool) (passes : List (ℕ × List (ℕ × C × R))) (history : List (ℕ × C × R)) : Type 0 where
   pub once : (place : ℕ) → receipts_at place passes ≤ 1
-  pub right : AllByRecursion (λ pass. AllByRecursion (IsAtPlace eqc eqr history pass.0) pass.1) passes
-  pub rising : AllByRecursion (λ pass. Rises pass.1) passes
+  pub right : All (λ pass. All (IsAtPlace eqc eqr history pass.0) pass.1) passes
+  pub rising : All (λ pass. Rises pass.1) passes
 
 -- an entry of the history has no receipt
 abbrev pub LacksAReceipt : {C R : Type 0} → List (ℕ × List (ℕ × C × R)) → List (ℕ × C × R) → Type 0
@@ -56,9 +51,7 @@ LacksAReceipt passes history = (place : ℕ) × (place < length history) × (rec
 
 -- the pass has no receipt, or its last one is for another place
 abbrev pub EndsElsewhere : {C R : Type 0} → ℕ → List (ℕ × C × R) → Type 0
-EndsElsewhere place [] = ⊤
-EndsElsewhere place (receipt ∷ []) = receipt.0 ≢ place
-EndsElsewhere place (receipt ∷ (next ∷ rest)) = EndsElsewhere place (next ∷ rest)
+EndsElsewhere place receipts = IfSome (slice_get receipts (length receipts - 1)) (λ last. last.0 ≢ place)
 
 -- without its last receipt, which was for the place and had that command and reply, the old pass is the new one
 abbrev pub IsTakenFrom : {C R : Type 0} → ℕ → C × R → ℕ × List (ℕ × C × R) → ℕ × List (ℕ × C × R) → Type 0

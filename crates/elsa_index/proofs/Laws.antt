@@ -33,14 +33,14 @@ pub set_place_added : {B V T : Type 0} (eq : B → B → Bool) (laws : IsEquival
 set_place_added eq laws target shown finds finds_target bs v i b cs none at is left = ap (position (finds v)) left ∙ place_of_last (finds v) bs b none (finds_target v b b is ∙ laws.refl b) ∙ ap Some (sym at)
 
 -- the same pairs in another order are the same map
-pub same_in_any_order : {K B : Type 0} (eq : K → K → Bool) (laws : IsEquivalence eq) (same : B → B → Bool) (same_laws : IsEquivalence same) (es fs : List (K × B))
+pub same_in_any_order : {K B : Type 0} (eq : K → K → Bool) (laws : IsEquivalence eq) (same : B → B → Bool) (alike_itself : (b : B) → same b b ≡ true) (es fs : List (K × B))
     → IsDistinct eq (keys_of fs) → IsPermutation es fs → same_values eq same es fs ≡ true
-same_in_any_order {B = B} eq laws same same_laws es fs distinct moved =
+same_in_any_order {B = B} eq laws same alike_itself es fs distinct moved =
     same_from_each eq same es fs (λ q. ap (option_eq same (lookup (eq q) es)) (lookup_permutation laws es fs moved distinct (eq q) (laws.congr q)) ∙ alike (lookup (eq q) es))
   where
     alike : (o : Option B) → option_eq same o o ≡ true
     alike None = refl
-    alike (Some b) = same_laws.refl b
+    alike (Some b) = alike_itself b
 
 -- the same values in another order are the same set
 pub same_set_in_any_order : {B : Type 0} (eq : B → B → Bool) (laws : IsEquivalence eq) (bs cs : List B) → IsPermutation bs cs → same_set eq bs cs ≡ true

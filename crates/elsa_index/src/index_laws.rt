@@ -1,14 +1,12 @@
 //! What users may rely on across calls: each law is the contract of a function that makes the calls.
-ghost use Rattle.std.specs.Prelude.{◌≡◌, ◌+◌, ◌↔◌, ℕ, All, List, None, Some, false, true, if◌then◌else◌, length, position, slice_get, IfOk, IsSome, OnErr, IsPermutation, IsTrue};
-ghost use Rattle.elsa_index.specs.Equality.{same_set};
-ghost use Rattle.elsa_model.specs.FirstWins.{same_values, value_at};
+ghost use Rattle.std.specs.Prelude.{◌≡◌, ◌+◌, ◌↔◌, ℕ, All, List, None, Some, false, true, if◌then◌else◌, length, position, slice_get, IfOk, IsSome, OnErr, IsTrue};
+ghost use Rattle.elsa_model.specs.FirstWins.{value_at};
 ghost use Rattle.elsa_model.specs.Insertions.{place_of, Grows, Inserted, SetInserted, IsCloneOf};
 
 use crate::index_map::FrozenIndexMap;
 use crate::index_set::FrozenIndexSet;
 use crate::look_up::LookUp;
 use bumpalo::Bump;
-use elsa_model::for_its_clause;
 use elsa_once::stable::StableDeref;
 use std::alloc::{AllocError, Allocator};
 use std::hash::{BuildHasher, Hash};
@@ -99,41 +97,6 @@ pub fn clone_and_part<
     map.insert_full(own.0, own.1)?;
     copy.insert_full(other.0, other.1)?;
     Ok(copy)
-}
-
-/// Whether two maps are equal: order plays no part.
-pub fn are_equal<
-    'a,
-    K: Eq + Hash,
-    P: Allocator,
-    V: StableDeref<&'a Bump<P>>,
-    S: BuildHasher,
-    A: Allocator + Copy,
->(left: &FrozenIndexMap<'a, K, V, S, A, P>, right: &FrozenIndexMap<'a, K, V, S, A, P>) -> bool
-where
-    <V as StableDeref<&'a Bump<P>>>::Borrow: Eq,
-    ensures answered { result ≡ same_values K.eq V.Borrow.eq left.now right.now }
-    ensures blind_to_order { IsPermutation left.now right.now → IsTrue result }
-{
-    // No two keys are equal.
-    for_its_clause(right.is_empty());
-    left == right
-}
-
-/// Whether two sets are equal: order plays no part.
-pub fn sets_are_equal<
-    'a,
-    P: Allocator,
-    T: StableDeref<&'a Bump<P>>,
-    S: BuildHasher,
-    A: Allocator + Copy,
->(first: &FrozenIndexSet<'a, T, S, A, P>, second: &FrozenIndexSet<'a, T, S, A, P>) -> bool
-where
-    <T as StableDeref<&'a Bump<P>>>::Borrow: Eq + Hash,
-    ensures answered { result ≡ same_set T.Borrow.eq first.now second.now }
-    ensures blind_to_order { IsPermutation first.now second.now → IsTrue result }
-{
-    first == second
 }
 
 /// An insertion into a set, accepted or refused, keeps each earlier value at its place; the value has the returned place and

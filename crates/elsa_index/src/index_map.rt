@@ -2,7 +2,7 @@
 //!
 //! A new key goes last, and a present key keeps its place and its value. The layers above use the list of pairs that
 //! the contracts speak of, and `rebase`.
-ghost use Rattle.std.specs.Prelude.{◌≡◌, ◌++◌, ◌∷◌, ◌↔◌, [], ℕ, List, length, false, None, Ok, Some, slice_get, IfOk, IfSome, IsSome, IsSomeAnd, IsTrue, MatchOption, OnOk, OnErr, cond, is_some};
+ghost use Rattle.std.specs.Prelude.{◌≡◌, ◌++◌, ◌∷◌, ◌↔◌, [], ℕ, List, length, false, None, Ok, Some, slice_get, IfOk, IfSome, IsSome, IsSomeAnd, IsPermutation, IsTrue, MatchOption, OnOk, OnErr, cond, is_some};
 ghost use Rattle.std.specs.Borrow.{Bor, sem};
 ghost use Rattle.elsa_index.specs.Lent.{lends_pairs};
 ghost use Rattle.std.specs.Iterator.{Drains, IsFinite};
@@ -71,13 +71,12 @@ where
     }
 }
 
-impl<
-    'a,
+impl<'a, K, V, A, P: Allocator> FrozenIndexMap<'a, K, V, BuildHasherDefault<FoldHasher>, A, P>
+where
     K: Eq + Hash,
-    P: Allocator,
     V: StableDeref<&'a Bump<P>>,
     A: Allocator + Copy,
-> FrozenIndexMap<'a, K, V, BuildHasherDefault<FoldHasher>, A, P> {
+{
     /// An empty map that hashes as std's maps do by default. It takes no memory.
     pub fn new(alloc: A, arena: &'a Bump<P>) -> Self
         ensures { result ≡ [] }
@@ -86,14 +85,11 @@ impl<
     }
 }
 
-impl<
-    'a,
-    K: Eq + Hash,
-    P: Allocator,
+impl<'a, K: Eq + Hash, V, S: BuildHasher, A, P: Allocator> FrozenIndexMap<'a, K, V, S, A, P>
+where
     V: StableDeref<&'a Bump<P>>,
-    S: BuildHasher,
     A: Allocator + Copy,
-> FrozenIndexMap<'a, K, V, S, A, P> {
+{
     /// An empty map that hashes by `hash_builder`. It takes no memory.
     pub fn with_hasher(alloc: A, arena: &'a Bump<P>, hash_builder: S) -> Self
         ensures { result ≡ [] }
@@ -252,14 +248,11 @@ impl<
     }
 }
 
-impl<
-    'a,
-    K: Eq + Hash + Drop,
-    P: Allocator,
+impl<'a, K: Eq + Hash + Drop, V, S: BuildHasher, A, P: Allocator> FrozenIndexMap<'a, K, V, S, A, P>
+where
     V: StableDeref<&'a Bump<P>>,
-    S: BuildHasher,
     A: Allocator + Copy,
-> FrozenIndexMap<'a, K, V, S, A, P> {
+{
     /// Adds the pair last, unless the key is present, and returns its place, the value that the key now has and whether the
     /// key is new.
     ///
@@ -350,13 +343,11 @@ impl<
     }
 }
 
-impl<
-    'a,
-    P: Allocator,
+impl<'a, V, S: BuildHasher, A, P: Allocator> FrozenIndexMap<'a, &'a str, V, S, A, P>
+where
     V: StableDeref<&'a Bump<P>>,
-    S: BuildHasher,
     A: Allocator + Copy,
-> FrozenIndexMap<'a, &'a str, V, S, A, P> {
+{
     /// The value of the key that reads as `key` does, `None` exactly if there is none.
     ///
     /// It takes no memory. `O(1)`: one hash.
@@ -433,14 +424,11 @@ impl<
     }
 }
 
-impl<
-    'a,
-    B: Allocator,
-    P: Allocator,
+impl<'a, B: Allocator, V, S: BuildHasher, A, P: Allocator> FrozenIndexMap<'a, String<B>, V, S, A, P>
+where
     V: StableDeref<&'a Bump<P>>,
-    S: BuildHasher,
     A: Allocator + Copy,
-> FrozenIndexMap<'a, String<B>, V, S, A, P> {
+{
     /// The value of the key that reads as `key` does, `None` exactly if there is none: [`get`](FrozenIndexMap::get) without a
     /// `String`.
     ///
@@ -453,14 +441,12 @@ impl<
     }
 }
 
-impl<
-    'a,
-    K: Eq + Hash + Drop,
-    P: Allocator,
+impl<'a, K: Eq + Hash + Drop, V, S, A, P: Allocator> FrozenIndexMap<'a, K, V, S, A, P>
+where
     V: StableDeref<&'a Bump<P>>,
     S: BuildHasher + Drop,
     A: Allocator + Copy,
-> FrozenIndexMap<'a, K, V, S, A, P> {
+{
     // Gives a key a value, whether or not it is present.
     fn set(&mut self, key: K, value: V) -> Result<V::Borrow, AllocError>
         ensures placed { IfOk result (λ b. V.shown b ≡ V.target value) }
@@ -586,7 +572,11 @@ where
     fn eq(&self, other: &Self) -> bool
         ensures decides { result ≡ same_values K.eq V.Borrow.eq self.now other.now }
         ensures as_maps { IsTrue result ↔ IsEqualMap K.eq V.Borrow.eq self.now other.now }
+        ensures blind_to_order { ((b : V.Borrow) → IsTrue (V.Borrow.eq b b)) →
+            IsPermutation self.now other.now → IsTrue result }
     {
+        // No two keys are equal.
+        for_its_clause(other.is_empty());
         self.map == other.map
     }
 }

@@ -1,5 +1,5 @@
 //! A set whose values keep the order of their first insertions.
-ghost use Rattle.std.specs.Prelude.{◌≡◌, ◌++◌, ◌∷◌, ◌<◌, ◌↔◌, [], ℕ, List, length, None, Some, slice_get, position, find, IfOk, IfSome, OnOk, OnErr, IsTrue, is_some};
+ghost use Rattle.std.specs.Prelude.{◌≡◌, ◌++◌, ◌∷◌, ◌<◌, ◌↔◌, [], ℕ, List, length, None, Some, slice_get, position, find, IfOk, IfSome, OnOk, OnErr, IsPermutation, IsTrue, is_some};
 ghost use Rattle.std.specs.Borrow.{sem};
 ghost use Rattle.std.specs.Cmp.{partial_equiv_from_equiv};
 ghost use Rattle.std.specs.Iterator.{Drains, IsFinite};
@@ -67,14 +67,10 @@ where
     }
 }
 
-impl<'a, P: Allocator, T: StableDeref<&'a Bump<P>>, A: Allocator + Copy> FrozenIndexSet<
-    'a,
-    T,
-    BuildHasherDefault<FoldHasher>,
-    A,
-    P,
->
+impl<'a, T, A, P: Allocator> FrozenIndexSet<'a, T, BuildHasherDefault<FoldHasher>, A, P>
 where
+    T: StableDeref<&'a Bump<P>>,
+    A: Allocator + Copy,
     <T as StableDeref<&'a Bump<P>>>::Borrow: Eq + Hash,
 {
     /// An empty set that hashes as std's maps do by default. It takes no memory.
@@ -85,14 +81,9 @@ where
     }
 }
 
-impl<
-    'a,
-    P: Allocator,
-    T: StableDeref<&'a Bump<P>>,
-    S: BuildHasher,
-    A: Allocator + Copy,
-> FrozenIndexSet<'a, T, S, A, P>
+impl<'a, T, S: BuildHasher, A: Allocator + Copy, P: Allocator> FrozenIndexSet<'a, T, S, A, P>
 where
+    T: StableDeref<&'a Bump<P>>,
     <T as StableDeref<&'a Bump<P>>>::Borrow: Eq + Hash,
 {
     /// An empty set that hashes by `hash_builder`. It takes no memory.
@@ -253,14 +244,9 @@ where
     }
 }
 
-impl<
-    'a,
-    P: Allocator,
-    T: StableDeref<&'a Bump<P>> + LookUp<<T as StableDeref<&'a Bump<P>>>::Borrow>,
-    S: BuildHasher,
-    A: Allocator + Copy,
-> FrozenIndexSet<'a, T, S, A, P>
+impl<'a, T, S: BuildHasher, A: Allocator + Copy, P: Allocator> FrozenIndexSet<'a, T, S, A, P>
 where
+    T: StableDeref<&'a Bump<P>> + LookUp<<T as StableDeref<&'a Bump<P>>>::Borrow>,
     <T as StableDeref<&'a Bump<P>>>::Borrow: Eq + Hash,
 {
     /// Adds a value that is absent last, and returns its place and its borrow: the call for one that has looked.
@@ -426,6 +412,7 @@ where
     fn eq(&self, other: &Self) -> bool
         ensures decides { result ≡ same_set T.Borrow.eq self.now other.now }
         ensures as_sets { IsTrue result ↔ HaveSameValues T.Borrow.eq self.now other.now }
+        ensures blind_to_order { IsPermutation self.now other.now → IsTrue result }
     {
         self.set == other.set
     }

@@ -1,6 +1,5 @@
 //! What callers of `FrozenVec` may rely on beyond one call: each law is the contract of a function that only makes public calls.
-ghost use Rattle.std.specs.Prelude.{◌≡◌, ◌++◌, ◌∷◌, [], ◌⊎◌, Bool, List, IfOk, IfSome, IsTrue, None, OnErr, OnOk, Some, false, length, slice_get, true};
-ghost use lib.Pointwise.{pointwise};
+ghost use Rattle.std.specs.Prelude.{◌≡◌, ◌++◌, ◌∷◌, [], ◌⊎◌, Bool, List, IfOk, IfSome, None, OnErr, OnOk, Some, false, length, slice_get, true};
 ghost use Rattle.std.specs.Fn.{AlwaysReturns};
 ghost use Rattle.std.specs.Iterator.{Drains, IsFinite};
 ghost use Rattle.std.specs.List.Sorted.{IsBinarySearchResult, IsPartitionPoint, IsPartitionedBy};
@@ -71,51 +70,6 @@ pub fn pushed_apart<'a, P: Allocator, T: StableDeref<&'a Bump<P>>, A: Allocator 
     items.push(one)?;
     copy.push(other)?;
     Ok(copy)
-}
-
-// ---- equality
-
-/// Two vectors of one content are equal: so a vector equals itself.
-pub fn equal_where_the_same<'a, P: Allocator, T: StableDeref<&'a Bump<P>>, A: Allocator + Copy>(
-    one: &FrozenVec<'a, T, A, P>,
-    other: &FrozenVec<'a, T, A, P>,
-) -> bool
-where
-    <T as StableDeref<&'a Bump<P>>>::Borrow: Eq,
-    ensures answered { result ≡ pointwise T.Borrow.eq one.now other.now }
-    ensures equal { one.now ≡ other.now → IsTrue result }
-{
-    one == other
-}
-
-/// Which of two vectors comes first makes no difference.
-pub fn equal_both_ways<'a, P: Allocator, T: StableDeref<&'a Bump<P>>, A: Allocator + Copy>(
-    one: &FrozenVec<'a, T, A, P>,
-    other: &FrozenVec<'a, T, A, P>,
-) -> (bool, bool)
-where
-    <T as StableDeref<&'a Bump<P>>>::Borrow: PartialEq,
-    ensures answered { (result.0 ≡ pointwise T.Borrow.eq one.now other.now)
-        × (result.1 ≡ pointwise T.Borrow.eq other.now one.now) }
-    ensures same { result.0 ≡ result.1 }
-{
-    (one == other, other == one)
-}
-
-/// Two vectors that equal a third are equal.
-pub fn equal_through<'a, P: Allocator, T: StableDeref<&'a Bump<P>>, A: Allocator + Copy>(
-    one: &FrozenVec<'a, T, A, P>,
-    middle: &FrozenVec<'a, T, A, P>,
-    other: &FrozenVec<'a, T, A, P>,
-) -> (bool, bool, bool)
-where
-    <T as StableDeref<&'a Bump<P>>>::Borrow: PartialEq,
-    ensures one { result.0 ≡ pointwise T.Borrow.eq one.now middle.now }
-    ensures other { result.1 ≡ pointwise T.Borrow.eq middle.now other.now }
-    ensures both { result.2 ≡ pointwise T.Borrow.eq one.now other.now }
-    ensures through { IsTrue result.0 → IsTrue result.1 → IsTrue result.2 }
-{
-    (one == middle, middle == other, one == other)
 }
 
 // ---- walks

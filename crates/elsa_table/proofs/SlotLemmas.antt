@@ -1,8 +1,8 @@
 -- What a probe passes, and what a written slot leaves as it was.
-use Rattle.std.proofs.Common.{◌≡◌, ◌≢◌, ℕ, ◌+◌, ◌-◌, ◌%◌, ◌^◌, ◌<◌, ◌⊎◌, inl, inr, List, length, ap, subst, sym, ◌∙◌, arith}
+use Rattle.std.proofs.Common.{◌≡◌, ◌≢◌, ℕ, ◌+◌, ◌-◌, ◌%◌, ◌^◌, ◌<◌, inl, inr, List, length, ap, subst, sym, ◌∙◌, arith}
 use Rattle.std.proofs.Math.ListN.{set, length-set}
 use Rattle.std.proofs.lemmas.List.{get_or-set_same, get_or-set_other}
-use Rattle.std.proofs.lemmas.Bool.{cases_lt}
+use Rattle.std.proofs.lemmas.Bool.{cases_eq, cases_lt}
 use Rattle.std.proofs.lemmas.Nat.{and_le_r}
 use Rattle.elsa_table.specs.declared.slots.Slot.{Slot}
 use Rattle.elsa_table.specs.Slots.{vacant_slot, slot_of, slot_at, IsTaken, walk, probed, GoesOn, Reaches, IsFindable, EndsAt, Holds, Gains}
@@ -55,52 +55,28 @@ module _ (slots : List Slot) (slot : Slot) (i : ℕ) (ends : EndsAt slots slot.h
     goes_on = goes_on_stays hash way.step way.goes_on;
   }
 
-  findable_stays : IsFindable slots → IsFindable after
-  findable_stays findable j lt is_taken = elim (cases_lt j i) [
-    | inl lower ↦ other (omega arith)
-    | inr ge ↦ elim (cases_lt i j) [
-      | inl higher ↦ other (omega arith)
-      | inr le ↦
-          let e : i ≡ j = omega arith in
-          subst (λ n. Reaches after (slot_at after n).hash n) e
-          (subst (λ s. Reaches after s.hash i) (sym written) (reaches_stays slot.hash i ends.reached))
-    ]
+  pub findable_write : IsFindable slots → IsFindable after
+  findable_write findable j lt is_taken = elim (cases_eq j i) [
+    | inl same ↦ subst (λ n. Reaches after (slot_at after n).hash n) (sym same) (subst (λ s. Reaches after s.hash i) (sym written) (reaches_stays slot.hash i ends.reached))
+    | inr other ↦
+        let kept = elsewhere j other in
+        subst (λ s. Reaches after s.hash j) (sym kept)
+        (reaches_stays (slot_at slots j).hash j (findable j (subst (λ n. j < n) same_length lt) (subst IsTaken kept is_taken)))
   ]
-    where
-      other : j ≢ i → Reaches after (slot_at after j).hash j
-      other ne =
-          let same = elsewhere j ne in
-          subst (λ s. Reaches after s.hash j) (sym same)
-          (reaches_stays (slot_at slots j).hash j (findable j (subst (λ n. j < n) same_length lt) (subst IsTaken same is_taken)))
 
-  gains : Gains slots slot after
-  gains = record {
+  pub gains_write : Gains slots slot after
+  gains_write = record {
     kept = λ s is_taken h. record {
       at = h.at;
       within = subst (λ n. h.at < n) (sym same_length) h.within;
       there = taken_stays h.at (subst IsTaken (sym h.there) is_taken) ∙ h.there;
     };
     gained = record { at = i; within = subst (λ n. i < n) (sym same_length) ends.within; there = written };
-    only = only_one;
+    only = λ s is_taken h. elim (cases_eq h.at i) [
+      | inl same ↦ inr (sym h.there ∙ ap (slot_at after) same ∙ written)
+      | inr other ↦ inl (record { at = h.at; within = subst (λ n. h.at < n) same_length h.within; there = sym (elsewhere h.at other) ∙ h.there })
+    ];
   }
-    where
-      only_one : (s : Slot) → IsTaken s → Holds after s → Holds slots s ⊎ (s ≡ slot)
-      only_one s is_taken h = elim (cases_lt h.at i) [
-        | inl lower ↦ inl (old (omega arith))
-        | inr ge ↦ elim (cases_lt i h.at) [
-          | inl higher ↦ inl (old (omega arith))
-          | inr le ↦ let e : h.at ≡ i = omega arith in inr (sym h.there ∙ ap (slot_at after) e ∙ written)
-        ]
-      ]
-        where
-          old : h.at ≢ i → Holds slots s
-          old ne = record { at = h.at; within = subst (λ n. h.at < n) same_length h.within; there = sym (elsewhere h.at ne) ∙ h.there }
-
-pub findable_write : (slots : List Slot) (slot : Slot) (i : ℕ) → EndsAt slots slot.hash i → IsTaken slot → IsFindable slots → IsFindable (set slots i slot)
-findable_write slots slot i ends taken findable = findable_stays slots slot i ends taken findable
-
-pub gains_write : (slots : List Slot) (slot : Slot) (i : ℕ) → EndsAt slots slot.hash i → IsTaken slot → Gains slots slot (set slots i slot)
-gains_write slots slot i ends taken = gains slots slot i ends taken
 
 -- the slots that were entered so far, of those that are copied
 pub record Copied (slots : List Slot) (from : ℕ) (wider : List Slot) : Type 0 where

@@ -75,14 +75,11 @@ where
     }
 }
 
-impl<'a, K: Eq + Hash, P: Allocator, V: StableDeref<&'a Bump<P>>, A: Allocator + Copy> FrozenMap<
-    'a,
-    K,
-    V,
-    BuildHasherDefault<FoldHasher>,
-    A,
-    P,
-> {
+impl<'a, K: Eq + Hash, V, A, P: Allocator> FrozenMap<'a, K, V, BuildHasherDefault<FoldHasher>, A, P>
+where
+    V: StableDeref<&'a Bump<P>>,
+    A: Allocator + Copy,
+{
     /// An empty map with the default hasher, over `arena` for its values and `alloc` for its table.
     ///
     /// Takes no memory.
@@ -93,14 +90,11 @@ impl<'a, K: Eq + Hash, P: Allocator, V: StableDeref<&'a Bump<P>>, A: Allocator +
     }
 }
 
-impl<
-    'a,
-    K: Eq + Hash,
-    P: Allocator,
+impl<'a, K: Eq + Hash, V, S: BuildHasher, A, P: Allocator> FrozenMap<'a, K, V, S, A, P>
+where
     V: StableDeref<&'a Bump<P>>,
-    S: BuildHasher,
     A: Allocator + Copy,
-> FrozenMap<'a, K, V, S, A, P> {
+{
     /// An empty map that hashes its keys by `hash_builder`.
     ///
     /// Takes no memory.
@@ -235,14 +229,11 @@ impl<
     }
 }
 
-impl<
-    'a,
-    K: Eq + Hash + Drop,
-    P: Allocator,
+impl<'a, K: Eq + Hash + Drop, V, S: BuildHasher, A, P: Allocator> FrozenMap<'a, K, V, S, A, P>
+where
     V: StableDeref<&'a Bump<P>>,
-    S: BuildHasher,
     A: Allocator + Copy,
-> FrozenMap<'a, K, V, S, A, P> {
+{
     /// Gives `key` the value, unless the map has a key that equals it, and returns the value that the key now has and
     /// whether the key was new.
     ///
@@ -303,14 +294,10 @@ impl<
     }
 }
 
-impl<'a, P: Allocator, V: StableDeref<&'a Bump<P>>, S: BuildHasher, A: Allocator + Copy> FrozenMap<
-    'a,
-    &'a str,
-    V,
-    S,
-    A,
-    P,
-> {
+impl<'a, V, S: BuildHasher, A: Allocator + Copy, P: Allocator> FrozenMap<'a, &'a str, V, S, A, P>
+where
+    V: StableDeref<&'a Bump<P>>,
+{
     /// The value at the text `key`, or `None` exactly if no key of the map reads the same. Takes no memory; one hash and one search.
     pub fn get_text(&self, key: &str) -> Option<V::Borrow>
         ensures { result ≡ value_at ⟦<&'a str as PartialEq>⟧.eq self.now key.entry }
@@ -351,14 +338,11 @@ impl<'a, P: Allocator, V: StableDeref<&'a Bump<P>>, S: BuildHasher, A: Allocator
     }
 }
 
-impl<
-    'a,
-    B: Allocator,
-    P: Allocator,
+impl<'a, B: Allocator, V, S: BuildHasher, A, P: Allocator> FrozenMap<'a, String<B>, V, S, A, P>
+where
     V: StableDeref<&'a Bump<P>>,
-    S: BuildHasher,
     A: Allocator + Copy,
-> FrozenMap<'a, String<B>, V, S, A, P> {
+{
     /// The value at the text `key`, or `None` exactly if no key of the map reads the same: [`get`](FrozenMap::get) without a `String`.
     /// Takes no memory; one hash and one search.
     pub fn get_text(&self, key: &str) -> Option<V::Borrow>
@@ -369,14 +353,11 @@ impl<
     }
 }
 
-impl<
-    'a,
-    K: Eq + Hash + Drop,
-    P: Allocator,
+impl<'a, K: Eq + Hash + Drop, V, S, A: Allocator + Copy, P: Allocator> FrozenMap<'a, K, V, S, A, P>
+where
     V: StableDeref<&'a Bump<P>>,
     S: BuildHasher + Drop,
-    A: Allocator + Copy,
-> FrozenMap<'a, K, V, S, A, P> {
+{
     /// A map of the pairs in which, other than by insertions, the last value of a key wins.
     ///
     /// Each value is placed in the arena. The table makes room for as many entries as the iterator says will come at least (its

@@ -66,13 +66,10 @@ impl<'a, K: Ord + Drop, P: Allocator, V: StableDeref<&'a Bump<P>>, A: Allocator 
     }
 }
 
-impl<'a, K: Ord, P: Allocator, V: StableDeref<&'a Bump<P>>, A: Allocator + Copy> FrozenBTreeMap<
-    'a,
-    K,
-    V,
-    A,
-    P,
-> {
+impl<'a, K: Ord, V, A: Allocator + Copy, P: Allocator> FrozenBTreeMap<'a, K, V, A, P>
+where
+    V: StableDeref<&'a Bump<P>>,
+{
     /// An empty map, over `arena` for its values and `alloc` for its tree.
     ///
     /// Takes no memory.
@@ -229,13 +226,10 @@ impl<'a, K: Ord, P: Allocator, V: StableDeref<&'a Bump<P>>, A: Allocator + Copy>
     }
 }
 
-impl<
-    'a,
-    K: Ord + Drop,
-    P: Allocator,
+impl<'a, K: Ord + Drop, V, A: Allocator + Copy, P: Allocator> FrozenBTreeMap<'a, K, V, A, P>
+where
     V: StableDeref<&'a Bump<P>>,
-    A: Allocator + Copy,
-> FrozenBTreeMap<'a, K, V, A, P> {
+{
     /// Gives `key` the value, unless the map has a key that equals it, and returns the value that the key now has and
     /// whether the key was new.
     ///
@@ -417,13 +411,10 @@ fn copied<K: Ord + Clone + Drop, B: Copy, A: Allocator + Copy>(
     Ok(copy)
 }
 
-impl<'a, P: Allocator, V: StableDeref<&'a Bump<P>>, A: Allocator + Copy> FrozenBTreeMap<
-    'a,
-    &'a str,
-    V,
-    A,
-    P,
-> {
+impl<'a, V, A: Allocator + Copy, P: Allocator> FrozenBTreeMap<'a, &'a str, V, A, P>
+where
+    V: StableDeref<&'a Bump<P>>,
+{
     /// The value at the text `key`, or `None` exactly if no key of the map reads the same. Takes no memory; one search.
     pub fn get_text(&self, key: &str) -> Option<V::Borrow>
         ensures { result ≡ value_at (eq_by_cmp ⟦<&'a str as Ord>⟧.cmp) self.now key.entry }
@@ -464,13 +455,10 @@ impl<'a, P: Allocator, V: StableDeref<&'a Bump<P>>, A: Allocator + Copy> FrozenB
     }
 }
 
-impl<
-    'a,
-    B: Allocator,
-    P: Allocator,
+impl<'a, B: Allocator, V, A: Allocator + Copy, P: Allocator> FrozenBTreeMap<'a, String<B>, V, A, P>
+where
     V: StableDeref<&'a Bump<P>>,
-    A: Allocator + Copy,
-> FrozenBTreeMap<'a, String<B>, V, A, P> {
+{
     /// The value at the text `key`, or `None` exactly if no key of the map reads the same: [`get`](FrozenBTreeMap::get) without a
     /// `String`. Takes no memory; one search.
     pub fn get_text(&self, key: &str) -> Option<V::Borrow>

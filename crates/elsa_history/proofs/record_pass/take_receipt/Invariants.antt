@@ -1,5 +1,4 @@
-use Rattle.std.proofs.Common.{◌≡◌, take, vec_len}
-use Rattle.std.specs.List.{AllByRecursion}
+use Rattle.std.proofs.Common.{◌≡◌, All, take, vec_len}
 use Rattle.elsa_history.specs.Receipts.{EndsElsewhere}
 use Rattle.elsa_history.proofs.record_pass.take_receipt.Given as goal
 
@@ -8,4 +7,4 @@ abbrev pub invariant-loop-i : goal.invariant-loop-i
 invariant-loop-i g l =
     (l.passes.items ≡ l.fn.passes.items)
     × (l.i-end ≡ vec_len l.passes)
-    × AllByRecursion (λ p. EndsElsewhere l.place p.1) (take l.i l.passes.items)
+    × All (λ p. EndsElsewhere l.place p.1) (take l.i l.passes.items)
