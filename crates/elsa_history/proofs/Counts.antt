@@ -78,10 +78,13 @@ full_or_gap f (suc n) most = by (full_or_gap f n most)
     by (inr (less, i, low, none)) = inr (omega (arith, less, here), i, omega (arith, low), none)
     by (inl (full, each)) = elim (cases_lt (f n) 1) [
       | inl none ↦ inr (omega (arith, full, none), n, omega arith, omega (arith, none))
-      | inr one ↦ inl (omega (arith, full, one, here), λ i l. elim (cases_lt i n) [
-        | inl k ↦ each i k
-        | inr k ↦ let last : i ≡ n = omega (arith, k, l) in ap f last ∙ omega (arith, one, here)
-      ])
+      | inr one ↦ inl (
+        omega (arith, full, one, here),
+        λ i l. elim (cases_lt i n) [
+          | inl k ↦ each i k
+          | inr k ↦ let last : i ≡ n = omega (arith, k, l) in ap f last ∙ omega (arith, one, here)
+        ],
+      )
     ]
 
 -- passes without receipts have none
