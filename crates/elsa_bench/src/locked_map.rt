@@ -13,11 +13,23 @@ use std::{io, thread};
 /// How many keys there are.
 pub const KEYS: u64 = 65536;
 
-fn copies<R: Wait>(rt: &R, map: &FrozenMap<u64, u64>, thread: usize, calls: usize) -> u64 {
+/// The last key, which is one below a power of two.
+pub const LAST: u64 = 65535;
+
+/// The last of so few keys that the first-level cache has all that is read of them; it is one below a power of two too.
+pub const LAST_OF_FEW: u64 = 255;
+
+fn copies<R: Wait>(
+    rt: &R,
+    map: &FrozenMap<u64, u64>,
+    last: u64,
+    thread: usize,
+    calls: usize,
+) -> u64 {
     let mut draws = Draws::new(thread);
     let mut sum = 0u64;
     for call in 0..calls {
-        let key = draws.next() % KEYS;
+        let key = draws.next() & last;
         if call % 10 == 0 {
             if let Ok(value) = map.get_copy_or_insert(rt, key, key) {
                 sum = sum.wrapping_add(value);
@@ -45,10 +57,11 @@ fn owners<R: Wait>(rt: &R, map: &FrozenMap<u64, u64>, thread: usize, calls: usiz
     sum
 }
 
-/// The nanoseconds and the sum of the calls that copy values.
+/// The nanoseconds and the sum of the calls that copy values, at the keys up to `last`.
 pub fn timed_copies<R: Wait + Threads + Sync + Clock>(
     rt: &R,
     alloc: Global,
+    last: u64,
     threads: usize,
     count: usize,
 ) -> io::Result<(u128, u64)>
@@ -61,7 +74,7 @@ pub fn timed_copies<R: Wait + Threads + Sync + Clock>(
         rt,
         alloc,
         threads,
-        &|i| copies(rt, shared, i, count / threads),
+        &|i| copies(rt, shared, last, i, count / threads),
     )?;
     let nanos = start.elapsed(rt)?.as_nanos();
     Ok((

@@ -1,14 +1,14 @@
 //! Times the collections that threads share, for `bench/run`, which runs upstream's beside it.
 //!
 //! `elsa_bench FORM THREADS COUNT` prints the nanoseconds between the start of the threads and the end of the last one, and a sum of what
-//! was read, so that no read is left out. The forms are `copy` and `owner` (the locked map, COUNT calls in all, a tenth of them insertions),
-//! and of LockFreeFrozenVec `push` (COUNT pushes in all), `seen`, `plain` and `growing` (COUNT reads in all; `seen` and `plain`
-//! with `_in_order`, all three with `_beside` for a thread that pushes as long as they last), `walk` (ten walks over COUNT items) and
-//! `exchange` (COUNT times two exchanges of one word). `recorded` makes the calls of `copy` through a recorder. The collections of one thread
-//! (THREADS is not read): `vec_push`, `vec_get`, `vec_walk`, `vec_clone`, `vec_collect`; `map_insert`, `map_get`, `tree_insert`, `tree_get`,
-//! `index_map_insert`, `index_map_get`, `index_map_at`, and the same with `_text` before the call for texts as keys; `map_clone`, `map_collect`.
-//! Walks, clones and collections are made ten times. Interners: `names_zipf` and `names_distinct` put COUNT names in all into the one that threads
-//! share, `texts_..` by one thread short-lived texts into that one, and `alone_..` into the interner of one thread.
+//! was read, so that no read is left out. The forms are `copy` and `owner` (the locked map, COUNT calls in all, a tenth of them insertions, at
+//! 65,536 keys), `copy_few` (`copy` at 256 keys), and of LockFreeFrozenVec `push` (COUNT pushes in all), `seen`, `plain` and `growing` (COUNT
+//! reads in all; `seen` and `plain` with `_in_order`, all three with `_beside` for a thread that pushes as long as they last), `walk` (ten walks
+//! over COUNT items) and `exchange` (COUNT times two exchanges of one word). `recorded` makes the calls of `copy` through a recorder. The
+//! collections of one thread (THREADS is not read): `vec_push`, `vec_get`, `vec_walk`, `vec_clone`, `vec_collect`; `map_insert`, `map_get`,
+//! `tree_insert`, `tree_get`, `index_map_insert`, `index_map_get`, `index_map_at`, and the same with `_text` before the call for texts as keys;
+//! `map_clone`, `map_collect`. Walks, clones and collections are made ten times. Interners: `names_zipf` and `names_distinct` put COUNT names in
+//! all into the one that threads share, `texts_..` by one thread short-lived texts into that one, and `alone_..` into the interner of one thread.
 #![tactic(auto)]
 
 mod draws;
@@ -21,6 +21,7 @@ mod vector;
 mod whole_maps;
 
 use crate::items::ItemCall;
+use crate::locked_map::{LAST, LAST_OF_FEW};
 use crate::names::Words;
 use crate::tables::TableCall;
 use std::alloc::Global;
@@ -125,7 +126,10 @@ fn main(rt: HostRuntime) -> io::Result<ExitCode> {
         ("texts_distinct", None) => names::timed_texts(&rt, rt.alloc(), Words::Distinct, count)?,
         ("alone_zipf", None) => names::timed_alone(&rt, rt.alloc(), Words::Zipf, count)?,
         ("alone_distinct", None) => names::timed_alone(&rt, rt.alloc(), Words::Distinct, count)?,
-        ("copy", None) => locked_map::timed_copies(&rt, rt.alloc(), threads, count)?,
+        ("copy", None) => locked_map::timed_copies(&rt, rt.alloc(), LAST, threads, count)?,
+        ("copy_few", None) => {
+            locked_map::timed_copies(&rt, rt.alloc(), LAST_OF_FEW, threads, count)?
+        }
         ("owner", None) => locked_map::timed_owners(&rt, rt.alloc(), threads, count)?,
         ("recorded", None) => recorded::timed_recorded(&rt, rt.alloc(), threads, count)?,
         ("walk", None) => vector::timed_walks(&rt, rt.alloc(), count)?,

@@ -2,7 +2,7 @@
 //! hashbrown's map, each with the same hash as ours.
 //!
 //! usage: sync_map SIDE FORM THREADS CALLS. `copy` (values are copied out) and `owner` (values are behind an `Arc`) make CALLS calls in all, a tenth of
-//! them insertions; `recorded` makes those of `copy`, and keeps each with its reply twice: in a history under the lock, and in the thread's own list.
+//! them insertions, at 65,536 keys; `copy_few` is `copy` at 256 keys; `recorded` makes those of `copy`, and keeps each with its reply twice: in a history under the lock, and in the thread's own list.
 //! It prints the nanoseconds between the start of the threads and the end of the last one, and a sum of what was read.
 use dashmap::DashMap;
 use elsa::sync::FrozenMap;
@@ -10,7 +10,9 @@ use hashbrown::HashMap;
 use peers::{timed, words_of, Draws, Fold};
 use std::sync::Arc;
 
+// Powers of two.
 const KEYS: u64 = 65536;
+const FEW_KEYS: u64 = 256;
 
 /// A map that threads share, whose first value of a key stays.
 trait Shared<V>: Sync {
@@ -64,11 +66,11 @@ impl<V: Clone + Send + Sync> Shared<V> for std::sync::RwLock<HashMap<u64, V, Fol
     }
 }
 
-fn copies(map: &impl Shared<u64>, thread: usize, calls: usize) -> u64 {
+fn copies(map: &impl Shared<u64>, keys: u64, thread: usize, calls: usize) -> u64 {
     let mut draws = Draws(thread as u64 + 1);
     let mut sum = 0u64;
     for call in 0..calls {
-        let key = draws.next() % KEYS;
+        let key = draws.next() & (keys - 1);
         if call % 10 == 0 {
             sum = sum.wrapping_add(map.put(key, key));
         } else if let Some(value) = map.get(key) {
@@ -156,22 +158,23 @@ fn main() {
     let side = words.next().expect("a side");
     let (form, threads, calls) = words_of(words);
     let each = calls / threads;
-    let (nanos, sum) = match (form.as_str(), side.as_str()) {
+    let (form, keys) = if form == "copy_few" { ("copy", FEW_KEYS) } else { (form.as_str(), KEYS) };
+    let (nanos, sum) = match (form, side.as_str()) {
         ("copy", "upstream") => {
             let map = FrozenMap::<u64, u64>::new();
-            timed(threads, |thread| copies(&map, thread, each))
+            timed(threads, |thread| copies(&map, keys, thread, each))
         }
         ("copy", "dashmap") => {
             let map = DashMap::<u64, u64, Fold>::default();
-            timed(threads, |thread| copies(&map, thread, each))
+            timed(threads, |thread| copies(&map, keys, thread, each))
         }
         ("copy", "parking_lot") => {
             let map = parking_lot::RwLock::<HashMap<u64, u64, Fold>>::default();
-            timed(threads, |thread| copies(&map, thread, each))
+            timed(threads, |thread| copies(&map, keys, thread, each))
         }
         ("copy", "std") => {
             let map = std::sync::RwLock::<HashMap<u64, u64, Fold>>::default();
-            timed(threads, |thread| copies(&map, thread, each))
+            timed(threads, |thread| copies(&map, keys, thread, each))
         }
         ("owner", "upstream") => {
             let map = FrozenMap::new();
