@@ -37,13 +37,14 @@ pub type Pushed<T, A, K, X> = (SeenHistory<T, A, K>, Author, usize, Result<X, Al
 
 /// The slots, the word, and what is known of every history of it: that it begins.
 ///
-/// The word has cache lines of its own: a pusher changes it all the time, and a read of what was seen needs the slots alone.
+/// The word has cache lines of its own: a pusher changes it all the time, and each read needs the slots. A processor that fetches lines
+/// in pairs takes both of a pair from the readers, so the word is padded twice: 128 bytes lie between it and anything else.
 #[derive(Drop)]
 pub struct AtomicList<T, A: Allocator, K: ItemRule<T>> {
     slots: Slots<T, A>,
-    word: CachePadded<Word<Event<T>, Log<T>, OneWord<Buffer<T, A>, K>>>,
+    word: CachePadded<CachePadded<Word<Event<T>, Log<T>, OneWord<Buffer<T, A>, K>>>>,
     pub(crate) first: SeenHistory<T, A, K>,
-    ghost word_is: { padded_value word ≡ word_in first.book },
+    ghost word_is: { padded_value (padded_value word) ≡ word_in first.book },
     ghost buffer_slots_are: { buffer_slots_of first.names ≡ slots },
     ghost all: { length slots ≡ 31 },
     ghost empty: { first.log ≡ [] },

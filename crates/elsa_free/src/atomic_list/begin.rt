@@ -75,7 +75,7 @@ impl<T: Copy + Drop, A: Allocator + Copy, K: ItemRule<T>> AtomicList<T, A, K> {
         let (first, mut one, _two) = Seen::open(start, 1, 0);
         let list = AtomicList {
             slots,
-            word: CachePadded::new(Word::tracked(1, &mut one)),
+            word: CachePadded::new(CachePadded::new(Word::tracked(1, &mut one))),
             first,
         };
         let seen = list.publish_copies(held, prefix, ahead, n);

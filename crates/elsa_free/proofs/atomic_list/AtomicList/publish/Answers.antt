@@ -29,7 +29,7 @@ offer_publish-offer-requires g c =
     )
 
 pub compare_exchange-requires : goal.compare_exchange-requires
-compare_exchange-requires g c = let h = c.deref.ensures ∙ c.args.self.now.word_is in let offer = c.offer_publish-offer.ensures in let pen = c.no_pen-pen.ensures in
+compare_exchange-requires g c = let h = c.deref-2.ensures ∙ (ap (λ w. w.value) c.deref.ensures ∙ c.args.self.now.word_is) in let offer = c.offer_publish-offer.ensures in let pen = c.no_pen-pen.ensures in
     let v = c.args.seen.log in let n = c.args.n in let x : Entry g.row.T.Denot = entry (suc c.args.author.name) c.write-written.result.value in
     let low : length (list_of (v ++ Published x ∷ [])) < 2 ^ 62 = let l = ap length (published_list v (v ++ Published x ∷ []) x refl) in let a = length-append (list_of v) (x ∷ []) in let r = c.requires.n.0 in let s = c.requires.n.1 in omega (arith, l, a, r, s) in
     let new : EachIsNew g.K.ItemRule.is_new (items_of (list_of v)) → EachIsNew g.K.ItemRule.is_new (items_of (list_of v ++ x ∷ [])) = λ all.

@@ -15,7 +15,7 @@ use Rattle.elsa_free.proofs.RuleLemmas.Steps.{word_snoc}
 use Rattle.elsa_free.proofs.atomic_list.AtomicList.publish_by.Goals as goal
 
 pub compare_exchange-requires : goal.compare_exchange-requires
-compare_exchange-requires g c = let h = c.deref.ensures ∙ c.args.self.now.word_is in let pen = c.no_pen-pen.ensures in let n = c.args.n in
+compare_exchange-requires g c = let h = c.deref-2.ensures ∙ (ap (λ w. w.value) c.deref.ensures ∙ c.args.self.now.word_is) in let pen = c.no_pen-pen.ensures in let n = c.args.n in
     let none : List (Event g.row.T.Denot) = [] in let xs : List g.row.T.Denot = c.requires.ask.0 in let e : Event g.row.T.Denot = Cloned xs in let len = copied_length xs in let app = length-append (copied xs) [] in let many = c.requires.ask.2 in let few = c.requires.ask.3 in
     let low : length (list_of (none ++ e ∷ [])) < 2 ^ 62 = omega (arith, len, app, many, few) in
     let will : 2 * n ≡ word_of (none ++ e ∷ []) = let s = word_snoc g.row.T.Denot none e refl in omega (arith, s, len, many) in (

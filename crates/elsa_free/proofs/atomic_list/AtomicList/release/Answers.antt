@@ -10,7 +10,7 @@ use Rattle.elsa_free.proofs.RuleLemmas.HoldEnd.{exchange_was_at_known_history, r
 use Rattle.elsa_free.proofs.atomic_list.AtomicList.release.Goals as goal
 
 pub compare_exchange-requires : goal.compare_exchange-requires
-compare_exchange-requires g c = let h = c.deref.ensures ∙ c.args.self.now.word_is in let offer = c.offer_release-offer.ensures in let pen = c.no_pen-pen.ensures in
+compare_exchange-requires g c = let h = c.deref-2.ensures ∙ (ap (λ w. w.value) c.deref.ensures ∙ c.args.self.now.word_is) in let offer = c.offer_release-offer.ensures in let pen = c.no_pen-pen.ensures in
     let v = c.args.seen.log in let n = c.args.n in
     let low : length (list_of (v ++ Released ∷ [])) < 2 ^ 62 = let l = ap length (released_list v (v ++ Released ∷ []) refl) in let r = c.requires.n.0 in let s = c.requires.n.1 in omega (arith, l, r, s) in (
       ap (λ w. w.tracked) h,
