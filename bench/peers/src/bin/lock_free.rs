@@ -1,7 +1,6 @@
 //! Concurrent vectors: upstream's (`upstream`), std's and `parking_lot`'s lock round a `Vec` (`std`, `parking_lot`), and `slots`: buckets of slots that
 //! say one by one whether they are written, as the crate boxcar has them, which Debian doesn't package. `slots` promises less: a place may be empty
-//! while a later one is written, and it knows no length. Two more tell what our steps cost apart from how they are compiled: `one_word` takes those
-//! steps, written in Rust, and `two_words` has the lock in a word of its own.
+//! while a later one is written, and it knows no length.
 //!
 //! usage: lock_free SIDE FORM THREADS COUNT. `push` (COUNT pushes in all), and COUNT reads in
 //! all: `seen` and `plain` (both by `get`: none of these has another way), with `_in_order` for places one after the other, and with `_beside` for a
@@ -157,108 +156,6 @@ impl Drop for Slots {
     }
 }
 
-/// Cache lines that nothing else is in.
-#[repr(align(128))]
-struct Lines<T>(T);
-
-const BUFFERS: usize = 31;
-
-/// Buffers, each four times as long as the one before, and a word that is twice the length, and one more while a thread holds it: a push exchanges it
-/// twice, as ours does. Where the lock is `APART`, a push exchanges that word twice and stores the length in between.
-struct Words<const APART: bool> {
-    buffers: Box<[AtomicPtr<u64>; BUFFERS]>,
-    word: Lines<AtomicUsize>,
-    lock: Lines<AtomicUsize>,
-}
-
-impl<const APART: bool> Words<APART> {
-    fn new() -> Self {
-        let buffers = Box::new([const { AtomicPtr::new(std::ptr::null_mut()) }; BUFFERS]);
-        Words { buffers, word: Lines(AtomicUsize::new(0)), lock: Lines(AtomicUsize::new(0)) }
-    }
-
-    /// The buffer of a place, and where in it the place is.
-    #[inline(always)]
-    fn locate(place: usize) -> (usize, usize) {
-        let buffer = ((place + 1).ilog2() / 2) as usize;
-        (buffer, place + 1 - (1 << (2 * buffer)))
-    }
-
-    fn layout(buffer: usize) -> std::alloc::Layout {
-        std::alloc::Layout::array::<u64>(3 << (2 * buffer)).unwrap()
-    }
-
-    #[cold]
-    #[inline(never)]
-    fn make(&self, buffer: usize) -> *mut u64 {
-        // Safe: the layout has bytes.
-        let made = unsafe { std::alloc::alloc(Self::layout(buffer)) }.cast::<u64>();
-        assert!(!made.is_null(), "no memory");
-        self.buffers[buffer].store(made, Ordering::Release);
-        made
-    }
-
-    /// The length, once this thread alone may push.
-    #[inline(always)]
-    fn acquire(&self) -> usize {
-        let word = if APART { &self.lock.0 } else { &self.word.0 };
-        let mut free = word.load(Ordering::SeqCst) & !1;
-        while let Err(now) = word.compare_exchange(free, free + 1, Ordering::SeqCst, Ordering::SeqCst) {
-            std::hint::spin_loop();
-            free = now & !1;
-        }
-        if APART { self.word.0.load(Ordering::SeqCst) / 2 } else { free / 2 }
-    }
-
-    #[inline(always)]
-    fn publish(&self, length: usize) {
-        if APART {
-            self.word.0.store(2 * length + 2, Ordering::Release);
-            let _ = self.lock.0.compare_exchange(1, 0, Ordering::SeqCst, Ordering::SeqCst);
-        } else {
-            let _ = self.word.0.compare_exchange(2 * length + 1, 2 * length + 2, Ordering::SeqCst, Ordering::SeqCst);
-        }
-    }
-}
-
-impl<const APART: bool> Shared for Words<APART> {
-    #[inline(always)]
-    fn push(&self, item: u64) -> usize {
-        let length = self.acquire();
-        let (buffer, at) = Self::locate(length);
-        let mut items = self.buffers[buffer].load(Ordering::SeqCst);
-        if items.is_null() {
-            items = self.make(buffer);
-        }
-        // Safe: this thread alone may push, and the place is in the buffer.
-        unsafe { *items.add(at) = item };
-        self.publish(length);
-        length
-    }
-
-    #[inline(always)]
-    fn get(&self, place: usize) -> Option<u64> {
-        if place >= self.word.0.load(Ordering::SeqCst) / 2 {
-            return None;
-        }
-        let (buffer, at) = Self::locate(place);
-        // Safe: the place is below a length that was published after it was written.
-        Some(unsafe { *self.buffers[buffer].load(Ordering::SeqCst).add(at) })
-    }
-}
-
-impl<const APART: bool> Drop for Words<APART> {
-    fn drop(&mut self) {
-        for buffer in 0..BUFFERS {
-            let items = *self.buffers[buffer].get_mut();
-            if !items.is_null() {
-                // Safe: it was allocated with this layout.
-                unsafe { std::alloc::dealloc(items.cast(), Self::layout(buffer)) };
-            }
-        }
-    }
-}
-
 fn push(vector: &impl Shared, count: usize) -> u64 {
     let mut sum = 0u64;
     for item in 0..count as u64 {
@@ -379,8 +276,6 @@ fn main() {
         (_, "std") => run(&std::sync::RwLock::new(Vec::new()), &form, threads, count),
         (_, "parking_lot") => run(&parking_lot::RwLock::new(Vec::new()), &form, threads, count),
         (_, "slots") => run(&Slots::new(), &form, threads, count),
-        (_, "one_word") => run(&Words::<false>::new(), &form, threads, count),
-        (_, "two_words") => run(&Words::<true>::new(), &form, threads, count),
         _ => panic!("a side as at the head of this file"),
     };
     println!("{nanos} {sum}");

@@ -2,7 +2,8 @@
 //! hashbrown's map, each with the same hash as ours.
 //!
 //! usage: sync_map SIDE FORM THREADS CALLS. `copy` (values are copied out) and `owner` (values are behind an `Arc`) make CALLS calls in all, a tenth of
-//! them insertions, at 65,536 keys; `copy_few` is `copy` at 256 keys; `recorded` makes those of `copy`, and keeps each with its reply twice: in a history under the lock, and in the thread's own list.
+//! them insertions, at 65,536 keys; `copy_few` is `copy` at 256 keys; `recorded` makes those of `copy`, and keeps each with its reply twice: in a
+//! history under the lock, and in the thread's own list.
 //! It prints the nanoseconds between the start of the threads and the end of the last one, and a sum of what was read.
 use dashmap::DashMap;
 use elsa::sync::FrozenMap;
