@@ -16,7 +16,7 @@ mod record_pass;
 mod recorder;
 mod vec_core;
 
-use elsa_model::Call;
+pub use elsa_model::Call;
 pub use history_state::History;
 pub use map_core::{MapCommand, MapReply};
 pub use record_pass::RecordPass;
