@@ -8,4 +8,6 @@ mod caller_tests;
 #[cfg(test)]
 mod kept;
 #[cfg(test)]
+mod labels;
+#[cfg(test)]
 mod replayed;
