@@ -4,6 +4,13 @@ import importlib.machinery, importlib.util, os, pathlib, re, subprocess, sys
 root = pathlib.Path(__file__).resolve().parent.parent
 
 
+def tell_help(page):
+    """Prints a tool's page and ends it, where it is called with -h or --help."""
+    if {"-h", "--help"} & set(sys.argv[1:]):
+        print(page.strip())
+        sys.exit(0)
+
+
 def lines():
     """The line of crates.txt of each crate, by its name, in the file's order."""
     found = {}
