@@ -109,7 +109,7 @@ fn an_extended_vector_has_its_items_and_then_the_iterator_s(rt: HostRuntime) -> 
     names.push("first")?;
     names.extend(["second", "third"])?;
     assert!(rt; names.len() == 3 && names.get(0) == Some("first") && names.get(2) == Some("third"));
-    assert!(rt; names.contains(&"second") && !names.contains(&"fourth"));
+    assert!(rt; names.contains("second") && !names.contains("fourth"));
     Ok(())
 }
 
