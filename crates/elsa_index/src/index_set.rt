@@ -1,5 +1,5 @@
 //! A set whose values keep the order of their first insertions.
-ghost use Rattle.std.specs.Prelude.{◌≡◌, ◌++◌, ◌∷◌, ◌<◌, ◌↔◌, [], ℕ, List, length, None, Some, slice_get, position, find, IfOk, IfSome, OnOk, OnErr, IsPermutation, IsTrue, is_some};
+ghost use Rattle.std.specs.Prelude.{◌≡◌, ◌++◌, ◌∷◌, ◌<◌, ◌↔◌, [], ℕ, List, length, None, Ok, Some, false, slice_get, position, find, IfOk, IfSome, OnOk, OnErr, IsPermutation, IsTrue, is_some};
 ghost use Rattle.std.specs.Borrow.{sem};
 ghost use Rattle.std.specs.Cmp.{partial_equiv_from_equiv};
 ghost use Rattle.std.specs.Iterator.{Drains, IsFinite};
@@ -278,8 +278,11 @@ where
     /// given one is dropped, no memory is taken and nothing changes. Otherwise the value is placed in the arena and goes
     /// last, by one more hash. `AllocError` comes only for an absent value and leaves the set as it was; the arena may
     /// keep a copy that nobody sees.
-    #[tactic(auto, using(crate::proofs::Content::found_within))]
+    #[tactic(auto, using(crate::proofs::Content::found_at, crate::proofs::Content::found_nowhere, crate::proofs::Content::found_within))]
     pub fn insert_full_new(&mut self, value: T) -> Result<(usize, T::Borrow, bool), AllocError>
+        ensures present { (x : T.Borrow) → find (T.finds value) self.old ≡ Some x →
+            (i : ℕ) × (position (T.finds value) self.old ≡ Some i) × (result ≡ Ok (i, x, false))
+            × (self.new ≡ self.old) }
         ensures accepted { IfOk result (λ r.
             SetInsertedNew T.target T.shown T.finds self.old value r.0 r.1 r.2 self.new) }
         ensures refused { OnErr result (self.new ≡ self.old) }
@@ -301,6 +304,9 @@ where
     ///
     /// Costs and the refusal are those of `insert_full_new`.
     pub fn insert_full(&mut self, value: T) -> Result<(usize, T::Borrow), AllocError>
+        ensures present { (x : T.Borrow) → find (T.finds value) self.old ≡ Some x →
+            (i : ℕ) × (position (T.finds value) self.old ≡ Some i) × (result ≡ Ok (i, x))
+            × (self.new ≡ self.old) }
         ensures accepted { IfOk result (λ r.
             SetInserted T.target T.shown T.finds self.old value r.0 r.1 self.new) }
         ensures refused { OnErr result (self.new ≡ self.old) }
@@ -318,6 +324,8 @@ where
     /// Costs and the refusal are those of `insert_full_new`.
     #[tactic(auto, using(crate::proofs::Content::found_at))]
     pub fn insert_new(&mut self, value: T) -> Result<(T::Borrow, bool), AllocError>
+        ensures present { (x : T.Borrow) → find (T.finds value) self.old ≡ Some x →
+            (result ≡ Ok (x, false)) × (self.new ≡ self.old) }
         ensures accepted { IfOk result (λ r.
             (i : ℕ) × SetInsertedNew T.target T.shown T.finds self.old value i r.0 r.1 self.new) }
         ensures refused { OnErr result (self.new ≡ self.old) }
@@ -333,6 +341,8 @@ where
     /// Costs and the refusal are those of `insert_full_new`.
     #[tactic(auto, using(crate::proofs::Content::found_at))]
     pub fn insert(&mut self, value: T) -> Result<T::Borrow, AllocError>
+        ensures present { (x : T.Borrow) → find (T.finds value) self.old ≡ Some x →
+            (result ≡ Ok x) × (self.new ≡ self.old) }
         ensures accepted { IfOk result (λ b.
             (i : ℕ) × SetInserted T.target T.shown T.finds self.old value i b self.new) }
         ensures refused { OnErr result (self.new ≡ self.old) }

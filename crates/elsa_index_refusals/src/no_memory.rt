@@ -149,7 +149,7 @@ fn is_searched<A: Allocator + Copy + Drop>(
             let Some(target) = items.last() else {
                 return false;
             };
-            items.binary_search(&target) == Ok(last)
+            items.binary_search(target) == Ok(last)
         }
         10 => items.binary_search_by(|item| item.cmp(&last)) == Ok(last),
         11 => items.binary_search_by_key(&last, |item| *item) == Ok(last),

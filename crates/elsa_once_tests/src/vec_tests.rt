@@ -1,5 +1,6 @@
 //! What no clause says of the vector: worked rows, upstream's cases, and the places at which a search asks.
-ghost use Rattle.std.specs.Prelude.{◌≡◌, ◌<◌, IfOk, false, length, ltb, true};
+ghost use Rattle.std.specs.Prelude.{◌≡◌, ◌<◌, ℕ, IfOk, Some, false, length, ltb, slice_get, true};
+ghost use denote.Ref.{Bor};
 ghost use Rattle.std.specs.List.Sorted.{IsBinarySearchResult, IsPartitionPoint, IsPartitionedBy};
 ghost use Rattle.std.specs.Ordering.{nat_cmp};
 
@@ -188,7 +189,7 @@ fn a_cursor_amid_pushes(rt: HostRuntime) -> Result<(), Fail> {
 // Whether each text is found as it stands beside it.
 fn finds<'a>(texts: &Texts<'a>, rows: &[(&'a str, Result<usize, usize>)]) -> bool {
     for row in rows {
-        if texts.binary_search(&row.0) != row.1 {
+        if texts.binary_search(row.0) != row.1 {
             return false;
         }
     }
@@ -202,6 +203,33 @@ fn of_length(texts: &Texts<'_>, wanted: usize) -> Result<usize, usize>
     ensures within { IfOk result (λ place. place < length texts.now) }
 {
     texts.binary_search_by_key(&wanted, |text| text.len())
+}
+
+// The place of a number whose double is wanted, by a closure that takes numbers below 100 alone.
+fn of_half(items: &FrozenVec<'_, Own<u8>>, wanted: u8) -> Result<usize, usize>
+    requires { (place : ℕ) (item : Bor ℕ) → slice_get items.now place ≡ Some item → item.now < 100 }
+    ensures { IfOk result (λ place. place < length items.now) }
+{
+    items.binary_search_by(|item|
+        requires { item.now < 100 }
+    {
+        (*item + *item).cmp(&wanted)
+    })
+}
+
+// A search of one number, and the whole vector.
+fn half_of_one(alloc: Global) -> Result<bool, AllocError> {
+    let arena = Bump::new(alloc);
+    let mut items: FrozenVec<'_, Own<u8>> = FrozenVec::new(alloc, &arena);
+    items.push(Own(21))?;
+    let found = of_half(&items, 42) == Ok(0) && of_half(&items, 43) == Err(1);
+    Ok(found && items.as_slice() == [&21])
+}
+
+#[test]
+fn a_search_by_a_closure_that_takes_the_items_alone(rt: HostRuntime) -> Result<(), Fail> {
+    assert!(rt; half_of_one(rt.alloc())?);
+    Ok(())
 }
 
 // Whether each length is found as it stands beside it.
@@ -368,6 +396,6 @@ fn searches_of_unsorted_numbers(rt: HostRuntime) -> Result<(), Fail> {
     for number in [3, 1, 2] {
         items.push(Own(number))?;
     }
-    assert!(rt; [items.binary_search(&&1), items.binary_search(&&3)] == [Ok(1), Err(3)]);
+    assert!(rt; [items.binary_search(&1), items.binary_search(&3)] == [Ok(1), Err(3)]);
     Ok(())
 }

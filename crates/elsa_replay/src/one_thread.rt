@@ -86,7 +86,7 @@ fn searched(
     words: &Words<'_>,
 ) -> Result<String, AllocError> {
     match words.call {
-        "search" => found(alloc, form.binary_search(&words.first)),
+        "search" => found(alloc, form.binary_search(words.first)),
         "search_length" => found(
             alloc,
             form.binary_search_by_key(&words.place(), |text| text.len()),

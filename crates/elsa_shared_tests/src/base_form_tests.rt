@@ -25,7 +25,7 @@ fn made_again<'a>(
 /// Whether a vector of "b" and "d" is searched by an item and indexed.
 fn is_found<'a>(texts: &FrozenVec<'a, &'a str>) -> bool {
     let held = texts.len() == 2 && texts[1] == "d" && texts.get_unchecked(0) == "b";
-    held && texts.binary_search(&"d") == Ok(1)
+    held && texts.binary_search("d") == Ok(1)
 }
 
 /// Whether a vector is emptied through its inner one.

@@ -12,7 +12,7 @@ fn is_extended(alloc: Global) -> Result<bool, AllocError> {
     let mut numbers: FrozenVec<'_, Own<u64>> = FrozenVec::new(alloc, &arena);
     numbers.push(Own(7))?;
     numbers.extend([Own(8), Own(9)].into_iter())?;
-    Ok(numbers.get_copy(2) == Some(9) && numbers.contains(&&8) && !numbers.contains(&&6))
+    Ok(numbers.get_copy(2) == Some(9) && numbers.contains(&8) && !numbers.contains(&6))
 }
 
 #[test]

@@ -120,8 +120,6 @@ where
 
     /// What `f` returns for the value of `key`. It is called once if the key is present, and never if it is absent.
     pub fn map_get<R, F: FnOnce(V::Borrow) -> R>(&self, key: &K, f: F) -> Option<R>
-    where
-        F: Drop,
         requires callable { ForSome (value_at (eq_by_cmp K.cmp) self.now key.now) (F.pre f) }
         ensures { MatchOption (value_at (eq_by_cmp K.cmp) self.now key.now) (result ≡ None) (
             λ value. IsSomeAnd result (F.post f value)) }

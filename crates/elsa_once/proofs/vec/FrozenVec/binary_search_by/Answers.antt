@@ -1,6 +1,9 @@
 use Rattle.elsa_once.proofs.Bracketed.{said_by_item, splits, splits_list, within_list}
 use Rattle.elsa_once.proofs.vec.FrozenVec.binary_search_by.Goals as goal
 
+pub binary_search_by-requires : goal.binary_search_by-requires
+binary_search_by-requires g c = rw c.as_slice.ensures c.requires.at_items
+
 pub returns-clause-bracket : goal.returns-clause-bracket
 returns-clause-bracket g c = rw c.as_slice.ensures at c.binary_search_by.ensures.0
 

@@ -1,6 +1,9 @@
 use Rattle.elsa_once.proofs.Bracketed.{said_by_item, splits, splits_list, within_list}
 use Rattle.elsa_once.proofs.vec.FrozenVec.binary_search_by_key.Goals as goal
 
+pub binary_search_by_key-requires : goal.binary_search_by_key-requires
+binary_search_by_key-requires g c = rw c.as_slice.ensures c.requires.at_items
+
 pub returns-clause-bracket : goal.returns-clause-bracket
 returns-clause-bracket g c = rw c.as_slice.ensures at c.binary_search_by_key.ensures.0
 

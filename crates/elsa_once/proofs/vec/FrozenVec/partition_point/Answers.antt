@@ -1,6 +1,9 @@
 use Rattle.elsa_once.proofs.Bracketed.{parts, parts_list, said_by_item}
 use Rattle.elsa_once.proofs.vec.FrozenVec.partition_point.Goals as goal
 
+pub partition_point-requires : goal.partition_point-requires
+partition_point-requires g c = rw c.as_slice.ensures c.requires.at_items
+
 pub returns-clause-bracket : goal.returns-clause-bracket
 returns-clause-bracket g c = rw c.as_slice.ensures at c.partition_point.ensures.0
 
