@@ -80,6 +80,21 @@ fn readers_and_clones_beside_a_push_see_the_list_before_it(
             ],
         },
         Row {
+            name: "a push between a reader's look and its read",
+            plans: &[PlanRow::Pusher(&[7, 9]), PlanRow::Reader(&[0, 1])],
+            turns: &[0, 0, 0, 0, 0, 1, 0, 0, 0, 0, 1, 1, 1],
+            refused: 99,
+            opened: 1,
+            items: &[7, 9],
+            events: &[append(0, 7), look(1, 1), append(0, 9), look(1, 2)],
+            answers: &[
+                AnswerRow::Pushed(0, 0),
+                AnswerRow::Pushed(0, 1),
+                AnswerRow::Read(1, 0, Some(7)),
+                AnswerRow::Read(1, 1, Some(9)),
+            ],
+        },
+        Row {
             name: "a hold of three turns, amid another thread's",
             plans: &[PlanRow::Pusher(&[7]), PlanRow::Cloner],
             turns: &[0, 0, 1, 0, 1, 0, 1, 0],

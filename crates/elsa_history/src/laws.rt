@@ -4,7 +4,7 @@ ghost use Rattle.std.specs.Prelude.{◌≡◌, ◌∷◌, ◌⊎◌, ℕ, [], Li
 ghost use Rattle.elsa_history.specs.Receipts.{AreReceipts};
 ghost use Rattle.elsa_model.specs.Replay.{Replays};
 
-use crate::{CloseFault, Core, History, Recorder};
+use crate::{CloseFault, Core, History, ReceiptsFault, Recorder};
 use std::alloc::{AllocError, Allocator};
 use std::sync::Wait;
 
@@ -28,7 +28,8 @@ pub fn recorded_alone<C: Core + Drop, A: Allocator + Copy, R: Wait>(
     ensures fault { IfOk result (λ closed.
         IfErr closed (λ f.
         (h : C × List (ℕ × C.Command × C.Reply))
-        × ((f ≡ CloseFault.MissingPass h) ⊎ (f ≡ CloseFault.ForeignPass h))
+        × ((f ≡ CloseFault.Receipts ReceiptsFault.MissingPass h)
+        ⊎ (f ≡ CloseFault.Receipts ReceiptsFault.ForeignPass h))
         × Replays C.Command.steps C.Command.opening h.1 (C.Command.state h.0))) }
 {
     let recorder = Recorder::new(alloc, core);

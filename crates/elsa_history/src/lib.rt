@@ -20,7 +20,7 @@ pub use elsa_model::Call;
 pub use history_state::History;
 pub use map_core::{MapCommand, MapReply};
 pub use record_pass::RecordPass;
-pub use recorder::{CloseFault, Recorder};
+pub use recorder::{CloseFault, ReceiptsFault, Recorder};
 pub use vec_core::{VecCommand, VecReply};
 
 /// A sequential object whose calls a recorder writes down.

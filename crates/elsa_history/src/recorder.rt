@@ -8,14 +8,21 @@ use crate::{Core, History, RecordPass};
 use std::alloc::{AllocError, Allocator, Global};
 use std::sync::{RwLock, Wait};
 
-/// Why a recorder couldn't be closed with the passes that were given. The history that it hands out is legal all the same.
-#[derive(Drop)]
-pub enum CloseFault<C: Core, A: Allocator = Global> {
+/// How the receipts of the passes differ from the history.
+#[derive(Copy, Clone, Drop)]
+pub enum ReceiptsFault {
     /// A pass is missing: the receipts are of this history, and an entry has none.
-    MissingPass(History<C, A>),
+    MissingPass,
     /// A pass of another recorder is among them: a receipt isn't the entry at its place and of its pass's number, an entry
     /// has two, or a pass's places don't rise.
-    ForeignPass(History<C, A>),
+    ForeignPass,
+}
+
+/// Why a recorder couldn't be closed with the passes that were given.
+#[derive(Drop)]
+pub enum CloseFault<C: Core, A: Allocator = Global> {
+    /// The receipts of the passes aren't the history, which is handed out and is legal all the same.
+    Receipts(ReceiptsFault, History<C, A>),
 }
 
 /// A core that threads share, with the history of all calls on it.
@@ -82,22 +89,25 @@ impl<C: Core, A: Allocator + Copy> Recorder<C, A> {
         // The history is legal, and the receipts aren't that history: an entry has none, or they aren't even of it.
         ensures fault { IfErr result (λ f.
             (h : C × List (ℕ × C.Command × C.Reply))
-            × ((f ≡ CloseFault.MissingPass h) ⊎ (f ≡ CloseFault.ForeignPass h))
+            × ((f ≡ CloseFault.Receipts ReceiptsFault.MissingPass h)
+            ⊎ (f ≡ CloseFault.Receipts ReceiptsFault.ForeignPass h))
             × Replays C.Command.steps C.Command.opening h.1 (C.Command.state h.0)) }
         ensures missing { IfErr result (λ f.
-            (h : C × List (ℕ × C.Command × C.Reply)) → f ≡ CloseFault.MissingPass h →
+            (h : C × List (ℕ × C.Command × C.Reply)) →
+            f ≡ CloseFault.Receipts ReceiptsFault.MissingPass h →
             AreOf C.Command.eq C.Reply.eq passes.items h.1 × LacksAReceipt passes.items h.1) }
         ensures foreign { IfErr result (λ f.
-            (h : C × List (ℕ × C.Command × C.Reply)) → f ≡ CloseFault.ForeignPass h →
+            (h : C × List (ℕ × C.Command × C.Reply)) →
+            f ≡ CloseFault.Receipts ReceiptsFault.ForeignPass h →
             AreOf C.Command.eq C.Reply.eq passes.items h.1 → ⊥) }
     {
         let Recorder { lock, alloc: _ } = self;
         let history = lock.into_inner();
         let Some(count) = count_receipts(passes, history.entries()) else {
-            return Err(CloseFault::ForeignPass(history));
+            return Err(CloseFault::Receipts(ReceiptsFault::ForeignPass, history));
         };
         if count != history.entries().len() {
-            return Err(CloseFault::MissingPass(history));
+            return Err(CloseFault::Receipts(ReceiptsFault::MissingPass, history));
         }
         Ok(history)
     }

@@ -2,7 +2,8 @@
 use crate::marks::Mark;
 use elsa_history::laws::recorded_alone;
 use elsa_history::{
-    CloseFault, Core, History, MapCommand, MapReply, RecordPass, Recorder, VecCommand, VecReply,
+    CloseFault, Core, History, MapCommand, MapReply, ReceiptsFault, RecordPass, Recorder,
+    VecCommand, VecReply,
 };
 use elsa_locks::map::{MapState, TreeState};
 use elsa_locks::vec::VecState;
@@ -103,7 +104,9 @@ fn a_pass_that_is_missing(rt: HostRuntime) -> Result<(), Fail> {
     let mut b = recorder.pass(2);
     let first = answers_six(&rt, &recorder, &mut a, 6)?;
     assert!(rt; first && answers_six(&rt, &recorder, &mut b, 12)?);
-    let Err(CloseFault::MissingPass(history)) = recorder.close(alone(rt.alloc(), a)?) else {
+    let passes = alone(rt.alloc(), a)?;
+    let Err(CloseFault::Receipts(ReceiptsFault::MissingPass, history)) = recorder.close(passes)
+    else {
         return Err(Fail::from("an entry has no receipt"));
     };
     assert!(rt; is_of_both(&history));
@@ -112,7 +115,10 @@ fn a_pass_that_is_missing(rt: HostRuntime) -> Result<(), Fail> {
 
 // Whether the recorder finds a pass of another among these.
 fn is_foreign_to(recorder: Recorder<Numbers>, passes: Vec<Pass>) -> bool {
-    matches!(recorder.close(passes), Err(CloseFault::ForeignPass(_)))
+    matches!(
+        recorder.close(passes),
+        Err(CloseFault::Receipts(ReceiptsFault::ForeignPass, _))
+    )
 }
 
 // Whether a recorder without calls closes over no passes, with no entries.

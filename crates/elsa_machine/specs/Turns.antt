@@ -199,6 +199,39 @@ ReadsEnd plans front rest = (thread : ℕ) (indexes : List ℕ) → slice_get pl
     length (answers_of thread (world_of plans front).answers) < length indexes →
     length (answers_of thread (world_of plans front).answers) < length (answers_of thread (world_of plans (front ++ rest)).answers)
 
+-- what a thread is to read is there: a reader's index is below the length, or a cloner finds an item
+abbrev pub FindsAnItem : {A : Type 0} → Plan A → Thread A → World A → Type 0
+FindsAnItem (Pusher items) t w = ⊥
+FindsAnItem (Reader indexes) t w = (index : ℕ) × (slice_get indexes t.next ≡ Some index) × (index < w.length)
+FindsAnItem Cloner t w = 0 < w.length
+
+-- a thread that reads the length, and finds an item, reads that at a later turn: this one returns nothing and copies nothing
+abbrev pub ReadsLater : {A : Type 0} → List (Plan A) → Machine A → Type 0
+ReadsLater plans m = (turn : Turn) (plan : Plan _) (t u : Thread _) → slice_get plans turn.thread ≡ Some plan → Turns plans m turn t u → t.phase ≡ Ready → FindsAnItem plan t m.world →
+    ((turned plans m turn).world.answers ≡ m.world.answers) × (u.copied ≡ t.copied)
+
+-- a cloner's turn with memory copies one place, or returns with the last one
+abbrev pub CopiesOnePlace : {A : Type 0} → List (Plan A) → Machine A → Type 0
+CopiesOnePlace plans m = (turn : Turn) (t u : Thread _) (n : ℕ) → slice_get plans turn.thread ≡ Some Cloner → Turns plans m turn t u → t.phase ≡ Looked n → turn.memory ≡ true →
+    (length u.copied ≡ length t.copied + 1) ⊎ (n ≡ length t.copied + 1)
+
+-- a cloner's copy without memory is refused in that turn
+abbrev pub RefusesFailedCopies : {A : Type 0} → List (Plan A) → Machine A → Type 0
+RefusesFailedCopies plans m = (turn : Turn) (t u : Thread _) (n : ℕ) → slice_get plans turn.thread ≡ Some Cloner → Turns plans m turn t u → t.phase ≡ Looked n → turn.memory ≡ false →
+    (turned plans m turn).world.answers ≡ m.world.answers ++ CloneRefused turn.thread ∷ []
+
+-- a turn writes one slot or opens one buffer: its thread holds, and has not written yet
+pub record WritesOrOpens {A : Type 0} (m : Machine A) (turn : Turn) (after : World A) : Type 0 where
+  pub thread : Thread A
+  pub place : ℕ
+  pub next : slice_get m.threads turn.thread ≡ Some thread
+  pub holds : thread.phase ≡ Acquired place
+  pub one_more : length after.writes + after.opened ≡ length m.world.writes + m.world.opened + 1
+
+-- each turn that may come next leaves slots and buffers as they are, or writes one slot or opens one buffer
+abbrev pub ChangesOneThing : {A : Type 0} → List (Plan A) → Machine A → Type 0
+ChangesOneThing plans m = (turn : Turn) → (((turned plans m turn).world.writes ≡ m.world.writes) × ((turned plans m turn).world.opened ≡ m.world.opened)) ⊎ WritesOrOpens m turn (turned plans m turn).world
+
 -- what holds after a schedule, of each turn that may come next
 pub record IsSoundMoment {A : Type 0} (plans : List (Plan A)) (schedule : List Turn) : Type 0 where
   pub steps : AreStepsAtomic plans (machine_of plans schedule)
@@ -211,3 +244,7 @@ pub record IsSoundMoment {A : Type 0} (plans : List (Plan A)) (schedule : List T
   pub peeks_again : PeeksAgain plans (machine_of plans schedule)
   pub refusals : AreRefusalsEarned plans schedule
   pub clone_refusals : AreCloneRefusalsEarned plans schedule
+  pub reads_later : ReadsLater plans (machine_of plans schedule)
+  pub copies_one : CopiesOnePlace plans (machine_of plans schedule)
+  pub failed_copies : RefusesFailedCopies plans (machine_of plans schedule)
+  pub one_change : ChangesOneThing plans (machine_of plans schedule)

@@ -166,8 +166,31 @@ IsToldRight (Pusher items) thread w = AreOutcomes (list_of w.events) thread 0 it
 IsToldRight (Reader indexes) thread w = AreReads (list_of w.events) thread indexes (looks_of thread w.events) (answers_of thread w.answers)
 IsToldRight Cloner thread w = IsClone (list_of w.events) (looks_of thread w.events) (answers_of thread w.answers)
 
+-- the world before the first turn: no item, no holder, no buffer, and nothing written, told or returned
+abbrev pub IsEmpty : {A : Type 0} → World A → Type 0
+IsEmpty w = w ≡ record { length = 0; held = None; opened = 0; writes = []; events = []; answers = [] }
+
+-- each result is returned to a thread that has a plan
+abbrev pub AreAnswersOwned : {A : Type 0} → List (Plan A) → World A → Type 0
+AreAnswersOwned plans w = (k : ℕ) (answer : Answer _) → slice_get w.answers k ≡ Some answer → answer_thread answer < length plans
+
+-- a plan that reads the length
+abbrev pub IsLooker : {A : Type 0} → Plan A → Type 0
+IsLooker (Pusher items) = ⊥
+IsLooker (Reader indexes) = Unit {0}
+IsLooker Cloner = Unit {0}
+
+-- each read of the length that is told is a reader's or a cloner's
+abbrev pub AreLooksOwned : {A : Type 0} → List (Plan A) → World A → Type 0
+AreLooksOwned plans w = (k thread seen : ℕ) → slice_get w.events k ≡ Some (Look thread seen) → (plan : Plan _) × (slice_get plans thread ≡ Some plan) × IsLooker plan
+
+-- a reader has read the length for each result, and at most once more
+abbrev pub AreLooksFew : {A : Type 0} → List (Plan A) → World A → Type 0
+AreLooksFew plans w = (thread : ℕ) (indexes : List ℕ) → slice_get plans thread ≡ Some (Reader indexes) → length (looks_of thread w.events) ≤ length (answers_of thread w.answers) + 1
+
 -- the world of a schedule has one list, which only grows, and its slots hold that list
 pub record HasOneList {A : Type 0} (plans : List (Plan A)) (schedule : List Turn) (w : World A) : Type 0 where
+  pub begins : IsEmpty (world_of plans [])
   pub history : HasRightHistory w
   pub grows : (k : ℕ) → Grows (world_of plans (take k schedule)) w
   pub writes_in_order : HasWritesInOrder w
@@ -183,3 +206,6 @@ pub record IsAnsweredFromList {A : Type 0} (plans : List (Plan A)) (w : World A)
   pub places : IsNoPlaceTwice plans w
   pub reads : AreReadsRight plans w
   pub clones : AreClonesRight plans w
+  pub owners : AreAnswersOwned plans w
+  pub lookers : AreLooksOwned plans w
+  pub few_looks : AreLooksFew plans w

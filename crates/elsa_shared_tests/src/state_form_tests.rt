@@ -1,7 +1,8 @@
 //! The forms of calls that docs/CALLING.md lists for the states of the locked collections and for the recorder, through `elsa` alone: each proved and run.
 use crate::locked_form_tests::is;
 use elsa::sync::history::{
-    CloseFault, History, MapCommand, MapReply, RecordPass, Recorder, VecCommand, VecReply,
+    CloseFault, History, MapCommand, MapReply, ReceiptsFault, RecordPass, Recorder, VecCommand,
+    VecReply,
 };
 use elsa::sync::map::{MapState, TreeState};
 use elsa::sync::vec::VecState;
@@ -158,7 +159,9 @@ fn is_missed(rt: &impl Wait, alloc: Global) -> Result<bool, AllocError> {
     let recorder: Recorder<List> = Recorder::new(alloc, VecState::new(alloc));
     let mut pass = recorder.pass(1);
     let reply = recorder.call(rt, &mut pass, VecCommand::Push(7))?;
-    let Err(CloseFault::MissingPass(history)) = recorder.close(Vec::new(alloc)) else {
+    let Err(CloseFault::Receipts(ReceiptsFault::MissingPass, history)) =
+        recorder.close(Vec::new(alloc))
+    else {
         return Ok(false);
     };
     Ok(reply == VecReply::Place(0) && history.entries().len() == 1)
