@@ -1,4 +1,4 @@
-//! Callers that were written from docs/CALLING.md alone, over code for each form of map, the cache and the runs.
+//! Callers that were written from docs/guide alone, over code for each form of map, the cache and the runs.
 #![tactic(auto)]
 
 #[cfg(test)]

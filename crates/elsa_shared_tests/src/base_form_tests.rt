@@ -1,4 +1,4 @@
-//! The forms of calls that docs/CALLING.md lists for collecting, for the inner collections, for code over both maps, for the interner, the cache and the runs,
+//! The forms of calls that docs/reference lists for collecting, for the inner collections, for code over both maps, for the interner, the cache and the runs,
 //! through `elsa` and `bumpalo` alone: each proved and run.
 use bumpalo::Bump;
 use elsa::cache::{LoadFault, ResourceCache};

@@ -1,4 +1,4 @@
-//! The forms of calls that docs/CALLING.md lists for a vector and the one-thread maps, through `elsa` and `bumpalo` alone: each proved and run.
+//! The forms of calls that docs/reference lists for a vector and the one-thread maps, through `elsa` and `bumpalo` alone: each proved and run.
 use bumpalo::Bump;
 use elsa::vec::Cursor;
 use elsa::{FrozenBTreeMap, FrozenIndexMap, FrozenIndexSet, FrozenMap, FrozenVec, Own};

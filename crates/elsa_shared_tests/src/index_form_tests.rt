@@ -1,4 +1,4 @@
-//! The forms of calls that docs/CALLING.md lists for index maps and sets of numbers, through `elsa` and `bumpalo` alone: each proved and run.
+//! The forms of calls that docs/reference lists for index maps and sets of numbers, through `elsa` and `bumpalo` alone: each proved and run.
 use bumpalo::Bump;
 use elsa::{FrozenIndexMap, FrozenIndexSet, LookUp, Own, StableDeref};
 use std::alloc::{AllocError, Global};

@@ -1,4 +1,4 @@
-//! The forms of calls that docs/CALLING.md lists for the locked collections, through `elsa` alone: each proved and run.
+//! The forms of calls that docs/reference lists for the locked collections, through `elsa` alone: each proved and run.
 use elsa::sync::{FrozenBTreeMap, FrozenMap, FrozenVec};
 use std::alloc::AllocError;
 use std::collections::BTreeMap;

@@ -1,4 +1,4 @@
-//! The forms of calls that docs/CALLING.md lists for growing a vector, for maps of numbers, their walks and their inner maps, through `elsa` and `bumpalo`
+//! The forms of calls that docs/reference lists for growing a vector, for maps of numbers, their walks and their inner maps, through `elsa` and `bumpalo`
 //! alone: each proved and run.
 use bumpalo::Bump;
 use elsa::{FrozenBTreeMap, FrozenMap, FrozenVec, MapForm, Own, StableDeref};

@@ -1,4 +1,4 @@
-//! The forms of calls that docs/CALLING.md lists for the concurrent vector and its passes, through `elsa` alone: each proved and run.
+//! The forms of calls that docs/reference lists for the concurrent vector and its passes, through `elsa` alone: each proved and run.
 ghost use Rattle.std.specs.Prelude.{◌≡◌};
 
 use elsa::sync::{LockFreeFrozenVec, Pass};

@@ -1,4 +1,4 @@
-//! The forms of calls that docs/CALLING.md lists and no other crate over `elsa` alone makes: each proved and run.
+//! The forms of calls that docs/reference lists and no other crate over `elsa` alone makes: each proved and run.
 use bumpalo::Bump;
 use elsa::interner::{Name, SharedInterner, TextBuffer};
 use elsa::sync::LockFreeFrozenVec;

@@ -1,4 +1,4 @@
-//! The forms of calls that docs/CALLING.md lists for the engine and for runs of each form, through `elsa` and `bumpalo` alone: each proved and run.
+//! The forms of calls that docs/reference lists for the engine and for runs of each form, through `elsa` and `bumpalo` alone: each proved and run.
 use bumpalo::Bump;
 use elsa::interner::{Counted, EngineFault, Interner, intern_engine, intern_engine_with_hasher};
 use elsa::run::{

@@ -1,4 +1,4 @@
-//! The searches that docs/CALLING.md names for a closure with a state, through `elsa` and `bumpalo` alone.
+//! The searches that docs/guide names for a closure with a state, through `elsa` and `bumpalo` alone.
 use bumpalo::Bump;
 use elsa::FrozenVec;
 use elsa::vec_laws::{place_by_order, place_by_test};

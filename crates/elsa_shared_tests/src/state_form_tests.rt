@@ -1,4 +1,4 @@
-//! The forms of calls that docs/CALLING.md lists for the states of the locked collections and for the recorder, through `elsa` alone: each proved and run.
+//! The forms of calls that docs/reference lists for the states of the locked collections and for the recorder, through `elsa` alone: each proved and run.
 use crate::locked_form_tests::is;
 use elsa::sync::history::{
     CloseFault, History, MapCommand, MapReply, ReceiptsFault, RecordPass, Recorder, VecCommand,
