@@ -36,6 +36,7 @@ impl<K: Ord, V, A: Allocator + Copy> FrozenBTreeMap<K, V, A> {
     }
 
     /// An owner of the value at the key, or `None` if the key is absent.
+    /// `Err` only where the `Arc` already has the most owners that it can count.
     pub fn get(&self, rt: &impl Wait, key: &K) -> Result<Option<Arc<V, A>>, AllocError>
     where
         V: Drop,
@@ -63,6 +64,7 @@ impl<K: Ord, V, A: Allocator + Copy> FrozenBTreeMap<K, V, A> {
     }
 
     /// A map with the same content, which shares the values. Later insertions into either leave the other. `O(n)`.
+    /// `Err` on an allocation failure.
     pub fn clone(&self, rt: &impl Wait) -> Result<Self, AllocError>
     where
         K: Clone + Drop,
@@ -108,11 +110,13 @@ impl<K: Ord + Drop, V: Drop, A: Allocator + Copy> FrozenBTreeMap<K, V, A> {
     }
 
     /// An owner of the value that the key has afterwards: its own if it is present, else the one given.
+    /// `Err` on an allocation failure, or where the `Arc` has the most owners that it can count: the map is as before.
     pub fn insert(&self, rt: &impl Wait, key: K, value: V) -> Result<Arc<V, A>, AllocError> {
         self.lock.write(rt).insert(key, value)
     }
 
     /// `insert`, with whether the key was new.
+    /// `Err` on an allocation failure, or where the `Arc` has the most owners that it can count: the map is as before.
     pub fn insert_new(
         &self,
         rt: &impl Wait,

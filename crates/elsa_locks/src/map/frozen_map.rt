@@ -29,6 +29,7 @@ impl<K: Eq + Hash, V, A: Allocator + Copy> FrozenMap<K, V, A> {
     }
 
     /// An owner of the value at the key, or `None` if the key is absent.
+    /// `Err` only where the `Arc` already has the most owners that it can count.
     pub fn get(&self, rt: &impl Wait, key: &K) -> Result<Option<Arc<V, A>>, AllocError>
     where
         V: Drop,
@@ -54,6 +55,7 @@ impl<K: Eq + Hash, V, A: Allocator + Copy> FrozenMap<K, V, A> {
     }
 
     /// A clone of each key, each once, in no specified order. `O(n)`.
+    /// `Err` on an allocation failure.
     pub fn keys_cloned(&self, rt: &impl Wait) -> Result<Vec<K, A>, AllocError>
     where
         K: Clone + Drop,
@@ -73,6 +75,7 @@ impl<K: Eq + Hash, V, A: Allocator + Copy> FrozenMap<K, V, A> {
     }
 
     /// A map with the same content, which shares the values. Later insertions into either leave the other. `O(n)`.
+    /// `Err` on an allocation failure.
     pub fn clone(&self, rt: &impl Wait) -> Result<Self, AllocError>
     where
         K: Clone + Drop,
@@ -107,11 +110,13 @@ impl<K: Eq + Hash, V, A: Allocator + Copy> FrozenMap<K, V, A> {
 
 impl<K: Eq + Hash + Drop, V: Drop, A: Allocator + Copy> FrozenMap<K, V, A> {
     /// An owner of the value that the key has afterwards: its own if it is present, else the one given.
+    /// `Err` on an allocation failure, or where the `Arc` has the most owners that it can count: the map is as before.
     pub fn insert(&self, rt: &impl Wait, key: K, value: V) -> Result<Arc<V, A>, AllocError> {
         self.lock.write(rt).insert(key, value)
     }
 
     /// `insert`, with whether the key was new.
+    /// `Err` on an allocation failure, or where the `Arc` has the most owners that it can count: the map is as before.
     pub fn insert_new(
         &self,
         rt: &impl Wait,
@@ -124,6 +129,7 @@ impl<K: Eq + Hash + Drop, V: Drop, A: Allocator + Copy> FrozenMap<K, V, A> {
     /// `insert` of what `f` returns, which is called only where the key is absent and room was made for it.
     ///
     /// `f` runs while this call has the lock alone: a call on the same map in it may wait for ever.
+    /// `Err` on an allocation failure, or where the `Arc` has the most owners that it can count: the map is as before.
     pub fn insert_with<F: FnOnce() -> V + Drop>(
         &self,
         rt: &impl Wait,
@@ -136,6 +142,7 @@ impl<K: Eq + Hash + Drop, V: Drop, A: Allocator + Copy> FrozenMap<K, V, A> {
     }
 
     /// `insert_with` for an `f` that is given the key.
+    /// `Err` on an allocation failure, or where the `Arc` has the most owners that it can count: the map is as before.
     pub fn insert_with_key<F: FnOnce(&K) -> V + Drop>(
         &self,
         rt: &impl Wait,
@@ -160,6 +167,7 @@ impl<K: Eq + Hash + Drop, V: Drop, A: Allocator + Copy> FrozenMap<K, V, A> {
 
 impl<K: Eq + Hash + Drop, V: Copy, A: Allocator + Copy> FrozenMap<K, V, A> {
     /// A copy of the value that the key has afterwards. A present key takes no memory.
+    /// `Err` on an allocation failure, only for an absent key: the map is as before, and what was given is dropped.
     pub fn get_copy_or_insert(&self, rt: &impl Wait, key: K, value: V) -> Result<V, AllocError> {
         self.lock.write(rt).get_copy_or_insert(key, value)
     }
@@ -167,6 +175,7 @@ impl<K: Eq + Hash + Drop, V: Copy, A: Allocator + Copy> FrozenMap<K, V, A> {
     /// `get_copy_or_insert` of what `f` returns, which is called only where the key is absent and room was made for it.
     ///
     /// `f` runs while this call has the lock alone: a call on the same map in it may wait for ever.
+    /// `Err` on an allocation failure, only for an absent key: the map is as before, and what was given is dropped.
     pub fn get_copy_or_insert_with<F: FnOnce() -> V + Drop>(
         &self,
         rt: &impl Wait,
@@ -179,6 +188,7 @@ impl<K: Eq + Hash + Drop, V: Copy, A: Allocator + Copy> FrozenMap<K, V, A> {
     }
 
     /// `get_copy_or_insert_with` for an `f` that is given the key.
+    /// `Err` on an allocation failure, only for an absent key: the map is as before, and what was given is dropped.
     pub fn get_copy_or_insert_with_key<F: FnOnce(&K) -> V + Drop>(
         &self,
         rt: &impl Wait,

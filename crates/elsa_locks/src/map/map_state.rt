@@ -162,6 +162,7 @@ impl<K: Eq + Hash, V, A: Allocator + Copy> MapState<K, V, A> {
     }
 
     /// A clone of each key, each once, in no specified order. `O(n)`, one request for the list besides the keys' clones.
+    /// `Err` on an allocation failure.
     #[tactic(auto, using(crate::proofs::Shared::shows))]
     pub fn keys_cloned(&self) -> Result<Vec<K, A>, AllocError>
     where
@@ -178,6 +179,7 @@ impl<K: Eq + Hash, V, A: Allocator + Copy> MapState<K, V, A> {
     }
 
     /// A map with the same content, which shares the values. `O(n)`. Later insertions into either leave the other.
+    /// `Err` on an allocation failure.
     pub fn copy(&self) -> Result<Self, AllocError>
     where
         K: Clone + Drop,
@@ -274,6 +276,7 @@ impl<K: Eq + Hash + Drop, V: Drop, A: Allocator + Copy> MapState<K, V, A> {
     }
 
     /// `insert_with` for an `f` that is given the key.
+    /// It refuses as `insert_with` does.
     pub fn insert_with_key<F: FnOnce(&K) -> V + Drop>(
         &mut self,
         key: K,
@@ -385,6 +388,7 @@ impl<K: Eq + Hash + Drop, V: Copy, A: Allocator + Copy> MapState<K, V, A> {
     }
 
     /// `get_copy_or_insert_with` for an `f` that is given the key.
+    /// It refuses as `get_copy_or_insert_with` does.
     pub fn get_copy_or_insert_with_key<F: FnOnce(&K) -> V + Drop>(
         &mut self,
         key: K,

@@ -165,6 +165,7 @@ impl<K: Ord, V, A: Allocator + Copy> TreeState<K, V, A> {
     }
 
     /// A map with the same content, which shares the values. `O(n)`. Later insertions into either leave the other.
+    /// `Err` on an allocation failure.
     pub fn copy(&self) -> Result<Self, AllocError>
     where
         K: Clone + Drop,

@@ -65,26 +65,31 @@ impl<V, A: Allocator + Copy> FrozenVec<V, A> {
 
 impl<V: Drop, A: Allocator + Copy> FrozenVec<V, A> {
     /// Puts the item at the end.
+    /// `Err` on an allocation failure: the list is as before, and the value is dropped.
     pub fn push(&self, rt: &impl Wait, value: V) -> Result<(), AllocError> {
         self.lock.write(rt).push(value)
     }
 
     /// Puts the item at the end, and returns one more owner of it.
+    /// `Err` on an allocation failure: the list is as before, and the value is dropped.
     pub fn push_get(&self, rt: &impl Wait, value: V) -> Result<Arc<V, A>, AllocError> {
         self.lock.write(rt).push_get(value)
     }
 
     /// Puts the item at the end, and returns its place, counted from 0.
+    /// `Err` on an allocation failure: the list is as before, and the value is dropped.
     pub fn push_get_index(&self, rt: &impl Wait, value: V) -> Result<usize, AllocError> {
         self.lock.write(rt).push_get_index(value)
     }
 
     /// An owner of the item at the place, or `None` at or past the end.
+    /// `Err` only where the `Arc` already has the most owners that it can count.
     pub fn get(&self, rt: &impl Wait, place: usize) -> Result<Option<Arc<V, A>>, AllocError> {
         self.lock.read(rt).get(place)
     }
 
     /// A list with the same items, which are shared. Later pushes into either leave the other. `O(n)`.
+    /// `Err` on an allocation failure.
     pub fn clone(&self, rt: &impl Wait) -> Result<Self, AllocError> {
         let copied = self.lock.read(rt).copy()?;
         Ok(FrozenVec {

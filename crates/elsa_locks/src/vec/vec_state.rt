@@ -145,6 +145,7 @@ impl<V: Drop, A: Allocator + Copy> VecState<V, A> {
     }
 
     /// A list with the same items, which are shared. `O(n)`. Later pushes into either leave the other.
+    /// `Err` on an allocation failure.
     #[tactic(auto, using(crate::proofs::Clones::copied_items))]
     pub fn copy(&self) -> Result<Self, AllocError>
         ensures { IfOk result (λ copied. copied ≡ self.now) }
