@@ -1,0 +1,47 @@
+//! The engine over a device that a signal interrupts a thousand times before each call.
+ghost use Rattle.std.specs.Prelude.{◌≤◌, IfOk};
+
+use bumpalo::Bump;
+use elsa::interner::{Counted, intern_engine};
+use std::alloc::Global;
+use std::io;
+use std::io::{ErrorKind, Read};
+use std::test::Fail;
+
+/// Gives what is left of a text, each time after a thousand interruptions.
+#[derive(Drop)]
+struct Giver<'t> {
+    left: &'t [u8],
+    interruptions: usize,
+}
+
+impl<'t> Read for Giver<'t> {
+    fn read(&mut self, buf: &mut [u8]) -> io::Result<usize> {
+        if self.interruptions < 1000 {
+            self.interruptions += 1;
+            return Err(io::Error::from(ErrorKind::Interrupted));
+        }
+        self.interruptions = 0;
+        self.left.read(buf)
+    }
+}
+
+/// Whether the engine answers two lines of such a device.
+fn answers(alloc: Global) -> bool {
+    let arena = Bump::new(alloc);
+    let mut reader = Counted::new(Giver {
+        left: b"put fox\nat 0\n".as_slice(),
+        interruptions: 0,
+    });
+    let mut bytes: Vec<u8> = Vec::new(alloc);
+    let mut writer = Counted::new(&mut bytes);
+    let is_done = intern_engine(alloc, &arena, &mut reader, &mut writer).is_ok();
+    drop(writer);
+    is_done && bytes.as_slice() == b"0\nfox\n".as_slice()
+}
+
+#[test]
+fn a_thousand_interruptions_end_no_read(rt: HostRuntime) -> Result<(), Fail> {
+    assert!(rt; answers(rt.alloc()));
+    Ok(())
+}

@@ -1,0 +1,231 @@
+//! Collections of thousands and texts of 2,000 bytes: no call is refused for its size.
+use bumpalo::Bump;
+use elsa::cache::{CacheFault, ParsedCache};
+use elsa::interner::Interner;
+use elsa::run::{MapCommand, VecCommand, run_map, run_vec};
+use elsa::{FrozenBTreeMap, FrozenIndexMap, FrozenIndexSet, FrozenMap, FrozenVec, Own};
+use std::alloc::{AllocError, Global};
+use std::convert::Infallible;
+use std::hash::BuildHasherDefault;
+use std::test::Fail;
+
+/// A text of 2,000 bytes that ends in this one, of at most that many.
+fn long(alloc: Global, end: &str) -> Result<String, AllocError> {
+    let mut text = String::new(alloc);
+    for _ in end.len()..2000 {
+        text.push_str("x")?;
+    }
+    text.push_str(end)?;
+    Ok(text)
+}
+
+/// Whether a vector takes a thousand items, and a thousand more.
+fn vector_holds(alloc: Global, arena: &Bump) -> Result<bool, AllocError> {
+    let mut items: FrozenVec<'_, Own<usize>> = FrozenVec::from_iter(
+        alloc,
+        arena,
+        (0..1000).map(Own),
+    )?;
+    items.extend((1000..2000).map(Own))?;
+    Ok(items.len() == 2000 && items.get(1999) == Some(&1999) && items.get(1000) == Some(&1000))
+}
+
+#[test]
+fn a_vector_takes_thousands_of_items(rt: HostRuntime) -> Result<(), Fail> {
+    let arena = Bump::new(rt.alloc());
+    assert!(rt; vector_holds(rt.alloc(), &arena)?);
+    Ok(())
+}
+
+/// Whether a hashed map collects a thousand pairs and takes a thousand more.
+fn hashed_holds(alloc: Global, arena: &Bump) -> Result<bool, AllocError> {
+    let pairs = (0..1000).map(|key| (key, Own(key)));
+    let mut map: FrozenMap<'_, usize, Own<usize>> = FrozenMap::from_iter(
+        alloc,
+        arena,
+        BuildHasherDefault::default(),
+        pairs,
+    )?;
+    for key in 1000..2000 {
+        map.insert(key, Own(key))?;
+    }
+    Ok(map.len() == 2000 && map.get(&999) == Some(&999) && map.get(&1999) == Some(&1999))
+}
+
+/// The same of an ordered map.
+fn ordered_holds(alloc: Global, arena: &Bump) -> Result<bool, AllocError> {
+    let pairs = (0..1000).map(|key| (key, Own(key)));
+    let mut map: FrozenBTreeMap<'_, usize, Own<usize>> = FrozenBTreeMap::from_iter(
+        alloc, arena, pairs,
+    )?;
+    for key in 1000..2000 {
+        map.insert(key, Own(key))?;
+    }
+    Ok(map.len() == 2000 && map.get(&999) == Some(&999) && map.get(&1999) == Some(&1999))
+}
+
+/// The same of an index map.
+fn indexed_holds(alloc: Global, arena: &Bump) -> Result<bool, AllocError> {
+    let pairs = (0..1000).map(|key| (key, Own(key)));
+    let mut map: FrozenIndexMap<'_, usize, Own<usize>> = FrozenIndexMap::from_iter(
+        alloc,
+        arena,
+        BuildHasherDefault::default(),
+        pairs,
+    )?;
+    for key in 1000..2000 {
+        map.insert(key, Own(key))?;
+    }
+    Ok(map.get_index_of(&999) == Some(999) && map.get_index_of(&1999) == Some(1999))
+}
+
+#[test]
+fn maps_take_thousands_of_pairs(rt: HostRuntime) -> Result<(), Fail> {
+    let arena = Bump::new(rt.alloc());
+    assert!(rt; hashed_holds(rt.alloc(), &arena)?);
+    assert!(rt; ordered_holds(rt.alloc(), &arena)?);
+    assert!(rt; indexed_holds(rt.alloc(), &arena)?);
+    Ok(())
+}
+
+/// Whether a set takes two thousand values, each second one by a caller that has looked.
+fn set_holds(alloc: Global, arena: &Bump) -> Result<bool, AllocError> {
+    let mut set: FrozenIndexSet<'_, Own<usize>> = FrozenIndexSet::new(alloc, arena);
+    for value in 0..1000 {
+        set.insert(Own(value))?;
+        let next = Own(value + 1000);
+        if set.get_index_of(&&next.0).is_none() {
+            set.insert_absent(next)?;
+        }
+    }
+    Ok(set.len() == 2000 && set.get_index_of(&&1999) == Some(1999))
+}
+
+#[test]
+fn a_set_takes_thousands_of_values(rt: HostRuntime) -> Result<(), Fail> {
+    let arena = Bump::new(rt.alloc());
+    assert!(rt; set_holds(rt.alloc(), &arena)?);
+    Ok(())
+}
+
+/// Whether a hashed map takes a long text as key and value, and finds it.
+fn hashed_takes_long(alloc: Global, arena: &Bump) -> Result<bool, AllocError> {
+    let key = long(alloc, "key")?;
+    let mut map: FrozenMap<'_, &str, String> = FrozenMap::new(alloc, arena);
+    map.insert_text(key.as_str(), long(alloc, "value")?)?;
+    Ok(
+        map.get_text(key.as_str())
+            .is_some_and(|kept| kept.len() == 2000),
+    )
+}
+
+/// The same of an ordered map.
+fn ordered_takes_long(alloc: Global, arena: &Bump) -> Result<bool, AllocError> {
+    let key = long(alloc, "key")?;
+    let mut map: FrozenBTreeMap<'_, &str, String> = FrozenBTreeMap::new(alloc, arena);
+    map.insert_text(key.as_str(), long(alloc, "value")?)?;
+    Ok(
+        map.get_text(key.as_str())
+            .is_some_and(|kept| kept.len() == 2000),
+    )
+}
+
+/// The same of an index map.
+fn indexed_takes_long(alloc: Global, arena: &Bump) -> Result<bool, AllocError> {
+    let key = long(alloc, "key")?;
+    let mut map: FrozenIndexMap<'_, &str, String> = FrozenIndexMap::new(alloc, arena);
+    map.insert_text(key.as_str(), long(alloc, "value")?)?;
+    Ok(
+        map.get_text(key.as_str())
+            .is_some_and(|kept| kept.len() == 2000),
+    )
+}
+
+#[test]
+fn long_texts_are_keys_and_values(rt: HostRuntime) -> Result<(), Fail> {
+    let arena = Bump::new(rt.alloc());
+    assert!(rt; hashed_takes_long(rt.alloc(), &arena)?);
+    assert!(rt; ordered_takes_long(rt.alloc(), &arena)?);
+    assert!(rt; indexed_takes_long(rt.alloc(), &arena)?);
+    Ok(())
+}
+
+/// Whether a cache loads and parses a long text at a long path.
+fn cache_takes_long(alloc: Global, arena: &Bump) -> Result<bool, AllocError> {
+    let path = long(alloc, "path")?;
+    let mut cache: ParsedCache<'_, usize> = ParsedCache::new(alloc, arena);
+    let parsed: Result<&usize, CacheFault<AllocError, Infallible>> = cache.get_or_parse(
+        path.as_str(),
+        |_| long(alloc, "text"),
+        |text| Ok(text.len()),
+    );
+    Ok(matches!(parsed, Ok(2000)))
+}
+
+#[test]
+fn a_cache_takes_a_long_path_and_a_long_text(rt: HostRuntime) -> Result<(), Fail> {
+    let arena = Bump::new(rt.alloc());
+    assert!(rt; cache_takes_long(rt.alloc(), &arena)?);
+    Ok(())
+}
+
+/// Whether a hundred thousand names and more get numbers of their own, also where a name is asked for again.
+fn names_are_numbered(alloc: Global, arena: &Bump, count: usize) -> Result<bool, AllocError> {
+    let mut names = Interner::new(alloc, arena);
+    for number in 0..count {
+        let bytes = [
+            b'a' + (number % 26) as u8,
+            b'a' + (number / 26 % 26) as u8,
+            b'a' + (number / 676 % 26) as u8,
+            b'a' + (number / 17576 % 26) as u8,
+        ];
+        let Ok(name) = std::str::from_utf8(&bytes) else {
+            return Ok(false);
+        };
+        if names.put(name)? != number {
+            return Ok(false);
+        }
+    }
+    Ok(
+        names.len() == count
+            && names.put("aaaa")? == 0
+            && names.put(long(alloc, "name")?.as_str())? == count,
+    )
+}
+
+#[test]
+fn an_interner_numbers_more_than_a_hundred_thousand_names(rt: HostRuntime) -> Result<(), Fail> {
+    let arena = Bump::new(rt.alloc());
+    assert!(rt; names_are_numbered(rt.alloc(), &arena, 120_000)?);
+    Ok(())
+}
+
+/// Whether a run of a thousand pushes makes each of them.
+fn vec_runs(alloc: Global, arena: &Bump) -> Result<bool, AllocError> {
+    let mut items: FrozenVec<'_, Own<usize>> = FrozenVec::new(alloc, arena);
+    let mut commands = Vec::new(alloc);
+    for number in 0..1000 {
+        commands.push(VecCommand::Push(Own(number)))?;
+    }
+    let replies = run_vec(alloc, &mut items, commands)?;
+    Ok(replies.len() == 1000 && items.len() == 1000 && items.last() == Some(&999))
+}
+
+/// The same of insertions into a map.
+fn map_runs(alloc: Global, arena: &Bump) -> Result<bool, AllocError> {
+    let mut map: FrozenMap<'_, usize, Own<usize>> = FrozenMap::new(alloc, arena);
+    let mut commands = Vec::new(alloc);
+    for number in 0..1000 {
+        commands.push(MapCommand::Insert(number, Own(number)))?;
+    }
+    let replies = run_map(alloc, &mut map, commands)?;
+    Ok(replies.len() == 1000 && map.len() == 1000)
+}
+
+#[test]
+fn runs_make_a_thousand_calls(rt: HostRuntime) -> Result<(), Fail> {
+    let arena = Bump::new(rt.alloc());
+    assert!(rt; vec_runs(rt.alloc(), &arena)?);
+    assert!(rt; map_runs(rt.alloc(), &arena)?);
+    Ok(())
+}

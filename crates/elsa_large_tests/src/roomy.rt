@@ -1,0 +1,116 @@
+//! What takes no memory, over an arena and tables that have room: neither is asked for anything.
+use bumpalo::Bump;
+use elsa::interner::Interner;
+use elsa::{FrozenBTreeMap, FrozenIndexMap, FrozenIndexSet, FrozenMap, FrozenVec, Own};
+use std::alloc::{AllocError, Allocator, Global};
+use std::hash::{BuildHasherDefault, FoldHasher};
+use std::test::Fail;
+use test_alloc::Budget;
+
+type Hasher = BuildHasherDefault<FoldHasher>;
+
+/// What was asked of the tables' memory, and what the arena has taken of its room.
+fn asked(heap: &Budget<Global>, arena: &Bump) -> (u64, usize) {
+    (heap.asked(), arena.chunk_capacity())
+}
+
+/// An arena whose chunk has room for hundreds of values.
+fn has_room(arena: &Bump) -> bool {
+    arena.try_alloc_str("a first text").is_ok() && arena.chunk_capacity() > 200
+}
+
+/// Whether each call about a key, also an insertion of it by its text, is answered.
+fn hashed_answers<'a, A: Allocator + Copy + Drop>(
+    map: &mut FrozenMap<'a, &'a str, Own<u64>, Hasher, A>,
+) -> Result<bool, AllocError> {
+    let found = map.contains_key(&"key") && map.get_text("key") == Some(&1) && map.len() == 1;
+    let walked = map.iter().count() == 1 && map.keys().count() == 1 && map.values().count() == 1;
+    Ok(found && walked && map.insert_text("key", Own(2))? == &1)
+}
+
+fn hashed_asks_nothing(heap: &Budget<Global>, arena: &Bump) -> Result<bool, AllocError> {
+    let mut map: FrozenMap<'_, &str, Own<u64>, Hasher, _> = FrozenMap::new(heap, arena);
+    map.insert_text("key", Own(1))?;
+    let before = asked(heap, arena);
+    Ok(hashed_answers(&mut map)? && asked(heap, arena) == before)
+}
+
+fn ordered_answers<'a, A: Allocator + Copy + Drop>(
+    map: &mut FrozenBTreeMap<'a, &'a str, Own<u64>, A>,
+) -> Result<bool, AllocError> {
+    let found = map.contains_key(&"key") && map.get_text("key") == Some(&1) && map.len() == 1;
+    let ends = map.first_key_value().is_some() && map.last_key_value().is_some();
+    let walked = map.iter().count() == 1 && map.keys().count() == 1 && map.values().count() == 1;
+    let ranged = map.range("a"..).count() == 1;
+    Ok(found && ends && walked && ranged && map.insert_text("key", Own(2))? == &1)
+}
+
+fn ordered_asks_nothing(heap: &Budget<Global>, arena: &Bump) -> Result<bool, AllocError> {
+    let mut map: FrozenBTreeMap<'_, &str, Own<u64>, _> = FrozenBTreeMap::new(heap, arena);
+    map.insert_text("key", Own(1))?;
+    let before = asked(heap, arena);
+    Ok(ordered_answers(&mut map)? && asked(heap, arena) == before)
+}
+
+fn indexed_answers<'a, A: Allocator + Copy + Drop>(
+    map: &mut FrozenIndexMap<'a, &'a str, Own<u64>, Hasher, A>,
+) -> Result<bool, AllocError> {
+    let found = map.contains_key(&"key") && map.get_text("key") == Some(&1) && map.len() == 1;
+    let walked = map.iter().count() == 1 && map.keys().count() == 1 && map.values().count() == 1;
+    Ok(found && walked && map.insert_full_text("key", Own(2))? == (0, &1))
+}
+
+fn indexed_asks_nothing(heap: &Budget<Global>, arena: &Bump) -> Result<bool, AllocError> {
+    let mut map: FrozenIndexMap<'_, &str, Own<u64>, Hasher, _> = FrozenIndexMap::new(heap, arena);
+    map.insert_text("key", Own(1))?;
+    let before = asked(heap, arena);
+    Ok(indexed_answers(&mut map)? && asked(heap, arena) == before)
+}
+
+#[test]
+fn a_present_text_and_walks_of_maps_ask_for_nothing(rt: HostRuntime) -> Result<(), Fail> {
+    let heap = Budget::new(rt.alloc());
+    let arena = Bump::new(rt.alloc());
+    assert!(rt; has_room(&arena));
+    assert!(rt; hashed_asks_nothing(&heap, &arena)?);
+    assert!(rt; ordered_asks_nothing(&heap, &arena)?);
+    assert!(rt; indexed_asks_nothing(&heap, &arena)?);
+    Ok(())
+}
+
+fn vector_asks_nothing(heap: &Budget<Global>, arena: &Bump) -> Result<bool, AllocError> {
+    let mut items: FrozenVec<'_, Own<u64>, _> = FrozenVec::new(heap, arena);
+    items.push(Own(7))?;
+    let before = asked(heap, arena);
+    let found = items.contains(&7)
+        && items.as_slice().len() == 1
+        && items.iter().rev().count() == 1;
+    Ok(found && asked(heap, arena) == before)
+}
+
+fn set_asks_nothing(heap: &Budget<Global>, arena: &Bump) -> Result<bool, AllocError> {
+    let mut set: FrozenIndexSet<'_, Own<u64>, Hasher, _> = FrozenIndexSet::new(heap, arena);
+    set.insert(Own(7))?;
+    let before = asked(heap, arena);
+    let found = set.contains(&&7) && set.iter().count() == 1 && set.insert_full(Own(7))? == (0, &7);
+    Ok(found && asked(heap, arena) == before)
+}
+
+fn interner_asks_nothing(heap: &Budget<Global>, arena: &Bump) -> Result<bool, AllocError> {
+    let mut names: Interner<'_, Hasher, _> = Interner::new(heap, arena);
+    names.put("name")?;
+    let before = asked(heap, arena);
+    let found = names.contains("name") && names.iter().count() == 1 && names.put("name")? == 0;
+    Ok(found && asked(heap, arena) == before)
+}
+
+#[test]
+fn a_present_value_and_walks_of_lists_ask_for_nothing(rt: HostRuntime) -> Result<(), Fail> {
+    let heap = Budget::new(rt.alloc());
+    let arena = Bump::new(rt.alloc());
+    assert!(rt; has_room(&arena));
+    assert!(rt; vector_asks_nothing(&heap, &arena)?);
+    assert!(rt; set_asks_nothing(&heap, &arena)?);
+    assert!(rt; interner_asks_nothing(&heap, &arena)?);
+    Ok(())
+}
