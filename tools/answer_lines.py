@@ -4,7 +4,7 @@
 usage: tools/answer_lines.py < INPUT > ANSWERS
 
 The input's bytes are cut after each byte 10; a last piece without one counts if it has a byte. Names are a list, at first empty.
-  put TEXT   the place of TEXT in the list; TEXT is added last if it is absent
+  put TEXT   the place of TEXT in the list; TEXT is added last if it is absent ('too many names' if it then is and there are 2^32 - 1)
   find TEXT  the place of TEXT, or 'none'
   at N       the name at place N, or 'none'; N is one or more ASCII digits, at most 2^64 - 1
   len        how many names there are
@@ -21,6 +21,8 @@ def answer(line: bytes, places: dict, names: list) -> bytes:
     if line.startswith(b"put "):
         name = line[4:]
         if name not in places:
+            if len(names) == 2 ** 32 - 1:
+                return b"too many names"
             places[name] = len(names)
             names.append(name)
         return b"%d" % places[name]

@@ -28,14 +28,20 @@ pub struct SeededState {
 }
 
 impl SeededState {
-    /// Secret words from the runtime's random source. Take one at the start of a program.
+    /// Secret words from the runtime's random source, of eight bytes each. Take one at the start of a program.
     ///
     /// `Err` is the source's own: no secret could be had, and a program that goes on without one can be flooded. Takes no memory.
     pub fn new(rt: &impl RandomSource) -> io::Result<SeededState> {
         let mut bytes = [0; 16];
         rt.fill_bytes(&mut bytes)?;
-        let words = u128::from_le_bytes(bytes);
-        Ok(SeededState::with_seed((words & 0xFFFF_FFFF_FFFF_FFFF) as u64, (words >> 64) as u64))
+        Ok(SeededState::of_bytes(bytes))
+    }
+
+    /// The words of these bytes: the first eight make one word, the last eight the other, the lowest byte first.
+    fn of_bytes(bytes: [u8; 16]) -> SeededState
+        ensures { seeded.first_hasher result ≡ seeded.hasher (read_u64 bytes 0) (read_u64 bytes 8) }
+    {
+        SeededState::with_seed(word(&bytes, 0), word(&bytes, 8))
     }
 
     /// The secret words themselves, for a run that is to be repeated. Whoever knows them can make keys collide; words of few bits hash badly.

@@ -11,6 +11,8 @@ mod lines_refused;
 #[cfg(test)]
 mod map_refusals;
 #[cfg(test)]
+mod name_refusals;
+#[cfg(test)]
 mod no_memory;
 #[cfg(test)]
 mod refusals;

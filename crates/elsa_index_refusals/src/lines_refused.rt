@@ -2,7 +2,7 @@
 //! `no memory`.
 use bumpalo::Bump;
 use elsa_interner::interner::{Counted, intern_engine};
-use std::alloc::{AllocError, Global};
+use std::alloc::{AllocError, Allocator, Global};
 use std::test::Fail;
 use test_alloc::Budget;
 use test_script::leave_room;
@@ -121,10 +121,10 @@ fn input_of(alloc: Global, lines: &[&str]) -> Result<String, AllocError> {
 }
 
 // How many lines the engine refuses over these, if it answers each rightly.
-fn engine_refuses(
+fn engine_refuses<P: Allocator>(
     alloc: Global,
     heap: &Budget<Global>,
-    arena: &Bump,
+    arena: &Bump<P>,
     lines: &[&str],
 ) -> Option<usize> {
     let input = input_of(alloc, lines).ok()?;
@@ -179,5 +179,25 @@ fn an_arena_that_is_full_keeps_the_names_before(rt: HostRuntime) -> Result<(), F
             "with room for {room}"
         );
     }
+    Ok(())
+}
+
+// How many lines are refused over an arena whose own requests are refused from this number on, if each of its blocks comes back.
+fn refused_by_the_arena(alloc: Global, number: u64) -> Option<usize> {
+    let (open, heap) = (Budget::new(alloc), Budget::new(alloc));
+    heap.refuse(number, u64::MAX);
+    let arena = Bump::new(&heap);
+    let refused = engine_refuses(alloc, &open, &arena, WORKED.as_slice());
+    drop(arena);
+    if heap.given() != heap.granted() {
+        return None;
+    }
+    refused
+}
+
+#[test]
+fn an_arena_over_a_budget_costs_each_refused_line_its_answer(rt: HostRuntime) -> Result<(), Fail> {
+    assert!(rt; refused_by_the_arena(rt.alloc(), 0) == Some(6));
+    assert!(rt; refused_by_the_arena(rt.alloc(), u64::MAX) == Some(0));
     Ok(())
 }

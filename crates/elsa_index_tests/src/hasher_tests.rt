@@ -66,32 +66,35 @@ fn names_of_one_hash_under_the_default_differ_under_a_seed(rt: HostRuntime) -> R
     Ok(())
 }
 
-/// Answers these bytes for each request, or fails where there are none.
+/// Answers this byte and those after it for each request, or fails where there is none.
 struct Source {
-    byte: Option<u8>,
+    first: Option<u8>,
 }
 
 impl RandomSource for Source {
     fn fill_bytes(&self, buf: &mut [u8]) -> io::Result<()> {
-        let Some(byte) = self.byte else {
+        let Some(first) = self.first else {
             return Err(io::Error::from(ErrorKind::Unsupported));
         };
-        buf.fill(byte);
+        let mut byte = first;
+        for place in 0..buf.len() {
+            buf[place] = byte;
+            byte = byte.wrapping_add(1);
+        }
         Ok(())
     }
 }
 
 #[test]
 fn a_source_that_fails_gives_no_seed(rt: HostRuntime) -> Result<(), Fail> {
-    assert!(rt; SeededState::new(&Source { byte: None }).is_err());
+    assert!(rt; SeededState::new(&Source { first: None }).is_err());
     Ok(())
 }
 
 #[test]
-fn both_words_of_a_seed_come_from_the_source(rt: HostRuntime) -> Result<(), Fail> {
-    let seeded = SeededState::new(&Source { byte: Some(3) })?;
-    let word = 0x0303_0303_0303_0303;
-    let wanted = SeededState::with_seed(word, word);
+fn each_byte_of_a_seed_comes_from_the_source(rt: HostRuntime) -> Result<(), Fail> {
+    let seeded = SeededState::new(&Source { first: Some(1) })?;
+    let wanted = SeededState::with_seed(0x0807_0605_0403_0201, 0x100F_0E0D_0C0B_0A09);
     assert!(rt; seeded.hash_one("best friend") == wanted.hash_one("best friend"));
     Ok(())
 }
@@ -107,6 +110,14 @@ fn two_runs_have_two_seeds(rt: HostRuntime) -> Result<(), Fail> {
 fn a_seed_is_not_printed(rt: HostRuntime) -> Result<(), Fail> {
     let text = format!(in rt.alloc(); "{:?}", SeededState::with_seed(12345, 67890))?;
     assert!(rt; text.as_str() == "SeededState { .. }");
+    Ok(())
+}
+
+#[test]
+fn a_hasher_prints_no_secret(rt: HostRuntime) -> Result<(), Fail> {
+    let hasher = SeededState::with_seed(12345, 67890).build_hasher();
+    let text = format!(in rt.alloc(); "{hasher:?}")?;
+    assert!(rt; text.as_str() == "SeededHasher { .. }");
     Ok(())
 }
 

@@ -15,7 +15,7 @@ use Rattle.std.specs.Cmp.Lexicographic.{bytes_decides, nat_list_eq_equiv}
 use Rattle.std.proofs.lemmas.Bool.{cases_lt, false_from_ne_true}
 use Rattle.std.proofs.lemmas.Option.{slice_get-get_or, slice_get-map, slice_get_cases, slice_get_within, get_or_from_slice_get}
 use Rattle.elsa_interner.specs.Names.{Puts, IsOneToOne, IsNumbered}
-use Rattle.elsa_table.specs.Table.{Entries, places, Has, Adds}
+use Rattle.elsa_table.specs.Table.{Entries, places, Has, HasSame, Adds}
 
 abbrev shown : List (Bor (List ℕ)) → List (List ℕ)
 shown ks = map (λ b. b.now) ks
@@ -98,7 +98,7 @@ found_never names text never =
     none_passes k lt = false_from_ne_true _ (λ e. never k (slice_get-get_or names k [] lt ∙ ap Some (sym ((bytes_decides text (get_or names k [])).0 e))))
 
 -- and where it is not found, it is at no place
-never_there : (names : List (List ℕ)) (text : List ℕ) (i : ℕ) → position (bytes_eq text) names ≡ None → slice_get names i ≡ Some text → ⊥
+pub never_there : (names : List (List ℕ)) (text : List ℕ) (i : ℕ) → position (bytes_eq text) names ≡ None → slice_get names i ≡ Some text → ⊥
 never_there names text i none there =
     let within = slice_get_within names i text there in
     let past : position_or_len (bytes_eq text) names ≡ length names = grind (arith, common_steps, prefix_len-le-length) in
@@ -166,6 +166,16 @@ numbered_put hash before after names text h place old hashed placed more adds no
       | inr b ↦ omega (arith, a.0, b.0)
     ]
   ];
+}
+
+-- a table with the same places numbers the same names
+pub numbered_same : (hash : List ℕ → ℕ) (before after : Entries) (names : List (List ℕ)) → IsNumbered hash before names → places after ≡ places before → HasSame before after
+    → IsNumbered hash after names
+numbered_same hash before after names old count same = record {
+  counted = count ∙ old.counted;
+  entered = λ i text there. same.kept (hash text) i (old.entered i text there);
+  within = λ h p has. old.within h p (same.only h p has);
+  one_to_one = old.one_to_one;
 }
 
 -- a table without places numbers no names

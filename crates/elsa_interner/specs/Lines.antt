@@ -1,11 +1,12 @@
 -- The answer lines of an interner, as a meaning of the input's bytes.
 -- The input is cut into lines; each line asks for one thing; each thing asked has one answer and leaves certain names.
 -- Nothing here speaks of pieces that are read, of arrays or of what waits to be written.
-use Rattle.std.specs.Prelude.{◌≡◌, ◌≢◌, ℕ, ◌^◌, ◌⊎◌, ◌&&◌, nat_eq, nat_lt, Bool, false, if◌then◌else◌, List, [], ◌∷◌, ◌++◌, Option, None, Some, length, drop, position, slice_get, All, codes}
+use Rattle.std.specs.Prelude.{◌≡◌, ◌≢◌, ℕ, ◌-◌, ◌^◌, ◌⊎◌, ◌&&◌, nat_eq, nat_lt, Bool, false, if◌then◌else◌, List, [], ◌∷◌, ◌++◌, Option, None, Some, length, drop, position, slice_get, All, codes}
 use Rattle.std.specs.List.{starts_with}
 use Rattle.std.specs.Str.{bytes_eq, is_utf8, all_ascii_digits}
 use Rattle.std.specs.Str.Parse.{digits_value}
 use Rattle.std.specs.Fmt.{decimal}
+use Rattle.elsa_interner.specs.Names.{IsFull}
 
 -- lines, each ended by byte 10
 abbrev pub ended : List (List ℕ) → List ℕ
@@ -62,14 +63,18 @@ abbrev pub text_or_none : Option (List ℕ) → List ℕ
 text_or_none None = codes "none"
 text_or_none (Some text) = text
 
--- the names after a text was put that had this number before
+-- there are as many names as there are numbers for
+abbrev pub is_full : List (List ℕ) → Bool
+is_full names = nat_eq (length names) (2 ^ 32 - 1)
+
+-- the names after a text was put that had this number before; a new one is kept if there is a number for it
 abbrev pub with_name : List (List ℕ) → List ℕ → Option ℕ → List (List ℕ)
-with_name names text None = names ++ text ∷ []
+with_name names text None = if is_full names then names else names ++ text ∷ []
 with_name names text (Some n) = names
 
--- the number of a text that was put and had this number before
+-- the number of a text that was put and had this number before, or that there is none for a new one
 abbrev pub number_put : List (List ℕ) → Option ℕ → List ℕ
-number_put names None = decimal (length names)
+number_put names None = if is_full names then codes "too many names" else decimal (length names)
 number_put names (Some n) = decimal n
 
 -- the names after a command
@@ -87,6 +92,14 @@ answer_of names (find text) = number_or_none (number_of_text names text)
 answer_of names (at n) = text_or_none (slice_get names n)
 answer_of names len = decimal (length names)
 answer_of names bad = codes "bad line"
+
+-- a command puts a new name, and there is no number for it
+abbrev pub LacksNumber : List (List ℕ) → Command → Type 0
+LacksNumber names (put text) = IsFull names × (number_of_text names text ≡ None)
+LacksNumber names (find text) = ⊥
+LacksNumber names (at n) = ⊥
+LacksNumber names len = ⊥
+LacksNumber names bad = ⊥
 
 -- a command has this answer and leaves these names; or memory was refused, and the names stay
 abbrev pub Replies : List (List ℕ) → Command → List ℕ → List (List ℕ) → Type 0

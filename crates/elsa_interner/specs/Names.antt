@@ -1,7 +1,7 @@
 -- Names that are numbered in the order in which they first came.
 -- The names are one list of texts, each text as its bytes; a name's number is its place in that list.
 -- What a `put` answers is told by where the list has the text before the call, so no table and no arena occurs.
-use Rattle.std.specs.Prelude.{◌≡◌, ℕ, ◌<◌, ◌/◌, ◌%◌, ◌^◌, List, [], ◌∷◌, ◌++◌, length, position, slice_get, Some, MatchOption, bit_xor}
+use Rattle.std.specs.Prelude.{◌≡◌, ℕ, ◌-◌, ◌<◌, ◌/◌, ◌%◌, ◌^◌, List, [], ◌∷◌, ◌++◌, length, position, slice_get, Some, MatchOption, bit_xor}
 use Rattle.std.specs.Str.{bytes_eq}
 use Rattle.std.specs.declared.hash.BuildHasher as builder
 use Rattle.std.specs.declared.hash.Hasher as hasher
@@ -12,6 +12,10 @@ abbrev pub Puts : List (List ℕ) → List ℕ → ℕ → List (List ℕ) → T
 Puts names text n after = MatchOption (position (bytes_eq text) names)
     ((n ≡ length names) × (after ≡ names ++ text ∷ []))
     (λ i. (n ≡ i) × (after ≡ names))
+
+-- there are as many names as there are numbers for
+abbrev pub IsFull : List (List ℕ) → Type 0
+IsFull names = length names ≡ 2 ^ 32 - 1
 
 -- no two numbers have the same name; that each number below the length has one name holds of every list
 abbrev pub IsOneToOne : List (List ℕ) → Type 0

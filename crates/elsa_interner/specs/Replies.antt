@@ -4,7 +4,7 @@ use Rattle.std.specs.Fmt.{decimal}
 use Rattle.elsa_interner.specs.declared.request.Request.{Request}
 use Rattle.elsa_interner.specs.declared.request.Request.TheVariants.{Put, Find, At, Len, Bad}
 use Rattle.elsa_interner.specs.declared.reply.Reply.{Reply}
-use Rattle.elsa_interner.specs.declared.reply.Reply.TheVariants.{Number, Name, Nothing, BadLine, NoMemory}
+use Rattle.elsa_interner.specs.declared.reply.Reply.TheVariants.{Number, Name, Nothing, BadLine, NoMemory, TooManyNames}
 use Rattle.elsa_interner.specs.Lines.{Command, put, find, at, len, bad}
 
 -- what a request asks
@@ -22,3 +22,4 @@ shown (Name name) = name.now
 shown Nothing = codes "none"
 shown BadLine = codes "bad line"
 shown NoMemory = codes "no memory"
+shown TooManyNames = codes "too many names"

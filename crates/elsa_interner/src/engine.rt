@@ -1,9 +1,9 @@
 //! An answer line for each line of the input.
-ghost use Rattle.std.specs.Prelude.{◌≡◌, ◌<◌, ◌^◌, ◌-◌, [], ◌∷◌, ◌++◌, ℕ, List, false, true, length, IsTrue, OnOk, OnErr, MatchOption};
+ghost use Rattle.std.specs.Prelude.{◌≡◌, ◌<◌, ◌^◌, ◌-◌, [], ◌∷◌, ◌++◌, ℕ, List, false, true, length, codes, IsTrue, OnOk, OnErr, MatchOption};
 ghost use Rattle.elsa_interner.specs.Devices.{CountsFault};
 ghost use Rattle.elsa_interner.specs.Engine.{HasRun, CountsRun};
 ghost use Rattle.elsa_interner.specs.Feeding.{IsSoFar, IsFinished, Feeds, Ends};
-ghost use Rattle.elsa_interner.specs.Lines.{Replies};
+ghost use Rattle.elsa_interner.specs.Lines.{LacksNumber, Replies};
 ghost use Rattle.elsa_interner.specs.Replies.{asked, shown};
 
 use crate::chunk::Chunk;
@@ -37,19 +37,29 @@ pub enum EngineFault {
 }
 
 /// Does what is asked. A name that is put may be at `guess`.
-#[tactic(auto, using(crate::proofs::ReplyLemmas::put_replies))]
+#[tactic(auto, using(crate::proofs::ReplyLemmas::put_replies, crate::proofs::ReplyLemmas::full_replies))]
 #[inline(always)]
-fn answer_to<'a, S: BuildHasher, A: Allocator + Copy>(
-    names: &mut Interner<'a, S, A>,
+fn answer_to<'a, S: BuildHasher, A: Allocator + Copy, P: Allocator>(
+    names: &mut Interner<'a, S, A, P>,
     request: Request<'_>,
     guess: usize,
 ) -> Reply<'a>
-    ensures { Replies names.old (asked request.entry) (shown result) names.new }
+    ensures replies { Replies names.old (asked request.entry) (shown result) names.new }
+
+    // Where there are as many names as numbers, it isn't memory that a new one lacks.
+    ensures limit { LacksNumber names.old (asked request.entry) →
+        shown result ≡ codes "too many names" }
 {
     match request {
         Request::Put(name) => match names.put_guessed(name, guess) {
             Ok(n) => Reply::Number(n),
-            Err(_) => Reply::NoMemory,
+            Err(_) => {
+                if names.is_full() {
+                    Reply::TooManyNames
+                } else {
+                    Reply::NoMemory
+                }
+            }
         },
         Request::Find(name) => match names.find(name) {
             Some(n) => Reply::Number(n),
@@ -66,17 +76,17 @@ fn answer_to<'a, S: BuildHasher, A: Allocator + Copy>(
 
 /// The names so far, and the line that has begun.
 #[derive(Drop)]
-struct Session<'a, S: BuildHasher, A: Allocator + Copy> {
-    names: Interner<'a, S, A>,
+struct Session<'a, S: BuildHasher, A: Allocator + Copy, P: Allocator> {
+    names: Interner<'a, S, A, P>,
     // What was read of the line that has begun, unless it lies whole in the piece.
     line: Vec<u8, A>,
     // Whether memory for that line was refused; its rest is then skipped.
     skips: bool,
 }
 
-impl<'a, S: BuildHasher, A: Allocator + Copy> Session<'a, S, A> {
+impl<'a, S: BuildHasher, A: Allocator + Copy, P: Allocator> Session<'a, S, A, P> {
     /// No names and no line.
-    fn new(alloc: A, arena: &'a Bump, hash_builder: S) -> Self
+    fn new(alloc: A, arena: &'a Bump<P>, hash_builder: S) -> Self
         ensures names { result.names ≡ [] }
         ensures line { result.line.items ≡ [] }
         ensures skips { result.skips ≡ false }
@@ -251,7 +261,8 @@ impl<'a, S: BuildHasher, A: Allocator + Copy> Session<'a, S, A> {
 ///
 /// A line ends at byte 10, or at the input's end if it has a byte. TEXT is all that follows the one space,
 /// byte 13 included, and may be empty. N is one or more ASCII digits and at most 2^64 - 1. Where memory for a
-/// line or a name is refused, the answer is `no memory`, the line changes nothing and its rest is skipped.
+/// line or a name is refused, the answer is `no memory`, the line changes nothing and its rest is skipped. Where
+/// there are 2^32 - 1 names, a new one has no number: the answer is `too many names`, and the line changes nothing.
 ///
 /// Names are placed in `arena`; their table and a line longer than a read take memory of `alloc`, and nothing
 /// else takes any. Answers are written before the next read, so nobody waits for one that is known.
@@ -260,9 +271,9 @@ impl<'a, S: BuildHasher, A: Allocator + Copy> Session<'a, S, A> {
 ///
 /// After `Read` and `Endless` the answers to all lines whose byte 10 was read are written, after `Write` a
 /// beginning of the answers so far.
-pub fn intern_engine<'a, A: Allocator + Copy, R: Source, W: Sink>(
+pub fn intern_engine<'a, A: Allocator + Copy, P: Allocator, R: Source, W: Sink>(
     alloc: A,
-    arena: &'a Bump,
+    arena: &'a Bump<P>,
     reader: &mut R,
     writer: &mut W,
 ) -> Result<(), EngineFault>
@@ -288,11 +299,12 @@ pub fn intern_engine_with_hasher<
     'a,
     S: BuildHasher + Drop,
     A: Allocator + Copy,
+    P: Allocator,
     R: Source,
     W: Sink,
 >(
     alloc: A,
-    arena: &'a Bump,
+    arena: &'a Bump<P>,
     hash_builder: S,
     reader: &mut R,
     writer: &mut W,

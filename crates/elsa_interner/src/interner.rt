@@ -2,14 +2,14 @@
 //!
 //! [`Interner`] finds a name by its hash, in one search of a table of places (`elsa_table`), also where the name is new. [`intern_engine`] runs one over a reader's lines; it is generic over
 //! [`Source`] and [`Sink`], which [`Counted`] makes of any reader and writer of std.
-ghost use Rattle.std.specs.Prelude.{◌≡◌, ◌↔◌, ℕ, [], List, length, None, Some, slice_get, position, map, is_some, slice_index_or, ◌<◌, IfErr, IfOk, IfSome, IsTrue, OnErr};
+ghost use Rattle.std.specs.Prelude.{◌≡◌, ◌↔◌, ℕ, [], List, length, None, Some, slice_get, position, map, is_some, slice_index_or, ◌<◌, IfErr, IfOk, IfSome, IsTrue, OnErr, OnOk};
 ghost use Rattle.std.specs.Borrow.{Bor};
 ghost use Rattle.std.specs.Iterator.Adapters.{IterYieldsInOrder, IterYieldsInReverse};
 ghost use Rattle.std.specs.Option.{option_map};
 ghost use Rattle.std.specs.Str.{bytes_eq};
 ghost use mathlib.Core.List.{IsPrefix};
 ghost use Rattle.std.specs.Slice.Iter.{iter_rest};
-ghost use Rattle.elsa_interner.specs.Names.{Puts, IsOneToOne, text_hash};
+ghost use Rattle.elsa_interner.specs.Names.{Puts, IsFull, IsOneToOne, text_hash};
 ghost use Rattle.elsa_table.specs.Table.{Has, IsVacancy};
 
 pub use crate::devices::{Counted, Failed, Sink, Source};
@@ -66,20 +66,21 @@ fn search<A: Allocator + Copy>(
 ///
 /// In contracts an interner is the list of its names, each as its bytes; a name's number is its place there.
 /// The names lie in the arena that the caller lends, so a borrow that [`Interner::at`] answers outlives the
-/// interner. `alloc` gives the memory of the table and of the list of names.
+/// interner. `alloc` gives the memory of the table and of the list of names, and `P` is the allocator of the arena.
 #[derive(Drop)]
 pub struct Interner<
     'a,
     S: BuildHasher = BuildHasherDefault<FoldHasher>,
     A: Allocator + Copy = Global,
+    P: Allocator = Global,
 > {
-    arena: &'a Bump,
+    arena: &'a Bump<P>,
     names: Vec<&'a str, A>,
     table: PlaceTable<A>,
     hash_builder: S,
 }
 
-impl<'a, S: BuildHasher, A: Allocator + Copy> Model for Interner<'a, S, A> {
+impl<'a, S: BuildHasher, A: Allocator + Copy, P: Allocator> Model for Interner<'a, S, A, P> {
     ghost use Rattle.std.specs.Prelude.{List, ℕ, map};
 
     ghost Value = { List (List ℕ) };
@@ -92,21 +93,21 @@ impl<'a, S: BuildHasher, A: Allocator + Copy> Model for Interner<'a, S, A> {
         s.table (map (λ b. b.now) s.names.items) };
 }
 
-impl<'a, A: Allocator + Copy> Interner<'a, BuildHasherDefault<FoldHasher>, A> {
+impl<'a, A: Allocator + Copy, P: Allocator> Interner<'a, BuildHasherDefault<FoldHasher>, A, P> {
     /// An interner with no names, hashed as std's maps are by default.
     ///
     /// Takes no memory. That hash has no secret: where strangers choose the names, take
     /// [`Interner::with_hasher`] and a `SeededState` of `elsa`.
-    pub fn new(alloc: A, arena: &'a Bump) -> Self
+    pub fn new(alloc: A, arena: &'a Bump<P>) -> Self
         ensures { result ≡ [] }
     {
         Interner::with_hasher(alloc, arena, BuildHasherDefault::new())
     }
 }
 
-impl<'a, S: BuildHasher, A: Allocator + Copy> Interner<'a, S, A> {
+impl<'a, S: BuildHasher, A: Allocator + Copy, P: Allocator> Interner<'a, S, A, P> {
     /// An interner with no names, hashed by `hash_builder`. Takes no memory.
-    pub fn with_hasher(alloc: A, arena: &'a Bump, hash_builder: S) -> Self
+    pub fn with_hasher(alloc: A, arena: &'a Bump<P>, hash_builder: S) -> Self
         ensures { result ≡ [] }
     {
         Interner {
@@ -155,6 +156,15 @@ impl<'a, S: BuildHasher, A: Allocator + Copy> Interner<'a, S, A> {
         self.len() == 0
     }
 
+    /// Whether there are as many names as there are numbers for: 2^32 - 1. A `put` of a new name then returns `Err`.
+    ///
+    /// Takes no memory. `O(1)`.
+    pub fn is_full(&self) -> bool
+        ensures { IsTrue result ↔ IsFull self.now }
+    {
+        self.table.is_full()
+    }
+
     /// Whether `put` kept this name. Takes no memory. `O(1)` hashed.
     pub fn contains(&self, text: &str) -> bool
         ensures { result ≡ is_some (position (bytes_eq text.now) self.now) }
@@ -175,15 +185,18 @@ impl<'a, S: BuildHasher, A: Allocator + Copy> Interner<'a, S, A> {
 
     /// The number of a name, which is kept if it is new and then has the number that [`Interner::len`] was.
     ///
-    /// A name that is there takes no memory and never fails. Of a new one a copy goes straight into the arena. `Err`
-    /// means that memory was refused, or that there are 2^32 - 1 names: the names stay as they were. One hash and one
-    /// search: `O(1)` hashed, and the copy.
+    /// A name that is there takes no memory and never fails. Of a new one a copy goes straight into the arena, once there
+    /// is room for it in the table and the list. `Err` means that memory was refused, or that there are 2^32 - 1 names
+    /// ([`Interner::is_full`]): the names stay as they were, and the arena has no copy. One hash and one search: `O(1)`
+    /// hashed, and the copy.
     #[inline(always)]
     pub fn put(&mut self, text: &str) -> Result<usize, AllocError>
         // The number that it has, or the next one for a new name; only a new one is refused, and then nothing changes.
         ensures put { IfOk result (λ n. Puts self.old text.now n self.new) }
         ensures refused { OnErr result (self.new ≡ self.old) }
         ensures only_new { OnErr result (position (bytes_eq text.now) self.old ≡ None) }
+        ensures limit { OnOk result (position (bytes_eq text.now) self.old ≡ None →
+            ¬ IsFull self.old) }
 
         // The name stands at its number, and those before it where they were.
         ensures stands { IfOk result (λ n. slice_get self.new n ≡ Some text.now) }
@@ -197,9 +210,10 @@ impl<'a, S: BuildHasher, A: Allocator + Copy> Interner<'a, S, A> {
             Ok(place) => return Ok(place),
             Err(vacancy) => vacancy,
         };
-        let name = self.arena.try_alloc_str(text)?;
         self.names.reserve(1)?;
-        let place = self.table.add(hash, vacancy)?;
+        let room = self.table.reserve(hash, vacancy)?;
+        let name = self.arena.try_alloc_str(text)?;
+        let place = self.table.add(hash, room);
         self.names.push_reserved(name);
         Ok(place)
     }
@@ -222,6 +236,8 @@ impl<'a, S: BuildHasher, A: Allocator + Copy> Interner<'a, S, A> {
         ensures put { IfOk result (λ n. Puts self.old text.now n self.new) }
         ensures refused { OnErr result (self.new ≡ self.old) }
         ensures only_new { OnErr result (position (bytes_eq text.now) self.old ≡ None) }
+        ensures limit { OnOk result (position (bytes_eq text.now) self.old ≡ None →
+            ¬ IsFull self.old) }
     {
         if let Some(name) = self.names.get(guess) {
             if text == *name {
@@ -233,7 +249,7 @@ impl<'a, S: BuildHasher, A: Allocator + Copy> Interner<'a, S, A> {
 }
 
 /// `{:?}` writes the names, in the order of their numbers, as of a `Vec` of them: `["x", "y"]`.
-impl<'a, S: BuildHasher, A: Allocator + Copy> Debug for Interner<'a, S, A> {
+impl<'a, S: BuildHasher, A: Allocator + Copy, P: Allocator> Debug for Interner<'a, S, A, P> {
     fn fmt<W: Write>(&self, f: &mut Formatter<W>) -> fmt::Result {
         f.debug_list().entries(self.iter()).finish()
     }

@@ -19,6 +19,8 @@ pub enum Reply<'a> {
     BadLine,
     /// Memory was refused.
     NoMemory,
+    /// There are as many names as numbers.
+    TooManyNames,
 }
 
 /// Adds a reply as a line to what waits.
@@ -38,5 +40,6 @@ pub fn push_reply<W: Sink>(
         Reply::Nothing => out.push_line(writer, b"none"),
         Reply::BadLine => out.push_line(writer, b"bad line"),
         Reply::NoMemory => out.push_line(writer, b"no memory"),
+        Reply::TooManyNames => out.push_line(writer, b"too many names"),
     }
 }

@@ -5,8 +5,8 @@ use Rattle.std.proofs.lemmas.List.{get_or-set_same, get_or-set_other}
 use Rattle.std.proofs.lemmas.Bool.{cases_eq, cases_lt}
 use Rattle.std.proofs.lemmas.Nat.{and_le_r}
 use Rattle.elsa_table.specs.declared.slots.Slot.{Slot}
-use Rattle.elsa_table.specs.Slots.{vacant_slot, slot_of, slot_at, IsTaken, walk, probed, GoesOn, Reaches, IsFindable, EndsAt, Holds, Gains}
-use Rattle.elsa_table.specs.Table.{Adds}
+use Rattle.elsa_table.specs.Slots.{vacant_slot, slot_of, slot_at, IsTaken, walk, probed, GoesOn, Reaches, IsFindable, EndsAt, Holds, HoldsSame, Gains}
+use Rattle.elsa_table.specs.Table.{Adds, HasSame}
 
 -- a probe stays among the slots
 pub walk_within : (count hash step : ℕ) → step < count → walk count hash step < count
@@ -124,16 +124,18 @@ copied_one slots from wider after slot so_far within is gains findable = record 
   ];
 }
 
--- all are entered, and one more
-pub copied_all : (slots wider full : List Slot) (last : Slot) → Copied slots (length slots) wider → Gains wider last full → Gains slots last full
-copied_all slots wider full last copied gains = record {
-  kept = λ s taken h. gains.kept s taken
-      (subst (Holds wider) h.there (copied.entered h.at h.within (subst IsTaken (sym h.there) taken)));
-  gained = gains.gained;
-  only = λ s taken h. elim (gains.only s taken h) [
-    | inl before ↦ inl (copied.only s taken before)
-    | inr same ↦ inr same
-  ];
+-- all are entered
+pub copied_all : (slots wider : List Slot) → Copied slots (length slots) wider → HoldsSame slots wider
+copied_all slots wider copied = record {
+  kept = λ s taken h. subst (Holds wider) h.there (copied.entered h.at h.within (subst IsTaken (sym h.there) taken));
+  only = copied.only;
+}
+
+-- the same slots have the same places
+pub same_places : (before after : List Slot) (count more : ℕ) → HoldsSame before after → HasSame (before, count) (after, more)
+same_places before after count more same = record {
+  kept = λ h p has. same.kept (slot_of h p) (omega arith) has;
+  only = λ h p has. same.only (slot_of h p) (omega arith) has;
 }
 
 -- a slot more is a place more

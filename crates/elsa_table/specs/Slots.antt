@@ -61,3 +61,8 @@ pub record Gains (before : List Slot) (slot : Slot) (after : List Slot) : Type 0
   pub kept : (s : Slot) → IsTaken s → Holds before s → Holds after s
   pub gained : Holds after slot
   pub only : (s : Slot) → IsTaken s → Holds after s → Holds before s ⊎ (s ≡ slot)
+
+-- the taken slots afterwards are those from before
+pub record HoldsSame (before after : List Slot) : Type 0 where
+  pub kept : (s : Slot) → IsTaken s → Holds before s → Holds after s
+  pub only : (s : Slot) → IsTaken s → Holds after s → Holds before s

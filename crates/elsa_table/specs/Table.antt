@@ -1,5 +1,5 @@
 -- A table from hashes to places: its slots, and how many places it has.
-use Rattle.std.specs.Prelude.{◌≡◌, ℕ, ◌<◌, ◌⊎◌, List, length}
+use Rattle.std.specs.Prelude.{◌≡◌, ℕ, ◌-◌, ◌^◌, ◌<◌, ◌≤◌, ◌⊎◌, List, length}
 use Rattle.elsa_table.specs.declared.slots.Slot.{Slot}
 use Rattle.elsa_table.specs.declared.table.Vacancy.{Vacancy}
 use Rattle.elsa_table.specs.Slots.{slot_of, EndsAt, Holds}
@@ -12,6 +12,14 @@ Entries = List Slot × ℕ
 abbrev pub places : Entries → ℕ
 places table = table.1
 
+-- the most places: a slot has 32 bits for a place plus one
+abbrev pub most_places : ℕ
+most_places = 2 ^ 32 - 1
+
+-- a slot has a number for each of so many places
+abbrev pub IsCount : ℕ → Type 0
+IsCount count = count ≤ most_places
+
 -- the table has the place under the hash
 abbrev pub Has : Entries → ℕ → ℕ → Type 0
 Has table hash place = Holds table.0 (slot_of hash place)
@@ -19,6 +27,15 @@ Has table hash place = Holds table.0 (slot_of hash place)
 -- a search for the hash ended at this vacancy, if there was one
 abbrev pub IsVacancy : Entries → ℕ → Vacancy → Type 0
 IsVacancy table hash vacancy = vacancy.slot < length table.0 → EndsAt table.0 hash vacancy.slot
+
+-- a probe for the hash ends at this vacancy: a place under the hash can go there
+abbrev pub IsRoom : Entries → ℕ → Vacancy → Type 0
+IsRoom table hash vacancy = EndsAt table.0 hash vacancy.slot
+
+-- the places afterwards are those from before, each under its hash
+pub record HasSame (before after : Entries) : Type 0 where
+  pub kept : (h p : ℕ) → Has before h p → Has after h p
+  pub only : (h p : ℕ) → Has after h p → Has before h p
 
 -- the places afterwards are those from before, each under its hash, and one more
 pub record Adds (before : Entries) (hash place : ℕ) (after : Entries) : Type 0 where

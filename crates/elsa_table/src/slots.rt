@@ -1,6 +1,6 @@
 //! The slots of a table, as slices: how they are probed, filled and copied into more of them.
 ghost use Rattle.std.specs.Prelude.{◌≡◌, ℕ, ◌<◌, true, false, length, IfOk, IfErr, OnOk, OnErr, IfSome};
-ghost use Rattle.elsa_table.specs.Slots.{slot_of, walk, EndsAt, Gains, Holds, IsFindable, IsTaken};
+ghost use Rattle.elsa_table.specs.Slots.{slot_of, walk, EndsAt, Gains, Holds, HoldsSame, IsFindable, IsTaken};
 
 use std::alloc::{AllocError, Allocator};
 
@@ -62,7 +62,7 @@ pub(crate) fn search<F: Fn(usize) -> bool>(
 
 /// The first slot of a probe for `hash` that has nothing in it.
 #[inline(always)]
-fn vacant(slots: &[Slot], hash: u32) -> Option<usize>
+pub(crate) fn vacant(slots: &[Slot], hash: u32) -> Option<usize>
     ensures { IfSome result (EndsAt slots.now hash) }
 {
     let count = slots.len();
@@ -91,16 +91,11 @@ fn enter<A: Allocator>(slots: &mut Vec<Slot, A>, slot: Slot) -> Result<(), Alloc
     Ok(())
 }
 
-/// Twice as many slots, with what these hold and `last`.
+/// Twice as many slots, with what these hold.
 #[tactic(auto, using(crate::proofs::SlotLemmas::copied_none))]
 #[inline(never)]
-pub(crate) fn grown<A: Allocator>(
-    alloc: A,
-    slots: &[Slot],
-    last: Slot,
-) -> Result<Vec<Slot, A>, AllocError>
-    requires { IsTaken last }
-    ensures gains { IfOk result (λ wider. Gains slots.now last wider.items) }
+pub(crate) fn grown<A: Allocator>(alloc: A, slots: &[Slot]) -> Result<Vec<Slot, A>, AllocError>
+    ensures same { IfOk result (λ wider. HoldsSame slots.now wider.items) }
     ensures findable { IfOk result (λ wider. IsFindable wider.items) }
 {
     let Some(twice) = slots.len().checked_mul(2) else {
@@ -114,6 +109,5 @@ pub(crate) fn grown<A: Allocator>(
             enter(&mut wider, *slot)?;
         }
     }
-    enter(&mut wider, last)?;
     Ok(wider)
 }

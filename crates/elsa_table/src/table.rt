@@ -1,17 +1,17 @@
 //! [`PlaceTable`]: from hashes to places, by open addressing.
 //!
 //! Contracts see a table as its slots and the number of its places; `Has` says that it has a place under a hash (`specs/Table.antt`).
-ghost use Rattle.std.specs.Prelude.{◌≡◌, ◌+◌, ℕ, [], true, false, IfOk, IfErr, OnOk, OnErr};
-ghost use Rattle.elsa_table.specs.Table.{places, Has, IsVacancy, Adds};
+ghost use Rattle.std.specs.Prelude.{◌≡◌, ◌↔◌, ◌+◌, ◌<◌, ℕ, [], true, false, IfOk, IfErr, IsTrue, OnOk, OnErr};
+ghost use Rattle.elsa_table.specs.Table.{most_places, places, Has, HasSame, IsRoom, IsVacancy, Adds};
 
-use crate::slots::{Slot, grown, search};
+use crate::slots::{Slot, grown, search, vacant};
 use std::alloc::{AllocError, Allocator};
 use std::marker::Model;
 
 /// The most places: a slot has 32 bits for the place plus one.
 const MOST: usize = 0xFFFF_FFFF;
 
-/// Where a search ended that found nothing. It is good for [`PlaceTable::add`] until the table changes.
+/// Where a search ended that found nothing, or where [`PlaceTable::reserve`] made room. It is good until the table changes.
 #[derive(Clone, Copy)]
 pub struct Vacancy {
     slot: usize,
@@ -39,8 +39,9 @@ impl<A: Allocator> Model for PlaceTable<A> {
     ghost view = { λ t. (t.slots.items, t.count) };
 
     ghost use Rattle.elsa_table.specs.Slots.{IsFindable};
+    ghost use Rattle.elsa_table.specs.Table.{IsCount};
 
-    ghost invariant = { λ t. IsFindable t.slots.items };
+    ghost invariant = { λ t. IsFindable t.slots.items × IsCount t.count };
 }
 
 impl<A: Allocator + Copy> PlaceTable<A> {
@@ -85,36 +86,64 @@ impl<A: Allocator + Copy> PlaceTable<A> {
         if slot.hash == hash { place } else { usize::MAX }
     }
 
-    /// Adds the next place under the hash, and returns it: how many places there were.
+    /// Whether there are as many places as a slot has numbers for: 2^32 - 1. Takes no memory. `O(1)`.
+    #[inline]
+    pub fn is_full(&self) -> bool
+        ensures { IsTrue result ↔ (places self.now ≡ most_places) }
+    {
+        self.count >= MOST
+    }
+
+    /// Makes room for one more place under the hash, and returns where it goes, for [`PlaceTable::add`].
     ///
     /// The vacancy is of a search for this hash, since which the table is as it was. The slots double where three quarters of
-    /// them have places, which copies them once. `AllocError` means that memory for them was refused, or that there are
-    /// 2^32 - 1 places; the table is as it was. `O(1)`, counted over all additions.
+    /// them have places, which copies them once. `AllocError` means that memory for them was refused, or that the table is full
+    /// ([`PlaceTable::is_full`]); the table is as it was. `O(1)`, counted over all additions.
     #[inline(always)]
-    pub fn add(&mut self, hash: u32, vacancy: Vacancy) -> Result<usize, AllocError>
+    pub fn reserve(&mut self, hash: u32, vacancy: Vacancy) -> Result<Vacancy, AllocError>
         requires { IsVacancy self.old hash vacancy }
 
-        // The next place is there under the hash, and those before it as they were; a refusal leaves all.
-        ensures place { IfOk result (λ p. p ≡ places self.old) }
-        ensures places { OnOk result (places self.new ≡ places self.old + 1) }
-        ensures adds { IfOk result (λ p. Adds self.old hash p self.new) }
+        // There is room for a place under the hash, and no place changes; a refusal leaves all.
+        ensures room { IfOk result (IsRoom self.new hash) }
+        ensures below { OnOk result (places self.new < most_places) }
+        ensures places { places self.new ≡ places self.old }
+        ensures same { HasSame self.old self.new }
         ensures refused { OnErr result (self.new ≡ self.old) }
     {
-        let place = self.count;
-        if place >= MOST {
+        if self.count >= MOST {
             return Err(AllocError);
         }
-        let slot = Slot {
+        if self.count < self.limit && vacancy.slot < self.slots.len() {
+            return Ok(vacancy);
+        }
+        let wider = grown(*self.slots.allocator(), self.slots.as_slice())?;
+        let Some(slot) = vacant(wider.as_slice(), hash) else {
+            return Err(AllocError);
+        };
+        self.limit = wider.len() / 4 * 3;
+        self.slots = wider;
+        Ok(Vacancy { slot })
+    }
+
+    /// Adds the next place under the hash, and returns it: how many places there were. Takes no memory. `O(1)`.
+    ///
+    /// The room is of [`PlaceTable::reserve`] for this hash, since which the table is as it was.
+    #[inline(always)]
+    pub fn add(&mut self, hash: u32, room: Vacancy) -> usize
+        requires room { IsRoom self.old hash room }
+        requires below { places self.old < most_places }
+
+        // The next place is there under the hash, and those before it as they were.
+        ensures place { result ≡ places self.old }
+        ensures places { places self.new ≡ places self.old + 1 }
+        ensures adds { Adds self.old hash result self.new }
+    {
+        let place = self.count;
+        self.slots[room.slot] = Slot {
             hash,
             number: (place + 1) as u32,
         };
-        if place < self.limit && vacancy.slot < self.slots.len() {
-            self.slots[vacancy.slot] = slot;
-        } else {
-            self.slots = grown(*self.slots.allocator(), self.slots.as_slice(), slot)?;
-            self.limit = self.slots.len() / 4 * 3;
-        }
         self.count = place + 1;
-        Ok(place)
+        place
     }
 }

@@ -15,9 +15,8 @@ loop-slot-preserved g c =
       | else-slot-ne0 w ↦ subst (λ v. Copied slots (from + 1) v.items) (sym w.wider-is) (copied_vacant slots from c.loop-slot.wider.items so_far w.if-slot-ne0.false)
     ]
 
-pub returns-clause-gains : goal.returns-clause-gains
-returns-clause-gains g c =
+pub returns-clause-same : goal.returns-clause-same
+returns-clause-same g c =
     let slots = c.args.slots.now in
     let ended : c.loop-slot.slot-index ≡ length slots = omega arith in
-    copied_all slots c.loop-slot.wider.items c.enter-2.new.slots.items c.args.last
-    (subst (λ n. Copied slots n c.loop-slot.wider.items) ended c.loop-slot.invariant) c.in_ok-enter-2.ensures.gains
+    copied_all slots c.loop-slot.wider.items (subst (λ n. Copied slots n c.loop-slot.wider.items) ended c.loop-slot.invariant)
