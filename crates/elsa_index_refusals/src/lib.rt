@@ -16,3 +16,5 @@ mod no_memory;
 mod refusals;
 #[cfg(test)]
 mod run_refusals;
+#[cfg(test)]
+mod text_refusals;
