@@ -67,7 +67,7 @@ fn is_answered(alloc: Global) -> Result<bool, AllocError> {
     let arena = Bump::new(alloc);
     let mut map: FrozenMap<'_, u64, Own<u64>> = FrozenMap::new(alloc, &arena);
     let commands = Vec::from_array(alloc, [MapCommand::Insert(7, Own(1)), MapCommand::Len])?;
-    let replies = replies_of_map(alloc, &mut map, commands)?;
+    let replies = replies_of_map(&mut map, commands)?;
     Ok(replies.as_slice() == [MapReply::Item(&1), MapReply::Count(1)].as_slice())
 }
 

@@ -3,30 +3,28 @@ ghost use Rattle.std.specs.Prelude.{◌≡◌, OnErr};
 
 use elsa::run::{MapCommand, MapReply, VecCommand, VecReply, run_map, run_vec};
 use elsa::{FrozenVec, MapForm, StableDeref};
-use std::alloc::{AllocError, Global};
+use std::alloc::AllocError;
 
 /// The replies to commands on a map of any form.
 ///
 /// `Err` on an allocation failure: nothing was done.
 pub fn replies_of_map<R, M: MapForm<R>>(
-    alloc: Global,
     content: &mut M,
     commands: Vec<MapCommand<M::Key, M::Value, M::Base>>,
 ) -> Result<Vec<MapReply<<M::Value as StableDeref<R>>::Borrow>>, AllocError>
     ensures { OnErr result (M.entries content.new ≡ M.entries content.old) }
 {
-    run_map(alloc, content, commands)
+    run_map(content, commands)
 }
 
 /// The replies to commands on a list of texts.
 ///
 /// `Err` on an allocation failure: nothing was done.
 pub fn replies_of_texts<'a>(
-    alloc: Global,
     texts: &mut FrozenVec<'a, &'a str>,
     commands: Vec<VecCommand<&'a str, Vec<&'a str>>>,
 ) -> Result<Vec<VecReply<&'a str>>, AllocError>
     ensures { OnErr result (texts.new ≡ texts.old) }
 {
-    run_vec(alloc, texts, commands)
+    run_vec(texts, commands)
 }

@@ -18,3 +18,5 @@ mod no_memory;
 mod refusals;
 #[cfg(test)]
 mod run_refusals;
+#[cfg(test)]
+mod text_refusals;

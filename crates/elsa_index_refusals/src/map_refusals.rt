@@ -60,19 +60,25 @@ impl<'a, A: Allocator + Copy + Drop> Map<'a, A> {
         }
     }
 
-    fn give(&mut self, key: Text<A>, value: Text<A>) -> Result<&'a str, AllocError> {
+    // The key is the word at this place.
+    fn give(&mut self, key: Text<A>, value: Text<A>, place: usize) -> Result<&'a str, AllocError> {
         match self {
             Map::Hashed(map) => map.insert(key, value),
             Map::Ordered(map) => map.insert(key, value),
-            Map::Indexed(map) => map.insert(key, value),
+            Map::Indexed(map) => given_in_order(map, key, value, place),
         }
     }
 
-    fn give_new(&mut self, key: Text<A>, value: Text<A>) -> Result<(&'a str, bool), AllocError> {
+    fn give_new(
+        &mut self,
+        key: Text<A>,
+        value: Text<A>,
+        place: usize,
+    ) -> Result<(&'a str, bool), AllocError> {
         match self {
             Map::Hashed(map) => map.insert_new(key, value),
             Map::Ordered(map) => map.insert_new(key, value),
-            Map::Indexed(map) => map.insert_new(key, value),
+            Map::Indexed(map) => new_given_in_order(map, key, value, place),
         }
     }
 
@@ -102,6 +108,39 @@ impl<'a, A: Allocator + Copy + Drop> Map<'a, A> {
     }
 }
 
+// Whether the place is one whose word goes through a call that tells its place.
+fn is_full(place: usize) -> bool {
+    (place / 2).wrapping_add(place / 4) % 2 == 1
+}
+
+// By `insert` and by `insert_full`, which has to tell this place.
+fn given_in_order<'a, A: Allocator + Copy + Drop>(
+    map: &mut Indexed<'a, A>,
+    key: Text<A>,
+    value: Text<A>,
+    place: usize,
+) -> Result<&'a str, AllocError> {
+    if !is_full(place) {
+        return map.insert(key, value);
+    }
+    let (at, kept) = map.insert_full(key, value)?;
+    Ok(if at == place { kept } else { "" })
+}
+
+// By `insert_new` and by `insert_full_new`, which has to tell this place.
+fn new_given_in_order<'a, A: Allocator + Copy + Drop>(
+    map: &mut Indexed<'a, A>,
+    key: Text<A>,
+    value: Text<A>,
+    place: usize,
+) -> Result<(&'a str, bool), AllocError> {
+    if !is_full(place) {
+        return map.insert_new(key, value);
+    }
+    let (at, kept, new) = map.insert_full_new(key, value)?;
+    Ok((if at == place { kept } else { "" }, new))
+}
+
 fn hashed_of<'a, A: Allocator + Copy + Drop>(
     heap: A,
     arena: &'a Bump,
@@ -129,7 +168,7 @@ fn indexed_of<'a, A: Allocator + Copy + Drop>(
     Ok(Map::Indexed(made))
 }
 
-// An even call gives the next word a value, in turn by `insert` and by `insert_new`; of the odd ones the first gives the last word another
+// An even call gives the next word a value, in turn by `insert` and by `insert_new`, of the index map also by `insert_full` and `insert_full_new`; of the odd ones the first gives the last word another
 // value, the second clones, the third lists and the last collects.
 #[derive(Drop)]
 struct Calls<'a, A: Allocator + Copy + Drop> {
@@ -181,7 +220,7 @@ fn given<A: Allocator + Copy + Drop>(
     place: usize,
 ) -> Result<bool, AllocError> {
     let (key, text) = pair(heap, word(place), value(place))?;
-    Ok(map.give(key, text)? == value(place))
+    Ok(map.give(key, text, place)? == value(place))
 }
 
 fn new_given<A: Allocator + Copy + Drop>(
@@ -190,7 +229,7 @@ fn new_given<A: Allocator + Copy + Drop>(
     place: usize,
 ) -> Result<bool, AllocError> {
     let (key, text) = pair(heap, word(place), value(place))?;
-    Ok(map.give_new(key, text)? == (value(place), true))
+    Ok(map.give_new(key, text, place)? == (value(place), true))
 }
 
 // The key keeps its value, and isn't new.
@@ -200,7 +239,7 @@ fn given_again<A: Allocator + Copy + Drop>(
     place: usize,
 ) -> Result<bool, AllocError> {
     let (key, text) = pair(heap, word(place), word(place))?;
-    Ok(map.give_new(key, text)? == (value(place), false))
+    Ok(map.give_new(key, text, place)? == (value(place), false))
 }
 
 fn copied<A: Allocator + Copy + Drop>(

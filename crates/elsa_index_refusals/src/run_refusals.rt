@@ -123,39 +123,38 @@ enum Runs {
 }
 
 impl Runs {
-    // How the run goes over a collection with its table in `heap`, and its commands where nobody refuses.
-    fn goes(self, alloc: Global, heap: &Budget<Global>, arena: &Bump) -> Went {
-        let open = Budget::new(alloc);
+    // How the run goes over a collection with its table in `heap`, and its commands there too.
+    fn goes(self, heap: &Budget<Global>, arena: &Bump) -> Went {
         match self {
-            Runs::Vector => vec_goes(&open, heap, arena),
-            Runs::HashedMap => hashed_goes(alloc, heap, arena),
-            Runs::OrderedMap => ordered_goes(alloc, heap, arena),
-            Runs::IndexMap => index_goes(&open, heap, arena),
-            Runs::IndexSet => set_goes(&open, heap, arena),
+            Runs::Vector => vec_goes(heap, arena),
+            Runs::HashedMap => hashed_goes(heap, arena),
+            Runs::OrderedMap => ordered_goes(heap, arena),
+            Runs::IndexMap => index_goes(heap, arena),
+            Runs::IndexSet => set_goes(heap, arena),
         }
     }
 }
 
-// Whether the run goes through with nothing refused, nowhere with the first request refused, which is for the replies, and with each other
-// one refused through with one call refused.
+// Whether the run goes through with nothing refused, nowhere with the second request refused, which is for the replies, and with each later
+// one refused through with one call refused. The first request is for the commands.
 fn stands_requests(alloc: Global, run: Runs) -> bool {
     let open = Budget::new(alloc);
-    if run.goes(alloc, &open, &Bump::new(alloc)) != Went::Through(0) {
+    if run.goes(&open, &Bump::new(alloc)) != Went::Through(0) {
         return false;
     }
-    for number in 0..open.asked() {
+    for number in 1..open.asked() {
         let heap = Budget::new(alloc);
         heap.refuse(number, number.saturating_add(1));
-        let want = if number == 0 {
+        let want = if number == 1 {
             Went::Nowhere
         } else {
             Went::Through(1)
         };
-        if run.goes(alloc, &heap, &Bump::new(alloc)) != want || heap.given() != heap.granted() {
+        if run.goes(&heap, &Bump::new(alloc)) != want || heap.given() != heap.granted() {
             return false;
         }
     }
-    open.asked() > 3
+    open.asked() > 4
 }
 
 // Whether the run goes through with calls refused where the arena has room for fewer values than the sixteen that are accepted, and with
@@ -164,7 +163,7 @@ fn stands_placings(alloc: Global, run: Runs) -> bool {
     for room in 0..17 {
         let (heap, arena) = (Budget::new(alloc), Bump::new(alloc));
         leave_room(&arena, room);
-        let Went::Through(refused) = run.goes(alloc, &heap, &arena) else {
+        let Went::Through(refused) = run.goes(&heap, &arena) else {
             return false;
         };
         if (refused == 0) != (room == 16) {
@@ -185,7 +184,7 @@ trait Numbered: Sized + Drop {
 }
 
 fn commands<C: Numbered, A: Allocator + Copy + Drop>(alloc: A) -> Result<Vec<C, A>, AllocError> {
-    let mut commands = Vec::new(alloc);
+    let mut commands = Vec::with_capacity(alloc, COMMANDS)?;
     for number in 0..COMMANDS {
         commands.push(C::of(number))?;
     }
@@ -248,13 +247,13 @@ fn vec_is<A: Allocator + Copy + Drop>(items: &FrozenVec<'_, Own<usize>, A>, mode
     true
 }
 
-fn vec_goes<A: Allocator + Copy + Drop>(open: A, heap: A, arena: &Bump) -> Went {
+fn vec_goes<A: Allocator + Copy + Drop>(heap: A, arena: &Bump) -> Went {
     let mut items: FrozenVec<'_, Own<usize>, A> = FrozenVec::new(heap, arena);
-    let Ok(commands) = commands(open) else {
+    let Ok(commands) = commands(heap) else {
         return Went::Wrong;
     };
     let mut model = Model::new();
-    let Ok(replies) = run_vec(heap, &mut items, commands) else {
+    let Ok(replies) = run_vec(&mut items, commands) else {
         return nowhere(items.is_empty());
     };
     let good = all_fit(replies.as_slice(), &mut model) && vec_is(&items, &model);
@@ -302,12 +301,6 @@ impl Fits for MapReply<&usize> {
     }
 }
 
-fn map_commands<M: Drop>(
-    alloc: Global,
-) -> Result<Vec<MapCommand<usize, Own<usize>, M>>, AllocError> {
-    commands(alloc)
-}
-
 type Hashed<'a, A> = FrozenMap<'a, usize, Own<usize>, Hasher, A>;
 
 fn hashed_is<A: Allocator + Copy + Drop>(map: &Hashed<'_, A>, model: &Model) -> bool {
@@ -319,13 +312,13 @@ fn hashed_is<A: Allocator + Copy + Drop>(map: &Hashed<'_, A>, model: &Model) -> 
     map.len() == model.below(16)
 }
 
-fn hashed_goes(alloc: Global, heap: &Budget<Global>, arena: &Bump) -> Went {
+fn hashed_goes(heap: &Budget<Global>, arena: &Bump) -> Went {
     let mut map: Hashed<'_, &Budget<Global>> = FrozenMap::new(heap, arena);
-    let Ok(commands) = map_commands(alloc) else {
+    let Ok(commands) = commands(heap) else {
         return Went::Wrong;
     };
     let mut model = Model::new();
-    let Ok(replies) = run_map(heap, &mut map, commands) else {
+    let Ok(replies) = run_map(&mut map, commands) else {
         return nowhere(map.is_empty());
     };
     let good = all_fit(replies.as_slice(), &mut model) && hashed_is(&map, &model);
@@ -343,13 +336,13 @@ fn ordered_is<A: Allocator + Copy + Drop>(map: &Ordered<'_, A>, model: &Model) -
     map.len() == model.below(16)
 }
 
-fn ordered_goes(alloc: Global, heap: &Budget<Global>, arena: &Bump) -> Went {
+fn ordered_goes(heap: &Budget<Global>, arena: &Bump) -> Went {
     let mut map: Ordered<'_, &Budget<Global>> = FrozenBTreeMap::new(heap, arena);
-    let Ok(commands) = map_commands(alloc) else {
+    let Ok(commands) = commands(heap) else {
         return Went::Wrong;
     };
     let mut model = Model::new();
-    let Ok(replies) = run_map(heap, &mut map, commands) else {
+    let Ok(replies) = run_map(&mut map, commands) else {
         return nowhere(map.is_empty());
     };
     let good = all_fit(replies.as_slice(), &mut model) && ordered_is(&map, &model);
@@ -417,13 +410,13 @@ fn index_is<A: Allocator + Copy + Drop>(map: &Indexed<'_, A>, model: &Model) -> 
     true
 }
 
-fn index_goes<A: Allocator + Copy + Drop>(open: A, heap: A, arena: &Bump) -> Went {
+fn index_goes<A: Allocator + Copy + Drop>(heap: A, arena: &Bump) -> Went {
     let mut map: Indexed<'_, A> = FrozenIndexMap::new(heap, arena);
-    let Ok(commands) = commands(open) else {
+    let Ok(commands) = commands(heap) else {
         return Went::Wrong;
     };
     let mut model = Model::new();
-    let Ok(replies) = run_index(heap, &mut map, commands) else {
+    let Ok(replies) = run_index(&mut map, commands) else {
         return nowhere(map.is_empty());
     };
     let good = all_fit(replies.as_slice(), &mut model) && index_is(&map, &model);
@@ -489,13 +482,13 @@ fn set_is<A: Allocator + Copy + Drop>(set: &Numbers<'_, A>, model: &Model) -> bo
     true
 }
 
-fn set_goes<A: Allocator + Copy + Drop>(open: A, heap: A, arena: &Bump) -> Went {
+fn set_goes<A: Allocator + Copy + Drop>(heap: A, arena: &Bump) -> Went {
     let mut set: Numbers<'_, A> = FrozenIndexSet::new(heap, arena);
-    let Ok(commands) = commands(open) else {
+    let Ok(commands) = commands(heap) else {
         return Went::Wrong;
     };
     let mut model = Model::new();
-    let Ok(replies) = run_set(heap, &mut set, commands) else {
+    let Ok(replies) = run_set(&mut set, commands) else {
         return nowhere(set.get_index(0).is_none());
     };
     let good = all_fit(replies.as_slice(), &mut model) && set_is(&set, &model);

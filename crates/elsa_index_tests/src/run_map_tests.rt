@@ -154,7 +154,7 @@ fn hashed_replies<'a>(
     base: HashMap<u32, &'a str>,
 ) -> Result<Vec<MapReply<&'a str>>, AllocError> {
     let mut map: FrozenMap<'a, u32, String> = FrozenMap::new(alloc, arena);
-    run_map(alloc, &mut map, commands(alloc, rows, base)?)
+    run_map(&mut map, commands(alloc, rows, base)?)
 }
 
 fn hashed_is_answered(alloc: Global, arena: &Bump) -> Result<bool, AllocError> {
@@ -190,7 +190,7 @@ fn ordered_replies<'a>(
     base: BTreeMap<u32, &'a str>,
 ) -> Result<Vec<MapReply<&'a str>>, AllocError> {
     let mut map: FrozenBTreeMap<'a, u32, String> = FrozenBTreeMap::new(alloc, arena);
-    run_map(alloc, &mut map, commands(alloc, rows, base)?)
+    run_map(&mut map, commands(alloc, rows, base)?)
 }
 
 fn ordered_is_answered(alloc: Global, arena: &Bump) -> Result<bool, AllocError> {
@@ -226,7 +226,7 @@ fn index_replies<'a>(
     base: IndexMap<u32, &'a str>,
 ) -> Result<Vec<MapReply<&'a str>>, AllocError> {
     let mut map: FrozenIndexMap<'a, u32, String> = FrozenIndexMap::new(alloc, arena);
-    run_map(alloc, &mut map, commands(alloc, rows, base)?)
+    run_map(&mut map, commands(alloc, rows, base)?)
 }
 
 fn index_is_answered(alloc: Global, arena: &Bump) -> Result<bool, AllocError> {

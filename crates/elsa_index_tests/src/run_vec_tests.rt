@@ -96,7 +96,7 @@ fn replies_to<'a>(
     commands: Vec<Command<'a>>,
 ) -> Result<Vec<VecReply<&'a str>>, AllocError> {
     let mut items: FrozenVec<'a, &'a str> = FrozenVec::new(alloc, arena);
-    run_vec(alloc, &mut items, commands)
+    run_vec(&mut items, commands)
 }
 
 fn are_rows(alloc: Global, arena: &Bump) -> Result<bool, AllocError> {

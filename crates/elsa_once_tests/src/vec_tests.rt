@@ -210,11 +210,11 @@ fn of_half(items: &FrozenVec<'_, Own<u8>>, wanted: u8) -> Result<usize, usize>
     requires { (place : ℕ) (item : Bor ℕ) → slice_get items.now place ≡ Some item → item.now < 100 }
     ensures { IfOk result (λ place. place < length items.now) }
 {
-    items.binary_search_by(|item|
-        requires { item.now < 100 }
-    {
-        (*item + *item).cmp(&wanted)
-    })
+    items.binary_search_by(
+        |item|
+            requires { item.now < 100 }
+        { (*item + *item).cmp(&wanted) },
+    )
 }
 
 // A search of one number, and the whole vector.
@@ -223,7 +223,7 @@ fn half_of_one(alloc: Global) -> Result<bool, AllocError> {
     let mut items: FrozenVec<'_, Own<u8>> = FrozenVec::new(alloc, &arena);
     items.push(Own(21))?;
     let found = of_half(&items, 42) == Ok(0) && of_half(&items, 43) == Err(1);
-    Ok(found && items.as_slice() == [&21])
+    Ok(found && items.as_slice() == [&21].as_slice())
 }
 
 #[test]

@@ -111,7 +111,7 @@ where
 
 /// Makes the calls in order and returns one reply for each command, at the command's place.
 ///
-/// The room for all replies is made before the first call, so `AllocError` means that no call was made. A call that is
+/// The room for all replies is made before the first call, by the allocator of the commands, so `AllocError` means that no call was made. A call that is
 /// refused gets the reply `NoMemory`, which comes only for an absent key, and the run goes on.
 pub fn run_index<
     'a,
@@ -121,7 +121,6 @@ pub fn run_index<
     S: BuildHasher + Drop,
     A: Allocator + Copy,
 >(
-    alloc: A,
     map: &mut FrozenIndexMap<'a, K, V, S, A, P>,
     commands: Vec<IndexCommand<K, V, IndexMap<K, V::Borrow, S, A>>, A>,
 ) -> Result<Vec<IndexReply<V::Borrow>, A>, AllocError>
@@ -131,5 +130,6 @@ pub fn run_index<
     ensures one_each { IfOk result (λ replies. length replies.items ≡ length commands.items) }
     ensures none_made { OnErr result (map.new ≡ map.old) }
 {
+    let alloc = *commands.allocator();
     run(alloc, map, commands, IndexReply::NoMemory)
 }

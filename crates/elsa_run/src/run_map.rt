@@ -86,12 +86,11 @@ impl<R, M: MapForm<R>> Call<M, MapReply<<M::Value as StableDeref<R>>::Borrow>, R
 
 /// Makes the calls in order and returns one reply for each: the reply at a place belongs to the command at that place.
 ///
-/// The room for all replies is made first, so `Err` means that no call was made. A call whose allocation fails gets the reply
+/// The room for all replies is made first, by the allocator of the commands, so `Err` means that no call was made. A call whose allocation fails gets the reply
 /// `NoMemory`, and the run goes on.
 pub fn run_map<R, M: MapForm<R>, A: Allocator + Copy>(
-    alloc: A,
     map: &mut M,
-    commands: Vec<MapCommand<M::Key, M::Value, M::Base>>,
+    commands: Vec<MapCommand<M::Key, M::Value, M::Base>, A>,
 ) -> Result<Vec<MapReply<<M::Value as StableDeref<R>>::Borrow>, A>, AllocError>
     ensures run { IfOk result (λ replies.
         MapRunsTo M.same M.Value.target M.Value.shown M.base_entries (M.entries map.old)
@@ -101,5 +100,6 @@ pub fn run_map<R, M: MapForm<R>, A: Allocator + Copy>(
 {
     // The keys' equality is an equivalence.
     for_its_clause(map.len());
+    let alloc = *commands.allocator();
     run(alloc, map, commands, MapReply::NoMemory)
 }

@@ -116,7 +116,7 @@ where
 
 /// Makes the calls in order and returns one reply for each command, at the command's place.
 ///
-/// The room for all replies is made before the first call, so `AllocError` means that no call was made. A call that is
+/// The room for all replies is made before the first call, by the allocator of the commands, so `AllocError` means that no call was made. A call that is
 /// refused gets the reply `NoMemory`, which comes only for an absent value, and the run goes on.
 pub fn run_set<
     'a,
@@ -125,7 +125,6 @@ pub fn run_set<
     S: BuildHasher + Drop,
     A: Allocator + Copy,
 >(
-    alloc: A,
     set: &mut FrozenIndexSet<'a, T, S, A, P>,
     commands: Vec<SetCommand<T, T::Borrow, IndexSet<T::Borrow, S, A>>, A>,
 ) -> Result<Vec<SetReply<T::Borrow>, A>, AllocError>
@@ -139,5 +138,6 @@ where
     ensures one_each { IfOk result (λ replies. length replies.items ≡ length commands.items) }
     ensures none_made { OnErr result (set.new ≡ set.old) }
 {
+    let alloc = *commands.allocator();
     run(alloc, set, commands, SetReply::NoMemory)
 }

@@ -90,10 +90,9 @@ impl<'a, P: Allocator, T: StableDeref<&'a Bump<P>>, A: Allocator + Copy> Call<
 
 /// Makes the calls in order and returns one reply for each command, at the command's place.
 ///
-/// The room for all replies is made before the first call, so `AllocError` means that no call was made. A call whose allocation fails gets the
+/// The room for all replies is made before the first call, by the allocator of the commands, so `AllocError` means that no call was made. A call whose allocation fails gets the
 /// reply `NoMemory`, which comes only for a push, and the run goes on.
 pub fn run_vec<'a, P: Allocator, T: StableDeref<&'a Bump<P>>, A: Allocator + Copy>(
-    alloc: A,
     items: &mut FrozenVec<'a, T, A, P>,
     commands: Vec<VecCommand<T, Vec<T::Borrow, A>>, A>,
 ) -> Result<Vec<VecReply<T::Borrow>, A>, AllocError>
@@ -103,5 +102,6 @@ pub fn run_vec<'a, P: Allocator, T: StableDeref<&'a Bump<P>>, A: Allocator + Cop
     ensures one_each { IfOk result (λ replies. length replies.items ≡ length commands.items) }
     ensures none_made { OnErr result (items.new ≡ items.old) }
 {
+    let alloc = *commands.allocator();
     run(alloc, items, commands, VecReply::NoMemory)
 }

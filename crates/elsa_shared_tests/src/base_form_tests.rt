@@ -169,7 +169,7 @@ fn is_run(alloc: Global) -> Result<bool, AllocError> {
         alloc,
         [VecCommand::Push("fox"), VecCommand::Len],
     )?;
-    let replies = run_vec(alloc, &mut vector, commands)?;
+    let replies = run_vec(&mut vector, commands)?;
     Ok(replies.as_slice() == [VecReply::Done, VecReply::Count(1)].as_slice())
 }
 

@@ -63,7 +63,7 @@ fn runs_hashed(alloc: Global) -> Result<bool, AllocError> {
             MapCommand::Len,
         ],
     )?;
-    Ok(are_of_a_map(run_map(alloc, &mut map, commands)?.as_slice()))
+    Ok(are_of_a_map(run_map(&mut map, commands)?.as_slice()))
 }
 
 /// Whether a run on an ordered map is answered.
@@ -78,7 +78,7 @@ fn runs_ordered(alloc: Global) -> Result<bool, AllocError> {
             MapCommand::Len,
         ],
     )?;
-    Ok(are_of_a_map(run_map(alloc, &mut map, commands)?.as_slice()))
+    Ok(are_of_a_map(run_map(&mut map, commands)?.as_slice()))
 }
 
 /// Whether a run on an index map is answered.
@@ -92,7 +92,7 @@ fn runs_index_map(alloc: Global) -> Result<bool, AllocError> {
             IndexCommand::IndexOf(7),
         ],
     )?;
-    let replies = run_index(alloc, &mut map, commands)?;
+    let replies = run_index(&mut map, commands)?;
     Ok(replies.as_slice() == [IndexReply::Full(0, &1), IndexReply::Place(Some(0))].as_slice())
 }
 
@@ -101,7 +101,7 @@ fn runs_index_set(alloc: Global) -> Result<bool, AllocError> {
     let arena = Bump::new(alloc);
     let mut set: FrozenIndexSet<'_, Own<u64>> = FrozenIndexSet::new(alloc, &arena);
     let commands = Vec::from_array(alloc, [SetCommand::InsertFull(Own(7)), SetCommand::At(0)])?;
-    let replies = run_set(alloc, &mut set, commands)?;
+    let replies = run_set(&mut set, commands)?;
     Ok(replies.as_slice() == [SetReply::Full(0, &7), SetReply::Found(Some(&7))].as_slice())
 }
 
