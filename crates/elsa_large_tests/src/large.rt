@@ -207,7 +207,7 @@ fn vec_runs(alloc: Global, arena: &Bump) -> Result<bool, AllocError> {
     for number in 0..1000 {
         commands.push(VecCommand::Push(Own(number)))?;
     }
-    let replies = run_vec(alloc, &mut items, commands)?;
+    let replies = run_vec(&mut items, commands)?;
     Ok(replies.len() == 1000 && items.len() == 1000 && items.last() == Some(&999))
 }
 
@@ -218,7 +218,7 @@ fn map_runs(alloc: Global, arena: &Bump) -> Result<bool, AllocError> {
     for number in 0..1000 {
         commands.push(MapCommand::Insert(number, Own(number)))?;
     }
-    let replies = run_map(alloc, &mut map, commands)?;
+    let replies = run_map(&mut map, commands)?;
     Ok(replies.len() == 1000 && map.len() == 1000)
 }
 

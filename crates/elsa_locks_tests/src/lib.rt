@@ -21,3 +21,5 @@ mod recorder_refusals;
 mod recordings;
 #[cfg(test)]
 mod refusals;
+#[cfg(test)]
+mod sharing;

@@ -14,7 +14,8 @@ use std::sync::{Arc, RwLock, Wait};
 ///
 /// Each call on `&self` takes the lock, makes the call of the same name on the [`TreeState`] behind it, and lets the
 /// lock go before it returns: look there for what is promised of that call. Reading calls share the lock, inserting
-/// ones have it alone. All of them may wait.
+/// ones have it alone. All of them may wait. The `Ord`, `Clone`, `==` and `Drop` of keys and values run under the lock too: a
+/// call on the same map in one of them may wait for ever.
 #[derive(Drop)]
 pub struct FrozenBTreeMap<K: Ord, V, A: Allocator = Global> {
     lock: RwLock<TreeState<K, V, A>>,
@@ -46,7 +47,8 @@ impl<K: Ord, V, A: Allocator + Copy> FrozenBTreeMap<K, V, A> {
 
     /// What the one call of `f` on the value at the key returns, or `None`, without a call, if the key is absent.
     ///
-    /// `f` runs while this call shares the lock: an inserting call on the same map in it may wait for ever.
+    /// `f` runs while this call shares the lock: any call on the same map in it may wait for ever, a read too, since no reader
+    /// comes in while an insertion waits.
     pub fn map_get<R, F: FnOnce(&V) -> R + Drop>(&self, rt: &impl Wait, key: &K, f: F) -> Option<R>
         requires { F.IsAlwaysCallable f }
     {

@@ -14,7 +14,8 @@ use std::sync::{Arc, RwLock, Wait};
 ///
 /// Each call on `&self` takes the lock, makes the call of the same name on the [`MapState`] behind it, and releases the lock
 /// before it returns: look there for what is promised of that call. Reading calls share the lock, inserting ones
-/// have it alone. All of them may wait.
+/// have it alone. All of them may wait. The `==`, `Hash`, `Clone` and `Drop` of keys and values run under the lock too: a call on
+/// the same map in one of them may wait for ever.
 #[derive(Drop)]
 pub struct FrozenMap<K: Eq + Hash, V, A: Allocator = Global> {
     lock: RwLock<MapState<K, V, A>>,
@@ -39,7 +40,8 @@ impl<K: Eq + Hash, V, A: Allocator + Copy> FrozenMap<K, V, A> {
 
     /// What the one call of `f` on the value at the key returns, or `None`, without a call, if the key is absent.
     ///
-    /// `f` runs while this call shares the lock: an inserting call on the same map in it may wait for ever.
+    /// `f` runs while this call shares the lock: any call on the same map in it may wait for ever, a read too, since no reader
+    /// comes in while an insertion waits.
     pub fn map_get<R, F: FnOnce(&V) -> R + Drop>(&self, rt: &impl Wait, key: &K, f: F) -> Option<R>
         requires { F.IsAlwaysCallable f }
     {
@@ -141,8 +143,12 @@ impl<K: Eq + Hash + Drop, V: Drop, A: Allocator + Copy> FrozenMap<K, V, A> {
         self.lock.write(rt).insert_with(key, f)
     }
 
+<<<<<<< HEAD
     /// `insert_with` for an `f` that is given the key.
     /// `Err` on an allocation failure, or where the `Arc` has the most owners that it can count: the map is as before.
+=======
+    /// `insert_with` for an `f` that is given the key. A call on the same map in it may wait for ever.
+>>>>>>> 98a64820f6741528b0e9291afaff2a38ca52d27c
     pub fn insert_with_key<F: FnOnce(&K) -> V + Drop>(
         &self,
         rt: &impl Wait,
@@ -187,8 +193,12 @@ impl<K: Eq + Hash + Drop, V: Copy, A: Allocator + Copy> FrozenMap<K, V, A> {
         self.lock.write(rt).get_copy_or_insert_with(key, f)
     }
 
+<<<<<<< HEAD
     /// `get_copy_or_insert_with` for an `f` that is given the key.
     /// `Err` on an allocation failure, only for an absent key: the map is as before, and what was given is dropped.
+=======
+    /// `get_copy_or_insert_with` for an `f` that is given the key. A call on the same map in it may wait for ever.
+>>>>>>> 98a64820f6741528b0e9291afaff2a38ca52d27c
     pub fn get_copy_or_insert_with_key<F: FnOnce(&K) -> V + Drop>(
         &self,
         rt: &impl Wait,

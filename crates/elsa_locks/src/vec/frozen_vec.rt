@@ -10,7 +10,7 @@ use std::sync::{Arc, RwLock, Wait};
 ///
 /// Each call on `&self` takes the lock, makes the call of the same name on the [`VecState`] behind it, and releases the lock
 /// before it returns: look there for what is promised of that call. Reading calls share the lock, pushes have it
-/// alone. All of them may wait.
+/// alone. All of them may wait. The `==` of items runs under the lock too: a call on the same list in it may wait for ever.
 #[derive(Drop)]
 pub struct FrozenVec<V, A: Allocator = Global> {
     lock: RwLock<VecState<V, A>>,

@@ -1,0 +1,249 @@
+//! What one locked call does at once: readers share the lock, one inserter of nine is told that its key was new, an owner is that of the own
+//! item, and a comparison sees contents and not lengths alone.
+use crate::marks::Mark;
+use elsa_locks::map::{FrozenBTreeMap, FrozenMap};
+use elsa_locks::vec::FrozenVec;
+use std::alloc::{AllocError, Global};
+use std::sync::Wait;
+use std::test::Fail;
+use std::thread;
+use std::thread::Threads;
+
+type Hashed = FrozenMap<u64, u64>;
+
+type Ordered = FrozenBTreeMap<u64, u64>;
+
+type List = FrozenVec<u64>;
+
+// ---- readers
+
+// A map with 6 at the key 1, which is read by a closure and by a copy; an ordered map copies by a closure too.
+trait Read {
+    // Whether the closure was called, and returned true.
+    fn reads<R: Wait>(&self, rt: &R, mine: &Mark, other: &Mark) -> bool;
+
+    // The copy.
+    fn copies<R: Wait>(&self, rt: &R) -> Option<u64>;
+}
+
+// In a closure: tells the other thread that it runs, and waits for that thread.
+fn meets(mine: &Mark, other: &Mark) -> bool {
+    mine.raise(1);
+    other.comes_to(1)
+}
+
+impl Read for Hashed {
+    fn reads<R: Wait>(&self, rt: &R, mine: &Mark, other: &Mark) -> bool {
+        self.map_get(rt, &1, |_| meets(mine, other)) == Some(true)
+    }
+
+    fn copies<R: Wait>(&self, rt: &R) -> Option<u64> {
+        self.get_copy(rt, &1)
+    }
+}
+
+impl Read for Ordered {
+    fn reads<R: Wait>(&self, rt: &R, mine: &Mark, other: &Mark) -> bool {
+        self.map_get(rt, &1, |_| meets(mine, other)) == Some(true)
+    }
+
+    fn copies<R: Wait>(&self, rt: &R) -> Option<u64> {
+        self.map_get(rt, &1, |value| *value)
+    }
+}
+
+// Whether two closures run at once, each of which waits for the other.
+fn closures_meet<R: Threads + Wait + Sync, M: Read + Sync>(rt: &R, map: &M) -> bool {
+    let marks = (Mark::new(), Mark::new());
+    let (one, two) = (&marks.0, &marks.1);
+    let (a, b) = thread::join(rt, || map.reads(rt, one, two), || map.reads(rt, two, one));
+    a && b
+}
+
+// Copies while a closure runs, and tells it so.
+fn copies_beside<R: Wait, M: Read>(rt: &R, map: &M, runs: &Mark, copied: &Mark) -> bool {
+    if !runs.comes_to(1) {
+        return false;
+    }
+    let six = map.copies(rt) == Some(6);
+    copied.raise(1);
+    six
+}
+
+// Whether a copy is made while a closure runs that waits for it.
+fn a_copy_meets<R: Threads + Wait + Sync, M: Read + Sync>(rt: &R, map: &M) -> bool {
+    let marks = (Mark::new(), Mark::new());
+    let (runs, copied) = (&marks.0, &marks.1);
+    let (a, b) = thread::join(
+        rt,
+        || map.reads(rt, runs, copied),
+        || copies_beside(rt, map, runs, copied),
+    );
+    a && b
+}
+
+// A read that takes the lock alone lets no other reader in, and its closure waits in vain.
+#[test]
+fn reads_share_the_lock(rt: HostRuntime) -> Result<(), Fail> {
+    let hashed: Hashed = FrozenMap::new(rt.alloc());
+    let ordered: Ordered = FrozenBTreeMap::new(rt.alloc());
+    assert!(rt; hashed.insert(&rt, 1, 6).is_ok() && ordered.insert(&rt, 1, 6).is_ok());
+    assert!(rt; closures_meet(&rt, &hashed) && a_copy_meets(&rt, &hashed));
+    assert!(rt; closures_meet(&rt, &ordered) && a_copy_meets(&rt, &ordered));
+    Ok(())
+}
+
+// ---- one of nine is told "new"
+
+const KEYS: u64 = 2000;
+
+// A map whose insertion says whether the key was new.
+trait Inserted {
+    fn is_new<R: Wait>(&self, rt: &R, key: u64) -> bool;
+}
+
+impl Inserted for Hashed {
+    fn is_new<R: Wait>(&self, rt: &R, key: u64) -> bool {
+        matches!(self.insert_new(rt, key, 6), Ok((_, true)))
+    }
+}
+
+impl Inserted for Ordered {
+    fn is_new<R: Wait>(&self, rt: &R, key: u64) -> bool {
+        matches!(self.insert_new(rt, key, 6), Ok((_, true)))
+    }
+}
+
+// For how many keys this thread was told that its own was new. It begins when all nine are there.
+fn count_new<R: Wait, M: Inserted>(rt: &R, map: &M, arrived: &Mark) -> u64 {
+    arrived.raise_by_one();
+    if !arrived.comes_to(9) {
+        return 0;
+    }
+    let mut new: u64 = 0;
+    for key in 0..KEYS {
+        if map.is_new(rt, key) {
+            new = new.wrapping_add(1);
+        }
+    }
+    new
+}
+
+// Whether of nine threads that insert each key exactly one is told that it was new.
+fn one_of_nine_is_told<R: Threads + Wait + Sync, M: Inserted + Sync>(
+    rt: &R,
+    alloc: Global,
+    map: &M,
+) -> Result<bool, AllocError> {
+    let mark = Mark::new();
+    let arrived = &mark;
+    let told = thread::map_indices(rt, alloc, 9, &|_| count_new(rt, map, arrived))?;
+    let mut all: u64 = 0;
+    for new in told.as_slice() {
+        all = all.wrapping_add(*new);
+    }
+    Ok(all == KEYS)
+}
+
+// A flag that comes from two lengths under locks of their own is true for several threads, or for none.
+#[test]
+fn one_thread_is_told_that_a_key_was_new(rt: HostRuntime) -> Result<(), Fail> {
+    let hashed: Hashed = FrozenMap::new(rt.alloc());
+    let ordered: Ordered = FrozenBTreeMap::new(rt.alloc());
+    assert!(rt; one_of_nine_is_told(&rt, rt.alloc(), &hashed)?);
+    assert!(rt; one_of_nine_is_told(&rt, rt.alloc(), &ordered)?);
+    Ok(())
+}
+
+// ---- pushers in step
+
+const ROUNDS: u64 = 20_000;
+
+// Whether the owner that a push returns is that of its own item.
+fn owns_its_item(rt: &impl Wait, list: &List, item: u64) -> bool {
+    match list.push_get(rt, item) {
+        Ok(owner) => *owner == item,
+        Err(_) => false,
+    }
+}
+
+// Pushes once a round, each when the other has pushed in the round before.
+fn pushes_in_step<R: Wait>(rt: &R, list: &List, mine: &Mark, other: &Mark, number: u64) -> bool {
+    for round in 0..ROUNDS {
+        let item = round.wrapping_mul(2).wrapping_add(number);
+        if !other.comes_to(round) || !owns_its_item(rt, list, item) {
+            return false;
+        }
+        mine.raise(round + 1);
+    }
+    true
+}
+
+// An owner that is taken of the last item under a lock of its own is that of the other's item in some round.
+#[test]
+fn pushers_in_step_get_owners_of_their_own_items(rt: HostRuntime) -> Result<(), Fail> {
+    let list: List = FrozenVec::new(rt.alloc());
+    let marks = (Mark::new(), Mark::new());
+    let (shared, handle) = (&list, &rt);
+    let (one, two) = (&marks.0, &marks.1);
+    let (a, b) = thread::join(
+        &rt,
+        || pushes_in_step(handle, shared, one, two, 0),
+        || pushes_in_step(handle, shared, two, one, 1),
+    );
+    assert!(rt; a && b);
+    Ok(())
+}
+
+// ---- equal lengths
+
+// Whether two lists of one item each, 7 and 8, are told apart.
+fn lists_differ(rt: &impl Wait, alloc: Global) -> Result<bool, AllocError> {
+    let one: List = FrozenVec::new(alloc);
+    let two: List = FrozenVec::new(alloc);
+    one.push(rt, 7)?;
+    two.push(rt, 8)?;
+    Ok(!one.equals(rt, &two)?)
+}
+
+// Whether two hashed maps of one entry each are told apart, where the keys or the values differ.
+fn hashed_maps_differ(
+    rt: &impl Wait,
+    alloc: Global,
+    key: u64,
+    value: u64,
+) -> Result<bool, AllocError> {
+    let one: Hashed = FrozenMap::new(alloc);
+    let two: Hashed = FrozenMap::new(alloc);
+    let _ = one.insert(rt, 1, 7)?;
+    let _ = two.insert(rt, key, value)?;
+    Ok(!one.equals(rt, &two)?)
+}
+
+// The same of two ordered maps.
+fn ordered_maps_differ(
+    rt: &impl Wait,
+    alloc: Global,
+    key: u64,
+    value: u64,
+) -> Result<bool, AllocError> {
+    let one: Ordered = FrozenBTreeMap::new(alloc);
+    let two: Ordered = FrozenBTreeMap::new(alloc);
+    let _ = one.insert(rt, 1, 7)?;
+    let _ = two.insert(rt, key, value)?;
+    Ok(!one.equals(rt, &two)?)
+}
+
+#[test]
+fn collections_of_one_length_and_other_contents_are_told_apart(
+    rt: HostRuntime,
+) -> Result<(), Fail> {
+    assert!(rt; lists_differ(&rt, rt.alloc())?);
+    for (key, value) in [(1, 8), (2, 7)] {
+        assert!(rt;
+            hashed_maps_differ(&rt, rt.alloc(), key, value)?
+                && ordered_maps_differ(&rt, rt.alloc(), key, value)?
+        );
+    }
+    Ok(())
+}
