@@ -143,12 +143,8 @@ impl<K: Eq + Hash + Drop, V: Drop, A: Allocator + Copy> FrozenMap<K, V, A> {
         self.lock.write(rt).insert_with(key, f)
     }
 
-<<<<<<< HEAD
-    /// `insert_with` for an `f` that is given the key.
-    /// `Err` on an allocation failure, or where the `Arc` has the most owners that it can count: the map is as before.
-=======
     /// `insert_with` for an `f` that is given the key. A call on the same map in it may wait for ever.
->>>>>>> 98a64820f6741528b0e9291afaff2a38ca52d27c
+    /// `Err` on an allocation failure, or where the `Arc` has the most owners that it can count: the map is as before.
     pub fn insert_with_key<F: FnOnce(&K) -> V + Drop>(
         &self,
         rt: &impl Wait,
@@ -193,12 +189,8 @@ impl<K: Eq + Hash + Drop, V: Copy, A: Allocator + Copy> FrozenMap<K, V, A> {
         self.lock.write(rt).get_copy_or_insert_with(key, f)
     }
 
-<<<<<<< HEAD
-    /// `get_copy_or_insert_with` for an `f` that is given the key.
-    /// `Err` on an allocation failure, only for an absent key: the map is as before, and what was given is dropped.
-=======
     /// `get_copy_or_insert_with` for an `f` that is given the key. A call on the same map in it may wait for ever.
->>>>>>> 98a64820f6741528b0e9291afaff2a38ca52d27c
+    /// `Err` on an allocation failure, only for an absent key: the map is as before, and what was given is dropped.
     pub fn get_copy_or_insert_with_key<F: FnOnce(&K) -> V + Drop>(
         &self,
         rt: &impl Wait,
