@@ -17,8 +17,8 @@ use Rattle.elsa_machine.specs.Geometry.{IsAt}
 use Rattle.elsa_free.specs.declared.event.Entry.{Entry}
 use Rattle.elsa_free.specs.declared.event.Event.{Event}
 use Rattle.elsa_free.specs.declared.event.Event.TheVariants.{Acquired, Published, Cloned, Released, OfferOf}
-use Rattle.elsa_free.specs.SharedList.{count, items_of}
-use Rattle.elsa_machine.specs.AtomicSteps.{Acquires as IsAcquire, Looks as IsLook, Publishes as IsPublish, Releases as IsRelease}
+use Rattle.elsa_free.specs.SharedList.{copied, count, items_of}
+use Rattle.elsa_machine.specs.AtomicSteps.{Acquires as IsAcquire, Looks as IsLook, Opens as IsOpening, Publishes as IsPublish, Releases as IsRelease}
 use Rattle.elsa_free.specs.History.{list_of, is_held, shared_by, added, author_of, used_of, others}
 
 -- the histories of added, by how they grow
@@ -82,7 +82,7 @@ module _ {T : Type 0} where
   abbrev pub IsStep : Event T → List (Event T) → List (Event T) → List (Event T) → Type 0
   IsStep Acquired xs ys r = (r ≡ xs) × ((ys ≡ xs ++ Acquired ∷ []) × IsAcquire (length (list_of xs)) (shared_by xs) (shared_by ys))
   IsStep (Published x) xs ys r = (r ≡ xs) × ((ys ≡ xs) ⊎ ((ys ≡ xs ++ Published x ∷ []) × IsPublish x (shared_by xs) (shared_by ys)))
-  IsStep (Cloned cs) xs ys r = (r ≡ xs) × ((ys ≡ xs) ⊎ ((ys ≡ xs ++ Cloned cs ∷ []) × (is_held xs ≡ true) × (list_of xs ≡ [])))
+  IsStep (Cloned cs) xs ys r = (r ≡ xs) × ((ys ≡ xs) ⊎ ((ys ≡ xs ++ Cloned cs ∷ []) × IsOpening (copied cs) (shared_by xs) (shared_by ys)))
   IsStep Released xs ys r = (r ≡ xs) × ((ys ≡ xs) ⊎ ((ys ≡ xs ++ Released ∷ []) × IsRelease (shared_by xs) (shared_by ys)))
   IsStep (OfferOf a n) xs ys r = (r ≡ xs) × ((ys ≡ xs) × IsLook (length (list_of xs)) (shared_by xs) (shared_by ys))
 

@@ -129,10 +129,10 @@ impl<T: Copy + Drop, A: Allocator + Copy, K: ItemRule<T>> AtomicList<T, A, K> {
 
 impl<T: Copy + Drop + PartialEq, A: Allocator + Copy, K: ItemRule<T>> AtomicList<T, A, K> {
     /// Whether what is known to be written in this vector and in another are `n` equal items each, one by one.
-    pub fn has_items_of(
+    pub fn has_items_of<L: ItemRule<T>>(
         &self,
         prefix: &WrittenPrefix<T, Buffer<T, A>>,
-        other: &AtomicList<T, A, K>,
+        other: &AtomicList<T, A, L>,
         other_prefix: &WrittenPrefix<T, Buffer<T, A>>,
         n: usize,
     ) -> bool

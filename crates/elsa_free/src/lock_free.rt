@@ -106,7 +106,7 @@ impl<T: Copy + Drop, A: Allocator + Copy> LockFreeFrozenVec<T, A> {
     }
 
     /// The result of [`push_with_pass`](Self::push_with_pass) alone: of a place it is promised that it is below the greatest
-    /// length, `2^62 - 1`.
+    /// length, `2^62 - 1`. The short form of [`Handle::push`], which promises all.
     pub fn push<R: Wait>(&self, rt: &R, item: T) -> Result<usize, AllocError>
         ensures limit { IfOk result (λ i. i + 1 < 2 ^ 62) }
     {
@@ -125,9 +125,9 @@ impl<T: Copy + Drop + Eq, A: Allocator + Copy> LockFreeFrozenVec<T, A, DistinctI
 impl<T: Copy + Drop, A: Allocator + Copy, K: ItemRule<T>> LockFreeFrozenVec<T, A, K> {
     /// An empty vector that takes items by the rule `K`. It takes memory as [`new`](LockFreeFrozenVec::new) does.
     pub fn with_rule(alloc: A) -> Result<Self, AllocError> {
-        Ok(LockFreeFrozenVec {
-            list: AtomicList::new(alloc)?,
-        })
+        let (list, seen) = AtomicList::new(alloc)?;
+        drop(seen);
+        Ok(LockFreeFrozenVec { list })
     }
 
     /// Whether the vector never holds an item twice: it was made by [`distinct`](LockFreeFrozenVec::distinct). It takes no memory
@@ -287,7 +287,7 @@ impl<T: Copy + Drop, A: Allocator + Copy, K: ItemRule<T>> LockFreeFrozenVec<T, A
 
     /// The item at a place: `None` exactly if the place is at or above the length of what the pass has then seen.
     ///
-    /// A place that the pass has seen is read at once, with no atomic step: what other threads do meanwhile doesn't slow it.
+    /// A place that the pass has seen is read at once, with no atomic step, whatever other threads do meanwhile.
     /// For a place at or above that it first reads the length, by one load. It takes no lock and no memory, and never waits. `O(1)`.
     pub fn get_as(&self, pass: &mut Pass<T, A, K>, place: usize) -> Option<T>
         requires of { pass.old.vector ≡ self.now }
@@ -325,7 +325,7 @@ impl<T: Copy + Drop, A: Allocator + Copy, K: ItemRule<T>> LockFreeFrozenVec<T, A
     }
 
     /// The result of [`get_with_pass`](Self::get_with_pass) alone. It is promised that at or above the greatest length,
-    /// `2^62 - 1`, it is `None`.
+    /// `2^62 - 1`, it is `None`. The short form of [`Handle::get`], which promises all.
     pub fn get(&self, place: usize) -> Option<T>
         ensures limit { IfSome result (λ _. place + 1 < 2 ^ 62) }
     {
@@ -345,7 +345,7 @@ impl<T: Copy + Drop, A: Allocator + Copy, K: ItemRule<T>> LockFreeFrozenVec<T, A
     }
 
     /// The length of [`len_with_pass`](Self::len_with_pass) alone. It is promised that it is at most the greatest length,
-    /// `2^62 - 1`.
+    /// `2^62 - 1`. The short form of [`Handle::len`], which promises all.
     pub fn len(&self) -> usize
         ensures limit { result < 2 ^ 62 }
     {
@@ -354,7 +354,8 @@ impl<T: Copy + Drop, A: Allocator + Copy, K: ItemRule<T>> LockFreeFrozenVec<T, A
     }
 
     /// Whether the vector has no item, by one read of the length, of which nothing is promised: [`len_with_pass`](Self::len_with_pass)
-    /// tells it with its pass. It takes no lock and no memory, and never waits. `O(1)`.
+    /// tells it with its pass. The short form of a test of [`Handle::len`], which promises all. It takes no lock and no memory, and
+    /// never waits. `O(1)`.
     pub fn is_empty(&self) -> bool {
         self.len() == 0
     }

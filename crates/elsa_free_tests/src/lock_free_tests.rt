@@ -1,4 +1,5 @@
 //! The concurrent vector.
+use elsa_free::item_rule::DistinctItems;
 use elsa_free::lock_free::LockFreeFrozenVec;
 use std::alloc::{AllocError, Allocator, Global};
 use std::process::Abort;
@@ -132,19 +133,72 @@ fn a_thousand_items(rt: HostRuntime) -> Result<(), Fail> {
     Ok(())
 }
 
-/// Whether a clone equals its source of two items, and one more item then stands in the clone alone.
+/// Whether the items are these.
+fn has_items(vector: &LockFreeFrozenVec<u64>, items: &[u64]) -> bool {
+    if vector.len() != items.len() {
+        return false;
+    }
+    for place in 0..items.len() {
+        if vector.get(place) != Some(items[place]) {
+            return false;
+        }
+    }
+    true
+}
+
+/// Whether an empty vector takes 10 and 20.
+fn takes_two<R: Wait>(rt: &R, vector: &LockFreeFrozenVec<u64>) -> bool {
+    vector.push(rt, 10) == Ok(0) && vector.push(rt, 20) == Ok(1)
+}
+
+/// Whether a clone equals its source of two items, and 30 then stands in the clone alone.
 fn is_parted<R: Wait>(rt: &R, vector: &LockFreeFrozenVec<u64>) -> Result<bool, AllocError> {
     let mut p = vector.pass();
     let (copy, mut q) = vector.clone_as(&mut p)?;
     let equal = vector.equals_as(&mut p, &copy, &mut q);
     let place = copy.push_as(rt, &mut q, 30);
-    Ok(equal && place == Ok(2) && has_places(vector, 2) && !vector.equals(&copy))
+    let apart = has_items(vector, &[10, 20]) && has_items(&copy, &[10, 20, 30]);
+    Ok(equal && place == Ok(2) && apart && !vector.equals(&copy))
 }
 
 #[test]
 fn a_clone_goes_its_own_way(rt: HostRuntime) -> Result<(), Fail> {
     let vector = LockFreeFrozenVec::<u64>::new(rt.alloc())?;
-    assert!(rt; push_all(&rt, &vector, 0, 2) && is_parted(&rt, &vector)?);
+    assert!(rt; takes_two(&rt, &vector) && is_parted(&rt, &vector)?);
+    Ok(())
+}
+
+/// Whether 30, pushed into the source while its clone is there, is in the source alone.
+fn is_left<R: Wait>(rt: &R, vector: &LockFreeFrozenVec<u64>) -> Result<bool, AllocError> {
+    let copy = vector.clone()?;
+    let place = vector.push(rt, 30);
+    Ok(place == Ok(2) && has_items(&copy, &[10, 20]) && has_items(vector, &[10, 20, 30]))
+}
+
+#[test]
+fn a_push_into_the_source_leaves_its_clone(rt: HostRuntime) -> Result<(), Fail> {
+    let vector = LockFreeFrozenVec::<u64>::new(rt.alloc())?;
+    assert!(rt; takes_two(&rt, &vector) && is_left(&rt, &vector)?);
+    Ok(())
+}
+
+/// Whether a distinct vector with one item equals its clone, which is plain, both ways round, until the clone has one more.
+fn equals_its_clone<R: Wait>(
+    rt: &R,
+    vector: &LockFreeFrozenVec<u64, Global, DistinctItems>,
+) -> Result<bool, AllocError> {
+    let mut pass = vector.pass();
+    let pushed = vector.push_at_as(rt, &mut pass, 0, 5);
+    let copy = vector.clone()?;
+    let equal = vector.equals(&copy) && copy.equals(vector);
+    let more = copy.push(rt, 5);
+    Ok(pushed == Ok(Some(0)) && equal && more == Ok(1) && !vector.equals(&copy))
+}
+
+#[test]
+fn a_distinct_vector_is_compared_with_its_clone(rt: HostRuntime) -> Result<(), Fail> {
+    let vector = LockFreeFrozenVec::<u64, _, _>::distinct(rt.alloc())?;
+    assert!(rt; equals_its_clone(&rt, &vector)?);
     Ok(())
 }
 
@@ -191,6 +245,26 @@ fn a_refused_push(rt: HostRuntime) -> Result<(), Fail> {
         assert!(rt; opens_at(&rt, &budget, &vector, place), "at {place}");
     }
     assert!(rt; has_places(&vector, 16));
+    Ok(())
+}
+
+/// Whether a push of 5 is refused its buffer, and takes place 0 once it is allowed.
+fn takes_five_later<R: Wait>(
+    rt: &R,
+    budget: &Budget<Global>,
+    vector: &LockFreeFrozenVec<u64, &Budget<Global>>,
+) -> bool {
+    budget.refuse_next(1);
+    let refused = vector.push(rt, 5).is_err();
+    budget.refuse_next(0);
+    refused && vector.push(rt, 5) == Ok(0) && vector.get(0) == Some(5) && vector.len() == 1
+}
+
+#[test]
+fn a_refused_first_push_takes_place_0_later(rt: HostRuntime) -> Result<(), Fail> {
+    let budget = Budget::new(rt.alloc());
+    let vector = LockFreeFrozenVec::<u64, _>::new(&budget)?;
+    assert!(rt; takes_five_later(&rt, &budget, &vector));
     Ok(())
 }
 
@@ -320,6 +394,45 @@ fn a_reader_beside_a_pusher(rt: HostRuntime) -> Result<(), Fail> {
         || push_all(&rt, shared, 0, 1000),
         || sees_all(shared, 1000),
     );
+    assert_eq!(rt; (pushed, seen), (true, true));
+    Ok(())
+}
+
+/// An item that is no number.
+#[derive(Clone, Copy)]
+struct Moo(u64);
+
+/// Pushes a thousand structs, with the numbers from 0 on. Whether each takes its number for a place.
+fn push_moos<R: Wait>(rt: &R, vector: &LockFreeFrozenVec<Moo>) -> bool {
+    for number in 0..1000u64 {
+        if vector.push(rt, Moo(number)) != Ok(number as usize) {
+            return false;
+        }
+    }
+    true
+}
+
+/// Whether a thousand structs were each seen to have its place for a number, in all the turns.
+fn sees_moos(vector: &LockFreeFrozenVec<Moo>) -> bool {
+    let mut place: u64 = 0;
+    for _ in 0..TURNS {
+        if place >= 1000 {
+            return true;
+        }
+        match vector.get(place as usize) {
+            Some(Moo(number)) if number == place => place = place.wrapping_add(1),
+            Some(_) => return false,
+            None => thread::yield_now(),
+        }
+    }
+    false
+}
+
+#[test]
+fn a_reader_beside_a_pusher_of_structs(rt: HostRuntime) -> Result<(), Fail> {
+    let vector = LockFreeFrozenVec::<Moo>::new(rt.alloc())?;
+    let shared = &vector;
+    let (pushed, seen) = thread::join(&rt, || push_moos(&rt, shared), || sees_moos(shared));
     assert_eq!(rt; (pushed, seen), (true, true));
     Ok(())
 }

@@ -1,8 +1,9 @@
 -- The atomic steps of a vector that many threads share, as relations on what the threads share: the length, whether a
 -- thread holds, and the list. A load of the word is a read of the length; an exchange of the word is an acquire, a publish, which
 -- releases too, or a release that leaves the list. An exchange that fails is a read of the length. The turns of the machine name these
--- relations, and so does the rule of the vector on threads. No buffer, slot or pointer stands in them.
-use Rattle.std.specs.Prelude.{ℕ, ◌≡◌, ◌+◌, ◌*◌, Bool, true, false, List, [], ◌∷◌, ◌++◌}
+-- relations, and so does the rule of the vector on threads, which has one more: the first publish of the maker of a vector, before
+-- another thread has it. No buffer, slot or pointer stands in them.
+use Rattle.std.specs.Prelude.{ℕ, ◌≡◌, ◌+◌, ◌*◌, Bool, true, false, List, [], ◌∷◌, ◌++◌, length as count}
 
 -- what the threads share, where an entry of the list is an E
 pub record Shared (E : Type 0) : Type 0 where
@@ -52,3 +53,12 @@ module _ {E : Type 0} where
     pub length_is : after.length ≡ before.length
     pub held_is : after.held ≡ false
     pub list_is : after.list ≡ before.list
+
+  -- the opening of a vector, which its maker holds: the list was empty, has these entries now, none or all of a clone's, and
+  -- nobody holds
+  pub record Opens (entries : List E) (before after : Shared E) : Type 0 where
+    pub was_held : before.held ≡ true
+    pub was_empty : before.list ≡ []
+    pub length_is : after.length ≡ count entries
+    pub held_is : after.held ≡ false
+    pub list_is : after.list ≡ entries

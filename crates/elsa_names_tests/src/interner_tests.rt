@@ -140,6 +140,46 @@ fn refused_once<R: Wait>(
     refused.is_none() && empty && put(rt, interner, &mut names, "a") == Some(0)
 }
 
+/// Whether the first put, whose requests are this many, is refused the last of them, the list's buffer, and the same put then asks
+/// for that alone and takes the first place.
+fn refused_its_buffer<R: Wait>(
+    rt: &R,
+    budget: &Budget<Global>,
+    interner: &SharedInterner<Name, &Budget<Global>>,
+    requests: u64,
+) -> bool {
+    let mut names = interner.pass();
+    let last = budget.asked().wrapping_add(requests).wrapping_sub(1);
+    budget.refuse(last, last.saturating_add(1));
+    let refused = put(rt, interner, &mut names, "a");
+    let asked = budget.asked();
+    let again = put(rt, interner, &mut names, "a");
+    let more = budget.asked().wrapping_sub(asked);
+    refused.is_none() && again == Some(0) && more == 1
+}
+
+/// How many requests the first put makes.
+fn requests_of_a_put<R: Wait>(
+    rt: &R,
+    budget: &Budget<Global>,
+    interner: &SharedInterner<Name, &Budget<Global>>,
+) -> u64 {
+    let mut names = interner.pass();
+    let asked = budget.asked();
+    let _ = put(rt, interner, &mut names, "a");
+    budget.asked().wrapping_sub(asked)
+}
+
+#[test]
+fn a_first_put_without_the_buffer_of_the_list_succeeds_later(rt: HostRuntime) -> Result<(), Fail> {
+    let budget = Budget::new(rt.alloc());
+    let other = SharedInterner::<Name, _>::new(&budget)?;
+    let requests = requests_of_a_put(&rt, &budget, &other);
+    let interner = SharedInterner::<Name, _>::new(&budget)?;
+    assert!(rt; requests > 1 && refused_its_buffer(&rt, &budget, &interner, requests));
+    Ok(())
+}
+
 /// The names of the script.
 const WORDS: [&str; 20] = [
     "a", "b", "c", "d", "e", "f", "g", "h", "i", "j", "k", "l", "m", "n", "o", "p", "q", "r", "s",

@@ -186,7 +186,7 @@ module _ {M : Type 1} {𝓤 : Ura M} (𝓛 : Logic 𝓤) where
 
     pub clone_offer : (v : Log) (cs : List T.Denot) (a k : ℕ) → ⟦ fsep (right names v) (fsep (fsep (Rights (length (list_of v) + length (copied cs))) (prefix_written T B slot_names buffer_slots (length (list_of v)) (items_of (copied cs)))) (author a k)) ⟧
         ⊢ ⟦ offer_owns Kept (IsStep {T = T.Denot} (Cloned cs)) (release_gain T B slot_names (OfferOf a k ∷ v)) None ⟧
-    clone_offer v cs a k = ends_hold v (Cloned cs) refl a k k (copies_pay a k cs) (IsStep {T = T.Denot} (Cloned cs)) (λ xs ys r m. (m.0, elim m.1 [ inl s ↦ inl s | inr t ↦ inr (t.0, t.1) ]))
+    clone_offer v cs a k = ends_hold v (Cloned cs) refl a k k (copies_pay a k cs) (IsStep {T = T.Denot} (Cloned cs)) (λ xs ys r m. (m.0, elim m.1 [ inl s ↦ inl s | inr t ↦ inr (t.0, t.1.was_held) ]))
 
     -- publish an entry
     entry_pays : (x : Entry T.Denot) (a k : ℕ) → x.author ≡ suc a → (L : Entries) → count (suc a) L ≤ k → ⟦ author a k ⟧ ⊢ ⟦ tickets L (x ∷ []) ⟧ ∗ ⟦ author a (suc k) ⟧

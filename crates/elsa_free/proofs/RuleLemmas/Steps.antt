@@ -8,10 +8,10 @@ use Rattle.logbook.specs.Pages.{Cell, cell, keeps, no_nib, step, Moves, Goes}
 use Rattle.elsa_free.specs.declared.event.Event.{Event}
 use Rattle.elsa_free.specs.declared.event.Event.TheVariants.{Acquired, Published, Cloned, Released, OfferOf}
 use Rattle.elsa_free.specs.declared.event.Entry.{Entry}
-use Rattle.elsa_machine.specs.AtomicSteps.{bit, Acquires as IsAcquire, Publishes as IsPublish, Releases as IsRelease}
+use Rattle.elsa_machine.specs.AtomicSteps.{bit, Acquires as IsAcquire, Opens as IsOpening, Publishes as IsPublish, Releases as IsRelease}
 use Rattle.elsa_free.specs.Distinct.{EachIsNew}
 use Rattle.elsa_free.specs.History.{list_of, entries, begins_hold, is_held, shared_by}
-use Rattle.elsa_free.specs.SharedList.{items_of}
+use Rattle.elsa_free.specs.SharedList.{copied, items_of}
 use Rattle.elsa_free.specs.Rights.{IsStep}
 use Rattle.elsa_free.specs.OneWord.{IsKept, Acquires, Ends, word_of}
 use Rattle.elsa_free.proofs.RuleLemmas.History.{held_snoc, list_prefix, list_snoc, prefix_whole}
@@ -59,6 +59,10 @@ module _ (T : Type 0) where
   release_holds : (xs ys : Log) → ys ≡ xs ++ Released ∷ [] → is_held xs ≡ true → IsRelease (shared_by xs) (shared_by ys)
   release_holds xs ys is held = let l : list_of ys ≡ list_of xs = ap list_of is ∙ (list_snoc xs Released ∙ append-nil (list_of xs)) in
       record { was_held = held; length_is = ap length l; held_is = ap is_held is ∙ held_snoc true xs Released; list_is = l }
+
+  opening_holds : (xs ys : Log) (cs : List T) → ys ≡ xs ++ Cloned cs ∷ [] → is_held xs ≡ true → list_of xs ≡ [] → IsOpening (copied cs) (shared_by xs) (shared_by ys)
+  opening_holds xs ys cs is held none = let l : list_of ys ≡ copied cs = ap list_of is ∙ (list_snoc xs (Cloned cs) ∙ ap (λ (z : List (Entry T)). z ++ copied cs) none) in
+      record { was_held = held; was_empty = none; length_is = ap length l; held_is = ap is_held is ∙ held_snoc true xs (Cloned cs); list_is = l }
 
   -- ---- acquire
   module _ (is_new : List T → T → Type 0) (v : Log) (found : ℕ) (even : found % 2 ≡ 0) where
@@ -121,7 +125,7 @@ module _ (T : Type 0) where
   is_step : (e : Event T) (xs ys r : Log) → begins_hold e ≡ false → plain e ≡ true → (r ≡ xs) × ((ys ≡ xs) ⊎ ((ys ≡ xs ++ e ∷ []) × (is_held xs ≡ true) × MayFollow e (list_of xs))) → IsStep e xs ys r
   is_step Acquired xs ys r ends pl m = absurd (cc ends)
   is_step (Published x) xs ys r ends pl m = (m.0, elim m.1 [ inl s ↦ inl s | inr t ↦ inr (t.0, publish_holds xs ys x t.0 t.1) ])
-  is_step (Cloned cs) xs ys r ends pl m = m
+  is_step (Cloned cs) xs ys r ends pl m = (m.0, elim m.1 [ inl s ↦ inl s | inr t ↦ inr (t.0, opening_holds xs ys cs t.0 t.1 t.2) ])
   is_step Released xs ys r ends pl m = (m.0, elim m.1 [ inl s ↦ inl s | inr t ↦ inr (t.0, release_holds xs ys t.0 t.1) ])
   is_step (OfferOf a n) xs ys r ends pl m = absurd (cc pl)
 

@@ -1,10 +1,10 @@
 //! How a list begins: with nothing, or with a copy of what was seen of another.
-ghost use Rattle.std.specs.Prelude.{◌≡◌, ◌^◌, ◌<◌, [], ◌∷◌, length, None, IfOk, List, ℕ};
+ghost use Rattle.std.specs.Prelude.{◌≡◌, false, ◌^◌, ◌<◌, [], ◌∷◌, length, None, IfOk, List, ℕ};
 ghost use Rattle.elsa_slots.specs.Ahead.{GoesOn};
 ghost use Rattle.elsa_free.specs.Distinct.{EachIsNew};
 ghost use Rattle.elsa_free.specs.SharedList.{copied};
 ghost use Rattle.elsa_free.specs.declared.event.Event.TheVariants.{Cloned, OfferOf};
-ghost use Rattle.elsa_free.specs.History.{entries, list_of, added};
+ghost use Rattle.elsa_free.specs.History.{entries, is_held, list_of, added};
 ghost use Rattle.elsa_free.specs.Rights.{head, buffer_slots_of};
 ghost use Rattle.elsa_free.specs.SeenHistory.{IsOf};
 
@@ -19,8 +19,12 @@ use logbook::{Offer, Seen, Word};
 use std::alloc::{AllocError, Allocator};
 
 impl<T: Copy + Drop, A: Allocator + Copy, K: ItemRule<T>> AtomicList<T, A, K> {
-    /// An empty list: one that is filled with nothing.
-    pub fn new(alloc: A) -> Result<AtomicList<T, A, K>, AllocError> {
+    /// An empty list, one that is filled with nothing, and its history, which leaves the word free.
+    pub fn new(alloc: A) -> Result<(AtomicList<T, A, K>, SeenHistory<T, A, K>), AllocError>
+        ensures of { IfOk result (λ r. IsOf r.1 r.0.first) }
+        ensures free { IfOk result (λ r. is_held r.1.log ≡ false) }
+        ensures empty { IfOk result (λ r. list_of r.1.log ≡ []) }
+    {
         let (slots, further) = Slots::new(alloc)?;
         let prefix = WrittenPrefix::none(&further);
         let ahead = Ahead {
@@ -29,8 +33,7 @@ impl<T: Copy + Drop, A: Allocator + Copy, K: ItemRule<T>> AtomicList<T, A, K> {
             further,
         };
         let (list, seen) = AtomicList::filled(slots, prefix, ahead, 0);
-        drop(seen);
-        Ok(list)
+        Ok((list, seen))
     }
 
     /// A vector of its own with the first `n` items of what was seen, which have no author, and its history: that they were

@@ -1,10 +1,10 @@
 //! A push, from the first step to the last: acquire the word, write the slot of the length, publish.
-ghost use Rattle.std.specs.Prelude.{◌≡◌, ◌+◌, ◌*◌, ◌^◌, ◌<◌, ◌≤◌, ◌%◌, [], ◌∷◌, ◌++◌, length, IfSome, IfNone, IfOk, IfErr, List, suc, drop, take};
+ghost use Rattle.std.specs.Prelude.{◌≡◌, false, ◌+◌, ◌*◌, ◌^◌, ◌<◌, ◌≤◌, ◌%◌, [], ◌∷◌, ◌++◌, length, IfSome, IfNone, IfOk, IfErr, List, suc, drop, take};
 ghost use mathlib.Core.List.{IsPrefix};
 ghost use Rattle.elsa_slots.specs.Ahead.{IsOpenAt};
 ghost use Rattle.elsa_free.specs.SharedList.{Appends, BeginsABuffer, count, entry, items_of};
 ghost use Rattle.elsa_free.specs.declared.event.Event.TheVariants.{Acquired};
-ghost use Rattle.elsa_free.specs.History.{list_of};
+ghost use Rattle.elsa_free.specs.History.{is_held, list_of};
 ghost use Rattle.elsa_free.specs.Rights.{buffer_slots_of};
 ghost use Rattle.elsa_free.specs.SeenHistory.{IsHolder, IsOf};
 ghost use Rattle.elsa_free.specs.OneWord.{word_of};
@@ -159,7 +159,8 @@ impl<T: Copy + Drop, A: Allocator + Copy, K: ItemRule<T>> AtomicList<T, A, K> {
         requires n { (n ≡ length (list_of seen.log)) × (n < 2 ^ 62) }
         requires mine { author.used ≤ count (suc author.name) (list_of seen.log) }
 
-        // The list is as before, and the author has pushed as much as its tickets say.
+        // The word is free, the list is as before, and the author has pushed as much as its tickets say.
+        ensures free { is_held result.0.log ≡ false }
         ensures same { IsOf result.0 seen × (result.1.name ≡ author.name)
             × (result.1.used ≡ author.used) }
         ensures seen { list_of result.0.log ≡ list_of seen.log }
@@ -207,7 +208,8 @@ impl<T: Copy + Drop, A: Allocator + Copy, K: ItemRule<T>> AtomicList<T, A, K> {
         requires mine { author.used ≤ count (suc author.name) (list_of seen.log) }
         requires new { K.is_new (items_of (list_of seen.log)) item }
 
-        // The list has one entry more, and the author one ticket fewer.
+        // The word is free, the list has one entry more, and the author one ticket fewer.
+        ensures free { is_held result.0.log ≡ false }
         ensures same { IsOf result.0 seen × (result.1.name ≡ author.name)
             × (result.1.used ≡ suc author.used) }
         ensures seen { list_of result.0.log
@@ -251,7 +253,8 @@ impl<T: Copy + Drop, A: Allocator + Copy, K: ItemRule<T>> AtomicList<T, A, K> {
         requires mine { author.used ≤ count (suc author.name) (list_of seen.log) }
         requires new { K.is_new (items_of (list_of seen.log)) item }
 
-        // What the author has seen grows, and its entries are its own.
+        // The word is free. What the author has seen grows, and its entries are its own.
+        ensures free { is_held result.0.log ≡ false }
         ensures same { IsOf result.0 seen × (result.1.name ≡ author.name) }
         ensures seen { IsPrefix (list_of seen.log) (list_of result.0.log) }
         ensures mine { count (suc author.name) (list_of result.0.log) ≡ result.1.used }
@@ -306,7 +309,8 @@ impl<T: Copy + Drop, A: Allocator + Copy, K: ItemRule<T>> AtomicList<T, A, K> {
         requires guess { guess < 2 ^ 62 }
         requires new { (xs : List T) → K.is_new xs item }
 
-        // What the author has seen grows, and its entries are its own.
+        // The word is free. What the author has seen grows, and its entries are its own.
+        ensures free { is_held result.0.log ≡ false }
         ensures same { IsOf result.0 seen × (result.1.name ≡ author.name) }
         ensures seen { IsPrefix (list_of seen.log) (list_of result.0.log) }
         ensures mine { count (suc author.name) (list_of result.0.log) ≡ result.1.used }
@@ -353,6 +357,10 @@ impl<T: Copy + Drop, A: Allocator + Copy, K: ItemRule<T>> AtomicList<T, A, K> {
             ((result.1.used ≡ author.used) × (n < length (list_of result.0.log)))) }
         ensures refused { IfErr result.3 (λ e.
             (result.1.used ≡ author.used) × (length (list_of result.0.log) ≡ n) × BeginsABuffer n) }
+
+        // Where it acquired the word, that is free again.
+        ensures free { IfOk result.3 (λ a. IfSome a (λ i. is_held result.0.log ≡ false)) }
+        ensures free_refused { IfErr result.3 (λ e. is_held result.0.log ≡ false) }
     {
         let mut seen = seen;
         match self.acquire_at(rt, &mut seen, n) {

@@ -47,7 +47,8 @@ impl<T: Copy + Drop, A: Allocator + Copy, K: ItemRule<T>> LockFreeFrozenVec<T, A
         Ok((copy, pass, copy_pass))
     }
 
-    /// The clone of [`clone_with_passes`](Self::clone_with_passes) alone, of which nothing is promised without its passes.
+    /// The clone of [`clone_with_passes`](Self::clone_with_passes) alone, of which nothing is promised without its passes. The short
+    /// form of [`Handle::clone_vector`](super::Handle::clone_vector), which promises all.
     pub fn clone(&self) -> Result<LockFreeFrozenVec<T, A>, AllocError> {
         let (copy, _pass, _copy_pass) = self.clone_with_passes()?;
         Ok(copy)
@@ -55,13 +56,13 @@ impl<T: Copy + Drop, A: Allocator + Copy, K: ItemRule<T>> LockFreeFrozenVec<T, A
 }
 
 impl<T: Copy + Drop + PartialEq, A: Allocator + Copy, K: ItemRule<T>> LockFreeFrozenVec<T, A, K> {
-    /// Whether two vectors have equal items in order: it reads the length of this one, then of the other, and
-    /// compares what the two passes have then seen. It takes no lock and no memory, and never waits. `O(n)`.
-    pub fn equals_as(
+    /// Whether two vectors have equal items in order, whatever items each takes: it reads the length of this one, then of the other,
+    /// and compares what the two passes have then seen. It takes no lock and no memory, and never waits. `O(n)`.
+    pub fn equals_as<L: ItemRule<T>>(
         &self,
         pass: &mut Pass<T, A, K>,
-        other: &Self,
-        other_pass: &mut Pass<T, A, K>,
+        other: &LockFreeFrozenVec<T, A, L>,
+        other_pass: &mut Pass<T, A, L>,
     ) -> bool
         requires of { (pass.old.vector ≡ self.now) × (other_pass.old.vector ≡ other.now) }
         ensures continues { Continues pass.old pass.new }
@@ -85,7 +86,10 @@ impl<T: Copy + Drop + PartialEq, A: Allocator + Copy, K: ItemRule<T>> LockFreeFr
     }
 
     /// [`equals_as`](Self::equals_as) with passes of its own, which are returned beside the result.
-    pub fn equals_with_passes(&self, other: &Self) -> (bool, Pass<T, A, K>, Pass<T, A, K>)
+    pub fn equals_with_passes<L: ItemRule<T>>(
+        &self,
+        other: &LockFreeFrozenVec<T, A, L>,
+    ) -> (bool, Pass<T, A, K>, Pass<T, A, L>)
         ensures of { (result.1.vector ≡ self.now) × (mine result.1 ≡ []) }
         ensures other_of { (result.2.vector ≡ other.now) × (mine result.2 ≡ []) }
         ensures equal { result.0
@@ -97,8 +101,9 @@ impl<T: Copy + Drop + PartialEq, A: Allocator + Copy, K: ItemRule<T>> LockFreeFr
         (equal, pass, other_pass)
     }
 
-    /// The result of [`equals_with_passes`](Self::equals_with_passes) alone, of which nothing is promised without its passes.
-    pub fn equals(&self, other: &Self) -> bool {
+    /// The result of [`equals_with_passes`](Self::equals_with_passes) alone, of which nothing is promised without its passes. The
+    /// short form of [`Handle::equals`](super::Handle::equals), which promises all.
+    pub fn equals<L: ItemRule<T>>(&self, other: &LockFreeFrozenVec<T, A, L>) -> bool {
         let (equal, _pass, _other_pass) = self.equals_with_passes(other);
         equal
     }

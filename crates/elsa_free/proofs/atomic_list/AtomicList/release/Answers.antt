@@ -1,10 +1,11 @@
-use Rattle.std.proofs.Common.{◌++◌, ◌∷◌, [], ◌*◌, ◌+◌, ◌<◌, ◌^◌, List, length, refl, ap, sym, ◌∙◌, subst, arith}
+use Rattle.std.proofs.Common.{true, ◌++◌, ◌∷◌, [], ◌*◌, ◌+◌, ◌<◌, ◌^◌, List, length, refl, ap, sym, ◌∙◌, subst, arith}
 use Rattle.std.proofs.lemmas.List.{append-nil}
 use Rattle.elsa_free.specs.declared.event.Entry.{Entry}
 use Rattle.elsa_free.specs.Distinct.{EachIsNew}
 use Rattle.elsa_free.specs.SharedList.{items_of}
 use Rattle.elsa_free.specs.declared.event.Event.TheVariants.{Released}
-use Rattle.elsa_free.specs.History.{list_of}
+use Rattle.elsa_free.specs.History.{is_held, list_of}
+use Rattle.elsa_free.proofs.RuleLemmas.History.{held_snoc}
 use Rattle.elsa_free.proofs.RuleLemmas.Steps.{end_moves}
 use Rattle.elsa_free.proofs.RuleLemmas.HoldEnd.{exchange_was_at_known_history, released_list, released_word, held_word}
 use Rattle.elsa_free.proofs.atomic_list.AtomicList.release.Goals as goal
@@ -35,3 +36,11 @@ returns-clause-mine g c =
     let all = exchange_was_at_known_history v exchanged.0 c.into_gain.result.answer c.compare_exchange.new.seen.log c.offer_release-offer.result.ask c.compare_exchange.result (2 * n + 1) c.args.author.name c.args.author.used c.into_gain.result.about
     exchanged.1 exchanged.2 (held_word v n c.requires.n.0 c.requires.held.2) exchanged.4 about (cc (exchanged.3, gain.2)) up.2 up.3 in
     let x = all.1 in let y = c.requires.mine in omega (arith, x, y)
+
+pub returns-clause-free : goal.returns-clause-free
+returns-clause-free g c =
+    let v = c.args.seen.log in let n = c.args.n in let e = c.compare_exchange.ensures in let gain = c.into_gain.ensures in let offer = c.offer_release-offer.ensures in let exchanged = e.7 in let up = c.take_released.ensures in
+    let about = gain.1 ∙ (e.4 ∙ offer.2) in
+    let all = exchange_was_at_known_history v exchanged.0 c.into_gain.result.answer c.compare_exchange.new.seen.log c.offer_release-offer.result.ask c.compare_exchange.result (2 * n + 1) c.args.author.name c.args.author.used c.into_gain.result.about
+    exchanged.1 exchanged.2 (held_word v n c.requires.n.0 c.requires.held.2) exchanged.4 about (cc (exchanged.3, gain.2)) up.2 up.3 in
+    ap is_held (all.0 ∙ ap (λ e. v ++ e ∷ []) offer.1) ∙ held_snoc true v Released
