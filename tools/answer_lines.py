@@ -3,8 +3,10 @@
 
 usage: tools/answer_lines.py < INPUT > ANSWERS
 
-The input's bytes are cut after each byte 10; a last piece without one counts if it has a byte. Names are a list, at first empty.
-  put TEXT   the place of TEXT in the list; TEXT is added last if it is absent ('too many names' if it then is and there are 2^32 - 1)
+The input's bytes are cut after each byte 10; a last piece without one counts if it has a byte. Names are a list, at
+first empty.
+  put TEXT   the place of TEXT in the list; TEXT is added last if it is absent ('too many names' if it then is and
+  there are 2^32 - 1)
   find TEXT  the place of TEXT, or 'none'
   at N       the name at place N, or 'none'; N is one or more ASCII digits, at most 2^64 - 1
   len        how many names there are
@@ -21,7 +23,7 @@ def answer(line: bytes, places: dict, names: list) -> bytes:
     if line.startswith(b"put "):
         name = line[4:]
         if name not in places:
-            if len(names) == 2 ** 32 - 1:
+            if len(names) == 2**32 - 1:
                 return b"too many names"
             places[name] = len(names)
             names.append(name)
@@ -36,7 +38,7 @@ def answer(line: bytes, places: dict, names: list) -> bytes:
         number = 0
         for digit in digits.lstrip(b"0"):
             number = number * 10 + digit - 48
-            if number >= 2 ** 64:
+            if number >= 2**64:
                 return b"bad line"
         return names[number] if number < len(names) else b"none"
     if line == b"len":

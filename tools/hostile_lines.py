@@ -1,16 +1,79 @@
-"""Hostile inputs for a program that answers lines as `elsa intern` does: each kind of line, broken UTF-8, lengths round the powers of two, mixtures."""
+"""Hostile inputs for a program that answers lines as `elsa intern` does: each kind of line, broken UTF-8, lengths
+round the powers of two, mixtures."""
 import pathlib, random
 
 root = pathlib.Path(__file__).resolve().parent.parent
-BROKEN = [b"\xff", b"\xc0\x80", b"\xc3", b"\xe2\x82", b"\xed\xa0\x80", b"\xf0\x9f\x98", b"\xf4\x90\x80\x80", b"\x80", b"\xf8\x88\x80\x80\x80"]
+BROKEN = [
+    b"\xff",
+    b"\xc0\x80",
+    b"\xc3",
+    b"\xe2\x82",
+    b"\xed\xa0\x80",
+    b"\xf0\x9f\x98",
+    b"\xf4\x90\x80\x80",
+    b"\x80",
+    b"\xf8\x88\x80\x80\x80",
+]
 FINE = ["é", "€", "😀", "\u0000", "\r", "\ufeff", "\u2028", "\x7f", "\U0010ffff", "\ud7ff", "\ue000"]
-NUMBERS = ["0", "1", "00", "0001", "007", "+1", "-0", "-1", "1 ", " 1", "1.0", "0x1", "١", "", "18446744073709551615", "18446744073709551616",
-           "0" * 40 + "1", "0" * 100 + "18446744073709551615", "0" * 100 + "18446744073709551616", "99999999999999999999", "1" * 300]
+NUMBERS = [
+    "0",
+    "1",
+    "00",
+    "0001",
+    "007",
+    "+1",
+    "-0",
+    "-1",
+    "1 ",
+    " 1",
+    "1.0",
+    "0x1",
+    "١",
+    "",
+    "18446744073709551615",
+    "18446744073709551616",
+    "0" * 40 + "1",
+    "0" * 100 + "18446744073709551615",
+    "0" * 100 + "18446744073709551616",
+    "99999999999999999999",
+    "1" * 300,
+]
 
 
 def fixed_lines():
-    for word in ["", "put", "put ", "put  ", "put a", "put a ", " put a", "Put a", "PUT a", "puta", "put\ta", "put a\r", "put \r", "put \0", "put é",
-                 "find", "find ", "find a", "find  a", "find a\r", "finda", "at", "at ", "len", "len ", " len", "LEN", "len\r", "lens", "le", "l"]:
+    for word in [
+        "",
+        "put",
+        "put ",
+        "put  ",
+        "put a",
+        "put a ",
+        " put a",
+        "Put a",
+        "PUT a",
+        "puta",
+        "put\ta",
+        "put a\r",
+        "put \r",
+        "put \0",
+        "put é",
+        "find",
+        "find ",
+        "find a",
+        "find  a",
+        "find a\r",
+        "finda",
+        "at",
+        "at ",
+        "len",
+        "len ",
+        " len",
+        "LEN",
+        "len\r",
+        "lens",
+        "le",
+        "l",
+    ]:
         yield word.encode()
     for number in NUMBERS:
         yield b"at " + number.encode()
@@ -40,7 +103,9 @@ def cases(seed, quick):
         if size < 0 or (quick and size > 20000):
             continue
         text = bytes(chance.choice(b"abcdefghij ") for _ in range(size))
-        body = b"put " + text + b"\nat 0\nfind " + text + b"\n" + text + b"\nput " + text[:-1] + b"\xff\nlen\nput b\nlen"
+        body = (
+            b"put " + text + b"\nat 0\nfind " + text + b"\n" + text + b"\nput " + text[:-1] + b"\xff\nlen\nput b\nlen"
+        )
         yield f"texts of {size} bytes", body
     for count in range(3 if quick else 20):
         parts = []

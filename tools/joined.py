@@ -1,8 +1,11 @@
 """Several test crates, or several programs, as one crate of a scratch repository, for one trial of all.
 
-A trial reads std and each library below first, which takes two thirds of its time; so it is done once for all of them. Each crate becomes a module of the
-joined crate with its name: its files are those of the crate, line by line, but for `crate::`, behind which that name is written. A program's `main` is
-called where the one word of the run is its name; where its files speak of `Wait`, it is given the right to wait and to start threads by a type parameter,
+A trial reads std and each library below first, which takes two thirds of its time; so it is done once for all of them.
+Each crate becomes a module of the
+joined crate with its name: its files are those of the crate, line by line, but for `crate::`, behind which that name
+is written. A program's `main` is
+called where the one word of the run is its name; where its files speak of `Wait`, it is given the right to wait and to
+start threads by a type parameter,
 since the toolchain gives that to the joined crate's `main` alone.
 """
 import re, shutil, subprocess
@@ -29,7 +32,9 @@ ARMS        _ => Ok(ExitCode::FAILURE),
 def arm(name, text):
     """How the joined `main` calls the program's."""
     if re.search(r"^fn main\(rt: HostRuntime\) -> io::Result<\(\)>", text, re.M):
-        return f'        "{name}" => {{\n            {name}::main(rt)?;\n            Ok(ExitCode::SUCCESS)\n        }}\n'
+        return (
+            f'        "{name}" => {{\n            {name}::main(rt)?;\n            Ok(ExitCode::SUCCESS)\n        }}\n'
+        )
     return f'        "{name}" => {name}::main(rt),\n'
 
 
@@ -49,7 +54,8 @@ def copy(name, source):
 
 
 def joined(names, folder, tests):
-    """Makes the repository in this empty folder; returns the folder of its crate `joined`, which has these crates' tests, or these programs."""
+    """Makes the repository in this empty folder; returns the folder of its crate `joined`, which has these crates'
+    tests, or these programs."""
     known, below = lines(), [it for it in stands_on(*names) if it not in names]
     subprocess.run(["git", "init", "-q", "."], cwd=folder, check=True)
     for name in below:
@@ -62,6 +68,8 @@ def joined(names, folder, tests):
     for name in names:
         copy(name, source)
     head = "#![tactic(auto)]\n\n" + "".join(f"{'#[cfg(test)]' if tests else ''}\nmod {name};\n" for name in names)
-    arms = "" if tests else "".join(arm(name, (root / "crates" / name / "src" / "main.rt").read_text()) for name in names)
+    arms = (
+        "" if tests else "".join(arm(name, (root / "crates" / name / "src" / "main.rt").read_text()) for name in names)
+    )
     (source / ("lib.rt" if tests else "main.rt")).write_text(head if tests else head + MAIN.replace("ARMS", arms))
     return source.parent

@@ -1,5 +1,5 @@
 """What the scripts of this repository share: its crates, and what each stands on."""
-import importlib.machinery, importlib.util, os, pathlib, re, subprocess, sys
+import os, pathlib, re, subprocess, sys
 
 root = pathlib.Path(__file__).resolve().parent.parent
 
@@ -47,7 +47,9 @@ def is_program(name):
 
 
 def source_lines(name):
-    return [line.strip() for it in (root / "crates" / name / "src").rglob("*.rt") for line in it.read_text().splitlines()]
+    return [
+        line.strip() for it in (root / "crates" / name / "src").rglob("*.rt") for line in it.read_text().splitlines()
+    ]
 
 
 def tests_in(name):
@@ -63,18 +65,6 @@ def processors():
 def seconds(count):
     """A time as minutes and seconds."""
     return f"{int(count) // 60}:{int(count) % 60:02}"
-
-
-def toolchain():
-    """The module of the command `rt`."""
-    sys.dont_write_bytecode = True
-    kit = pathlib.Path(subprocess.run(["rt", "doc"], capture_output=True, text=True, check=True).stdout.strip()).parent
-    loader = importlib.machinery.SourceFileLoader("rt", str(kit / "bin" / "rt"))
-    made = importlib.util.module_from_spec(importlib.util.spec_from_loader("rt", loader))
-    loader.exec_module(made)
-    # its first call sets a signal's handler, which only this thread may
-    made.rtlib.guarded()
-    return made
 
 
 def program_sources():

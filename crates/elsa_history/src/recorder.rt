@@ -75,7 +75,7 @@ impl<C: Core, A: Allocator + Copy> Recorder<C, A> {
         pass.call(rt, &self.lock, command)
     }
 
-    /// Ends the recording. `Ok` exactly if the receipts of the passes are the history; the fault hands it out otherwise,
+    /// Ends the recording. `Ok` exactly if the receipts of the passes are the history; `CloseFault` hands it out otherwise,
     /// and says whether a pass is missing or one of another recorder is among them. Where both is so, it says the latter.
     ///
     /// Takes no memory and no lock, since the owner has the recorder alone. Entries times passes.

@@ -140,6 +140,8 @@ impl<'a, A: Allocator + Copy> ResourceCache<'a, A> {
     /// A path with a resource is answered by it, without the loader and without memory. One with a text and no resource
     /// is answered by the resource of that text, without the loader. Else the loader is called once, at the path. What
     /// was answered once is answered always.
+    ///
+    /// `LoadFault::NotFound` is the loader's, and nothing has changed. `LoadFault::Memory` leaves the resources; the path may have gained its text.
     pub fn get_resource<F: FnOnce(&str) -> Result<String, LoadFault>>(
         &mut self,
         path: &'a str,

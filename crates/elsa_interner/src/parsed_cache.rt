@@ -156,6 +156,9 @@ impl<'a, T: Copy + 'a, S: BuildHasher, A: Allocator + Copy> ParsedCache<'a, T, S
     /// So neither is called for a path that has a value, and the loader isn't for one that has a text; each is called once at most.
     /// A path with a value takes no memory and one hash. A new one takes two copies of the path, the text and the value in the
     /// arena, room in two tables, and six hashes.
+    ///
+    /// `CacheFault::Load` has the loader's error, and nothing has changed; `CacheFault::Parse` the parser's, and the path has its text;
+    /// `CacheFault::Memory` leaves the values, and the path may have gained its text.
     pub fn get_or_parse<
         L,
         P,

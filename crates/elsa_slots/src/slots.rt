@@ -41,6 +41,7 @@ impl<T, A: Allocator> Model for Slots<T, A> {
 
 impl<T: Copy, A: Allocator + Copy> Slots<T, A> {
     /// No buffer is open. Also returns the rights to open them. Takes memory for the table of 31 buffers.
+    /// `Err` on an allocation failure.
     pub fn new(alloc: A) -> Result<(Slots<T, A>, WriteRights), AllocError>
         ensures rights { IfOk result (λ r. r.1.of ≡ r.0) }
         ensures count { IfOk result (λ r. length r.0 ≡ 31) }
@@ -56,6 +57,7 @@ impl<T: Copy, A: Allocator + Copy> Slots<T, A> {
     }
 
     /// A buffer of `len` free slots, and the rights to write them. Takes memory for `len` items, and touches none of it.
+    /// `Err` on an allocation failure.
     pub fn new_buffer(&self, len: usize) -> Result<(Buffer<T, A>, WriteRights), AllocError>
         ensures { IfOk result (λ r. (length r.0 ≡ len) × (r.1.of ≡ r.0)) }
     {

@@ -37,6 +37,7 @@ pub trait MapForm<R> {
     ghost base_entries: { Self.Base → List (Self.Key × Self.Value.Borrow) };
 
     /// Gives `key` the value unless it has one, and returns the value that it now has and whether it was new.
+    /// `Err` on an allocation failure, only for a new key: the content is as before.
     fn insert_new(
         &mut self,
         key: Self::Key,
