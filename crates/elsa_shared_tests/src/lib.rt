@@ -2,6 +2,8 @@
 #![tactic(auto)]
 
 #[cfg(test)]
+mod arena_form_tests;
+#[cfg(test)]
 mod base_form_tests;
 #[cfg(test)]
 mod filled;

@@ -122,8 +122,9 @@ fn has_its_names(alloc: Global) -> Result<bool, AllocError> {
     for name in ["ccc", "a", "bb", "a"] {
         names.put(name)?;
     }
-    let is_filled = !names.is_empty() && names.contains("bb") && !names.contains("b");
-    Ok(is_new && is_filled && walked(&names) == (312, 213))
+    let is_filled = !names.is_empty() && !names.is_full();
+    let is_right = names.contains("bb") && !names.contains("b");
+    Ok(is_new && is_filled && is_right && walked(&names) == (312, 213))
 }
 
 #[test]

@@ -1,0 +1,52 @@
+//! Values that own memory in an arena, by the paths of `elsa`.
+use elsa::TypedArena;
+use elsa::arena::Place;
+use std::alloc::{AllocError, Global};
+use std::test::Fail;
+
+/// Whether the value of that number is this text.
+fn is_at(arena: &TypedArena<String>, number: usize, text: &str) -> bool {
+    match arena.get(number) {
+        Some(kept) => kept.as_str() == text,
+        None => false,
+    }
+}
+
+/// The number of a place and of the same place once more, where they are one.
+fn number_of(place: &Place<String>) -> Option<usize> {
+    let again = place.again();
+    if again.number() == place.number() {
+        Some(place.number())
+    } else {
+        None
+    }
+}
+
+/// Whether two texts that own their bytes are placed, and each is where it was placed.
+fn keeps_texts(alloc: Global) -> Result<bool, AllocError> {
+    let arena: TypedArena<String> = TypedArena::with_capacity(alloc, 2)?;
+    let (one, two) = (
+        String::from_str(alloc, "one")?,
+        String::from_str(alloc, "two")?,
+    );
+    let Ok(first) = arena.push(one) else {
+        return Ok(false);
+    };
+    let Ok(second) = arena.alloc(two) else {
+        return Ok(false);
+    };
+    let shown = arena.at(&first).as_str() == "one" && second.as_str() == "two";
+    let mut walked = 0usize;
+    for _ in arena.iter() {
+        walked = walked.wrapping_add(1);
+    }
+    let counted = walked == 2 && arena.len() == 2 && !arena.is_empty();
+    Ok(shown && counted && is_at(&arena, 1, "two") && number_of(&first) == Some(0))
+}
+
+#[test]
+fn values_that_own_memory_stay_where_they_were_placed(rt: HostRuntime) -> Result<(), Fail> {
+    assert!(rt; keeps_texts(rt.alloc())?);
+    assert!(rt; TypedArena::<String>::new(rt.alloc())?.is_empty());
+    Ok(())
+}
