@@ -3,6 +3,7 @@
 //! The paths are those of Rust's elsa: the collections at the root, each module under its name, and what threads share in [`sync`].
 #![tactic(auto)]
 
+pub use elsa_cell as cell;
 pub use elsa_hash::seeded;
 pub use elsa_hash::seeded::SeededState;
 pub use elsa_index::index_map::FrozenIndexMap;
