@@ -5,6 +5,7 @@
 
 pub use elsa_arena::arena;
 pub use elsa_arena::arena::TypedArena;
+pub use elsa_cell as cell;
 pub use elsa_hash::seeded;
 pub use elsa_hash::seeded::SeededState;
 pub use elsa_index::index_map::FrozenIndexMap;

@@ -1,0 +1,98 @@
+//! A loader of files that include others, over one map that is filled through `&self`: each file is loaded once, its includes first, and a file that includes
+//! itself is told.
+use elsa_cell::{CellFault, FrozenMap};
+use std::alloc::{AllocError, Global};
+use std::test::*;
+
+/// A file: its own words, and how many words it has with all that it includes. It owns its list.
+#[derive(Drop)]
+struct File {
+    words: Vec<String>,
+    total: usize,
+}
+
+/// Why a file wasn't loaded.
+#[derive(Debug, Clone, Copy, PartialEq, Eq)]
+enum LoadFault {
+    Memory,
+    Missing,
+    IncludesItself,
+}
+
+impl From<AllocError> for LoadFault {
+    fn from(_refused: AllocError) -> LoadFault {
+        LoadFault::Memory
+    }
+}
+
+const FILES: [(&str, &str); 4] = [
+    ("main", "+list a b +text"),
+    ("list", "+text c"),
+    ("text", "d e f"),
+    ("loop", "+loop"),
+];
+
+fn text_of(path: &str) -> Option<&'static str> {
+    for (name, text) in FILES {
+        if name == path {
+            return Some(text);
+        }
+    }
+    None
+}
+
+/// The file at a path. `depth` is how many files include this one: more than there are, so one includes itself.
+fn load<'m>(
+    alloc: Global,
+    files: &'m FrozenMap<String, File>,
+    path: &str,
+    depth: usize,
+) -> Result<&'m File, LoadFault> {
+    if let Ok(Some(file)) = files.get_text(path) {
+        return Ok(file);
+    }
+    if depth > FILES.len() {
+        return Err(LoadFault::IncludesItself);
+    }
+    let Some(text) = text_of(path) else {
+        return Err(LoadFault::Missing);
+    };
+    let (mut words, mut total) = (Vec::new(alloc), 0);
+    for word in text.split(' ') {
+        match word.strip_prefix("+") {
+            Some(included) => total += load(alloc, files, included, depth + 1)?.total,
+            None => {
+                let word = String::from_str(alloc, word)?;
+                let Ok(()) = words.push(word) else {
+                    return Err(LoadFault::Memory);
+                };
+                total += 1;
+            }
+        }
+    }
+    let path = String::from_str(alloc, path)?;
+    match files.insert(path, File { words, total }) {
+        Ok(file) => Ok(file),
+        Err(CellFault::Memory(_file) | CellFault::InUse(_file)) => Err(LoadFault::Memory),
+    }
+}
+
+/// How many words a file has with its includes, how many of its own, and how many files were loaded for it.
+fn counts(alloc: Global, path: &str) -> Result<(usize, usize, usize), LoadFault> {
+    let files = FrozenMap::new(alloc)?;
+    let file = load(alloc, &files, path, 0)?;
+    Ok((file.total, file.words.len(), files.len()))
+}
+
+#[test]
+fn includes_are_loaded_once_and_first(rt: HostRuntime) -> Result<(), Fail> {
+    assert!(rt; counts(rt.alloc(), "main") == Ok((9, 2, 3)));
+    Ok(())
+}
+
+#[test]
+fn a_file_that_includes_itself_or_is_missing_is_told(rt: HostRuntime) -> Result<(), Fail> {
+    assert!(rt; counts(rt.alloc(), "loop") == Err(LoadFault::IncludesItself));
+    assert!(rt; counts(rt.alloc(), "none") == Err(LoadFault::Missing));
+    Ok(())
+}

@@ -1,0 +1,7 @@
+//! The map that grows through `&self`, as a stranger calls it: values that own memory, a loader of includes, refusals over `test_alloc`.
+#![tactic(auto)]
+
+#[cfg(test)]
+mod includes;
+#[cfg(test)]
+mod map_tests;
