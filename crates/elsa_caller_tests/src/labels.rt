@@ -1,5 +1,5 @@
 //! Insertion through `&self`: a collection in a `RefCell`. The arena gives the borrows their life, so they outlast each borrow of the cell.
-ghost use Rattle.std.specs.Prelude.{◌≡◌, IfOk};
+ghost use Rattle.std.specs.Prelude.{◌≡◌, IfOk, string_bytes};
 
 use bumpalo::Bump;
 use elsa::FrozenVec;
@@ -25,7 +25,7 @@ enum LabelFault {
 impl<'a> Labels<'a> {
     /// Adds the label and returns it, as a borrow of the arena.
     fn add(&self, label: String) -> Result<&'a str, LabelFault>
-        ensures { IfOk result (λ text. text ≡ label) }
+        ensures { IfOk result (λ text. text.now ≡ string_bytes label) }
     {
         let Ok(mut texts) = self.texts.try_borrow_mut() else {
             return Err(LabelFault::InUse);

@@ -41,17 +41,17 @@ fn text_of(path: &str) -> Option<&'static str> {
     None
 }
 
-/// The file at a path. `depth` is how many files include this one: more than there are, so one includes itself.
+/// The file at a path. `left` is how many files more may include one another: at none left, one includes itself.
 fn load<'m>(
     alloc: Global,
     files: &'m FrozenMap<String, File>,
     path: &str,
-    depth: usize,
+    left: usize,
 ) -> Result<&'m File, LoadFault> {
     if let Ok(Some(file)) = files.get_text(path) {
         return Ok(file);
     }
-    if depth > FILES.len() {
+    if left == 0 {
         return Err(LoadFault::IncludesItself);
     }
     let Some(text) = text_of(path) else {
@@ -60,13 +60,15 @@ fn load<'m>(
     let (mut words, mut total) = (Vec::new(alloc), 0);
     for word in text.split(' ') {
         match word.strip_prefix("+") {
-            Some(included) => total += load(alloc, files, included, depth + 1)?.total,
+            Some(included) => total = load(alloc, files, included, left - 1)?
+                .total
+                .wrapping_add(total),
             None => {
                 let word = String::from_str(alloc, word)?;
                 let Ok(()) = words.push(word) else {
                     return Err(LoadFault::Memory);
                 };
-                total += 1;
+                total = total.wrapping_add(1);
             }
         }
     }
@@ -80,7 +82,7 @@ fn load<'m>(
 /// How many words a file has with its includes, how many of its own, and how many files were loaded for it.
 fn counts(alloc: Global, path: &str) -> Result<(usize, usize, usize), LoadFault> {
     let files = FrozenMap::new(alloc)?;
-    let file = load(alloc, &files, path, 0)?;
+    let file = load(alloc, &files, path, FILES.len())?;
     Ok((file.total, file.words.len(), files.len()))
 }
 

@@ -65,7 +65,7 @@ fn each_value_is_dropped_once(rt: HostRuntime) -> Result<(), Fail> {
 fn refusals<A: Allocator + Copy>(alloc: A) -> Option<usize> {
     let map: FrozenMap<u64, u64, std::hash::BuildHasherDefault<std::hash::FoldHasher>, A> =
         FrozenMap::new(alloc).ok()?;
-    let mut refused = 0;
+    let mut refused = 0_usize;
     for key in 0..10 {
         let outcome = map.insert(key, key + 100);
         match outcome {
@@ -75,7 +75,7 @@ fn refusals<A: Allocator + Copy>(alloc: A) -> Option<usize> {
                 }
             }
             Err(CellFault::Memory(value)) => {
-                refused += 1;
+                refused = refused.wrapping_add(1_usize);
                 if value != key + 100 || !matches!(map.get(&key), Ok(None)) {
                     return None;
                 }
@@ -83,7 +83,7 @@ fn refusals<A: Allocator + Copy>(alloc: A) -> Option<usize> {
             Err(CellFault::InUse(_value)) => return None,
         }
     }
-    if map.len() + refused != 10 {
+    if map.len().wrapping_add(refused) != 10 {
         return None;
     }
     Some(refused)

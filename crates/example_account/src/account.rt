@@ -1,4 +1,5 @@
 //! An account as the core of a recorder: its commands, its replies, and what they mean.
+ghost use Rattle.std.specs.Prelude.{◌≡◌};
 
 use elsa::sync::history::{Call, Core};
 use std::alloc::AllocError;
@@ -44,7 +45,7 @@ pub enum AccountReply {
 }
 
 impl Call<Account, AccountReply, ()> for AccountCommand {
-    ghost use Rattle.std.specs.Prelude.{ℕ, ⊥};
+    ghost use Rattle.std.specs.Prelude.{ℕ};
     ghost use Rattle.example_account.specs.Account.{AccountStep};
 
     ghost State = { ℕ };
