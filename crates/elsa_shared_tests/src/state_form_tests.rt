@@ -159,9 +159,9 @@ fn is_missed(rt: &impl Wait, alloc: Global) -> Result<bool, AllocError> {
     let recorder: Recorder<List> = Recorder::new(alloc, VecState::new(alloc));
     let mut pass = recorder.pass(1);
     let reply = recorder.call(rt, &mut pass, VecCommand::Push(7))?;
-    let Err(CloseFault::Receipts(ReceiptsFault::MissingPass, history)) =
-        recorder.close(Vec::new(alloc))
-    else {
+    let Err(CloseFault::Receipts(ReceiptsFault::MissingPass, history)) = recorder.close(Vec::new(
+        alloc,
+    )) else {
         return Ok(false);
     };
     Ok(reply == VecReply::Place(0) && history.entries().len() == 1)
