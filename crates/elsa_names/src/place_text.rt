@@ -2,7 +2,7 @@
 ghost use Rattle.std.specs.Prelude.{◌≡◌, ◌≤◌, ◌+◌, ◌↔◌, length, IfOk, IsOk, OnOk, OnErr};
 
 use bumpalo::Bump;
-use std::alloc::AllocError;
+use std::alloc::{AllocError, Allocator};
 use std::marker::Model;
 
 /// What keeps a copy of a text for the lifetime `'a`.
@@ -12,8 +12,8 @@ pub trait PlaceText<'a> {
         ensures { IfOk result (λ s. s.now ≡ text.now) };
 }
 
-/// Copies the text into the arena, which takes memory as it grows.
-impl<'a> PlaceText<'a> for &'a Bump {
+/// Copies the text into the arena, over any allocator, which takes memory as it grows.
+impl<'a, P: Allocator> PlaceText<'a> for &'a Bump<P> {
     fn place_text(self, text: &str) -> Result<&'a str, AllocError> {
         self.try_alloc_str(text)
     }
