@@ -6,13 +6,18 @@ use std::alloc::{AllocError, Global};
 use std::hash::BuildHasherDefault;
 use std::test::Fail;
 
+/// Whether a vector has the one number and not the other.
+fn has_eight_and_no_six(numbers: &FrozenVec<'_, Own<u64>>) -> bool {
+    numbers.contains(&8) && !numbers.contains(&6)
+}
+
 /// Whether a vector has an iterator's items behind its own, and no other.
 fn is_extended(alloc: Global) -> Result<bool, AllocError> {
     let arena = Bump::new(alloc);
     let mut numbers: FrozenVec<'_, Own<u64>> = FrozenVec::new(alloc, &arena);
     numbers.push(Own(7))?;
     numbers.extend([Own(8), Own(9)].into_iter())?;
-    Ok(numbers.get_copy(2) == Some(9) && numbers.contains(&8) && !numbers.contains(&6))
+    Ok(numbers.get_copy(2) == Some(9) && has_eight_and_no_six(&numbers))
 }
 
 #[test]
