@@ -84,14 +84,15 @@ fn a_present_text_and_walks_of_maps_ask_for_nothing(rt: HostRuntime) -> Result<(
     Ok(())
 }
 
+fn vector_answers<A: Allocator + Copy + Drop>(items: &FrozenVec<'_, Own<u64>, A>) -> bool {
+    items.contains(&7) && items.as_slice().len() == 1 && items.iter().next_back().is_some()
+}
+
 fn vector_asks_nothing(heap: &Budget<Global>, arena: &Bump) -> Result<bool, AllocError> {
     let mut items: FrozenVec<'_, Own<u64>, _> = FrozenVec::new(heap, arena);
     items.push(Own(7))?;
     let before = asked(heap, arena);
-    let found = items.contains(&7)
-        && items.as_slice().len() == 1
-        && items.iter().next_back().is_some();
-    Ok(found && asked(heap, arena) == before)
+    Ok(vector_answers(&items) && asked(heap, arena) == before)
 }
 
 fn set_asks_nothing(heap: &Budget<Global>, arena: &Bump) -> Result<bool, AllocError> {
