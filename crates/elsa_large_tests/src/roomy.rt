@@ -84,8 +84,11 @@ fn a_present_text_and_walks_of_maps_ask_for_nothing(rt: HostRuntime) -> Result<(
     Ok(())
 }
 
-fn vector_answers<A: Allocator + Copy + Drop>(items: &FrozenVec<'_, Own<u64>, A>) -> bool {
-    items.contains(&7) && items.as_slice().len() == 1 && items.iter().next_back().is_some()
+fn vector_answers<'a, A: Allocator + Copy + Drop>(items: &FrozenVec<'a, Own<u64>, A>) -> bool {
+    let Some(seven) = items.get(0) else {
+        return false;
+    };
+    items.contains(seven) && items.as_slice().len() == 1 && items.iter().next_back().is_some()
 }
 
 fn vector_asks_nothing(heap: &Budget<Global>, arena: &Bump) -> Result<bool, AllocError> {
