@@ -133,6 +133,21 @@ fn a_thousand_items(rt: HostRuntime) -> Result<(), Fail> {
     Ok(())
 }
 
+/// How many items a vector takes before the buffer that begins at place 4^10 - 1, and a few more.
+const PAST_A_MILLION: u64 = 1_048_580;
+
+/// Whether an empty vector takes a number at each place up to and past the buffer that begins there.
+fn takes_a_million<R: Wait>(rt: &R, vector: &LockFreeFrozenVec<u64>) -> bool {
+    push_all(rt, vector, 0, PAST_A_MILLION) && has_places(vector, PAST_A_MILLION as usize)
+}
+
+#[test]
+fn pushes_past_place_1048575(rt: HostRuntime) -> Result<(), Fail> {
+    let vector = LockFreeFrozenVec::<u64>::new(rt.alloc())?;
+    assert!(rt; takes_a_million(&rt, &vector));
+    Ok(())
+}
+
 /// Whether the items are these.
 fn has_items(vector: &LockFreeFrozenVec<u64>, items: &[u64]) -> bool {
     if vector.len() != items.len() {

@@ -1,4 +1,5 @@
-//! Calls of the concurrent vector that take no memory: the budget's count of requests stands still, with every buffer full.
+//! How often calls of the concurrent vector ask for memory. Reads never do: the budget's count of requests stands still, with
+//! every buffer full.
 use elsa_free::lock_free::LockFreeFrozenVec;
 use std::alloc::{AllocError, Global};
 use std::sync::Wait;
@@ -67,5 +68,20 @@ fn reads_of_the_concurrent_vector_take_no_memory(rt: HostRuntime) -> Result<(), 
         let heap = Budget::new(rt.alloc());
         assert!(rt; takes_none(&rt, &heap, count)?, "at {count}");
     }
+    Ok(())
+}
+
+/// Whether a vector asks for memory once when it is made, and gives that back.
+fn asks_once(heap: &Budget<Global>) -> Result<bool, AllocError> {
+    let numbers = LockFreeFrozenVec::<u64, _>::new(heap)?;
+    let asked = heap.asked();
+    drop(numbers);
+    Ok(asked == 1 && heap.asked() == 1 && heap.given() == heap.granted())
+}
+
+#[test]
+fn a_vector_is_made_by_one_request(rt: HostRuntime) -> Result<(), Fail> {
+    let heap = Budget::new(rt.alloc());
+    assert!(rt; asks_once(&heap)?);
     Ok(())
 }

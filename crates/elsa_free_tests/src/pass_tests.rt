@@ -143,6 +143,25 @@ fn a_clone_and_a_meeting_hand_out_what_was_seen(rt: HostRuntime) -> Result<(), F
     Ok(())
 }
 
+/// Whether a pass that has seen two of five numbers clones all five.
+fn clones_what_it_had_not_seen<R: Wait>(
+    rt: &R,
+    vector: &LockFreeFrozenVec<u64>,
+) -> Result<bool, AllocError> {
+    let mut pass = vector.pass();
+    let part = push_to(rt, vector, 0, 2) && vector.len_as(&mut pass) == 2;
+    let later = push_to(rt, vector, 2, 5);
+    let (copy, copy_pass) = vector.clone_as(&mut pass)?;
+    Ok(part && later && walks(&copy, &copy_pass, 5))
+}
+
+#[test]
+fn a_clone_has_what_was_pushed_since_its_pass_looked(rt: HostRuntime) -> Result<(), Fail> {
+    let vector = LockFreeFrozenVec::<u64>::new(rt.alloc())?;
+    assert!(rt; clones_what_it_had_not_seen(&rt, &vector)?);
+    Ok(())
+}
+
 /// Pushes, and reads the place by the pass that pushed: by the contracts alone the item stands there.
 fn push_and_read<R: Wait>(
     rt: &R,

@@ -3,6 +3,8 @@
 #![tactic(auto)]
 
 #[cfg(test)]
+mod hash_tests;
+#[cfg(test)]
 mod interner_tests;
 #[cfg(test)]
 mod name_tests;
