@@ -19,6 +19,7 @@ pub use elsa_once::stable::{Own, StableDeref};
 pub use elsa_once::vec::FrozenVec;
 pub use elsa_once::{stable, vec, vec_laws};
 pub use elsa_run::run;
+pub use elsa_tables as tables;
 
 pub mod command;
 pub mod interner;

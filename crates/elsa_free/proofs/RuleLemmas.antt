@@ -3,6 +3,7 @@ pub mod AuthorBound
 pub mod AuthorPlaces
 pub mod EachNew
 pub mod History
+pub mod Hold
 pub mod HoldEnd
 pub mod Keyless
 pub mod Offers

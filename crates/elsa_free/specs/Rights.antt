@@ -91,7 +91,7 @@ module _ {T : Type 0} where
   OnlyPushed about r = count (suc (author_of about)) (list_of r) ≤ used_of about
 
 -- T is the item's type, B that of a buffer, and ids the slots of a buffer
-module _ (T B : RattleType) (slot_names : B.Denot → List ℕ) where
+module _ (T B : RattleType) (slot_names : B.Denot → List ℕ) (fits : B.Denot → T.Denot → Type 0) where
   -- the next place is the place n
   abbrev pub IsTailAt : ℕ → Tail B.Denot → Type 0
   IsTailAt n (at_new_buffer b) = n + 1 ≡ 4 ^ b
@@ -118,7 +118,7 @@ module _ (T B : RattleType) (slot_names : B.Denot → List ℕ) where
   -- all that the rule owns
   abbrev pub rule_owns : List ℕ → List (Event T.Denot) → Fml
   rule_owns names log = fsep (fsep (position names log) (free_rights (is_held log) (buffer_slots_of names) (length (list_of log))))
-      (fsep (prefix_written T B slot_names (buffer_slots_of names) 0 (items_of (list_of log))) (tickets [] (list_of log)))
+      (fsep (prefix_written T B slot_names fits (buffer_slots_of names) 0 (items_of (list_of log))) (tickets [] (list_of log)))
 
   -- What a thread gains at each step. At an acquire: the right to end the hold, and the rights to write from the length on;
   abbrev pub acquire_gain : List ℕ → List (Event T.Denot) → Fml
@@ -126,7 +126,7 @@ module _ (T B : RattleType) (slot_names : B.Denot → List ℕ) where
 
   -- at a read of the length: the evidence for the whole list, and the pass's tickets back;
   abbrev pub read_gain : List ℕ → List (Event T.Denot) → List (Event T.Denot) → Fml
-  read_gain names about r = fsep (prefix_written T B slot_names (buffer_slots_of names) 0 (items_of (list_of r))) (fsep (author (author_of about) (used_of about)) (fact (OnlyPushed about r)))
+  read_gain names about r = fsep (prefix_written T B slot_names fits (buffer_slots_of names) 0 (items_of (list_of r))) (fsep (author (author_of about) (used_of about)) (fact (OnlyPushed about r)))
 
   -- at the end of a hold: the pass's tickets back, with one fewer where it published an entry, and that the history was as it knew
   abbrev pub release_gain : List (Event T.Denot) → List (Event T.Denot) → Fml

@@ -25,25 +25,30 @@ use crate::tokens::{Author, offer_read};
 use crossbeam_utils::CachePadded;
 use elsa_machine::geometry::locate;
 use elsa_slots::iter::{Iter, walk};
-use elsa_slots::slots::{Buffer, Slots, WrittenPrefix};
+use elsa_slots::slots::{Beside, Buffer, Slots, WrittenPrefix};
 use logbook::{Gained, Offer, Seen, Word};
 use std::alloc::{AllocError, Allocator};
 
 /// What is known of a vector's history.
-pub type SeenHistory<T, A, K> = Seen<Event<T>, Log<T>, OneWord<Buffer<T, A>, K>>;
+pub type SeenHistory<T, A, K, X> = Seen<Event<T>, Log<T>, OneWord<Buffer<T, A, X>, K>>;
 
 /// What a push leaves: what is known of the history, its author, the length after it, and its result.
-pub type Pushed<T, A, K, X> = (SeenHistory<T, A, K>, Author, usize, Result<X, AllocError>);
+pub type Pushed<T, A, K, R> = (
+    SeenHistory<T, A, K, ()>,
+    Author,
+    usize,
+    Result<R, AllocError>,
+);
 
 /// The slots, the word, and what is known of every history of it: that it begins.
 ///
 /// The word has cache lines of its own: a pusher changes it all the time, and each read needs the slots. A processor that fetches lines
 /// in pairs takes both of a pair from the readers, so the word is padded twice: 128 bytes lie between it and anything else.
 #[derive(Drop)]
-pub struct AtomicList<T, A: Allocator, K: ItemRule<T>> {
-    slots: Slots<T, A>,
-    word: CachePadded<CachePadded<Word<Event<T>, Log<T>, OneWord<Buffer<T, A>, K>>>>,
-    pub(crate) first: SeenHistory<T, A, K>,
+pub struct AtomicList<T, A: Allocator, K: ItemRule<T>, X: Beside<T> = ()> {
+    pub(crate) slots: Slots<T, A, X>,
+    word: CachePadded<CachePadded<Word<Event<T>, Log<T>, OneWord<Buffer<T, A, X>, K>>>>,
+    pub(crate) first: SeenHistory<T, A, K, X>,
     ghost word_is: { padded_value (padded_value word) ≡ word_in first.book },
     ghost buffer_slots_are: { buffer_slots_of first.names ≡ slots },
     ghost all: { length slots ≡ 31 },
@@ -52,7 +57,7 @@ pub struct AtomicList<T, A: Allocator, K: ItemRule<T>> {
 
 /// What holds of a history that was seen: each item of its list was new to those before it, and the list is below the limit. It
 /// does nothing when it runs.
-pub fn obeys_rule<T, A: Allocator, K: ItemRule<T>>(seen: &SeenHistory<T, A, K>)
+pub fn obeys_rule<T, A: Allocator, K: ItemRule<T>, X: Beside<T>>(seen: &SeenHistory<T, A, K, X>)
     ensures new { EachIsNew K.is_new (items_of (list_of seen.now.log)) }
     ensures limit { length (list_of seen.now.log) < 2 ^ 62 }
 {
@@ -61,15 +66,15 @@ pub fn obeys_rule<T, A: Allocator, K: ItemRule<T>>(seen: &SeenHistory<T, A, K>)
     drop(known);
 }
 
-impl<T: Copy + Drop, A: Allocator + Copy, K: ItemRule<T>> AtomicList<T, A, K> {
+impl<T: Drop, A: Allocator + Copy, K: ItemRule<T>, X: Beside<T> + Drop> AtomicList<T, A, K, X> {
     /// The word, by a load that exchanges nothing with the rule.
-    fn load(&self, seen: &mut SeenHistory<T, A, K>) -> u64
+    fn load(&self, seen: &mut SeenHistory<T, A, K, X>) -> u64
         requires { seen.old.book ≡ self.now.first.book }
         ensures same { IsOf seen.new seen.old }
         ensures seen { IsPrefix seen.old.log seen.new.log }
         ensures word { result ≡ word_of seen.new.log }
     {
-        let mut offer: Offer<Event<T>, Log<T>, OneWord<Buffer<T, A>, K>, Nothing> = seen.plain::<
+        let mut offer: Offer<Event<T>, Log<T>, OneWord<Buffer<T, A, X>, K>, Nothing> = seen.plain::<
             Nothing,
             (),
             PlainRead,
@@ -78,37 +83,42 @@ impl<T: Copy + Drop, A: Allocator + Copy, K: ItemRule<T>> AtomicList<T, A, K> {
     }
 
     /// One item of what is known to be written. It takes no atomic step.
-    pub fn item(&self, prefix: &WrittenPrefix<T, Buffer<T, A>>, place: usize) -> T
+    pub fn item<'a>(&'a self, prefix: &WrittenPrefix<T, Buffer<T, A, X>>, place: usize) -> &'a T
         requires prefix { prefix.now.buffer_slots ≡ buffer_slots_of self.now.first.names }
         requires place { (place < length prefix.now.items) × (length prefix.now.items < 2 ^ 62) }
-        ensures { slice_get prefix.now.items place ≡ Some result }
+        ensures { slice_get prefix.now.items place ≡ Some result.now }
     {
         let (buffer, slot) = locate(place);
         let (opened, item) = prefix.at(place, buffer, slot);
-        let answer = self.slots.read(buffer, slot, &opened, &item);
+        let answer = self.slots.get(buffer, slot, &opened, &item);
         opened.discard();
         item.discard();
         answer
     }
 
-    /// A walk over the items that are known to be written. It takes no atomic step.
-    pub fn items<'a>(&'a self, prefix: WrittenPrefix<T, Buffer<T, A>>, len: usize) -> Iter<'a, T, A>
-        requires prefix { prefix.buffer_slots ≡ buffer_slots_of self.now.first.names }
-        requires len { (len ≡ length prefix.items) × (len < 2 ^ 62) }
-        ensures { result ≡ prefix.items }
+    /// What lies beside the slot of a place that is known to be written. It takes no atomic step.
+    pub fn beside<'a>(&'a self, prefix: &WrittenPrefix<T, Buffer<T, A, X>>, place: usize) -> &'a X
+        requires prefix { prefix.now.buffer_slots ≡ buffer_slots_of self.now.first.names }
+        requires place { (place < length prefix.now.items) × (length prefix.now.items < 2 ^ 62) }
+        ensures { (item : T) → slice_get prefix.now.items place ≡ Some item → X.fits result.now item }
     {
-        walk(&self.slots, prefix, len)
+        let (buffer, slot) = locate(place);
+        let (opened, item) = prefix.at(place, buffer, slot);
+        let answer = self.slots.beside(buffer, &opened);
+        opened.discard();
+        item.discard();
+        answer
     }
 
     /// The length of the list, by one load, with the evidence for all of it.
     pub fn read_length(
         &self,
-        seen: SeenHistory<T, A, K>,
+        seen: SeenHistory<T, A, K, X>,
         author: Author,
     ) -> (
         usize,
-        SeenHistory<T, A, K>,
-        Gained<Event<T>, Log<T>, ReadGain<Buffer<T, A>>>,
+        SeenHistory<T, A, K, X>,
+        Gained<Event<T>, Log<T>, ReadGain<Buffer<T, A, X>>>,
     )
         requires { IsOf seen self.now.first }
         ensures same { IsOf result.1 seen }
@@ -122,8 +132,19 @@ impl<T: Copy + Drop, A: Allocator + Copy, K: ItemRule<T>> AtomicList<T, A, K> {
         let mut offer = offer_read(&seen, author);
         let found = self
             .word
-            .load::<ReadLength, ReadGain<Buffer<T, A>>>(&mut seen, &mut offer);
+            .load::<ReadLength, ReadGain<Buffer<T, A, X>>>(&mut seen, &mut offer);
         (found as usize / 2, seen, offer.into_gain())
+    }
+}
+
+impl<T: Copy + Drop, A: Allocator + Copy, K: ItemRule<T>> AtomicList<T, A, K> {
+    /// A walk over the items that are known to be written. It takes no atomic step.
+    pub fn items<'a>(&'a self, prefix: WrittenPrefix<T, Buffer<T, A>>, len: usize) -> Iter<'a, T, A>
+        requires prefix { prefix.buffer_slots ≡ buffer_slots_of self.now.first.names }
+        requires len { (len ≡ length prefix.items) × (len < 2 ^ 62) }
+        ensures { result ≡ prefix.items }
+    {
+        walk(&self.slots, prefix, len)
     }
 }
 
@@ -147,7 +168,7 @@ impl<T: Copy + Drop + PartialEq, A: Allocator + Copy, K: ItemRule<T>> AtomicList
         while equal && place < n {
             let item = self.item(prefix, place);
             let other_item = other.item(other_prefix, place);
-            equal = item == other_item;
+            equal = *item == *other_item;
             place += 1;
         }
         equal

@@ -12,6 +12,7 @@ macro_rules! spend {
 mod atomic_list;
 mod event;
 mod handle;
+pub mod hold;
 pub mod item_rule;
 pub mod lock_free;
 mod pass;

@@ -18,17 +18,23 @@ use crate::item_rule::{AnyItems, DistinctItems, ItemRule};
 pub use crate::pass::Pass;
 use crate::tokens::{Author, take_read};
 pub use elsa_slots::iter::Iter;
+use elsa_slots::slots::Beside;
 use std::alloc::{AllocError, Allocator, Global};
 use std::marker::Model;
 use std::sync::Wait;
 
 /// An append-only vector of `Copy` items, which threads push to and read at once. A clause sees which vector it is.
 #[derive(Drop)]
-pub struct LockFreeFrozenVec<T, A: Allocator = Global, K: ItemRule<T> = AnyItems> {
-    list: AtomicList<T, A, K>,
+pub struct LockFreeFrozenVec<
+    T,
+    A: Allocator = Global,
+    K: ItemRule<T> = AnyItems,
+    X: Beside<T> = (),
+> {
+    pub(crate) list: AtomicList<T, A, K, X>,
 }
 
-impl<T, A: Allocator, K: ItemRule<T>> Model for LockFreeFrozenVec<T, A, K> {
+impl<T, A: Allocator, K: ItemRule<T>, X: Beside<T>> Model for LockFreeFrozenVec<T, A, K, X> {
     ghost use Rattle.elsa_free.specs.SharedList.{Vector};
 
     ghost Value = { Vector };
@@ -122,7 +128,12 @@ impl<T: Copy + Drop + Eq, A: Allocator + Copy> LockFreeFrozenVec<T, A, DistinctI
     }
 }
 
-impl<T: Copy + Drop, A: Allocator + Copy, K: ItemRule<T>> LockFreeFrozenVec<T, A, K> {
+impl<T: Drop, A: Allocator + Copy, K: ItemRule<T>, X: Beside<T> + Drop> LockFreeFrozenVec<
+    T,
+    A,
+    K,
+    X,
+> {
     /// An empty vector that takes items by the rule `K`. It takes memory as [`new`](LockFreeFrozenVec::new) does.
     pub fn with_rule(alloc: A) -> Result<Self, AllocError> {
         let (list, seen) = AtomicList::new(alloc)?;
@@ -139,7 +150,7 @@ impl<T: Copy + Drop, A: Allocator + Copy, K: ItemRule<T>> LockFreeFrozenVec<T, A
     }
 
     /// A pass that has seen nothing of this vector and has pushed nothing. It takes no memory and no atomic step.
-    pub fn pass(&self) -> Pass<T, A, K>
+    pub fn pass(&self) -> Pass<T, A, K, X>
         ensures of { result.vector ≡ self.now }
         ensures nothing_seen { result.seen ≡ [] }
         ensures nothing_mine { mine result ≡ [] }
@@ -147,6 +158,63 @@ impl<T: Copy + Drop, A: Allocator + Copy, K: ItemRule<T>> LockFreeFrozenVec<T, A
         Pass::of(self.list.first.again(), Author::new(), 0)
     }
 
+    /// The item at a place that the pass has seen, by reference. No atomic step, no lock and no memory. `O(1)`.
+    pub fn item_as<'a>(&'a self, pass: &Pass<T, A, K, X>, place: usize) -> &'a T
+        requires of { pass.now.vector ≡ self.now }
+        requires seen { place < length pass.now.seen }
+        ensures { slice_get (items_of pass.now.seen) place ≡ Some result.now }
+    {
+        pass.seen_len();
+        let prefix = pass.evidence();
+        let item = self.list.item(&prefix, place);
+        prefix.discard();
+        item
+    }
+
+    /// What lies beside the slot of a place that the pass has seen. No atomic step, no lock and no memory. `O(1)`.
+    #[doc(hidden)]
+    pub fn beside_as<'a>(&'a self, pass: &Pass<T, A, K, X>, place: usize) -> &'a X
+        requires of { pass.now.vector ≡ self.now }
+        requires seen { place < length pass.now.seen }
+        ensures { (item : T) → slice_get (items_of pass.now.seen) place ≡ Some item →
+            X.fits result.now item }
+    {
+        pass.seen_len();
+        let prefix = pass.evidence();
+        let beside = self.list.beside(&prefix, place);
+        prefix.discard();
+        beside
+    }
+
+    fn read_length_in(&self, pass: Pass<T, A, K, X>) -> (Pass<T, A, K, X>, usize)
+        requires { pass.vector ≡ self.now }
+        ensures same { IsSamePass pass result.0 }
+        ensures seen { IsPrefix pass.seen result.0.seen }
+        ensures mine { mine result.0 ≡ mine pass }
+        ensures length { (result.1 ≡ length result.0.seen) × (result.1 < 2 ^ 62) }
+    {
+        let (seen, author, _length) = pass.parts();
+        let (n, seen, gained) = self.list.read_length(seen, author);
+        let (author, prefix) = take_read(gained);
+        prefix.discard();
+        (Pass::of(seen, author, n), n)
+    }
+
+    /// How many items the vector has, by one atomic read of the length. It takes no lock and no memory, and never waits. `O(1)`.
+    pub fn len_as(&self, pass: &mut Pass<T, A, K, X>) -> usize
+        requires of { pass.old.vector ≡ self.now }
+        ensures continues { Continues pass.old pass.new }
+        ensures length { result ≡ length pass.new.seen }
+        ensures limit { result < 2 ^ 62 }
+    {
+        let before = std::mem::replace(pass, self.pass());
+        let (after, answer) = self.read_length_in(before);
+        drop(std::mem::replace(pass, after));
+        answer
+    }
+}
+
+impl<T: Copy + Drop, A: Allocator + Copy, K: ItemRule<T>> LockFreeFrozenVec<T, A, K> {
     fn push_in<R: Wait>(
         &self,
         rt: &R,
@@ -246,33 +314,6 @@ impl<T: Copy + Drop, A: Allocator + Copy, K: ItemRule<T>> LockFreeFrozenVec<T, A
         answer
     }
 
-    fn read_length_in(&self, pass: Pass<T, A, K>) -> (Pass<T, A, K>, usize)
-        requires { pass.vector ≡ self.now }
-        ensures same { IsSamePass pass result.0 }
-        ensures seen { IsPrefix pass.seen result.0.seen }
-        ensures mine { mine result.0 ≡ mine pass }
-        ensures length { (result.1 ≡ length result.0.seen) × (result.1 < 2 ^ 62) }
-    {
-        let (seen, author, _length) = pass.parts();
-        let (n, seen, gained) = self.list.read_length(seen, author);
-        let (author, prefix) = take_read(gained);
-        prefix.discard();
-        (Pass::of(seen, author, n), n)
-    }
-
-    /// How many items the vector has, by one atomic read of the length. It takes no lock and no memory, and never waits. `O(1)`.
-    pub fn len_as(&self, pass: &mut Pass<T, A, K>) -> usize
-        requires of { pass.old.vector ≡ self.now }
-        ensures continues { Continues pass.old pass.new }
-        ensures length { result ≡ length pass.new.seen }
-        ensures limit { result < 2 ^ 62 }
-    {
-        let before = std::mem::replace(pass, self.pass());
-        let (after, answer) = self.read_length_in(before);
-        drop(std::mem::replace(pass, after));
-        answer
-    }
-
     /// The item at a place that the pass has seen.
     fn seen_item(&self, pass: &Pass<T, A, K>, place: usize) -> T
         requires of { pass.now.vector ≡ self.now }
@@ -280,7 +321,7 @@ impl<T: Copy + Drop, A: Allocator + Copy, K: ItemRule<T>> LockFreeFrozenVec<T, A
         ensures { slice_get (items_of pass.now.seen) place ≡ Some result }
     {
         let prefix = pass.evidence();
-        let item = self.list.item(&prefix, place);
+        let item = *self.list.item(&prefix, place);
         prefix.discard();
         item
     }

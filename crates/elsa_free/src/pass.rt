@@ -10,19 +10,19 @@ ghost use Rattle.elsa_free.specs.Rights.{buffer_slots_of};
 use crate::atomic_list::{SeenHistory, obeys_rule};
 use crate::item_rule::{AnyItems, DistinctItems, ItemRule};
 use crate::tokens::{Author, apart, bounded_by_tickets, evidence};
-use elsa_slots::slots::{Buffer, WrittenPrefix};
+use elsa_slots::slots::{Beside, Buffer, WrittenPrefix};
 use std::alloc::{Allocator, Global};
 use std::marker::Model;
 
 /// What a thread has seen of a vector, and the right to push under its name. A clause sees the vector that it is of, its number
 /// as an author, and the list that it has seen.
-pub struct Pass<T, A: Allocator = Global, K: ItemRule<T> = AnyItems> {
-    seen: SeenHistory<T, A, K>,
+pub struct Pass<T, A: Allocator = Global, K: ItemRule<T> = AnyItems, X: Beside<T> = ()> {
+    seen: SeenHistory<T, A, K, X>,
     author: Author,
     seen_length: usize,
 }
 
-impl<T, A: Allocator, K: ItemRule<T>> Model for Pass<T, A, K> {
+impl<T, A: Allocator, K: ItemRule<T>, X: Beside<T>> Model for Pass<T, A, K, X> {
     ghost use Rattle.std.specs.Prelude.{◌≡◌, ◌≢◌, ◌≤◌, ◌<◌, ◌^◌, length, suc};
     ghost use Rattle.elsa_free.specs.SharedList.{View, count};
     ghost use Rattle.elsa_free.specs.History.{list_of};
@@ -34,12 +34,12 @@ impl<T, A: Allocator, K: ItemRule<T>> Model for Pass<T, A, K> {
     ghost invariant = { λ p. (count (suc p.author.name) (list_of p.seen.log) ≡ p.author.used) × (p.seen_length ≡ length (list_of p.seen.log)) × (p.seen_length < 2 ^ 62) };
 }
 
-impl<T, A: Allocator, K: ItemRule<T>> Pass<T, A, K> {
+impl<T, A: Allocator, K: ItemRule<T>, X: Beside<T>> Pass<T, A, K, X> {
     pub(crate) fn of(
-        seen: SeenHistory<T, A, K>,
+        seen: SeenHistory<T, A, K, X>,
         author: Author,
         seen_length: usize,
-    ) -> Pass<T, A, K>
+    ) -> Pass<T, A, K, X>
         requires mine { count (suc author.name) (list_of seen.log) ≡ author.used }
         requires length { (seen_length ≡ length (list_of seen.log)) × (seen_length < 2 ^ 62) }
         ensures { result ≡ record {
@@ -55,7 +55,7 @@ impl<T, A: Allocator, K: ItemRule<T>> Pass<T, A, K> {
         }
     }
 
-    pub(crate) fn parts(self) -> (SeenHistory<T, A, K>, Author, usize)
+    pub(crate) fn parts(self) -> (SeenHistory<T, A, K, X>, Author, usize)
         ensures is { self ≡ record {
           vector = (result.0.book, result.0.names);
           author = suc result.1.name;
@@ -73,9 +73,9 @@ impl<T, A: Allocator, K: ItemRule<T>> Pass<T, A, K> {
     }
 }
 
-impl<T, A: Allocator, K: ItemRule<T>> Pass<T, A, K> {
-    /// Another pass of the same vector, which has seen as much and has pushed nothing.
-    fn fresh(&self) -> Pass<T, A, K>
+impl<T, A: Allocator, K: ItemRule<T>, X: Beside<T>> Pass<T, A, K, X> {
+    /// Another pass of the same vector, which has seen as much and has pushed nothing. It takes no memory and no atomic step.
+    pub fn again(&self) -> Pass<T, A, K, X>
         ensures { (result.vector ≡ self.now.vector) × (result.seen ≡ self.now.seen)
             × (mine result ≡ []) }
     {
@@ -102,7 +102,7 @@ impl<T, A: Allocator, K: ItemRule<T>> Pass<T, A, K> {
     }
 
     /// The evidence for all that the pass has seen. It has no bytes, and takes no atomic step.
-    pub(crate) fn evidence(&self) -> WrittenPrefix<T, Buffer<T, A>>
+    pub(crate) fn evidence(&self) -> WrittenPrefix<T, Buffer<T, A, X>>
         ensures { (result.buffer_slots ≡ buffer_slots_of self.now.vector.1)
             × (result.items ≡ items_of self.now.seen) }
     {
@@ -110,7 +110,7 @@ impl<T, A: Allocator, K: ItemRule<T>> Pass<T, A, K> {
     }
 
     /// Two passes are two authors.
-    fn known_apart(self, other: Pass<T, A, K>) -> (Pass<T, A, K>, Pass<T, A, K>)
+    fn known_apart(self, other: Pass<T, A, K, X>) -> (Pass<T, A, K, X>, Pass<T, A, K, X>)
         ensures { (result.0 ≡ self) × (result.1 ≡ other) × (self.author ≢ other.author) }
     {
         let (seen, author, length) = self.parts();
@@ -123,7 +123,7 @@ impl<T, A: Allocator, K: ItemRule<T>> Pass<T, A, K> {
     }
 
     /// The pass with what a longer one has seen.
-    fn raised(self, longer: &Pass<T, A, K>) -> Pass<T, A, K>
+    fn raised(self, longer: &Pass<T, A, K, X>) -> Pass<T, A, K, X>
         requires of { self.vector ≡ longer.now.vector }
         requires shorter { length self.seen ≤ length longer.now.seen }
         ensures same { IsSamePass self result }
@@ -138,7 +138,7 @@ impl<T, A: Allocator, K: ItemRule<T>> Pass<T, A, K> {
         Pass::of(longer.seen.again(), author, longer.seen_length)
     }
 
-    fn met(self, other: Pass<T, A, K>) -> (Pass<T, A, K>, Pass<T, A, K>)
+    fn met(self, other: Pass<T, A, K, X>) -> (Pass<T, A, K, X>, Pass<T, A, K, X>)
         requires { self.vector ≡ other.vector }
 
         // Each pass is the same, later.
@@ -163,7 +163,7 @@ impl<T, A: Allocator, K: ItemRule<T>> Pass<T, A, K> {
 
     /// Both passes take the longer of what they have seen. Their own places stay, and no place is of both. It takes no memory
     /// and no atomic step, and never waits. `O(1)`.
-    pub fn meet(&mut self, other: &mut Pass<T, A, K>)
+    pub fn meet(&mut self, other: &mut Pass<T, A, K, X>)
         requires of { self.old.vector ≡ other.old.vector }
 
         // Each pass is the same, later.
@@ -177,9 +177,9 @@ impl<T, A: Allocator, K: ItemRule<T>> Pass<T, A, K> {
         ensures mine { (mine self.new ≡ mine self.old) × (mine other.new ≡ mine other.old) }
         ensures apart { Apart (mine self.new) (mine other.new) }
     {
-        let spare = self.fresh();
+        let spare = self.again();
         let one = std::mem::replace(self, spare);
-        let spare = other.fresh();
+        let spare = other.again();
         let two = std::mem::replace(other, spare);
         let (one, two) = one.met(two);
         drop(std::mem::replace(self, one));
@@ -209,9 +209,9 @@ impl<T: Eq, A: Allocator> Pass<T, A, DistinctItems> {
 }
 
 // What a pass has is history that was seen and tickets: no reference, and nothing of one thread.
-unsafe impl<T, A: Allocator, K: ItemRule<T>> Send for Pass<T, A, K> {}
+unsafe impl<T, A: Allocator, K: ItemRule<T>, X: Beside<T>> Send for Pass<T, A, K, X> {}
 
-impl<T, A: Allocator, K: ItemRule<T>> Drop for Pass<T, A, K> {
+impl<T, A: Allocator, K: ItemRule<T>, X: Beside<T>> Drop for Pass<T, A, K, X> {
     fn drop(self) {
         let (seen, author, _length) = self.parts();
         drop(seen);

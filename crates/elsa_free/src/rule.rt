@@ -16,7 +16,7 @@ pub struct OneWord<B, K> {
     items: PhantomData<K>,
 }
 
-impl<T, B: HasSlots, K: ItemRule<T>> Rule<Event<T>, Log<T>> for OneWord<B, K> {
+impl<T, B: HasSlots<T>, K: ItemRule<T>> Rule<Event<T>, Log<T>> for OneWord<B, K> {
     ghost use Rattle.std.specs.Prelude.{[]};
     ghost use Rattle.elsa_free.specs.OneWord.{IsKept};
     ghost use Rattle.elsa_free.specs.Rights.{IsStep, rule_owns};
@@ -29,7 +29,7 @@ impl<T, B: HasSlots, K: ItemRule<T>> Rule<Event<T>, Log<T>> for OneWord<B, K> {
 
     ghost shows = { λ log. log };
 
-    ghost keeps = { λ names log. rule_owns T.row B.row B.slot_names names log };
+    ghost keeps = { λ names log. rule_owns T.row B.row B.slot_names B.fits names log };
 
     ghost moves = { λ ask before after answer. IsStep ask before after answer };
 }
@@ -39,10 +39,10 @@ pub struct AcquireGain<B> {
     buffers: PhantomData<B>,
 }
 
-impl<T, B: HasSlots> Gain<Event<T>, Log<T>> for AcquireGain<B> {
+impl<T, B: HasSlots<T>> Gain<Event<T>, Log<T>> for AcquireGain<B> {
     ghost use Rattle.elsa_free.specs.Rights.{acquire_gain};
 
-    ghost after = { λ names about answer. acquire_gain T.row B.row B.slot_names names answer };
+    ghost after = { λ names about answer. acquire_gain T.row B.row B.slot_names B.fits names answer };
 }
 
 /// A read of the length gains the evidence that each place of the list was written.
@@ -50,10 +50,10 @@ pub struct ReadGain<B> {
     buffers: PhantomData<B>,
 }
 
-impl<T, B: HasSlots> Gain<Event<T>, Log<T>> for ReadGain<B> {
+impl<T, B: HasSlots<T>> Gain<Event<T>, Log<T>> for ReadGain<B> {
     ghost use Rattle.elsa_free.specs.Rights.{read_gain};
 
-    ghost after = { λ names about answer. read_gain T.row B.row B.slot_names names about answer };
+    ghost after = { λ names about answer. read_gain T.row B.row B.slot_names B.fits names about answer };
 }
 
 /// A release gains the author's right back, and that the history was the known one.
@@ -61,10 +61,10 @@ pub struct ReleaseGain<B> {
     buffers: PhantomData<B>,
 }
 
-impl<T, B: HasSlots> Gain<Event<T>, Log<T>> for ReleaseGain<B> {
+impl<T, B: HasSlots<T>> Gain<Event<T>, Log<T>> for ReleaseGain<B> {
     ghost use Rattle.elsa_free.specs.Rights.{release_gain};
 
-    ghost after = { λ names about answer. release_gain T.row B.row B.slot_names about answer };
+    ghost after = { λ names about answer. release_gain T.row B.row B.slot_names B.fits about answer };
 }
 
 /// A publish gains the same, with one ticket fewer.
@@ -72,10 +72,10 @@ pub struct PublishGain<B> {
     buffers: PhantomData<B>,
 }
 
-impl<T, B: HasSlots> Gain<Event<T>, Log<T>> for PublishGain<B> {
+impl<T, B: HasSlots<T>> Gain<Event<T>, Log<T>> for PublishGain<B> {
     ghost use Rattle.elsa_free.specs.Rights.{publish_gain};
 
-    ghost after = { λ names about answer. publish_gain T.row B.row B.slot_names about answer };
+    ghost after = { λ names about answer. publish_gain T.row B.row B.slot_names B.fits about answer };
 }
 
 /// Nothing is gained.

@@ -44,7 +44,7 @@ impl Model for Author {
 }
 
 /// A book with an empty list for these buffers, held by its maker. The evidence, of some places or none, names the buffers.
-pub fn start<T, B: HasSlots, K: ItemRule<T>>(
+pub fn start<T, B: HasSlots<T>, K: ItemRule<T>>(
     prefix: WrittenPrefix<T, B>,
 ) -> (
     Start<Event<T>, Log<T>, OneWord<B, K>>,
@@ -81,7 +81,7 @@ impl Author {
 }
 
 /// An offer to acquire the word. It takes the right to wait, so that no read of the length can make one.
-pub fn offer_acquire<R: Wait, T, B: HasSlots, K: ItemRule<T>>(
+pub fn offer_acquire<R: Wait, T, B: HasSlots<T>, K: ItemRule<T>>(
     _rt: &R,
     seen: &Seen<Event<T>, Log<T>, OneWord<B, K>>,
 ) -> Offer<Event<T>, Log<T>, OneWord<B, K>, AcquireGain<B>>
@@ -91,7 +91,7 @@ pub fn offer_acquire<R: Wait, T, B: HasSlots, K: ItemRule<T>>(
     acquire_offer(seen)
 }
 
-fn acquire_offer<T, B: HasSlots, K: ItemRule<T>>(
+fn acquire_offer<T, B: HasSlots<T>, K: ItemRule<T>>(
     seen: &Seen<Event<T>, Log<T>, OneWord<B, K>>,
 ) -> Offer<Event<T>, Log<T>, OneWord<B, K>, AcquireGain<B>>
     ensures { (result.names ≡ seen.now.names) × (result.ask ≡ Acquired) × (result.about ≡ [])
@@ -103,7 +103,7 @@ fn acquire_offer<T, B: HasSlots, K: ItemRule<T>>(
 }
 
 /// What an acquire gained, if the next place begins a buffer that nobody has opened.
-pub fn take_acquired_closed<T, B: HasSlots>(
+pub fn take_acquired_closed<T, B: HasSlots<T>>(
     right: Gained<Event<T>, Log<T>, AcquireGain<B>>,
     _buffer: usize,
 ) -> (Held, WriteRights)
@@ -124,7 +124,7 @@ pub fn take_acquired_closed<T, B: HasSlots>(
 }
 
 /// What an acquire gained, if the next place is in an open buffer.
-pub fn take_acquired_open<T, B: HasSlots>(
+pub fn take_acquired_open<T, B: HasSlots<T>>(
     right: Gained<Event<T>, Log<T>, AcquireGain<B>>,
     _buffer: usize,
     _slot: usize,
@@ -153,7 +153,7 @@ pub fn take_acquired_open<T, B: HasSlots>(
 }
 
 /// An offer to release the word and leave the list.
-pub fn offer_release<T, B: HasSlots, K: ItemRule<T>>(
+pub fn offer_release<T, B: HasSlots<T>, K: ItemRule<T>>(
     seen: &Seen<Event<T>, Log<T>, OneWord<B, K>>,
     held: Held,
     further: WriteRights,
@@ -172,8 +172,32 @@ pub fn offer_release<T, B: HasSlots, K: ItemRule<T>>(
     }
 }
 
+/// The same, if the next place is in an open buffer: its evidence goes back too, with the rights to its slots.
+pub fn offer_release_open<T, B: HasSlots<T>, K: ItemRule<T>>(
+    seen: &Seen<Event<T>, Log<T>, OneWord<B, K>>,
+    held: Held,
+    opened: Written<B>,
+    slots: WriteRights,
+    further: WriteRights,
+    author: Author,
+    _buffer: usize,
+    _slot: usize,
+) -> Offer<Event<T>, Log<T>, OneWord<B, K>, ReleaseGain<B>>
+    requires { (held.name ≡ head seen.now.names) × (held.added ≡ added seen.now.log)
+        × IsOpenAt (buffer_slots_of seen.now.names) (length (list_of seen.now.log)) _buffer _slot
+        opened.of (B.slot_names opened.value) slots.of further.of × (0 < _slot) }
+    ensures { (result.names ≡ seen.now.names) × (result.ask ≡ Released)
+        × (result.about ≡ OfferOf author.name author.used ∷ seen.now.log) × (result.state ≡ None) }
+{
+    spend!(held: Held, opened: Written);
+    spend!(slots: WriteRights, further: WriteRights, author: Author);
+    Offer {
+        marker: PhantomData,
+    }
+}
+
 /// An offer to publish an item: it was written in the slot of the next place, and `slots` are the rights to those behind it.
-pub fn offer_publish<T, B: HasSlots, K: ItemRule<T>>(
+pub fn offer_publish<T, B: HasSlots<T>, K: ItemRule<T>>(
     seen: &Seen<Event<T>, Log<T>, OneWord<B, K>>,
     held: Held,
     opened: Written<B>,
@@ -186,7 +210,8 @@ pub fn offer_publish<T, B: HasSlots, K: ItemRule<T>>(
 ) -> Offer<Event<T>, Log<T>, OneWord<B, K>, PublishGain<B>>
     requires { (held.name ≡ head seen.now.names) × (held.added ≡ added seen.now.log)
         × IsOpenAt (buffer_slots_of seen.now.names) (length (list_of seen.now.log)) _buffer _slot
-        opened.of (B.slot_names opened.value) (item.of ∷ slots.of) further.of }
+        opened.of (B.slot_names opened.value) (item.of ∷ slots.of) further.of
+        × B.fits opened.value item.value }
     ensures { (result.names ≡ seen.now.names)
         × (result.ask ≡ Published (entry (suc author.name) item.value))
         × (result.about ≡ OfferOf author.name author.used ∷ seen.now.log) × (result.state ≡ None) }
@@ -199,7 +224,7 @@ pub fn offer_publish<T, B: HasSlots, K: ItemRule<T>>(
 }
 
 /// An offer to publish the items of a clone, if the next place begins a buffer that nobody has opened.
-pub fn offer_clone_closed<T, B: HasSlots, K: ItemRule<T>>(
+pub fn offer_clone_closed<T, B: HasSlots<T>, K: ItemRule<T>>(
     seen: &Seen<Event<T>, Log<T>, OneWord<B, K>>,
     held: Held,
     prefix: WrittenPrefix<T, B>,
@@ -219,7 +244,7 @@ pub fn offer_clone_closed<T, B: HasSlots, K: ItemRule<T>>(
 }
 
 /// The same, if the next place is in an open buffer.
-pub fn offer_clone_open<T, B: HasSlots, K: ItemRule<T>>(
+pub fn offer_clone_open<T, B: HasSlots<T>, K: ItemRule<T>>(
     seen: &Seen<Event<T>, Log<T>, OneWord<B, K>>,
     held: Held,
     prefix: WrittenPrefix<T, B>,
@@ -243,7 +268,7 @@ pub fn offer_clone_open<T, B: HasSlots, K: ItemRule<T>>(
 }
 
 /// What a release gained: the author, and that the history was as long as the known one.
-pub fn take_released<T, B: HasSlots>(gained: Gained<Event<T>, Log<T>, ReleaseGain<B>>) -> Author
+pub fn take_released<T, B: HasSlots<T>>(gained: Gained<Event<T>, Log<T>, ReleaseGain<B>>) -> Author
     ensures { (result.name ≡ author_of gained.about) × (result.used ≡ used_of gained.about)
         × (length gained.answer ≡ length (others gained.about))
         × (OnlyPushed gained.about gained.answer) }
@@ -255,7 +280,7 @@ pub fn take_released<T, B: HasSlots>(gained: Gained<Event<T>, Log<T>, ReleaseGai
 }
 
 /// What a publish gained: the same, with one ticket fewer.
-pub fn take_published<T, B: HasSlots>(gained: Gained<Event<T>, Log<T>, PublishGain<B>>) -> Author
+pub fn take_published<T, B: HasSlots<T>>(gained: Gained<Event<T>, Log<T>, PublishGain<B>>) -> Author
     ensures { (result.name ≡ author_of gained.about) × (result.used ≡ suc (used_of gained.about))
         × (length gained.answer ≡ length (others gained.about))
         × (OnlyPushed gained.about gained.answer) }
@@ -267,7 +292,7 @@ pub fn take_published<T, B: HasSlots>(gained: Gained<Event<T>, Log<T>, PublishGa
 }
 
 /// An offer to read the length.
-pub fn offer_read<T, B: HasSlots, K: ItemRule<T>>(
+pub fn offer_read<T, B: HasSlots<T>, K: ItemRule<T>>(
     seen: &Seen<Event<T>, Log<T>, OneWord<B, K>>,
     author: Author,
 ) -> Offer<Event<T>, Log<T>, OneWord<B, K>, ReadGain<B>>
@@ -281,7 +306,7 @@ pub fn offer_read<T, B: HasSlots, K: ItemRule<T>>(
 }
 
 /// What a read gained: the author, which has no entries beyond those it pushed, and the evidence for the whole list.
-pub fn take_read<T, B: HasSlots>(
+pub fn take_read<T, B: HasSlots<T>>(
     gained: Gained<Event<T>, Log<T>, ReadGain<B>>,
 ) -> (Author, WrittenPrefix<T, B>)
     ensures { (result.0.name ≡ author_of gained.about) × (result.0.used ≡ used_of gained.about)
@@ -301,7 +326,7 @@ pub fn take_read<T, B: HasSlots>(
 }
 
 /// A history that was seen has no more entries of an author than it pushed.
-pub fn bounded_by_tickets<T, B: HasSlots, K: ItemRule<T>>(
+pub fn bounded_by_tickets<T, B: HasSlots<T>, K: ItemRule<T>>(
     seen: &Seen<Event<T>, Log<T>, OneWord<B, K>>,
     author: Author,
 ) -> Author
@@ -315,7 +340,7 @@ pub fn bounded_by_tickets<T, B: HasSlots, K: ItemRule<T>>(
 }
 
 /// A history that was seen shows, for good, that each place of its list was written. It takes no atomic step.
-pub fn evidence<T, B: HasSlots, K: ItemRule<T>>(
+pub fn evidence<T, B: HasSlots<T>, K: ItemRule<T>>(
     _seen: &Seen<Event<T>, Log<T>, OneWord<B, K>>,
 ) -> WrittenPrefix<T, B>
     ensures { (result.buffer_slots ≡ buffer_slots_of _seen.now.names)

@@ -4,7 +4,7 @@ use crate::Core;
 use elsa_locks::map::{MapState, TreeState};
 use elsa_model::Call;
 use std::alloc::{AllocError, Allocator};
-use std::hash::Hash;
+use std::hash::{BuildHasherDefault, FoldHasher, Hash};
 
 /// A call on a map.
 #[derive(Clone, Copy, PartialEq, Eq)]
@@ -33,7 +33,7 @@ pub enum MapReply<V> {
 }
 
 impl<K: Copy + Eq + Hash, V: Copy + Eq, A: Allocator + Copy> Call<
-    MapState<K, V, A>,
+    MapState<K, V, BuildHasherDefault<FoldHasher>, A>,
     MapReply<V>,
     (),
 > for MapCommand<K, V> {
@@ -52,7 +52,10 @@ impl<K: Copy + Eq + Hash, V: Copy + Eq, A: Allocator + Copy> Call<
     ghost refuses = { λ _ _. ⊤ };
 
     #[tactic(auto, using(crate::proofs::Counts::has_count))]
-    fn apply(self, map: &mut MapState<K, V, A>) -> Result<MapReply<V>, AllocError> {
+    fn apply(
+        self,
+        map: &mut MapState<K, V, BuildHasherDefault<FoldHasher>, A>,
+    ) -> Result<MapReply<V>, AllocError> {
         match self {
             MapCommand::Insert(key, value) => {
                 let there = map.get_copy_or_insert(key, value)?;
@@ -68,7 +71,8 @@ impl<K: Copy + Eq + Hash, V: Copy + Eq, A: Allocator + Copy> Call<
     }
 }
 
-impl<K: Copy + Eq + Hash, V: Copy + Eq, A: Allocator + Copy> Core for MapState<K, V, A> {
+impl<K: Copy + Eq + Hash, V: Copy + Eq, A: Allocator + Copy> Core
+    for MapState<K, V, BuildHasherDefault<FoldHasher>, A> {
     type Command = MapCommand<K, V>;
 
     type Reply = MapReply<V>;

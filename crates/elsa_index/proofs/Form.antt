@@ -17,3 +17,8 @@ module _ {K V B T : Type 0} (eq : K → K → Bool) (laws : IsEquivalence eq) (t
   adds_pair none h =
       let g = subst (λ o. MatchOption o ((i ≡ length es) × (shown b ≡ target v) × (fs ≡ es ++ (k, b) ∷ [])) (λ j. (i ≡ j) × (value_at eq es k ≡ Some b) × (fs ≡ es))) (no_place eq es k none) h in
       (g.1, subst (λ gs. Adds eq (value_at eq es) (value_at eq gs) k b) (sym g.2) (adds_last eq laws es k b none), ap length g.2 ∙ length-append es ((k, b) ∷ []))
+
+  -- and the pair goes last
+  pub new_pair_last : value_at eq es k ≡ None → Inserted eq target shown es k v i b fs → fs ≡ es ++ (k, b) ∷ []
+  new_pair_last none h =
+      (subst (λ o. MatchOption o ((i ≡ length es) × (shown b ≡ target v) × (fs ≡ es ++ (k, b) ∷ [])) (λ j. (i ≡ j) × (value_at eq es k ≡ Some b) × (fs ≡ es))) (no_place eq es k none) h).2

@@ -27,10 +27,10 @@ stands_inserted eq laws target shown es k v i b fs h = by (place_of eq es k) ref
     )
     by (Some j) at g = (ap (λ l. place_of eq l k) g.2 ∙ at ∙ ap Some (sym g.0), ap (lookup (eq k)) g.2 ∙ g.1)
 
--- a value that nothing was found for stands last, where it goes last
+-- a value that nothing was found for stands last, where it goes last, also behind the making of room
 pub set_place_added : {B V T : Type 0} (eq : B → B → Bool) (laws : IsEquivalence eq) (target : V → T) (shown : B → T) (finds : V → B → Bool) (finds_target : (v : V) (b k : B) → shown b ≡ target v → finds v k ≡ eq b k)
-    (bs : List B) (v : V) (i : ℕ) (b : B) (cs : List B) → position (finds v) bs ≡ None → i ≡ length bs → shown b ≡ target v → cs ≡ bs ++ b ∷ [] → position (finds v) cs ≡ Some i
-set_place_added eq laws target shown finds finds_target bs v i b cs none at is left = ap (position (finds v)) left ∙ place_of_last (finds v) bs b none (finds_target v b b is ∙ laws.refl b) ∙ ap Some (sym at)
+    (bs room : List B) (v : V) (i : ℕ) (b : B) (cs : List B) → room ≡ bs → position (finds v) bs ≡ None → i ≡ length room → shown b ≡ target v → cs ≡ room ++ b ∷ [] → position (finds v) cs ≡ Some i
+set_place_added eq laws target shown finds finds_target bs room v i b cs kept none at is left = ap (position (finds v)) (left ∙ ap (λ l. l ++ b ∷ []) kept) ∙ place_of_last (finds v) bs b none (finds_target v b b is ∙ laws.refl b) ∙ ap Some (sym (at ∙ ap length kept))
 
 -- the same pairs in another order are the same map
 pub same_in_any_order : {K B : Type 0} (eq : K → K → Bool) (laws : IsEquivalence eq) (same : B → B → Bool) (alike_itself : (b : B) → same b b ≡ true) (es fs : List (K × B))

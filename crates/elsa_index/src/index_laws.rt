@@ -3,10 +3,9 @@ ghost use Rattle.std.specs.Prelude.{◌≡◌, ◌+◌, ◌↔◌, ℕ, All, Lis
 ghost use Rattle.elsa_model.specs.FirstWins.{value_at};
 ghost use Rattle.elsa_model.specs.Insertions.{place_of, Grows, Inserted, SetInserted, IsCloneOf};
 
-use crate::index_map::FrozenIndexMap;
-use crate::index_set::FrozenIndexSet;
+use crate::index_map::FrozenIndexMapIn;
+use crate::index_set::FrozenIndexSetIn;
 use crate::look_up::LookUp;
-use bumpalo::Bump;
 use elsa_once::stable::StableDeref;
 use std::alloc::{AllocError, Allocator};
 use std::hash::{BuildHasher, Hash};
@@ -14,14 +13,13 @@ use std::hash::{BuildHasher, Hash};
 /// An insertion, accepted or refused, keeps each earlier pair at its place; the key has the returned place and value afterwards, and
 /// the flag is true exactly where the key was new and the map grows by one pair.
 pub fn keeps_earlier_pairs<
-    'a,
+    R: Copy,
     K: Eq + Hash + Drop,
-    P: Allocator,
-    V: StableDeref<&'a Bump<P>>,
+    V: StableDeref<R>,
     S: BuildHasher,
     A: Allocator + Copy,
 >(
-    map: &mut FrozenIndexMap<'a, K, V, S, A, P>,
+    map: &mut FrozenIndexMapIn<R, K, V, S, A>,
     key: K,
     value: V,
 ) -> Result<(usize, V::Borrow, bool), AllocError>
@@ -39,14 +37,13 @@ pub fn keeps_earlier_pairs<
 /// Of two insertions of equal keys the second is told that the key wasn't new, and returns the first one's place and value,
 /// whatever is inserted between them, all of which the map then has: in one epoch a key is new at most once.
 pub fn is_new_once<
-    'a,
+    R: Copy,
     K: Eq + Hash + Drop,
-    P: Allocator,
-    V: StableDeref<&'a Bump<P>>,
+    V: StableDeref<R>,
     S: BuildHasher,
     A: Allocator + Copy,
 >(
-    map: &mut FrozenIndexMap<'a, K, V, S, A, P>,
+    map: &mut FrozenIndexMapIn<R, K, V, S, A>,
     first: (K, V),
     between: Vec<(K, V)>,
     again: (K, V),
@@ -74,17 +71,16 @@ pub fn is_new_once<
 
 /// A clone with one more pair, made after the source got a pair of its own: neither insertion is seen by the other map.
 pub fn clone_and_part<
-    'a,
+    R: Copy,
     K: Eq + Hash + Clone + Drop,
-    P: Allocator,
-    V: StableDeref<&'a Bump<P>>,
+    V: StableDeref<R>,
     S: BuildHasher + Clone + Drop,
     A: Allocator + Copy,
 >(
-    map: &mut FrozenIndexMap<'a, K, V, S, A, P>,
+    map: &mut FrozenIndexMapIn<R, K, V, S, A>,
     own: (K, V),
     other: (K, V),
-) -> Result<FrozenIndexMap<'a, K, V, S, A, P>, AllocError>
+) -> Result<FrozenIndexMapIn<R, K, V, S, A>, AllocError>
     requires faithful { (x y : K) → K.is_clone x y → IsTrue (K.eq x y) }
     ensures source { IfOk result (λ m.
         (i : ℕ) × (b : V.Borrow) × Inserted K.eq V.target V.shown map.old own.0 own.1 i b map.new) }
@@ -102,17 +98,13 @@ pub fn clone_and_part<
 /// An insertion into a set, accepted or refused, keeps each earlier value at its place; the value has the returned place and
 /// borrow afterwards, and the flag is true exactly where it was new and the set grows by one value.
 pub fn set_keeps_earlier_values<
-    'a,
-    P: Allocator,
-    T: StableDeref<&'a Bump<P>> + LookUp<<T as StableDeref<&'a Bump<P>>>::Borrow>,
+    R: Copy,
+    T: StableDeref<R> + LookUp<<T as StableDeref<R>>::Borrow>,
     S: BuildHasher,
     A: Allocator + Copy,
->(
-    set: &mut FrozenIndexSet<'a, T, S, A, P>,
-    value: T,
-) -> Result<(usize, T::Borrow, bool), AllocError>
+>(set: &mut FrozenIndexSetIn<R, T, S, A>, value: T) -> Result<(usize, T::Borrow, bool), AllocError>
 where
-    <T as StableDeref<&'a Bump<P>>>::Borrow: Eq + Hash,
+    <T as StableDeref<R>>::Borrow: Eq + Hash,
     ensures kept { Grows set.old set.new }
     ensures there { IfOk result (λ r. slice_get set.new r.0 ≡ Some r.1) }
     ensures there_at { IfOk result (λ r. position (T.finds value) set.new ≡ Some r.0) }
@@ -127,19 +119,18 @@ where
 /// Of two insertions of equal values into a set the second is told that its value wasn't new, and returns the first one's place and
 /// borrow, whatever is inserted between them, all of which the set then has: in one epoch a value is new at most once.
 pub fn set_is_new_once<
-    'a,
-    P: Allocator,
-    T: StableDeref<&'a Bump<P>> + LookUp<<T as StableDeref<&'a Bump<P>>>::Borrow>,
+    R: Copy,
+    T: StableDeref<R> + LookUp<<T as StableDeref<R>>::Borrow>,
     S: BuildHasher,
     A: Allocator + Copy,
 >(
-    set: &mut FrozenIndexSet<'a, T, S, A, P>,
+    set: &mut FrozenIndexSetIn<R, T, S, A>,
     first: T,
     between: Vec<T>,
     again: T,
 ) -> Result<((usize, T::Borrow, bool), (usize, T::Borrow, bool)), AllocError>
 where
-    <T as StableDeref<&'a Bump<P>>>::Borrow: Eq + Hash,
+    <T as StableDeref<R>>::Borrow: Eq + Hash,
     requires equal { (b : T.Borrow) → T.finds again b ≡ T.finds first b }
     ensures first { IfOk result (λ r. IsTrue r.0.2 ↔ (position (T.finds first) set.old ≡ None)) }
     ensures once { IfOk result (λ r. r.1 ≡ (r.0.0, r.0.1, false)) }

@@ -28,27 +28,32 @@ use std::hash::{BuildHasher, BuildHasherDefault, FoldHasher, Hash};
 use std::marker::{Model, PhantomData};
 use std::ops::Index;
 
-/// A map that only grows, over values placed in an arena. `A` is the allocator of its table, `P` that of the arena.
-pub struct FrozenIndexMap<
-    'a,
+/// A map that only grows, over values placed in the arena to which an `R` refers. `A` is the allocator of its table.
+///
+/// [`FrozenIndexMap`] is its name where the arena is a `Bump`.
+pub struct FrozenIndexMapIn<
+    R: Copy,
     K: Eq + Hash,
     V,
     S: BuildHasher = BuildHasherDefault<FoldHasher>,
     A: Allocator + Copy = Global,
-    P: Allocator = Global,
 >
 where
-    V: StableDeref<&'a Bump<P>>,
+    V: StableDeref<R>,
 {
-    arena: &'a Bump<P>,
+    arena: R,
     map: IndexMap<K, V::Borrow, S, A>,
     of: PhantomData<V>,
 }
 
-impl<'a, K: Eq + Hash, V, S: BuildHasher, A: Allocator + Copy, P: Allocator> Model
-    for FrozenIndexMap<'a, K, V, S, A, P>
+/// The map whose values are placed in a `Bump` of lifetime `'a`; `P` is the allocator of the arena.
+pub type FrozenIndexMap<'a, K, V, S = BuildHasherDefault<FoldHasher>, A = Global, P = Global> =
+    FrozenIndexMapIn<&'a Bump<P>, K, V, S, A>;
+
+impl<R: Copy, K: Eq + Hash, V, S: BuildHasher, A: Allocator + Copy> Model
+    for FrozenIndexMapIn<R, K, V, S, A>
 where
-    V: StableDeref<&'a Bump<P>>,
+    V: StableDeref<R>,
 {
     ghost use Rattle.std.specs.Prelude.{List};
 
@@ -57,13 +62,13 @@ where
     ghost view = { λ m. m.map.entries };
 }
 
-impl<'a, K: Eq + Hash + Drop, V, S: BuildHasher + Drop, A: Allocator + Copy, P: Allocator> Drop
-    for FrozenIndexMap<'a, K, V, S, A, P>
+impl<R: Copy, K: Eq + Hash + Drop, V, S: BuildHasher + Drop, A: Allocator + Copy> Drop
+    for FrozenIndexMapIn<R, K, V, S, A>
 where
-    V: StableDeref<&'a Bump<P>>,
+    V: StableDeref<R>,
 {
     fn drop(self) {
-        let FrozenIndexMap {
+        let FrozenIndexMapIn {
             arena: _arena,
             map: _map,
             of: _of,
@@ -71,37 +76,38 @@ where
     }
 }
 
-impl<'a, K, V, A, P: Allocator> FrozenIndexMap<'a, K, V, BuildHasherDefault<FoldHasher>, A, P>
+impl<R: Copy, K, V, A> FrozenIndexMapIn<R, K, V, BuildHasherDefault<FoldHasher>, A>
 where
     K: Eq + Hash,
-    V: StableDeref<&'a Bump<P>>,
+    V: StableDeref<R>,
     A: Allocator + Copy,
 {
-    /// An empty map that hashes as std's maps do by default. It takes no memory.
-    pub fn new(alloc: A, arena: &'a Bump<P>) -> Self
+    /// An empty map that hashes by the default hasher, which is fast and has a fixed seed: where strangers choose the keys,
+    /// take [`with_hasher`](FrozenIndexMapIn::with_hasher). It takes no memory.
+    pub fn new(alloc: A, arena: R) -> Self
         ensures { result ≡ [] }
     {
-        FrozenIndexMap::with_hasher(alloc, arena, BuildHasherDefault::new())
+        FrozenIndexMapIn::with_hasher(alloc, arena, BuildHasherDefault::new())
     }
 }
 
-impl<'a, K: Eq + Hash, V, S: BuildHasher, A, P: Allocator> FrozenIndexMap<'a, K, V, S, A, P>
+impl<R: Copy, K: Eq + Hash, V, S: BuildHasher, A> FrozenIndexMapIn<R, K, V, S, A>
 where
-    V: StableDeref<&'a Bump<P>>,
+    V: StableDeref<R>,
     A: Allocator + Copy,
 {
     /// An empty map that hashes by `hash_builder`. It takes no memory.
-    pub fn with_hasher(alloc: A, arena: &'a Bump<P>, hash_builder: S) -> Self
+    pub fn with_hasher(alloc: A, arena: R, hash_builder: S) -> Self
         ensures { result ≡ [] }
     {
-        FrozenIndexMap::from_map(arena, IndexMap::with_hasher(alloc, hash_builder))
+        FrozenIndexMapIn::from_map(arena, IndexMap::with_hasher(alloc, hash_builder))
     }
 
     /// A map with this content, which goes on in the given arena. It takes no memory.
-    pub fn from_map(arena: &'a Bump<P>, map: IndexMap<K, V::Borrow, S, A>) -> Self
+    pub fn from_map(arena: R, map: IndexMap<K, V::Borrow, S, A>) -> Self
         ensures content { result ≡ map.entries }
     {
-        FrozenIndexMap {
+        FrozenIndexMapIn {
             arena,
             map,
             of: PhantomData,
@@ -110,9 +116,9 @@ where
 
     /// The pairs, in the order of their first insertions. It takes no memory.
     pub fn into_map(self) -> IndexMap<K, V::Borrow, S, A>
-        ensures content { result.entries ≡ self.entry }
+        ensures content { result.entries ≡ self }
     {
-        let FrozenIndexMap {
+        let FrozenIndexMapIn {
             arena: _,
             map: inner,
             of: _,
@@ -167,7 +173,7 @@ where
     /// What `f` returns for the value of this key. It is called once if the key is present, and else never.
     ///
     /// It takes no memory of its own. `O(1)`: one hash.
-    pub fn map_get<R, F: FnOnce(V::Borrow) -> R>(&self, key: &K, f: F) -> Option<R>
+    pub fn map_get<X, F: FnOnce(V::Borrow) -> X>(&self, key: &K, f: F) -> Option<X>
         requires callable { ForSome (value_at K.eq self.now key.now) (F.pre f) }
         ensures { MatchOption (value_at K.eq self.now key.now) (result ≡ None) (λ x.
             IsSomeAnd result (F.post f x)) }
@@ -207,7 +213,7 @@ where
         self.map.iter()
     }
 
-    /// Each key once, in the order of the first insertions; from the back, in reverse. Costs as [`iter`](FrozenIndexMap::iter).
+    /// Each key once, in the order of the first insertions; from the back, in reverse. Costs as [`iter`](FrozenIndexMapIn::iter).
     pub fn keys(&self) -> Keys<'_, K, V::Borrow>
         ensures rest { result ≡ keys_of self.now }
         ensures runs { ShowsInOrder (deref {X = K}) }
@@ -217,7 +223,7 @@ where
     }
 
     /// The value's borrow of each pair, in the order of the first insertions; from the back, in reverse. Costs as
-    /// [`iter`](FrozenIndexMap::iter).
+    /// [`iter`](FrozenIndexMapIn::iter).
     pub fn values(&self) -> Values<'_, K, V::Borrow>
         ensures rest { result ≡ values_of self.now }
         ensures runs { ShowsInOrder (deref {X = V.Borrow}) }
@@ -239,18 +245,17 @@ where
 
     /// The pairs, to write: a new base begins with what is left in them. It takes no memory.
     pub fn as_mut(&mut self) -> &mut IndexMap<K, V::Borrow, S, A>
-        ensures* writes_back { sem 𝓛 (lends_pairs K.row V.row S.row A.row P.row V.Borrow.row
-            S.Hasher.row K.Hash V.HasTarget S.BuildHasher S.Hasher.Hasher A.Allocator P.Allocator
-            self.entry result) }
+        ensures* writes_back { sem 𝓛 (lends_pairs R.row K.row V.row S.row A.row V.Borrow.row
+            S.Hasher.row K.Hash V.HasTarget S.BuildHasher S.Hasher.Hasher A.Allocator self.entry result) }
         ensures content { result.now.entries ≡ self.old }
     {
         &mut self.map
     }
 }
 
-impl<'a, K: Eq + Hash + Drop, V, S: BuildHasher, A, P: Allocator> FrozenIndexMap<'a, K, V, S, A, P>
+impl<R: Copy, K: Eq + Hash + Drop, V, S: BuildHasher, A> FrozenIndexMapIn<R, K, V, S, A>
 where
-    V: StableDeref<&'a Bump<P>>,
+    V: StableDeref<R>,
     A: Allocator + Copy,
 {
     /// Adds the pair last, unless the key is present, and returns its place, the value that the key now has and whether the
@@ -373,8 +378,9 @@ where
     /// now has: [`insert_full`](FrozenIndexMap::insert_full) by a text of any lifetime.
     ///
     /// It looks first, by one hash: where the text is present, the given value is dropped, no memory is taken and nothing changes.
-    /// Otherwise the text is copied into the arena, and the pair inserted by one more hash. `AllocError` comes only for an
-    /// absent text and leaves the map as it was; the arena may keep a text or a value that nobody sees.
+    /// Otherwise the table makes room for one pair, the text is copied into the arena, and the pair inserted by one more hash.
+    /// `AllocError` comes only for an absent text and leaves the map as it was; the table may keep the room, and where the
+    /// arena has room for the text and not for the value, it keeps a text that nobody sees.
     pub fn insert_full_text(
         &mut self,
         key: &str,
@@ -399,6 +405,7 @@ where
         if let Some(found) = self.get_full_text(key) {
             return Ok(found);
         }
+        self.map.reserve(1)?;
         let placed = self.arena.try_alloc_str(key)?;
         self.insert_full(placed, value)
     }
@@ -424,12 +431,12 @@ where
     }
 }
 
-impl<'a, B: Allocator, V, S: BuildHasher, A, P: Allocator> FrozenIndexMap<'a, String<B>, V, S, A, P>
+impl<R: Copy, B: Allocator, V, S: BuildHasher, A> FrozenIndexMapIn<R, String<B>, V, S, A>
 where
-    V: StableDeref<&'a Bump<P>>,
+    V: StableDeref<R>,
     A: Allocator + Copy,
 {
-    /// The value of the key that reads as `key` does, `None` exactly if there is none: [`get`](FrozenIndexMap::get) without a
+    /// The value of the key that reads as `key` does, `None` exactly if there is none: [`get`](FrozenIndexMapIn::get) without a
     /// `String`.
     ///
     /// It takes no memory. `O(1)`: one hash.
@@ -441,9 +448,9 @@ where
     }
 }
 
-impl<'a, K: Eq + Hash + Drop, V, S, A, P: Allocator> FrozenIndexMap<'a, K, V, S, A, P>
+impl<R: Copy, K: Eq + Hash + Drop, V, S, A> FrozenIndexMapIn<R, K, V, S, A>
 where
-    V: StableDeref<&'a Bump<P>>,
+    V: StableDeref<R>,
     S: BuildHasher + Drop,
     A: Allocator + Copy,
 {
@@ -468,7 +475,7 @@ where
     /// refused room.
     pub fn from_iter<I: IntoIterator<Item = (K, V)>>(
         alloc: A,
-        arena: &'a Bump<P>,
+        arena: R,
         hash_builder: S,
         pairs: I,
     ) -> Result<Self, AllocError>
@@ -478,7 +485,7 @@ where
             (s : I.IntoIter) × (xs : List (K × V)) × I.into_iter_gives pairs s
             × Drains I.IntoIter.next_gives s xs × CollectsTargets K.eq V.target V.shown xs m) }
     {
-        let mut map = FrozenIndexMap::with_hasher(alloc, arena, hash_builder);
+        let mut map = FrozenIndexMapIn::with_hasher(alloc, arena, hash_builder);
         for pair in pairs {
             let (key, value) = pair;
             map.set(key, value)?;
@@ -505,14 +512,14 @@ where
             let (key, value) = self.map.get_index(i).unwrap();
             map.insert(key.clone()?, *value)?;
         }
-        Ok(FrozenIndexMap::from_map(self.arena, map))
+        Ok(FrozenIndexMapIn::from_map(self.arena, map))
     }
 
     /// The pairs as a vector, each once, in the order of their first insertions.
     ///
     /// `AllocError` comes where the vector got no memory; the map is dropped then.
     pub fn into_tuple_vec(self) -> Result<Vec<(K, V::Borrow), A>, AllocError>
-        ensures pairs { IfOk result (λ pairs. pairs.items ≡ self.entry) }
+        ensures pairs { IfOk result (λ pairs. pairs.items ≡ self) }
         ensures once { IfOk result (λ pairs. IsDistinct K.eq (keys_of pairs.items)) }
     {
         let map = self.into_map();
@@ -529,10 +536,10 @@ where
     }
 }
 
-impl<'a, 'q, K: Eq + Hash, V, S: BuildHasher, A: Allocator + Copy, P: Allocator> Index<&'q K>
-    for FrozenIndexMap<'a, K, V, S, A, P>
+impl<'q, R: Copy, K: Eq + Hash, V, S: BuildHasher, A: Allocator + Copy> Index<&'q K>
+    for FrozenIndexMapIn<R, K, V, S, A>
 where
-    V: StableDeref<&'a Bump<P>>,
+    V: StableDeref<R>,
 {
     type Output = V::Borrow;
 
@@ -547,11 +554,11 @@ where
 }
 
 /// `{:?}` writes the pairs, in the order of their first insertions, as of an `IndexMap`: `{"y": 1, "x": 2}`.
-impl<'a, K: Eq + Hash + Debug, V, S: BuildHasher, A: Allocator + Copy, P: Allocator> Debug
-    for FrozenIndexMap<'a, K, V, S, A, P>
+impl<R: Copy, K: Eq + Hash + Debug, V, S: BuildHasher, A: Allocator + Copy> Debug
+    for FrozenIndexMapIn<R, K, V, S, A>
 where
-    V: StableDeref<&'a Bump<P>>,
-    <V as StableDeref<&'a Bump<P>>>::Borrow: Debug,
+    V: StableDeref<R>,
+    <V as StableDeref<R>>::Borrow: Debug,
 {
     fn fmt<W: Write>(&self, f: &mut Formatter<W>) -> fmt::Result {
         self.map.fmt(f)
@@ -559,11 +566,11 @@ where
 }
 
 // Two maps are equal where they have equal values at each key, in any order.
-impl<'a, K: Eq + Hash, V, S: BuildHasher, A: Allocator + Copy, P: Allocator> PartialEq
-    for FrozenIndexMap<'a, K, V, S, A, P>
+impl<R: Copy, K: Eq + Hash, V, S: BuildHasher, A: Allocator + Copy> PartialEq
+    for FrozenIndexMapIn<R, K, V, S, A>
 where
-    V: StableDeref<&'a Bump<P>>,
-    <V as StableDeref<&'a Bump<P>>>::Borrow: PartialEq,
+    V: StableDeref<R>,
+    <V as StableDeref<R>>::Borrow: PartialEq,
 {
     ghost eq = { same_values K.eq V.Borrow.eq };
 
@@ -581,11 +588,11 @@ where
     }
 }
 
-impl<'a, K: Eq + Hash, V, S: BuildHasher, A: Allocator + Copy, P: Allocator> Eq
-    for FrozenIndexMap<'a, K, V, S, A, P>
+impl<R: Copy, K: Eq + Hash, V, S: BuildHasher, A: Allocator + Copy> Eq
+    for FrozenIndexMapIn<R, K, V, S, A>
 where
-    V: StableDeref<&'a Bump<P>>,
-    <V as StableDeref<&'a Bump<P>>>::Borrow: Eq,
+    V: StableDeref<R>,
+    <V as StableDeref<R>>::Borrow: Eq,
 {
     ghost laws = { same_values_equivalence K.eq V.Borrow.eq K.Eq.laws V.Borrow.PartialEq.laws V.Borrow.Eq.laws };
 }

@@ -23,27 +23,31 @@ use std::hash::{BuildHasher, BuildHasherDefault, FoldHasher, Hash};
 use std::marker::{Model, PhantomData};
 use std::ops::Index;
 
-/// A set that only grows, over values placed in an arena. `A` is the allocator of its table, `P` that of the arena.
-pub struct FrozenIndexSet<
-    'a,
+/// A set that only grows, over values placed in the arena to which an `R` refers. `A` is the allocator of its table.
+///
+/// [`FrozenIndexSet`] is its name where the arena is a `Bump`.
+pub struct FrozenIndexSetIn<
+    R: Copy,
     T,
     S: BuildHasher = BuildHasherDefault<FoldHasher>,
     A: Allocator + Copy = Global,
-    P: Allocator = Global,
 >
 where
-    T: StableDeref<&'a Bump<P>>,
+    T: StableDeref<R>,
     T::Borrow: Eq + Hash,
 {
-    arena: &'a Bump<P>,
+    arena: R,
     set: IndexSet<T::Borrow, S, A>,
     of: PhantomData<T>,
 }
 
-impl<'a, T, S: BuildHasher, A: Allocator + Copy, P: Allocator> Model
-    for FrozenIndexSet<'a, T, S, A, P>
+/// The set whose values are placed in a `Bump` of lifetime `'a`; `P` is the allocator of the arena.
+pub type FrozenIndexSet<'a, T, S = BuildHasherDefault<FoldHasher>, A = Global, P = Global> =
+    FrozenIndexSetIn<&'a Bump<P>, T, S, A>;
+
+impl<R: Copy, T, S: BuildHasher, A: Allocator + Copy> Model for FrozenIndexSetIn<R, T, S, A>
 where
-    T: StableDeref<&'a Bump<P>>,
+    T: StableDeref<R>,
     T::Borrow: Eq + Hash,
 {
     ghost use Rattle.std.specs.Prelude.{List};
@@ -53,13 +57,13 @@ where
     ghost view = { λ m. m.set.keys };
 }
 
-impl<'a, P: Allocator, T: StableDeref<&'a Bump<P>>, S: BuildHasher + Drop, A: Allocator + Copy> Drop
-    for FrozenIndexSet<'a, T, S, A, P>
+impl<R: Copy, T: StableDeref<R>, S: BuildHasher + Drop, A: Allocator + Copy> Drop
+    for FrozenIndexSetIn<R, T, S, A>
 where
-    <T as StableDeref<&'a Bump<P>>>::Borrow: Eq + Hash,
+    <T as StableDeref<R>>::Borrow: Eq + Hash,
 {
     fn drop(self) {
-        let FrozenIndexSet {
+        let FrozenIndexSetIn {
             arena: _arena,
             set: _set,
             of: _of,
@@ -67,30 +71,31 @@ where
     }
 }
 
-impl<'a, T, A, P: Allocator> FrozenIndexSet<'a, T, BuildHasherDefault<FoldHasher>, A, P>
+impl<R: Copy, T, A> FrozenIndexSetIn<R, T, BuildHasherDefault<FoldHasher>, A>
 where
-    T: StableDeref<&'a Bump<P>>,
+    T: StableDeref<R>,
     A: Allocator + Copy,
-    <T as StableDeref<&'a Bump<P>>>::Borrow: Eq + Hash,
+    <T as StableDeref<R>>::Borrow: Eq + Hash,
 {
-    /// An empty set that hashes as std's maps do by default. It takes no memory.
-    pub fn new(alloc: A, arena: &'a Bump<P>) -> Self
+    /// An empty set that hashes by the default hasher, which is fast and has a fixed seed: where strangers choose the values,
+    /// take [`with_hasher`](FrozenIndexSetIn::with_hasher). It takes no memory.
+    pub fn new(alloc: A, arena: R) -> Self
         ensures { result ≡ [] }
     {
-        FrozenIndexSet::with_hasher(alloc, arena, BuildHasherDefault::new())
+        FrozenIndexSetIn::with_hasher(alloc, arena, BuildHasherDefault::new())
     }
 }
 
-impl<'a, T, S: BuildHasher, A: Allocator + Copy, P: Allocator> FrozenIndexSet<'a, T, S, A, P>
+impl<R: Copy, T, S: BuildHasher, A: Allocator + Copy> FrozenIndexSetIn<R, T, S, A>
 where
-    T: StableDeref<&'a Bump<P>>,
-    <T as StableDeref<&'a Bump<P>>>::Borrow: Eq + Hash,
+    T: StableDeref<R>,
+    <T as StableDeref<R>>::Borrow: Eq + Hash,
 {
     /// An empty set that hashes by `hash_builder`. It takes no memory.
-    pub fn with_hasher(alloc: A, arena: &'a Bump<P>, hash_builder: S) -> Self
+    pub fn with_hasher(alloc: A, arena: R, hash_builder: S) -> Self
         ensures { result ≡ [] }
     {
-        FrozenIndexSet::from_set(arena, IndexSet::with_hasher(alloc, hash_builder))
+        FrozenIndexSetIn::from_set(arena, IndexSet::with_hasher(alloc, hash_builder))
     }
 
     /// The place of the value that equals the target of `value`, `None` exactly if there is none.
@@ -173,10 +178,10 @@ where
     }
 
     /// A set with this content, which goes on in the given arena. It takes no memory.
-    pub fn from_set(arena: &'a Bump<P>, set: IndexSet<T::Borrow, S, A>) -> Self
+    pub fn from_set(arena: R, set: IndexSet<T::Borrow, S, A>) -> Self
         ensures content { result ≡ set.keys }
     {
-        FrozenIndexSet {
+        FrozenIndexSetIn {
             arena,
             set,
             of: PhantomData,
@@ -185,9 +190,9 @@ where
 
     /// The values, in the order of their first insertions. It takes no memory.
     pub fn into_set(self) -> IndexSet<T::Borrow, S, A>
-        ensures content { result.keys ≡ self.entry }
+        ensures content { result.keys ≡ self }
     {
-        let FrozenIndexSet {
+        let FrozenIndexSetIn {
             arena: _,
             set: inner,
             of: _,
@@ -207,7 +212,7 @@ where
         let hash_builder = self.set.hasher().clone()?;
         let mut set = IndexSet::with_hasher(*self.set.allocator(), hash_builder);
         set.extend(self.set.iter())?;
-        Ok(FrozenIndexSet::from_set(self.arena, set))
+        Ok(FrozenIndexSetIn::from_set(self.arena, set))
     }
 
     // Adds a borrow last.
@@ -226,9 +231,9 @@ where
 
     /// The values, to write: a new base begins with what is left in them. It takes no memory.
     pub fn as_mut(&mut self) -> &mut IndexSet<T::Borrow, S, A>
-        ensures* writes_back { sem 𝓛 (lends_values T.row S.row A.row P.row T.Borrow.row
+        ensures* writes_back { sem 𝓛 (lends_values R.row T.row S.row A.row T.Borrow.row
             S.Hasher.row T.Borrow.Hash T.HasTarget S.BuildHasher S.Hasher.Hasher A.Allocator
-            P.Allocator self.entry result) }
+            self.entry result) }
         ensures content { result.now.keys ≡ self.old }
     {
         &mut self.set
@@ -244,15 +249,15 @@ where
     }
 }
 
-impl<'a, T, S: BuildHasher, A: Allocator + Copy, P: Allocator> FrozenIndexSet<'a, T, S, A, P>
+impl<R: Copy, T, S: BuildHasher, A: Allocator + Copy> FrozenIndexSetIn<R, T, S, A>
 where
-    T: StableDeref<&'a Bump<P>> + LookUp<<T as StableDeref<&'a Bump<P>>>::Borrow>,
-    <T as StableDeref<&'a Bump<P>>>::Borrow: Eq + Hash,
+    T: StableDeref<R> + LookUp<<T as StableDeref<R>>::Borrow>,
+    <T as StableDeref<R>>::Borrow: Eq + Hash,
 {
     /// Adds a value that is absent last, and returns its place and its borrow: the call for one that has looked.
     ///
-    /// The caller makes sure that no equal value is present, as `get_index_of` tells. The value is placed in the arena, by one
-    /// hash. `AllocError` leaves the set as it was; the arena may keep a copy that nobody sees.
+    /// The caller makes sure that no equal value is present, as `get_index_of` tells. The table makes room for one value, and the
+    /// value is placed in the arena, by one hash. `AllocError` leaves the set as it was; the table may keep the room.
     pub fn insert_absent(&mut self, value: T) -> Result<(usize, T::Borrow), AllocError>
         requires absent { position (T.finds value) self.old ≡ None }
         ensures place { IfOk result (λ r. r.0 ≡ length self.old) }
@@ -265,6 +270,7 @@ where
         ensures stands { IfOk result (λ r. slice_get self.new r.0 ≡ Some r.1) }
         ensures stands_at { IfOk result (λ r. position (T.finds value) self.new ≡ Some r.0) }
     {
+        self.set.reserve(1)?;
         let Ok(borrow) = value.place(self.arena) else {
             return Err(AllocError);
         };
@@ -275,9 +281,9 @@ where
     /// Adds the value last, unless an equal one is present, and returns its place, the stored value and whether it is new.
     ///
     /// It looks first, by one hash: where an equal value is present, that one is returned with its place and `false`, the
-    /// given one is dropped, no memory is taken and nothing changes. Otherwise the value is placed in the arena and goes
-    /// last, by one more hash. `AllocError` comes only for an absent value and leaves the set as it was; the arena may
-    /// keep a copy that nobody sees.
+    /// given one is dropped, no memory is taken and nothing changes. Otherwise the table makes room for one value, and the
+    /// value is placed in the arena and goes last, by one more hash. `AllocError` comes only for an absent value and
+    /// leaves the set as it was; the table may keep the room.
     #[tactic(auto, using(crate::proofs::Content::found_at, crate::proofs::Content::found_nowhere, crate::proofs::Content::found_within))]
     pub fn insert_full_new(&mut self, value: T) -> Result<(usize, T::Borrow, bool), AllocError>
         ensures present { (x : T.Borrow) → find (T.finds value) self.old ≡ Some x →
@@ -359,7 +365,7 @@ where
     /// `AllocError` comes only where the arena or the table got no memory.
     pub fn from_iter<I: IntoIterator<Item = T>>(
         alloc: A,
-        arena: &'a Bump<P>,
+        arena: R,
         hash_builder: S,
         values: I,
     ) -> Result<Self, AllocError>
@@ -372,7 +378,7 @@ where
             × Drains I.IntoIter.next_gives s xs
             × SetCollects T.Borrow.eq T.target T.shown T.finds xs m) }
     {
-        let mut set = FrozenIndexSet::with_hasher(alloc, arena, hash_builder);
+        let mut set = FrozenIndexSetIn::with_hasher(alloc, arena, hash_builder);
         for value in values {
             set.insert_full(value)?;
         }
@@ -380,11 +386,10 @@ where
     }
 }
 
-impl<'a, P: Allocator, T: StableDeref<&'a Bump<P>>, S: BuildHasher, A: Allocator + Copy> Index<
-    usize,
-> for FrozenIndexSet<'a, T, S, A, P>
+impl<R: Copy, T: StableDeref<R>, S: BuildHasher, A: Allocator + Copy> Index<usize>
+    for FrozenIndexSetIn<R, T, S, A>
 where
-    <T as StableDeref<&'a Bump<P>>>::Borrow: Eq + Hash,
+    <T as StableDeref<R>>::Borrow: Eq + Hash,
 {
     type Output = T::Borrow;
 
@@ -399,10 +404,10 @@ where
 }
 
 /// `{:?}` writes the values, in the order of their first insertions, as of an `IndexSet`: `{"y", "x"}`.
-impl<'a, P: Allocator, T: StableDeref<&'a Bump<P>>, S: BuildHasher, A: Allocator + Copy> Debug
-    for FrozenIndexSet<'a, T, S, A, P>
+impl<R: Copy, T: StableDeref<R>, S: BuildHasher, A: Allocator + Copy> Debug
+    for FrozenIndexSetIn<R, T, S, A>
 where
-    <T as StableDeref<&'a Bump<P>>>::Borrow: Eq + Hash + Debug,
+    <T as StableDeref<R>>::Borrow: Eq + Hash + Debug,
 {
     fn fmt<W: Write>(&self, f: &mut Formatter<W>) -> fmt::Result {
         self.set.fmt(f)
@@ -410,10 +415,10 @@ where
 }
 
 // Two sets are equal where they have the same values, in any order.
-impl<'a, P: Allocator, T: StableDeref<&'a Bump<P>>, S: BuildHasher, A: Allocator + Copy> PartialEq
-    for FrozenIndexSet<'a, T, S, A, P>
+impl<R: Copy, T: StableDeref<R>, S: BuildHasher, A: Allocator + Copy> PartialEq
+    for FrozenIndexSetIn<R, T, S, A>
 where
-    <T as StableDeref<&'a Bump<P>>>::Borrow: Eq + Hash,
+    <T as StableDeref<R>>::Borrow: Eq + Hash,
 {
     ghost eq = { same_set T.Borrow.eq };
 
@@ -428,10 +433,10 @@ where
     }
 }
 
-impl<'a, P: Allocator, T: StableDeref<&'a Bump<P>>, S: BuildHasher, A: Allocator + Copy> Eq
-    for FrozenIndexSet<'a, T, S, A, P>
+impl<R: Copy, T: StableDeref<R>, S: BuildHasher, A: Allocator + Copy> Eq
+    for FrozenIndexSetIn<R, T, S, A>
 where
-    <T as StableDeref<&'a Bump<P>>>::Borrow: Eq + Hash,
+    <T as StableDeref<R>>::Borrow: Eq + Hash,
 {
     ghost laws = { same_set_equiv T.Borrow.Eq.laws };
 }

@@ -1,18 +1,17 @@
-//! The index map as a form of map: code over `M: MapForm<R>` takes it too, and doesn't see the order.
+//! The index map as a form of map: code over `M: MapForm<R>` takes it too, and sees by `extends` that a new pair goes last.
+ghost use Rattle.std.specs.Prelude.{◌≡◌, ◌++◌, ◌∷◌, []};
 
-use crate::index_map::FrozenIndexMap;
-use bumpalo::Bump;
+use crate::index_map::FrozenIndexMapIn;
 use elsa_maps::map::MapForm;
 use elsa_once::stable::StableDeref;
 use indexmap::IndexMap;
 use std::alloc::{AllocError, Allocator};
 use std::hash::{BuildHasher, Hash};
 
-impl<'a, K: Eq + Hash + Drop, V, S: BuildHasher + Drop, A: Allocator + Copy, P: Allocator> MapForm<
-    &'a Bump<P>,
-> for FrozenIndexMap<'a, K, V, S, A, P>
+impl<R: Copy, K: Eq + Hash + Drop, V, S: BuildHasher + Drop, A: Allocator + Copy> MapForm<R>
+    for FrozenIndexMapIn<R, K, V, S, A>
 where
-    V: StableDeref<&'a Bump<P>>,
+    V: StableDeref<R>,
 {
     type Key = K;
 
@@ -26,9 +25,11 @@ where
 
     ghost base_entries = { λ m. m.entries };
 
+    ghost extends = { λ old key value new. new ≡ old ++ (key, value) ∷ [] };
+
     #[tactic(auto, using(crate::proofs::Content::no_value))]
     fn insert_new(&mut self, key: K, value: V) -> Result<(V::Borrow, bool), AllocError> {
-        FrozenIndexMap::insert_new(self, key, value)
+        FrozenIndexMapIn::insert_new(self, key, value)
     }
 
     fn insert(&mut self, key: K, value: V) -> Result<V::Borrow, AllocError> {
@@ -37,18 +38,18 @@ where
     }
 
     fn get(&self, key: &K) -> Option<V::Borrow> {
-        FrozenIndexMap::get(self, key)
+        FrozenIndexMapIn::get(self, key)
     }
 
     fn len(&self) -> usize {
-        FrozenIndexMap::len(self)
+        FrozenIndexMapIn::len(self)
     }
 
     fn is_empty(&self) -> bool {
-        FrozenIndexMap::len(self) == 0
+        FrozenIndexMapIn::len(self) == 0
     }
 
     fn rebase(&mut self, base: IndexMap<K, V::Borrow, S, A>) {
-        FrozenIndexMap::rebase(self, base)
+        FrozenIndexMapIn::rebase(self, base)
     }
 }

@@ -10,6 +10,7 @@ use Rattle.std.proofs.Math.ListN.{get_or-append}
 use Rattle.std.proofs.Math.Seq.{get_or-append_seam}
 use Rattle.std.specs.Str.{bytes_eq}
 use Rattle.std.specs.List.{position_or_len}
+use Rattle.std.specs.Fmt.{debug_items, debug_list, debug_str, comma_space, ◌++?◌}
 use Rattle.std.specs.Option.{option_map}
 use Rattle.std.specs.Cmp.Lexicographic.{bytes_decides, nat_list_eq_equiv}
 use Rattle.std.proofs.lemmas.Bool.{cases_lt, false_from_ne_true}
@@ -186,3 +187,12 @@ numbered_none hash table none empty = record {
   within = λ h i has. absurd (empty h i has);
   one_to_one = λ i j text at_i at_j. absurd (omega (arith, slice_get_within {A = List ℕ} [] i text at_i));
 }
+
+-- what is printed of what a function gives of each item
+printed_items : {X Y : Type 0} (f : X → Y) (text : Y → Option (List ℕ)) (lead : List ℕ) (xs : List X) → debug_items text lead (map f xs) ≡ debug_items (λ x. text (f x)) lead xs
+printed_items f text lead [] = refl
+printed_items f text lead (x ∷ xs) = ap (λ rest. Some lead ++? text (f x) ++? rest) (printed_items f text comma_space xs)
+
+-- the names print as the borrows behind them
+pub listed_names : (ks : List (Bor (List ℕ))) → debug_list debug_str (map (λ k. k.now) ks) ≡ debug_list (λ (k : Bor (List ℕ)). debug_str k.now) ks
+listed_names ks = ap (λ items. Some (91 ∷ []) ++? items ++? Some (93 ∷ [])) (printed_items (λ (k : Bor (List ℕ)). k.now) debug_str [] ks)

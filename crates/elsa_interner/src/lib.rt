@@ -10,5 +10,6 @@ pub mod engine;
 pub mod interner;
 mod parsed_cache;
 mod pending;
+pub mod reader;
 mod reply;
 mod request;

@@ -200,6 +200,24 @@ fn an_interner_numbers_more_than_a_hundred_thousand_names(rt: HostRuntime) -> Re
     Ok(())
 }
 
+/// Whether a name of 300,000 bytes is put, found and answered.
+fn long_name_is_put(alloc: Global, arena: &Bump) -> Result<bool, AllocError> {
+    let mut text = String::new(alloc);
+    for _ in 0..30_000 {
+        text.push_str("0123456789")?;
+    }
+    let mut names = Interner::new(alloc, arena);
+    let is_put = names.put("short")? == 0 && names.put(text.as_str())? == 1;
+    Ok(is_put && names.find(text.as_str()) == Some(1) && names.at(1) == Some(text.as_str()))
+}
+
+#[test]
+fn a_name_may_have_hundreds_of_thousands_of_bytes(rt: HostRuntime) -> Result<(), Fail> {
+    let arena = Bump::new(rt.alloc());
+    assert!(rt; long_name_is_put(rt.alloc(), &arena)?);
+    Ok(())
+}
+
 /// Whether a run of a thousand pushes makes each of them.
 fn vec_runs(alloc: Global, arena: &Bump) -> Result<bool, AllocError> {
     let mut items: FrozenVec<'_, Own<usize>> = FrozenVec::new(alloc, arena);

@@ -1,2 +1,3 @@
 pub mod Clones
+pub mod Insertions
 pub mod Shared

@@ -1,5 +1,5 @@
 -- Lemmas on values behind an `Arc`: what a list of owners shows.
-use Rattle.std.proofs.Common.{◌≡◌, Bool, List, Option, Some, None, refl}
+use Rattle.std.proofs.Common.{◌≡◌, ◌+◌, ◌∙◌, ap, sym, Bool, List, Option, Some, None, refl, Bor, true, false, if◌then◌else◌}
 use Rattle.std.specs.Option.{option_eq, option_map}
 use Rattle.std.specs.Map.{lookup, keys_of}
 use Rattle.std.specs.declared.sync.Arc.{Arc}
@@ -8,6 +8,7 @@ use Rattle.std.specs.Cmp.Derive.Mapped.{pointwise-map}
 use Rattle.std.proofs.lemmas.List.{length-map, map-append}
 use Rattle.std.proofs.lemmas.Map.Made.{lookup-map_values, keys_of-map_values}
 use Rattle.std.proofs.lemmas.Option.{slice_get-map}
+use Rattle.elsa_tables.specs.Tables.{AddsNew}
 use Rattle.elsa_locks.specs.Shared.{shown}
 
 -- a look-up in what the owners show shows what the owner found shows
@@ -30,3 +31,21 @@ option_eq_shown E (Some x) (Some y) = refl
 -- owners that are looked up are compared as the values that they show
 pub compared_shown : {K V Z : Type 0} (E : V → V → Bool) (test : K → Bool) (es fs : List (K × Arc V Z)) → option_eq (λ x y. E (arc_value x) (arc_value y)) (lookup test es) (lookup test fs) ≡ option_eq E (lookup test (shown es)) (lookup test (shown fs))
 compared_shown E test es fs = rw (lookup_shown test es, lookup_shown test fs) (option_eq_shown E (lookup test es) (lookup test fs))
+
+-- what a look-up found shows what the owners show at the key
+pub found_shown : {K V Z : Type 0} (test : K → Bool) (es : List (K × Arc V Z)) (r : Option (Bor (Arc V Z)))
+    → option_map (λ b. b.now) r ≡ lookup test es → option_map (λ a. arc_value a.now) r ≡ lookup test (shown es)
+found_shown test es None h = ap (option_map arc_value) h ∙ sym (lookup_shown test es)
+found_shown test es (Some b) h = ap (option_map arc_value) h ∙ sym (lookup_shown test es)
+
+chosen : {V Z : Type 0} (b : Bool) (a : Arc V Z) (o : Option (Arc V Z)) → option_map arc_value (if b then Some a else o) ≡ (if b then Some (arc_value a) else option_map arc_value o)
+chosen true a o = refl
+chosen false a o = refl
+
+-- a new key's owner adds the value that it shows
+pub adds_shown : {K V Z : Type 0} (same : K → K → Bool) (es fs : List (K × Arc V Z)) (k : K) (a : Arc V Z) → AddsNew same es fs k a → AddsNew same (shown es) (shown fs) k (arc_value a)
+adds_shown same es fs k a h = (
+  lookup_shown (same k) fs ∙ ap (option_map arc_value) h.0,
+  (λ q. lookup_shown (same q) fs ∙ ap (option_map arc_value) (h.1 q) ∙ chosen (same k q) a (lookup (same q) es) ∙ ap (λ o. if same k q then Some (arc_value a) else o) (sym (lookup_shown (same q) es))),
+  length-map _ _ ∙ h.2 ∙ ap (λ n. n + 1) (sym (length-map _ _)),
+)

@@ -1,14 +1,20 @@
 //! Maps in which the first value of a key stays.
 //!
-//! [`MapState`] is hashed and [`TreeState`] is ordered; contracts see each as the list of its entries and speak of the
-//! value that it has at a key. [`FrozenMap`] and [`FrozenBTreeMap`] are the same behind a lock.
+//! A [`State`] is a map over a table; contracts see it as the list of its entries and speak of the value that it has at a key. A [`Locked`] is
+//! the same behind a lock. [`MapState`] and [`FrozenMap`] are the two over a hashed table, [`TreeState`] and [`FrozenBTreeMap`] over an
+//! ordered one.
 
 mod frozen_btree_map;
 mod frozen_map;
-mod map_state;
-mod tree_state;
+mod hashed_state;
+mod locked;
+mod ordered_state;
+mod state;
+mod text_keys;
 
 pub use frozen_btree_map::FrozenBTreeMap;
 pub use frozen_map::FrozenMap;
-pub use map_state::MapState;
-pub use tree_state::TreeState;
+pub use hashed_state::MapState;
+pub use locked::Locked;
+pub use ordered_state::TreeState;
+pub use state::State;

@@ -1,4 +1,4 @@
-//! Closures that a locked map calls: another thread's call waits until they have returned.
+//! Closures that a locked map calls: one that makes a value runs under the lock, one that reads a value doesn't.
 use crate::marks::Mark;
 use elsa_locks::map::{FrozenBTreeMap, FrozenMap};
 use std::alloc::Global;
@@ -97,27 +97,6 @@ impl Holding for Making {
     }
 }
 
-// Reading with a closure; beside it an insertion.
-impl Holding for Hashed {
-    fn holds<R: Wait>(&self, rt: &R, hold: &Hold) -> bool {
-        self.map_get(rt, &1, |_| hold.make()) == Some(6)
-    }
-
-    fn asks<R: Wait>(&self, rt: &R) {
-        let _ = self.insert(rt, 2, 9);
-    }
-}
-
-impl Holding for Ordered {
-    fn holds<R: Wait>(&self, rt: &R, hold: &Hold) -> bool {
-        self.map_get(rt, &1, |_| hold.make()) == Some(6)
-    }
-
-    fn asks<R: Wait>(&self, rt: &R) {
-        let _ = self.insert(rt, 2, 9);
-    }
-}
-
 // Makes the other call while the closure runs.
 fn asks_beside<R: Wait, H: Holding>(rt: &R, map: &H, hold: &Hold) -> bool {
     if !hold.runs.comes_to(1) {
@@ -146,11 +125,83 @@ fn a_closure_that_makes_a_value_runs_under_the_lock(rt: HostRuntime) -> Result<(
     Ok(())
 }
 
+// ---- closures that read
+
+// A shared map with 6 at 1.
+trait Read {
+    // What `f` returns for the value at 1.
+    fn read<R: Wait, F: FnOnce(&u64) -> u64 + Drop>(&self, rt: &R, f: F) -> Option<u64>
+        requires { F.IsAlwaysCallable f };
+
+    // Puts 9 at 2.
+    fn put<R: Wait>(&self, rt: &R) -> bool;
+
+    // What is at 2.
+    fn find<R: Wait>(&self, rt: &R) -> Option<u64>;
+}
+
+impl Read for Hashed {
+    fn read<R: Wait, F: FnOnce(&u64) -> u64 + Drop>(&self, rt: &R, f: F) -> Option<u64> {
+        self.map_get(rt, &1, f)
+    }
+
+    fn put<R: Wait>(&self, rt: &R) -> bool {
+        self.insert(rt, 2, 9).is_ok()
+    }
+
+    fn find<R: Wait>(&self, rt: &R) -> Option<u64> {
+        self.get_copy(rt, &2)
+    }
+}
+
+impl Read for Ordered {
+    fn read<R: Wait, F: FnOnce(&u64) -> u64 + Drop>(&self, rt: &R, f: F) -> Option<u64> {
+        self.map_get(rt, &1, f)
+    }
+
+    fn put<R: Wait>(&self, rt: &R) -> bool {
+        self.insert(rt, 2, 9).is_ok()
+    }
+
+    fn find<R: Wait>(&self, rt: &R) -> Option<u64> {
+        self.get_copy(rt, &2)
+    }
+}
+
+// Waits, in a closure that reads 6, until the other thread's insertion was answered, and finds what it put: 9, or 0 where it didn't come.
+fn finds_the_other<R: Wait, M: Read>(rt: &R, map: &M, hold: &Hold) -> u64 {
+    hold.runs.raise(1);
+    if !hold.answered.comes_to(1) {
+        return 0;
+    }
+    map.find(rt).unwrap_or(0)
+}
+
+// Puts while the closure runs.
+fn puts_beside<R: Wait, M: Read>(rt: &R, map: &M, hold: &Hold) -> bool {
+    let good = hold.runs.comes_to(1) && map.put(rt);
+    hold.answered.raise(1);
+    good
+}
+
+// Whether a closure that reads may call the same map, beside an insertion of another thread.
+fn is_free<R: Threads + Wait + Sync, M: Read + Sync>(rt: &R, map: &M) -> bool {
+    let own = Hold::new();
+    let hold = &own;
+    let (found, put) = thread::join(
+        rt,
+        || map.read(rt, |_| finds_the_other(rt, map, hold)),
+        || puts_beside(rt, map, hold),
+    );
+    found == Some(9) && put
+}
+
+// A read in a read's closure that waits behind a writer, which waits for the closure, never returns.
 #[test]
-fn a_closure_that_reads_a_value_runs_under_the_lock(rt: HostRuntime) -> Result<(), Fail> {
+fn a_closure_that_reads_a_value_may_call_the_same_map(rt: HostRuntime) -> Result<(), Fail> {
     let hashed: Hashed = FrozenMap::new(rt.alloc());
     let ordered: Ordered = FrozenBTreeMap::new(rt.alloc());
     assert!(rt; hashed.insert(&rt, 1, 6).is_ok() && ordered.insert(&rt, 1, 6).is_ok());
-    assert!(rt; is_held(&rt, &hashed) && is_held(&rt, &ordered));
+    assert!(rt; is_free(&rt, &hashed) && is_free(&rt, &ordered));
     Ok(())
 }

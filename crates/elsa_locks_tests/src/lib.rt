@@ -4,7 +4,11 @@
 #[cfg(test)]
 mod closures;
 #[cfg(test)]
+mod drops;
+#[cfg(test)]
 mod harness;
+#[cfg(test)]
+mod keys;
 #[cfg(test)]
 mod lists;
 #[cfg(test)]
@@ -23,3 +27,7 @@ mod recordings;
 mod refusals;
 #[cfg(test)]
 mod sharing;
+#[cfg(test)]
+mod tables;
+#[cfg(test)]
+mod texts;

@@ -2,15 +2,16 @@
 //! its lock. The memory is refused, and the state has each size up to sixteen, so that its table is full at some.
 use elsa_locks::map::{FrozenMap, MapState};
 use std::alloc::{AllocError, Global};
+use std::hash::{BuildHasherDefault, FoldHasher};
 use std::sync::Wait;
 use std::test::Fail;
 use test_alloc::Budget;
 
 type Heap<'b> = &'b Budget<Global>;
 
-type State<'b> = MapState<usize, usize, Heap<'b>>;
+type State<'b> = MapState<usize, usize, BuildHasherDefault<FoldHasher>, Heap<'b>>;
 
-type Map<'b> = FrozenMap<usize, usize, Heap<'b>>;
+type Map<'b> = FrozenMap<usize, usize, BuildHasherDefault<FoldHasher>, Heap<'b>>;
 
 // The number of calls on each.
 const CALLS: usize = 7;

@@ -5,6 +5,7 @@ use elsa_history::{Core, MapCommand, MapReply, RecordPass, Recorder, VecCommand,
 use elsa_locks::map::{MapState, TreeState};
 use elsa_locks::vec::VecState;
 use std::alloc::{AllocError, Global};
+use std::hash::{BuildHasherDefault, FoldHasher};
 use std::sync::Wait;
 use std::test::Fail;
 use test_alloc::Budget;
@@ -106,7 +107,7 @@ fn map_reply(number: usize) -> MapReply<usize> {
     }
 }
 
-type Hashed<'b> = MapState<usize, usize, Heap<'b>>;
+type Hashed<'b> = MapState<usize, usize, BuildHasherDefault<FoldHasher>, Heap<'b>>;
 
 impl<'b> Recorded for Hashed<'b> {
     fn command(number: usize) -> MapCommand<usize, usize> {

@@ -5,6 +5,7 @@ use elsa_locks::map::{FrozenBTreeMap, FrozenMap};
 use elsa_locks::vec::FrozenVec;
 use std::alloc::{AllocError, Global};
 use std::cell::Cell;
+use std::hash::{BuildHasherDefault, FoldHasher};
 use std::sync::{Arc, Wait};
 use std::test::Fail;
 use test_alloc::Budget;
@@ -12,7 +13,7 @@ use test_script::WORDS;
 
 type Heap<'b> = &'b Budget<Global>;
 
-type Map<'b> = FrozenMap<u64, u64, Heap<'b>>;
+type Map<'b> = FrozenMap<u64, u64, BuildHasherDefault<FoldHasher>, Heap<'b>>;
 
 // ---- closures
 
@@ -96,7 +97,7 @@ fn keys_of<'b>(alloc: Global, heap: Heap<'b>) -> Result<Vec<Text<'b>>, AllocErro
     Ok(keys)
 }
 
-type Hashed<'b> = FrozenMap<Text<'b>, usize, Heap<'b>>;
+type Hashed<'b> = FrozenMap<Text<'b>, usize, BuildHasherDefault<FoldHasher>, Heap<'b>>;
 
 // An even call gives the next word its number, by each of the seven insertions in turn; an odd one gives the last word another number, clones,
 // lists the keys, compares or lists the pairs.

@@ -82,9 +82,9 @@ fn a_copy_meets<R: Threads + Wait + Sync, M: Read + Sync>(rt: &R, map: &M) -> bo
     a && b
 }
 
-// A read that takes the lock alone lets no other reader in, and its closure waits in vain.
+// A closure that waits for another read runs where that can be made: without the lock, or beside other readers.
 #[test]
-fn reads_share_the_lock(rt: HostRuntime) -> Result<(), Fail> {
+fn closures_of_reads_run_at_once(rt: HostRuntime) -> Result<(), Fail> {
     let hashed: Hashed = FrozenMap::new(rt.alloc());
     let ordered: Ordered = FrozenBTreeMap::new(rt.alloc());
     assert!(rt; hashed.insert(&rt, 1, 6).is_ok() && ordered.insert(&rt, 1, 6).is_ok());

@@ -2,14 +2,14 @@
 -- which buffer is opened, which turns refuse, and when a read ends.
 use Rattle.std.specs.Prelude.{ℕ, suc, ◌+◌, ◌<◌, ◌≤◌, ◌≡◌, Bool, true, false, ◌&&◌, ◌==◌, if◌then◌else◌, nat_lt, List, [], ◌∷◌, ◌++◌, length, count_by, Option, Some, None, slice_get, is_none, is_some, not, MatchBool, MatchOption, ◌↔◌, ◌⊎◌}
 use Rattle.elsa_machine.specs.declared.machine.Answer.{Answer}
-use Rattle.elsa_machine.specs.declared.machine.Answer.TheVariants.{Pushed, Refused, Read, Cloned, CloneRefused}
+use Rattle.elsa_machine.specs.declared.machine.Answer.TheVariants.{Refused, CloneRefused}
 use Rattle.elsa_machine.specs.declared.machine.Event.TheVariants.{Look}
 use Rattle.elsa_machine.specs.declared.machine.Plan.{Plan}
 use Rattle.elsa_machine.specs.declared.machine.Plan.TheVariants.{Pusher, Reader, Cloner}
 use Rattle.elsa_machine.specs.declared.machine.Turn.{Turn}
 use Rattle.elsa_machine.specs.declared.machine.World.{World}
 use Rattle.elsa_machine.specs.declared.machine.turns.Phase.{Phase}
-use Rattle.elsa_machine.specs.declared.machine.turns.Phase.TheVariants.{Ready, Peeked, Acquired, Written, Denied, Looked, Done}
+use Rattle.elsa_machine.specs.declared.machine.turns.Phase.TheVariants.{Ready, Peeked, Acquired, Written, Denied, Looked}
 use Rattle.elsa_machine.specs.declared.machine.turns.Thread.{Thread}
 use Rattle.elsa_machine.specs.AtomicSteps.{Acquires, Looks, Publishes, Releases, Shared, Stays}
 use Rattle.elsa_machine.specs.Geometry.{IsAt, slots_before}
@@ -24,11 +24,9 @@ shared_of w = record { length = w.length; held = is_some w.held; list = list_of 
 abbrev pub PusherStep : {A : Type 0} → ℕ → ℕ → Phase → World A → World A → Type 0
 PusherStep me item Ready v w = Looks v.length (shared_of v) (shared_of w)
 PusherStep me item (Peeked n) v w = MatchBool (is_none v.held && (v.length == n)) (Acquires n (shared_of v) (shared_of w)) (Looks v.length (shared_of v) (shared_of w))
-PusherStep me item (Acquired n) v w = Stays (shared_of v) (shared_of w)
 PusherStep me item (Written n) v w = (n ≡ v.length) × Publishes (me, item) (shared_of v) (shared_of w)
 PusherStep me item Denied v w = Releases (shared_of v) (shared_of w)
-PusherStep me item (Looked n) v w = Stays (shared_of v) (shared_of w)
-PusherStep me item Done v w = Stays (shared_of v) (shared_of w)
+PusherStep me item _ v w = Stays (shared_of v) (shared_of w)
 
 -- a read of the length, which the history notes
 abbrev pub TellsALook : {A : Type 0} → ℕ → World A → World A → Type 0
@@ -37,12 +35,7 @@ TellsALook me v w = (seen : ℕ) × Looks seen (shared_of v) (shared_of w) × (w
 -- the atomic step of a reader's or a cloner's turn; reading and copying change nothing that is shared
 abbrev pub LookerStep : {A : Type 0} → ℕ → Phase → World A → World A → Type 0
 LookerStep me Ready v w = TellsALook me v w
-LookerStep me (Peeked n) v w = Stays (shared_of v) (shared_of w)
-LookerStep me (Acquired n) v w = Stays (shared_of v) (shared_of w)
-LookerStep me (Written n) v w = Stays (shared_of v) (shared_of w)
-LookerStep me Denied v w = Stays (shared_of v) (shared_of w)
-LookerStep me (Looked n) v w = Stays (shared_of v) (shared_of w)
-LookerStep me Done v w = Stays (shared_of v) (shared_of w)
+LookerStep me _ v w = Stays (shared_of v) (shared_of w)
 
 -- the atomic step of a thread's turn; with nothing left to do, nothing changes
 abbrev pub IsStepOf : {A : Type 0} → Plan A → ℕ → Thread A → World A → World A → Type 0
@@ -80,13 +73,10 @@ OpensAtMostItsBuffer plans m = (turn : Turn) → ((turned plans m turn).world.op
 
 -- a thread that holds
 abbrev pub IsHolding : Phase → Type 0
-IsHolding Ready = ⊥
-IsHolding (Peeked n) = ⊥
 IsHolding (Acquired n) = Unit {0}
 IsHolding (Written n) = Unit {0}
 IsHolding Denied = Unit {0}
-IsHolding (Looked n) = ⊥
-IsHolding Done = ⊥
+IsHolding _ = ⊥
 
 -- a thread holds exactly if `held` tells it, so at most one thread holds
 abbrev pub HoldsAlone : {A : Type 0} → Machine A → Type 0
@@ -94,13 +84,9 @@ HoldsAlone m = (me : ℕ) (t : Thread _) → slice_get m.threads me ≡ Some t �
 
 -- a thread that is to publish, or was refused
 abbrev pub IsOver : Phase → Type 0
-IsOver Ready = ⊥
-IsOver (Peeked n) = ⊥
-IsOver (Acquired n) = ⊥
 IsOver (Written n) = Unit {0}
 IsOver Denied = Unit {0}
-IsOver (Looked n) = ⊥
-IsOver Done = ⊥
+IsOver _ = ⊥
 
 -- a thread that publishes releases in that turn, and one that was refused at its next
 abbrev pub ReleasesNext : {A : Type 0} → List (Plan A) → Machine A → Type 0
@@ -135,12 +121,7 @@ turns_that test plans thread m (turn ∷ schedule) =
 -- a turn that is to open the buffer of its place, but has no memory, or that buffer is buffer 31
 abbrev pub is_phase_denied : {A : Type 0} → Phase → World A → Bool → Bool
 is_phase_denied (Acquired n) w memory = not (nat_lt n (slots_before w.opened)) && not (memory && nat_lt w.opened 31)
-is_phase_denied Ready w memory = false
-is_phase_denied (Peeked n) w memory = false
-is_phase_denied (Written n) w memory = false
-is_phase_denied Denied w memory = false
-is_phase_denied (Looked n) w memory = false
-is_phase_denied Done w memory = false
+is_phase_denied _ w memory = false
 
 -- such a turn of a thread that is there
 abbrev pub is_denied : {A : Type 0} → Option (Thread A) → World A → Bool → Bool
@@ -150,10 +131,7 @@ is_denied (Some t) w memory = is_phase_denied t.phase w memory
 -- a result that refuses a push
 abbrev pub is_refusal : {A : Type 0} → Answer A → Bool
 is_refusal (Refused thread) = true
-is_refusal (Pushed thread place) = false
-is_refusal (Read thread index value) = false
-is_refusal (Cloned thread items) = false
-is_refusal (CloneRefused thread) = false
+is_refusal _ = false
 
 -- a push is refused only after such a turn of its own thread: no thread has more refusals than such turns
 abbrev pub AreRefusalsEarned : {A : Type 0} → List (Plan A) → List Turn → Type 0
@@ -163,12 +141,7 @@ AreRefusalsEarned plans schedule = (thread : ℕ) (plan : Plan _) → slice_get 
 -- a turn of a thread that has read the length, without memory: a cloner's copy that fails
 abbrev pub is_looked : Phase → Bool
 is_looked (Looked n) = true
-is_looked Ready = false
-is_looked (Peeked n) = false
-is_looked (Acquired n) = false
-is_looked (Written n) = false
-is_looked Denied = false
-is_looked Done = false
+is_looked _ = false
 
 -- such a turn of a thread that is there
 abbrev pub is_failed_copy : {A : Type 0} → Option (Thread A) → World A → Bool → Bool
@@ -178,10 +151,7 @@ is_failed_copy (Some t) w memory = is_looked t.phase && not memory
 -- a result that refuses a clone
 abbrev pub is_clone_refusal : {A : Type 0} → Answer A → Bool
 is_clone_refusal (CloneRefused thread) = true
-is_clone_refusal (Refused thread) = false
-is_clone_refusal (Pushed thread place) = false
-is_clone_refusal (Read thread index value) = false
-is_clone_refusal (Cloned thread items) = false
+is_clone_refusal _ = false
 
 -- a clone is refused only after a copy of its own thread without memory: no thread has more such refusals than such turns
 abbrev pub AreCloneRefusalsEarned : {A : Type 0} → List (Plan A) → List Turn → Type 0

@@ -1,2 +1,3 @@
 pub mod FirstWins
+pub mod InsertFault
 pub mod Lent

@@ -273,7 +273,7 @@ impl<T: Copy + Drop + Hash, A: Allocator + Copy> SharedInterner<T, A> {
         })
     }
 
-    /// A pass that has seen no name. It takes no memory and no atomic step. Its index hashes as std's maps do by default; where
+    /// A pass that has seen no name. It takes no memory and no atomic step. Its index has the default hasher, of a fixed seed; where
     /// strangers choose the names take [`pass_with_hasher`](Self::pass_with_hasher) and a `SeededState` of `elsa`.
     pub fn pass(&self) -> NamePass<T, BuildHasherDefault<FoldHasher>, A>
         ensures of { result.vector ≡ self.now }

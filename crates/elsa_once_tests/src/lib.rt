@@ -2,9 +2,15 @@
 #![tactic(auto)]
 
 #[cfg(test)]
+mod any_arena;
+#[cfg(test)]
+mod by_closure;
+#[cfg(test)]
 mod law_tests;
 #[cfg(test)]
 mod map_tests;
+#[cfg(test)]
+mod moved;
 #[cfg(test)]
 mod printed;
 #[cfg(test)]

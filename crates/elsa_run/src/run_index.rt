@@ -5,8 +5,7 @@
 ghost use Rattle.std.specs.Prelude.{◌≡◌, IfOk, OnErr, length};
 ghost use Rattle.elsa_run.specs.IndexRun.{IndexRunsTo};
 
-use bumpalo::Bump;
-use elsa_index::index_map::FrozenIndexMap;
+use elsa_index::index_map::FrozenIndexMapIn;
 use elsa_model::{Call, run};
 use elsa_once::stable::StableDeref;
 use indexmap::IndexMap;
@@ -57,13 +56,13 @@ pub enum IndexReply<B> {
     NoMemory,
 }
 
-impl<'a, K: Eq + Hash + Drop, V, S: BuildHasher + Drop, A: Allocator + Copy, P: Allocator> Call<
-    FrozenIndexMap<'a, K, V, S, A, P>,
+impl<R: Copy, K: Eq + Hash + Drop, V, S: BuildHasher + Drop, A: Allocator + Copy> Call<
+    FrozenIndexMapIn<R, K, V, S, A>,
     IndexReply<V::Borrow>,
     (),
 > for IndexCommand<K, V, IndexMap<K, V::Borrow, S, A>>
 where
-    V: StableDeref<&'a Bump<P>>,
+    V: StableDeref<R>,
 {
     ghost use Rattle.std.specs.Prelude.{[], List};
     ghost use Rattle.elsa_run.specs.IndexRun.{Step};
@@ -82,7 +81,7 @@ where
 
     fn apply(
         self,
-        map: &mut FrozenIndexMap<'a, K, V, S, A, P>,
+        map: &mut FrozenIndexMapIn<R, K, V, S, A>,
     ) -> Result<IndexReply<V::Borrow>, AllocError> {
         match self {
             IndexCommand::Insert(key, value) => Ok(IndexReply::Item(map.insert(key, value)?)),
@@ -114,14 +113,13 @@ where
 /// The room for all replies is made before the first call, by the allocator of the commands, so `AllocError` means that no call was made. A call that is
 /// refused gets the reply `NoMemory`, which comes only for an absent key, and the run goes on.
 pub fn run_index<
-    'a,
+    R: Copy,
     K: Eq + Hash + Drop,
-    P: Allocator,
-    V: StableDeref<&'a Bump<P>>,
+    V: StableDeref<R>,
     S: BuildHasher + Drop,
     A: Allocator + Copy,
 >(
-    map: &mut FrozenIndexMap<'a, K, V, S, A, P>,
+    map: &mut FrozenIndexMapIn<R, K, V, S, A>,
     commands: Vec<IndexCommand<K, V, IndexMap<K, V::Borrow, S, A>>, A>,
 ) -> Result<Vec<IndexReply<V::Borrow>, A>, AllocError>
     ensures run { IfOk result (λ replies.

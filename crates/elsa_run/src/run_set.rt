@@ -5,8 +5,7 @@
 ghost use Rattle.std.specs.Prelude.{◌≡◌, IfOk, OnErr, length};
 ghost use Rattle.elsa_run.specs.SetRun.{SetRunsTo};
 
-use bumpalo::Bump;
-use elsa_index::index_set::FrozenIndexSet;
+use elsa_index::index_set::FrozenIndexSetIn;
 use elsa_index::look_up::LookUp;
 use elsa_model::{Call, run};
 use elsa_once::stable::StableDeref;
@@ -57,17 +56,14 @@ pub enum SetReply<B> {
 }
 
 impl<
-    'a,
-    P: Allocator,
-    T: StableDeref<&'a Bump<P>> + LookUp<<T as StableDeref<&'a Bump<P>>>::Borrow>,
+    R: Copy,
+    T: StableDeref<R> + LookUp<<T as StableDeref<R>>::Borrow>,
     S: BuildHasher + Drop,
     A: Allocator + Copy,
-> Call<FrozenIndexSet<'a, T, S, A, P>, SetReply<T::Borrow>, ()>
+> Call<FrozenIndexSetIn<R, T, S, A>, SetReply<T::Borrow>, ()>
     for SetCommand<T, T::Borrow, IndexSet<T::Borrow, S, A>>
 where
-    <T as StableDeref<&'a Bump<P>>>::Borrow: Eq
-        + Hash
-        + LookUp<<T as StableDeref<&'a Bump<P>>>::Borrow>,
+    <T as StableDeref<R>>::Borrow: Eq + Hash + LookUp<<T as StableDeref<R>>::Borrow>,
 {
     ghost use Rattle.std.specs.Prelude.{[], List};
     ghost use Rattle.elsa_run.specs.SetRun.{Step};
@@ -87,7 +83,7 @@ where
 
     fn apply(
         self,
-        set: &mut FrozenIndexSet<'a, T, S, A, P>,
+        set: &mut FrozenIndexSetIn<R, T, S, A>,
     ) -> Result<SetReply<T::Borrow>, AllocError> {
         match self {
             SetCommand::Insert(value) => Ok(SetReply::Item(set.insert(value)?)),
@@ -119,19 +115,16 @@ where
 /// The room for all replies is made before the first call, by the allocator of the commands, so `AllocError` means that no call was made. A call that is
 /// refused gets the reply `NoMemory`, which comes only for an absent value, and the run goes on.
 pub fn run_set<
-    'a,
-    P: Allocator,
-    T: StableDeref<&'a Bump<P>> + LookUp<<T as StableDeref<&'a Bump<P>>>::Borrow>,
+    R: Copy,
+    T: StableDeref<R> + LookUp<<T as StableDeref<R>>::Borrow>,
     S: BuildHasher + Drop,
     A: Allocator + Copy,
 >(
-    set: &mut FrozenIndexSet<'a, T, S, A, P>,
+    set: &mut FrozenIndexSetIn<R, T, S, A>,
     commands: Vec<SetCommand<T, T::Borrow, IndexSet<T::Borrow, S, A>>, A>,
 ) -> Result<Vec<SetReply<T::Borrow>, A>, AllocError>
 where
-    <T as StableDeref<&'a Bump<P>>>::Borrow: Eq
-        + Hash
-        + LookUp<<T as StableDeref<&'a Bump<P>>>::Borrow>,
+    <T as StableDeref<R>>::Borrow: Eq + Hash + LookUp<<T as StableDeref<R>>::Borrow>,
     ensures run { IfOk result (λ replies.
         SetRunsTo T.Borrow.eq T.target T.shown T.finds T.Borrow.finds (λ m. m.keys) set.old
         commands.items replies.items set.new) }

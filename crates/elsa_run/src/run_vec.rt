@@ -4,10 +4,9 @@
 ghost use Rattle.std.specs.Prelude.{◌≡◌, IfOk, OnErr, length, map};
 ghost use Rattle.elsa_run.specs.VecRun.{VecRunsTo};
 
-use bumpalo::Bump;
 use elsa_model::{Call, run};
 use elsa_once::stable::StableDeref;
-use elsa_once::vec::FrozenVec;
+use elsa_once::vec::FrozenVecIn;
 use std::alloc::{AllocError, Allocator};
 
 /// A call on a vector, where `M` is the inner vector.
@@ -49,8 +48,8 @@ pub enum VecReply<B> {
 }
 
 // What each call means: `Answers` says which reply it may get, `change` what it changes.
-impl<'a, P: Allocator, T: StableDeref<&'a Bump<P>>, A: Allocator + Copy> Call<
-    FrozenVec<'a, T, A, P>,
+impl<R: Copy, T: StableDeref<R>, A: Allocator + Copy> Call<
+    FrozenVecIn<R, T, A>,
     VecReply<T::Borrow>,
     (),
 > for VecCommand<T, Vec<T::Borrow, A>> {
@@ -68,7 +67,7 @@ impl<'a, P: Allocator, T: StableDeref<&'a Bump<P>>, A: Allocator + Copy> Call<
 
     ghost refuses = { λ xs c. Step T.target T.shown (λ m. m.items) xs c VecReply.NoMemory xs };
 
-    fn apply(self, items: &mut FrozenVec<'a, T, A, P>) -> Result<VecReply<T::Borrow>, AllocError> {
+    fn apply(self, items: &mut FrozenVecIn<R, T, A>) -> Result<VecReply<T::Borrow>, AllocError> {
         match self {
             VecCommand::Push(item) => {
                 items.push(item)?;
@@ -92,8 +91,8 @@ impl<'a, P: Allocator, T: StableDeref<&'a Bump<P>>, A: Allocator + Copy> Call<
 ///
 /// The room for all replies is made before the first call, by the allocator of the commands, so `AllocError` means that no call was made. A call whose allocation fails gets the
 /// reply `NoMemory`, which comes only for a push, and the run goes on.
-pub fn run_vec<'a, P: Allocator, T: StableDeref<&'a Bump<P>>, A: Allocator + Copy>(
-    items: &mut FrozenVec<'a, T, A, P>,
+pub fn run_vec<R: Copy, T: StableDeref<R>, A: Allocator + Copy>(
+    items: &mut FrozenVecIn<R, T, A>,
     commands: Vec<VecCommand<T, Vec<T::Borrow, A>>, A>,
 ) -> Result<Vec<VecReply<T::Borrow>, A>, AllocError>
     ensures run { IfOk result (λ replies.

@@ -10,6 +10,8 @@ mod filled;
 #[cfg(test)]
 mod form_tests;
 #[cfg(test)]
+mod free_map_tests;
+#[cfg(test)]
 mod gates;
 #[cfg(test)]
 mod handle_tests;
@@ -19,6 +21,8 @@ mod index_form_tests;
 mod job_tests;
 #[cfg(test)]
 mod locked_form_tests;
+#[cfg(test)]
+mod locked_text_tests;
 #[cfg(test)]
 mod map_form_tests;
 #[cfg(test)]
@@ -43,6 +47,8 @@ mod shared_names;
 mod shared_tests;
 #[cfg(test)]
 mod state_form_tests;
+#[cfg(test)]
+mod table_tests;
 #[cfg(test)]
 mod text_key_tests;
 #[cfg(test)]

@@ -27,6 +27,6 @@ pub record IsInOpenBuffer (buffer_slots : List ℕ) (n name : ℕ) (opened slots
   pub at : IsOpenAt buffer_slots n buffer slot name opened slots further
 
 -- behind the first n places: the evidence of an open buffer, if the next place is in one, and the rights to the rest
-abbrev pub GoesOn : List ℕ → ℕ → Option (Written (List ℕ)) → List ℕ → List ℕ → Type 0
+abbrev pub GoesOn : {X : Type 0} → List ℕ → ℕ → Option (Written (List ℕ × X)) → List ℕ → List ℕ → Type 0
 GoesOn buffer_slots n None slots further = IsClosedAt buffer_slots n further
-GoesOn buffer_slots n (Some opened) slots further = IsInOpenBuffer buffer_slots n opened.of opened.value slots further
+GoesOn buffer_slots n (Some opened) slots further = IsInOpenBuffer buffer_slots n opened.of opened.value.0 slots further

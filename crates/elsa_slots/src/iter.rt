@@ -124,7 +124,7 @@ impl<'a, T: Copy + Drop, A: Allocator + Copy> Iterator for Iter<'a, T, A> {
             at = at.next_buffer(self.len);
         }
         let (opened, item) = self.prefix.at(at.place, at.buffer, at.slot);
-        let answer = self.slots.read(at.buffer, at.slot, &opened, &item);
+        let answer = *self.slots.get(at.buffer, at.slot, &opened, &item);
         opened.discard();
         item.discard();
         self.at = at.next_slot(self.len);

@@ -2,7 +2,7 @@
 -- A probe for a hash goes from slot to slot, and stops at the first that is vacant. So a place is found if the probe for its hash comes to its
 -- slot past taken slots alone; and that stays so, since a slot that is taken stays as it is. Where a probe goes is left open: `walk` is any way
 -- among the slots.
-use Rattle.std.specs.Prelude.{◌≡◌, ℕ, ◌+◌, ◌-◌, ◌%◌, ◌^◌, ◌<◌, ◌⊎◌, List, length, slice_index_or, bit_and}
+use Rattle.std.specs.Prelude.{◌≡◌, ℕ, ◌+◌, ◌-◌, ◌*◌, ◌/◌, ◌%◌, ◌^◌, ◌<◌, ◌⊎◌, List, length, slice_index_or, bit_and}
 use Rattle.elsa_table.specs.declared.slots.Slot.{Slot}
 
 -- a vacant slot
@@ -16,6 +16,18 @@ slot_of hash place = record { hash = hash; number = place + 1 }
 -- the slot at an index
 abbrev pub slot_at : List Slot → ℕ → Slot
 slot_at slots i = slice_index_or slots i vacant_slot
+
+-- how many slots are made where there are so many: twice as many, and 8 at least
+abbrev pub wider_count : ℕ → ℕ
+wider_count slots = 8 + (2 * slots - 8)
+
+-- how many places so many slots are for: three quarters of them
+abbrev pub load_limit : ℕ → ℕ
+load_limit count = count / 4 * 3
+
+-- so many slots are `from` or the fewest of all, or half of them would be too few for the places
+abbrev pub IsFewest : ℕ → ℕ → ℕ → Type 0
+IsFewest from places count = (count ≡ from) ⊎ (count ≡ 8) ⊎ load_limit (count / 2) < places
 
 -- a place has the slot
 abbrev pub IsTaken : Slot → Type 0

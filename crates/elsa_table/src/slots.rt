@@ -1,6 +1,6 @@
 //! The slots of a table, as slices: how they are probed, filled and copied into more of them.
-ghost use Rattle.std.specs.Prelude.{◌≡◌, ℕ, ◌<◌, true, false, length, IfOk, IfErr, OnOk, OnErr, IfSome};
-ghost use Rattle.elsa_table.specs.Slots.{slot_of, walk, EndsAt, Gains, Holds, HoldsSame, IsFindable, IsTaken};
+ghost use Rattle.std.specs.Prelude.{◌≡◌, ℕ, ◌<◌, ◌≤◌, ◌⊎◌, true, false, length, IfOk, IfErr, OnOk, OnErr, IfSome};
+ghost use Rattle.elsa_table.specs.Slots.{slot_of, walk, load_limit, wider_count, EndsAt, Gains, GoesOn, Holds, HoldsSame, IsFewest, IsFindable, IsTaken};
 
 use std::alloc::{AllocError, Allocator};
 
@@ -42,6 +42,8 @@ pub(crate) fn search<F: Fn(usize) -> bool>(
     ensures found { IfOk result (λ p. Holds slots.now (slot_of hash p) × F.post is_it p true) }
     ensures absent { OnErr result ((p : ℕ) → Holds slots.now (slot_of hash p) → F.post is_it p false) }
     ensures ends { IfErr result (λ i. i < length slots.now → EndsAt slots.now hash i) }
+    ensures room { IfErr result (λ i. i < length slots.now
+        ⊎ GoesOn slots.now hash (length slots.now)) }
 {
     let count = slots.len();
     for step in 0..count {
@@ -82,6 +84,7 @@ fn enter<A: Allocator>(slots: &mut Vec<Slot, A>, slot: Slot) -> Result<(), Alloc
     requires taken { IsTaken slot }
     requires findable { IsFindable slots.old.items }
     ensures gains { OnOk result (Gains slots.old.items slot slots.new.items) }
+    ensures length { length slots.new.items ≡ length slots.old.items }
     ensures findable { OnOk result (IsFindable slots.new.items) }
 {
     let Some(at) = vacant(slots.as_slice(), slot.hash) else {
@@ -91,17 +94,18 @@ fn enter<A: Allocator>(slots: &mut Vec<Slot, A>, slot: Slot) -> Result<(), Alloc
     Ok(())
 }
 
-/// Twice as many slots, with what these hold.
+/// So many slots, with what these hold; where they are too few for it, `AllocError`.
 #[tactic(auto, using(crate::proofs::SlotLemmas::copied_none))]
 #[inline(never)]
-pub(crate) fn grown<A: Allocator>(alloc: A, slots: &[Slot]) -> Result<Vec<Slot, A>, AllocError>
+pub(crate) fn widened<A: Allocator>(
+    alloc: A,
+    slots: &[Slot],
+    count: usize,
+) -> Result<Vec<Slot, A>, AllocError>
     ensures same { IfOk result (λ wider. HoldsSame slots.now wider.items) }
     ensures findable { IfOk result (λ wider. IsFindable wider.items) }
+    ensures count { IfOk result (λ wider. length wider.items ≡ count) }
 {
-    let Some(twice) = slots.len().checked_mul(2) else {
-        return Err(AllocError);
-    };
-    let count = twice.max(LEAST);
     let mut wider = Vec::with_capacity(alloc, count)?;
     wider.resize(count, EMPTY)?;
     for slot in slots {
@@ -110,4 +114,32 @@ pub(crate) fn grown<A: Allocator>(alloc: A, slots: &[Slot]) -> Result<Vec<Slot, 
         }
     }
     Ok(wider)
+}
+
+/// Twice as many slots, or the fewest, with what these hold.
+#[inline(never)]
+pub(crate) fn grown<A: Allocator>(alloc: A, slots: &[Slot]) -> Result<Vec<Slot, A>, AllocError>
+    ensures same { IfOk result (λ wider. HoldsSame slots.now wider.items) }
+    ensures findable { IfOk result (λ wider. IsFindable wider.items) }
+    ensures count { IfOk result (λ wider. length wider.items ≡ wider_count (length slots.now)) }
+{
+    let Some(twice) = slots.len().checked_mul(2) else {
+        return Err(AllocError);
+    };
+    widened(alloc, slots, twice.max(LEAST))
+}
+
+/// How many slots are for so many places: `from` or the fewest, or twice as many, and so on.
+pub(crate) fn slots_for(from: usize, places: usize) -> Option<usize>
+    ensures enough { IfSome result (λ count. places ≤ load_limit count) }
+    ensures fewest { IfSome result (λ count. IsFewest from places count) }
+{
+    let mut count = from.max(LEAST);
+    for _ in 0..usize::BITS {
+        if count / 4 * 3 >= places {
+            return Some(count);
+        }
+        count = count.checked_mul(2)?;
+    }
+    None
 }

@@ -1,10 +1,11 @@
 //! [`PlaceTable`]: from hashes to places, by open addressing.
 //!
 //! Contracts see a table as its slots and the number of its places; `Has` says that it has a place under a hash (`specs/Table.antt`).
-ghost use Rattle.std.specs.Prelude.{◌≡◌, ◌↔◌, ◌+◌, ◌<◌, ℕ, [], true, false, IfOk, IfErr, IsTrue, OnOk, OnErr};
-ghost use Rattle.elsa_table.specs.Table.{most_places, places, Has, HasSame, IsRoom, IsVacancy, Adds};
+ghost use Rattle.std.specs.Prelude.{◌≡◌, ◌↔◌, ◌+◌, ◌<◌, ◌≤◌, ◌⊎◌, ℕ, [], true, false, IfOk, IfErr, IsTrue, OnOk, OnErr};
+ghost use Rattle.elsa_table.specs.Slots.{load_limit, GoesOn};
+ghost use Rattle.elsa_table.specs.Table.{most_places, places, slots, Has, HasRoom, HasSame, IsRoom, IsVacancy, Adds, Grows};
 
-use crate::slots::{Slot, grown, search, vacant};
+use crate::slots::{Slot, grown, search, slots_for, vacant, widened};
 use std::alloc::{AllocError, Allocator};
 use std::marker::Model;
 
@@ -31,17 +32,19 @@ pub struct PlaceTable<A: Allocator> {
 }
 
 impl<A: Allocator> Model for PlaceTable<A> {
-    ghost use Rattle.std.specs.Prelude.{List, ℕ};
+    ghost use Rattle.std.specs.Prelude.{◌≡◌, ◌≤◌, List, ℕ, length};
     ghost use Rattle.elsa_table.specs.declared.slots.Slot.{Slot};
 
     ghost Value = { List Slot × ℕ };
 
     ghost view = { λ t. (t.slots.items, t.count) };
 
-    ghost use Rattle.elsa_table.specs.Slots.{IsFindable};
+    ghost use Rattle.elsa_table.specs.Slots.{load_limit, IsFindable};
     ghost use Rattle.elsa_table.specs.Table.{IsCount};
 
-    ghost invariant = { λ t. IsFindable t.slots.items × IsCount t.count };
+    // Places have at most three quarters of the slots, and the limit is just that.
+    ghost invariant = { λ t. IsFindable t.slots.items × IsCount t.count
+        × (t.limit ≡ load_limit (length t.slots.items)) × t.count ≤ t.limit };
 }
 
 impl<A: Allocator + Copy> PlaceTable<A> {
@@ -68,6 +71,10 @@ impl<A: Allocator + Copy> PlaceTable<A> {
         ensures found { IfOk result (λ p. Has self.now hash p × F.post is_it p true) }
         ensures absent { OnErr result ((p : ℕ) → Has self.now hash p → F.post is_it p false) }
         ensures vacancy { IfErr result (IsVacancy self.now hash) }
+
+        // There is a vacancy, or else each slot that a search for the hash comes to is taken.
+        ensures room { IfErr result (λ v. v.slot < slots self.now
+            ⊎ GoesOn self.now.0 hash (slots self.now)) }
     {
         match search(self.slots.as_slice(), hash, is_it) {
             Ok(place) => Ok(place),
@@ -108,7 +115,12 @@ impl<A: Allocator + Copy> PlaceTable<A> {
         ensures below { OnOk result (places self.new < most_places) }
         ensures places { places self.new ≡ places self.old }
         ensures same { HasSame self.old self.new }
+        ensures grows { OnOk result (Grows self.old vacancy self.new) }
         ensures refused { OnErr result (self.new ≡ self.old) }
+
+        // It is refused only where the slots have as many places as they are for, or there was no vacancy.
+        ensures cause { OnErr result ((places self.old ≡ most_places)
+            ⊎ load_limit (slots self.old) ≤ places self.old ⊎ slots self.old ≤ vacancy.slot) }
     {
         if self.count >= MOST {
             return Err(AllocError);
@@ -125,6 +137,45 @@ impl<A: Allocator + Copy> PlaceTable<A> {
         Ok(Vacancy { slot })
     }
 
+    /// How many places the slots are for: three quarters of them. Takes no memory. `O(1)`.
+    #[inline]
+    pub fn capacity(&self) -> usize
+        ensures capacity { result ≡ load_limit (slots self.now) }
+        ensures places { places self.now ≤ result }
+    {
+        self.slots.len() / 4 * 3
+    }
+
+    /// Makes room for so many more places: the next so many additions find slots for them.
+    ///
+    /// Where the slots aren't for so many, they double as often as it takes, and are copied once. `AllocError` means that memory for
+    /// them was refused, or that there would be more than 2^32 - 1 places; the table is as it was. `O(n)` where it copies, of all
+    /// slots, else `O(1)`.
+    pub fn reserve_places(&mut self, more: usize) -> Result<(), AllocError>
+        // There are slots for so many more, no more than it takes, and no place changes; a refusal leaves all.
+        ensures room { OnOk result (HasRoom self.old more self.new) }
+        ensures places { places self.new ≡ places self.old }
+        ensures same { HasSame self.old self.new }
+        ensures refused { OnErr result (self.new ≡ self.old) }
+        ensures cause { OnErr result (load_limit (slots self.old) < places self.old + more) }
+    {
+        let Some(wanted) = self.count.checked_add(more) else {
+            return Err(AllocError);
+        };
+        if wanted <= self.limit {
+            return Ok(());
+        }
+        if wanted > MOST {
+            return Err(AllocError);
+        }
+        let Some(count) = slots_for(self.slots.len(), wanted) else {
+            return Err(AllocError);
+        };
+        self.slots = widened(*self.slots.allocator(), self.slots.as_slice(), count)?;
+        self.limit = count / 4 * 3;
+        Ok(())
+    }
+
     /// Adds the next place under the hash, and returns it: how many places there were. Takes no memory. `O(1)`.
     ///
     /// The room is of [`PlaceTable::reserve`] for this hash, since which the table is as it was.
@@ -137,6 +188,10 @@ impl<A: Allocator + Copy> PlaceTable<A> {
         ensures place { result ≡ places self.old }
         ensures places { places self.new ≡ places self.old + 1 }
         ensures adds { Adds self.old hash result self.new }
+
+        // The slots stay as many, and places have three quarters of them at most.
+        ensures slots { slots self.new ≡ slots self.old }
+        ensures load { places self.new ≤ load_limit (slots self.new) }
     {
         let place = self.count;
         self.slots[room.slot] = Slot {

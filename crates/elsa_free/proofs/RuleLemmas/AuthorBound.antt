@@ -104,20 +104,20 @@ module _ {M : Type 1} {𝓤 : Ura M} (𝓛 : Logic 𝓤) where
           types.Kit.use3 𝓛 (‵ J) (shut s.0 s.1 so.0) $ done !)))
 
   -- an author has no more entries in the rule than it used tickets
-  pub rule_bound : (T B : RattleType) (slot_names : B.Denot → List ℕ) (names : List ℕ) (a n : ℕ) (log : List (Event T.Denot))
-      → ⟦ rule_owns T B slot_names names log ⟧ ∗ ⟦ tickets_from a n ⟧ ⊢ guard 𝓤 (count (suc a) (list_of log) ≤ n) (⟦ rule_owns T B slot_names names log ⟧ ∗ ⟦ tickets_from a n ⟧)
-  rule_bound T B slot_names names a n log = qed 𝓛 (‵ (rule_owns T B slot_names names log) ∷ ‵ (tickets_from a n) ∷ []) ∵ fsplit ! $ move ! (1 ∷ []) $ fsplit ! $ move ! (1 ∷ 3 ∷ []) $
+  pub rule_bound : (T B : RattleType) (slot_names : B.Denot → List ℕ) (fits : B.Denot → T.Denot → Type 0) (names : List ℕ) (a n : ℕ) (log : List (Event T.Denot))
+      → ⟦ rule_owns T B slot_names fits names log ⟧ ∗ ⟦ tickets_from a n ⟧ ⊢ guard 𝓤 (count (suc a) (list_of log) ≤ n) (⟦ rule_owns T B slot_names fits names log ⟧ ∗ ⟦ tickets_from a n ⟧)
+  rule_bound T B slot_names fits names a n log = qed 𝓛 (‵ (rule_owns T B slot_names fits names log) ∷ ‵ (tickets_from a n) ∷ []) ∵ fsplit ! $ move ! (1 ∷ []) $ fsplit ! $ move ! (1 ∷ 3 ∷ []) $
       use2 𝓛 (given (count (suc a) (list_of log) ≤ n) (‵ (tickets [] (list_of log)) ⊛ ‵ (tickets_from a n))) (tickets_bound 𝓛 T.Denot a n [] (list_of log) (omega arith)) $ learn ! (λ le. split ! $
       check ! le $ move ! (2 ∷ 0 ∷ []) $ fjoin ! $ move ! (2 ∷ 0 ∷ []) $ fjoin ! $ done !)
 
   -- the rule gives out the evidence that a beginning of its list was written, and keeps what it has
-  pub rule_gives : (T B : RattleType) (slot_names : B.Denot → List ℕ) (names : List ℕ) (x log : List (Event T.Denot)) → IsPrefix x log
-      → ⟦ rule_owns T B slot_names names log ⟧ ⊢ ⟦ rule_owns T B slot_names names log ⟧ ∗ ⟦ prefix_written T B slot_names (buffer_slots_of names) 0 (items_of (list_of x)) ⟧
-  rule_gives T B slot_names names x log pre =
+  pub rule_gives : (T B : RattleType) (slot_names : B.Denot → List ℕ) (fits : B.Denot → T.Denot → Type 0) (names : List ℕ) (x log : List (Event T.Denot)) → IsPrefix x log
+      → ⟦ rule_owns T B slot_names fits names log ⟧ ⊢ ⟦ rule_owns T B slot_names fits names log ⟧ ∗ ⟦ prefix_written T B slot_names fits (buffer_slots_of names) 0 (items_of (list_of x)) ⟧
+  rule_gives T B slot_names fits names x log pre =
       let q = list_prefix x log pre in let all = items_of (list_of log) in let short = items_of (list_of x) in
       let more : all ≡ short ++ items_of q.0 = sym (ap items_of q.1) ∙ items_append (list_of x) q.0 in
-      let All : List T.Denot → Fml = prefix_written T B slot_names (buffer_slots_of names) 0 in
-      qed 𝓛 (‵ (rule_owns T B slot_names names log) ∷ []) ∵ fsplit ! $ move ! (1 ∷ []) $ fsplit ! $
-      use1 𝓛 (‵ (All all) ⊛ ‵ (All all)) (prefix_dup 𝓛 T B slot_names (buffer_slots_of names) 0 all) $ split ! $
-      rewrite ! 0 (λ (xs : List T.Denot). ‵ (All xs)) more refl $ use1 𝓛 (‵ (All short)) (prefix_of_append 𝓛 T B slot_names (buffer_slots_of names) 0 short (items_of q.0)) $
+      let All : List T.Denot → Fml = prefix_written T B slot_names fits (buffer_slots_of names) 0 in
+      qed 𝓛 (‵ (rule_owns T B slot_names fits names log) ∷ []) ∵ fsplit ! $ move ! (1 ∷ []) $ fsplit ! $
+      use1 𝓛 (‵ (All all) ⊛ ‵ (All all)) (prefix_dup 𝓛 T B slot_names fits (buffer_slots_of names) 0 all) $ split ! $
+      rewrite ! 0 (λ (xs : List T.Denot). ‵ (All xs)) more refl $ use1 𝓛 (‵ (All short)) (prefix_of_append 𝓛 T B slot_names fits (buffer_slots_of names) 0 short (items_of q.0)) $
       move ! (1 ∷ 2 ∷ []) $ fjoin ! $ move ! (2 ∷ 0 ∷ []) $ fjoin ! $ done !

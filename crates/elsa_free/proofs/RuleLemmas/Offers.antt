@@ -44,7 +44,7 @@ module _ {M : Type 1} {𝓤 : Ura M} (𝓛 : Logic 𝓤) where
   infix 26 ◌⊢◌
   infixr 35 ◌∗◌
   infixr 30 ◌-∗◌
-  module _ (T B : RattleType) (slot_names : B.Denot → List ℕ) (names : List ℕ) where
+  module _ (T B : RattleType) (slot_names : B.Denot → List ℕ) (fits : B.Denot → T.Denot → Type 0) (names : List ℕ) where
     abbrev Log : Type 0
     Log = List (Event T.Denot)
 
@@ -58,19 +58,19 @@ module _ {M : Type 1} {𝓤 : Ura M} (𝓛 : Logic 𝓤) where
     buffer_slots = buffer_slots_of names
 
     abbrev Kept : Log → Fml
-    Kept = rule_owns T B slot_names names
+    Kept = rule_owns T B slot_names fits names
 
     abbrev at : FShare → Log → Fml
     at q log = at_log q names log
 
     abbrev Spare : Bool → ℕ → Fml
-    Spare b n = free_rights T B slot_names b buffer_slots n
+    Spare b n = free_rights T B slot_names fits b buffer_slots n
 
     abbrev Rights : ℕ → Fml
-    Rights n = rights_from T B slot_names buffer_slots n
+    Rights n = rights_from T B slot_names fits buffer_slots n
 
     abbrev All : Entries → Fml
-    All es = prefix_written T B slot_names buffer_slots 0 (items_of es)
+    All es = prefix_written T B slot_names fits buffer_slots 0 (items_of es)
 
     module _ (moves : Log → Log → Log → Type 0) (gain : Log → Fml) where
       abbrev Trade : Three → Pr
@@ -80,8 +80,8 @@ module _ {M : Type 1} {𝓤 : Ura M} (𝓛 : Logic 𝓤) where
       offers P h = all_i 𝓤 (λ (z : Three). all 𝓤 (λ (_ : moves z.0 z.1 z.2). Trade z)) (λ z. all_i 𝓤 (λ (_ : moves z.0 z.1 z.2). Trade z) (λ m. h z.0 z.1 z.2 m))
 
     -- acquire: the right, and the rights to write, go to the holder
-    pub acquire_offer : emp 𝓤 ⊢ ⟦ offer_owns Kept (IsStep {T = T.Denot} Acquired) (acquire_gain T B slot_names names) None ⟧
-    acquire_offer = offers (IsStep {T = T.Denot} Acquired) (acquire_gain T B slot_names names) (emp 𝓤) (λ xs ys r m. let Z : Pr = ⟦ Kept ys ⟧ ∗ ⟦ acquire_gain T B slot_names names r ⟧ in
+    pub acquire_offer : emp 𝓤 ⊢ ⟦ offer_owns Kept (IsStep {T = T.Denot} Acquired) (acquire_gain T B slot_names fits names) None ⟧
+    acquire_offer = offers (IsStep {T = T.Denot} Acquired) (acquire_gain T B slot_names fits names) (emp 𝓤) (λ xs ys r m. let Z : Pr = ⟦ Kept ys ⟧ ∗ ⟦ acquire_gain T B slot_names fits names r ⟧ in
         let longer : xs ++ Acquired ∷ [] ≡ ys = sym m.1.0 in
         let held : true ≡ is_held ys = sym (ap is_held m.1.0 ∙ held_snoc true xs Acquired) in
         let so : xs ≡ r = sym m.0 in
@@ -98,13 +98,13 @@ module _ {M : Type 1} {𝓤 : Ura M} (𝓛 : Logic 𝓤) where
         rewrite ! 1 (λ (b : Bool). ‵ (Spare b (length (list_of ys)))) held refl $ fjoin ! $ move ! (0 ∷ 2 ∷ []) $ fjoin ! $ done !)
 
     -- a read of the length: the evidence for the whole list, and the author's tickets with what they show
-    pub read_offer : (a n : ℕ) (about : Log) → about ≡ OfferOf a n ∷ [] → ⟦ author a n ⟧ ⊢ ⟦ offer_owns Kept (IsStep {T = T.Denot} (OfferOf a n)) (read_gain T B slot_names names (OfferOf a n ∷ [])) None ⟧
-    read_offer a n about ab = offers (IsStep {T = T.Denot} (OfferOf a n)) (read_gain T B slot_names names (OfferOf a n ∷ [])) ⟦ author a n ⟧ (λ xs ys r m. let Z : Pr = ⟦ Kept ys ⟧ ∗ ⟦ read_gain T B slot_names names (OfferOf a n ∷ []) r ⟧ in let L : Entries = list_of xs in
+    pub read_offer : (a n : ℕ) (about : Log) → about ≡ OfferOf a n ∷ [] → ⟦ author a n ⟧ ⊢ ⟦ offer_owns Kept (IsStep {T = T.Denot} (OfferOf a n)) (read_gain T B slot_names fits names (OfferOf a n ∷ [])) None ⟧
+    read_offer a n about ab = offers (IsStep {T = T.Denot} (OfferOf a n)) (read_gain T B slot_names fits names (OfferOf a n ∷ [])) ⟦ author a n ⟧ (λ xs ys r m. let Z : Pr = ⟦ Kept ys ⟧ ∗ ⟦ read_gain T B slot_names fits names (OfferOf a n ∷ []) r ⟧ in let L : Entries = list_of xs in
         let so : xs ≡ r = sym m.0 in
         qed 𝓛 (‵ (author a n) ∷ []) ∵ assume ! (‵ (Kept xs)) $ fsplit ! $ move ! (1 ∷ []) $ fsplit ! $ move ! (1 ∷ 3 ∷ []) $
         -- [tickets; author; all; position and spare]
         use2 𝓛 (given (count (suc a) L ≤ n) (‵ (tickets [] L) ⊛ ‵ (tickets_from a n))) (tickets_bound 𝓛 T.Denot a n [] L (omega arith)) $ learn ! (λ le. split ! $ move ! (2 ∷ []) $
-        use1 𝓛 (‵ (All L) ⊛ ‵ (All L)) (prefix_dup 𝓛 T B slot_names buffer_slots 0 (items_of L)) $ split ! $ move ! (0 ∷ 2 ∷ []) $ fjoin ! $ move ! (3 ∷ 0 ∷ []) $ fjoin ! $ rewrite ! 0 (λ (l : Log). ‵ (Kept l)) (sym m.1.0) refl $
+        use1 𝓛 (‵ (All L) ⊛ ‵ (All L)) (prefix_dup 𝓛 T B slot_names fits buffer_slots 0 (items_of L)) $ split ! $ move ! (0 ∷ 2 ∷ []) $ fjoin ! $ move ! (3 ∷ 0 ∷ []) $ fjoin ! $ rewrite ! 0 (λ (l : Log). ‵ (Kept l)) (sym m.1.0) refl $
         suffices ! _ (upd_i 𝓤 Z) $ frame ! $ rewrite ! 0 (λ (l : Log). ‵ (All (list_of l))) so refl $ nothing ! $
         fpack ! (count (suc a) (list_of r) ≤ n) (λ _. ftrue) (subst (λ (l : Log). count (suc a) (list_of l) ≤ n) so le) $ move ! (2 ∷ 0 ∷ 1 ∷ []) $ fjoin ! $ move ! (1 ∷ 0 ∷ []) $ fjoin ! $ done !))
 
@@ -119,7 +119,7 @@ module _ {M : Type 1} {𝓤 : Ura M} (𝓛 : Logic 𝓤) where
 
       -- what the holder gives
       abbrev pub Given : Fml
-      Given = fsep (right names v) (fsep (fsep (Rights (length (list_of v) + length new)) (prefix_written T B slot_names buffer_slots (length (list_of v)) (items_of new))) (author a k))
+      Given = fsep (right names v) (fsep (fsep (Rights (length (list_of v) + length new)) (prefix_written T B slot_names fits buffer_slots (length (list_of v)) (items_of new))) (author a k))
 
       abbrev Known : Log → Type 0
       Known r = (length r ≡ length v) × (count (suc a) (list_of r) ≤ k)
@@ -154,7 +154,7 @@ module _ {M : Type 1} {𝓤 : Ura M} (𝓛 : Logic 𝓤) where
           let len : length (list_of v) ≡ length L = sym (added_list xs v agree) in let more : length (list_of v) + length new ≡ length (list_of ys) = omega (arith, len, ap length l, length-append L new) in
           rewrite ! 0 (λ (y : Log). ‵ (at full_share y)) (sym longer) refl $ rewrite ! 0 (λ (b : Bool). ‵ (at (part b) ys)) free refl $
           move ! (1 ∷ []) $ fsplit ! $ rewrite ! 0 (λ (y : ℕ). ‵ (Rights y)) more refl $ rewrite ! 0 (λ (b : Bool). ‵ (Spare b (length (list_of ys)))) free refl $
-          rewrite ! 1 (λ (y : ℕ). ‵ (prefix_written T B slot_names buffer_slots y (items_of new))) (let z : length (list_of v) ≡ 0 + length (items_of L) = omega (arith, len, items_length L) in z) refl $
+          rewrite ! 1 (λ (y : ℕ). ‵ (prefix_written T B slot_names fits buffer_slots y (items_of new))) (let z : length (list_of v) ≡ 0 + length (items_of L) = omega (arith, len, items_length L) in z) refl $
           -- [spare; evidence; position; author; old spare; all and tickets]
           keep ! (5 ∷ 3 ∷ 1 ∷ 2 ∷ 0 ∷ []) $ fsplit ! $ move ! (1 ∷ 2 ∷ []) $
           use2 𝓛 (given (count (suc a) L ≤ k) (‵ (tickets [] L) ⊛ ‵ (tickets_from a k))) (tickets_bound 𝓛 T.Denot a k [] L (omega arith)) $ learn ! (λ le. split ! $
@@ -162,8 +162,8 @@ module _ {M : Type 1} {𝓤 : Ura M} (𝓛 : Logic 𝓤) where
           move ! (1 ∷ []) $ use1 𝓛 (‵ (tickets L new) ⊛ ‵ (author a left)) (pays L le) $ split ! $ move ! (2 ∷ 0 ∷ []) $
           use2 𝓛 (‵ (tickets [] (L ++ new))) (tickets_append 𝓛 T.Denot [] L new) $
           -- [tickets; author; all; evidence; position; spare]
-          move ! (2 ∷ 3 ∷ []) $ use2 𝓛 (‵ (prefix_written T B slot_names buffer_slots 0 (items_of L ++ items_of new))) (prefix_append 𝓛 T B slot_names buffer_slots 0 (items_of L) (items_of new)) $
-          rewrite ! 0 (λ (y : List T.Denot). ‵ (prefix_written T B slot_names buffer_slots 0 y)) i refl $ rewrite ! 1 (λ (es : Entries). ‵ (tickets [] es)) l refl $
+          move ! (2 ∷ 3 ∷ []) $ use2 𝓛 (‵ (prefix_written T B slot_names fits buffer_slots 0 (items_of L ++ items_of new))) (prefix_append 𝓛 T B slot_names fits buffer_slots 0 (items_of L) (items_of new)) $
+          rewrite ! 0 (λ (y : List T.Denot). ‵ (prefix_written T B slot_names fits buffer_slots 0 y)) i refl $ rewrite ! 1 (λ (es : Entries). ‵ (tickets [] es)) l refl $
           -- [all; tickets; author; position; spare]
           fjoin ! $ move ! (2 ∷ 3 ∷ []) $ fjoin ! $ move ! (0 ∷ 1 ∷ []) $ fjoin ! $
           suffices ! _ (upd_i 𝓤 Z) $ frame ! $ nothing ! $
@@ -176,7 +176,7 @@ module _ {M : Type 1} {𝓤 : Ura M} (𝓛 : Logic 𝓤) where
     free_of_charge : (a k : ℕ) (L : Entries) → count (suc a) L ≤ k → ⟦ author a k ⟧ ⊢ ⟦ tickets L [] ⟧ ∗ ⟦ author a k ⟧
     free_of_charge a k L le = qed 𝓛 (‵ (author a k) ∷ []) ∵ nothing ! $ done !
 
-    pub release_offer : (v : Log) (a k : ℕ) → ⟦ fsep (right names v) (fsep (Rights (length (list_of v))) (author a k)) ⟧ ⊢ ⟦ offer_owns Kept (IsStep {T = T.Denot} Released) (release_gain T B slot_names (OfferOf a k ∷ v)) None ⟧
+    pub release_offer : (v : Log) (a k : ℕ) → ⟦ fsep (right names v) (fsep (Rights (length (list_of v))) (author a k)) ⟧ ⊢ ⟦ offer_owns Kept (IsStep {T = T.Denot} Released) (release_gain T B slot_names fits (OfferOf a k ∷ v)) None ⟧
     release_offer v a k = qed 𝓛 (‵ (fsep (right names v) (fsep (Rights (length (list_of v))) (author a k))) ∷ []) ∵ fsplit3 ! $ move ! (1 ∷ []) $
         rewrite ! 0 (λ (y : ℕ). ‵ (Rights y)) (let z : length (list_of v) ≡ length (list_of v) + 0 = omega arith in z) refl $ nothing ! $ move ! (1 ∷ 0 ∷ []) $ fjoin ! $ move ! (1 ∷ 0 ∷ []) $ fjoin3 ! $ by ! (ends_hold v Released refl a k k (free_of_charge a k) (IsStep {T = T.Denot} Released) (λ xs ys r m. (m.0, elim m.1 [ inl s ↦ inl s | inr t ↦ inr (t.0, t.1.was_held) ])))
 
@@ -184,8 +184,8 @@ module _ {M : Type 1} {𝓤 : Ura M} (𝓛 : Logic 𝓤) where
     copies_pay : (a k : ℕ) (cs : List T.Denot) (L : Entries) → count (suc a) L ≤ k → ⟦ author a k ⟧ ⊢ ⟦ tickets L (copied cs) ⟧ ∗ ⟦ author a k ⟧
     copies_pay a k cs L le = qed 𝓛 (‵ (author a k) ∷ []) ∵ use0 𝓛 (‵ (tickets L (copied cs))) (copied_tickets 𝓛 T.Denot L cs) $ done !
 
-    pub clone_offer : (v : Log) (cs : List T.Denot) (a k : ℕ) → ⟦ fsep (right names v) (fsep (fsep (Rights (length (list_of v) + length (copied cs))) (prefix_written T B slot_names buffer_slots (length (list_of v)) (items_of (copied cs)))) (author a k)) ⟧
-        ⊢ ⟦ offer_owns Kept (IsStep {T = T.Denot} (Cloned cs)) (release_gain T B slot_names (OfferOf a k ∷ v)) None ⟧
+    pub clone_offer : (v : Log) (cs : List T.Denot) (a k : ℕ) → ⟦ fsep (right names v) (fsep (fsep (Rights (length (list_of v) + length (copied cs))) (prefix_written T B slot_names fits buffer_slots (length (list_of v)) (items_of (copied cs)))) (author a k)) ⟧
+        ⊢ ⟦ offer_owns Kept (IsStep {T = T.Denot} (Cloned cs)) (release_gain T B slot_names fits (OfferOf a k ∷ v)) None ⟧
     clone_offer v cs a k = ends_hold v (Cloned cs) refl a k k (copies_pay a k cs) (IsStep {T = T.Denot} (Cloned cs)) (λ xs ys r m. (m.0, elim m.1 [ inl s ↦ inl s | inr t ↦ inr (t.0, t.1.was_held) ]))
 
     -- publish an entry
@@ -195,8 +195,8 @@ module _ {M : Type 1} {𝓤 : Ura M} (𝓛 : Logic 𝓤) where
         nothing ! $ fpack ! (count (suc a) L ≤ k) (λ _. ftrue) le $ move ! (1 ∷ 0 ∷ []) $ fjoin ! $ fpack ! ℕ F k $
         rewrite ! 0 (λ (b : ℕ). ‵ (one_ticket L b)) (sym mine) refl $ nothing ! $ move ! (1 ∷ 0 ∷ []) $ fjoin ! $ done !
 
-    pub publish_offer : (v : Log) (x : Entry T.Denot) (a k : ℕ) → x.author ≡ suc a → ⟦ fsep (right names v) (fsep (fsep (Rights (suc (length (list_of v)))) (place_written T B slot_names buffer_slots (length (list_of v)) x.item)) (author a k)) ⟧
-        ⊢ ⟦ offer_owns Kept (IsStep {T = T.Denot} (Published x)) (publish_gain T B slot_names (OfferOf a k ∷ v)) None ⟧
-    publish_offer v x a k mine = qed 𝓛 (‵ (fsep (right names v) (fsep (fsep (Rights (suc (length (list_of v)))) (place_written T B slot_names buffer_slots (length (list_of v)) x.item)) (author a k))) ∷ []) ∵
+    pub publish_offer : (v : Log) (x : Entry T.Denot) (a k : ℕ) → x.author ≡ suc a → ⟦ fsep (right names v) (fsep (fsep (Rights (suc (length (list_of v)))) (place_written T B slot_names fits buffer_slots (length (list_of v)) x.item)) (author a k)) ⟧
+        ⊢ ⟦ offer_owns Kept (IsStep {T = T.Denot} (Published x)) (publish_gain T B slot_names fits (OfferOf a k ∷ v)) None ⟧
+    publish_offer v x a k mine = qed 𝓛 (‵ (fsep (right names v) (fsep (fsep (Rights (suc (length (list_of v)))) (place_written T B slot_names fits buffer_slots (length (list_of v)) x.item)) (author a k))) ∷ []) ∵
         fsplit3 ! $ move ! (1 ∷ []) $ fsplit ! $ rewrite ! 0 (λ (y : ℕ). ‵ (Rights y)) (let z : suc (length (list_of v)) ≡ length (list_of v) + 1 = omega arith in z) refl $ move ! (1 ∷ []) $ nothing ! $ move ! (1 ∷ 0 ∷ []) $ fjoin ! $
         move ! (1 ∷ 0 ∷ []) $ fjoin ! $ move ! (1 ∷ 0 ∷ 2 ∷ []) $ fjoin3 ! $ by ! (ends_hold v (Published x) refl a k (suc k) (entry_pays x a k mine) (IsStep {T = T.Denot} (Published x)) (λ xs ys r m. (m.0, elim m.1 [ inl s ↦ inl s | inr t ↦ inr (t.0, t.1.was_held) ])))

@@ -14,13 +14,13 @@ use crate::item_rule::{AnyItems, ItemRule};
 use crate::rule::{EndHold, Log, OneWord, ReleaseGain};
 use crate::tokens::{Author, Held, offer_clone_closed, offer_clone_open, start, take_released};
 use crossbeam_utils::CachePadded;
-use elsa_slots::slots::{Ahead, Buffer, Copied, Slots, WriteRights, WrittenPrefix};
+use elsa_slots::slots::{Ahead, Beside, Buffer, Copied, Slots, WriteRights, WrittenPrefix};
 use logbook::{Offer, Seen, Word};
 use std::alloc::{AllocError, Allocator};
 
-impl<T: Copy + Drop, A: Allocator + Copy, K: ItemRule<T>> AtomicList<T, A, K> {
+impl<T: Drop, A: Allocator + Copy, K: ItemRule<T>, X: Beside<T> + Drop> AtomicList<T, A, K, X> {
     /// An empty list, one that is filled with nothing, and its history, which leaves the word free.
-    pub fn new(alloc: A) -> Result<(AtomicList<T, A, K>, SeenHistory<T, A, K>), AllocError>
+    pub fn new(alloc: A) -> Result<(AtomicList<T, A, K, X>, SeenHistory<T, A, K, X>), AllocError>
         ensures of { IfOk result (λ r. IsOf r.1 r.0.first) }
         ensures free { IfOk result (λ r. is_held r.1.log ≡ false) }
         ensures empty { IfOk result (λ r. list_of r.1.log ≡ []) }
@@ -36,34 +36,13 @@ impl<T: Copy + Drop, A: Allocator + Copy, K: ItemRule<T>> AtomicList<T, A, K> {
         Ok((list, seen))
     }
 
-    /// A vector of its own with the first `n` items of what was seen, which have no author, and its history: that they were
-    /// published, and nothing else.
-    pub fn copy(
-        &self,
-        n: usize,
-        prefix: &WrittenPrefix<T, Buffer<T, A>>,
-    ) -> Result<(AtomicList<T, A, AnyItems>, SeenHistory<T, A, AnyItems>), AllocError>
-        requires prefix { (prefix.now.buffer_slots ≡ buffer_slots_of self.now.first.names)
-            × (n ≡ length prefix.now.items) × (n < 2 ^ 62) }
-        ensures of { IfOk result (λ r. IsOf r.1 r.0.first) }
-        ensures items { IfOk result (λ r. list_of r.1.log ≡ copied prefix.now.items) }
-        ensures history { IfOk result (λ r. r.1.log ≡ Cloned prefix.now.items ∷ []) }
-    {
-        let Copied {
-            slots,
-            prefix,
-            ahead,
-        } = self.slots.copy_below(n, prefix)?;
-        Ok(AtomicList::filled(slots, prefix, ahead, n))
-    }
-
     /// The list of `n` items in these slots, and its history. Its maker holds the word at first, and publishes the items.
     fn filled(
-        slots: Slots<T, A>,
-        prefix: WrittenPrefix<T, Buffer<T, A>>,
-        ahead: Ahead<T, A>,
+        slots: Slots<T, A, X>,
+        prefix: WrittenPrefix<T, Buffer<T, A, X>>,
+        ahead: Ahead<T, A, X>,
         n: usize,
-    ) -> (AtomicList<T, A, K>, SeenHistory<T, A, K>)
+    ) -> (AtomicList<T, A, K, X>, SeenHistory<T, A, K, X>)
         requires slots { length slots ≡ 31 }
         requires prefix { (prefix.buffer_slots ≡ slots) × (n ≡ length prefix.items) × (n < 2 ^ 62) }
         requires ahead { GoesOn slots n ahead.opened ahead.slots.of ahead.further.of }
@@ -89,10 +68,10 @@ impl<T: Copy + Drop, A: Allocator + Copy, K: ItemRule<T>> AtomicList<T, A, K> {
     fn publish_copies(
         &self,
         held: Held,
-        prefix: WrittenPrefix<T, Buffer<T, A>>,
-        ahead: Ahead<T, A>,
+        prefix: WrittenPrefix<T, Buffer<T, A, X>>,
+        ahead: Ahead<T, A, X>,
         n: usize,
-    ) -> SeenHistory<T, A, K>
+    ) -> SeenHistory<T, A, K, X>
         requires held { (held.name ≡ head self.now.first.names) × (held.added ≡ []) }
         requires prefix { (prefix.buffer_slots ≡ buffer_slots_of self.now.first.names)
             × (n ≡ length prefix.items) × (n < 2 ^ 62) }
@@ -128,10 +107,10 @@ impl<T: Copy + Drop, A: Allocator + Copy, K: ItemRule<T>> AtomicList<T, A, K> {
     /// Ends the first hold by an offer of `n` items.
     fn publish_by(
         &self,
-        seen: SeenHistory<T, A, K>,
-        offer: Offer<Event<T>, Log<T>, OneWord<Buffer<T, A>, K>, ReleaseGain<Buffer<T, A>>>,
+        seen: SeenHistory<T, A, K, X>,
+        offer: Offer<Event<T>, Log<T>, OneWord<Buffer<T, A, X>, K>, ReleaseGain<Buffer<T, A, X>>>,
         n: usize,
-    ) -> SeenHistory<T, A, K>
+    ) -> SeenHistory<T, A, K, X>
         requires of { IsOf seen self.now.first × (seen.log ≡ []) }
         requires offer { (offer.names ≡ seen.names) × (offer.state ≡ None) }
         requires ask { (xs : List T) × (offer.ask ≡ Cloned xs) × (n ≡ length xs) × (n < 2 ^ 62)
@@ -147,7 +126,7 @@ impl<T: Copy + Drop, A: Allocator + Copy, K: ItemRule<T>> AtomicList<T, A, K> {
         let mut offer = offer;
         let mut pen = seen.no_pen();
         self.word
-            .compare_exchange::<EndHold, ReleaseGain<Buffer<T, A>>>(
+            .compare_exchange::<EndHold, ReleaseGain<Buffer<T, A, X>>>(
                 1,
                 2 * n as u64,
                 &mut seen,
@@ -156,5 +135,28 @@ impl<T: Copy + Drop, A: Allocator + Copy, K: ItemRule<T>> AtomicList<T, A, K> {
             );
         take_released(offer.into_gain()).discard();
         seen
+    }
+}
+
+impl<T: Copy + Drop, A: Allocator + Copy, K: ItemRule<T>> AtomicList<T, A, K> {
+    /// A vector of its own with the first `n` items of what was seen, which have no author, and its history: that they were
+    /// published, and nothing else.
+    pub fn copy(
+        &self,
+        n: usize,
+        prefix: &WrittenPrefix<T, Buffer<T, A>>,
+    ) -> Result<(AtomicList<T, A, AnyItems>, SeenHistory<T, A, AnyItems, ()>), AllocError>
+        requires prefix { (prefix.now.buffer_slots ≡ buffer_slots_of self.now.first.names)
+            × (n ≡ length prefix.now.items) × (n < 2 ^ 62) }
+        ensures of { IfOk result (λ r. IsOf r.1 r.0.first) }
+        ensures items { IfOk result (λ r. list_of r.1.log ≡ copied prefix.now.items) }
+        ensures history { IfOk result (λ r. r.1.log ≡ Cloned prefix.now.items ∷ []) }
+    {
+        let Copied {
+            slots,
+            prefix,
+            ahead,
+        } = self.slots.copy_below(n, prefix)?;
+        Ok(AtomicList::filled(slots, prefix, ahead, n))
     }
 }

@@ -15,10 +15,10 @@ use crate::item_rule::ItemRule;
 use crate::rule::{Acquire, AcquireGain, EndHold, Log, PublishGain, ReleaseGain};
 use crate::tokens::{
     Author, Held, bounded_by_tickets, offer_acquire, offer_publish, offer_release,
-    take_acquired_closed, take_acquired_open, take_published, take_released,
+    offer_release_open, take_acquired_closed, take_acquired_open, take_published, take_released,
 };
 use elsa_machine::geometry::{buffer_size, locate};
-use elsa_slots::slots::{Buffer, WriteRights, Written};
+use elsa_slots::slots::{Beside, Buffer, WriteRights, Written};
 use logbook::Gained;
 use std::alloc::{AllocError, Allocator};
 use std::hint::spin_loop;
@@ -31,14 +31,14 @@ const LIMIT: usize = (1 << 62) - 1;
 /// How often a pusher reads a word that another thread holds before it yields.
 const TRIES: u32 = 64;
 
-impl<T: Copy + Drop, A: Allocator + Copy, K: ItemRule<T>> AtomicList<T, A, K> {
+impl<T: Drop, A: Allocator + Copy, K: ItemRule<T>, X: Beside<T> + Drop> AtomicList<T, A, K, X> {
     /// Acquires the word if it is still `found`. Else `found` becomes what it is now.
     fn try_acquire<R: Wait>(
         &self,
         rt: &R,
-        seen: &mut SeenHistory<T, A, K>,
+        seen: &mut SeenHistory<T, A, K, X>,
         found: &mut u64,
-    ) -> Option<Gained<Event<T>, Log<T>, AcquireGain<Buffer<T, A>>>>
+    ) -> Option<Gained<Event<T>, Log<T>, AcquireGain<Buffer<T, A, X>>>>
         requires book { seen.old.book ≡ self.now.first.book }
         requires even { found.old % 2 ≡ 0 }
 
@@ -56,7 +56,7 @@ impl<T: Copy + Drop, A: Allocator + Copy, K: ItemRule<T>> AtomicList<T, A, K> {
         let old = *found;
         *found = self
             .word
-            .compare_exchange::<Acquire, AcquireGain<Buffer<T, A>>>(
+            .compare_exchange::<Acquire, AcquireGain<Buffer<T, A, X>>>(
                 old,
                 old + 1,
                 seen,
@@ -74,9 +74,12 @@ impl<T: Copy + Drop, A: Allocator + Copy, K: ItemRule<T>> AtomicList<T, A, K> {
     fn acquire<R: Wait>(
         &self,
         rt: &R,
-        seen: &mut SeenHistory<T, A, K>,
+        seen: &mut SeenHistory<T, A, K, X>,
         guess: usize,
-    ) -> (usize, Gained<Event<T>, Log<T>, AcquireGain<Buffer<T, A>>>)
+    ) -> (
+        usize,
+        Gained<Event<T>, Log<T>, AcquireGain<Buffer<T, A, X>>>,
+    )
         requires book { seen.old.book ≡ self.now.first.book }
         requires guess { guess < 2 ^ 62 }
 
@@ -105,12 +108,12 @@ impl<T: Copy + Drop, A: Allocator + Copy, K: ItemRule<T>> AtomicList<T, A, K> {
 
     /// Acquires the word at the length `n` alone. `Err` is the length of a list that is longer. It waits while another thread holds
     /// the word at this length.
-    fn acquire_at<R: Wait>(
+    pub(crate) fn acquire_at<R: Wait>(
         &self,
         rt: &R,
-        seen: &mut SeenHistory<T, A, K>,
+        seen: &mut SeenHistory<T, A, K, X>,
         n: usize,
-    ) -> Result<Gained<Event<T>, Log<T>, AcquireGain<Buffer<T, A>>>, usize>
+    ) -> Result<Gained<Event<T>, Log<T>, AcquireGain<Buffer<T, A, X>>>, usize>
         requires book { seen.old.book ≡ self.now.first.book }
         requires at { n ≤ length (list_of seen.old.log) }
 
@@ -140,16 +143,16 @@ impl<T: Copy + Drop, A: Allocator + Copy, K: ItemRule<T>> AtomicList<T, A, K> {
     }
 
     /// Releases the word and leaves the list.
-    fn release<R: Wait>(
+    pub(crate) fn release<R: Wait>(
         &self,
         _rt: &R,
-        seen: SeenHistory<T, A, K>,
+        seen: SeenHistory<T, A, K, X>,
         held: Held,
         further: WriteRights,
         author: Author,
         n: usize,
         buffer: usize,
-    ) -> (SeenHistory<T, A, K>, Author)
+    ) -> (SeenHistory<T, A, K, X>, Author)
 
         // The holder, the rights that it gives back, and the length.
         requires of { IsOf seen self.now.first }
@@ -171,7 +174,54 @@ impl<T: Copy + Drop, A: Allocator + Copy, K: ItemRule<T>> AtomicList<T, A, K> {
         let mut pen = seen.no_pen();
         let word = 2 * n as u64;
         self.word
-            .compare_exchange::<EndHold, ReleaseGain<Buffer<T, A>>>(
+            .compare_exchange::<EndHold, ReleaseGain<Buffer<T, A, X>>>(
+                word + 1,
+                word,
+                &mut seen,
+                &mut offer,
+                &mut pen,
+            );
+        (seen, take_released(offer.into_gain()))
+    }
+
+    /// The same, where the length is in an open buffer.
+    pub(crate) fn release_open<R: Wait>(
+        &self,
+        _rt: &R,
+        seen: SeenHistory<T, A, K, X>,
+        held: Held,
+        opened: Written<Buffer<T, A, X>>,
+        slots: WriteRights,
+        further: WriteRights,
+        author: Author,
+        n: usize,
+        buffer: usize,
+        slot: usize,
+    ) -> (SeenHistory<T, A, K, X>, Author)
+
+        // The holder, the rights that it gives back, and the length.
+        requires of { IsOf seen self.now.first }
+        requires held { IsHolder held seen }
+        requires ahead { IsOpenAt (buffer_slots_of seen.names) n buffer slot
+            opened.of opened.value.0 slots.of further.of × (0 < slot) }
+        requires n { (n ≡ length (list_of seen.log)) × (n < 2 ^ 62) }
+        requires mine { author.used ≤ count (suc author.name) (list_of seen.log) }
+
+        // The word is free, the list is as before, and the author has pushed as much as its tickets say.
+        ensures free { is_held result.0.log ≡ false }
+        ensures same { IsOf result.0 seen × (result.1.name ≡ author.name)
+            × (result.1.used ≡ author.used) }
+        ensures seen { list_of result.0.log ≡ list_of seen.log }
+        ensures mine { count (suc author.name) (list_of seen.log) ≡ author.used }
+    {
+        let mut seen = seen;
+        let mut offer = offer_release_open(
+            &seen, held, opened, slots, further, author, buffer, slot,
+        );
+        let mut pen = seen.no_pen();
+        let word = 2 * n as u64;
+        self.word
+            .compare_exchange::<EndHold, ReleaseGain<Buffer<T, A, X>>>(
                 word + 1,
                 word,
                 &mut seen,
@@ -182,12 +232,12 @@ impl<T: Copy + Drop, A: Allocator + Copy, K: ItemRule<T>> AtomicList<T, A, K> {
     }
 
     /// Writes the slot at the length, and publishes it.
-    fn publish<R: Wait>(
+    pub(crate) fn publish<R: Wait>(
         &self,
         _rt: &R,
-        seen: SeenHistory<T, A, K>,
+        seen: SeenHistory<T, A, K, X>,
         held: Held,
-        opened: Written<Buffer<T, A>>,
+        opened: Written<Buffer<T, A, X>>,
         slots: WriteRights,
         further: WriteRights,
         author: Author,
@@ -195,13 +245,14 @@ impl<T: Copy + Drop, A: Allocator + Copy, K: ItemRule<T>> AtomicList<T, A, K> {
         buffer: usize,
         slot: usize,
         item: T,
-    ) -> (SeenHistory<T, A, K>, Author)
+    ) -> (SeenHistory<T, A, K, X>, Author)
 
         // The holder, and the rights to the slot and to all behind it.
         requires of { IsOf seen self.now.first }
         requires held { IsHolder held seen }
         requires ahead { IsOpenAt (buffer_slots_of seen.names) n buffer slot
-            opened.of opened.value slots.of further.of × (buffer < 31) }
+            opened.of opened.value.0 slots.of further.of × (buffer < 31) }
+        requires fits { X.fits opened.value.1 item }
 
         // The place is the length.
         requires n { (n ≡ length (list_of seen.log)) × (n + 1 < 2 ^ 62) }
@@ -226,7 +277,7 @@ impl<T: Copy + Drop, A: Allocator + Copy, K: ItemRule<T>> AtomicList<T, A, K> {
         let mut pen = seen.no_pen();
         let word = 2 * n as u64;
         self.word
-            .compare_exchange::<EndHold, PublishGain<Buffer<T, A>>>(
+            .compare_exchange::<EndHold, PublishGain<Buffer<T, A, X>>>(
                 word + 1,
                 word + 2,
                 &mut seen,
@@ -235,13 +286,15 @@ impl<T: Copy + Drop, A: Allocator + Copy, K: ItemRule<T>> AtomicList<T, A, K> {
             );
         (seen, take_published(offer.into_gain()))
     }
+}
 
+impl<T: Copy + Drop, A: Allocator + Copy, K: ItemRule<T>> AtomicList<T, A, K> {
     /// Appends an item, and releases the word that was acquired at the length `n`. Returns the length after it, and the place of
     /// the item or `Err` if the allocation of its buffer failed.
     fn append<R: Wait>(
         &self,
         rt: &R,
-        seen: SeenHistory<T, A, K>,
+        seen: SeenHistory<T, A, K, ()>,
         right: Gained<Event<T>, Log<T>, AcquireGain<Buffer<T, A>>>,
         author: Author,
         n: usize,
@@ -282,7 +335,7 @@ impl<T: Copy + Drop, A: Allocator + Copy, K: ItemRule<T>> AtomicList<T, A, K> {
             return (seen, author, n + 1, Ok(n));
         }
         let (held, mut further) = take_acquired_closed(right, buffer);
-        let Ok((fresh, slots)) = self.slots.new_buffer(buffer_size(buffer)) else {
+        let Ok((fresh, slots)) = self.slots.new_buffer(buffer_size(buffer), ()) else {
             let (seen, author) = self.release(rt, seen, held, further, author, n, buffer);
             return (seen, author, n, Err(AllocError));
         };
@@ -299,7 +352,7 @@ impl<T: Copy + Drop, A: Allocator + Copy, K: ItemRule<T>> AtomicList<T, A, K> {
     pub fn push<R: Wait>(
         &self,
         rt: &R,
-        seen: SeenHistory<T, A, K>,
+        seen: SeenHistory<T, A, K, ()>,
         author: Author,
         guess: usize,
         item: T,
@@ -333,7 +386,7 @@ impl<T: Copy + Drop, A: Allocator + Copy, K: ItemRule<T>> AtomicList<T, A, K> {
     pub fn push_at<R: Wait>(
         &self,
         rt: &R,
-        seen: SeenHistory<T, A, K>,
+        seen: SeenHistory<T, A, K, ()>,
         author: Author,
         n: usize,
         item: T,

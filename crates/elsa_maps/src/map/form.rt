@@ -1,22 +1,19 @@
-//! What both maps have in common.
-ghost use Rattle.std.specs.Prelude.{◌≡◌, ◌+◌, ◌↔◌, List, Bool, false, true, None, IfOk, IsTrue, OnErr, OnOk, Some, length};
+//! What all forms of map have in common, for code that is written over any of them.
+ghost use Rattle.std.specs.Prelude.{◌≡◌, ◌↔◌, List, Bool, false, true, None, IfOk, IsTrue, OnErr, Ok, Some, length};
 ghost use Rattle.std.specs.Cmp.{IsEquivalence};
 ghost use Rattle.std.specs.List.{IsDistinct};
 ghost use Rattle.std.specs.Map.{keys_of};
-ghost use Rattle.std.specs.Ordering.{eq_by_cmp};
-ghost use Rattle.elsa_maps.specs.FirstWins.{Adds, value_at};
+ghost use Rattle.elsa_maps.specs.FirstWins.{AddsNew, IsRefused, value_at};
 
-use super::{FrozenBTreeMap, FrozenMap};
-use bumpalo::Bump;
+use super::Frozen;
 use elsa_once::stable::StableDeref;
+use elsa_tables::Table;
 use std::alloc::{AllocError, Allocator};
-use std::collections::{BTreeMap, HashMap};
-use std::hash::{BuildHasher, Hash};
 
 /// A map in which the first value of a key stays, however it finds its keys.
 ///
-/// Its calls mean what they mean at [`FrozenMap`] and [`FrozenBTreeMap`], and code over `M: MapForm<R>` is proved once
-/// for both. `R` is the reference to the arena, `&'a Bump<P>`.
+/// Its calls mean what they mean at [`Frozen`], and code over `M: MapForm<R>` is proved once for every form. `R` is the
+/// reference to the arena, as `&'a Bump<P>`.
 pub trait MapForm<R> {
     /// What the map is asked by.
     type Key: Drop;
@@ -36,6 +33,10 @@ pub trait MapForm<R> {
     // The entries of an inner map.
     ghost base_entries: { Self.Base → List (Self.Key × Self.Value.Borrow) };
 
+    // What the entries may become by a new one.
+    ghost extends: { List (Self.Key × Self.Value.Borrow) → Self.Key → Self.Value.Borrow →
+        List (Self.Key × Self.Value.Borrow) → Type 0 };
+
     /// Gives `key` the value unless it has one, and returns the value that it now has and whether it was new.
     /// `Err` on an allocation failure, only for a new key: the content is as before.
     fn insert_new(
@@ -46,16 +47,12 @@ pub trait MapForm<R> {
         ensures present { (x : Self.Value.Borrow) → value_at same (entries self.old) key ≡ Some x →
             (result ≡ Ok (x, false)) × (entries self.new ≡ entries self.old) }
         ensures stands { IfOk result (λ r. value_at same (entries self.new) key ≡ Some r.0) }
-        ensures new_flag { value_at same (entries self.old) key ≡ None → IfOk result (λ r. r.1 ≡ true) }
-        ensures new_target { value_at same (entries self.old) key ≡ None →
-            IfOk result (λ r. Self.Value.shown r.0 ≡ Self.Value.target value) }
-        ensures new_content { value_at same (entries self.old) key ≡ None →
-            IfOk result (λ r. Adds same (value_at same (entries self.old))
-            (value_at same (entries self.new)) key r.0) }
-        ensures new_length { value_at same (entries self.old) key ≡ None →
-            OnOk result (length (entries self.new) ≡ length (entries self.old) + 1) }
-        ensures refused { OnErr result (entries self.new ≡ entries self.old) }
-        ensures only_new { OnErr result (value_at same (entries self.old) key ≡ None) };
+        ensures added { value_at same (entries self.old) key ≡ None →
+            IfOk result (λ r. (r.1 ≡ true) × AddsNew same Self.Value.target Self.Value.shown
+            (entries self.old) key value r.0 (entries self.new)) }
+        ensures new_entry { value_at same (entries self.old) key ≡ None →
+            IfOk result (λ r. extends (entries self.old) key r.0 (entries self.new)) }
+        ensures refused { OnErr result (IsRefused same (entries self.old) key (entries self.new)) };
 
     /// Gives `key` the value unless it has one, and returns the value that it now has.
     fn insert(
@@ -66,15 +63,12 @@ pub trait MapForm<R> {
         ensures present { (x : Self.Value.Borrow) → value_at same (entries self.old) key ≡ Some x →
             (result ≡ Ok x) × (entries self.new ≡ entries self.old) }
         ensures stands { IfOk result (λ b. value_at same (entries self.new) key ≡ Some b) }
-        ensures new_target { value_at same (entries self.old) key ≡ None →
-            IfOk result (λ b. Self.Value.shown b ≡ Self.Value.target value) }
-        ensures new_content { value_at same (entries self.old) key ≡ None →
-            IfOk result (λ b. Adds same (value_at same (entries self.old))
-            (value_at same (entries self.new)) key b) }
-        ensures new_length { value_at same (entries self.old) key ≡ None →
-            OnOk result (length (entries self.new) ≡ length (entries self.old) + 1) }
-        ensures refused { OnErr result (entries self.new ≡ entries self.old) }
-        ensures only_new { OnErr result (value_at same (entries self.old) key ≡ None) };
+        ensures added { value_at same (entries self.old) key ≡ None →
+            IfOk result (λ b. AddsNew same Self.Value.target Self.Value.shown (entries self.old) key
+            value b (entries self.new)) }
+        ensures new_entry { value_at same (entries self.old) key ≡ None →
+            IfOk result (λ b. extends (entries self.old) key b (entries self.new)) }
+        ensures refused { OnErr result (IsRefused same (entries self.old) key (entries self.new)) };
 
     /// The value at `key`, or `None` exactly if there is none.
     fn get(&self, key: &Self::Key) -> Option<<Self::Value as StableDeref<R>>::Borrow>
@@ -97,85 +91,46 @@ pub trait MapForm<R> {
         ensures { entries self.new ≡ base_entries base };
 }
 
-impl<'a, K: Eq + Hash + Drop, V, S: BuildHasher + Drop, A: Allocator + Copy, P: Allocator> MapForm<
-    &'a Bump<P>,
-> for FrozenMap<'a, K, V, S, A, P>
+impl<R: Copy, K: Drop, V, T, A: Allocator + Copy> MapForm<R> for Frozen<R, K, V, T, A>
 where
-    V: StableDeref<&'a Bump<P>>,
+    V: StableDeref<R>,
+    T: Table<K, V::Borrow> + Drop,
 {
     type Key = K;
 
     type Value = V;
 
-    type Base = HashMap<K, V::Borrow, S, A>;
+    type Base = T;
 
-    ghost same = { K.eq };
-
-    ghost entries = { λ m. m };
-
-    ghost base_entries = { λ m. m.entries };
-
-    fn insert_new(&mut self, key: K, value: V) -> Result<(V::Borrow, bool), AllocError> {
-        FrozenMap::insert_new(self, key, value)
-    }
-
-    fn insert(&mut self, key: K, value: V) -> Result<V::Borrow, AllocError> {
-        FrozenMap::insert(self, key, value)
-    }
-
-    fn get(&self, key: &K) -> Option<V::Borrow> {
-        FrozenMap::get(self, key)
-    }
-
-    fn len(&self) -> usize {
-        FrozenMap::len(self)
-    }
-
-    fn is_empty(&self) -> bool {
-        FrozenMap::is_empty(self)
-    }
-
-    fn rebase(&mut self, base: HashMap<K, V::Borrow, S, A>) {
-        *self.as_mut() = base;
-    }
-}
-
-impl<'a, K: Ord + Drop, P: Allocator, V: StableDeref<&'a Bump<P>>, A: Allocator + Copy> MapForm<
-    &'a Bump<P>,
-> for FrozenBTreeMap<'a, K, V, A, P> {
-    type Key = K;
-
-    type Value = V;
-
-    type Base = BTreeMap<K, V::Borrow, A>;
-
-    ghost same = { eq_by_cmp K.cmp };
+    ghost same = { T.same };
 
     ghost entries = { λ m. m };
 
-    ghost base_entries = { λ m. m.entries };
+    ghost base_entries = { T.entries };
+
+    ghost extends = { T.extends };
 
     fn insert_new(&mut self, key: K, value: V) -> Result<(V::Borrow, bool), AllocError> {
-        FrozenBTreeMap::insert_new(self, key, value)
+        Frozen::insert_new(self, key, value)
     }
 
     fn insert(&mut self, key: K, value: V) -> Result<V::Borrow, AllocError> {
-        FrozenBTreeMap::insert(self, key, value)
+        Frozen::insert(self, key, value)
     }
 
     fn get(&self, key: &K) -> Option<V::Borrow> {
-        FrozenBTreeMap::get(self, key)
+        Frozen::get(self, key)
     }
 
     fn len(&self) -> usize {
-        FrozenBTreeMap::len(self)
+        Frozen::len(self)
     }
 
     fn is_empty(&self) -> bool {
-        FrozenBTreeMap::is_empty(self)
+        Frozen::is_empty(self)
     }
 
-    fn rebase(&mut self, base: BTreeMap<K, V::Borrow, A>) {
-        *self.as_mut() = base;
+    fn rebase(&mut self, base: T) {
+        Frozen::rebase(self, base)
     }
 }

@@ -1,140 +1,59 @@
 //! The map that keeps its keys in order.
-ghost use Rattle.std.specs.Prelude.{◌≡◌, ◌+◌, ◌↔◌, [], ◌∷◌, List, Bool, false, true, None, IfOk, IsSome, IsSomeAnd, IsTrue, MatchOption, OnErr, OnOk, Some, if◌then◌else◌, ◌-◌, is_some, length, slice_get};
-ghost use Rattle.std.specs.BTreeMap.{insert_entry};
+ghost use Rattle.std.specs.Prelude.{◌≡◌, ◌-◌, ◌↔◌, [], ◌∷◌, List, None, true, IfOk, IsTrue, OnErr, OnOk, Ok, Some, length, slice_get};
 ghost use Rattle.std.specs.BTreeMap.Range.{IsLeBy, IsLtBy, entries_between};
-ghost use Rattle.std.specs.Borrow.{sem};
 ghost use Rattle.std.specs.Cmp.{eq_by_cmp_equiv};
 ghost use Rattle.std.specs.Iterator.{Drains, IsFinite};
 ghost use Rattle.std.specs.List.Sorted.{IsStrictlySortedBy};
 ghost use Rattle.std.specs.Map.{keys_of, lookup, values_of};
 ghost use Rattle.std.specs.Map.Iter.{ShowsInOrder, ShowsInReverse, deref, deref_pair};
-ghost use Rattle.std.specs.Option.{ForSome};
 ghost use Rattle.std.specs.Ordering.{eq_by_cmp, nat_cmp};
 ghost use Rattle.std.specs.Cmp.Lexicographic.{slice_cmp};
 ghost use Rattle.std.specs.String.{string_bytes};
-ghost use Rattle.elsa_maps.specs.FirstWins.{Adds, HoldsLast, SameAt, same_values, value_at};
+ghost use Rattle.elsa_maps.specs.FirstWins.{AddsNew, HoldsLast, IsRefused, SameAt, same_values, value_at};
 ghost use Rattle.elsa_model.proofs.MapEquality.{same_values_equivalence, same_values_laws};
 ghost use Rattle.elsa_model.specs.FirstWins.{IsEqualMap};
-ghost use Rattle.elsa_maps.specs.Lent.{lends_tree};
 
+use super::Frozen;
 use bumpalo::Bump;
 use elsa_model::for_its_clause;
 use elsa_once::stable::StableDeref;
 use std::alloc::{AllocError, Allocator, Global};
 use std::collections::BTreeMap;
-use std::collections::btree_map::{Entry, Iter, Keys, Range, Values};
-use std::fmt::{self, Debug, Formatter, Write};
-use std::marker::{Model, PhantomData};
-use std::ops::{Index, RangeBounds};
+use std::collections::btree_map::{Iter, Keys, Range, Values};
+use std::ops::RangeBounds;
 
-/// A map in which the first value of a key stays, and whose keys are in order.
+/// A map in which the first value of a key stays, and whose keys are in order: over the arena to which an `R` refers.
 ///
-/// Each value is placed in the arena that the map was made over, and returned as a borrow with the arena's lifetime: the borrow
-/// outlasts later insertions and the map itself. The tree of the entries is in memory of the allocator `A`, and `P` is the allocator of the arena.
-///
-/// Keys need `Ord` and nothing else; two keys are one where they compare `Equal`.
-pub struct FrozenBTreeMap<'a, K: Ord, V, A: Allocator + Copy = Global, P: Allocator = Global>
-where
-    V: StableDeref<&'a Bump<P>>,
-{
-    alloc: A,
-    arena: &'a Bump<P>,
-    entries: BTreeMap<K, V::Borrow, A>,
-    of: PhantomData<V>,
-}
+/// Keys need `Ord`, and two keys are one where they compare `Equal`. `A` is the allocator of the tree.
+pub type FrozenBTreeMapIn<R, K, V, A = Global> = Frozen<
+    R,
+    K,
+    V,
+    BTreeMap<K, <V as StableDeref<R>>::Borrow, A>,
+    A,
+>;
 
-impl<'a, K: Ord, V, A: Allocator + Copy, P: Allocator> Model for FrozenBTreeMap<'a, K, V, A, P>
-where
-    V: StableDeref<&'a Bump<P>>,
-{
-    ghost use Rattle.std.specs.Prelude.{List};
+/// The ordered map whose values are placed in a `Bump` of lifetime `'a`; `P` is the allocator of the arena.
+pub type FrozenBTreeMap<'a, K, V, A = Global, P = Global> = FrozenBTreeMapIn<&'a Bump<P>, K, V, A>;
 
-    ghost Value = { List (K × V.Borrow) };
-
-    ghost view = { λ m. m.entries.entries };
-}
-
-impl<'a, K: Ord + Drop, P: Allocator, V: StableDeref<&'a Bump<P>>, A: Allocator + Copy> Drop
-    for FrozenBTreeMap<'a, K, V, A, P> {
-    fn drop(self) {
-        let FrozenBTreeMap {
-            alloc: _alloc,
-            arena: _arena,
-            entries: _entries,
-            of: _of,
-        } = self;
-    }
-}
-
-impl<'a, K: Ord, V, A: Allocator + Copy, P: Allocator> FrozenBTreeMap<'a, K, V, A, P>
-where
-    V: StableDeref<&'a Bump<P>>,
-{
+impl<R: Copy, K: Ord + Drop, V: StableDeref<R>, A: Allocator + Copy> FrozenBTreeMapIn<R, K, V, A> {
     /// An empty map, over `arena` for its values and `alloc` for its tree.
     ///
     /// Takes no memory.
-    pub fn new(alloc: A, arena: &'a Bump<P>) -> Self
+    pub fn new(alloc: A, arena: R) -> Self
         ensures { result ≡ [] }
     {
-        FrozenBTreeMap::from_map(alloc, arena, BTreeMap::new(alloc))
+        FrozenBTreeMapIn::from_map(alloc, arena, BTreeMap::new(alloc))
     }
 
-    /// A map with the content of `map`, which begins a new epoch.
+    /// A map with the content of `map`.
     ///
-    /// Takes no memory. `alloc` is for the memory that [`clone`](FrozenBTreeMap::clone) and
-    /// [`into_tuple_vec`](FrozenBTreeMap::into_tuple_vec) take: std's map can't be asked for its allocator.
-    pub fn from_map(alloc: A, arena: &'a Bump<P>, map: BTreeMap<K, V::Borrow, A>) -> Self
+    /// Takes no memory. `alloc` is for the memory that [`clone`](FrozenBTreeMapInIn::clone) and
+    /// [`into_tuple_vec`](FrozenBTreeMapInIn::into_tuple_vec) take: std's map can't be asked for its allocator.
+    pub fn from_map(alloc: A, arena: R, map: BTreeMap<K, V::Borrow, A>) -> Self
         ensures { result ≡ map.entries }
     {
-        FrozenBTreeMap {
-            alloc,
-            arena,
-            entries: map,
-            of: PhantomData,
-        }
-    }
-
-    /// The number of entries.
-    pub fn len(&self) -> usize
-        ensures count { result ≡ length self.now }
-
-        // What holds of every map: its keys ascend.
-        ensures ascending { IsStrictlySortedBy K.cmp (keys_of self.now) }
-    {
-        self.entries.len()
-    }
-
-    /// Whether there are no entries.
-    pub fn is_empty(&self) -> bool
-        ensures { IsTrue result ↔ (length self.now ≡ 0) }
-    {
-        self.entries.is_empty()
-    }
-
-    /// The value at `key`, or `None` exactly if no key of the map equals it. Takes no memory; one search of the tree.
-    pub fn get(&self, key: &K) -> Option<V::Borrow>
-        ensures { result ≡ value_at (eq_by_cmp K.cmp) self.now key.now }
-    {
-        self.entries.get(key).copied()
-    }
-
-    /// What `f` returns for the value of `key`. It is called once if the key is present, and never if it is absent.
-    pub fn map_get<R, F: FnOnce(V::Borrow) -> R>(&self, key: &K, f: F) -> Option<R>
-        requires callable { ForSome (value_at (eq_by_cmp K.cmp) self.now key.now) (F.pre f) }
-        ensures { MatchOption (value_at (eq_by_cmp K.cmp) self.now key.now) (result ≡ None) (
-            λ value. IsSomeAnd result (F.post f value)) }
-    {
-        match self.get(key) {
-            Some(value) => Some(f(value)),
-            None => None,
-        }
-    }
-
-    /// Whether a key of the map equals `key`. Takes no memory; one search of the tree.
-    pub fn contains_key(&self, key: &K) -> bool
-        ensures { result ≡ is_some (value_at (eq_by_cmp K.cmp) self.now key.now) }
-    {
-        self.get(key).is_some()
+        Frozen::over(alloc, arena, map)
     }
 
     /// Each entry once, as a key and its value's borrow, ascending by key; from the back, descending. Takes no memory; `O(log n)`, and
@@ -146,39 +65,39 @@ where
         ensures runs { ShowsInOrder (deref_pair {K = K} {X = V.Borrow}) }
         ensures runs_back { ShowsInReverse (deref_pair {K = K} {X = V.Borrow}) }
     {
-        self.entries.iter()
+        self.table.iter()
     }
 
-    /// Each key once, ascending; from the back, descending. Costs as [`iter`](FrozenBTreeMap::iter).
+    /// Each key once, ascending; from the back, descending. Costs as [`iter`](FrozenBTreeMapInIn::iter).
     pub fn keys(&self) -> Keys<'_, K, V::Borrow>
         ensures rest { result ≡ keys_of self.now }
         ensures runs { ShowsInOrder (deref {X = K}) }
         ensures runs_back { ShowsInReverse (deref {X = K}) }
     {
-        self.entries.keys()
+        self.table.keys()
     }
 
-    /// The value's borrow of each entry, ascending by key; from the back, descending. Costs as [`iter`](FrozenBTreeMap::iter).
+    /// The value's borrow of each entry, ascending by key; from the back, descending. Costs as [`iter`](FrozenBTreeMapInIn::iter).
     pub fn values(&self) -> Values<'_, K, V::Borrow>
         ensures rest { result ≡ values_of self.now }
         ensures runs { ShowsInOrder (deref {X = V.Borrow}) }
         ensures runs_back { ShowsInReverse (deref {X = V.Borrow}) }
     {
-        self.entries.values()
+        self.table.values()
     }
 
     /// The entries whose keys are in the range, ascending; from the back, descending. Takes no memory; `O(log n)`, and each entry
     /// `O(1)` on average.
     ///
     /// The range must not begin behind its end, as `5..3` does.
-    pub fn range<R: RangeBounds<K> + Drop>(&self, range: R) -> Range<'_, K, V::Borrow>
-        requires { R.is_forward range (IsLeBy K.cmp) (IsLtBy K.cmp) }
-        ensures between { R.has_bounds range →
-            result ≡ entries_between K.cmp (R.start_bound range) (R.end_bound range) self.now }
+    pub fn range<G: RangeBounds<K> + Drop>(&self, range: G) -> Range<'_, K, V::Borrow>
+        requires { G.is_forward range (IsLeBy K.cmp) (IsLtBy K.cmp) }
+        ensures between { G.has_bounds range →
+            result ≡ entries_between K.cmp (G.start_bound range) (G.end_bound range) self.now }
         ensures runs { ShowsInOrder (deref_pair {K = K} {X = V.Borrow}) }
         ensures runs_back { ShowsInReverse (deref_pair {K = K} {X = V.Borrow}) }
     {
-        self.entries.range(range)
+        self.table.range(range)
     }
 
     /// The entry with the least key, `None` exactly if the map is empty. Takes no memory; `O(log n)`.
@@ -187,7 +106,7 @@ where
         K: Copy,
         ensures { result ≡ slice_get self.now 0 }
     {
-        let (key, value) = self.entries.first_key_value()?;
+        let (key, value) = self.table.first_key_value()?;
         Some((*key, *value))
     }
 
@@ -197,85 +116,8 @@ where
         K: Copy,
         ensures { result ≡ slice_get self.now (length self.now - 1) }
     {
-        let (key, value) = self.entries.last_key_value()?;
+        let (key, value) = self.table.last_key_value()?;
         Some((*key, *value))
-    }
-
-    /// The inner map, with each key's borrow. Takes no memory.
-    pub fn into_map(self) -> BTreeMap<K, V::Borrow, A>
-        ensures { result.entries ≡ self.entry }
-    {
-        let FrozenBTreeMap {
-            alloc: _,
-            arena: _,
-            entries: inner_map,
-            of: _,
-        } = self;
-        inner_map
-    }
-
-    /// The inner map, borrowed for writing: it may change or remove anything, and what it leaves is a new base.
-    pub fn as_mut(&mut self) -> &mut BTreeMap<K, V::Borrow, A>
-        ensures* writes_back { sem 𝓛 (lends_tree K.row V.row A.row P.row V.Borrow.row K.Ord
-            V.HasTarget A.Allocator P.Allocator self.entry result) }
-        ensures content { result.now.entries ≡ self.old }
-    {
-        &mut self.entries
-    }
-}
-
-impl<'a, K: Ord + Drop, V, A: Allocator + Copy, P: Allocator> FrozenBTreeMap<'a, K, V, A, P>
-where
-    V: StableDeref<&'a Bump<P>>,
-{
-    /// Gives `key` the value, unless the map has a key that equals it, and returns the value that the key now has and
-    /// whether the key was new.
-    ///
-    /// A present key keeps its value: `key` and `value` are dropped, no memory is taken and the result is `Ok`.
-    /// For a new key the tree makes room for one entry and the value is placed in the arena; where either fails,
-    /// it returns `Err` and the map stays as it was.
-    ///
-    /// One search of the tree, and for a new key one copy into the arena.
-    pub fn insert_new(&mut self, key: K, value: V) -> Result<(V::Borrow, bool), AllocError>
-        ensures present { (x : V.Borrow) → value_at (eq_by_cmp K.cmp) self.old key ≡ Some x →
-            (result ≡ Ok (x, false)) × (self.new ≡ self.old) }
-        ensures stands { IfOk result (λ r. value_at (eq_by_cmp K.cmp) self.new key ≡ Some r.0) }
-        ensures new_flag { value_at (eq_by_cmp K.cmp) self.old key ≡ None →
-            IfOk result (λ r. r.1 ≡ true) }
-        ensures new_target { value_at (eq_by_cmp K.cmp) self.old key ≡ None →
-            IfOk result (λ r. V.shown r.0 ≡ V.target value) }
-        ensures new_content { value_at (eq_by_cmp K.cmp) self.old key ≡ None →
-            IfOk result (λ r. Adds (eq_by_cmp K.cmp) (value_at (eq_by_cmp K.cmp) self.old)
-            (value_at (eq_by_cmp K.cmp) self.new) key r.0) }
-        ensures new_length { value_at (eq_by_cmp K.cmp) self.old key ≡ None →
-            OnOk result (length self.new ≡ length self.old + 1) }
-        ensures new_entry { value_at (eq_by_cmp K.cmp) self.old key ≡ None →
-            IfOk result (λ r. self.new ≡ insert_entry K.cmp self.old key r.0) }
-        ensures refused { OnErr result (self.new ≡ self.old) }
-        ensures only_new { OnErr result (value_at (eq_by_cmp K.cmp) self.old key ≡ None) }
-    {
-        insert_placed(&mut self.entries, self.arena, key, value)
-    }
-
-    /// Gives `key` the value, unless the map has a key that equals it, and returns the value that the key now has:
-    /// [`insert_new`](FrozenBTreeMap::insert_new) without its flag.
-    pub fn insert(&mut self, key: K, value: V) -> Result<V::Borrow, AllocError>
-        ensures present { (x : V.Borrow) → value_at (eq_by_cmp K.cmp) self.old key ≡ Some x →
-            (result ≡ Ok x) × (self.new ≡ self.old) }
-        ensures stands { IfOk result (λ b. value_at (eq_by_cmp K.cmp) self.new key ≡ Some b) }
-        ensures new_target { value_at (eq_by_cmp K.cmp) self.old key ≡ None →
-            IfOk result (λ b. V.shown b ≡ V.target value) }
-        ensures new_content { value_at (eq_by_cmp K.cmp) self.old key ≡ None →
-            IfOk result (λ b. Adds (eq_by_cmp K.cmp) (value_at (eq_by_cmp K.cmp) self.old)
-            (value_at (eq_by_cmp K.cmp) self.new) key b) }
-        ensures new_length { value_at (eq_by_cmp K.cmp) self.old key ≡ None →
-            OnOk result (length self.new ≡ length self.old + 1) }
-        ensures new_entry { value_at (eq_by_cmp K.cmp) self.old key ≡ None →
-            IfOk result (λ b. self.new ≡ insert_entry K.cmp self.old key b) }
-        ensures refused { OnErr result (self.new ≡ self.old) }
-        ensures only_new { OnErr result (value_at (eq_by_cmp K.cmp) self.old key ≡ None) }
-    {
-        Ok(self.insert_new(key, value)?.0)
     }
 
     /// A map of the pairs in which, other than by insertions, the last value of a key wins.
@@ -284,7 +126,7 @@ where
     /// Which of several equal keys the map then shows is left open.
     pub fn from_iter<I: IntoIterator<Item = (K, V)>>(
         alloc: A,
-        arena: &'a Bump<P>,
+        arena: R,
         pairs: I,
     ) -> Result<Self, AllocError>
         requires ends { (s : I.IntoIter) → I.into_iter_gives pairs s →
@@ -301,7 +143,7 @@ where
             };
             tree.insert(key, placed)?;
         }
-        Ok(FrozenBTreeMap::from_map(alloc, arena, tree))
+        Ok(FrozenBTreeMapIn::from_map(alloc, arena, tree))
     }
 
     /// A map with the same content over the same arena, whose borrows are shared. Later insertions into either leave the
@@ -316,70 +158,31 @@ where
             SameAt (value_at (eq_by_cmp K.cmp) self.now) (value_at (eq_by_cmp K.cmp) copy)) }
         ensures count { IfOk result (λ copy. length copy ≡ length self.now) }
     {
-        let copy = copied(&self.entries)?;
-        Ok(FrozenBTreeMap::from_map(self.alloc, self.arena, copy))
+        let copy = copied(&self.table)?;
+        Ok(FrozenBTreeMapIn::from_map(self.alloc, self.arena, copy))
     }
 
     /// The entries as a list, each once, ascending by key.
     ///
     /// Takes memory for the list; where that fails, the map is dropped.
     pub fn into_tuple_vec(self) -> Result<Vec<(K, V::Borrow), A>, AllocError>
-        ensures entries { IfOk result (λ pairs. pairs.items ≡ self.entry) }
+        ensures entries { IfOk result (λ pairs. pairs.items ≡ self) }
         ensures ascending { IfOk result (λ pairs. IsStrictlySortedBy K.cmp (keys_of pairs.items)) }
     {
-        let alloc = self.alloc;
-        self.into_map().into_iter().collect(alloc)
+        let (alloc, tree) = self.into_parts();
+        pairs_of(alloc, tree)
     }
 }
 
-// `insert_new`, of the tree: one search, which makes room before the value is placed.
-fn insert_placed<
-    'x,
-    'a,
-    K: Ord + Drop,
-    B: Copy,
-    P: Allocator,
-    V: StableDeref<&'a Bump<P>, Borrow = B>,
-    A: Allocator + Copy,
->(
-    tree: &'x mut BTreeMap<K, B, A>,
-    arena: &'a Bump<P>,
-    key: K,
-    value: V,
-) -> Result<(B, bool), AllocError>
-    ensures present { (x : B) → value_at (eq_by_cmp K.cmp) tree.old.entries key ≡ Some x →
-        (result ≡ Ok (x, false)) × (tree.new.entries ≡ tree.old.entries) }
-    ensures stands { IfOk result (λ r. value_at (eq_by_cmp K.cmp) tree.new.entries key ≡ Some r.0) }
-    ensures new_value { value_at (eq_by_cmp K.cmp) tree.old.entries key ≡ None →
-        IfOk result (λ r. (r.1 ≡ true) × (V.shown r.0 ≡ V.target value)) }
-    ensures new_content { value_at (eq_by_cmp K.cmp) tree.old.entries key ≡ None →
-        IfOk result (λ r.
-        (q : K) →
-        value_at (eq_by_cmp K.cmp) tree.new.entries q ≡
-        (if eq_by_cmp K.cmp key q then Some r.0 else value_at (eq_by_cmp K.cmp) tree.old.entries q)) }
-
-    // The entries are one more.
-    ensures new_length { value_at (eq_by_cmp K.cmp) tree.old.entries key ≡ None →
-        OnOk result (length tree.new.entries ≡ length tree.old.entries + 1) }
-    ensures new_entry { value_at (eq_by_cmp K.cmp) tree.old.entries key ≡ None →
-        IfOk result (λ r. tree.new.entries ≡ insert_entry K.cmp tree.old.entries key r.0) }
-    ensures refused { OnErr result (tree.new.entries ≡ tree.old.entries) }
-    ensures only_new { OnErr result (value_at (eq_by_cmp K.cmp) tree.old.entries key ≡ None) }
+// The tree's entries as a list.
+fn pairs_of<K: Ord + Drop, B: Copy, A: Allocator + Copy>(
+    alloc: A,
+    tree: BTreeMap<K, B, A>,
+) -> Result<Vec<(K, B), A>, AllocError>
+    ensures entries { IfOk result (λ pairs. pairs.items ≡ tree.entries) }
+    ensures ascending { IfOk result (λ pairs. IsStrictlySortedBy K.cmp (keys_of pairs.items)) }
 {
-    let Ok(place) = tree.entry(key) else {
-        return Err(AllocError);
-    };
-    let room = match place {
-        Entry::Occupied(found) => return Ok((*found.get(), false)),
-        Entry::Vacant(room) => room,
-    };
-    let placed = || -> Result<B, V>
-        ensures { IfOk result (λ b. V.shown b ≡ V.target value) }
-    { value.place(arena) };
-    let Ok(kept) = Entry::Vacant(room).or_try_insert_with(placed) else {
-        return Err(AllocError);
-    };
-    Ok((*kept, true))
+    tree.into_iter().collect(alloc)
 }
 
 // The tree copied whole: no key is searched for.
@@ -409,41 +212,37 @@ fn copied<K: Ord + Clone + Drop, B: Copy, A: Allocator + Copy>(
     Ok(copy)
 }
 
+impl<'k, R: Copy, V: StableDeref<R>, A: Allocator + Copy> FrozenBTreeMapIn<R, &'k str, V, A> {
+    /// The value at the text `key`, or `None` exactly if no key of the map reads the same. Takes no memory; one search.
+    pub fn get_text(&self, key: &str) -> Option<V::Borrow>
+        ensures { result ≡ value_at (eq_by_cmp ⟦<&'k str as Ord>⟧.cmp) self.now key.entry }
+    {
+        let found = self.table.get(key)?;
+        Some(*found)
+    }
+}
+
 impl<'a, V, A: Allocator + Copy, P: Allocator> FrozenBTreeMap<'a, &'a str, V, A, P>
 where
     V: StableDeref<&'a Bump<P>>,
 {
-    /// The value at the text `key`, or `None` exactly if no key of the map reads the same. Takes no memory; one search.
-    pub fn get_text(&self, key: &str) -> Option<V::Borrow>
-        ensures { result ≡ value_at (eq_by_cmp ⟦<&'a str as Ord>⟧.cmp) self.now key.entry }
-    {
-        let found = self.entries.get(key)?;
-        Some(*found)
-    }
-
     /// Gives the text `key` the value, unless a key of the map reads the same, and returns the value that the text now has:
-    /// [`insert`](FrozenBTreeMap::insert) by a text of any lifetime.
+    /// [`insert`](Frozen::insert) by a text of any lifetime.
     ///
     /// A present text keeps its value: `value` is dropped, no memory is taken and the result is `Ok`, after one search.
     /// A new one is copied into the arena and inserted there, which takes one more search. Where either fails, it returns `Err`, the
-    /// map stays as it was, and the arena may keep a text or a value that nobody sees.
+    /// map stays as it was, and the arena may keep a text that nobody sees.
     pub fn insert_text(&mut self, key: &str, value: V) -> Result<V::Borrow, AllocError>
         ensures present { (x : V.Borrow) →
             value_at (eq_by_cmp ⟦<&'a str as Ord>⟧.cmp) self.old key.entry ≡ Some x →
             (result ≡ Ok x) × (self.new ≡ self.old) }
         ensures stands { IfOk result (λ b.
             value_at (eq_by_cmp ⟦<&'a str as Ord>⟧.cmp) self.new key.entry ≡ Some b) }
-        ensures new_target { value_at (eq_by_cmp ⟦<&'a str as Ord>⟧.cmp) self.old key.entry ≡ None →
-            IfOk result (λ b. V.shown b ≡ V.target value) }
-        ensures new_content { value_at (eq_by_cmp ⟦<&'a str as Ord>⟧.cmp) self.old key.entry ≡ None →
-            IfOk result (λ b. Adds (eq_by_cmp ⟦<&'a str as Ord>⟧.cmp)
-            (value_at (eq_by_cmp ⟦<&'a str as Ord>⟧.cmp) self.old)
-            (value_at (eq_by_cmp ⟦<&'a str as Ord>⟧.cmp) self.new) key.entry b) }
-        ensures new_length { value_at (eq_by_cmp ⟦<&'a str as Ord>⟧.cmp) self.old key.entry ≡ None →
-            OnOk result (length self.new ≡ length self.old + 1) }
-        ensures refused { OnErr result (self.new ≡ self.old) }
-        ensures only_new { OnErr result (
-            value_at (eq_by_cmp ⟦<&'a str as Ord>⟧.cmp) self.old key.entry ≡ None) }
+        ensures added { value_at (eq_by_cmp ⟦<&'a str as Ord>⟧.cmp) self.old key.entry ≡ None →
+            IfOk result (λ b. AddsNew (eq_by_cmp ⟦<&'a str as Ord>⟧.cmp) V.target V.shown self.old
+            key.entry value b self.new) }
+        ensures refused { OnErr result (
+            IsRefused (eq_by_cmp ⟦<&'a str as Ord>⟧.cmp) self.old key.entry self.new) }
     {
         if let Some(found) = self.get_text(key) {
             return Ok(found);
@@ -453,48 +252,26 @@ where
     }
 }
 
-impl<'a, B: Allocator, V, A: Allocator + Copy, P: Allocator> FrozenBTreeMap<'a, String<B>, V, A, P>
-where
-    V: StableDeref<&'a Bump<P>>,
-{
-    /// The value at the text `key`, or `None` exactly if no key of the map reads the same: [`get`](FrozenBTreeMap::get) without a
+impl<R: Copy, B: Allocator, V: StableDeref<R>, A: Allocator + Copy> FrozenBTreeMapIn<
+    R,
+    String<B>,
+    V,
+    A,
+> {
+    /// The value at the text `key`, or `None` exactly if no key of the map reads the same: [`get`](FrozenBTreeMapInIn::get) without a
     /// `String`. Takes no memory; one search.
     pub fn get_text(&self, key: &str) -> Option<V::Borrow>
         ensures { result
             ≡ lookup (λ k. eq_by_cmp (slice_cmp nat_cmp) key.now (string_bytes k)) self.now }
     {
-        let value = self.entries.get(key)?;
+        let value = self.table.get(key)?;
         Some(*value)
     }
 }
 
-impl<'a, 'q, K: Ord, P: Allocator, V: StableDeref<&'a Bump<P>>, A: Allocator + Copy> Index<&'q K>
-    for FrozenBTreeMap<'a, K, V, A, P> {
-    type Output = V::Borrow;
-
-    ghost can_index = { λ m k. IsSome (value_at (eq_by_cmp K.cmp) m k.now) };
-
-    ghost index_gives = { λ m k v. value_at (eq_by_cmp K.cmp) m k.now ≡ Some v };
-
-    fn index(&self, key: &'q K) -> &V::Borrow {
-        self.entries.get(key).unwrap()
-    }
-}
-
-/// `{:?}` writes the entries, ascending by key, as of a `BTreeMap`: `{1: "x", 2: "y"}`.
-impl<'a, K: Ord + Debug, P: Allocator, V: StableDeref<&'a Bump<P>>, A: Allocator + Copy> Debug
-    for FrozenBTreeMap<'a, K, V, A, P>
-where
-    <V as StableDeref<&'a Bump<P>>>::Borrow: Debug,
-{
-    fn fmt<W: Write>(&self, f: &mut Formatter<W>) -> fmt::Result {
-        self.entries.fmt(f)
-    }
-}
-
 // Two maps are equal where each key has equal values in both, or none in either.
-impl<'a, K: Ord, P: Allocator, V: StableDeref<&'a Bump<P>>, A: Allocator + Copy> PartialEq
-    for FrozenBTreeMap<'a, K, V, A, P>
+impl<R: Copy, K: Ord + Drop, V: StableDeref<R>, A: Allocator + Copy> PartialEq
+    for FrozenBTreeMapIn<R, K, V, A>
 where
     V::Borrow: PartialEq,
 {
@@ -509,12 +286,12 @@ where
     {
         // The keys of both ascend.
         for_its_clause((self.len(), other.len()));
-        self.entries == other.entries
+        self.table == other.table
     }
 }
 
-impl<'a, K: Ord, P: Allocator, V: StableDeref<&'a Bump<P>>, A: Allocator + Copy> Eq
-    for FrozenBTreeMap<'a, K, V, A, P>
+impl<R: Copy, K: Ord + Drop, V: StableDeref<R>, A: Allocator + Copy> Eq
+    for FrozenBTreeMapIn<R, K, V, A>
 where
     V::Borrow: Eq,
 {

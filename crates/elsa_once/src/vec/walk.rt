@@ -4,7 +4,7 @@ ghost use Rattle.std.specs.Iterator.{UpTo, YieldsFirst, YieldsLast, item_count};
 ghost use Rattle.std.specs.Iterator.SizeHint.{IsWithinCount};
 
 use crate::stable::StableDeref;
-use crate::vec::FrozenVec;
+use crate::vec::FrozenVecIn;
 use bumpalo::Bump;
 use std::alloc::{Allocator, Global};
 use std::marker::Model;
@@ -36,9 +36,9 @@ impl Cursor {
     /// The item at the cursor's place; the cursor then moves on by one.
     ///
     /// At the end it returns None and keeps its place, so it goes on after a later push. Asked of a vector with fewer items than its place, it returns None.
-    pub fn next<'a, P: Allocator, T: StableDeref<&'a Bump<P>>, A: Allocator + Copy>(
+    pub fn next<R: Copy, T: StableDeref<R>, A: Allocator + Copy>(
         &mut self,
-        items: &FrozenVec<'a, T, A, P>,
+        items: &FrozenVecIn<R, T, A>,
     ) -> Option<T::Borrow>
         ensures item { result ≡ slice_get items.now self.old }
         ensures place { self.new ≡ (if is_some result then self.old + 1 else self.old) }
@@ -55,19 +55,22 @@ impl Cursor {
 
 /// Gives the items of a vector, in order or from the back; contracts see it as the list of the items that are left.
 #[derive(Drop)]
-pub struct Iter<'v, 'a, T, A: Allocator + Copy = Global, P: Allocator = Global>
+pub struct IterIn<'v, R: Copy, T, A: Allocator + Copy = Global>
 where
-    T: StableDeref<&'a Bump<P>>,
+    T: StableDeref<R>,
 {
-    items: &'v FrozenVec<'a, T, A, P>,
+    items: &'v FrozenVecIn<R, T, A>,
     place: usize,
     end: usize,
 }
 
+/// The iterator over a vector whose items are placed in a `Bump`.
+pub type Iter<'v, 'a, T, A = Global, P = Global> = IterIn<'v, &'a Bump<P>, T, A>;
+
 // An iterator is the list of the items from its place to its end.
-impl<'v, 'a, T, A: Allocator + Copy, P: Allocator> Model for Iter<'v, 'a, T, A, P>
+impl<'v, R: Copy, T, A: Allocator + Copy> Model for IterIn<'v, R, T, A>
 where
-    T: StableDeref<&'a Bump<P>>,
+    T: StableDeref<R>,
 {
     ghost use Rattle.std.specs.Prelude.{List, ◌-◌, ◌≤◌, drop, length, take};
 
@@ -78,11 +81,11 @@ where
     ghost invariant = { λ it. (it.place ≤ it.end) × (it.end ≤ length it.items.now) };
 }
 
-impl<'v, 'a, P: Allocator, T: StableDeref<&'a Bump<P>>, A: Allocator + Copy> Iter<'v, 'a, T, A, P> {
-    pub(crate) fn new(items: &'v FrozenVec<'a, T, A, P>) -> Self
+impl<'v, R: Copy, T: StableDeref<R>, A: Allocator + Copy> IterIn<'v, R, T, A> {
+    pub(crate) fn new(items: &'v FrozenVecIn<R, T, A>) -> Self
         ensures { result ≡ items.now }
     {
-        Iter {
+        IterIn {
             items,
             place: 0,
             end: items.len(),
@@ -90,8 +93,7 @@ impl<'v, 'a, P: Allocator, T: StableDeref<&'a Bump<P>>, A: Allocator + Copy> Ite
     }
 }
 
-impl<'v, 'a, P: Allocator, T: StableDeref<&'a Bump<P>>, A: Allocator + Copy> Iterator
-    for Iter<'v, 'a, T, A, P> {
+impl<'v, R: Copy, T: StableDeref<R>, A: Allocator + Copy> Iterator for IterIn<'v, R, T, A> {
     type Item = T::Borrow;
 
     ghost next_gives = { YieldsFirst (λ left. left) };
@@ -117,8 +119,8 @@ impl<'v, 'a, P: Allocator, T: StableDeref<&'a Bump<P>>, A: Allocator + Copy> Ite
     }
 }
 
-impl<'v, 'a, P: Allocator, T: StableDeref<&'a Bump<P>>, A: Allocator + Copy> DoubleEndedIterator
-    for Iter<'v, 'a, T, A, P> {
+impl<'v, R: Copy, T: StableDeref<R>, A: Allocator + Copy> DoubleEndedIterator
+    for IterIn<'v, R, T, A> {
     ghost next_back_gives = { YieldsLast (λ left. left) };
 
     fn next_back(&mut self) -> Option<T::Borrow> {
@@ -130,8 +132,8 @@ impl<'v, 'a, P: Allocator, T: StableDeref<&'a Bump<P>>, A: Allocator + Copy> Dou
     }
 }
 
-impl<'v, 'a, P: Allocator, T: StableDeref<&'a Bump<P>>, A: Allocator + Copy> ExactSizeIterator
-    for Iter<'v, 'a, T, A, P> {
+impl<'v, R: Copy, T: StableDeref<R>, A: Allocator + Copy> ExactSizeIterator
+    for IterIn<'v, R, T, A> {
     fn len(&self) -> usize {
         self.end - self.place
     }

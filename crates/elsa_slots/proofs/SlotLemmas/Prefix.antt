@@ -30,7 +30,7 @@ got [] k d l = absurd (omega arith)
 got (x ∷ xs) zero d l = refl
 got (x ∷ xs) (suc k) d l = got xs k d (omega arith)
 
-module _ {M : Type 1} {𝓤 : Ura M} (𝓛 : Logic 𝓤) (T B : RattleType) (slot_names : B.Denot → List ℕ) (buffer_slots : List ℕ) where
+module _ {M : Type 1} {𝓤 : Ura M} (𝓛 : Logic 𝓤) (T B : RattleType) (slot_names : B.Denot → List ℕ) (fits : B.Denot → T.Denot → Type 0) (buffer_slots : List ℕ) where
   abbrev Pr : Type 2
   Pr = SProp 𝓤
 
@@ -46,13 +46,13 @@ module _ {M : Type 1} {𝓤 : Ura M} (𝓛 : Logic 𝓤) (T B : RattleType) (slo
   infix 26 ◌⊢◌
   infixr 35 ◌∗◌
   abbrev One : ℕ → T.Denot → Fml
-  One = place_written T B slot_names buffer_slots
+  One = place_written T B slot_names fits buffer_slots
 
   abbrev All : ℕ → List T.Denot → Fml
-  All = prefix_written T B slot_names buffer_slots
+  All = prefix_written T B slot_names fits buffer_slots
 
   place_written_dup : (i : ℕ) (x : T.Denot) → ⟦ One i x ⟧ ⊢ ⟦ One i x ⟧ ∗ ⟦ One i x ⟧
-  place_written_dup i x = let F : Location B.Denot → Fml = place_written_at T B slot_names buffer_slots i x in qed 𝓛 (‵ (One i x) ∷ []) ∵ fpick ! (λ w. let Φ : Type 0 = IsAt i w.buffer w.slot × (length (slot_names w.opened) ≡ 3 * 4 ^ w.buffer) in
+  place_written_dup i x = let F : Location B.Denot → Fml = place_written_at T B slot_names fits buffer_slots i x in qed 𝓛 (‵ (One i x) ∷ []) ∵ fpick ! (λ w. let Φ : Type 0 = IsAt i w.buffer w.slot × (length (slot_names w.opened) ≡ 3 * 4 ^ w.buffer) × fits w.opened x in
       fsplit3 ! $ fpick ! (λ so. drop ! $ res_dup ! $ move ! (2 ∷ []) $ res_dup ! $ move ! (2 ∷ 0 ∷ []) $ nothing ! $ fpack ! Φ (λ _. ftrue) so $ fjoin3 ! $ fpack ! (Location B.Denot) F w $
       move ! (1 ∷ 2 ∷ []) $ nothing ! $ fpack ! Φ (λ _. ftrue) so $ move ! (0 ∷ 2 ∷ 1 ∷ []) $ fjoin3 ! $ fpack ! (Location B.Denot) F w $ done !))
 
@@ -84,11 +84,11 @@ module _ {M : Type 1} {𝓤 : Ura M} (𝓛 : Logic 𝓤) (T B : RattleType) (slo
       use2 𝓛 (‵ (All 0 (xs ++ one))) (prefix_append 0 xs one) $ done !
 
 -- a token of evidence is made of what it owns
-pub prefix_made : {M : Type 1} {𝓤 : Ura M} (𝓛 : Logic 𝓤) (T B : RattleType) (g : Ghosts B.Denot) (buffer_slots : List ℕ) (xs : List T.Denot)
-    → ent 𝓤 (sem 𝓛 (prefix_written T B g.slot_names buffer_slots 0 xs)) (sem 𝓛 ((WrittenPrefix.the_row T B g).own_val (record { marker = record {}; buffer_slots = buffer_slots; items = xs }) (token_val ∷ [])))
+pub prefix_made : {M : Type 1} {𝓤 : Ura M} (𝓛 : Logic 𝓤) (T B : RattleType) (g : Ghosts B.Denot T.Denot) (buffer_slots : List ℕ) (xs : List T.Denot)
+    → ent 𝓤 (sem 𝓛 (prefix_written T B g.slot_names g.fits buffer_slots 0 xs)) (sem 𝓛 ((WrittenPrefix.the_row T B g).own_val (record { marker = record {}; buffer_slots = buffer_slots; items = xs }) (token_val ∷ [])))
 prefix_made 𝓛 T B g buffer_slots xs = let F = (Struct (shape (WrittenPrefix.the_type T B g))).own_val (tt, tt) (token_val ∷ []) in
-    qed 𝓛 (‵ (prefix_written T B g.slot_names buffer_slots 0 xs) ∷ []) ∵ use0 𝓛 (‵ F) (makes_shadow 𝓛 F (λ vss. (tt, ((λ uss. (tt, tt)), tt))) ((vstruct vnil ∷ [], tt), (refl, ((tt, (refl, tt)), tt)))) $ fjoin ! $ done !
+    qed 𝓛 (‵ (prefix_written T B g.slot_names g.fits buffer_slots 0 xs) ∷ []) ∵ use0 𝓛 (‵ F) (makes_shadow 𝓛 F (λ vss. (tt, ((λ uss. (tt, tt)), tt))) ((vstruct vnil ∷ [], tt), (refl, ((tt, (refl, tt)), tt)))) $ fjoin ! $ done !
 
 -- the value of a token of evidence
-pub prefix_value : (T B : RattleType) (g : Ghosts B.Denot) (vs : List Val) → Is (Struct (shape (WrittenPrefix.the_type T B g))) (tt, tt) vs → vs ≡ token_val ∷ []
+pub prefix_value : (T B : RattleType) (g : Ghosts B.Denot T.Denot) (vs : List Val) → Is (Struct (shape (WrittenPrefix.the_type T B g))) (tt, tt) vs → vs ≡ token_val ∷ []
 prefix_value T B g vs is = is.1.0 ∙ ap (λ (ws : List Val). vstruct (of_list (ws ++ [])) ∷ []) is.1.1.0.1.0

@@ -1,5 +1,5 @@
 // Copies of the first places, buffer by buffer.
-ghost use Rattle.std.specs.Prelude.{◌≡◌, [], ◌+◌, ◌^◌, ◌<◌, ◌≤◌, drop, take, length, slice_index_or, IfOk, OnOk};
+ghost use Rattle.std.specs.Prelude.{◌≡◌, [], ◌+◌, ◌^◌, ◌<◌, ◌≤◌, drop, take, length, slice_index_or, IfOk, IfErr, OnOk};
 ghost use Rattle.elsa_slots.specs.Ahead.{GoesOn};
 ghost use Rattle.elsa_machine.specs.Geometry.{IsAt, size_of, slots_before};
 
@@ -25,8 +25,8 @@ fn whole_buffers(n: usize) -> (usize, usize)
 
 /// What it takes to append behind the copied places: if the next place is in an open buffer, the evidence of that buffer and
 /// the rights to its further slots; and the rights to open the further buffers.
-pub struct Ahead<T, A: Allocator = Global> {
-    pub opened: Option<Written<Buffer<T, A>>>,
+pub struct Ahead<T, A: Allocator = Global, X = ()> {
+    pub opened: Option<Written<Buffer<T, A, X>>>,
     pub slots: WriteRights,
     pub further: WriteRights,
 }
@@ -39,6 +39,24 @@ pub struct Copied<T, A: Allocator = Global> {
 }
 
 impl<T: Copy, A: Allocator + Copy> Slots<T, A> {
+    /// Opens a buffer, with memory for all its slots. On an allocation failure it returns the right to open it.
+    pub fn open(
+        &self,
+        buffer: usize,
+        right: WriteRight,
+    ) -> Result<(Written<Buffer<T, A>>, WriteRights), WriteRight>
+        requires { (buffer < 31) × (right.of ≡ slice_index_or self.now buffer 0) }
+        ensures opened { IfOk result (λ r.
+            (r.0.of ≡ slice_index_or self.now buffer 0) × (length r.0.value.0 ≡ size_of buffer)
+            × (r.1.of ≡ r.0.value.0)) }
+        ensures given_back { IfErr result (λ r. r.of ≡ right.of) }
+    {
+        match self.new_buffer(buffer_size(buffer), ()) {
+            Ok((fresh, rights)) => Ok((self.fill(buffer, fresh, right), rights)),
+            Err(_) => Err(right),
+        }
+    }
+
     /// Copies the first `count` slots of a buffer into another.
     fn copy_slots(
         &self,
@@ -55,20 +73,20 @@ impl<T: Copy, A: Allocator + Copy> Slots<T, A> {
         // The places that are copied were written; the target is open, with the rights to its slots.
         requires from { (prefix.now.buffer_slots ≡ self.now)
             × (slots_before buffer + count ≤ length prefix.now.items) }
-        requires into { (into.now ≡ opened.now.value) × (length opened.now.value ≡ size_of buffer)
+        requires into { (into.now ≡ opened.now.value) × (length opened.now.value.0 ≡ size_of buffer)
             × (opened.now.of ≡ slice_index_or copied.old.buffer_slots buffer 0) }
-        requires rights { rights.old.of ≡ into.now }
+        requires rights { rights.old.of ≡ into.now.0 }
 
         // The copied places are those before the buffer, and then those of it too.
         requires copied { copied.old.items ≡ take (slots_before buffer) prefix.now.items }
         ensures copied { (copied.new.buffer_slots ≡ copied.old.buffer_slots)
             × (copied.new.items ≡ take (slots_before buffer + count) prefix.now.items) }
-        ensures left { rights.new.of ≡ drop count into.now }
+        ensures left { rights.new.of ≡ drop count into.now.0 }
     {
         let begin = prior_total_buffer_size(buffer);
         for slot in 0..count {
             let (source, item) = prefix.at(begin + slot, buffer, slot);
-            let value = self.read(buffer, slot, &source, &item);
+            let value = *self.get(buffer, slot, &source, &item);
             source.discard();
             item.discard();
             let written = into.write(slot, value, rights.take());
@@ -100,8 +118,8 @@ impl<T: Copy, A: Allocator + Copy> Slots<T, A> {
         ensures copied { IfOk result (λ r.
             copied.new.items ≡ take (slots_before buffer + count) prefix.now.items) }
         ensures opened { IfOk result (λ r.
-            (r.0.of ≡ slice_index_or target.now buffer 0) × (length r.0.value ≡ size_of buffer)) }
-        ensures left { IfOk result (λ r. r.1.of ≡ drop count r.0.value) }
+            (r.0.of ≡ slice_index_or target.now buffer 0) × (length r.0.value.0 ≡ size_of buffer)) }
+        ensures left { IfOk result (λ r. r.1.of ≡ drop count r.0.value.0) }
     {
         match target.open(buffer, right) {
             Ok((opened, rights)) => {

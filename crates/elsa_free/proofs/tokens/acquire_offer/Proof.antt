@@ -30,7 +30,7 @@ acquire_offer_spec 𝓤 𝓛 𝓜 𝓡 wired T B K _ _ _ g d h e _ _ =
     qed 𝓛 ((raw (denote.Triple.Entry.alive 𝓛 En.signature κs qs) ⊛ ‵ (owns (types_at En.signature.params κs) a y.0.4)) ∷ raw ((c κs a).requires gh) ∷ []) ∵ keep ! (0 ∷ []) $ split ! $
     move ! (1 ∷ []) $ fsplit ! $ keep ! (2 ∷ []) $
     enter ! 𝓣.C 𝓣.Λ fn args Post $ alloc_all ! (λ l. pass_all ! refl ((tt, tt), tt) $ let Env = env fn.locals l in
-    use0 𝓛 (‵ (offer_owns (rule_owns T' B' g.slot_names me.names) (IsStep {T = T'.Denot} Acquired) (acquire_gain T' B' g.slot_names me.names) None)) (offers.acquire_offer 𝓛 T' B' g.slot_names me.names) $
+    use0 𝓛 (‵ (offer_owns (rule_owns T' B' g.slot_names g.fits me.names) (IsStep {T = T'.Denot} Acquired) (acquire_gain T' B' g.slot_names g.fits me.names) None)) (offers.acquire_offer 𝓛 T' B' g.slot_names g.fits me.names) $
     use0 𝓛 (‵ ((Token (Tuple (E' ∷ L' ∷ OneWord.the_row B' K' ∷ AcquireGain.the_row B' ∷ []))).own_val (record {}, tt) (token ∷ []))) (token_made (Tuple (E' ∷ L' ∷ OneWord.the_row B' K' ∷ AcquireGain.the_row B' ∷ [])) 𝓛) $ fjoin ! $ sets ! (agg ! (no_more !)) refl (tt, tt) $ sets ! (agg ! (and_then ! (get ! refl) (no_more !))) refl (tt, (tt, tt)) $
     nothing ! $ nothing ! $ fjoin ! $
     returns ! (look_at ! 0 refl) $ free_all ! refl $ keep ! (2 ∷ 0 ∷ 1 ∷ []) $ by ! (ends 𝓛 En hs c y (token) (record { marker = record {}; names = me.names; ask = Acquired; about = []; state = None }) (tt, tt) (tt, tt) (fact_i 𝓤 _ (emp 𝓤) ((refl, refl, refl, refl))))))

@@ -38,7 +38,7 @@ bounded_by_tickets_spec 𝓤 𝓛 𝓜 𝓡 wired T B K _ _ _ g d h e _ _ =
     keep ! (1 ∷ 3 ∷ 5 ∷ []) $
     enter ! 𝓣.C 𝓣.Λ fn args Post $ alloc_all ! (λ l. pass_all ! refl ((tt, tt), ((tt, (tt, tt)), tt)) $ let Env = env fn.locals l in
     use1 𝓛 (‵ (hidden_shr (Token All) κs.0 (record {}, tt) a.0.ref_ptr.0 a.0.ref_ptr.1) ⊛ ‵ (fhide (seen_owns cv.code law me.book me.names me.log))) (lent_out 𝓛 (Seen.struct E' L' O gg) (Seen.the_codes E'.Denot L'.Denot O.Denot E'.coded L'.coded O.coded (marker.the_row All).coded) (Seen.the_heap E' L' O gg) (Seen.the_lent E' L' O gg) κs.0 me a.0.ref_ptr.0 a.0.ref_ptr.1) $ split ! $ drop ! $ unhide ! $
-    use2 𝓛 (later (some (λ (log : List E'.Denot). given (IsPrefix me.log log × (count (suc au.name) (list_of log) ≤ au.used)) (‵ (tickets_from au.name au.used))))) (history_shows 𝓛 cv law me.book me.names (tickets_from au.name au.used) (λ log. count (suc au.name) (list_of log) ≤ au.used) (rule_bound 𝓛 T' B' g.slot_names me.names au.name au.used) me.log) $ await ! tt $ pick ! (λ log. learn ! (λ so.
+    use2 𝓛 (later (some (λ (log : List E'.Denot). given (IsPrefix me.log log × (count (suc au.name) (list_of log) ≤ au.used)) (‵ (tickets_from au.name au.used))))) (history_shows 𝓛 cv law me.book me.names (tickets_from au.name au.used) (λ log. count (suc au.name) (list_of log) ≤ au.used) (rule_bound 𝓛 T' B' g.slot_names g.fits me.names au.name au.used) me.log) $ await ! tt $ pick ! (λ log. learn ! (λ so.
     use0 𝓛 (‵ ((Token (unit)).own_val (record {}, tt) (token ∷ []))) (token_made (unit) 𝓛) $ fjoin ! $ sets ! (agg ! (no_more !)) refl (tt, tt) $ sets ! (agg ! (and_then ! (get ! refl) (no_more !))) refl (tt, (tt, tt)) $
     nothing ! $ nothing ! $ fjoin ! $ nothing ! $ fjoin ! $
     returns ! (look_at ! 0 refl) $ free_all ! refl $ keep ! (2 ∷ 0 ∷ 1 ∷ []) $ by ! (ends 𝓛 En hs c y (token) (record { marker = record {}; name = au.name; used = au.used }) (tt, (tt, tt)) (tt, (tt, tt)) (fact_i 𝓤 _ (emp 𝓤) ((refl, refl, (let le = count_prefix (suc au.name) me.log log so.0 in let b = so.1 in omega (arith, le, b))))))))))

@@ -33,13 +33,13 @@ evidence_spec 𝓤 𝓛 𝓜 𝓡 wired T B K _ _ _ g d h e _ _ =
     let args : List Val = p ∷ [] in
     qed 𝓛 ((raw (denote.Triple.Entry.alive 𝓛 En.signature κs qs) ⊛ ‵ (owns (types_at En.signature.params κs) a y.0.4)) ∷ raw ((c κs a).requires gh) ∷ []) ∵ keep ! (0 ∷ []) $ split ! $
     let gg = rule.ghosts T' B' K' g d h e in let All : RattleType = Tuple (E' ∷ L' ∷ OneWord.the_row B' K' ∷ []) in let O : RattleType = OneWord.the_row B' K' in let law = rules gg.holds gg.shows gg.keeps in let cv = E'.coded in
-    let X : Fml = prefix_written T' B' g.slot_names buffer_slots 0 xs in
+    let X : Fml = prefix_written T' B' g.slot_names g.fits buffer_slots 0 xs in
     move ! (1 ∷ []) $ fsplit ! $ fsplit ! $
     -- [the reference; its Seen; nothing; alive]
     keep ! (1 ∷ 3 ∷ []) $
     enter ! 𝓣.C 𝓣.Λ fn args Post $ alloc_all ! (λ l. pass_all ! refl ((tt, tt), tt) $
     use1 𝓛 (‵ (hidden_shr (Token All) κs.0 (record {}, tt) a.0.ref_ptr.0 a.0.ref_ptr.1) ⊛ ‵ (fhide (seen_owns cv.code law me.book me.names me.log))) (lent_out 𝓛 (Seen.struct E' L' O gg) (Seen.the_codes E'.Denot L'.Denot O.Denot E'.coded L'.coded O.coded (marker.the_row All).coded) (Seen.the_heap E' L' O gg) (Seen.the_lent E' L' O gg) κs.0 me a.0.ref_ptr.0 a.0.ref_ptr.1) $ split ! $ drop ! $ unhide ! $
-    use1 𝓛 (later (‵ X)) (history_gives 𝓛 cv law me.book me.names X me.log (λ log pre. rule_gives 𝓛 T' B' g.slot_names me.names me.log log pre)) $ await ! tt $
+    use1 𝓛 (later (‵ X)) (history_gives 𝓛 cv law me.book me.names X me.log (λ log pre. rule_gives 𝓛 T' B' g.slot_names g.fits me.names me.log log pre)) $ await ! tt $
     use1 𝓛 (‵ ((WrittenPrefix.the_row T' B' g).own_val (record { marker = record {}; buffer_slots = buffer_slots; items = xs }) (token ∷ []))) (prefix_made 𝓛 T' B' g buffer_slots xs) $
     sets ! (agg ! (no_more !)) refl (tt, tt) $ sets ! (agg ! (and_then ! (get ! refl) (no_more !))) refl (tt, (tt, tt)) $
     nothing ! $ nothing ! $ fjoin ! $

@@ -42,12 +42,12 @@ offer_clone_open_spec 𝓤 𝓛 𝓜 𝓡 wired T B K _ _ _ g d h e _ _ =
     move ! (1 ∷ []) $ fsplit ! $ move ! (1 ∷ []) $ fsplit ! $ fsplit ! $ move ! (2 ∷ []) $ fsplit ! $ fsplit ! $ move ! (2 ∷ []) $ fsplit ! $ fsplit ! $ move ! (2 ∷ []) $ fsplit ! $ fsplit ! $ move ! (2 ∷ []) $ fsplit ! $ fsplit ! $ move ! (2 ∷ []) $ fsplit ! $ fsplit ! $ keep ! (8 ∷ 6 ∷ 4 ∷ 10 ∷ 12 ∷ 1 ∷ 14 ∷ []) $
     enter ! 𝓣.C 𝓣.Λ fn args Post $ alloc_all ! (λ l. pass_all ! refl ((tt, tt), ((tt, (tt, tt)), ((tt, (tt, tt)), ((tt, (tt, tt)), ((tt, (tt, tt)), ((tt, (tt, tt)), ((tt, (tt, tt)), tt))))))) $ let Env = env fn.locals l in
     let later = asked.3.later in let k = asked.3.at in rewrite ! 0 (λ (z : ℕ). ‵ (written B' z opened.value)) k.evidence refl $ rewrite ! 1 (λ (z : List ℕ). ‵ (write_rights z)) k.left refl $ rewrite ! 2 (λ (z : List ℕ). ‵ (write_rights z)) k.rights refl $
-    fjoin3 ! $ use1 𝓛 (‵ (rights_from T' B' g.slot_names buffer_slots n)) (tails.rights_of_open 𝓛 T' B' g.slot_names buffer_slots n asked.3.buffer asked.3.slot opened.value k.place later k.whole) $
-    rewrite ! 0 (λ (z : ℕ). ‵ (rights_from T' B' g.slot_names buffer_slots z)) (let e = copied_length xs in let z : n ≡ 0 + length (copied xs) = omega (arith, e) in z) refl $
-    rewrite ! 1 (λ (z : List ℕ). ‵ (prefix_written T' B' g.slot_names z 0 xs)) asked.2 refl $ rewrite ! 1 (λ (z : List T'.Denot). ‵ (prefix_written T' B' g.slot_names buffer_slots 0 z)) (sym (copied_items xs)) refl $
+    fjoin3 ! $ use1 𝓛 (‵ (rights_from T' B' g.slot_names g.fits buffer_slots n)) (tails.rights_of_open 𝓛 T' B' g.slot_names g.fits buffer_slots n asked.3.buffer asked.3.slot opened.value k.place later k.whole) $
+    rewrite ! 0 (λ (z : ℕ). ‵ (rights_from T' B' g.slot_names g.fits buffer_slots z)) (let e = copied_length xs in let z : n ≡ 0 + length (copied xs) = omega (arith, e) in z) refl $
+    rewrite ! 1 (λ (z : List ℕ). ‵ (prefix_written T' B' g.slot_names g.fits z 0 xs)) asked.2 refl $ rewrite ! 1 (λ (z : List T'.Denot). ‵ (prefix_written T' B' g.slot_names g.fits buffer_slots 0 z)) (sym (copied_items xs)) refl $
     rewrite ! 2 (λ (z : ℕ). ‵ (latest logs three_quarters z held.added)) asked.0 refl $ rewrite ! 2 (λ (z : List ℕ). ‵ (latest logs three_quarters (head me.names) z)) asked.1 refl $
     fjoin ! $ move ! (1 ∷ 0 ∷ 2 ∷ []) $ fjoin3 ! $
-    use1 𝓛 (‵ (offer_owns (rule_owns T' B' g.slot_names me.names) (IsStep {T = T'.Denot} (Cloned xs)) (release_gain T' B' g.slot_names (OfferOf author'.name author'.used ∷ [])) None)) (offers.clone_offer 𝓛 T' B' g.slot_names me.names [] xs author'.name author'.used) $
+    use1 𝓛 (‵ (offer_owns (rule_owns T' B' g.slot_names g.fits me.names) (IsStep {T = T'.Denot} (Cloned xs)) (release_gain T' B' g.slot_names g.fits (OfferOf author'.name author'.used ∷ [])) None)) (offers.clone_offer 𝓛 T' B' g.slot_names g.fits me.names [] xs author'.name author'.used) $
     use0 𝓛 (‵ ((Token (Tuple (E' ∷ L' ∷ OneWord.the_row B' K' ∷ ReleaseGain.the_row B' ∷ []))).own_val (record {}, tt) (token ∷ []))) (token_made (Tuple (E' ∷ L' ∷ OneWord.the_row B' K' ∷ ReleaseGain.the_row B' ∷ [])) 𝓛) $ fjoin ! $ sets ! (agg ! (no_more !)) refl (tt, tt) $ sets ! (agg ! (and_then ! (get ! refl) (no_more !))) refl (tt, (tt, tt)) $
     nothing ! $ nothing ! $ fjoin ! $ nothing ! $ fjoin ! $ nothing ! $ fjoin ! $ nothing ! $ fjoin ! $ nothing ! $ fjoin ! $ nothing ! $ fjoin ! $ nothing ! $ fjoin ! $
     returns ! (look_at ! 0 refl) $ free_all ! refl $ keep ! (2 ∷ 0 ∷ 1 ∷ []) $ by ! (ends 𝓛 En hs c y (token) (record { marker = record {}; names = me.names; ask = Cloned xs; about = OfferOf author'.name author'.used ∷ []; state = None }) (tt, (tt, (tt, (tt, (tt, (tt, (tt, tt))))))) (tt, (tt, (tt, (tt, (tt, (tt, (tt, tt))))))) (fact_i 𝓤 _ (emp 𝓤) ((refl, refl, refl, refl)))))))

@@ -45,10 +45,10 @@ offer_publish_spec 𝓤 𝓛 𝓜 𝓡 wired T B K _ _ _ g d h e _ _ =
     let within : j < length names = let w = k.place.within in let l = k.whole in omega (arith, w, l) in
     let both : item.of ∷ slots.of ≡ slice_index_or names j 0 ∷ drops (suc j) names = k.left ∙ drop-cons names j 0 within in let behind : slots.of ≡ drops (suc j) names = cc both in let its : item.of ≡ slice_index_or names j 0 = cc both in
     rewrite ! 0 (λ (z : ℕ). ‵ (written B' z opened.value)) k.evidence refl $ rewrite ! 1 (λ (z : List ℕ). ‵ (write_rights z)) behind refl $ rewrite ! 2 (λ (z : List ℕ). ‵ (write_rights z)) k.rights refl $ rewrite ! 3 (λ (z : ℕ). ‵ (written T' z item.value)) its refl $
-    fjoin3 ! $ fjoin ! $ use1 𝓛 (‵ (fsep (rights_from T' B' g.slot_names buffer_slots (suc n)) (place_written T' B' g.slot_names buffer_slots n item.value))) (tails.rights_after_write 𝓛 T' B' g.slot_names buffer_slots n b j opened.value item.value k.place k.whole) $
+    fjoin3 ! $ fjoin ! $ use1 𝓛 (‵ (fsep (rights_from T' B' g.slot_names g.fits buffer_slots (suc n)) (place_written T' B' g.slot_names g.fits buffer_slots n item.value))) (tails.rights_after_write 𝓛 T' B' g.slot_names g.fits buffer_slots n b j opened.value item.value k.place k.whole asked.3) $
     rewrite ! 1 (λ (z : ℕ). ‵ (latest logs three_quarters z held.added)) asked.0 refl $ rewrite ! 1 (λ (z : List ℕ). ‵ (latest logs three_quarters (head me.names) z)) asked.1 refl $
     move ! (1 ∷ 0 ∷ 2 ∷ []) $ fjoin3 ! $ let x : Rattle.elsa_free.specs.declared.event.Entry.Entry T'.Denot = entry (suc author'.name) item.value in
-    use1 𝓛 (‵ (offer_owns (rule_owns T' B' g.slot_names me.names) (IsStep {T = T'.Denot} (Published x)) (publish_gain T' B' g.slot_names (OfferOf author'.name author'.used ∷ me.log)) None)) (offers.publish_offer 𝓛 T' B' g.slot_names me.names me.log x author'.name author'.used refl) $
+    use1 𝓛 (‵ (offer_owns (rule_owns T' B' g.slot_names g.fits me.names) (IsStep {T = T'.Denot} (Published x)) (publish_gain T' B' g.slot_names g.fits (OfferOf author'.name author'.used ∷ me.log)) None)) (offers.publish_offer 𝓛 T' B' g.slot_names g.fits me.names me.log x author'.name author'.used refl) $
     use0 𝓛 (‵ ((Token (Tuple (E' ∷ L' ∷ OneWord.the_row B' K' ∷ PublishGain.the_row B' ∷ []))).own_val (record {}, tt) (token ∷ []))) (token_made (Tuple (E' ∷ L' ∷ OneWord.the_row B' K' ∷ PublishGain.the_row B' ∷ [])) 𝓛) $ fjoin ! $ sets ! (agg ! (no_more !)) refl (tt, tt) $ sets ! (agg ! (and_then ! (get ! refl) (no_more !))) refl (tt, (tt, tt)) $
     nothing ! $ nothing ! $ fjoin ! $ nothing ! $ fjoin ! $ nothing ! $ fjoin ! $ nothing ! $ fjoin ! $ nothing ! $ fjoin ! $ nothing ! $ fjoin ! $ nothing ! $ fjoin ! $ nothing ! $ fjoin ! $ nothing ! $ fjoin ! $
     returns ! (look_at ! 0 refl) $ free_all ! refl $ keep ! (2 ∷ 0 ∷ 1 ∷ []) $ by ! (ends 𝓛 En hs c y (token) (record { marker = record {}; names = me.names; ask = Published (entry (suc author'.name) item.value); about = OfferOf author'.name author'.used ∷ me.log; state = None }) (tt, (tt, (tt, (tt, (tt, (tt, (tt, (tt, (tt, tt))))))))) (tt, (tt, (tt, (tt, (tt, (tt, (tt, (tt, (tt, tt))))))))) (fact_i 𝓤 _ (emp 𝓤) ((refl, refl, refl, refl)))))))

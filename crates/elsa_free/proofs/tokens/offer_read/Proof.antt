@@ -35,7 +35,7 @@ offer_read_spec 𝓤 𝓛 𝓜 𝓡 wired T B K _ _ _ g d h e _ _ =
     -- [token of the author; what it owns; nothing; the Seen; alive]
     keep ! (1 ∷ 4 ∷ []) $
     enter ! 𝓣.C 𝓣.Λ fn args Post $ alloc_all ! (λ l. pass_all ! refl ((tt, tt), ((tt, (tt, tt)), tt)) $ let Env = env fn.locals l in
-    use1 𝓛 (‵ (offer_owns (rule_owns T' B' g.slot_names me.names) (IsStep (OfferOf held.name held.used)) (read_gain T' B' g.slot_names me.names (OfferOf held.name held.used ∷ [])) None)) (offers.read_offer 𝓛 T' B' g.slot_names me.names held.name held.used (OfferOf held.name held.used ∷ []) refl) $
+    use1 𝓛 (‵ (offer_owns (rule_owns T' B' g.slot_names g.fits me.names) (IsStep (OfferOf held.name held.used)) (read_gain T' B' g.slot_names g.fits me.names (OfferOf held.name held.used ∷ [])) None)) (offers.read_offer 𝓛 T' B' g.slot_names g.fits me.names held.name held.used (OfferOf held.name held.used ∷ []) refl) $
     use0 𝓛 (‵ ((Token (Tuple (E' ∷ L' ∷ OneWord.the_row B' K' ∷ ReadGain.the_row B' ∷ []))).own_val (record {}, tt) (token ∷ []))) (token_made (Tuple (E' ∷ L' ∷ OneWord.the_row B' K' ∷ ReadGain.the_row B' ∷ [])) 𝓛) $ fjoin ! $ sets ! (agg ! (no_more !)) refl (tt, tt) $ sets ! (agg ! (and_then ! (get ! refl) (no_more !))) refl (tt, (tt, tt)) $
     nothing ! $ nothing ! $ fjoin ! $ nothing ! $ fjoin ! $
     returns ! (look_at ! 0 refl) $ free_all ! refl $ keep ! (2 ∷ 0 ∷ 1 ∷ []) $ by ! (ends 𝓛 En hs c y (token) (record { marker = record {}; names = me.names; ask = OfferOf held.name held.used; about = OfferOf held.name held.used ∷ []; state = None }) (tt, (tt, tt)) (tt, (tt, tt)) (fact_i 𝓤 _ (emp 𝓤) ((refl, refl, refl, refl))))))

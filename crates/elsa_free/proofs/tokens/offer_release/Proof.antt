@@ -37,10 +37,10 @@ offer_release_spec 𝓤 𝓛 𝓜 𝓡 wired T B K _ _ _ g d h e _ _ =
     let held = a.1.0 in let author' = a.1.1.1.0 in let b : ℕ = a.1.1.1.1.0 in let buffer_slots : List ℕ = buffer_slots_of me.names in let n : ℕ = length (list_of me.log) in
     move ! (1 ∷ []) $ fsplit ! $ move ! (1 ∷ []) $ fsplit ! $ fsplit ! $ move ! (2 ∷ []) $ fsplit ! $ fsplit ! $ move ! (2 ∷ []) $ fsplit ! $ fsplit ! $ move ! (2 ∷ []) $ fsplit ! $ keep ! (5 ∷ 7 ∷ 3 ∷ 9 ∷ []) $
     enter ! 𝓣.C 𝓣.Λ fn args Post $ alloc_all ! (λ l. pass_all ! refl ((tt, tt), ((tt, (tt, tt)), ((tt, (tt, tt)), ((tt, (tt, tt)), ((tt, record { fits = are.1.1.1.1.0.1 }), tt))))) $ let Env = env fn.locals l in
-    rewrite ! 0 (λ (z : List ℕ). ‵ (write_rights z)) asked.2 refl $ use1 𝓛 (‵ (rights_from T' B' g.slot_names buffer_slots n)) (tails.rights_of_closed 𝓛 T' B' g.slot_names buffer_slots n b asked.3) $
+    rewrite ! 0 (λ (z : List ℕ). ‵ (write_rights z)) asked.2 refl $ use1 𝓛 (‵ (rights_from T' B' g.slot_names g.fits buffer_slots n)) (tails.rights_of_closed 𝓛 T' B' g.slot_names g.fits buffer_slots n b asked.3) $
     rewrite ! 1 (λ (z : ℕ). ‵ (latest logs three_quarters z held.added)) asked.0 refl $ rewrite ! 1 (λ (z : List ℕ). ‵ (latest logs three_quarters (head me.names) z)) asked.1 refl $
     move ! (1 ∷ 0 ∷ 2 ∷ []) $ fjoin3 ! $
-    use1 𝓛 (‵ (offer_owns (rule_owns T' B' g.slot_names me.names) (IsStep {T = T'.Denot} Released) (release_gain T' B' g.slot_names (OfferOf author'.name author'.used ∷ me.log)) None)) (offers.release_offer 𝓛 T' B' g.slot_names me.names me.log author'.name author'.used) $
+    use1 𝓛 (‵ (offer_owns (rule_owns T' B' g.slot_names g.fits me.names) (IsStep {T = T'.Denot} Released) (release_gain T' B' g.slot_names g.fits (OfferOf author'.name author'.used ∷ me.log)) None)) (offers.release_offer 𝓛 T' B' g.slot_names g.fits me.names me.log author'.name author'.used) $
     use0 𝓛 (‵ ((Token (Tuple (E' ∷ L' ∷ OneWord.the_row B' K' ∷ ReleaseGain.the_row B' ∷ []))).own_val (record {}, tt) (token ∷ []))) (token_made (Tuple (E' ∷ L' ∷ OneWord.the_row B' K' ∷ ReleaseGain.the_row B' ∷ [])) 𝓛) $ fjoin ! $ sets ! (agg ! (no_more !)) refl (tt, tt) $ sets ! (agg ! (and_then ! (get ! refl) (no_more !))) refl (tt, (tt, tt)) $
     nothing ! $ nothing ! $ fjoin ! $ nothing ! $ fjoin ! $ nothing ! $ fjoin ! $ nothing ! $ fjoin ! $ nothing ! $ fjoin ! $
     returns ! (look_at ! 0 refl) $ free_all ! refl $ keep ! (2 ∷ 0 ∷ 1 ∷ []) $ by ! (ends 𝓛 En hs c y (token) (record { marker = record {}; names = me.names; ask = Released; about = OfferOf author'.name author'.used ∷ me.log; state = None }) (tt, (tt, (tt, (tt, (tt, tt))))) (tt, (tt, (tt, (tt, (tt, tt))))) (fact_i 𝓤 _ (emp 𝓤) ((refl, refl, refl, refl)))))))

@@ -34,7 +34,7 @@ take_acquired_closed_spec 𝓤 𝓛 𝓜 𝓡 wired T B _ _ g d _ =
     let up = a.0 in let b : ℕ = a.1.0 in let buffer_slots : List ℕ = buffer_slots_of up.names in let n : ℕ = length (list_of up.answer) in
     move ! (1 ∷ []) $ fsplit ! $ fsplit ! $ move ! (2 ∷ []) $ fsplit ! $ keep ! (3 ∷ 4 ∷ []) $
     enter ! 𝓣.C 𝓣.Λ fn args Post $ alloc_all ! (λ l. pass_all ! refl ((tt, (tt, tt)), ((tt, record { fits = are.1.0.1 }), tt)) $ let Env = env fn.locals l in
-    fsplit ! $ move ! (1 ∷ []) $ use1 𝓛 (‵ (write_rights (drops b buffer_slots))) (tails.closed_of_rights 𝓛 T' B' g.slot_names buffer_slots n b asked) $
+    fsplit ! $ move ! (1 ∷ []) $ use1 𝓛 (‵ (write_rights (drops b buffer_slots))) (tails.closed_of_rights 𝓛 T' B' g.slot_names g.fits buffer_slots n b asked) $
     use0 𝓛 (‵ ((Token (unit)).own_val (record {}, tt) (token ∷ []))) (token_made (unit) 𝓛) $ fjoin ! $ move ! (1 ∷ []) $ use0 𝓛 (‵ ((Token (unit)).own_val (record {}, tt) (token ∷ []))) (token_made (unit) 𝓛) $ fjoin ! $
     sets ! (agg ! (no_more !)) refl (tt, tt) $ sets ! (agg ! (and_then ! (get ! refl) (no_more !))) refl (tt, (tt, tt)) $ sets ! (agg ! (no_more !)) refl (tt, tt) $ sets ! (agg ! (and_then ! (get ! refl) (no_more !))) refl (tt, (tt, tt)) $ sets ! (agg ! (and_then ! (get ! refl) (and_then ! (get ! refl) (no_more !)))) refl (tt, ((tt, tt), ((tt, tt), tt))) $
     let h' : Held.the_row.Denot = record { marker = record {}; name = head up.names; added = added (up.answer ++ Acquired ∷ []) } in let b' : WriteRights.the_row.Denot = record { marker = record {}; of = drops b buffer_slots } in

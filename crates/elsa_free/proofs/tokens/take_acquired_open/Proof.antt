@@ -36,7 +36,7 @@ take_acquired_open_spec 𝓤 𝓛 𝓜 𝓡 wired T B _ _ g d _ =
     let up = a.0 in let b : ℕ = a.1.0 in let j : ℕ = a.1.1.0 in let buffer_slots : List ℕ = buffer_slots_of up.names in let n : ℕ = length (list_of up.answer) in
     move ! (1 ∷ []) $ fsplit ! $ fsplit ! $ move ! (2 ∷ []) $ fsplit ! $ move ! (1 ∷ []) $ fsplit ! $ keep ! (4 ∷ 5 ∷ []) $
     enter ! 𝓣.C 𝓣.Λ fn args Post $ alloc_all ! (λ l. pass_all ! refl ((tt, (tt, tt)), ((tt, record { fits = are.1.0.1 }), ((tt, record { fits = are.1.1.0.1 }), tt))) $ let Env = env fn.locals l in
-    fsplit ! $ move ! (1 ∷ []) $ use1 𝓛 (‵ (fex B'.Denot (tails.Open 𝓛 T' B' g.slot_names buffer_slots b j))) (tails.open_of_rights 𝓛 T' B' g.slot_names buffer_slots n b j asked.0 asked.1) $ fpick ! (λ opened. fsplit ! $ fpick ! (λ len. drop ! $ fsplit3 ! $
+    fsplit ! $ move ! (1 ∷ []) $ use1 𝓛 (‵ (fex B'.Denot (tails.Open 𝓛 T' B' g.slot_names g.fits buffer_slots b j))) (tails.open_of_rights 𝓛 T' B' g.slot_names g.fits buffer_slots n b j asked.0 asked.1) $ fpick ! (λ opened. fsplit ! $ fpick ! (λ len. drop ! $ fsplit3 ! $
     use0 𝓛 (‵ ((Token (B')).own_val (record {}, tt) (token ∷ []))) (token_made (B') 𝓛) $ fjoin ! $ move ! (1 ∷ []) $ use0 𝓛 (‵ ((Token (unit)).own_val (record {}, tt) (token ∷ []))) (token_made (unit) 𝓛) $ fjoin ! $ move ! (2 ∷ []) $ use0 𝓛 (‵ ((Token (unit)).own_val (record {}, tt) (token ∷ []))) (token_made (unit) 𝓛) $ fjoin ! $ move ! (3 ∷ []) $ use0 𝓛 (‵ ((Token (unit)).own_val (record {}, tt) (token ∷ []))) (token_made (unit) 𝓛) $ fjoin ! $ move ! (0 ∷ 3 ∷ 2 ∷ 1 ∷ []) $
     sets ! (agg ! (no_more !)) refl (tt, tt) $ sets ! (agg ! (and_then ! (get ! refl) (no_more !))) refl (tt, (tt, tt)) $ sets ! (agg ! (no_more !)) refl (tt, tt) $ sets ! (agg ! (and_then ! (get ! refl) (no_more !))) refl (tt, (tt, tt)) $ sets ! (agg ! (no_more !)) refl (tt, tt) $ sets ! (agg ! (and_then ! (get ! refl) (no_more !))) refl (tt, (tt, tt)) $ sets ! (agg ! (no_more !)) refl (tt, tt) $ sets ! (agg ! (and_then ! (get ! refl) (no_more !))) refl (tt, (tt, tt)) $ sets ! (agg ! (and_then ! (get ! refl) (and_then ! (get ! refl) (and_then ! (get ! refl) (and_then ! (get ! refl) (no_more !)))))) refl (tt, ((tt, tt), ((tt, tt), ((tt, tt), ((tt, tt), tt))))) $
     let h' : Held.the_row.Denot = record { marker = record {}; name = head up.names; added = added (up.answer ++ Acquired ∷ []) } in let w' : (Written.the_row B').Denot = record { marker = record {}; of = slice_index_or buffer_slots b 0; value = opened } in let s' : WriteRights.the_row.Denot = record { marker = record {}; of = drops j (g.slot_names opened) } in let b' : WriteRights.the_row.Denot = record { marker = record {}; of = drops (suc b) buffer_slots } in

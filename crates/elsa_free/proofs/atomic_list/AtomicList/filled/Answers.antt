@@ -5,4 +5,4 @@ use Rattle.elsa_free.proofs.RuleLemmas.Keyless.{rule_owns_keyless}
 use Rattle.elsa_free.proofs.atomic_list.AtomicList.filled.Goals as goal
 
 pub open-first-requires : goal.open-first-requires
-open-first-requires g c = (record { words = refl; small = omega arith; each_is_new = none_is_new g.K.ItemRule.is_new }, rule_owns_keyless g.row.T (Buffer.the_row g.row.T g.row.A g.A.Allocator) (λ r. r) c.start-start.result.0.names, c.start-start.ensures.0)
+open-first-requires g c = (record { words = refl; small = omega arith; each_is_new = none_is_new g.K.ItemRule.is_new }, rule_owns_keyless g.row.T (Buffer.the_row g.row.T g.row.A g.row.X g.A.Allocator) (λ r. r.0) (λ r item. g.X.Beside.fits r.1 item) c.start-start.result.0.names, c.start-start.ensures.0)

@@ -14,7 +14,7 @@ use Rattle.elsa_free.proofs.atomic_list.AtomicList.publish.Goals as goal
 
 pub offer_publish-offer-requires : goal.offer_publish-offer-requires
 offer_publish-offer-requires g c =
-    let ahead = c.requires.ahead.0 in let slot_names = c.args.opened.value in let j = c.args.slot in
+    let ahead = c.requires.ahead.0 in let slot_names = c.args.opened.value.0 in let j = c.args.slot in
     let less : j < length slot_names = let a = ahead.place.within in let l = ahead.whole in omega (arith, a, l) in
     let all : c.take-right.result.of ∷ c.take-right.new.self.of ≡ slice_index_or slot_names j 0 ∷ drops (suc j) slot_names = sym c.take-right.ensures ∙ (ahead.left ∙ drop-cons slot_names j 0 less) in (
       c.requires.held.0,
@@ -26,6 +26,7 @@ offer_publish-offer-requires g c =
         left = cc (c.write-written.ensures.0, all, drop-cons slot_names j 0 less);
         rights = ahead.rights;
       },
+      subst (λ (y : g.row.T.Denot). g.X.Beside.fits c.args.opened.value.1 y) (sym c.write-written.ensures.1) c.requires.fits,
     )
 
 pub compare_exchange-requires : goal.compare_exchange-requires

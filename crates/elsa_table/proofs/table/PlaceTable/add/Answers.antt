@@ -11,6 +11,6 @@ returns-clause-adds g c =
     let hash = c.args.hash in
     let place = c.self.inside.count in
     let at = c.args.room.slot in
-    let room = subst (λ t. IsRoom t hash c.args.room) (sym c.self.view_is) c.requires.room in
+    let room = (subst (λ t. IsRoom t hash c.args.room) (sym c.self.view_is) c.requires.room).0 in
     subst (λ t. Adds t hash place (set before at (slot_of hash place), place + 1)) c.self.view_is
     (adds_place _ _ _ _ _ _ (gains_write before (slot_of hash place) at room (omega arith)))

@@ -3,6 +3,3 @@ use Rattle.elsa_maps.proofs.map.ordered.FrozenBTreeMap+ref+str+V+A+P.insert_text
 -- what was said of the placed text holds of the one that was given: they read the same
 pub returns-clause-stands : goal.returns-clause-stands
 returns-clause-stands g c = rw (c.in_ok-placed.ensures) at c.insert.ensures.stands
-
-pub returns-clause-new_length : goal.returns-clause-new_length
-returns-clause-new_length g c = rw (c.in_ok-placed.ensures) at c.insert.ensures.new_length

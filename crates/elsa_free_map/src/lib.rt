@@ -1,0 +1,6 @@
+//! A map that threads share, whose look-ups take no lock: the first insertion of a key wins, for every thread.
+#![tactic(auto)]
+
+pub mod entries;
+pub mod handle;
+pub mod map;

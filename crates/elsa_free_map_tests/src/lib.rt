@@ -1,0 +1,9 @@
+//! The map that threads look up without a lock, as a stranger calls it.
+#![tactic(auto)]
+
+#[cfg(test)]
+mod refusal_tests;
+#[cfg(test)]
+mod thread_tests;
+#[cfg(test)]
+mod value_tests;

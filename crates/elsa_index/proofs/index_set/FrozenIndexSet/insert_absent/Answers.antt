@@ -1,6 +1,0 @@
-use Rattle.std.proofs.Common.{rules}
-use Rattle.elsa_index.proofs.Laws.{set_place_added}
-use Rattle.elsa_index.proofs.index_set.FrozenIndexSet.insert_absent.Goals as goal
-
-pub returns-clause-stands_at : goal.returns-clause-stands_at
-returns-clause-stands_at g c = set_place_added g.T.Borrow.PartialEq.eq g.met.T.Borrow.Eq.laws g.T.HasTarget.target g.T.HasTarget.shown g.T.LookUp.finds g.met.T.LookUp.finds_target _ _ _ _ _ c.requires.absent c.in_ok-place.ensures.place (search rules) c.in_ok-place.ensures.appended

@@ -1,0 +1,57 @@
+-- A row of words in a book: what its history leaves in each, and what a step tells the thread that makes it.
+use Rattle.std.specs.Prelude.{◌≡◌, ℕ, zero, suc, ◌<◌, ◌==◌, true, List, [], ◌∷◌, length, Option, Some, None, if◌then◌else◌}
+use Rattle.logbook.specs.Pages.{Book, Cell, cell, Named, Step, View}
+use Rattle.elsa_index_words.specs.declared.row.Event.{Event}
+use Rattle.elsa_index_words.specs.declared.row.Event.TheVariants.{Opened, Filled}
+
+-- the first of two numbers, if it isn't 0
+abbrev pub first_not_0 : ℕ → ℕ → ℕ
+first_not_0 zero b = b
+first_not_0 (suc a) b = suc a
+
+-- so many words of a book, from the key k on
+abbrev pub named_from : Book → ℕ → ℕ → List Named
+named_from b k zero = []
+named_from b k (suc n) = record { tracked = true; key = k; book = b } ∷ named_from b (suc k) n
+
+module _ {S : Type 0} where
+  -- what an event puts into the word k, or 0
+  abbrev pub filled_by : ℕ → Event S → ℕ
+  filled_by k (Opened n s) = 0
+  filled_by k (Filled i w) = if i == k then w else 0
+
+  -- what a history leaves in the word k: what the first event that filled it put there
+  abbrev pub value_at : ℕ → List (Event S) → ℕ
+  value_at k [] = 0
+  value_at k (e ∷ es) = first_not_0 (filled_by k e) (value_at k es)
+
+  -- how many words a history's row has
+  abbrev pub opened_by : Event S → ℕ
+  opened_by (Opened n s) = n
+  opened_by (Filled i w) = 0
+
+  abbrev pub count_of : List (Event S) → ℕ
+  count_of [] = 0
+  count_of (e ∷ es) = opened_by e
+
+  -- what makes the hashers of a history's row
+  abbrev pub hashed_by : Event S → Option S
+  hashed_by (Opened n s) = Some s
+  hashed_by (Filled i w) = None
+
+  abbrev pub builder_of : List (Event S) → Option S
+  builder_of [] = None
+  builder_of (e ∷ es) = hashed_by e
+
+  -- the rule
+  pub record IsKept (cells : List Cell) (log : List (Event S)) : Type 0 where
+    pub whole : length cells ≡ count_of log
+    pub words : (k : ℕ) → k < length cells → cell cells k ≡ (value_at k log, true)
+
+  -- a read: the word is what the history seen leaves there
+  abbrev pub Sees : {A : Type 0} → Step (Event S) → View (Event S) A → ℕ → View (Event S) A → Type 0
+  Sees s v found w = found ≡ value_at s.key w.0
+
+  -- an exchange from 0: the word is what was put there, if it was 0, and else what it was
+  abbrev pub Tries : {A : Type 0} → Step (Event S) → View (Event S) A → ℕ → View (Event S) A → Type 0
+  Tries s v found w = value_at s.key w.0 ≡ first_not_0 found s.new

@@ -1,0 +1,54 @@
+use Rattle.std.proofs.Common.{◌≡◌, ℕ, List, length, map, position, Some, None, ap, subst, sym, ◌∙◌, arith}
+use Rattle.std.proofs.lemmas.List.{length-map}
+use Rattle.std.specs.Borrow.{Bor}
+use Rattle.std.specs.Str.{bytes_eq}
+use Rattle.elsa_interner.specs.Names.{IsNumbered, Puts, text_hash}
+use Rattle.elsa_interner.proofs.NameLemmas.{at_place, kept_put, numbered_put, numbered_same, put_new, shown_push, stands_put}
+use Rattle.elsa_interner.proofs.reader.InternerReader.put_in.Goals as goal
+
+pub search-requires-clause-within : goal.search-requires-clause-within
+search-requires-clause-within g c h i has =
+    omega (arith, c.self.invariant.within h i has, length-map c.self.inside.names.items (λ (b : Bor (List ℕ)). b.now), ap length c.as_slice.ensures.value)
+
+pub returns-in-Ok-clause-stands : goal.returns-in-Ok-clause-stands
+returns-in-Ok-clause-stands g c =
+    let text = c.args.text.now in
+    at_place c.args.self.now text c.in-Ok.place
+    (subst (λ l. position (bytes_eq text) l ≡ Some c.in-Ok.place) (ap (map (λ (b : Bor (List ℕ)). b.now)) c.as_slice.ensures.value ∙ c.self.view_is) c.in-Ok.ensures.found)
+
+-- the copy is refused, and the table has room that stays unused
+pub invariant_of-self-in_err-name : goal.invariant_of-self-in_err-name
+invariant_of-self-in_err-name g c =
+    let reserved = c.in_ok-room.ensures in
+    let hash = text_hash g.S.BuildHasher g.S.Hasher.Hasher c.self.inside.hash_builder in
+    subst (λ l. IsNumbered hash c.reserve-2.new.self (map (λ (b : Bor (List ℕ)). b.now) l)) (sym c.in_ok-reserve.ensures.items)
+    (numbered_same hash c.self.inside.table c.reserve-2.new.self _ c.self.invariant reserved.places reserved.same)
+
+pub invariant_of-self-2 : goal.invariant_of-self-2
+invariant_of-self-2 g c =
+    let ks = c.self.inside.names.items in
+    let text = c.args.text.now in
+    let reserved = c.in_ok-room.ensures in
+    let last = shown_push ks c.reserve.new.self.items c.push_reserved.new.self.items text c.in_ok-name.name c.in_ok-reserve.ensures.items c.push_reserved.ensures.items c.in_ok-name.ensures in
+    let none = subst (λ l. position (bytes_eq text) (map (λ (b : Bor (List ℕ)). b.now) l) ≡ None) c.as_slice.ensures.value c.in-Err.ensures.absent in
+    let before = numbered_same _ c.self.inside.table c.reserve-2.new.self (map (λ (b : Bor (List ℕ)). b.now) ks) c.self.invariant reserved.places reserved.same in
+    subst (IsNumbered _ c.add-place.new.self) (sym last)
+    (numbered_put _ c.reserve-2.new.self c.add-place.new.self _ text c.name_hash-hash.result c.add-place.result before c.name_hash-hash.ensures c.add-place.ensures.place c.add-place.ensures.places c.add-place.ensures.adds none)
+
+pub returns-clause-put : goal.returns-clause-put
+returns-clause-put g c =
+    let ks = c.self.inside.names.items in
+    let text = c.args.text.now in
+    let last = shown_push ks c.reserve.new.self.items c.push_reserved.new.self.items text c.in_ok-name.name c.in_ok-reserve.ensures.items c.push_reserved.ensures.items c.in_ok-name.ensures in
+    let none = subst (λ l. position (bytes_eq text) (map (λ (b : Bor (List ℕ)). b.now) l) ≡ None) c.as_slice.ensures.value c.in-Err.ensures.absent in
+    let placed : c.add-place.result ≡ length (map (λ (b : Bor (List ℕ)). b.now) ks) = omega (arith, c.add-place.ensures.place, c.in_ok-room.ensures.places, c.self.invariant.counted) in
+    subst (λ l. Puts l text c.add-place.result (map (λ (b : Bor (List ℕ)). b.now) c.push_reserved.new.self.items)) c.self.view_is (put_new _ _ text c.add-place.result none placed last)
+
+pub returns-clause-stands_at : goal.returns-clause-stands_at
+returns-clause-stands_at g c = stands_put c.args.self.now c.args.text.now c.add-place.result (map (λ (b : Bor (List ℕ)). b.now) c.push_reserved.new.self.items) (returns-clause-put g c)
+
+pub returns-clause-stands : goal.returns-clause-stands
+returns-clause-stands g c = at_place (map (λ (b : Bor (List ℕ)). b.now) c.push_reserved.new.self.items) c.args.text.now c.add-place.result (returns-clause-stands_at g c)
+
+pub returns-clause-kept : goal.returns-clause-kept
+returns-clause-kept g c = kept_put c.args.self.now c.args.text.now c.add-place.result (map (λ (b : Bor (List ℕ)). b.now) c.push_reserved.new.self.items) (returns-clause-put g c)

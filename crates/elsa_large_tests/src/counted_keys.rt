@@ -1,0 +1,398 @@
+//! How often a call hashes, compares and orders keys: what no clause says.
+//!
+//! In a table of a hundred keys a call that walks over all of them, or that hashes a key again, stands out.
+ghost use Rattle.std.specs.Prelude.{◌≡◌, ◌==◌, Some, refl};
+ghost use Rattle.std.specs.Cmp.{nat_cmp_total, nat_eq_equiv, on_equiv, on_po, on_total, partial_equiv_from_equiv, unsigned_po, unsigned_ties};
+ghost use Rattle.std.specs.Hash as fed;
+ghost use Rattle.std.specs.Ordering.{nat_cmp};
+ghost use Rattle.std.proofs.Common.{ap, eqb-true};
+
+use bumpalo::Bump;
+use elsa::interner::Interner;
+use elsa::{FrozenBTreeMap, FrozenIndexMap, FrozenIndexSet, FrozenMap, FrozenVec, Own};
+use std::alloc::{AllocError, Global};
+use std::cmp::Ordering;
+use std::hash::{BuildHasher, Hash, Hasher};
+use std::sync::atomic;
+use std::sync::atomic::AtomicU64;
+use std::test::Fail;
+
+/// How often keys were hashed, compared by `==`, and compared by `cmp`.
+#[derive(Drop)]
+struct Counts {
+    hashes: AtomicU64,
+    equalities: AtomicU64,
+    orders: AtomicU64,
+}
+
+impl Counts {
+    fn new() -> Counts {
+        Counts {
+            hashes: AtomicU64::new(0),
+            equalities: AtomicU64::new(0),
+            orders: AtomicU64::new(0),
+        }
+    }
+
+    /// How often since the last time, in the order of the fields.
+    fn taken(&self) -> (u64, u64, u64) {
+        (
+            self.hashes.swap(0, atomic::Ordering::SeqCst),
+            self.equalities.swap(0, atomic::Ordering::SeqCst),
+            self.orders.swap(0, atomic::Ordering::SeqCst),
+        )
+    }
+}
+
+/// Counts one more.
+fn count(word: &AtomicU64) {
+    let _ = word.fetch_add(1, atomic::Ordering::SeqCst);
+}
+
+/// A number that counts what is done with it.
+#[derive(Clone, Copy)]
+struct Key<'c> {
+    number: u64,
+    counts: &'c Counts,
+}
+
+impl PartialEq for Key<'_> {
+    ghost eq = { λ a b. a.number == b.number };
+
+    ghost laws = { partial_equiv_from_equiv (on_equiv (λ a. a.number) nat_eq_equiv) };
+
+    fn eq(&self, other: &Self) -> bool {
+        count(&self.counts.equalities);
+        self.number == other.number
+    }
+}
+
+impl Eq for Key<'_> {
+    ghost laws = { on_equiv (λ a. a.number) nat_eq_equiv };
+}
+
+impl PartialOrd for Key<'_> {
+    ghost partial_cmp = { λ a b. Some (nat_cmp a.number b.number) };
+
+    ghost laws = { on_po (λ a. a.number) unsigned_po };
+
+    fn partial_cmp(&self, other: &Self) -> Option<Ordering> {
+        Some(self.cmp(other))
+    }
+}
+
+impl Ord for Key<'_> {
+    ghost cmp = { λ a b. nat_cmp a.number b.number };
+
+    ghost total = { on_total (λ a. a.number) nat_cmp_total };
+
+    ghost matches_partial_cmp = { λ x y. refl };
+
+    ghost matches_eq = { λ x y. unsigned_ties x.number y.number };
+
+    fn cmp(&self, other: &Self) -> Ordering {
+        count(&self.counts.orders);
+        self.number.cmp(&other.number)
+    }
+}
+
+impl Hash for Key<'_> {
+    ghost hash_input = { λ a. fed.u64 a.number };
+
+    ghost respects_eq = { λ x y h. ap fed.u64 (eqb-true x.number y.number h) };
+
+    fn hash<H: Hasher>(&self, state: &mut H) {
+        count(&self.counts.hashes);
+        state.write_u64(self.number);
+    }
+}
+
+/// A key of this number.
+fn key_of(counts: &Counts, number: u64) -> Key<'_> {
+    Key { number, counts }
+}
+
+/// How many keys a collection has that is searched.
+const MANY: u64 = 1000;
+
+/// The most keys that a search by hash compares with: where some have a part of the hash in common.
+const FEW: u64 = 4;
+
+/// The most keys that a search of an ordered map compares with: four nodes of it, each whole.
+const NODES: u64 = 48;
+
+/// The most items that a search of a sorted vector compares with: as often as a thousand can be halved, and once more.
+const HALVES: u64 = 11;
+
+/// Whether a call held that hashed one key and compared it with few.
+fn is_hashed_once(counts: &Counts, held: bool) -> bool {
+    let (hashes, equalities, orders) = counts.taken();
+    held && hashes == 1 && equalities <= FEW && orders == 0
+}
+
+// ---- maps and index forms
+
+const HASHED_CALLS: usize = 7;
+
+/// Whether a call of this number about the key, which is there at the number 57, or about one that is absent, answers.
+fn hashed_answers<'c>(
+    map: &mut FrozenMap<'_, Key<'c>, Own<u64>>,
+    call: usize,
+    key: Key<'c>,
+    absent: Key<'c>,
+) -> Result<bool, AllocError> {
+    Ok(match call {
+        0 => map.get(&key) == Some(&57),
+        1 => map.get(&absent).is_none(),
+        2 => map.contains_key(&key),
+        3 => map.map_get(&key, |value| *value) == Some(57),
+        4 => map.get_key_value(&key).is_some(),
+        5 => map.insert(key, Own(0))? == &57,
+        _ => map.insert(absent, Own(1))? == &1,
+    })
+}
+
+fn hashed_searches_once(alloc: Global, arena: &Bump, counts: &Counts) -> Result<bool, AllocError> {
+    let mut map: FrozenMap<'_, Key<'_>, Own<u64>> = FrozenMap::new(alloc, arena);
+    for number in 0..MANY {
+        map.insert(key_of(counts, number), Own(number))?;
+    }
+    for call in 0..HASHED_CALLS {
+        let _ = counts.taken();
+        let held = hashed_answers(&mut map, call, key_of(counts, 57), key_of(counts, MANY))?;
+        if !is_hashed_once(counts, held) {
+            return Ok(false);
+        }
+    }
+    Ok(true)
+}
+
+fn indexed_answers<'c>(
+    map: &mut FrozenIndexMap<'_, Key<'c>, Own<u64>>,
+    call: usize,
+    key: Key<'c>,
+    absent: Key<'c>,
+) -> Result<bool, AllocError> {
+    Ok(match call {
+        0 => map.get(&key) == Some(&57),
+        1 => map.get_index_of(&absent).is_none(),
+        2 => map.contains_key(&key),
+        3 => map.get_index_of(&key) == Some(57),
+        4 => map.get_full(&key).is_some(),
+        5 => map.insert_full(key, Own(0))? == (57, &57),
+        _ => map.insert(absent, Own(1))? == &1,
+    })
+}
+
+fn indexed_searches_once(alloc: Global, arena: &Bump, counts: &Counts) -> Result<bool, AllocError> {
+    let mut map: FrozenIndexMap<'_, Key<'_>, Own<u64>> = FrozenIndexMap::new(alloc, arena);
+    for number in 0..MANY {
+        map.insert(key_of(counts, number), Own(number))?;
+    }
+    for call in 0..HASHED_CALLS {
+        let _ = counts.taken();
+        let held = indexed_answers(&mut map, call, key_of(counts, 57), key_of(counts, MANY))?;
+        if !is_hashed_once(counts, held) {
+            return Ok(false);
+        }
+    }
+    Ok(true)
+}
+
+const SET_CALLS: usize = 4;
+
+fn set_answers<'a, 'c: 'a>(
+    set: &mut FrozenIndexSet<'a, Own<Key<'c>>>,
+    call: usize,
+    key: Key<'c>,
+    absent: Key<'c>,
+) -> Result<bool, AllocError> {
+    Ok(match call {
+        0 => set.get_index_of(&&key) == Some(57),
+        1 => set.contains(&&key),
+        2 => !set.contains(&&absent),
+        _ => set.insert_full(Own(key))?.0 == 57,
+    })
+}
+
+fn set_searches_once(alloc: Global, arena: &Bump, counts: &Counts) -> Result<bool, AllocError> {
+    let mut set: FrozenIndexSet<'_, Own<Key<'_>>> = FrozenIndexSet::new(alloc, arena);
+    for number in 0..MANY {
+        set.insert(Own(key_of(counts, number)))?;
+    }
+    for call in 0..SET_CALLS {
+        let _ = counts.taken();
+        let held = set_answers(&mut set, call, key_of(counts, 57), key_of(counts, MANY))?;
+        if !is_hashed_once(counts, held) {
+            return Ok(false);
+        }
+    }
+    Ok(true)
+}
+
+#[test]
+fn a_call_by_key_hashes_once_and_compares_with_few(rt: HostRuntime) -> Result<(), Fail> {
+    let arena = Bump::new(rt.alloc());
+    let counts = Counts::new();
+    assert!(rt; hashed_searches_once(rt.alloc(), &arena, &counts)?);
+    assert!(rt; indexed_searches_once(rt.alloc(), &arena, &counts)?);
+    assert!(rt; set_searches_once(rt.alloc(), &arena, &counts)?);
+    Ok(())
+}
+
+// ---- what is ordered
+
+const ORDERED_CALLS: usize = 6;
+
+fn ordered_answers<'c>(
+    map: &mut FrozenBTreeMap<'_, Key<'c>, Own<u64>>,
+    call: usize,
+    key: Key<'c>,
+    absent: Key<'c>,
+) -> Result<bool, AllocError> {
+    Ok(match call {
+        0 => map.get(&key) == Some(&57),
+        1 => map.get(&absent).is_none(),
+        2 => map.contains_key(&key),
+        3 => map.map_get(&key, |value| *value) == Some(57),
+        4 => map.insert(key, Own(0))? == &57,
+        _ => map.insert(absent, Own(1))? == &1,
+    })
+}
+
+fn ordered_searches_once(alloc: Global, arena: &Bump, counts: &Counts) -> Result<bool, AllocError> {
+    let mut map: FrozenBTreeMap<'_, Key<'_>, Own<u64>> = FrozenBTreeMap::new(alloc, arena);
+    for number in 0..MANY {
+        map.insert(key_of(counts, number), Own(number))?;
+    }
+    for call in 0..ORDERED_CALLS {
+        let _ = counts.taken();
+        let held = ordered_answers(&mut map, call, key_of(counts, 57), key_of(counts, MANY))?;
+        let (hashes, _equalities, orders) = counts.taken();
+        if !held || hashes != 0 || orders > NODES {
+            return Ok(false);
+        }
+    }
+    Ok(true)
+}
+
+fn vector_halves<'a>(
+    alloc: Global,
+    arena: &'a Bump,
+    counts: &'a Counts,
+) -> Result<bool, AllocError> {
+    let mut items: FrozenVec<'a, Own<Key<'a>>> = FrozenVec::new(alloc, arena);
+    for number in 0..MANY {
+        items.push(Own(key_of(counts, number)))?;
+    }
+    let _ = counts.taken();
+    for number in 0..MANY {
+        let wanted = key_of(counts, number);
+        let found = items.binary_search(&wanted) == Ok(number as usize);
+        let (hashes, _equalities, orders) = counts.taken();
+        if !found || hashes != 0 || orders > HALVES {
+            return Ok(false);
+        }
+    }
+    Ok(true)
+}
+
+#[test]
+fn an_ordered_search_compares_with_few(rt: HostRuntime) -> Result<(), Fail> {
+    let arena = Bump::new(rt.alloc());
+    let counts = Counts::new();
+    assert!(rt; ordered_searches_once(rt.alloc(), &arena, &counts)?);
+    assert!(rt; vector_halves(rt.alloc(), &arena, &counts)?);
+    Ok(())
+}
+
+// ---- texts
+
+/// A hasher that gives each text the same hash.
+#[derive(Clone, Copy)]
+struct Same {
+    hash: u64,
+}
+
+impl Hasher for Same {
+    ghost write = { λ s _. s };
+
+    ghost finish = { λ s. s.hash };
+
+    fn finish(&self) -> u64 {
+        self.hash
+    }
+
+    fn write(&mut self, _bytes: &[u8]) {}
+}
+
+/// Counts the hashers that are made.
+#[derive(Clone, Copy)]
+struct Counting<'c> {
+    counts: &'c Counts,
+}
+
+impl BuildHasher for Counting<'_> {
+    type Hasher = Same;
+
+    ghost build_hasher = { λ _. record { hash = 7 } };
+
+    fn build_hasher(&self) -> Same {
+        count(&self.counts.hashes);
+        Same { hash: 7 }
+    }
+}
+
+const TEXT_CALLS: usize = 6;
+
+fn names_answer(names: &mut Interner<'_, Counting<'_>>, call: usize) -> Result<bool, AllocError> {
+    Ok(match call {
+        0 => names.put("eight")? == 8,
+        1 => names.put("other")? == 9,
+        2 => names.find("eight") == Some(8),
+        3 => names.find("none").is_none(),
+        4 => names.contains("eight"),
+        _ => names.put_placed("static")? == 10,
+    })
+}
+
+/// Whether the first eight names, whose table doubles on the way, and each call about a text afterwards take one hash.
+fn names_are_hashed_once(alloc: Global, arena: &Bump, counts: &Counts) -> Result<bool, AllocError> {
+    let mut names = Interner::with_hasher(alloc, arena, Counting { counts });
+    for name in ["0", "1", "2", "3", "4", "5", "6", "7", "eight"] {
+        let _ = names.put(name)?;
+    }
+    if counts.taken().0 != 9 {
+        return Ok(false);
+    }
+    for call in 0..TEXT_CALLS {
+        let held = names_answer(&mut names, call)?;
+        if !held || counts.taken().0 != 1 {
+            return Ok(false);
+        }
+    }
+    Ok(true)
+}
+
+/// Whether looking a text up, and inserting one that is there, take one hash.
+fn texts_are_hashed_once(alloc: Global, arena: &Bump, counts: &Counts) -> Result<bool, AllocError> {
+    let mut map: FrozenMap<'_, &str, Own<u64>, Counting<'_>> = FrozenMap::with_hasher(
+        alloc,
+        arena,
+        Counting { counts },
+    );
+    map.insert_text("key", Own(1))?;
+    let _ = counts.taken();
+    let found = map.get_text("key") == Some(&1) && counts.taken().0 == 1;
+    let absent = map.get_text("other").is_none() && counts.taken().0 == 1;
+    Ok(found && absent && map.insert_text("key", Own(2))? == &1 && counts.taken().0 == 1)
+}
+
+#[test]
+fn a_call_by_text_hashes_once(rt: HostRuntime) -> Result<(), Fail> {
+    let arena = Bump::new(rt.alloc());
+    let counts = Counts::new();
+    assert!(rt; names_are_hashed_once(rt.alloc(), &arena, &counts)?);
+    assert!(rt; texts_are_hashed_once(rt.alloc(), &arena, &counts)?);
+    Ok(())
+}

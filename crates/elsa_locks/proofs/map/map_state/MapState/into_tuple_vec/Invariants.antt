@@ -1,6 +1,0 @@
-use Rattle.std.proofs.Common.{◌≡◌}
-use Rattle.elsa_locks.proofs.map.map_state.MapState.into_tuple_vec.Given as goal
-
--- the pairs so far are those that the table has given
-abbrev pub invariant-loop-pair : goal.invariant-loop-pair
-invariant-loop-pair g l = l.pairs.items ≡ l.yielded

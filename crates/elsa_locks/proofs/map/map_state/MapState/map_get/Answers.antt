@@ -1,4 +1,0 @@
-use Rattle.elsa_locks.proofs.map.map_state.MapState.map_get.Goals as goal
-
-pub returns-in-Some-clause-called : goal.returns-in-Some-clause-called
-returns-in-Some-clause-called g c = rw (← c.self.view_is, ← c.in-Some.ensures) (c.deref.result, c.f.ensures, c.deref.ensures)

@@ -1,0 +1,12 @@
+use Rattle.std.proofs.Common.{◌≡◌, Bool, List, [], ◌∷◌, ◌++◌, Some, refl, if◌then◌else◌}
+use Rattle.std.proofs.lemmas.List.{reverse-append}
+use Rattle.std.specs.Cmp.{IsEquivalence, eq_by_cmp_equiv}
+use Rattle.elsa_model.specs.FirstWins.{value_at, IsCollected}
+use Rattle.elsa_locks.proofs.map.ordered_state.State+K+V+BTreeMap+K+Arc+V+A+A+A.from_iter.Goals as goal
+
+-- where a pair is put at its key over what was collected, that is what is collected with this pair behind the others
+collected_more : {K V : Type 0} (eq : K → K → Bool) → IsEquivalence eq → (pairs es fs : List (K × V)) (k : K) (v : V) → IsCollected eq pairs es → ((q : K) → value_at eq fs q ≡ (if eq k q then Some v else value_at eq es q)) → IsCollected eq (pairs ++ (k, v) ∷ []) fs
+collected_more eq laws pairs es fs k v c h q = rw (reverse-append pairs ((k, v) ∷ []), h q, c q, laws.symm k q) refl
+
+pub loop-key-preserved : goal.loop-key-preserved
+loop-key-preserved g c = rw (← c.in_ok-made.ensures.ok) (collected_more _ (eq_by_cmp_equiv g.met.K.Ord.total) c.loop-key.yielded _ _ c.in-Some.key _ c.loop-key.invariant c.in_ok-store.ensures)

@@ -1,0 +1,110 @@
+//! The hashed map under the lock of `FrozenMap`.
+ghost use Rattle.std.specs.Prelude.{◌≡◌, [], IfOk, IsTrue, ◌↔◌};
+ghost use Rattle.std.specs.List.{IsDistinct, AllZip};
+ghost use Rattle.std.specs.Map.{keys_of};
+ghost use Rattle.elsa_model.specs.FirstWins.{value_at, IsSameContent, IsEqualMap, IsKeys, CloneIsEqual};
+ghost use Rattle.elsa_locks.specs.Shared.{shown};
+
+use super::State;
+use std::alloc::{AllocError, Allocator, Global};
+use std::collections::HashMap;
+use std::hash::{BuildHasher, BuildHasherDefault, FoldHasher, Hash};
+use std::sync::Arc;
+
+/// A hashed map in which the first value of a key stays. Values are shared as `Arc<V>`. Keys are told apart by `==`.
+///
+/// Contracts see the list of its entries, in no specified order, with each value in place of its `Arc`. `S` makes the hasher, and `A` gives
+/// the memory of the table and of each `Arc`.
+pub type MapState<K, V, S = BuildHasherDefault<FoldHasher>, A = Global> = State<
+    K,
+    V,
+    HashMap<K, Arc<V, A>, S, A>,
+    A,
+>;
+
+impl<K: Eq + Hash + Drop, V, A: Allocator + Copy> State<
+    K,
+    V,
+    HashMap<K, Arc<V, A>, BuildHasherDefault<FoldHasher>, A>,
+    A,
+> {
+    /// An empty map. Takes no memory.
+    pub fn new(alloc: A) -> Self
+        ensures { result ≡ [] }
+    {
+        State::over(alloc, HashMap::new(alloc))
+    }
+
+    /// The entries, each once, in no specified order. `Err` drops the map.
+    #[tactic(auto, using(crate::proofs::Shared::shows))]
+    pub fn into_tuple_vec(self) -> Result<Vec<(K, Arc<V, A>), A>, AllocError>
+    where
+        V: Drop,
+        ensures pairs { IfOk result (λ v. shown v.items ≡ self) }
+        ensures distinct { IfOk result (λ v. IsDistinct K.eq (keys_of v.items)) }
+    {
+        let State {
+            table,
+            alloc,
+            of: _of,
+        } = self;
+        let mut pairs = Vec::with_capacity(alloc, table.len())?;
+        for pair in table {
+            pairs.push(pair)?;
+        }
+        Ok(pairs)
+    }
+}
+
+impl<K: Eq + Hash + Drop, V, S: BuildHasher, A: Allocator + Copy> State<
+    K,
+    V,
+    HashMap<K, Arc<V, A>, S, A>,
+    A,
+> {
+    /// An empty map whose keys this hasher hashes. Takes no memory.
+    pub fn with_hasher(alloc: A, hash_builder: S) -> Self
+        ensures { result ≡ [] }
+    {
+        State::over(alloc, HashMap::with_hasher(alloc, hash_builder))
+    }
+
+    /// A clone of each key, each once, in no specified order. `O(n)`, one request for the list besides the keys' clones.
+    /// `Err` on an allocation failure.
+    #[tactic(auto, using(crate::proofs::Shared::shows))]
+    pub fn keys_cloned(&self) -> Result<Vec<K, A>, AllocError>
+    where
+        K: Clone,
+        requires { CloneIsEqual K.is_clone K.eq }
+        ensures clones { IfOk result (λ v. AllZip K.is_clone (keys_of self.now) v.items) }
+        ensures keys { IfOk result (λ v. IsKeys K.eq (value_at K.eq self.now) v.items) }
+    {
+        let mut keys = Vec::with_capacity(self.alloc, self.len())?;
+        for key in self.table.keys() {
+            keys.push(key.clone()?)?;
+        }
+        Ok(keys)
+    }
+
+    /// A map with the same content, which shares the values. `O(n)`. Later insertions into either leave the other.
+    /// `Err` on an allocation failure.
+    pub fn copy(&self) -> Result<Self, AllocError>
+    where
+        K: Clone,
+        V: Drop,
+        S: Clone,
+        requires { CloneIsEqual K.is_clone K.eq }
+        ensures { IfOk result (IsSameContent K.eq self.now) }
+    {
+        Ok(State::over(self.alloc, self.table.clone()?))
+    }
+
+    /// Whether both have the same keys, with values that are equal by `==`. `O(n)`. Takes no memory.
+    pub fn same(&self, other: &Self) -> bool
+    where
+        V: PartialEq,
+        ensures { IsTrue result ↔ IsEqualMap K.eq V.eq self.now other.now }
+    {
+        self.table == other.table
+    }
+}

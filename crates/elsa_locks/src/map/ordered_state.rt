@@ -1,0 +1,117 @@
+//! The ordered map under the lock of `FrozenBTreeMap`.
+ghost use Rattle.std.specs.Prelude.{◌≡◌, List, [], Some, None, IfOk, OnErr, OnOk, IsTrue, ◌↔◌, length, ◌+◌, if◌then◌else◌};
+ghost use Rattle.std.specs.Arc.{arc_value};
+ghost use Rattle.std.specs.Iterator.{Drains, IsFinite};
+ghost use Rattle.std.specs.List.Sorted.{IsStrictlySortedBy};
+ghost use Rattle.std.specs.Map.{keys_of};
+ghost use Rattle.std.specs.Ordering.{eq_by_cmp};
+ghost use Rattle.elsa_model.specs.FirstWins.{value_at, IsSameContent, IsEqualMap, IsCollected, CloneIsEqual};
+ghost use Rattle.elsa_locks.specs.Shared.{shown};
+
+use super::State;
+use elsa_model::for_its_clause;
+use std::alloc::{AllocError, Allocator, Global};
+use std::collections::BTreeMap;
+use std::sync::Arc;
+
+/// An ordered map in which the first value of a key stays. Values are shared as `Arc<V>`. Keys are told apart by their order.
+///
+/// Contracts see the list of its entries, ascending by key, with each value in place of its `Arc`. `A` gives the memory of the tree and of
+/// each `Arc`.
+pub type TreeState<K, V, A = Global> = State<K, V, BTreeMap<K, Arc<V, A>, A>, A>;
+
+/// Stores an owner at a key, in place of the one that is there, if any. `Err` leaves the entries.
+#[tactic(auto, using(crate::proofs::Shared::shows))]
+fn store<K: Ord + Drop, V: Drop, A: Allocator + Copy>(
+    table: &mut BTreeMap<K, Arc<V, A>, A>,
+    key: K,
+    value: Arc<V, A>,
+) -> Result<(), AllocError>
+    ensures { OnOk result (
+        (q : K) →
+        value_at (eq_by_cmp K.cmp) (shown table.new.entries) q
+        ≡ (if eq_by_cmp K.cmp key q then Some (arc_value value) else value_at (eq_by_cmp K.cmp) (shown table.old.entries) q)) }
+{
+    table.insert(key, value)?;
+    Ok(())
+}
+
+impl<K: Ord + Drop, V, A: Allocator + Copy> State<K, V, BTreeMap<K, Arc<V, A>, A>, A> {
+    /// An empty map. Takes no memory.
+    pub fn new(alloc: A) -> Self
+        ensures { result ≡ [] }
+    {
+        State::over(alloc, BTreeMap::new(alloc))
+    }
+
+    /// A map over the entries of `map`, which stay as they are. Takes no memory; `alloc` serves later insertions.
+    pub fn from_map(alloc: A, map: BTreeMap<K, Arc<V, A>, A>) -> Self
+        ensures { result ≡ shown map.entries }
+    {
+        State::over(alloc, map)
+    }
+
+    /// A map with the same content, which shares the values. `O(n)`. Later insertions into either leave the other.
+    /// `Err` on an allocation failure.
+    pub fn copy(&self) -> Result<Self, AllocError>
+    where
+        K: Clone,
+        V: Drop,
+        requires { CloneIsEqual K.is_clone K.eq }
+        ensures { IfOk result (IsSameContent (eq_by_cmp K.cmp) self.now) }
+    {
+        Ok(State::over(self.alloc, self.table.clone()?))
+    }
+
+    /// Whether both have the same keys, with values that are equal by `==`. `O(n)`. Takes no memory.
+    pub fn same(&self, other: &Self) -> bool
+    where
+        V: PartialEq,
+        ensures { IsTrue result ↔ IsEqualMap (eq_by_cmp K.cmp) V.eq self.now other.now }
+    {
+        // The keys of both ascend.
+        for_its_clause((self.len(), other.len()));
+        self.table == other.table
+    }
+}
+
+impl<K: Ord + Drop, V: Drop, A: Allocator + Copy> State<K, V, BTreeMap<K, Arc<V, A>, A>, A> {
+    /// The map of the items: each key has the value of its last pair. `O(n log n)`.
+    ///
+    /// `Err` where the memory of an `Arc` or of a growth was refused; what was collected is dropped.
+    pub fn from_iter<I: Iterator<Item = (K, V)> + Drop>(
+        alloc: A,
+        items: I,
+    ) -> Result<Self, AllocError>
+        requires can { I.can_next items }
+        requires ends { IsFinite (I.remaining items) }
+        ensures { IfOk result (λ m.
+            (pairs : List (K × V)) × Drains I.next_gives items pairs
+            × IsCollected (eq_by_cmp K.cmp) pairs m) }
+    {
+        let mut table = BTreeMap::new(alloc);
+        for (key, value) in items {
+            let made = Arc::new(alloc, value)?;
+            store(&mut table, key, made)?;
+        }
+        Ok(State::over(alloc, table))
+    }
+
+    /// The entries, each once, ascending by key. `Err` drops the map.
+    #[tactic(auto, using(crate::proofs::Shared::shows))]
+    pub fn into_tuple_vec(self) -> Result<Vec<(K, Arc<V, A>), A>, AllocError>
+        ensures pairs { IfOk result (λ v. shown v.items ≡ self) }
+        ensures ascending { IfOk result (λ v. IsStrictlySortedBy K.cmp (keys_of v.items)) }
+    {
+        let State {
+            table,
+            alloc,
+            of: _of,
+        } = self;
+        let mut pairs = Vec::with_capacity(alloc, table.len())?;
+        for pair in table {
+            pairs.push(pair)?;
+        }
+        Ok(pairs)
+    }
+}

@@ -1,0 +1,16 @@
+use Rattle.std.proofs.Common.{refl}
+use Rattle.elsa_run.specs.declared.run_index.IndexReply.TheVariants.{Item, Full, New, FullNew}
+use Rattle.elsa_run.proofs.IndexRuns.{inserted}
+use Rattle.elsa_run.proofs.run_index.IndexCommandIndexMapBorrowCallFrozenIndexMapInIndexReplyBorrowUnit.apply.Goals as goal
+
+pub returns-in_ok-insert-in-Insert-clause-step : goal.returns-in_ok-insert-in-Insert-clause-step
+returns-in_ok-insert-in-Insert-clause-step g c = let h = c.in_ok-insert-in-Insert.ensures.accepted in rw c.in-Insert.is (inserted g.K.PartialEq.eq g.met.K.Eq.laws g.V.HasTarget.target g.V.HasTarget.shown _ _ _ _ (λ i b new. Item b) _ _ _ (h.1, refl))
+
+pub returns-in_ok-place-in-InsertFull-clause-step : goal.returns-in_ok-place-in-InsertFull-clause-step
+returns-in_ok-place-in-InsertFull-clause-step g c = let h = c.in_ok-place-in-InsertFull.ensures.accepted in rw c.in-InsertFull.is (inserted g.K.PartialEq.eq g.met.K.Eq.laws g.V.HasTarget.target g.V.HasTarget.shown _ _ _ _ (λ i b new. Full i b) _ _ _ (h, refl))
+
+pub returns-in_ok-item-in-InsertNew-clause-step : goal.returns-in_ok-item-in-InsertNew-clause-step
+returns-in_ok-item-in-InsertNew-clause-step g c = let h = c.in_ok-item-in-InsertNew.ensures.accepted in rw c.in-InsertNew.is (inserted g.K.PartialEq.eq g.met.K.Eq.laws g.V.HasTarget.target g.V.HasTarget.shown _ _ _ _ (λ i b new. New b new) _ _ _ h.1)
+
+pub returns-in_ok-place-in-InsertFullNew-clause-step : goal.returns-in_ok-place-in-InsertFullNew-clause-step
+returns-in_ok-place-in-InsertFullNew-clause-step g c = let h = c.in_ok-place-in-InsertFullNew.ensures.accepted in rw c.in-InsertFullNew.is (inserted g.K.PartialEq.eq g.met.K.Eq.laws g.V.HasTarget.target g.V.HasTarget.shown _ _ _ _ FullNew _ _ _ h)

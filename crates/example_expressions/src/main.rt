@@ -1,0 +1,103 @@
+//! Expressions that share their equal parts, as a compiler keeps them (hash-consing).
+//!
+//! Each line of standard input names an expression: `area = width * height`. Equal expressions get one number, and a line tells it with the value
+//! that the expression has where each input is the length of its name.
+//!
+//! The key of an expression is its operation with the *numbers* of its operands, in a [`FrozenIndexSet`](elsa::FrozenIndexSet). So a hash reads three
+//! words, however deep the expression is: with borrows of the operands as keys a derived `Hash` would walk all of it, 2^20 sums for the last line
+//! of the sample.
+#![tactic(auto)]
+
+mod expressions;
+
+use crate::expressions::{Expressions, Node};
+use bumpalo::Bump;
+use elsa::{FrozenMap, Own};
+use std::alloc::AllocError;
+use std::io::{self, BufRead, BufReader};
+
+/// Why a line names no expression.
+#[derive(Debug, Clone, Copy)]
+enum Fault {
+    /// It isn't `NAME = NAME + NAME` or `NAME = NAME * NAME`.
+    Form,
+    /// The name has an expression.
+    IsNamed,
+    /// An allocation failed.
+    Memory,
+}
+
+impl From<AllocError> for Fault {
+    fn from(_: AllocError) -> Fault {
+        Fault::Memory
+    }
+}
+
+/// The numbers of the names that have an expression.
+type Names<'a> = FrozenMap<'a, &'a str, Own<usize>>;
+
+/// The number of a name: that of its expression, or else of an input.
+fn number_of<'a>(
+    names: &mut Names<'a>,
+    expressions: &mut Expressions<'a>,
+    name: &str,
+) -> Result<usize, AllocError> {
+    if let Some(number) = names.get_text(name) {
+        return Ok(*number);
+    }
+    let value = name.len() as u64;
+    let number = expressions.number(Node::Input(value))?;
+    names.insert_text(name, Own(number))?;
+    Ok(number)
+}
+
+/// The expression of a line, by its number.
+fn add<'a>(
+    names: &mut Names<'a>,
+    expressions: &mut Expressions<'a>,
+    line: &str,
+) -> Result<usize, Fault> {
+    let Some((name, text)) = line.split_once(" = ") else {
+        return Err(Fault::Form);
+    };
+    if names.get_text(name).is_some() {
+        return Err(Fault::IsNamed);
+    }
+    let (is_sum, operands) = match text.split_once(" + ") {
+        Some(operands) => (true, operands),
+        None => match text.split_once(" * ") {
+            Some(operands) => (false, operands),
+            None => return Err(Fault::Form),
+        },
+    };
+    let left = number_of(names, expressions, operands.0)?;
+    let right = number_of(names, expressions, operands.1)?;
+    let node = if is_sum {
+        Node::Sum(left, right)
+    } else {
+        Node::Product(left, right)
+    };
+    let number = expressions.number(node)?;
+    names.insert_text(name, Own(number))?;
+    Ok(number)
+}
+
+fn main(rt: HostRuntime) -> io::Result<()> {
+    let alloc = rt.alloc();
+    let arena = Bump::new(alloc);
+    let mut names = Names::new(alloc, &arena);
+    let mut expressions = Expressions::new(alloc, &arena);
+    for line in BufReader::new(alloc, rt.reader())?.lines(alloc) {
+        let line = line?;
+        match add(&mut names, &mut expressions, line.as_str()) {
+            Ok(number) => match expressions.value(number) {
+                Some(value) => println!(rt; "{line}: expression {number}, {value}")?,
+                None => println!(rt; "{line}: expression {number}")?,
+            },
+            Err(Fault::Form) => println!(rt; "{line}: not NAME = NAME + NAME")?,
+            Err(Fault::IsNamed) => println!(rt; "{line}: named already")?,
+            Err(Fault::Memory) => println!(rt; "no memory")?,
+        }
+    }
+    println!(rt; "{} expressions", expressions.len())
+}
