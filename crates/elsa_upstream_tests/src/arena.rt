@@ -1,0 +1,119 @@
+//! Things that name their friends, in an arena that is filled through `&self`. A thing owns its name and its list of friends; a friend is named by its number,
+//! since a value that is dropped can't borrow from its own arena.
+ghost use Rattle.std.specs.Prelude.{◌≡◌, IfOk};
+
+use elsa::arena::TypedArena;
+use std::alloc::{AllocError, Global};
+use std::test::Fail;
+
+/// A thing, which owns its name and the list of its friends, by their numbers.
+#[derive(Drop)]
+struct Thing {
+    name: String,
+    friends: Vec<usize>,
+}
+
+/// Things, each with a number.
+#[derive(Drop)]
+struct Things {
+    alloc: Global,
+    all: TypedArena<Thing>,
+}
+
+impl Things {
+    fn new(alloc: Global) -> Result<Things, AllocError> {
+        Ok(Things {
+            alloc,
+            all: TypedArena::new(alloc)?,
+        })
+    }
+
+    /// Adds a thing through `&self`, and returns its number.
+    fn add_thing(&self, name: &str, friends: Vec<usize>) -> Result<usize, AllocError> {
+        let name = String::from_str(self.alloc, name)?;
+        match self.all.push(Thing { name, friends }) {
+            Ok(place) => Ok(place.number()),
+            Err(_thing) => Err(AllocError),
+        }
+    }
+
+    /// The thing itself, borrowed for as long as the arena.
+    fn keep(&self, thing: Thing) -> Result<&Thing, Thing>
+        ensures { IfOk result (λ kept. kept.now ≡ thing) }
+    {
+        self.all.alloc(thing)
+    }
+
+    /// The names of a thing's friends, each with a space behind it.
+    fn friends_of(&self, number: usize) -> Result<String, AllocError> {
+        let mut names = String::new(self.alloc);
+        let Some(thing) = self.all.get(number) else {
+            return Ok(names);
+        };
+        for friend in &thing.friends {
+            if let Some(other) = self.all.get(*friend) {
+                names.push_str(other.name.as_str())?;
+                names.push(' ')?;
+            }
+        }
+        Ok(names)
+    }
+}
+
+/// The five things of upstream's example, each added through one shared borrow.
+fn five(alloc: Global) -> Result<Things, AllocError> {
+    let things = Things::new(alloc)?;
+    let lonely = things.add_thing("lonely", Vec::new(alloc))?;
+    let best_friend = things.add_thing("best friend", vec![in alloc; lonely]?)?;
+    let crowd = things.add_thing("threes a crowd", vec![in alloc; lonely, best_friend]?)?;
+    let rando = things.add_thing("rando", Vec::new(alloc))?;
+    let all = vec![in alloc; lonely, best_friend, crowd, rando]?;
+    things.add_thing("follows everyone", all)?;
+    Ok(things)
+}
+
+/// Whether each thing names the friends that upstream's example prints.
+fn are_friends(alloc: Global) -> Result<bool, AllocError> {
+    let things = five(alloc)?;
+    let wanted = [
+        "",
+        "lonely ",
+        "lonely best friend ",
+        "",
+        "lonely best friend threes a crowd rando ",
+    ];
+    for (number, names) in wanted.iter().enumerate() {
+        if things.friends_of(number)?.as_str() != *names {
+            return Ok(false);
+        }
+    }
+    Ok(things.all.len() == 5)
+}
+
+/// Whether the borrow of a thing stays while others are added.
+fn stays(alloc: Global) -> Result<bool, AllocError> {
+    let things = Things::new(alloc)?;
+    let name = String::from_str(alloc, "lonely")?;
+    let Ok(first) = things.keep(Thing {
+        name,
+        friends: Vec::new(alloc),
+    }) else {
+        return Ok(false);
+    };
+    for _ in 0..100 {
+        things.add_thing("rando", Vec::new(alloc))?;
+    }
+    Ok(first.name.as_str() == "lonely" && things.all.len() == 101)
+}
+
+#[test]
+fn things_lose_their_friends(rt: HostRuntime) -> Result<(), Fail> {
+    assert!(rt; are_friends(rt.alloc())?);
+    Ok(())
+}
+
+#[test]
+fn a_thing_moves_while_others_are_added(rt: HostRuntime) -> Result<(), Fail> {
+    assert!(rt; stays(rt.alloc())?);
+    Ok(())
+}
