@@ -9,7 +9,7 @@ ghost use Rattle.elsa_maps.specs.InsertFault.{IfCause};
 ghost use Rattle.elsa_maps.specs.Lent.{lends_table};
 
 use elsa_once::stable::StableDeref;
-use elsa_tables::{Refusal, Table, insert_with};
+use elsa_tables::{IntoPairs, Refusal, Table, insert_with};
 use std::alloc::{AllocError, Allocator, Global};
 use std::fmt::{self, Debug, Formatter, Write};
 use std::marker::{Model, PhantomData};
@@ -297,6 +297,25 @@ where
         ensures { self.new ≡ T.entries base }
     {
         *self.as_mut() = base;
+    }
+}
+
+impl<R: Copy, K, V, T, A: Allocator + Copy> Frozen<R, K, V, T, A>
+where
+    V: StableDeref<R>,
+    T: IntoPairs<K, V::Borrow>,
+{
+    /// The entries as a list, each once, in the table's order.
+    ///
+    /// Takes memory for the list; where that fails, the map is dropped.
+    pub fn into_tuple_vec(self) -> Result<Vec<(K, V::Borrow), A>, AllocError>
+        ensures entries { IfOk result (λ pairs. pairs.items ≡ self) }
+        ensures distinct { IfOk result (λ pairs. IsDistinct T.same (keys_of pairs.items)) }
+        ensures in_order { IfOk result (λ pairs. T.in_order (keys_of pairs.items)) }
+    {
+        let _count = self.table.len();
+        let (alloc, inner_map) = self.into_parts();
+        inner_map.into_pairs(alloc)
     }
 }
 

@@ -70,7 +70,7 @@ impl<
     /// A map with the content of `map`.
     ///
     /// Takes no memory. `alloc` is for the memory that [`clone`](FrozenMapIn::clone) and
-    /// [`into_tuple_vec`](FrozenMapIn::into_tuple_vec) take: std's map can't be asked for its allocator.
+    /// [`into_tuple_vec`](Frozen::into_tuple_vec) take: std's map can't be asked for its allocator.
     pub fn from_map(alloc: A, arena: R, map: HashMap<K, V::Borrow, S, A>) -> Self
         ensures { result ≡ map.entries }
     {
@@ -246,17 +246,6 @@ impl<
             };
         }
         Ok(FrozenMapIn::from_map(self.alloc, self.arena, copy))
-    }
-
-    /// The entries as a list, each once, in no specified order.
-    ///
-    /// Takes memory for the list; where that fails, the map is dropped.
-    pub fn into_tuple_vec(self) -> Result<Vec<(K, V::Borrow), A>, AllocError>
-        ensures entries { IfOk result (λ pairs. pairs.items ≡ self) }
-        ensures distinct { IfOk result (λ pairs. IsDistinct K.eq (keys_of pairs.items)) }
-    {
-        let (alloc, map) = self.into_parts();
-        map.into_iter().collect(alloc)
     }
 }
 

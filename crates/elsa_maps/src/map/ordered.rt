@@ -48,8 +48,8 @@ impl<R: Copy, K: Ord + Drop, V: StableDeref<R>, A: Allocator + Copy> FrozenBTree
 
     /// A map with the content of `map`.
     ///
-    /// Takes no memory. `alloc` is for the memory that [`clone`](FrozenBTreeMapInIn::clone) and
-    /// [`into_tuple_vec`](FrozenBTreeMapInIn::into_tuple_vec) take: std's map can't be asked for its allocator.
+    /// Takes no memory. `alloc` is for the memory that [`clone`](FrozenBTreeMapIn::clone) and
+    /// [`into_tuple_vec`](Frozen::into_tuple_vec) take: std's map can't be asked for its allocator.
     pub fn from_map(alloc: A, arena: R, map: BTreeMap<K, V::Borrow, A>) -> Self
         ensures { result ≡ map.entries }
     {
@@ -68,7 +68,7 @@ impl<R: Copy, K: Ord + Drop, V: StableDeref<R>, A: Allocator + Copy> FrozenBTree
         self.table.iter()
     }
 
-    /// Each key once, ascending; from the back, descending. Costs as [`iter`](FrozenBTreeMapInIn::iter).
+    /// Each key once, ascending; from the back, descending. Costs as [`iter`](FrozenBTreeMapIn::iter).
     pub fn keys(&self) -> Keys<'_, K, V::Borrow>
         ensures rest { result ≡ keys_of self.now }
         ensures runs { ShowsInOrder (deref {X = K}) }
@@ -77,7 +77,7 @@ impl<R: Copy, K: Ord + Drop, V: StableDeref<R>, A: Allocator + Copy> FrozenBTree
         self.table.keys()
     }
 
-    /// The value's borrow of each entry, ascending by key; from the back, descending. Costs as [`iter`](FrozenBTreeMapInIn::iter).
+    /// The value's borrow of each entry, ascending by key; from the back, descending. Costs as [`iter`](FrozenBTreeMapIn::iter).
     pub fn values(&self) -> Values<'_, K, V::Borrow>
         ensures rest { result ≡ values_of self.now }
         ensures runs { ShowsInOrder (deref {X = V.Borrow}) }
@@ -161,28 +161,6 @@ impl<R: Copy, K: Ord + Drop, V: StableDeref<R>, A: Allocator + Copy> FrozenBTree
         let copy = copied(&self.table)?;
         Ok(FrozenBTreeMapIn::from_map(self.alloc, self.arena, copy))
     }
-
-    /// The entries as a list, each once, ascending by key.
-    ///
-    /// Takes memory for the list; where that fails, the map is dropped.
-    pub fn into_tuple_vec(self) -> Result<Vec<(K, V::Borrow), A>, AllocError>
-        ensures entries { IfOk result (λ pairs. pairs.items ≡ self) }
-        ensures ascending { IfOk result (λ pairs. IsStrictlySortedBy K.cmp (keys_of pairs.items)) }
-    {
-        let (alloc, tree) = self.into_parts();
-        pairs_of(alloc, tree)
-    }
-}
-
-// The tree's entries as a list.
-fn pairs_of<K: Ord + Drop, B: Copy, A: Allocator + Copy>(
-    alloc: A,
-    tree: BTreeMap<K, B, A>,
-) -> Result<Vec<(K, B), A>, AllocError>
-    ensures entries { IfOk result (λ pairs. pairs.items ≡ tree.entries) }
-    ensures ascending { IfOk result (λ pairs. IsStrictlySortedBy K.cmp (keys_of pairs.items)) }
-{
-    tree.into_iter().collect(alloc)
 }
 
 // The tree copied whole: no key is searched for.
@@ -258,7 +236,7 @@ impl<R: Copy, B: Allocator, V: StableDeref<R>, A: Allocator + Copy> FrozenBTreeM
     V,
     A,
 > {
-    /// The value at the text `key`, or `None` exactly if no key of the map reads the same: [`get`](FrozenBTreeMapInIn::get) without a
+    /// The value at the text `key`, or `None` exactly if no key of the map reads the same: [`get`](Frozen::get) without a
     /// `String`. Takes no memory; one search.
     pub fn get_text(&self, key: &str) -> Option<V::Borrow>
         ensures { result
