@@ -11,6 +11,7 @@ mod locked;
 mod ordered_state;
 mod state;
 mod text_keys;
+mod walks;
 
 pub use frozen_btree_map::FrozenBTreeMap;
 pub use frozen_map::FrozenMap;

@@ -31,3 +31,5 @@ mod sharing;
 mod tables;
 #[cfg(test)]
 mod texts;
+#[cfg(test)]
+mod walks;
