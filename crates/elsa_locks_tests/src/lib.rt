@@ -20,6 +20,8 @@ mod no_memory;
 #[cfg(test)]
 mod overlaps;
 #[cfg(test)]
+mod printed;
+#[cfg(test)]
 mod recorder_refusals;
 #[cfg(test)]
 mod recordings;
