@@ -1,3 +1,4 @@
 pub mod Clones
 pub mod Insertions
 pub mod Shared
+pub mod Walks

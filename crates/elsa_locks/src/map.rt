@@ -10,7 +10,9 @@ mod hashed_state;
 mod locked;
 mod ordered_state;
 mod state;
+mod str_keys;
 mod text_keys;
+mod walks;
 
 pub use frozen_btree_map::FrozenBTreeMap;
 pub use frozen_map::FrozenMap;
@@ -18,3 +20,4 @@ pub use hashed_state::MapState;
 pub use locked::Locked;
 pub use ordered_state::TreeState;
 pub use state::State;
+pub use text_keys::TextTable;

@@ -20,6 +20,8 @@ mod no_memory;
 #[cfg(test)]
 mod overlaps;
 #[cfg(test)]
+mod printed;
+#[cfg(test)]
 mod recorder_refusals;
 #[cfg(test)]
 mod recordings;
@@ -31,3 +33,5 @@ mod sharing;
 mod tables;
 #[cfg(test)]
 mod texts;
+#[cfg(test)]
+mod walks;

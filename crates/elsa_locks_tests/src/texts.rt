@@ -1,6 +1,6 @@
-//! A locked hashed map with a hasher of the caller's: text keys asked and inserted by any text, and copies.
+//! Locked maps with text keys, asked and inserted by any text: `String`s and `&str`s, hashed by a hasher of the caller's and in order.
 use elsa_hash::seeded::SeededState;
-use elsa_locks::map::FrozenMap;
+use elsa_locks::map::{FrozenBTreeMap, FrozenMap};
 use std::alloc::{AllocError, Global};
 use std::sync::Wait;
 use std::test::Fail;
@@ -48,5 +48,59 @@ fn is_copied(rt: &impl Wait, map: &Numbers) -> Result<bool, AllocError> {
 fn a_map_with_a_seed_is_copied(rt: HostRuntime) -> Result<(), Fail> {
     let map: Numbers = FrozenMap::with_hasher(rt.alloc(), seeded());
     assert!(rt; *map.insert(&rt, 7, 70)? == 70 && is_copied(&rt, &map)?);
+    Ok(())
+}
+
+type OrderedTexts = FrozenBTreeMap<String, u64>;
+
+// Whether the first value of a text stays, and it alone is found.
+fn keeps_the_first_in_order(rt: &impl Wait, map: &OrderedTexts) -> Result<bool, AllocError> {
+    let kept = *map.insert_text(rt, "one", 1)? == 1 && *map.insert_text(rt, "one", 2)? == 1;
+    Ok(kept && map.get_copy_text(rt, "one") == Some(1) && map.get_copy_text(rt, "on").is_none())
+}
+
+// The least key, which is the least text.
+fn is_least(rt: &impl Wait, map: &OrderedTexts, text: &str) -> Result<bool, AllocError> {
+    Ok(matches!(map.first_key_value_cloned(rt)?, Some((key, _)) if key.as_str() == text))
+}
+
+#[test]
+fn texts_are_lost_or_out_of_order_in_an_ordered_map(rt: HostRuntime) -> Result<(), Fail> {
+    let map: OrderedTexts = FrozenBTreeMap::new(rt.alloc());
+    assert!(rt; keeps_the_first_in_order(&rt, &map)? && map.get_text(&rt, "two")?.is_none());
+    assert!(rt; *map.insert_text(&rt, "four", 4)? == 4 && is_least(&rt, &map, "four")?);
+    Ok(())
+}
+
+// Whether a hashed map of one lifetime is asked by a text of another.
+fn is_asked_hashed(
+    rt: &impl Wait,
+    map: &FrozenMap<&'static str, u64>,
+    key: &str,
+) -> Result<bool, AllocError> {
+    let found = map.get_text(rt, key)?;
+    let is_owner = matches!(found, Some(owner) if *owner == 5);
+    Ok(is_owner && map.get_copy_text(rt, key) == Some(5) && map.get_copy_text(rt, "").is_none())
+}
+
+fn is_asked_in_order(
+    rt: &impl Wait,
+    map: &FrozenBTreeMap<&'static str, u64>,
+    key: &str,
+) -> Result<bool, AllocError> {
+    let found = map.get_text(rt, key)?;
+    let is_owner = matches!(found, Some(owner) if *owner == 5);
+    Ok(is_owner && map.get_copy_text(rt, key) == Some(5) && map.get_copy_text(rt, "").is_none())
+}
+
+#[test]
+fn a_text_that_lives_shorter_than_the_keys_is_not_found(rt: HostRuntime) -> Result<(), Fail> {
+    let key = String::from_str(rt.alloc(), "five")?;
+    let hashed: FrozenMap<&'static str, u64> = FrozenMap::new(rt.alloc());
+    hashed.insert(&rt, "five", 5)?;
+    assert!(rt; is_asked_hashed(&rt, &hashed, key.as_str())?);
+    let ordered: FrozenBTreeMap<&'static str, u64> = FrozenBTreeMap::new(rt.alloc());
+    ordered.insert(&rt, "five", 5)?;
+    assert!(rt; is_asked_in_order(&rt, &ordered, key.as_str())?);
     Ok(())
 }

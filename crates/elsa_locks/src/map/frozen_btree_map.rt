@@ -1,5 +1,6 @@
 //! The ordered map behind a lock.
 ghost use Rattle.std.specs.Prelude.{IfOk};
+ghost use Rattle.std.specs.BTreeMap.Range.{IsLeBy, IsLtBy};
 ghost use Rattle.std.specs.List.Sorted.{IsStrictlySortedBy};
 ghost use Rattle.std.specs.Map.{keys_of};
 ghost use Rattle.std.specs.Iterator.{IsFinite};
@@ -8,6 +9,7 @@ ghost use Rattle.elsa_model.specs.FirstWins.{CloneIsEqual};
 use super::{Locked, TreeState};
 use std::alloc::{AllocError, Allocator, Global};
 use std::collections::BTreeMap;
+use std::ops::RangeBounds;
 use std::sync::{Arc, RwLock, Wait};
 
 /// An ordered map that threads share, in which the first value of a key stays: see [`Locked`] for what runs under the lock.
@@ -28,6 +30,72 @@ impl<K: Ord + Drop, V, A: Allocator + Copy> Locked<K, V, BTreeMap<K, Arc<V, A>, 
         Locked {
             lock: RwLock::new(TreeState::from_map(alloc, map)),
         }
+    }
+
+    /// Calls `f` at the key and the value of each entry, once at each, ascending by key. `O(n)`. Takes no memory.
+    ///
+    /// One read lock is held for the whole walk: insertions wait until it ends, other reads needn't. A call on the same map in `f`
+    /// may wait for ever, also one that only reads.
+    pub fn for_each<F: FnMut(&K, &V) + Drop>(&self, rt: &impl Wait, f: F)
+        requires { F.IsAlwaysCallable f }
+    {
+        self.lock.read(rt).for_each(f)
+    }
+
+    /// Calls `f` at the key and the value of each entry whose key is in the range, once at each, ascending by key.
+    ///
+    /// The range must not begin behind its end, as `5..3` does. `O(log n)`, and `O(1)` on average for each entry. Takes no memory.
+    /// One read lock is held for the whole walk, as in [`for_each`](Locked::for_each): a call on the same map in `f` may wait for ever.
+    pub fn for_each_in_range<G: RangeBounds<K> + Drop, F: FnMut(&K, &V) + Drop>(
+        &self,
+        rt: &impl Wait,
+        range: G,
+        f: F,
+    )
+        requires forward { G.is_forward range (IsLeBy K.cmp) (IsLtBy K.cmp) }
+        requires callable { F.IsAlwaysCallable f }
+    {
+        self.lock.read(rt).for_each_in_range(range, f)
+    }
+
+    /// A clone of each key, each once, ascending. `O(n)`. The keys' `Clone` runs while this call shares the lock.
+    /// `Err` on an allocation failure.
+    pub fn keys_cloned(&self, rt: &impl Wait) -> Result<Vec<K, A>, AllocError>
+    where
+        K: Clone,
+        requires { CloneIsEqual K.is_clone K.eq }
+    {
+        self.lock.read(rt).keys_cloned()
+    }
+
+    /// A clone of the least key and an owner of its value, or `None` if the map is empty. `O(log n)`.
+    ///
+    /// The key's `Clone` runs while this call shares the lock.
+    /// `Err` only where that failed, or where the `Arc` already has the most owners that it can count.
+    pub fn first_key_value_cloned(
+        &self,
+        rt: &impl Wait,
+    ) -> Result<Option<(K, Arc<V, A>)>, AllocError>
+    where
+        K: Clone,
+        V: Drop,
+    {
+        self.lock.read(rt).first_key_value_cloned()
+    }
+
+    /// A clone of the greatest key and an owner of its value, or `None` if the map is empty. `O(log n)`.
+    ///
+    /// The key's `Clone` runs while this call shares the lock.
+    /// `Err` only where that failed, or where the `Arc` already has the most owners that it can count.
+    pub fn last_key_value_cloned(
+        &self,
+        rt: &impl Wait,
+    ) -> Result<Option<(K, Arc<V, A>)>, AllocError>
+    where
+        K: Clone,
+        V: Drop,
+    {
+        self.lock.read(rt).last_key_value_cloned()
     }
 
     /// A map with the same content, which shares the values. Later insertions into either leave the other. `O(n)`.

@@ -59,6 +59,16 @@ impl<K: Eq + Hash + Drop, V, S: BuildHasher, A: Allocator + Copy> Locked<
         }
     }
 
+    /// Calls `f` at the key and the value of each entry, once at each, in no specified order. `O(n)`. Takes no memory.
+    ///
+    /// One read lock is held for the whole walk: insertions wait until it ends, other reads needn't. A call on the same map in `f`
+    /// may wait for ever, also one that only reads.
+    pub fn for_each<F: FnMut(&K, &V) + Drop>(&self, rt: &impl Wait, f: F)
+        requires { F.IsAlwaysCallable f }
+    {
+        self.lock.read(rt).for_each(f)
+    }
+
     /// A clone of each key, each once, in no specified order. `O(n)`. The keys' `Clone` runs while this call shares the lock.
     /// `Err` on an allocation failure.
     pub fn keys_cloned(&self, rt: &impl Wait) -> Result<Vec<K, A>, AllocError>

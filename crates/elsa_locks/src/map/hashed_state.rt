@@ -4,8 +4,10 @@ ghost use Rattle.std.specs.List.{IsDistinct, AllZip};
 ghost use Rattle.std.specs.Map.{keys_of};
 ghost use Rattle.elsa_model.specs.FirstWins.{value_at, IsSameContent, IsEqualMap, IsKeys, CloneIsEqual};
 ghost use Rattle.elsa_locks.specs.Shared.{shown};
+ghost use Rattle.elsa_locks.specs.Walks.{VisitsAll};
 
 use super::State;
+use super::walks::visit;
 use std::alloc::{AllocError, Allocator, Global};
 use std::collections::HashMap;
 use std::hash::{BuildHasher, BuildHasherDefault, FoldHasher, Hash};
@@ -67,6 +69,14 @@ impl<K: Eq + Hash + Drop, V, S: BuildHasher, A: Allocator + Copy> State<
         ensures { result ≡ [] }
     {
         State::over(alloc, HashMap::with_hasher(alloc, hash_builder))
+    }
+
+    /// Calls `f` at the key and the value of each entry, once at each, in no specified order. `O(n)`. Takes no memory.
+    pub fn for_each<F: FnMut(&K, &V) + Drop>(&self, f: F)
+        requires { F.IsAlwaysCallable f }
+        ensures { VisitsAll F.FnMut f self.now }
+    {
+        visit(self.table.iter(), f);
     }
 
     /// A clone of each key, each once, in no specified order. `O(n)`, one request for the list besides the keys' clones.

@@ -4,6 +4,7 @@ ghost use Rattle.std.specs.Prelude.{◌≡◌, Some, true, is_some};
 use super::State;
 use elsa_tables::Table;
 use std::alloc::{AllocError, Allocator, Global};
+use std::fmt::{self, Debug, Formatter, Write};
 use std::sync::{Arc, RwLock, Wait};
 
 /// A map that threads share, in which the first value of a key stays, over a table `T`.
@@ -204,5 +205,19 @@ where
         { take(&mut given)(key) };
         let answer = self.lock.write(rt).get_copy_or_insert_with_key(key, make);
         answer
+    }
+}
+
+/// `{:?}` writes the entries, in the table's order, as of the table itself, under the read lock; `<locked>` while an insertion has the lock
+/// or waits for it. Waits for nobody.
+impl<K, V, T, A: Allocator> Debug for Locked<K, V, T, A>
+where
+    T: Table<K, Arc<V, A>> + Debug,
+{
+    fn fmt<W: Write>(&self, f: &mut Formatter<W>) -> fmt::Result {
+        match self.lock.try_read() {
+            Some(state) => state.fmt(f),
+            None => f.write_str("<locked>"),
+        }
     }
 }

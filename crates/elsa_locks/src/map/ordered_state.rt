@@ -1,17 +1,22 @@
 //! The ordered map under the lock of `FrozenBTreeMap`.
-ghost use Rattle.std.specs.Prelude.{◌≡◌, List, [], Some, None, IfOk, OnErr, OnOk, IsTrue, ◌↔◌, length, ◌+◌, if◌then◌else◌};
+ghost use Rattle.std.specs.Prelude.{◌≡◌, List, [], Some, None, IfOk, MatchOption, OnErr, OnOk, IsTrue, ◌↔◌, length, slice_get, ◌+◌, ◌-◌, ◌<◌, if◌then◌else◌};
 ghost use Rattle.std.specs.Arc.{arc_value};
+ghost use Rattle.std.specs.BTreeMap.Range.{IsLeBy, IsLtBy, entries_between};
 ghost use Rattle.std.specs.Iterator.{Drains, IsFinite};
+ghost use Rattle.std.specs.List.{AllZip};
 ghost use Rattle.std.specs.List.Sorted.{IsStrictlySortedBy};
 ghost use Rattle.std.specs.Map.{keys_of};
 ghost use Rattle.std.specs.Ordering.{eq_by_cmp};
-ghost use Rattle.elsa_model.specs.FirstWins.{value_at, IsSameContent, IsEqualMap, IsCollected, CloneIsEqual};
+ghost use Rattle.elsa_model.specs.FirstWins.{value_at, IsSameContent, IsEqualMap, IsCollected, IsKeys, CloneIsEqual};
 ghost use Rattle.elsa_locks.specs.Shared.{shown};
+ghost use Rattle.elsa_locks.specs.Walks.{VisitsAll, IsCopyOf};
 
 use super::State;
+use super::walks::{copied_entry, visit};
 use elsa_model::for_its_clause;
 use std::alloc::{AllocError, Allocator, Global};
 use std::collections::BTreeMap;
+use std::ops::RangeBounds;
 use std::sync::Arc;
 
 /// An ordered map in which the first value of a key stays. Values are shared as `Arc<V>`. Keys are told apart by their order.
@@ -49,6 +54,76 @@ impl<K: Ord + Drop, V, A: Allocator + Copy> State<K, V, BTreeMap<K, Arc<V, A>, A
         ensures { result ≡ shown map.entries }
     {
         State::over(alloc, map)
+    }
+
+    /// Calls `f` at the key and the value of each entry, once at each, ascending by key. `O(n)`. Takes no memory.
+    pub fn for_each<F: FnMut(&K, &V) + Drop>(&self, f: F)
+        requires { F.IsAlwaysCallable f }
+        ensures { VisitsAll F.FnMut f self.now }
+    {
+        visit(self.table.iter(), f);
+    }
+
+    /// Calls `f` at the key and the value of each entry whose key is in the range, once at each, ascending by key.
+    ///
+    /// The range must not begin behind its end, as `5..3` does. `O(log n)`, and `O(1)` on average for each entry. Takes no memory.
+    pub fn for_each_in_range<G: RangeBounds<K> + Drop, F: FnMut(&K, &V) + Drop>(
+        &self,
+        range: G,
+        f: F,
+    )
+        requires forward { G.is_forward range (IsLeBy K.cmp) (IsLtBy K.cmp) }
+        requires callable { F.IsAlwaysCallable f }
+        ensures { G.has_bounds range → VisitsAll F.FnMut f
+            (entries_between K.cmp (G.start_bound range) (G.end_bound range) self.now) }
+    {
+        visit(self.table.range(range), f);
+    }
+
+    /// A clone of each key, each once, ascending. `O(n)`, one request for the list besides the keys' clones.
+    /// `Err` on an allocation failure.
+    #[tactic(auto, using(crate::proofs::Shared::shows))]
+    pub fn keys_cloned(&self) -> Result<Vec<K, A>, AllocError>
+    where
+        K: Clone,
+        requires { CloneIsEqual K.is_clone K.eq }
+        ensures clones { IfOk result (λ v. AllZip K.is_clone (keys_of self.now) v.items) }
+        ensures keys { IfOk result (λ v.
+            IsKeys (eq_by_cmp K.cmp) (value_at (eq_by_cmp K.cmp) self.now) v.items) }
+    {
+        let mut keys = Vec::with_capacity(self.alloc, self.len())?;
+        for key in self.table.keys() {
+            keys.push(key.clone()?)?;
+        }
+        Ok(keys)
+    }
+
+    /// A clone of the least key and an owner of its value, or `None` if the map is empty. `O(log n)`.
+    ///
+    /// `Err` only where the key's clone failed or one more owner couldn't be made.
+    pub fn first_key_value_cloned(&self) -> Result<Option<(K, Arc<V, A>)>, AllocError>
+    where
+        K: Clone,
+        V: Drop,
+        ensures answer { IfOk result (λ a.
+            MatchOption a (self.now ≡ []) (IsCopyOf K.is_clone (slice_get self.now 0))) }
+        ensures only_there { OnErr result (0 < length self.now) }
+    {
+        copied_entry(self.table.first_key_value())
+    }
+
+    /// A clone of the greatest key and an owner of its value, or `None` if the map is empty. `O(log n)`.
+    ///
+    /// `Err` only where the key's clone failed or one more owner couldn't be made.
+    pub fn last_key_value_cloned(&self) -> Result<Option<(K, Arc<V, A>)>, AllocError>
+    where
+        K: Clone,
+        V: Drop,
+        ensures answer { IfOk result (λ a. MatchOption a (self.now ≡ [])
+            (IsCopyOf K.is_clone (slice_get self.now (length self.now - 1)))) }
+        ensures only_there { OnErr result (0 < length self.now) }
+    {
+        copied_entry(self.table.last_key_value())
     }
 
     /// A map with the same content, which shares the values. `O(n)`. Later insertions into either leave the other.

@@ -10,6 +10,7 @@ ghost use Rattle.elsa_locks.specs.Shared.{shown, Leaves};
 
 use elsa_tables::{Put, Table};
 use std::alloc::{AllocError, Allocator, Global};
+use std::fmt::{self, Debug, Formatter, Write};
 use std::marker::{Model, PhantomData};
 use std::sync::Arc;
 
@@ -338,5 +339,15 @@ where
             (self.new ≡ self.old) × (value_at T.same self.old key ≡ None)) }
     {
         Ok(self.get_copy_or_insert_new(key, value)?.0)
+    }
+}
+
+/// `{:?}` writes each entry once, in the table's order, as of the table itself: `{1: "x"}`.
+impl<K, V, T, A: Allocator> Debug for State<K, V, T, A>
+where
+    T: Table<K, Arc<V, A>> + Debug,
+{
+    fn fmt<W: Write>(&self, f: &mut Formatter<W>) -> fmt::Result {
+        self.table.fmt(f)
     }
 }

@@ -1,33 +1,52 @@
-//! Hashed maps whose keys are `String`s, asked and given values by any text.
+//! Maps whose keys are texts, asked by any text: `String`s, which a text may also be inserted as, and `&str`s.
 ghost use Rattle.std.specs.Prelude.{◌≡◌, true, is_some, IfOk, OnErr};
 ghost use Rattle.std.specs.Option.{option_map};
 ghost use Rattle.std.specs.Arc.{arc_value};
 ghost use Rattle.elsa_locks.specs.Shared.{shown, value_at_text};
 
 use super::{Locked, State};
+use elsa_tables::Table;
 use std::alloc::{AllocError, Allocator};
-use std::collections::HashMap;
+use std::collections::{BTreeMap, HashMap};
 use std::hash::BuildHasher;
 use std::sync::{Arc, Wait};
 
+/// A table whose keys are `String`s, in which any text is looked up. `HashMap` and `BTreeMap` are such tables.
+pub trait TextTable<B, A: Allocator>: Table<String<A>, B> {
+    /// The value at the key that reads as `key` does, or `None` if there is none. One hash and one search, or one search by order.
+    /// Takes no memory.
+    fn find_text(&self, key: &str) -> Option<&B>
+        ensures { option_map (λ b. b.now) result ≡ value_at_text (Self.entries self.now) key.now };
+}
+
+impl<B, S: BuildHasher, A: Allocator + Copy> TextTable<B, A> for HashMap<String<A>, B, S, A> {
+    fn find_text(&self, key: &str) -> Option<&B> {
+        HashMap::get(self, key)
+    }
+}
+
+impl<B, A: Allocator + Copy> TextTable<B, A> for BTreeMap<String<A>, B, A> {
+    fn find_text(&self, key: &str) -> Option<&B> {
+        BTreeMap::get(self, key)
+    }
+}
+
 /// The owner at the key that reads as `key` does, if there is one.
-fn find_text<'m, V, S: BuildHasher, A: Allocator>(
-    table: &'m HashMap<String<A>, Arc<V, A>, S, A>,
+fn find_text<'m, V, A: Allocator, T: TextTable<Arc<V, A>, A>>(
+    table: &'m T,
     key: &str,
 ) -> Option<&'m Arc<V, A>>
     ensures { option_map (λ a. arc_value a.now) result
-        ≡ value_at_text (shown table.now.entries) key.now }
+        ≡ value_at_text (shown (T.entries table.now)) key.now }
 {
-    table.get(key)
+    table.find_text(key)
 }
 
-impl<V, S: BuildHasher, A: Allocator + Copy> State<
-    String<A>,
-    V,
-    HashMap<String<A>, Arc<V, A>, S, A>,
-    A,
-> {
-    /// An owner of the value at the key that reads as `key` does, or `None` if there is none. One hash. Takes no memory.
+impl<V, T, A: Allocator + Copy> State<String<A>, V, T, A>
+where
+    T: TextTable<Arc<V, A>, A>,
+{
+    /// An owner of the value at the key that reads as `key` does, or `None` if there is none. One search. Takes no memory.
     ///
     /// `Err` only where one more owner couldn't be made.
     pub fn get_text(&self, key: &str) -> Result<Option<Arc<V, A>>, AllocError>
@@ -39,7 +58,7 @@ impl<V, S: BuildHasher, A: Allocator + Copy> State<
         find_text(&self.table, key).cloned()
     }
 
-    /// A copy of the value at the key that reads as `key` does, or `None` if there is none. One hash. Takes no memory.
+    /// A copy of the value at the key that reads as `key` does, or `None` if there is none. One search. Takes no memory.
     pub fn get_copy_text(&self, key: &str) -> Option<V>
     where
         V: Copy,
@@ -49,12 +68,10 @@ impl<V, S: BuildHasher, A: Allocator + Copy> State<
     }
 }
 
-impl<V, S: BuildHasher, A: Allocator + Copy> Locked<
-    String<A>,
-    V,
-    HashMap<String<A>, Arc<V, A>, S, A>,
-    A,
-> {
+impl<V, T, A: Allocator + Copy> Locked<String<A>, V, T, A>
+where
+    T: TextTable<Arc<V, A>, A>,
+{
     /// An owner of the value at the key that reads as `key` does, or `None` if there is none. Takes no memory.
     /// `Err` only where the `Arc` already has the most owners that it can count.
     pub fn get_text(&self, rt: &impl Wait, key: &str) -> Result<Option<Arc<V, A>>, AllocError>

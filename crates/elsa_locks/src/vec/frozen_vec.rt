@@ -3,6 +3,7 @@ ghost use Rattle.std.specs.Prelude.{◌≡◌, ◌+◌, IfOk, OnErr, IfSome, IfN
 
 use super::VecState;
 use std::alloc::{AllocError, Allocator, Global};
+use std::fmt::{self, Debug, Formatter, Write};
 use std::marker::Model;
 use std::sync::{Arc, RwLock, Wait};
 
@@ -143,5 +144,15 @@ impl<'a, V: Drop, A: Allocator + Copy> Iter<'a, V, A> {
             self.place = next;
         }
         Ok(found)
+    }
+}
+
+/// `{:?}` writes the items in their order, under the read lock; `<locked>` while a push has the lock or waits for it. Waits for nobody.
+impl<V: Debug, A: Allocator> Debug for FrozenVec<V, A> {
+    fn fmt<W: Write>(&self, f: &mut Formatter<W>) -> fmt::Result {
+        match self.lock.try_read() {
+            Some(state) => state.fmt(f),
+            None => f.write_str("<locked>"),
+        }
     }
 }

@@ -6,6 +6,7 @@ ghost use Rattle.std.specs.Cmp.Lexicographic.{pointwise};
 ghost use Rattle.elsa_locks.specs.Shared.{shown_items};
 
 use std::alloc::{AllocError, Allocator, Global};
+use std::fmt::{self, Debug, Formatter, Write};
 use std::marker::Model;
 use std::sync::Arc;
 
@@ -154,5 +155,12 @@ impl<V: Drop, A: Allocator + Copy> VecState<V, A> {
             list: self.list.clone()?,
             alloc: self.alloc,
         })
+    }
+}
+
+/// `{:?}` writes the items in their order, as of a `Vec` of them: `["x", "y"]`.
+impl<V: Debug, A: Allocator> Debug for VecState<V, A> {
+    fn fmt<W: Write>(&self, f: &mut Formatter<W>) -> fmt::Result {
+        self.list.fmt(f)
     }
 }
