@@ -3,7 +3,7 @@
 //! The word is twice the length, and one more while a thread holds. A read of the length is one load. A push acquires the
 //! word by one exchange, opens a buffer or not, writes the slot of the length, and publishes by a second exchange, which releases
 //! too: these steps are in `push`. How a list begins, with nothing or with a copy, is in `begin`.
-ghost use Rattle.std.specs.Prelude.{◌≡◌, ◌^◌, ◌<◌, [], ◌∷◌, length, Some, slice_get};
+ghost use Rattle.std.specs.Prelude.{◌≡◌, ◌^◌, ◌<◌, ◌≤◌, [], ◌∷◌, drop, length, Some, slice_get};
 ghost use lib.Pointwise.{pointwise};
 ghost use mathlib.Core.List.{IsPrefix};
 ghost use Rattle.elsa_free.specs.Distinct.{EachIsNew};
@@ -24,7 +24,7 @@ use crate::rule::{Log, Nothing, OneWord, PlainRead, ReadGain, ReadLength};
 use crate::tokens::{Author, offer_read};
 use crossbeam_utils::CachePadded;
 use elsa_machine::geometry::locate;
-use elsa_slots::iter::{Iter, walk};
+use elsa_slots::iter::{Iter, walk, walk_from};
 use elsa_slots::slots::{Beside, Buffer, Slots, WrittenPrefix};
 use logbook::{Gained, Offer, Seen, Word};
 use std::alloc::{AllocError, Allocator};
@@ -145,6 +145,21 @@ impl<T: Copy + Drop, A: Allocator + Copy, K: ItemRule<T>> AtomicList<T, A, K> {
         ensures { result ≡ prefix.items }
     {
         walk(&self.slots, prefix, len)
+    }
+
+    /// A walk over the items from a place on that are known to be written. It takes no atomic step.
+    pub fn items_from<'a>(
+        &'a self,
+        prefix: WrittenPrefix<T, Buffer<T, A>>,
+        len: usize,
+        place: usize,
+    ) -> Iter<'a, T, A>
+        requires prefix { prefix.buffer_slots ≡ buffer_slots_of self.now.first.names }
+        requires len { (len ≡ length prefix.items) × (len < 2 ^ 62) }
+        requires place { place ≤ len }
+        ensures { result ≡ drop place prefix.items }
+    {
+        walk_from(&self.slots, prefix, len, place)
     }
 }
 

@@ -1,5 +1,5 @@
 //! A vector together with a pass of it. They belong together by the type, so no call but [`Handle::meet`] has a condition.
-ghost use Rattle.std.specs.Prelude.{◌≡◌, ◌<◌, ◌^◌, ◌+◌, [], ◌∷◌, ◌++◌, length, slice_get, IfOk, IfErr, IfSome};
+ghost use Rattle.std.specs.Prelude.{◌≡◌, ◌<◌, ◌^◌, ◌+◌, [], ◌∷◌, ◌++◌, drop, length, slice_get, IfOk, IfErr, IfSome};
 ghost use mathlib.Core.List.{IsPrefix};
 ghost use Rattle.elsa_free.specs.SharedList.{Apart, Appends, BeginsABuffer, Continues, IsSamePass, copied, entry, items_of, longer, mine};
 ghost use lib.Pointwise.{pointwise};
@@ -113,6 +113,18 @@ impl<'v, T: Copy + Drop, A: Allocator + Copy> Handle<'v, T, A> {
         ensures items { result ≡ items_of self.now.seen }
     {
         self.vector.iter_as(&self.pass)
+    }
+
+    /// The items that came since the handle last looked: it reads the length once, and gives those at or above the length that the handle
+    /// had seen, in order and each once. A push of the handle's own is seen by it, so it isn't among the news, and neither are the
+    /// items that came before it.
+    ///
+    /// It takes no lock and no memory, and never waits. `O(1)`, and so is each item, which takes no atomic step.
+    pub fn news(&mut self) -> Iter<'v, T, A>
+        ensures continues { Continues self.old self.new }
+        ensures items { result ≡ drop (length self.old.seen) (items_of self.new.seen) }
+    {
+        self.vector.news_as(&mut self.pass)
     }
 
     /// An independent vector with the items seen by one read of the length, which have no author there, and a pass of it, which has

@@ -6,7 +6,7 @@
 //! Each call has three forms. `push_as` takes the caller's pass. `push_with_pass` makes a pass and returns it beside the
 //! result: its clauses relate the result to what that pass has seen, and by [`Pass::meet`] the caller relates it to other
 //! results. `push` drops that pass, so its contract keeps only what can be said without one: limits of places and lengths.
-ghost use Rattle.std.specs.Prelude.{◌≡◌, ◌≤◌, ◌<◌, ◌^◌, ◌+◌, [], ◌∷◌, ◌++◌, length, slice_get, IfOk, IfErr, IfSome, IfNone, List, Some, suc, take};
+ghost use Rattle.std.specs.Prelude.{◌≡◌, ◌≤◌, ◌<◌, ◌^◌, ◌+◌, [], ◌∷◌, ◌++◌, drop, length, slice_get, IfOk, IfErr, IfSome, IfNone, List, Some, suc, take};
 ghost use mathlib.Core.List.{IsPrefix};
 ghost use Rattle.elsa_free.specs.SharedList.{Appends, BeginsABuffer, Continues, IsSamePass, entry, items_of, mine};
 
@@ -352,6 +352,19 @@ impl<T: Copy + Drop, A: Allocator + Copy, K: ItemRule<T>> LockFreeFrozenVec<T, A
         ensures items { result ≡ items_of pass.now.seen }
     {
         self.list.items(pass.evidence(), pass.seen_len())
+    }
+
+    /// The items that came since the pass last looked: it reads the length once, by one load, and gives those at or above the length that
+    /// the pass had seen, in order and each once. It takes no lock and no memory, and never waits. `O(1)`, and so is each item, which
+    /// takes no atomic step.
+    pub fn news_as<'a>(&'a self, pass: &mut Pass<T, A, K>) -> Iter<'a, T, A>
+        requires of { pass.old.vector ≡ self.now }
+        ensures continues { Continues pass.old pass.new }
+        ensures items { result ≡ drop (length pass.old.seen) (items_of pass.new.seen) }
+    {
+        let before = pass.seen_len();
+        let len = self.len_as(pass);
+        self.list.items_from(pass.evidence(), len, before)
     }
 
     /// [`get_as`](Self::get_as) with a pass of its own, by one read of the length.

@@ -1,15 +1,17 @@
 -- What the rule of a map's list says of all that was seen of it.
-use Rattle.std.proofs.Common.{◌≡◌, ℕ, zero, suc, ◌+◌, ◌-◌, ◌<◌, ◌≤◌, ◌^◌, Bool, true, false, List, [], ◌∷◌, ◌++◌, length, take, slice_get, Some, refl, ap, sym, ◌∙◌, subst, arith}
+use Rattle.std.proofs.Common.{◌≡◌, ℕ, zero, suc, ◌+◌, ◌-◌, ◌<◌, ◌≤◌, ◌^◌, Bool, true, false, List, [], ◌∷◌, ◌++◌, drop, length, take, slice_get, Some, refl, ap, sym, ◌∙◌, subst, arith}
 use Rattle.std.specs.Prelude.{Option, None, IfSome, Result, Ok, Err, OnOk, OnErr}
+use Rattle.std.specs.Option.{is_some}
+use mathlib.Core.List.{IsPrefix}
 use Rattle.std.proofs.lemmas.List.{length-map, map-append}
 use Rattle.elsa_index_words.specs.declared.entry.Entry.{Entry}
-use Rattle.elsa_index_words.specs.Entries.{EachIsNew, IsAbsent, IsBehind, keys_of}
+use Rattle.elsa_index_words.specs.Entries.{EachIsNew, IsAbsent, IsBehind, key_of, keys_of}
 use Rattle.elsa_index_words.proofs.EntryLemmas.{entry_at}
-use Rattle.elsa_free.specs.Distinct.{one_answer}
+use Rattle.elsa_free.specs.Distinct.{AgreeOnPlaces, one_answer}
 use Rattle.elsa_free.specs.SharedList.{entry, item_of, items_of}
 use Rattle.elsa_free.specs.declared.event.Entry.{Entry as Listed}
-use Rattle.elsa_free.proofs.RuleLemmas.EachNew.{one_to_one}
-use Rattle.elsa_free_map.specs.Entries.{HasAt, Lacks, MayFollow}
+use Rattle.elsa_free.proofs.RuleLemmas.EachNew.{agree_on_places, one_to_one}
+use Rattle.elsa_free_map.specs.Entries.{HasAt, Lacks, MayFollow, pairs_of}
 
 last_at : {A : Type 0} (x : A) (xs : List A) → (y : A) × (slice_get (x ∷ xs) (length xs) ≡ Some y)
 last_at x [] = (x, refl)
@@ -59,6 +61,33 @@ module _ {K V S : Type 0} (equal : K → K → Bool) (hash : S → K → ℕ) wh
     one_place es rule key i j x y at_i at_j is_x is_y =
         one_to_one equal symm (keys_of es) (keys_are_new es rule) i j x.key y.key (key_at es i x at_i) (key_at es j y at_j) (sym (congr key x.key y.key is_x) ∙ is_y)
 
+-- what a beginning of a list has at a place, the list has
+kept_at : {A : Type 0} (xs ys : List A) (i : ℕ) (x : A) → slice_get xs i ≡ Some x → slice_get (xs ++ ys) i ≡ Some x
+kept_at [] ys i x at = absurd (cc at)
+kept_at (y ∷ xs) ys zero x at = at
+kept_at (y ∷ xs) ys (suc i) x at = kept_at xs ys i x at
+
+pub later_at : {A : Type 0} (xs ys : List A) (i : ℕ) (x : A) → IsPrefix xs ys → slice_get xs i ≡ Some x → slice_get ys i ≡ Some x
+later_at {A} xs ys i x p at = subst (λ (l : List A). slice_get l i ≡ Some x) p.1 (kept_at xs p.0 i x at)
+
+keys_prefix : {K V S : Type 0} (xs ys : List (Entry K V S)) → IsPrefix xs ys → IsPrefix (keys_of xs) (keys_of ys)
+keys_prefix xs ys p = (keys_of p.0, sym (map-append key_of xs p.0) ∙ ap keys_of p.1)
+
+-- and what it lacks, its beginnings lack
+pub lacks_before : {K V S : Type 0} (equal : K → K → Bool) (xs ys : List (Entry K V S)) (key : K) → IsPrefix xs ys → Lacks equal ys key → Lacks equal xs key
+lacks_before equal xs ys key p lacks i y at = lacks i y (later_at (keys_of xs) (keys_of ys) i y (keys_prefix xs ys p) at)
+
+-- the keys of two beginnings of a map's list are at one place each
+pub keys_agree : {K V S : Type 0} (equal : K → K → Bool) (hash : S → K → ℕ) (symm : (x y : K) → equal x y ≡ equal y x) (xs ys zs : List (Entry K V S)) → IsPrefix xs zs → IsPrefix ys zs
+    → EachIsNew (MayFollow equal hash) zs → AgreeOnPlaces equal (keys_of xs) (keys_of ys)
+keys_agree equal hash symm xs ys zs p q rule = agree_on_places equal symm (keys_of xs) (keys_of ys) (keys_of zs) (keys_prefix xs zs p) (keys_prefix ys zs q) (keys_are_new equal hash zs rule)
+
+-- the entry at a place is the first of those from there on
+pub pair_at : {K V S : Type 0} (es : List (Entry K V S)) (i : ℕ) (e : Entry K V S) → slice_get es i ≡ Some e → drop i (pairs_of es) ≡ (e.key, e.value) ∷ drop (suc i) (pairs_of es)
+pair_at [] i e at = absurd (cc at)
+pair_at (x ∷ es) zero e at = let same : x ≡ e = cc at in ap (λ y. (y.key, y.value) ∷ pairs_of es) same
+pair_at (x ∷ es) (suc i) e at = pair_at es i e at
+
 -- what a list has at a place isn't lacking in it
 pub not_lacking : {K V S : Type 0} (equal : K → K → Bool) (es : List (Entry K V S)) (key : K) (i : ℕ) (e : Entry K V S) → Lacks equal es key → slice_get es i ≡ Some e → equal key e.key ≡ true → ⊥
 not_lacking equal es key i e lacks at is = one_answer (sym (lacks i e.key (key_at es i e at)) ∙ is)
@@ -95,6 +124,10 @@ on_ok (Err y) x P e h = absurd (cc e)
 pub on_err : {A E : Type 0} (r : Result A E) (x : E) (P : Type 0) → r ≡ Err x → OnErr r P → P
 on_err (Ok y) x P e h = absurd (cc e)
 on_err (Err y) x P e h = h
+
+pub some_has : {A : Type 0} (o : Option A) (P : A → Type 0) → IfSome o P → is_some o ≡ true → (x : A) × P x
+some_has None P h e = absurd (one_answer e)
+some_has (Some x) P h e = (x, h)
 
 pub some_at : {A : Type 0} (o : Option A) (x : A) (P : A → Type 0) → o ≡ Some x → IfSome o P → P x
 some_at None x P e h = absurd (cc e)

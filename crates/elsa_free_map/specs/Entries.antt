@@ -1,5 +1,5 @@
 -- What a map's list holds: entries of a key and a value, each with evidence of the row in which its key was entered.
-use Rattle.std.specs.Prelude.{◌≡◌, ℕ, ◌+◌, ◌*◌, ◌/◌, ◌%◌, ◌^◌, ◌<◌, ◌≤◌, Bool, true, false, List, [], ◌∷◌, ◌++◌, length, slice_get, Some}
+use Rattle.std.specs.Prelude.{◌≡◌, ℕ, ◌+◌, ◌*◌, ◌/◌, ◌%◌, ◌^◌, ◌<◌, ◌≤◌, Bool, true, false, List, [], ◌∷◌, ◌++◌, length, map, slice_get, Some}
 use Rattle.elsa_index_words.specs.declared.entry.Entry.{Entry}
 use Rattle.elsa_index_words.specs.Entries.{IsAbsent, IsBehind, keys_of}
 use Rattle.elsa_free.specs.SharedList.{View, mine}
@@ -9,6 +9,14 @@ abbrev pub short : ℕ → ℕ
 short hash = (hash * 11400714819323198485) % 2 ^ 64 / 2 ^ 32
 
 module _ {K V S : Type 0} where
+  -- an entry as a walk gives it: its key and its value
+  abbrev pub pair_of : Entry K V S → K × V
+  pair_of e = (e.key, e.value)
+
+  -- entries as a walk gives them
+  abbrev pub pairs_of : List (Entry K V S) → List (K × V)
+  pairs_of es = map pair_of es
+
   -- what may come behind a list: an entry whose key is new, and found by its own evidence as all before it are; up to the greatest length
   abbrev pub MayFollow : (K → K → Bool) → (S → K → ℕ) → List (Entry K V S) → Entry K V S → Type 0
   MayFollow equal hash es e = IsBehind equal hash es e × (length es + 1 < 2 ^ 32)

@@ -2,9 +2,12 @@
 ghost use Rattle.std.specs.Prelude.{◌≡◌, ◌≤◌, true, false, ℕ, IfOk, IfErr, IfSome, IfNone, Some, length, slice_get};
 ghost use mathlib.Core.List.{IsPrefix};
 ghost use Rattle.elsa_free.specs.SharedList.{Apart, Continues, IsSamePass, items_of, longer, mine};
+ghost use Rattle.elsa_free.specs.Distinct.{AgreeOnPlaces, IsOneToOne};
 ghost use Rattle.elsa_index_words.specs.declared.entry.Entry.{Entry};
-ghost use Rattle.elsa_free_map.specs.Entries.{Came, Has, HasAt, Lacks};
+ghost use Rattle.elsa_index_words.specs.Entries.{keys_of};
+ghost use Rattle.elsa_free_map.specs.Entries.{Came, Has, HasAt, Lacks, pairs_of};
 
+use crate::iter::MapIter;
 use crate::map::{Inserted, LockFreeFrozenMap, MapPass};
 use std::alloc::{AllocError, Allocator, Global};
 use std::hash::{BuildHasher, BuildHasherDefault, FoldHasher, Hash};
@@ -77,6 +80,16 @@ impl<
         self.map.get_as(&mut self.pass, key)
     }
 
+    /// Whether an entry has the key: `false` only if no entry that the handle has then seen has it. It takes no lock and no memory, and
+    /// never waits: [`contains_key_as`](LockFreeFrozenMap::contains_key_as).
+    pub fn contains_key(&mut self, key: K) -> bool
+        ensures continues { Continues self.old self.new }
+        ensures present { result ≡ true → (v : V) × Has K.eq (items_of self.new.seen) key v }
+        ensures absent { result ≡ false → Lacks K.eq (items_of self.new.seen) key }
+    {
+        self.map.contains_key_as(&mut self.pass, key)
+    }
+
     /// Inserts a key with its value, if no thread has inserted an equal key. It waits while another thread pushes, where the handle has
     /// not seen the key. `Err`: an allocation failed, or the map is full; nothing is inserted, and the same insertion may
     /// succeed later: [`insert_as`](LockFreeFrozenMap::insert_as).
@@ -97,6 +110,36 @@ impl<
         self.map.insert_as(rt, &mut self.pass, key, value)
     }
 
+    /// Inserts a key with the value that `make` returns, if no thread has inserted an equal key. Where the handle finds the key, its value
+    /// is returned, and `make` is not called. Else `make` runs, under no lock, and may use the map by another handle; its value is
+    /// dropped where another thread was then first with this key. It waits while another thread pushes, where the key was not found.
+    /// `Err`: an allocation failed, or the map is full; nothing is inserted, and the same insertion may succeed later:
+    /// [`get_or_insert_with_as`](LockFreeFrozenMap::get_or_insert_with_as).
+    pub fn get_or_insert_with<R: Wait, F: FnOnce() -> V + Drop>(
+        &mut self,
+        rt: &R,
+        key: K,
+        make: F,
+    ) -> Result<Inserted<V>, AllocError>
+        requires callable { Lacks K.eq (items_of self.old.seen) key → F.pre make }
+
+        // The pass is the same, later. The value that stands is at the place: what `make` returned, or there already.
+        ensures same { IsSamePass self.old self.new }
+        ensures seen { IsPrefix self.old.seen self.new.seen }
+        ensures stands { IfOk result (λ r. HasAt K.eq (items_of self.new.seen) r.place key r.value) }
+        ensures came { IfOk result (λ r. Came r.is_new self.old self.new r.place) }
+        ensures made { IfOk result (λ r. r.is_new ≡ true → F.post make r.value) }
+
+        // What the handle had seen of the key stays, and nothing is pushed.
+        ensures known { IfOk result (λ r. (j : ℕ) (v : V) →
+            HasAt K.eq (items_of self.old.seen) j key v →
+            (r.place ≡ j) × (r.is_new ≡ false)) }
+        ensures refused { IfErr result (λ e. mine self.new ≡ mine self.old) }
+    {
+        self.map
+            .get_or_insert_with_as(rt, &mut self.pass, key, make)
+    }
+
     /// How many entries the map has, by one atomic read of the length. It takes no lock and no memory, and never waits. `O(1)`.
     pub fn len(&mut self) -> usize
         ensures continues { Continues self.old self.new }
@@ -115,6 +158,31 @@ impl<
         ensures absent { IfNone result (length self.new.seen ≤ place) }
     {
         self.map.get_by_place_as(&mut self.pass, place)
+    }
+
+    /// The entries that the handle has seen, each once, in the order of their insertion. It reads no length: no atomic step, no lock and
+    /// no memory. `O(1)`, and so is each entry. Insertions that the handle hasn't seen are not among them; [`len`](Self::len) sees them.
+    pub fn iter(&self) -> MapIter<'m, K, V, S, A>
+        ensures items { result ≡ pairs_of (items_of self.now.seen) }
+    {
+        self.map.iter_as(&self.pass)
+    }
+
+    /// Equal keys of what the handle has seen are at one place. It does nothing when it runs.
+    pub fn one_to_one(&self)
+        ensures { IsOneToOne K.eq (keys_of (items_of self.now.seen)) }
+    {
+        self.map.one_to_one_as(&self.pass);
+    }
+
+    /// Equal keys of what two handles of a map have seen are at one place, whether they met or not, since each has seen a beginning of
+    /// one list. It takes no memory and no atomic step. `O(1)`.
+    pub fn same_place(&self, other: &MapHandle<'_, K, V, S, A>)
+        requires of { self.now.vector ≡ other.now.vector }
+        ensures { AgreeOnPlaces K.eq (keys_of (items_of self.now.seen))
+            (keys_of (items_of other.now.seen)) }
+    {
+        self.map.same_place_as(&self.pass, &other.pass);
     }
 
     /// Both handles of a map take the longer of what they have seen. Their own places stay, and no place is of both. It takes no

@@ -3,4 +3,5 @@
 
 pub mod entries;
 pub mod handle;
+pub mod iter;
 pub mod map;

@@ -7,10 +7,14 @@
 ghost use Rattle.std.specs.Prelude.{◌≡◌, ◌+◌, ◌-◌, ◌<◌, ◌≤◌, ◌^◌, [], ◌∷◌, ◌++◌, true, false, IfOk, IfErr, IfSome, IfNone, OnOk, OnErr, ℕ, Some, length, slice_get};
 ghost use mathlib.Core.List.{IsPrefix};
 ghost use Rattle.elsa_free.specs.SharedList.{BeginsABuffer, Continues, IsSamePass, entry, items_of, mine};
+ghost use Rattle.elsa_free.specs.Distinct.{AgreeOnPlaces, IsOneToOne};
 ghost use Rattle.elsa_index_words.specs.declared.entry.Entry.{Entry};
-ghost use Rattle.elsa_free_map.specs.Entries.{Came, Has, HasAt, Lacks};
+ghost use Rattle.elsa_index_words.specs.Entries.{keys_of};
+ghost use Rattle.elsa_free_map.specs.Entries.{Came, Has, HasAt, Lacks, pairs_of};
 
 use crate::entries::{Entries, EntriesPass, Index, NewKeys, Shown};
+use crate::handle::MapHandle;
+use crate::iter::{MapIter, walk};
 use elsa_free::hold::Hold;
 use elsa_free::lock_free::LockFreeFrozenVec;
 use elsa_index_words::entry::{Entry, entered, lookup, regrown};
@@ -82,6 +86,15 @@ impl<
         self.list.pass()
     }
 
+    /// The map with a new pass of it, which has seen nothing and has inserted nothing. It takes no memory and no atomic step.
+    pub fn handle(&self) -> MapHandle<'_, K, V, S, A>
+        ensures of { result.vector ≡ self.now }
+        ensures nothing_seen { result.seen ≡ [] }
+        ensures nothing_mine { mine result ≡ [] }
+    {
+        MapHandle::of(self, self.pass())
+    }
+
     /// The place of a key among the entries that the pass has seen. No atomic read of the length, no lock and no memory.
     fn place_in(&self, pass: &MapPass<K, V, S, A>, key: K) -> Option<usize>
         requires of { pass.now.vector ≡ self.now }
@@ -134,6 +147,17 @@ impl<
             return Some(self.list.item_as(pass, place).value);
         }
         None
+    }
+
+    /// Whether an entry has the key: `false` only if no entry that the pass has then seen has it. It reads, takes and costs what
+    /// [`find_as`](Self::find_as) does.
+    pub fn contains_key_as(&self, pass: &mut MapPass<K, V, S, A>, key: K) -> bool
+        requires of { pass.old.vector ≡ self.now }
+        ensures continues { Continues pass.old pass.new }
+        ensures present { result ≡ true → (v : V) × Has K.eq (items_of pass.new.seen) key v }
+        ensures absent { result ≡ false → Lacks K.eq (items_of pass.new.seen) key }
+    {
+        self.get_as(pass, key).is_some()
     }
 
     /// Pushes an entry in the open buffer that the length is in.
@@ -335,6 +359,45 @@ impl<
         self.insert_absent(rt, pass, key, value)
     }
 
+    /// Inserts a key with the value that `make` returns, if no thread has inserted an equal key.
+    ///
+    /// The key is looked up first, as by [`find_as`](Self::find_as). Where it is found its value is returned, and `make` is not called.
+    /// Else `make` runs, under no lock, so it may use the map by another pass; its value is then inserted as by
+    /// [`insert_as`](Self::insert_as), with the same cost, wait and `Err`. If another thread was first with this key, that thread's
+    /// value stands, and the one that `make` returned is dropped.
+    pub fn get_or_insert_with_as<R: Wait, F: FnOnce() -> V + Drop>(
+        &self,
+        rt: &R,
+        pass: &mut MapPass<K, V, S, A>,
+        key: K,
+        make: F,
+    ) -> Result<Inserted<V>, AllocError>
+        requires of { pass.old.vector ≡ self.now }
+        requires callable { Lacks K.eq (items_of pass.old.seen) key → F.pre make }
+
+        // The pass is the same, later. The value that stands is at the place: what `make` returned, or there already.
+        ensures same { IsSamePass pass.old pass.new }
+        ensures seen { IsPrefix pass.old.seen pass.new.seen }
+        ensures stands { IfOk result (λ r. HasAt K.eq (items_of pass.new.seen) r.place key r.value) }
+        ensures came { IfOk result (λ r. Came r.is_new pass.old pass.new r.place) }
+        ensures made { IfOk result (λ r. r.is_new ≡ true → F.post make r.value) }
+
+        // What the pass had seen of the key stays, and nothing is pushed.
+        ensures known { IfOk result (λ r. (j : ℕ) (v : V) → HasAt K.eq (items_of pass.old.seen) j key v →
+            (r.place ≡ j) × (r.is_new ≡ false)) }
+        ensures refused { IfErr result (λ e. mine pass.new ≡ mine pass.old) }
+    {
+        if let Some(place) = self.find_as(pass, key) {
+            self.one_to_one_as(pass);
+            return Ok(Inserted {
+                value: self.list.item_as(pass, place).value,
+                place,
+                is_new: false,
+            });
+        }
+        self.insert_absent(rt, pass, key, make())
+    }
+
     /// How many entries the map has, by one atomic read of the length. It takes no lock and no memory, and never waits. `O(1)`.
     pub fn len_as(&self, pass: &mut MapPass<K, V, S, A>) -> usize
         requires of { pass.old.vector ≡ self.now }
@@ -365,6 +428,34 @@ impl<
             return Some((entry.key, entry.value));
         }
         None
+    }
+
+    /// The entries that the pass has seen, each once, in the order of their insertion. It reads no length: no atomic step, no lock and no
+    /// memory. `O(1)`, and so is each entry. Insertions that the pass hasn't seen are not among them; [`len_as`](Self::len_as) sees them.
+    pub fn iter_as(&self, pass: &MapPass<K, V, S, A>) -> MapIter<'_, K, V, S, A>
+        requires of { pass.now.vector ≡ self.now }
+        ensures items { result ≡ pairs_of (items_of pass.now.seen) }
+    {
+        walk(&self.list, pass)
+    }
+
+    /// Equal keys of what a pass has seen are at one place. It does nothing when it runs.
+    pub fn one_to_one_as(&self, pass: &MapPass<K, V, S, A>)
+        ensures { IsOneToOne K.eq (keys_of (items_of pass.now.seen)) }
+    {
+        MapPass::obeys_rule(pass);
+    }
+
+    /// Equal keys of what two passes of a map have seen are at one place, whether the passes met or not, since each has seen a
+    /// beginning of one list. It takes no memory and no atomic step. `O(1)`.
+    pub fn same_place_as(&self, pass: &MapPass<K, V, S, A>, other: &MapPass<K, V, S, A>)
+        requires of { pass.now.vector ≡ other.now.vector }
+        ensures { AgreeOnPlaces K.eq (keys_of (items_of pass.now.seen))
+            (keys_of (items_of other.now.seen)) }
+    {
+        let (mut one, mut two) = (pass.again(), other.again());
+        one.meet(&mut two);
+        one.obeys_rule();
     }
 }
 

@@ -2,8 +2,12 @@
 #![tactic(auto)]
 
 #[cfg(test)]
+mod made_tests;
+#[cfg(test)]
 mod refusal_tests;
 #[cfg(test)]
 mod thread_tests;
 #[cfg(test)]
 mod value_tests;
+#[cfg(test)]
+mod walk_tests;

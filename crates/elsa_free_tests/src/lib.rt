@@ -9,6 +9,8 @@ mod lock_free_tests;
 #[cfg(test)]
 mod machine_tests;
 #[cfg(test)]
+mod news_tests;
+#[cfg(test)]
 mod no_memory;
 #[cfg(test)]
 mod pass_tests;

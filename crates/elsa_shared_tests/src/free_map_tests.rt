@@ -2,7 +2,7 @@
 ghost use Rattle.std.specs.Prelude.{◌≡◌};
 
 use elsa::SeededState;
-use elsa::sync::{LockFreeFrozenMap, MapHandle};
+use elsa::sync::{LockFreeFrozenMap, MapHandle, MapIter};
 use std::alloc::AllocError;
 use std::sync::Wait;
 use std::test::Fail;
@@ -30,6 +30,30 @@ fn finds_by_a_handle(rt: &impl Wait, ages: &Ages) -> Result<bool, AllocError> {
     Ok(is_there && place == 1 && handle.len() == 2 && handle.get_by_place(1) == Some(("bob", 20)))
 }
 
+/// Whether the calls by a pass contain what was inserted, make a value for an absent key alone, and walk over all in order.
+fn walks_by_a_pass(rt: &impl Wait, ages: &Ages) -> Result<bool, AllocError> {
+    let mut pass = ages.pass();
+    let made = ages.get_or_insert_with_as(rt, &mut pass, "eve", || 50)?;
+    let kept = ages.get_or_insert_with_as(rt, &mut pass, "eve", || 60)?;
+    let contains =
+        ages.contains_key_as(&mut pass, "eve") && !ages.contains_key_as(&mut pass, "zoe");
+    ages.one_to_one_as(&pass);
+    ages.same_place_as(&pass, &ages.pass());
+    let last = ages.iter_as(&pass).last();
+    Ok(made.is_new && !kept.is_new && kept.value == 50 && contains && last == Some(("eve", 50)))
+}
+
+/// Whether a handle of a map with three entries does the same.
+fn walks_by_a_handle(rt: &impl Wait, ages: &Ages) -> Result<bool, AllocError> {
+    let mut handle = ages.handle();
+    let made = handle.get_or_insert_with(rt, "fay", || 70)?;
+    let contains = handle.contains_key("fay") && !handle.contains_key("zoe");
+    handle.one_to_one();
+    handle.same_place(&ages.handle());
+    let mut walk: MapIter<'_, &'static str, u64> = handle.iter();
+    Ok(made.place == 3 && contains && walk.next() == Some(("ann", 30)) && walk.size_hint().0 == 3)
+}
+
 /// Whether a handle that has seen nothing has met one that has.
 fn meets(ages: &Ages) -> bool {
     let mut seen = MapHandle::of(ages, ages.pass());
@@ -46,6 +70,15 @@ fn a_map_without_locks_keeps_the_first_value_of_a_key(rt: HostRuntime) -> Result
     assert!(rt; finds_by_a_pass(&rt, &ages)?);
     assert!(rt; finds_by_a_handle(&rt, &ages)?);
     assert!(rt; meets(&ages));
+    Ok(())
+}
+
+#[test]
+fn a_map_without_locks_is_walked_over_and_makes_values(rt: HostRuntime) -> Result<(), Fail> {
+    let ages = Ages::new(rt.alloc())?;
+    assert!(rt; finds_by_a_pass(&rt, &ages)? && finds_by_a_handle(&rt, &ages)?);
+    assert!(rt; walks_by_a_pass(&rt, &ages)?);
+    assert!(rt; walks_by_a_handle(&rt, &ages)?);
     Ok(())
 }
 

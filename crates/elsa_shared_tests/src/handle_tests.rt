@@ -32,6 +32,13 @@ fn is_cloned(handle: &mut Handle<'_, u64>) -> Result<bool, AllocError>
     Ok(walks(&copied) && handle.equals(&mut copied))
 }
 
+/// Whether a handle and a pass that have seen nothing are told the one item of a vector, once.
+fn tells_news(vector: &Vector) -> bool {
+    let (mut handle, mut pass) = (vector.handle(), vector.pass());
+    let first = handle.news().last() == Some(7) && vector.news_as(&mut pass).last() == Some(7);
+    first && handle.news().next().is_none() && vector.news_as(&mut pass).next().is_none()
+}
+
 /// Whether a handle that has seen nothing has seen one item where it met one that has.
 fn meets(vector: &Vector, pass: Pass<u64>) -> bool
     requires { pass.vector ≡ vector.now }
@@ -48,6 +55,7 @@ fn a_handle_does_each_of_its_calls(rt: HostRuntime) -> Result<(), Fail> {
     let mut handle = vector.handle();
     assert!(rt; pushes_and_reads(&rt, &mut handle) && walks(&handle));
     assert!(rt; is_cloned(&mut handle)?);
+    assert!(rt; tells_news(&vector));
     assert!(rt; meets(&vector, handle.into_pass()));
     Ok(())
 }

@@ -1,4 +1,4 @@
-use Rattle.std.proofs.Common.{◌≡◌, ◌<◌, ◌^◌, length, fold, sym, ◌∙◌, subst, arith}
+use Rattle.std.proofs.Common.{fold, sym, ◌∙◌, arith}
 use Rattle.std.proofs.lemmas.List.{length-map}
 use Rattle.elsa_free.specs.SharedList.{item_of, items_of}
 use Rattle.elsa_free_map.specs.Entries.{short}
