@@ -7,5 +7,5 @@ use Rattle.boxcar.specs.Table.{id_at}
 use Rattle.elsa_arena.specs.declared.arena.Place.{Place}
 
 -- the place is in a row of the arena, and its value is in a slot of that row
-abbrev pub IsOf : {T A : Type 0} → List Named → Place T A → Type 0
+abbrev pub IsOf : {T A Q : Type 0} → List Named → Place T A Q → Type 0
 IsOf arena p = (p.row < length arena) × (p.open.of ≡ id_at arena p.row) × (p.slot < length p.open.value.items) × (p.item.of ≡ id_at p.open.value.items p.slot)

@@ -4,5 +4,5 @@
 pub mod map;
 
 /// A list that grows through `&self`: `push`, `get`, `at`, `len`, `iter`.
-pub use elsa_arena::arena::TypedArena as FrozenVec;
+pub use elsa_arena::arena::{AnyValue, TypedArena as FrozenVec, ValueRule};
 pub use map::{CellFault, FrozenMap, InUse};
