@@ -20,7 +20,7 @@ all_front P xs ys h k d lt = subst P (get_or-append xs ys d k lt) (h k d (omega 
 pub all_taken : {X : Type 0} (P : X → Type 0) (xs : List X) (n : ℕ) → length xs ≤ n → All P (take n xs) → All P xs
 all_taken P xs n l h = All-same P xs (take n xs) (sym (take_all n xs l)) h
 
-get_within : {X : Type 0} (P : X → Type 0) (xs : List X) (i : ℕ) → IsSomeAnd (slice_get xs i) P → i < length xs
+pub get_within : {X : Type 0} (P : X → Type 0) (xs : List X) (i : ℕ) → IsSomeAnd (slice_get xs i) P → i < length xs
 get_within P [] i h = absurd h
 get_within P (x ∷ xs) zero h = omega arith
 get_within P (x ∷ xs) (suc i) h = let k : i < length xs = get_within P xs i h in omega arith
@@ -57,7 +57,7 @@ test_off k n e = grind (arith, nat_tests)
 pub sum_zero : {X : Type 0} (f : X → ℕ) (xs : List X) → All (λ x. f x ≡ 0) xs → sum_by f xs ≡ 0
 sum_zero f xs h = let most = sum_by-le f 0 xs (λ k d lt. let z = h k d lt in omega (arith, z)) in omega (arith, most)
 
-each_zero : {X : Type 0} (f : X → ℕ) (xs : List X) → sum_by f xs ≡ 0 → All (λ x. f x ≡ 0) xs
+pub each_zero : {X : Type 0} (f : X → ℕ) (xs : List X) → sum_by f xs ≡ 0 → All (λ x. f x ≡ 0) xs
 each_zero f xs z k d lt = let most = get_or-le-sum_by f xs k d lt in omega (arith, most, z)
 
 rises_front : {C R : Type 0} (rs : List (ℕ × C × R)) (r : ℕ × C × R) → Rises (rs ++ r ∷ []) → Rises rs

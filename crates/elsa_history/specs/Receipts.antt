@@ -3,7 +3,7 @@
 -- a command and a reply. An entry of the history is a caller's number, a command and a reply, and its place is where it
 -- stands. Receipts and history are read here as they lie side by side: no entry without its one receipt, no receipt that
 -- the history doesn't bear out, and no caller whose calls stand in another order than the one in which it made them.
-use Rattle.std.specs.Prelude.{◌≡◌, ◌-◌, ◌<◌, ◌≤◌, ◌==◌, ◌≢◌, ℕ, Bool, true, List, [], ◌∷◌, ◌++◌, All, AllPairs, count_by, length, slice_get, sum_by, IfSome, IsSomeAnd}
+use Rattle.std.specs.Prelude.{◌≡◌, ◌-◌, ◌<◌, ◌≤◌, ◌==◌, ◌≢◌, ℕ, Bool, true, List, [], ◌∷◌, ◌++◌, All, AllPairs, count_by, length, slice_get, sum_by, Some, IfSome, IsSomeAnd}
 
 -- how many of a pass's receipts are for the place
 abbrev pub receipts_for : {C R : Type 0} → ℕ → List (ℕ × C × R) → ℕ
@@ -56,3 +56,7 @@ EndsElsewhere place receipts = IfSome (slice_get receipts (length receipts - 1))
 -- without its last receipt, which was for the place and had that command and reply, the old pass is the new one
 abbrev pub IsTakenFrom : {C R : Type 0} → ℕ → C × R → ℕ × List (ℕ × C × R) → ℕ × List (ℕ × C × R) → Type 0
 IsTakenFrom place call old new = (old.0 ≡ new.0) × (old.1 ≡ new.1 ++ (place, call.0, call.1) ∷ [])
+
+-- where the list has that number for a place, no pass has a receipt for it
+abbrev pub KnowsWhoLacks : {C R : Type 0} → ℕ → List ℕ → List (ℕ × List (ℕ × C × R)) → Type 0
+KnowsWhoLacks nobody owners passes = (place : ℕ) → slice_get owners place ≡ Some nobody → receipts_at place passes ≡ 0

@@ -78,7 +78,8 @@ impl<C: Core, A: Allocator + Copy> Recorder<C, A> {
     /// Ends the recording. `Ok` exactly if the receipts of the passes are the history; `CloseFault` hands it out otherwise,
     /// and says whether a pass is missing or one of another recorder is among them. Where both is so, it says the latter.
     ///
-    /// Takes no memory and no lock, since the owner has the recorder alone. Entries times passes.
+    /// Takes no lock, since the owner has the recorder alone. With two passes or more it asks for 8 bytes an entry, to note who has its
+    /// receipt: entries plus receipts. Where that is refused, or a pass is of another recorder: entries times passes at most.
     pub fn close(self, passes: Vec<RecordPass<C, A>, A>) -> Result<History<C, A>, CloseFault<C, A>>
         // The receipts are the history, so it has one entry for each accepted call of these passes.
         ensures ok { IfOk result (λ h. AreReceipts C.Command.eq C.Reply.eq passes.items h.1) }
@@ -101,9 +102,9 @@ impl<C: Core, A: Allocator + Copy> Recorder<C, A> {
             f ≡ CloseFault.Receipts ReceiptsFault.ForeignPass h →
             AreOf C.Command.eq C.Reply.eq passes.items h.1 → ⊥) }
     {
-        let Recorder { lock, alloc: _ } = self;
+        let Recorder { lock, alloc } = self;
         let history = lock.into_inner();
-        let Some(count) = count_receipts(passes, history.entries()) else {
+        let Some(count) = count_receipts(alloc, passes, history.entries()) else {
             return Err(CloseFault::Receipts(ReceiptsFault::ForeignPass, history));
         };
         if count != history.entries().len() {

@@ -11,7 +11,7 @@ use bumpalo::Bump;
 use elsa_maps::map::FrozenMap;
 use elsa_once::stable::Own;
 use std::alloc::{Allocator, Global};
-use std::hash::{BuildHasherDefault, FoldHasher};
+use std::hash::{BuildHasher, BuildHasherDefault, FoldHasher};
 use std::marker::Model;
 
 /// What is made of a text: its first character as a slice, or the empty text.
@@ -53,12 +53,16 @@ pub enum LoadFault {
 }
 
 /// Texts and resources by path. The caller places the paths in the arena.
-pub struct ResourceCache<'a, A: Allocator + Copy = Global> {
-    texts: FrozenMap<'a, &'a str, String, BuildHasherDefault<FoldHasher>, A>,
-    resources: FrozenMap<'a, &'a str, Own<Resource<'a>>, BuildHasherDefault<FoldHasher>, A>,
+pub struct ResourceCache<
+    'a,
+    A: Allocator + Copy = Global,
+    S: BuildHasher = BuildHasherDefault<FoldHasher>,
+> {
+    texts: FrozenMap<'a, &'a str, String, S, A>,
+    resources: FrozenMap<'a, &'a str, Own<Resource<'a>>, S, A>,
 }
 
-impl<'a, A: Allocator + Copy> Model for ResourceCache<'a, A> {
+impl<'a, A: Allocator + Copy, S: BuildHasher> Model for ResourceCache<'a, A, S> {
     ghost use Rattle.std.specs.Prelude.{List, ℕ};
     ghost use Rattle.std.specs.Borrow.{Bor};
     ghost use Rattle.elsa_interner.specs.Cached.{Cached};
@@ -69,7 +73,7 @@ impl<'a, A: Allocator + Copy> Model for ResourceCache<'a, A> {
     ghost view = { λ c. record { texts = c.texts; resources = c.resources } };
 }
 
-impl<'a, A: Allocator + Copy> Drop for ResourceCache<'a, A> {
+impl<'a, A: Allocator + Copy, S: BuildHasher + Drop> Drop for ResourceCache<'a, A, S> {
     fn drop(self) {
         let ResourceCache {
             texts: _texts,
@@ -80,13 +84,30 @@ impl<'a, A: Allocator + Copy> Drop for ResourceCache<'a, A> {
 
 impl<'a, A: Allocator + Copy> ResourceCache<'a, A> {
     /// A cache without paths, over `arena` for the texts and resources and `alloc` for the tables. Takes no memory.
+    ///
+    /// The paths are hashed without a secret; where strangers choose them, take [`with_hashers`](ResourceCache::with_hashers).
     pub fn new(alloc: A, arena: &'a Bump) -> Self
         ensures texts { result.texts ≡ [] }
         ensures resources { result.resources ≡ [] }
     {
+        ResourceCache::with_hashers(
+            alloc,
+            arena,
+            BuildHasherDefault::new(),
+            BuildHasherDefault::new(),
+        )
+    }
+}
+
+impl<'a, A: Allocator + Copy, S: BuildHasher> ResourceCache<'a, A, S> {
+    /// A cache without paths, whose two tables hash by `texts` and `resources`. Takes no memory.
+    pub fn with_hashers(alloc: A, arena: &'a Bump, texts: S, resources: S) -> Self
+        ensures texts { result.texts ≡ [] }
+        ensures resources { result.resources ≡ [] }
+    {
         ResourceCache {
-            texts: FrozenMap::new(alloc, arena),
-            resources: FrozenMap::new(alloc, arena),
+            texts: FrozenMap::with_hasher(alloc, arena, texts),
+            resources: FrozenMap::with_hasher(alloc, arena, resources),
         }
     }
 

@@ -13,6 +13,7 @@ loop-left-preserved-in-Taken g c =
       omega arith,
       omega (arith, k, c.loop-left.invariant.1),
       ((λ a. c.loop-left.invariant.2.0 (subst P s (y.0 a))), (λ b. y.1 (subst P (sym s) (c.loop-left.invariant.2.1 b)))),
+      (λ place h. let none = c.loop-left.invariant.3 place h in let less = c.in-Taken.ensures.fewer refl place in omega (arith, none, less)),
     )
 
 pub loop-left-preserved : goal.loop-left-preserved
@@ -24,6 +25,7 @@ loop-left-preserved g c =
       omega arith,
       c.loop-left.invariant.1,
       ((λ a. c.loop-left.invariant.2.0 (subst P s (y.0 a))), (λ b. y.1 (subst P (sym s) (c.loop-left.invariant.2.1 b)))),
+      c.loop-left.invariant.3,
     )
 
 pub returns-in-Wrong-clause-none : goal.returns-in-Wrong-clause-none

@@ -1,13 +1,16 @@
 use Rattle.std.proofs.Common.{◌≡◌, ◌+◌, ◌≤◌, ◌↔◌, length, take}
-use Rattle.elsa_history.specs.Receipts.{AreOf, receipt_count}
+use Rattle.elsa_history.specs.declared.record_pass.TheConstants.{NOBODY}
+use Rattle.elsa_history.specs.Receipts.{AreOf, KnowsWhoLacks, receipt_count}
 use Rattle.elsa_history.proofs.record_pass.count_receipts.Given as goal
 
--- what was taken is counted, and the passes are of the whole history exactly if those that are left are of the entries that are left
+-- what was taken is counted, the passes are of the whole history exactly if those that are left are of the entries that are left, and where nobody is noted nobody has
+-- a receipt
 abbrev pub invariant-loop-left : goal.invariant-loop-left
 invariant-loop-left g l =
     (l.count + l.left ≤ length l.entries)
     × (receipt_count l.passes.items + l.count ≡ receipt_count l.fn.passes.items)
     × (AreOf g.C.Command.PartialEq.eq g.C.Reply.PartialEq.eq l.passes.items (take l.left l.entries) ↔ AreOf g.C.Command.PartialEq.eq g.C.Reply.PartialEq.eq l.fn.passes.items l.entries)
+    × KnowsWhoLacks NOBODY l.owners.items l.passes.items
 
 -- fewer entries are left each time
 abbrev pub decreases-loop-left : goal.decreases-loop-left
