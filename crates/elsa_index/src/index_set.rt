@@ -1,5 +1,5 @@
 //! A set whose values keep the order of their first insertions.
-ghost use Rattle.std.specs.Prelude.{◌≡◌, ◌++◌, ◌∷◌, ◌<◌, ◌↔◌, [], ℕ, List, length, None, Ok, Some, false, slice_get, position, find, IfOk, IfSome, OnOk, OnErr, IsPermutation, IsTrue, is_some};
+ghost use Rattle.std.specs.Prelude.{◌≡◌, ◌++◌, ◌∷◌, ◌<◌, ◌≤◌, ◌↔◌, [], ℕ, List, length, None, Ok, Some, false, slice_get, position, find, IfOk, IsOk, IfSome, OnOk, OnErr, IsPermutation, IsTrue, is_some};
 ghost use Rattle.std.specs.Borrow.{sem};
 ghost use Rattle.std.specs.Cmp.{partial_equiv_from_equiv};
 ghost use Rattle.std.specs.Iterator.{Drains, IsFinite};
@@ -83,6 +83,16 @@ where
         ensures { result ≡ [] }
     {
         FrozenIndexSetIn::with_hasher(alloc, arena, BuildHasherDefault::new())
+    }
+
+    /// An empty set by the default hasher with room for so many values, as after [`reserve`](FrozenIndexSetIn::reserve).
+    ///
+    /// `AllocError` comes where memory is refused; room for none takes none.
+    pub fn with_capacity(alloc: A, arena: R, count: usize) -> Result<Self, AllocError>
+        ensures empty { IfOk result (λ m. m ≡ []) }
+        ensures none_is_free { count ≡ 0 → IsOk result }
+    {
+        Ok(FrozenIndexSetIn::from_set(arena, IndexSet::with_capacity(alloc, count)?))
     }
 }
 
@@ -213,6 +223,23 @@ where
         let mut set = IndexSet::with_hasher(*self.set.allocator(), hash_builder);
         set.extend(self.set.iter())?;
         Ok(FrozenIndexSetIn::from_set(self.arena, set))
+    }
+
+    /// How many values the set can have before its table asks for memory. `O(1)`.
+    pub fn capacity(&self) -> usize
+        ensures { length self.now ≤ result }
+    {
+        self.set.capacity()
+    }
+
+    /// Makes room for so many more values: as many insertions ask the table's allocator for nothing, and the arena alone may refuse them.
+    ///
+    /// The content stays. `AllocError` comes where memory is refused, and the room stays too; where there is room already, it takes none. `O(n)`.
+    pub fn reserve(&mut self, additional: usize) -> Result<(), AllocError>
+        ensures content { self.new ≡ self.old }
+        ensures none_is_free { additional ≡ 0 → IsOk result }
+    {
+        self.set.reserve(additional)
     }
 
     // Adds a borrow last.
