@@ -2,7 +2,7 @@
 //!
 //! A new key goes last, and a present key keeps its place and its value. The layers above use the list of pairs that
 //! the contracts speak of, and `rebase`.
-ghost use Rattle.std.specs.Prelude.{◌≡◌, ◌++◌, ◌∷◌, ◌↔◌, [], ℕ, List, length, false, None, Ok, Some, slice_get, IfOk, IfSome, IsSome, IsSomeAnd, IsPermutation, IsTrue, MatchOption, OnOk, OnErr, cond, is_some};
+ghost use Rattle.std.specs.Prelude.{◌≡◌, ◌≤◌, ◌++◌, ◌∷◌, ◌↔◌, [], ℕ, List, length, false, None, Ok, Some, slice_get, IfOk, IsOk, IfSome, IsSome, IsSomeAnd, IsPermutation, IsTrue, MatchOption, OnOk, OnErr, cond, is_some};
 ghost use Rattle.std.specs.Borrow.{Bor, sem};
 ghost use Rattle.elsa_index.specs.Lent.{lends_pairs};
 ghost use Rattle.std.specs.Iterator.{Drains, IsFinite};
@@ -88,6 +88,16 @@ where
         ensures { result ≡ [] }
     {
         FrozenIndexMapIn::with_hasher(alloc, arena, BuildHasherDefault::new())
+    }
+
+    /// An empty map by the default hasher with room for so many pairs, as after [`reserve`](FrozenIndexMapIn::reserve).
+    ///
+    /// `AllocError` comes where memory is refused; room for none takes none.
+    pub fn with_capacity(alloc: A, arena: R, count: usize) -> Result<Self, AllocError>
+        ensures empty { IfOk result (λ m. m ≡ []) }
+        ensures none_is_free { count ≡ 0 → IsOk result }
+    {
+        Ok(FrozenIndexMapIn::from_map(arena, IndexMap::with_capacity(alloc, count)?))
     }
 }
 
@@ -241,6 +251,23 @@ where
         ensures distinct { IsDistinct K.eq (keys_of self.now) }
     {
         self.len() == 0
+    }
+
+    /// How many pairs the map can have before its table asks for memory. `O(1)`.
+    pub fn capacity(&self) -> usize
+        ensures { length self.now ≤ result }
+    {
+        self.map.capacity()
+    }
+
+    /// Makes room for so many more pairs: as many insertions ask the table's allocator for nothing, and the arena alone may refuse them.
+    ///
+    /// The content stays. `AllocError` comes where memory is refused, and the room stays too; where there is room already, it takes none. `O(n)`.
+    pub fn reserve(&mut self, additional: usize) -> Result<(), AllocError>
+        ensures content { self.new ≡ self.old }
+        ensures none_is_free { additional ≡ 0 → IsOk result }
+    {
+        self.map.reserve(additional)
     }
 
     /// The pairs, to write: a new base begins with what is left in them. It takes no memory.

@@ -1,5 +1,5 @@
 //! A set whose values keep the order of their first insertions.
-ghost use Rattle.std.specs.Prelude.{◌≡◌, ◌++◌, ◌∷◌, ◌<◌, ◌↔◌, [], ℕ, List, length, None, Ok, Some, false, slice_get, position, find, IfOk, IfSome, OnOk, OnErr, IsPermutation, IsTrue, is_some};
+ghost use Rattle.std.specs.Prelude.{◌≡◌, ◌++◌, ◌∷◌, ◌<◌, ◌≤◌, ◌↔◌, [], ℕ, List, length, None, Ok, Some, false, slice_get, position, find, IfOk, IsOk, IfSome, OnOk, OnErr, IsPermutation, IsTrue, is_some};
 ghost use Rattle.std.specs.Borrow.{sem};
 ghost use Rattle.std.specs.Cmp.{partial_equiv_from_equiv};
 ghost use Rattle.std.specs.Iterator.{Drains, IsFinite};
@@ -10,6 +10,7 @@ ghost use Rattle.elsa_model.specs.Insertions.{SetInserted, SetInsertedNew, SetCo
 ghost use Rattle.elsa_index.specs.EqualityLaws.{same_set_equiv};
 ghost use Rattle.elsa_index.specs.Equality.{same_set, HaveSameValues};
 ghost use Rattle.elsa_index.specs.Lent.{lends_values};
+ghost use Rattle.elsa_index.specs.Texts.{reads, TextInserted};
 
 use crate::look_up::LookUp;
 use bumpalo::Bump;
@@ -83,6 +84,16 @@ where
         ensures { result ≡ [] }
     {
         FrozenIndexSetIn::with_hasher(alloc, arena, BuildHasherDefault::new())
+    }
+
+    /// An empty set by the default hasher with room for so many values, as after [`reserve`](FrozenIndexSetIn::reserve).
+    ///
+    /// `AllocError` comes where memory is refused; room for none takes none.
+    pub fn with_capacity(alloc: A, arena: R, count: usize) -> Result<Self, AllocError>
+        ensures empty { IfOk result (λ m. m ≡ []) }
+        ensures none_is_free { count ≡ 0 → IsOk result }
+    {
+        Ok(FrozenIndexSetIn::from_set(arena, IndexSet::with_capacity(alloc, count)?))
     }
 }
 
@@ -213,6 +224,23 @@ where
         let mut set = IndexSet::with_hasher(*self.set.allocator(), hash_builder);
         set.extend(self.set.iter())?;
         Ok(FrozenIndexSetIn::from_set(self.arena, set))
+    }
+
+    /// How many values the set can have before its table asks for memory. `O(1)`.
+    pub fn capacity(&self) -> usize
+        ensures { length self.now ≤ result }
+    {
+        self.set.capacity()
+    }
+
+    /// Makes room for so many more values: as many insertions ask the table's allocator for nothing, and the arena alone may refuse them.
+    ///
+    /// The content stays. `AllocError` comes where memory is refused, and the room stays too; where there is room already, it takes none. `O(n)`.
+    pub fn reserve(&mut self, additional: usize) -> Result<(), AllocError>
+        ensures content { self.new ≡ self.old }
+        ensures none_is_free { additional ≡ 0 → IsOk result }
+    {
+        self.set.reserve(additional)
     }
 
     // Adds a borrow last.
@@ -383,6 +411,112 @@ where
             set.insert_full(value)?;
         }
         Ok(set)
+    }
+}
+
+// ---- texts
+
+impl<'a, S: BuildHasher, A: Allocator + Copy, P: Allocator> FrozenIndexSet<'a, &'a str, S, A, P> {
+    /// The place of the stored text that reads as `text` does, `None` exactly if there is none: `set.get_index_of_text("a")`.
+    ///
+    /// It takes no memory. `O(1)`: one hash.
+    pub fn get_index_of_text(&self, text: &str) -> Option<usize>
+        ensures { result ≡ position (reads text.now) self.now }
+    {
+        self.get_index_of(&text)
+    }
+
+    /// Whether a stored text reads as `text` does. It takes no memory. `O(1)`: one hash.
+    pub fn contains_text(&self, text: &str) -> bool
+        ensures { result ≡ is_some (position (reads text.now) self.now) }
+    {
+        self.contains(&text)
+    }
+
+    /// The stored text that reads as `text` does, `None` exactly if there is none: `set.get_text("a")`.
+    ///
+    /// It takes no memory. `O(1)`: one hash.
+    pub fn get_text(&self, text: &str) -> Option<&'a str>
+        ensures { result ≡ find (reads text.now) self.now }
+    {
+        self.get(&text)
+    }
+
+    /// The stored text that reads as `text` does, and its place, `None` exactly if there is none.
+    ///
+    /// It takes no memory. `O(1)`: one hash.
+    pub fn get_full_text(&self, text: &str) -> Option<(usize, &'a str)>
+        ensures place { option_map (λ r. r.0) result ≡ position (reads text.now) self.now }
+        ensures stored { IfSome result (λ r. slice_get self.now r.0 ≡ Some r.1) }
+    {
+        self.get_full(&text)
+    }
+
+    /// Adds the text last, unless one that reads the same is present, and returns its place and the stored text:
+    /// [`insert_full`](FrozenIndexSetIn::insert_full) by a text of any lifetime.
+    ///
+    /// It looks first, by one hash: where the text is present, no memory is taken and nothing changes. Otherwise the table makes room for one value,
+    /// and the text is copied into the arena and goes last, by one more hash. `AllocError` comes only for an absent text and leaves the set as it
+    /// was; the table may keep the room.
+    pub fn insert_full_text(&mut self, text: &str) -> Result<(usize, &'a str), AllocError>
+        ensures accepted { IfOk result (λ r. TextInserted self.old text.now r.0 r.1 self.new) }
+        ensures stands { IfOk result (λ r. slice_get self.new r.0 ≡ Some r.1) }
+        ensures stands_at { IfOk result (λ r. position (reads text.now) self.new ≡ Some r.0) }
+        ensures refused { OnErr result (
+            (self.new ≡ self.old) × (position (reads text.now) self.old ≡ None)) }
+    {
+        if let Some(found) = self.get_full_text(text) {
+            return Ok(found);
+        }
+        self.set.reserve(1)?;
+        let placed = self.arena.try_alloc_str(text)?;
+        self.insert_absent(placed)
+    }
+
+    /// Adds the text last, unless one that reads the same is present, and returns the stored text: `set.insert_text("a")`.
+    ///
+    /// Costs and the refusal are those of `insert_full_text`.
+    #[tactic(auto, using(crate::proofs::Content::found_at))]
+    pub fn insert_text(&mut self, text: &str) -> Result<&'a str, AllocError>
+        ensures accepted { IfOk result (λ b.
+            (i : ℕ) × TextInserted self.old text.now i b self.new) }
+        ensures stands { IfOk result (λ b. find (reads text.now) self.new ≡ Some b) }
+        ensures refused { OnErr result (
+            (self.new ≡ self.old) × (position (reads text.now) self.old ≡ None)) }
+    {
+        let (_, stored) = self.insert_full_text(text)?;
+        Ok(stored)
+    }
+}
+
+impl<'a, B: Allocator, S: BuildHasher, A: Allocator + Copy, P: Allocator> FrozenIndexSet<
+    'a,
+    String<B>,
+    S,
+    A,
+    P,
+> {
+    /// The place of the stored text that reads as `text` does: [`get_index_of`](FrozenIndexSetIn::get_index_of) without a `String`.
+    /// It takes no memory. `O(1)`: one hash.
+    pub fn get_index_of_text(&self, text: &str) -> Option<usize>
+        ensures { result ≡ position (reads text.now) self.now }
+    {
+        text.position(&self.set)
+    }
+
+    /// Whether a stored text reads as `text` does: [`contains`](FrozenIndexSetIn::contains) without a `String`. It takes no memory. `O(1)`: one hash.
+    pub fn contains_text(&self, text: &str) -> bool
+        ensures { result ≡ is_some (position (reads text.now) self.now) }
+    {
+        self.get_index_of_text(text).is_some()
+    }
+
+    /// The stored text that reads as `text` does: [`get`](FrozenIndexSetIn::get) without a `String`. It takes no memory. `O(1)`: one hash.
+    pub fn get_text(&self, text: &str) -> Option<&'a str>
+        ensures { result ≡ find (reads text.now) self.now }
+    {
+        let asked = text;
+        self.get(&asked)
     }
 }
 

@@ -26,4 +26,6 @@ mod run_map_tests;
 #[cfg(test)]
 mod run_vec_tests;
 #[cfg(test)]
+mod set_texts;
+#[cfg(test)]
 mod walks;

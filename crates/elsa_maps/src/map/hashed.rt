@@ -1,5 +1,5 @@
 //! The map that finds a key by its hash.
-ghost use Rattle.std.specs.Prelude.{◌≡◌, ◌↔◌, [], ◌∷◌, List, None, true, IfOk, IsTrue, OnErr, OnOk, Ok, Some, length};
+ghost use Rattle.std.specs.Prelude.{◌≡◌, ◌≤◌, ◌↔◌, [], ◌∷◌, List, None, true, IfOk, IsOk, IsPermutation, IsTrue, OnErr, OnOk, Ok, Some, length};
 ghost use Rattle.std.specs.Iterator.{Drains, IsFinite};
 ghost use Rattle.std.specs.List.{IsDistinct};
 ghost use Rattle.std.specs.Map.{keys_of, lookup, values_of};
@@ -49,6 +49,18 @@ impl<R: Copy, K: Eq + Hash + Drop, V: StableDeref<R>, A: Allocator + Copy> Froze
     {
         FrozenMapIn::with_hasher(alloc, arena, BuildHasherDefault::new())
     }
+
+    /// An empty map with the default hasher and room for so many entries, as after [`reserve`](FrozenMapIn::reserve).
+    ///
+    /// `Err` on an allocation failure; room for none takes no memory.
+    pub fn with_capacity(alloc: A, arena: R, count: usize) -> Result<Self, AllocError>
+        ensures empty { IfOk result (λ m. m ≡ []) }
+        ensures none_is_free { count ≡ 0 → IsOk result }
+    {
+        let mut map = FrozenMapIn::new(alloc, arena);
+        map.reserve(count)?;
+        Ok(map)
+    }
 }
 
 impl<
@@ -75,6 +87,26 @@ impl<
         ensures { result ≡ map.entries }
     {
         Frozen::over(alloc, arena, map)
+    }
+
+    /// How many entries the map can have before its table asks for memory. `O(1)`.
+    pub fn capacity(&self) -> usize
+        ensures { length self.now ≤ result }
+    {
+        self.table.capacity()
+    }
+
+    /// Makes room for so many more entries: as many insertions ask the table's allocator for nothing, and the arena alone may refuse them.
+    ///
+    /// The content stays, in an order that may change. `Err` on an allocation failure: the map is as it was. Where there is room already, it takes
+    /// no memory. `O(n)`, with one hash an entry.
+    pub fn reserve(&mut self, additional: usize) -> Result<(), AllocError>
+        ensures entries { IsPermutation self.old self.new }
+        ensures content { SameAt (value_at K.eq self.old) (value_at K.eq self.new) }
+        ensures refused { OnErr result (self.new ≡ self.old) }
+        ensures none_is_free { additional ≡ 0 → IsOk result }
+    {
+        self.table.reserve(additional)
     }
 
     /// The key of the map that equals `key`, with its value; `None` exactly if there is none.
