@@ -1,0 +1,43 @@
+use Rattle.std.proofs.Common.{◌≢◌, ◌∙◌, None, Err, length, position, ap, sym, arith}
+use Rattle.std.proofs.lemmas.List.{length_push, nil_from_length}
+use Rattle.elsa_serde.specs.Loaded.{AddsValue}
+use Rattle.elsa_serde.proofs.Turns.{up_to_start, up_to_more, up_to_all, up_to_stops, at_fault}
+use Rattle.elsa_serde.proofs.items.Items.insert_into.Goals as goal
+
+pub loop-value-init : goal.loop-value-init
+loop-value-init g c =
+    let given = c.into_iter-value-iterator.ensures.into_iter_gives in
+    record {
+      went = up_to_start (AddsValue g.T.HasTarget.target g.T.HasTarget.shown g.T.LookUp.finds) length _ _ _ given.0;
+      left = given.1 ∙ c.args.self.0.ok.0 ∙ sym (ap length given.0);
+    }
+
+pub loop-value-preserved : goal.loop-value-preserved
+loop-value-preserved g c =
+    let before = c.loop-value.invariant in
+    let next = c.in-Some.ensures.steps in
+    let added = c.in_ok-insert_next.ensures.new in
+    record {
+      went = up_to_more (AddsValue g.T.HasTarget.target g.T.HasTarget.shown g.T.LookUp.finds) length _ _ _ c.in-Some.value _ _ _ before.went next.0 added (ap length added.3 ∙ length_push c.loop-value.set added.0);
+      left = let had = ap length next.0 in let len = before.left in omega (arith, next.1, had, len);
+    }
+
+pub insert_next-requires : goal.insert_next-requires
+insert_next-requires g c = let sum = c.loop-value.invariant.went.3 in let count = c.len-before.ensures.count in omega (arith, sum, count)
+
+pub returns-clause-all : goal.returns-clause-all
+returns-clause-all g c =
+    let before = c.loop-value.invariant in
+    let none = c.in-None.ensures.steps.0 in
+    let len = before.left in
+    up_to_all (AddsValue g.T.HasTarget.target g.T.HasTarget.shown g.T.LookUp.finds) length _ _ _ _ before.went (nil_from_length _ (omega (arith, none, len)))
+
+pub returns-in_err-insert_next-clause-refused : goal.returns-in_err-insert_next-clause-refused
+returns-in_err-insert_next-clause-refused g c =
+    let before = c.loop-value.invariant in
+    let failed = c.in_err-insert_next.ensures in
+    let count = c.len-before.ensures.count in
+    at_fault c.from_residual.result c.in_err-insert_next.field-0.0 _ c.from_residual.ensures.1
+    (up_to_stops (AddsValue g.T.HasTarget.target g.T.HasTarget.shown g.T.LookUp.finds) length (λ kept v. position (g.T.LookUp.finds v) kept ≢ None) (λ _. ⊥) _ _ _ c.in-Some.value _ _ _ _
+    before.went c.in-Some.ensures.steps.0 failed.refused
+    (λ place is. let f = failed.duplicate place (ap Err is) in let at = f.0 in (omega (arith, at, count), f.1)) (λ is. failed.fits (ap Err is)))
