@@ -18,6 +18,8 @@ mod refusals;
 #[cfg(test)]
 mod search_tests;
 #[cfg(test)]
+mod shelf;
+#[cfg(test)]
 mod text_keys;
 #[cfg(test)]
 mod vec_tests;

@@ -12,7 +12,7 @@ ghost use Rattle.elsa_model.specs.FirstWins.{IsEqualMap};
 
 use super::Frozen;
 use bumpalo::Bump;
-use elsa_once::stable::StableDeref;
+use elsa_once::stable::{KeepsText, StableDeref};
 use std::alloc::{AllocError, Allocator, Global};
 use std::collections::HashMap;
 use std::collections::hash_map::{Iter, Keys, Values};
@@ -167,10 +167,13 @@ impl<'k, R: Copy, V: StableDeref<R>, S: BuildHasher, A: Allocator + Copy> Frozen
     }
 }
 
-impl<'a, V, S: BuildHasher, A: Allocator + Copy, P: Allocator> FrozenMap<'a, &'a str, V, S, A, P>
-where
-    V: StableDeref<&'a Bump<P>>,
-{
+impl<'a, R: KeepsText<'a>, V: StableDeref<R>, S: BuildHasher, A: Allocator + Copy> FrozenMapIn<
+    R,
+    &'a str,
+    V,
+    S,
+    A,
+> {
     /// Gives the text `key` the value, unless a key of the map reads the same, and returns the value that the text now has:
     /// [`insert`](Frozen::insert) by a text of any lifetime.
     ///
@@ -192,7 +195,7 @@ where
         if let Some(found) = self.get_text(key) {
             return Ok(found);
         }
-        let placed = self.arena.try_alloc_str(key)?;
+        let placed = self.arena.keep_text(key)?;
         self.insert(placed, value)
     }
 }

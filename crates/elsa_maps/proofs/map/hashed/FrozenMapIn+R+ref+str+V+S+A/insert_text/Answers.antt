@@ -1,4 +1,4 @@
-use Rattle.elsa_maps.proofs.map.hashed.FrozenMap+ref+str+V+S+A+P.insert_text.Goals as goal
+use Rattle.elsa_maps.proofs.map.hashed.FrozenMapIn+R+ref+str+V+S+A.insert_text.Goals as goal
 
 -- what was said of the placed text holds of the one that was given: they read the same
 pub returns-clause-stands : goal.returns-clause-stands
