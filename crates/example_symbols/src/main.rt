@@ -1,0 +1,129 @@
+//! The symbol pass of a compiler: one thread declares the names of a source text, and then four threads count their uses.
+//!
+//! An [`Interner`](elsa::interner::Interner) gives each name the next number, and what is known of a name is in a vector at that number.
+//! `into_reader` then freezes it: threads share the [`InternerReader`](elsa::interner::InternerReader) with no lock, and each counts the uses
+//! in its lines by the names' numbers. `rt run < crates/example_symbols/stdin` prints a line for each name, in the order of declaration.
+#![tactic(auto)]
+
+ghost use Rattle.std.specs.Prelude.{◌≡◌, ◌↔◌, IfOk, IsTrue, None, OnErr, length, position, vec_len};
+ghost use Rattle.std.specs.Str.{bytes_eq};
+ghost use mathlib.Core.List.{IsPrefix};
+
+use bumpalo::Bump;
+use elsa::interner::{Interner, InternerReader};
+use std::alloc::{AllocError, Global};
+use std::io::{self, BufRead, BufReader};
+use std::thread;
+
+const THREADS: usize = 4;
+
+/// What is known of a name.
+#[derive(Clone, Copy)]
+struct Symbol {
+    kind: &'static str,
+    /// The line of its declaration, counted from 1.
+    line: usize,
+}
+
+/// The declared names, and at each number what is known of that name.
+#[derive(Drop)]
+struct Symbols<'a> {
+    names: Interner<'a>,
+    known: Vec<Symbol>,
+    ghost one_each: { vec_len known ≡ length names },
+}
+
+impl Symbols<'_> {
+    /// Declares a name, and returns whether it is new. An old one keeps what is known of it. `Err` on an allocation failure, which changes nothing.
+    fn declare(&mut self, name: &str, symbol: Symbol) -> Result<bool, AllocError>
+        ensures new { IfOk result (λ is_new. IsTrue is_new
+            ↔ (position (bytes_eq name.now) self.old.names ≡ None)) }
+        ensures kept { IsPrefix self.old.names self.new.names }
+        ensures refused { OnErr result ((self.new.names ≡ self.old.names)
+            × (self.new.known.items ≡ self.old.known.items)) }
+    {
+        if self.names.contains(name) {
+            return Ok(false);
+        }
+        self.known.reserve(1)?;
+        self.names.put(name)?;
+        self.known.push(symbol).unwrap();
+        Ok(true)
+    }
+}
+
+fn is_separator(c: char) -> bool {
+    !c.is_alphanumeric() && c != '_'
+}
+
+/// The name that a line declares, and what it is.
+fn declaration(line: &str) -> Option<(&'static str, &str)> {
+    let mut words = line.trim_start().split(is_separator);
+    let kind = match words.next()? {
+        "fn" => "function",
+        "let" => "variable",
+        "const" => "constant",
+        _ => return None,
+    };
+    Some((kind, words.next()?))
+}
+
+/// The uses of each declared name in every fourth line, from the line of this number on: a count for each name.
+fn count_lines(
+    alloc: Global,
+    names: &InternerReader<'_>,
+    lines: &[String],
+    first: usize,
+) -> Result<Vec<u64>, AllocError> {
+    let mut counts = vec![in alloc; 0u64; names.len()]?;
+    for line in lines.iter().skip(first).step_by(THREADS) {
+        for word in line.as_str().split(is_separator) {
+            if let Some(number) = names.find(word) {
+                if let Some(count) = counts.get_mut(number) {
+                    *count = count.saturating_add(1);
+                }
+            }
+        }
+    }
+    Ok(counts)
+}
+
+/// The uses that all threads have counted at a number.
+fn uses_at(counts: &[Vec<u64>], number: usize) -> u64 {
+    let counted = counts.iter().filter_map(|part| part.get(number));
+    counted.fold(0u64, |sum, count| sum.saturating_add(*count))
+}
+
+fn main(rt: HostRuntime) -> io::Result<()> {
+    let alloc = rt.alloc();
+    let arena = Bump::new(alloc);
+    let mut symbols = Symbols {
+        names: Interner::new(alloc, &arena),
+        known: Vec::new(alloc),
+    };
+    let mut lines = Vec::new(alloc);
+    for line in BufReader::new(alloc, rt.reader())?.lines(alloc) {
+        let line = line?;
+        let number = lines.len() + 1;
+        if let Some((kind, name)) = declaration(line.as_str()) {
+            if !symbols.declare(name, Symbol { kind, line: number })? {
+                println!(rt; "line {number} declares {name} again")?;
+            }
+        }
+        lines.push(line)?;
+    }
+    let Symbols { names, known } = symbols;
+    let names = names.into_reader();
+    let count = |first| count_lines(alloc, &names, &lines, first);
+    let counts = thread::map_indices(&rt, alloc, THREADS, &count)?;
+    let mut parts = Vec::new(alloc);
+    for part in counts {
+        parts.push(part?)?;
+    }
+    for (number, (name, symbol)) in names.iter().zip(&known).enumerate() {
+        let uses = uses_at(&parts, number).saturating_sub(1);
+        let Symbol { kind, line } = *symbol;
+        println!(rt; "{number} {name}: {kind} of line {line}, used {uses} times")?;
+    }
+    Ok(())
+}
