@@ -1,0 +1,9 @@
+//! Collections through `serde_json`: the text of each, what is read back, and what a broken text or a refused allocation leaves.
+#![tactic(auto)]
+
+#[cfg(test)]
+mod broken_texts;
+#[cfg(test)]
+mod refused_memory;
+#[cfg(test)]
+mod round_trips;

@@ -1,0 +1,126 @@
+//! An index that is saved as JSON and read back: every word keeps its number.
+//!
+//! Standard input is a text. Its words go into an [`Interner`](elsa::interner::Interner), and the lines of their first uses into an index map.
+//! [`Stored`](elsa_serde::Stored) writes both. Reading takes two steps: `serde_json` reads [`Names`](elsa_serde::Names) and
+//! [`Entries`](elsa_serde::Entries), and these go into collections over a new arena. A text that nobody saved is refused, with a printed error.
+#![tactic(auto)]
+
+ghost use Rattle.std.specs.Prelude.{◌≡◌, []};
+ghost use mathlib.Core.List.{IsPrefix};
+
+use bumpalo::Bump;
+use elsa::interner::Interner;
+use elsa::{FrozenIndexMap, Own};
+use elsa_serde::{Entries, Names, ReadFault, Stored};
+use std::alloc::{AllocError, Global};
+use std::io::{self, BufRead, BufReader};
+use thiserror::Error;
+
+/// Texts that nobody saved: a word twice, one that is cut short, no list, and a list of no words.
+const BROKEN: [&str; 4] = [r#"["a","b","a"]"#, r#"["a","b""#, r#"{"a":1}"#, "[1]"];
+
+/// The words of a text by their numbers, and the line of each word's first use.
+#[derive(Drop)]
+struct Index<'a> {
+    words: Interner<'a>,
+    lines: FrozenIndexMap<'a, String, Own<u64>>,
+}
+
+/// The texts that an index is saved as.
+#[derive(Drop)]
+struct Saved {
+    words: String,
+    lines: String,
+}
+
+/// Why a saved index isn't read.
+#[derive(Debug, Drop, Error)]
+enum LoadFault {
+    #[error("not the text of an index: {0}")]
+    Text(#[from] serde_json::Error),
+    #[error("not an index: {0}")]
+    Content(#[from] ReadFault),
+}
+
+impl<'a> Index<'a> {
+    fn new(alloc: Global, arena: &'a Bump) -> Index<'a>
+        ensures { result.words ≡ [] }
+    {
+        Index {
+            words: Interner::new(alloc, arena),
+            lines: FrozenIndexMap::new(alloc, arena),
+        }
+    }
+
+    /// Adds a word that is used in this line, and returns its number.
+    fn add(&mut self, alloc: Global, word: &str, line: u64) -> Result<usize, AllocError>
+        ensures kept { IsPrefix self.old.words self.new.words }
+    {
+        self.lines
+            .insert(String::from_str(alloc, word)?, Own(line))?;
+        self.words.put(word)
+    }
+
+    fn save(&self, alloc: Global) -> Result<Saved, serde_json::Error> {
+        Ok(Saved {
+            words: serde_json::to_string(alloc, &Stored(&self.words))?,
+            lines: serde_json::to_string(alloc, &Stored(&self.lines))?,
+        })
+    }
+
+    /// The saved index, over a new arena.
+    fn load(alloc: Global, arena: &'a Bump, saved: &Saved) -> Result<Index<'a>, LoadFault> {
+        let words: Names = serde_json::from_str(alloc, saved.words.as_str())?;
+        let lines: Entries<String, Own<u64>> = serde_json::from_str(alloc, saved.lines.as_str())?;
+        let mut index = Index::new(alloc, arena);
+        words.put_into(&mut index.words)?;
+        lines.insert_into(&mut index.lines)?;
+        Ok(index)
+    }
+}
+
+/// How many words have another number in the two indexes.
+fn moved_words(before: &Index<'_>, after: &Index<'_>) -> usize {
+    before
+        .words
+        .iter()
+        .filter(|word| before.words.find(**word) != after.words.find(**word))
+        .count()
+}
+
+fn main(rt: HostRuntime) -> io::Result<()> {
+    let alloc = rt.alloc();
+    let (arena, second_arena) = (Bump::new(alloc), Bump::new(alloc));
+    let mut index = Index::new(alloc, &arena);
+    let mut number: u64 = 0;
+    for line in BufReader::new(alloc, rt.reader())?.lines(alloc) {
+        let line = line?;
+        number = number.saturating_add(1);
+        for word in line.as_str().split_whitespace() {
+            index.add(alloc, word, number)?;
+        }
+    }
+    let Ok(saved) = index.save(alloc) else {
+        return rt.println("the index can't be written");
+    };
+    println!(rt; "{}\n{}", saved.words, saved.lines)?;
+    match Index::load(alloc, &second_arena, &saved) {
+        Ok(again) => {
+            let (count, moved) = (again.words.len(), moved_words(&index, &again));
+            println!(rt; "{count} words are read back, {moved} have another number")?;
+            let (word, line) = (again.words.at(4), again.lines.get_text("lily"));
+            println!(rt; "number 4 is {word:?}, lily is of line {line:?}")?;
+        }
+        Err(fault) => println!(rt; "{fault}")?,
+    }
+    for words in BROKEN {
+        let broken = Saved {
+            words: String::from_str(alloc, words)?,
+            lines: String::from_str(alloc, "{}")?,
+        };
+        if let Err(fault) = Index::load(alloc, &Bump::new(alloc), &broken) {
+            println!(rt; "{words} is {fault}")?;
+        }
+    }
+    Ok(())
+}
