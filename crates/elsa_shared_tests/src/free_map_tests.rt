@@ -35,8 +35,8 @@ fn walks_by_a_pass(rt: &impl Wait, ages: &Ages) -> Result<bool, AllocError> {
     let mut pass = ages.pass();
     let made = ages.get_or_insert_with_as(rt, &mut pass, "eve", || 50)?;
     let kept = ages.get_or_insert_with_as(rt, &mut pass, "eve", || 60)?;
-    let contains =
-        ages.contains_key_as(&mut pass, "eve") && !ages.contains_key_as(&mut pass, "zoe");
+    let contains = ages.contains_key_as(&mut pass, "eve")
+        && !ages.contains_key_as(&mut pass, "zoe");
     ages.one_to_one_as(&pass);
     ages.same_place_as(&pass, &ages.pass());
     let last = ages.iter_as(&pass).last();
