@@ -2,7 +2,7 @@
 use elsa_hash::seeded::SeededState;
 use elsa_locks::map::{FrozenBTreeMap, FrozenMap};
 use std::alloc::{AllocError, Global};
-use std::sync::Wait;
+use std::sync::{Arc, Wait};
 use std::test::Fail;
 
 type Texts = FrozenMap<String, u64, SeededState>;
@@ -61,7 +61,10 @@ fn keeps_the_first_in_order(rt: &impl Wait, map: &OrderedTexts) -> Result<bool, 
 
 // The least key, which is the least text.
 fn is_least(rt: &impl Wait, map: &OrderedTexts, text: &str) -> Result<bool, AllocError> {
-    Ok(matches!(map.first_key_value_cloned(rt)?, Some((key, _)) if key.as_str() == text))
+    let Some((key, _value)) = map.first_key_value_cloned(rt)? else {
+        return Ok(false);
+    };
+    Ok(key.as_str() == text)
 }
 
 #[test]
@@ -72,14 +75,21 @@ fn texts_are_lost_or_out_of_order_in_an_ordered_map(rt: HostRuntime) -> Result<(
     Ok(())
 }
 
+// Whether this is an owner of the number.
+fn is(owner: Option<Arc<u64>>, number: u64) -> bool {
+    match owner {
+        Some(owner) => *owner == number,
+        None => false,
+    }
+}
+
 // Whether a hashed map of one lifetime is asked by a text of another.
 fn is_asked_hashed(
     rt: &impl Wait,
     map: &FrozenMap<&'static str, u64>,
     key: &str,
 ) -> Result<bool, AllocError> {
-    let found = map.get_text(rt, key)?;
-    let is_owner = matches!(found, Some(owner) if *owner == 5);
+    let is_owner = is(map.get_text(rt, key)?, 5);
     Ok(is_owner && map.get_copy_text(rt, key) == Some(5) && map.get_copy_text(rt, "").is_none())
 }
 
@@ -88,8 +98,7 @@ fn is_asked_in_order(
     map: &FrozenBTreeMap<&'static str, u64>,
     key: &str,
 ) -> Result<bool, AllocError> {
-    let found = map.get_text(rt, key)?;
-    let is_owner = matches!(found, Some(owner) if *owner == 5);
+    let is_owner = is(map.get_text(rt, key)?, 5);
     Ok(is_owner && map.get_copy_text(rt, key) == Some(5) && map.get_copy_text(rt, "").is_none())
 }
 

@@ -38,6 +38,8 @@ mod printed_form_tests;
 #[cfg(test)]
 mod rare_form_tests;
 #[cfg(test)]
+mod reached_form_tests;
+#[cfg(test)]
 mod run_form_tests;
 #[cfg(test)]
 mod search_form_tests;

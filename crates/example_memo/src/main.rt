@@ -1,8 +1,8 @@
 //! A memo table that worker threads share, with a recorder beside it.
 //!
-//! Four workers compute Fibonacci numbers. What one of them has computed stands in a [`FrozenMap`](elsa::sync::FrozenMap) for all: the first
-//! value of a key stays. No contract can say what stands in a table that others write to, so a value carries what it is
-//! ([`Term`](term::Term) has a ghost field), and each number that is answered is proved to be the right one.
+//! Four workers compute Fibonacci numbers. What one of them has computed is in a [`LockFreeFrozenMap`](elsa::sync::LockFreeFrozenMap) for
+//! all: the first value of a key stays, and a look-up takes no lock. Which value another thread inserts no contract can say, so a value
+//! carries what it is ([`Term`](term::Term) has a ghost field), and each number that is returned is proved to be the right one.
 //!
 //! Each worker also tells a [`Recorder`](elsa::sync::history::Recorder) of its results. When the workers are done the recorder is closed with
 //! their passes. That succeeds exactly if the receipts in the passes are the recorder's history, which is proved to be legal: each reply
@@ -17,14 +17,14 @@ mod worker;
 use crate::audit::{closed, told_by};
 use crate::worker::{Memo, Tellings, Told, work};
 use elsa::sync::map::MapState;
-use elsa::sync::{FrozenMap, history};
+use elsa::sync::{LockFreeFrozenMap, history};
 use std::{io, thread};
 
 const WORKERS: usize = 4;
 
 fn main(rt: HostRuntime) -> io::Result<()> {
     let alloc = rt.alloc();
-    let memo: Memo = FrozenMap::new(alloc);
+    let memo: Memo = LockFreeFrozenMap::new(alloc)?;
     let recorder: Tellings = history::Recorder::new(alloc, MapState::new(alloc));
     let (shared, told) = (&memo, &recorder);
     let results = thread::map_indices(
@@ -37,7 +37,7 @@ fn main(rt: HostRuntime) -> io::Result<()> {
     for result in results {
         passes.push(result?)?;
     }
-    println!(rt; "{} numbers in the table", memo.len(&rt))?;
+    println!(rt; "{} numbers in the table", memo.handle().len())?;
     let Some(history) = closed(recorder, passes) else {
         return rt.println("the receipts aren't the history");
     };

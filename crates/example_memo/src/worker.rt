@@ -3,14 +3,14 @@ ghost use Rattle.std.specs.Prelude.{◌≡◌, IfOk, IfSome};
 ghost use Rattle.example_memo.specs.Fibonacci.{fibonacci_at};
 
 use crate::term::Term;
-use elsa::sync::FrozenMap;
 use elsa::sync::history::{History, MapCommand, RecordPass, Recorder};
 use elsa::sync::map::MapState;
+use elsa::sync::{LockFreeFrozenMap, MapHandle};
 use std::alloc::AllocError;
 use std::sync::Wait;
 
 /// The table: terms by their places.
-pub type Memo = FrozenMap<u64, Term>;
+pub type Memo = LockFreeFrozenMap<u64, Term>;
 
 /// What the recorder records: insertions of numbers at their places.
 pub type Tellings = Recorder<MapState<u64, u64>>;
@@ -21,14 +21,18 @@ pub type Told = History<MapState<u64, u64>>;
 /// The greatest place that is asked for.
 pub const LAST: u64 = 90;
 
-/// The number at a place, from the table or by the rule. `None` where it is 2^64 or more. It waits for the table.
-fn number<R: Wait>(rt: &R, memo: &Memo, place: u64) -> Result<Option<u64>, AllocError>
+/// The number at a place, from the table or by the rule. `None` where it is 2^64 or more. It waits while another thread inserts.
+fn number<R: Wait>(
+    rt: &R,
+    memo: &mut MapHandle<'_, u64, Term>,
+    place: u64,
+) -> Result<Option<u64>, AllocError>
     ensures { IfOk result (λ number. IfSome number (λ value. value ≡ fibonacci_at place)) }
 {
     if place < 2 {
         return Ok(Some(place));
     }
-    if let Some(term) = memo.get_copy(rt, &place) {
+    if let Some(term) = memo.get(place) {
         return Ok(term.at(place));
     }
     let Some(one) = number(rt, memo, place - 1)? else {
@@ -40,8 +44,8 @@ fn number<R: Wait>(rt: &R, memo: &Memo, place: u64) -> Result<Option<u64>, Alloc
     let Some(value) = one.checked_add(two) else {
         return Ok(None);
     };
-    let term = memo.get_copy_or_insert(rt, place, Term::new(place, value))?;
-    Ok(term.at(place))
+    let stands = memo.get_or_insert_with(rt, place, || Term::new(place, value))?;
+    Ok(stands.value.at(place))
 }
 
 /// Computes the numbers at every fourth place from the worker's own, and tells the recorder of each.
@@ -53,11 +57,12 @@ pub fn work<R: Wait>(
 ) -> Result<RecordPass<MapState<u64, u64>>, AllocError> {
     let first = worker as u64;
     let mut pass = recorder.pass(first);
+    let mut memo = memo.handle();
     for place in 0..=LAST {
         if place % 4 != first {
             continue;
         }
-        if let Some(value) = number(rt, memo, place)? {
+        if let Some(value) = number(rt, &mut memo, place)? {
             recorder.call(rt, &mut pass, MapCommand::Insert(place, value))?;
         }
     }
