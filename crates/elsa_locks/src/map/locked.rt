@@ -13,10 +13,10 @@ use std::sync::{Arc, RwLock, Wait};
 /// before it returns: look there for what is promised of that call. Reading calls share the lock, inserting ones
 /// have it alone. All of them may wait.
 ///
-/// What runs under the lock: the table's hashing and comparing of keys, closures that make a value, the `Drop` of a key that is
+/// What runs under the lock: the table's hashing and comparing of keys, closures that make a value, the closure of `for_each`, the `Drop` of a key that is
 /// passed in for a present one or that the table had no room for, and of a value whose `Arc` got no memory. A call on the same map in one
-/// of them may wait for ever. A value or a closure that an insertion has no use for is dropped after the lock was released, and a closure
-/// that reads a value runs after it.
+/// of them may wait for ever. A value or a closure that an insertion has no use for is dropped after the lock was released, and the
+/// closure of `map_get` runs after it.
 ///
 /// [`FrozenMap`](super::FrozenMap) and [`FrozenBTreeMap`](super::FrozenBTreeMap) are this over a hashed table and over an ordered one.
 #[derive(Drop)]

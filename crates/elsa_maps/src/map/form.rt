@@ -55,6 +55,7 @@ pub trait MapForm<R> {
         ensures refused { OnErr result (IsRefused same (entries self.old) key (entries self.new)) };
 
     /// Gives `key` the value unless it has one, and returns the value that it now has.
+    /// `Err` on an allocation failure, only for a new key: the content is as before.
     fn insert(
         &mut self,
         key: Self::Key,
