@@ -12,7 +12,7 @@ import re, shutil, subprocess
 
 from repository import lines, root, stands_on
 
-HANDLES = "pub fn main<R: std::rt::Runtime + Alloc<A = std::alloc::Global> + std::thread::Threads + std::sync::Wait + Sync + Copy>(rt: R)"
+HANDLES = "pub fn main<R: std::rt::Runtime + Alloc<A = std::alloc::Global> + std::random::RandomSource + std::thread::Threads + std::sync::Wait + Sync + Copy>(rt: R)"
 MAIN = """
 use std::process::ExitCode;
 use std::{env, io};
@@ -42,7 +42,8 @@ def copy(name, source):
     """Writes the crate's files as those of a module below this folder."""
     own = root / "crates" / name / "src"
     files = sorted(own.rglob("*.rt"))
-    main = HANDLES if any(re.search(r"\bWait\b", it.read_text()) for it in files) else "pub fn main(rt: HostRuntime)"
+    is_shared = any(re.search(r"\bWait\b|\bThreads\b|\bthread::", it.read_text()) for it in files)
+    main = HANDLES if is_shared else "pub fn main(rt: HostRuntime)"
     for file in files:
         is_root = file.parent == own and file.name in ("lib.rt", "main.rt")
         text = re.sub(r"\bcrate::", f"crate::{name}::", file.read_text())
