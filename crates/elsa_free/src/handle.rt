@@ -57,9 +57,9 @@ impl<'v, T: Copy + Drop, A: Allocator + Copy> Handle<'v, T, A> {
 
     /// Pushes an item and returns its place. It waits while another thread pushes.
     ///
-    /// `Err` adds nothing: the allocation of the buffer that begins at this length failed, or the length is `2^62 - 1`, the
-    /// greatest. The handle can be used as before, and the same push may succeed later. `O(1)`, with a buffer four times as
-    /// large as the one before where one begins.
+    /// `Err`: the handle has pushed no more than before. The allocation of the buffer that begins at this length failed, or the
+    /// length is `2^62 - 1`, the greatest; the same push may succeed later. `O(1)`, with a buffer four times as large as the
+    /// one before where one begins.
     pub fn push<R: Wait>(&mut self, rt: &R, item: T) -> Result<usize, AllocError>
         // The pass is the same, later.
         ensures same { IsSamePass self.old self.new }

@@ -60,9 +60,9 @@ impl<T: Copy + Drop, A: Allocator + Copy> LockFreeFrozenVec<T, A> {
 
     /// Pushes an item and returns its place. It waits while another thread pushes.
     ///
-    /// `Err` adds nothing: the allocation of the buffer that begins at this length failed, or the length is `2^62 - 1`, the
-    /// greatest. The vector can be used as before, and the same push may succeed later. `O(1)`, with a buffer four times as
-    /// large as the one before where one begins.
+    /// `Err`: the pass has pushed no more than before. The allocation of the buffer that begins at this length failed, or the
+    /// length is `2^62 - 1`, the greatest; the same push may succeed later. `O(1)`, with a buffer four times as large as the
+    /// one before where one begins.
     pub fn push_as<R: Wait>(
         &self,
         rt: &R,
@@ -277,8 +277,8 @@ impl<T: Copy + Drop, A: Allocator + Copy, K: ItemRule<T>> LockFreeFrozenVec<T, A
     /// Pushes an item at the place `n` alone: at another length it pushes nothing and returns `None`. By that a thread that has
     /// looked at all places below `n` appends what none of them holds. It waits while another thread pushes at this length.
     ///
-    /// `Err` adds nothing: the allocation of the buffer that begins at `n` failed, or `n` is `2^62 - 1`, the greatest length. The
-    /// vector can be used as before, and the same push may succeed later. `O(1)`, with a buffer four times as large as the one
+    /// `Err`: the pass has pushed no more than before. The allocation of the buffer that begins at `n` failed, or `n` is
+    /// `2^62 - 1`, the greatest length; the same push may succeed later. `O(1)`, with a buffer four times as large as the one
     /// before where one begins.
     pub fn push_at_as<R: Wait>(
         &self,

@@ -2,6 +2,8 @@
 use Rattle.std.proofs.Common.{◌≡◌, ℕ, zero, suc, ◌+◌, ◌-◌, ◌<◌, ◌≤◌, ◌^◌, Bool, true, false, List, [], ◌∷◌, ◌++◌, drop, length, take, slice_get, Some, refl, ap, sym, ◌∙◌, subst, arith}
 use Rattle.std.specs.Prelude.{Option, None, IfSome, Result, Ok, Err, OnOk, OnErr}
 use Rattle.std.specs.Option.{is_some}
+use Rattle.std.specs.Borrow.{Bor}
+use Rattle.std.specs.Str.{bytes_eq}
 use mathlib.Core.List.{IsPrefix}
 use Rattle.std.proofs.lemmas.List.{length-map, map-append}
 use Rattle.elsa_index_words.specs.declared.entry.Entry.{Entry}
@@ -11,7 +13,7 @@ use Rattle.elsa_free.specs.Distinct.{AgreeOnPlaces, one_answer}
 use Rattle.elsa_free.specs.SharedList.{entry, item_of, items_of}
 use Rattle.elsa_free.specs.declared.event.Entry.{Entry as Listed}
 use Rattle.elsa_free.proofs.RuleLemmas.EachNew.{agree_on_places, one_to_one}
-use Rattle.elsa_free_map.specs.Entries.{HasAt, Lacks, MayFollow, pairs_of}
+use Rattle.elsa_free_map.specs.Entries.{HasAt, Lacks, MayFollow, is_text, pairs_of}
 
 last_at : {A : Type 0} (x : A) (xs : List A) → (y : A) × (slice_get (x ∷ xs) (length xs) ≡ Some y)
 last_at x [] = (x, refl)
@@ -74,7 +76,7 @@ keys_prefix : {K V S : Type 0} (xs ys : List (Entry K V S)) → IsPrefix xs ys �
 keys_prefix xs ys p = (keys_of p.0, sym (map-append key_of xs p.0) ∙ ap keys_of p.1)
 
 -- and what it lacks, its beginnings lack
-pub lacks_before : {K V S : Type 0} (equal : K → K → Bool) (xs ys : List (Entry K V S)) (key : K) → IsPrefix xs ys → Lacks equal ys key → Lacks equal xs key
+pub lacks_before : {Q K V S : Type 0} (equal : Q → K → Bool) (xs ys : List (Entry K V S)) (key : Q) → IsPrefix xs ys → Lacks equal ys key → Lacks equal xs key
 lacks_before equal xs ys key p lacks i y at = lacks i y (later_at (keys_of xs) (keys_of ys) i y (keys_prefix xs ys p) at)
 
 -- the keys of two beginnings of a map's list are at one place each
@@ -89,11 +91,11 @@ pair_at (x ∷ es) zero e at = let same : x ≡ e = cc at in ap (λ y. (y.key, y
 pair_at (x ∷ es) (suc i) e at = pair_at es i e at
 
 -- what a list has at a place isn't lacking in it
-pub not_lacking : {K V S : Type 0} (equal : K → K → Bool) (es : List (Entry K V S)) (key : K) (i : ℕ) (e : Entry K V S) → Lacks equal es key → slice_get es i ≡ Some e → equal key e.key ≡ true → ⊥
+pub not_lacking : {Q K V S : Type 0} (equal : Q → K → Bool) (es : List (Entry K V S)) (key : Q) (i : ℕ) (e : Entry K V S) → Lacks equal es key → slice_get es i ≡ Some e → equal key e.key ≡ true → ⊥
 not_lacking equal es key i e lacks at is = one_answer (sym (lacks i e.key (key_at es i e at)) ∙ is)
 
 -- the entry that is read at a place where the key was found
-pub stands_at : {K V S : Type 0} (equal : K → K → Bool) (es : List (Entry K V S)) (i : ℕ) (key : K) (x : Entry K V S)
+pub stands_at : {Q K V S : Type 0} (equal : Q → K → Bool) (es : List (Entry K V S)) (i : ℕ) (key : Q) (x : Entry K V S)
     → ((e : Entry K V S) × (slice_get es i ≡ Some e) × (equal key e.key ≡ true)) → slice_get es i ≡ Some x → HasAt equal es i key x.value
 stands_at equal es i key x found here =
     let both : Some found.0 ≡ Some x = sym found.1 ∙ here in
@@ -132,3 +134,11 @@ some_has (Some x) P h e = (x, h)
 pub some_at : {A : Type 0} (o : Option A) (x : A) (P : A → Type 0) → o ≡ Some x → IfSome o P → P x
 some_at None x P e h = absurd (cc e)
 some_at (Some y) x P e h = let same : y ≡ x = cc e in subst P same h
+
+-- a borrow of a text is asked for as the text is
+module _ {V S : Type 0} (es : List (Entry (Bor (List ℕ)) V S)) (text : List ℕ) (key : Bor (List ℕ)) (same : key.now ≡ text) where
+  pub text_lacks : Lacks is_text es text → Lacks (λ a b. bytes_eq a.now b.now) es key
+  text_lacks lacks i y at = ap (λ t. bytes_eq t y.now) same ∙ lacks i y at
+
+  pub text_stands : (i : ℕ) (value : V) → HasAt (λ a b. bytes_eq a.now b.now) es i key value → HasAt is_text es i text value
+  text_stands i value h = (h.0, h.1, sym (ap (λ t. bytes_eq t h.0.key.now) same) ∙ h.2, h.3)

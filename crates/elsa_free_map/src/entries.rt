@@ -1,13 +1,16 @@
 //! The list behind a map: its rule, what lies beside the slots of its buffers, and what a pass shows of it.
 ghost use Rattle.std.specs.Prelude.{◌≡◌, ◌<◌, ◌^◌, fold, length};
+ghost use Rattle.elsa_free.specs.Distinct.{AgreeOnPlaces, IsOneToOne};
 ghost use Rattle.elsa_free.specs.SharedList.{items_of};
+ghost use Rattle.elsa_index_words.specs.Entries.{keys_of};
 ghost use Rattle.elsa_free_map.specs.Entries.{short};
 
 use elsa_free::item_rule::ItemRule;
 use elsa_free::lock_free::{LockFreeFrozenVec, Pass};
-use elsa_index_words::entry::{Entry, Shelf};
+use elsa_index_words::entry::{Entry, Shelf, Sought};
 use elsa_index_words::row::Row;
 use elsa_slots::slots::Beside;
+use indexmap::Equivalent;
 use std::alloc::{Allocator, Global};
 use std::hash::{BuildHasher, Hash};
 use std::marker::PhantomData;
@@ -52,11 +55,63 @@ pub type Entries<K, V, S, A> = LockFreeFrozenVec<Entry<K, V, S>, A, NewKeys<S>, 
 /// A pass of such a list.
 pub type EntriesPass<K, V, S, A> = Pass<Entry<K, V, S>, A, NewKeys<S>, Index<S, A>>;
 
-/// 32 bits of a key's hash.
-pub fn hash_of<K: Copy + Drop + Hash, S: BuildHasher>(builder: &S, key: &K) -> u32
-    ensures { result ≡ short (S.Hasher.finish (fold S.Hasher.write (S.build_hasher builder.now) (K.hash_input key.now))) }
+/// Equal keys of what a pass has seen are at one place. It does nothing when it runs.
+pub fn one_to_one<
+    K: Copy + Drop + Hash,
+    V: Copy + Drop,
+    S: BuildHasher + Copy + Drop,
+    A: Allocator + Copy,
+>(pass: &EntriesPass<K, V, S, A>)
+    ensures { IsOneToOne K.eq (keys_of (items_of pass.now.seen)) }
 {
-    (builder.hash_one(*key).wrapping_mul(0x9E37_79B9_7F4A_7C15) / 0x1_0000_0000) as u32
+    pass.obeys_rule();
+}
+
+/// Equal keys of what two passes of a map have seen are at one place, whether the passes met or not, since each has seen a
+/// beginning of one list. It takes no memory and no atomic step. `O(1)`.
+pub fn same_place<
+    K: Copy + Drop + Hash,
+    V: Copy + Drop,
+    S: BuildHasher + Copy + Drop,
+    A: Allocator + Copy,
+>(pass: &EntriesPass<K, V, S, A>, other: &EntriesPass<K, V, S, A>)
+    requires of { pass.now.vector ≡ other.now.vector }
+    ensures { AgreeOnPlaces K.eq (keys_of (items_of pass.now.seen))
+        (keys_of (items_of other.now.seen)) }
+{
+    let (mut one, mut two) = (pass.again(), other.again());
+    one.meet(&mut two);
+    one.obeys_rule();
+}
+
+/// 32 bits of the hash of a key, or of what stands for keys.
+pub fn hash_of<Q: Copy + Drop + Hash, S: BuildHasher>(builder: &S, key: Q) -> u32
+    ensures { result ≡ short (S.Hasher.finish (fold S.Hasher.write (S.build_hasher builder.now) (Q.hash_input key))) }
+{
+    (builder.hash_one(key).wrapping_mul(0x9E37_79B9_7F4A_7C15) / 0x1_0000_0000) as u32
+}
+
+/// What is looked for in a map: a key by reference, or a text where the keys are texts.
+#[derive(Drop)]
+pub struct Query<Q: Copy> {
+    pub query: Q,
+}
+
+impl<K: Hash, S: BuildHasher + Copy + Drop, Q: Equivalent<K>> Sought<K, S> for Query<Q> {
+    ghost use Rattle.std.specs.Prelude.{fold};
+    ghost use Rattle.elsa_free_map.specs.Entries.{short};
+
+    ghost stands_for = { λ s k. Q.equivalent s.query k };
+
+    ghost hash = { λ s b. short (S.Hasher.finish (fold S.Hasher.write (S.build_hasher b) (Q.hash_input s.query))) };
+
+    fn stands_for(&self, key: &K) -> bool {
+        self.query.equivalent(key)
+    }
+
+    fn hash_of(&self, builder: S) -> u32 {
+        hash_of(&builder, self.query)
+    }
 }
 
 /// What a pass has seen of a map's list, as its rows find it.
@@ -106,6 +161,6 @@ impl<
     }
 
     fn hash_of(&self, builder: S, key: &K) -> u32 {
-        hash_of(&builder, key)
+        hash_of(&builder, *key)
     }
 }

@@ -25,8 +25,8 @@ pub struct MapHandle<
     S: BuildHasher + Copy + Drop = BuildHasherDefault<FoldHasher>,
     A: Allocator + Copy = Global,
 > {
-    map: &'m LockFreeFrozenMap<K, V, S, A>,
-    pass: MapPass<K, V, S, A>,
+    pub(crate) map: &'m LockFreeFrozenMap<K, V, S, A>,
+    pub(crate) pass: MapPass<K, V, S, A>,
 }
 
 impl<

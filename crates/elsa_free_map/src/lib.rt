@@ -5,3 +5,5 @@ pub mod entries;
 pub mod handle;
 pub mod iter;
 pub mod map;
+pub mod place_text;
+mod text;

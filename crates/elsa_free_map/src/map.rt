@@ -12,12 +12,13 @@ ghost use Rattle.elsa_index_words.specs.declared.entry.Entry.{Entry};
 ghost use Rattle.elsa_index_words.specs.Entries.{keys_of};
 ghost use Rattle.elsa_free_map.specs.Entries.{Came, Has, HasAt, Lacks, pairs_of};
 
-use crate::entries::{Entries, EntriesPass, Index, NewKeys, Shown};
+use crate::entries::{Entries, EntriesPass, Index, NewKeys, Query, Shown, one_to_one, same_place};
 use crate::handle::MapHandle;
 use crate::iter::{MapIter, walk};
 use elsa_free::hold::Hold;
 use elsa_free::lock_free::LockFreeFrozenVec;
 use elsa_index_words::entry::{Entry, entered, lookup, regrown};
+use indexmap::Equivalent;
 use std::alloc::{AllocError, Allocator, Global};
 use std::hash::{BuildHasher, BuildHasherDefault, FoldHasher, Hash};
 use std::marker::Model;
@@ -45,7 +46,7 @@ pub struct LockFreeFrozenMap<
     S: BuildHasher + Copy + Drop = BuildHasherDefault<FoldHasher>,
     A: Allocator + Copy = Global,
 > {
-    list: Entries<K, V, S, A>,
+    pub(crate) list: Entries<K, V, S, A>,
     builder: S,
     alloc: A,
 }
@@ -95,7 +96,24 @@ impl<
         MapHandle::of(self, self.pass())
     }
 
-    /// The place of a key among the entries that the pass has seen. No atomic read of the length, no lock and no memory.
+    /// The place of a key among the entries that the pass has seen, by what stands for it. No atomic read of the length, no lock and no
+    /// memory.
+    fn place_of<Q: Equivalent<K>>(&self, pass: &MapPass<K, V, S, A>, query: Q) -> Option<usize>
+        requires of { pass.now.vector ≡ self.now }
+        ensures found { IfSome result (λ i. (e : Entry K V S) ×
+            (slice_get (items_of pass.now.seen) i ≡ Some e)
+            × (Q.equivalent query e.key ≡ true)) }
+        ensures within { IfSome result (λ i. i < length pass.now.seen) }
+        ensures absent { IfNone result (Lacks Q.equivalent (items_of pass.now.seen) query) }
+    {
+        let shown = Shown {
+            list: &self.list,
+            pass,
+        };
+        lookup(&shown, &Query { query })
+    }
+
+    /// The place of a key among the entries that the pass has seen.
     fn place_in(&self, pass: &MapPass<K, V, S, A>, key: K) -> Option<usize>
         requires of { pass.now.vector ≡ self.now }
         ensures found { IfSome result (λ i. (e : Entry K V S) ×
@@ -104,11 +122,32 @@ impl<
         ensures within { IfSome result (λ i. i < length pass.now.seen) }
         ensures absent { IfNone result (Lacks K.eq (items_of pass.now.seen) key) }
     {
-        let shown = Shown {
-            list: &self.list,
-            pass,
-        };
-        lookup(&shown, &key)
+        self.place_of(pass, &key)
+    }
+
+    /// The place of a key, by what stands for it: as [`find_as`](Self::find_as).
+    pub(crate) fn find_by<Q: Equivalent<K>>(
+        &self,
+        pass: &mut MapPass<K, V, S, A>,
+        query: Q,
+    ) -> Option<usize>
+        requires of { pass.old.vector ≡ self.now }
+        ensures continues { Continues pass.old pass.new }
+        ensures found { IfSome result (λ i. (e : Entry K V S) ×
+            (slice_get (items_of pass.new.seen) i ≡ Some e)
+            × (Q.equivalent query e.key ≡ true)) }
+        ensures within { IfSome result (λ i. i < length pass.new.seen) }
+        ensures absent { IfNone result (Lacks Q.equivalent (items_of pass.new.seen) query) }
+    {
+        let found = self.place_of(pass, query);
+        if found.is_some() {
+            return found;
+        }
+        let seen = pass.seen_len();
+        if self.list.len_as(pass) == seen {
+            return None;
+        }
+        self.place_of(pass, query)
     }
 
     /// The place of a key in the order of insertion: `None` only if no entry that the pass has then seen has the key.
@@ -124,15 +163,7 @@ impl<
         ensures within { IfSome result (λ i. i < length pass.new.seen) }
         ensures absent { IfNone result (Lacks K.eq (items_of pass.new.seen) key) }
     {
-        let found = self.place_in(pass, key);
-        if found.is_some() {
-            return found;
-        }
-        let seen = pass.seen_len();
-        if self.list.len_as(pass) == seen {
-            return None;
-        }
-        self.place_in(pass, key)
+        self.find_by(pass, &key)
     }
 
     /// The value of a key: `None` only if no entry that the pass has then seen has the key. It reads, takes and costs what
@@ -169,10 +200,13 @@ impl<
         key: K,
         value: V,
     ) -> (MapPass<K, V, S, A>, Result<(), AllocError>)
+        // The hold and what is shown are of this list, and the key is new.
         requires of { (hold.vector ≡ self.now) × (shown.now.pass.now.seen ≡ hold.seen) }
         requires later { BeginsABuffer (length hold.seen) → ⊥ }
         requires room { length hold.seen + 1 < 2 ^ 32 }
         requires absent { Lacks K.eq (items_of hold.seen) key }
+
+        // The entry is the last, by the pass that the hold gives back; a refusal leaves all.
         ensures same { IsSamePass hold result.0 }
         ensures pushed { OnOk result.1 ((e : Entry K V S) × (e.key ≡ key) × (e.value ≡ value)
             × (result.0.seen ≡ hold.seen ++ entry hold.author e ∷ [])) }
@@ -195,10 +229,13 @@ impl<
         key: K,
         value: V,
     ) -> (MapPass<K, V, S, A>, Result<(), AllocError>)
+        // The hold and what is shown are of this list, and the key is new.
         requires of { (hold.vector ≡ self.now) × (shown.now.pass.now.seen ≡ hold.seen) }
         requires begins { BeginsABuffer (length hold.seen) }
         requires room { (n ≡ length hold.seen) × (length hold.seen + 1 < 2 ^ 32) }
         requires absent { Lacks K.eq (items_of hold.seen) key }
+
+        // The entry is the last, by the pass that the hold gives back; a refusal leaves all.
         ensures same { IsSamePass hold result.0 }
         ensures pushed { OnOk result.1 ((e : Entry K V S) × (e.key ≡ key) × (e.value ≡ value)
             × (result.0.seen ≡ hold.seen ++ entry hold.author e ∷ [])) }
@@ -225,12 +262,16 @@ impl<
     ) -> (MapPass<K, V, S, A>, Result<Option<usize>, AllocError>)
         requires of { pass.vector ≡ self.now }
         requires absent { Lacks K.eq (items_of pass.seen) key }
+
+        // The pass goes on, and the entry is at the length that it had seen.
         ensures same { IsSamePass pass result.0 }
         ensures seen { IsPrefix pass.seen result.0.seen }
         ensures pushed { IfOk result.1 (λ a. IfSome a (λ i. (e : Entry K V S) × (e.key ≡ key) ×
             (e.value ≡ value)
             × (i ≡ length pass.seen) × (result.0.seen ≡ pass.seen ++ entry pass.author e ∷ []))) }
         ensures mine { IfOk result.1 (λ a. IfSome a (λ i. mine result.0 ≡ mine pass ++ i ∷ [])) }
+
+        // Nothing is pushed where the list is longer, or on a refusal.
         ensures again { IfOk result.1 (λ a. IfNone a (mine result.0 ≡ mine pass)) }
         ensures refused { IfErr result.1 (λ e. mine result.0 ≡ mine pass) }
     {
@@ -259,6 +300,7 @@ impl<
         }
     }
 
+    /// As [`push_absent_in`](Self::push_absent_in), with the pass in its place.
     fn push_absent<R: Wait>(
         &self,
         rt: &R,
@@ -268,6 +310,8 @@ impl<
     ) -> Result<Option<usize>, AllocError>
         requires of { pass.old.vector ≡ self.now }
         requires absent { Lacks K.eq (items_of pass.old.seen) key }
+
+        // The pass goes on, and the entry is at the length that it had seen.
         ensures same { IsSamePass pass.old pass.new }
         ensures seen { IsPrefix pass.old.seen pass.new.seen }
         ensures pushed { IfOk result (λ a. IfSome a (λ i. (e : Entry K V S) × (e.key ≡ key) ×
@@ -275,6 +319,8 @@ impl<
             × (i ≡ length pass.old.seen) ×
             (pass.new.seen ≡ pass.old.seen ++ entry pass.old.author e ∷ []))) }
         ensures mine { IfOk result (λ a. IfSome a (λ i. mine pass.new ≡ mine pass.old ++ i ∷ [])) }
+
+        // Nothing is pushed where the list is longer, or on a refusal.
         ensures again { IfOk result (λ a. IfNone a (mine pass.new ≡ mine pass.old)) }
         ensures refused { IfErr result (λ e. mine pass.new ≡ mine pass.old) }
     {
@@ -285,7 +331,7 @@ impl<
     }
 
     /// Inserts a key that the pass has not seen: it is pushed, or another thread has inserted it meanwhile.
-    fn insert_absent<R: Wait>(
+    pub(crate) fn insert_absent<R: Wait>(
         &self,
         rt: &R,
         pass: &mut MapPass<K, V, S, A>,
@@ -294,11 +340,15 @@ impl<
     ) -> Result<Inserted<V>, AllocError>
         requires of { pass.old.vector ≡ self.now }
         requires absent { Lacks K.eq (items_of pass.old.seen) key }
+
+        // The pass is the same, later. The value that stands is at the place: the pass's own, or there already.
         ensures same { IsSamePass pass.old pass.new }
         ensures seen { IsPrefix pass.old.seen pass.new.seen }
         ensures stands { IfOk result (λ r. HasAt K.eq (items_of pass.new.seen) r.place key r.value) }
         ensures came { IfOk result (λ r. Came r.is_new pass.old pass.new r.place) }
         ensures own { IfOk result (λ r. r.is_new ≡ true → r.value ≡ value) }
+
+        // A refusal pushes nothing.
         ensures refused { IfErr result (λ e. mine pass.new ≡ mine pass.old) }
     {
         for _ in rt.forever() {
@@ -443,7 +493,7 @@ impl<
     pub fn one_to_one_as(&self, pass: &MapPass<K, V, S, A>)
         ensures { IsOneToOne K.eq (keys_of (items_of pass.now.seen)) }
     {
-        MapPass::obeys_rule(pass);
+        one_to_one(pass);
     }
 
     /// Equal keys of what two passes of a map have seen are at one place, whether the passes met or not, since each has seen a
@@ -453,9 +503,7 @@ impl<
         ensures { AgreeOnPlaces K.eq (keys_of (items_of pass.now.seen))
             (keys_of (items_of other.now.seen)) }
     {
-        let (mut one, mut two) = (pass.again(), other.again());
-        one.meet(&mut two);
-        one.obeys_rule();
+        same_place(pass, other);
     }
 }
 

@@ -2,6 +2,8 @@
 #![tactic(auto)]
 
 #[cfg(test)]
+mod counted_tests;
+#[cfg(test)]
 mod made_tests;
 #[cfg(test)]
 mod refusal_tests;

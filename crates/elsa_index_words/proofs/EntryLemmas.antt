@@ -67,22 +67,22 @@ module _ {K : Type 0} (hash : K → ℕ) where
     | inr new ↦ subst (λ k. IsIndexed count g k i) (is ∙ ap hash new.1) (subst (IsIndexed count g h) (len ∙ sym new.0) last)
   ]
 
-module _ {K V S : Type 0} (equal : K → K → Bool) (hash : K → ℕ) where
-  -- a test that refused each place under the hash refused each equal key
-  pub absent_by : (lawful : (x y : K) → equal x y ≡ true → hash x ≡ hash y) (es : List (Entry K V S)) (key : K) (count : ℕ) (words : ℕ → ℕ) (h n : ℕ)
-      → h ≡ hash key → n ≡ length es → IndexesKeys hash count words (keys_of es)
-      → ((p : ℕ) → p < n → IsIndexed count words h p → (e : Entry K V S) → slice_get es p ≡ Some e → false ≡ equal key e.key)
+module _ {K V S : Type 0} (test : K → Bool) (hash : K → ℕ) where
+  -- a test that refused each place under the hash refused each key that it would accept
+  pub absent_by : (es : List (Entry K V S)) (count : ℕ) (words : ℕ → ℕ) (h n : ℕ) → (lawful : (y : K) → test y ≡ true → h ≡ hash y)
+      → n ≡ length es → IndexesKeys hash count words (keys_of es)
+      → ((p : ℕ) → p < n → IsIndexed count words h p → (e : Entry K V S) → slice_get es p ≡ Some e → false ≡ test e.key)
       → ((i : ℕ) (y : K) → slice_get (keys_of es) i ≡ Some y → (e : Entry K V S) × (slice_get es i ≡ Some e) × (e.key ≡ y))
-      → IsAbsent equal (keys_of es) key
-  absent_by lawful es key count words h n is len all refused entry i y at = decide (equal key y) refl
+      → (i : ℕ) (y : K) → slice_get (keys_of es) i ≡ Some y → test y ≡ false
+  absent_by es count words h n lawful len all refused entry i y at = decide (test y) refl
     where
-      decide : (b : Bool) → equal key y ≡ b → equal key y ≡ false
+      decide : (b : Bool) → test y ≡ b → test y ≡ false
       decide false e = e
       decide true e =
           let here = entry i y at in
           let within : i < length es = slice_get_within es i here.0 here.1 in
-          let found : IsIndexed count words h i = subst (λ k. IsIndexed count words k i) (sym (is ∙ lawful key y e)) (all i y at) in
-          sym (refused i (omega (arith, within, len)) found here.0 here.1 ∙ ap (equal key) here.2)
+          let found : IsIndexed count words h i = subst (λ k. IsIndexed count words k i) (sym (lawful y e)) (all i y at) in
+          sym (refused i (omega (arith, within, len)) found here.0 here.1 ∙ ap test here.2)
 
 -- the entry of a key's place
 pub entry_at : {K V S : Type 0} (es : List (Entry K V S)) (i : ℕ) (y : K) → slice_get (keys_of es) i ≡ Some y → (e : Entry K V S) × (slice_get es i ≡ Some e) × (e.key ≡ y)

@@ -10,8 +10,8 @@ abbrev pub EachIsNew : {T : Type 0} → (List T → T → Type 0) → List T →
 EachIsNew {T} is_new xs = (i : ℕ) (x : T) → slice_get xs i ≡ Some x → is_new (take i xs) x
 
 module _ {K : Type 0} where
-  -- no key of the list is equal to this one
-  abbrev pub IsAbsent : (K → K → Bool) → List K → K → Type 0
+  -- no key of the list is equal to this one; or, by a test of what stands for keys, none is what is sought
+  abbrev pub IsAbsent : {Q : Type 0} → (Q → K → Bool) → List K → Q → Type 0
   IsAbsent equal xs x = (i : ℕ) (y : K) → slice_get xs i ≡ Some y → equal x y ≡ false
 
   -- each key is found under its hash, at its place

@@ -1,5 +1,5 @@
 //! Entries of a shared list, each with a row's evidence that has no bytes; and how a key is looked for, and entered, by them.
-ghost use Rattle.std.specs.Prelude.{◌≡◌, ℕ, List, ◌+◌, ◌-◌, ◌<◌, ◌^◌, true, length, slice_get, Some, IfOk, IfSome, IfNone};
+ghost use Rattle.std.specs.Prelude.{◌≡◌, ℕ, Bool, List, ◌+◌, ◌-◌, ◌<◌, ◌^◌, true, length, slice_get, Some, IfOk, IfSome, IfNone};
 ghost use Rattle.elsa_index_words.specs.declared.entry.Entry.{Entry};
 ghost use Rattle.elsa_index_words.specs.Entries.{EachIsNew, IsAbsent, IsBehind, keys_of};
 
@@ -44,15 +44,34 @@ pub trait Shelf<K: Eq + Drop, V: Drop, S: Copy + Drop, A: Allocator> {
         ensures { result ≡ Self.hash builder key.now };
 }
 
-/// The place of a key among the entries seen. It takes no lock and no memory, and never waits.
-pub fn lookup<K: Eq + Drop, V: Drop, S: Copy + Drop, A: Allocator, L: Shelf<K, V, S, A>>(
-    list: &L,
-    key: &K,
-) -> Option<usize>
-    requires lawful { (s : S) (x y : K) → K.eq x y ≡ true → L.hash s x ≡ L.hash s y }
+/// What is looked for among keys: a key itself, or what stands for keys and has their hashes.
+pub trait Sought<K, S> {
+    // Which keys it stands for, and its hash, by what a builder makes.
+    ghost stands_for: { Self → K → Bool };
+
+    ghost hash: { Self → S → ℕ };
+
+    fn stands_for(&self, key: &K) -> bool
+        ensures { result ≡ Self.stands_for self.now key.now };
+
+    fn hash_of(&self, builder: S) -> u32
+        ensures { result ≡ Self.hash self.now builder };
+}
+
+/// The place of a key that is sought among the entries seen. It takes no lock and no memory, and never waits.
+pub fn lookup<
+    K: Eq + Drop,
+    V: Drop,
+    S: Copy + Drop,
+    A: Allocator,
+    L: Shelf<K, V, S, A>,
+    Q: Sought<K, S>,
+>(list: &L, sought: &Q) -> Option<usize>
+    requires lawful { (s : S) (key : K) → Q.stands_for sought.now key ≡ true →
+        Q.hash sought.now s ≡ L.hash s key }
     ensures found { IfSome result (λ p. (x : Entry K V S) × (slice_get (L.seen list.now) p ≡ Some x) ×
-        (K.eq key.now x.key ≡ true)) }
-    ensures absent { IfNone result (IsAbsent K.eq (keys_of (L.seen list.now)) key.now) }
+        (Q.stands_for sought.now x.key ≡ true)) }
+    ensures absent { IfNone result (IsAbsent Q.stands_for (keys_of (L.seen list.now)) sought.now) }
 {
     let n = list.seen_len();
     if n == 0 {
@@ -62,12 +81,12 @@ pub fn lookup<K: Eq + Drop, V: Drop, S: Copy + Drop, A: Allocator, L: Shelf<K, V
     let last = list.item(n - 1);
     let mut view = RowView::of(list.row(n - 1), &last.seen);
     let builder = view.builder();
-    let hash = list.hash_of(builder, key);
+    let hash = sought.hash_of(builder);
     let is_it = |place|
         requires { place < length (L.seen list.now) }
         ensures { (x : Entry K V S) → slice_get (L.seen list.entry.now) place ≡ Some x →
-            result ≡ K.eq key.entry.now x.key }
-    { *key == list.item(place).key };
+            result ≡ Q.stands_for sought.entry.now x.key }
+    { sought.stands_for(&list.item(place).key) };
     find(&mut view, hash, n, is_it)
 }
 
@@ -77,9 +96,12 @@ pub fn entered<K: Eq + Drop, V: Drop, S: Copy + Drop, A: Allocator, L: Shelf<K, 
     key: K,
     value: V,
 ) -> Result<Entry<K, V, S>, AllocError>
+    // The list is no empty one, has room, and lacks the key.
     requires some { 0 < length (L.seen list.now) }
     requires room { length (L.seen list.now) + 1 < 2 ^ 32 }
     requires new { IsAbsent K.eq (keys_of (L.seen list.now)) key }
+
+    // The entry has the key and the value, is of the same row, and may stand behind all of the list.
     ensures row { IfOk result (λ e. (last : Entry K V S) →
         slice_get (L.seen list.now) (length (L.seen list.now) - 1) ≡ Some last →
         e.seen.book ≡ last.seen.book) }

@@ -55,10 +55,15 @@ pub fn find<S, W: Words<S>, F: Fn(usize) -> bool>(
     n: usize,
     is_it: F,
 ) -> Option<usize>
+    // `is_it` may be asked of each place below `n`.
     requires limit { n < 2 ^ 32 }
     requires callable { (place : ℕ) → place < n → F.pre is_it place }
+
+    // The words are as known before, or filled since.
     ensures same { (W.count words.new ≡ W.count words.old) × (W.whose words.new ≡ W.whose words.old) }
     ensures later { IsLater (W.known words.old) (W.known words.new) }
+
+    // A place that was accepted, or else each that was known is refused.
     ensures found { IfSome result (λ p. (p < n) × F.post is_it p true) }
     ensures absent { IfNone result ((p : ℕ) → p < n →
         IsIndexed (W.count words.old) (W.known words.old) hash p → F.post is_it p false) }

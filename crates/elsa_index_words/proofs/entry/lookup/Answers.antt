@@ -21,6 +21,8 @@ returns-clause-absent g c =
     let view = c.of-view.result in
     let now = later_indexes g.L.Shelf.hash (keys_of es) last.seen.log view.seen.log c.of-view.ensures.known before in
     let all = indexed_by g.L.Shelf.hash (keys_of es) view.seen.log view.row.now.builder (length view.row.now.words.items) view.built view.opened now in
+    let builder = view.row.now.builder in
+    let hashed = c.hash_of-hash.ensures ∙ ap (g.Q.Sought.hash c.args.sought.now) c.builder-builder.ensures in
     none_weaker c.find.result _ _
-    (λ refused. absent_by g.K.PartialEq.eq (g.L.Shelf.hash view.row.now.builder) (c.requires.lawful view.row.now.builder) es c.args.key.now (length view.row.now.words.items) (λ k. value_at k view.seen.log) c.hash_of-hash.result n (c.hash_of-hash.ensures ∙ ap (λ s. g.L.Shelf.hash s c.args.key.now) c.builder-builder.ensures) len all refused (entry_at es))
+    (λ refused. absent_by (g.Q.Sought.stands_for c.args.sought.now) (g.L.Shelf.hash builder) es (length view.row.now.words.items) (λ k. value_at k view.seen.log) c.hash_of-hash.result n (λ y e. hashed ∙ c.requires.lawful builder y e) len all refused (entry_at es))
     c.find.ensures.absent

@@ -4,7 +4,7 @@ use Rattle.elsa_index_words.specs.Entries.{keys_of}
 use Rattle.elsa_free.proofs.RuleLemmas.EachNew.{one_to_one}
 use Rattle.elsa_free_map.specs.Entries.{short}
 use Rattle.elsa_free_map.proofs.MapLemmas.{keys_are_new}
-use Rattle.elsa_free_map.proofs.map.LockFreeFrozenMap.one_to_one_as.Goals as goal
+use Rattle.elsa_free_map.proofs.entries.one_to_one.Goals as goal
 
 pub returns : goal.returns
 returns g c =

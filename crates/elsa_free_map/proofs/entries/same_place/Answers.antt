@@ -4,7 +4,7 @@ use Rattle.elsa_free.specs.SharedList.{items_of}
 use Rattle.elsa_free.proofs.RuleLemmas.History.{items_prefix}
 use Rattle.elsa_free_map.specs.Entries.{short}
 use Rattle.elsa_free_map.proofs.MapLemmas.{keys_agree}
-use Rattle.elsa_free_map.proofs.map.LockFreeFrozenMap.same_place_as.Goals as goal
+use Rattle.elsa_free_map.proofs.entries.same_place.Goals as goal
 
 pub returns : goal.returns
 returns g c =
