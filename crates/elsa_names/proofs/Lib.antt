@@ -1,2 +1,1 @@
-mod Absent
-mod Known
+pub mod AsNames

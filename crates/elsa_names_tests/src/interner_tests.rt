@@ -13,10 +13,12 @@ use test_alloc::Budget;
 
 type Names<A> = NamePass<Name, BuildHasherDefault<FoldHasher>, A>;
 
+type Interner<A> = SharedInterner<Name, BuildHasherDefault<FoldHasher>, A>;
+
 /// The place of a name, or `None` where memory was refused.
 fn put<R: Wait, A: Allocator + Copy>(
     rt: &R,
-    interner: &SharedInterner<Name, A>,
+    interner: &Interner<A>,
     names: &mut Names<A>,
     text: &str,
 ) -> Option<usize>
@@ -29,7 +31,7 @@ fn put<R: Wait, A: Allocator + Copy>(
 
 /// Whether the name at this place is the text.
 fn has<A: Allocator + Copy>(
-    interner: &SharedInterner<Name, A>,
+    interner: &Interner<A>,
     names: &mut Names<A>,
     place: usize,
     text: &str,
@@ -62,9 +64,9 @@ fn two_passes_find_each_others_names(rt: HostRuntime) -> Result<(), Fail> {
     Ok(())
 }
 
-/// The place at which a pass finds a name, without a put; 100 where memory is refused.
+/// The place at which a pass finds a name, without a put.
 fn find<A: Allocator + Copy>(
-    interner: &SharedInterner<Name, A>,
+    interner: &Interner<A>,
     names: &mut Names<A>,
     text: &str,
 ) -> Option<usize>
@@ -72,7 +74,7 @@ fn find<A: Allocator + Copy>(
     ensures { names.new.vector ≡ names.old.vector }
 {
     let name = Name::new(text).ok()?;
-    interner.find(names, name).unwrap_or(Some(100))
+    interner.find(names, name)
 }
 
 /// Whether a pass that puts nothing finds the names of another one, and no others.
@@ -95,33 +97,34 @@ fn a_pass_finds_names_that_it_did_not_put(rt: HostRuntime) -> Result<(), Fail> {
     Ok(())
 }
 
-/// Whether a look-up whose index is refused its memory finds the name later.
-fn found_after_a_refusal<R: Wait>(
+/// Whether a new pass finds a name that another one put, and puts it, without a request for memory.
+fn knows_at_once<R: Wait>(
     rt: &R,
     budget: &Budget<Global>,
-    interner: &SharedInterner<Name, &Budget<Global>>,
+    interner: &Interner<&Budget<Global>>,
 ) -> bool {
     let mut p = interner.pass();
     let mut q = interner.pass();
     let first = put(rt, interner, &mut p, "a");
     budget.refuse_next(1);
-    let refused = find(interner, &mut q, "a");
+    let found = find(interner, &mut q, "a");
+    let again = put(rt, interner, &mut q, "a");
     budget.refuse_next(0);
-    first == Some(0) && refused == Some(100) && find(interner, &mut q, "a") == Some(0)
+    first == Some(0) && found == Some(0) && again == Some(0)
 }
 
 #[test]
-fn a_refused_look_up_succeeds_later(rt: HostRuntime) -> Result<(), Fail> {
+fn a_new_pass_takes_no_memory_for_a_known_name(rt: HostRuntime) -> Result<(), Fail> {
     let budget = Budget::new(rt.alloc());
-    let interner = SharedInterner::<Name, _>::new(&budget)?;
-    assert!(rt; found_after_a_refusal(&rt, &budget, &interner));
+    let interner = SharedInterner::<Name, _, _>::new(&budget)?;
+    assert!(rt; knows_at_once(&rt, &budget, &interner));
     Ok(())
 }
 
 #[test]
 fn a_refused_first_put_succeeds_later(rt: HostRuntime) -> Result<(), Fail> {
     let budget = Budget::new(rt.alloc());
-    let interner = SharedInterner::<Name, _>::new(&budget)?;
+    let interner = SharedInterner::<Name, _, _>::new(&budget)?;
     assert!(rt; refused_once(&rt, &budget, &interner));
     Ok(())
 }
@@ -130,7 +133,7 @@ fn a_refused_first_put_succeeds_later(rt: HostRuntime) -> Result<(), Fail> {
 fn refused_once<R: Wait>(
     rt: &R,
     budget: &Budget<Global>,
-    interner: &SharedInterner<Name, &Budget<Global>>,
+    interner: &Interner<&Budget<Global>>,
 ) -> bool {
     let mut names = interner.pass();
     budget.refuse_next(1);
@@ -140,12 +143,12 @@ fn refused_once<R: Wait>(
     refused.is_none() && empty && put(rt, interner, &mut names, "a") == Some(0)
 }
 
-/// Whether the first put, whose requests are this many, is refused the last of them, the list's buffer, and the same put then asks
-/// for that alone and takes the first place.
+/// Whether the first put, whose requests are this many, is refused the last of them, the list's buffer, and the same put then makes
+/// as many requests and takes the first place.
 fn refused_its_buffer<R: Wait>(
     rt: &R,
     budget: &Budget<Global>,
-    interner: &SharedInterner<Name, &Budget<Global>>,
+    interner: &Interner<&Budget<Global>>,
     requests: u64,
 ) -> bool {
     let mut names = interner.pass();
@@ -155,14 +158,14 @@ fn refused_its_buffer<R: Wait>(
     let asked = budget.asked();
     let again = put(rt, interner, &mut names, "a");
     let more = budget.asked().wrapping_sub(asked);
-    refused.is_none() && again == Some(0) && more == 1
+    refused.is_none() && again == Some(0) && more == requests
 }
 
 /// How many requests the first put makes.
 fn requests_of_a_put<R: Wait>(
     rt: &R,
     budget: &Budget<Global>,
-    interner: &SharedInterner<Name, &Budget<Global>>,
+    interner: &Interner<&Budget<Global>>,
 ) -> u64 {
     let mut names = interner.pass();
     let asked = budget.asked();
@@ -173,9 +176,9 @@ fn requests_of_a_put<R: Wait>(
 #[test]
 fn a_first_put_without_the_buffer_of_the_list_succeeds_later(rt: HostRuntime) -> Result<(), Fail> {
     let budget = Budget::new(rt.alloc());
-    let other = SharedInterner::<Name, _>::new(&budget)?;
+    let other = SharedInterner::<Name, _, _>::new(&budget)?;
     let requests = requests_of_a_put(&rt, &budget, &other);
-    let interner = SharedInterner::<Name, _>::new(&budget)?;
+    let interner = SharedInterner::<Name, _, _>::new(&budget)?;
     assert!(rt; requests > 1 && refused_its_buffer(&rt, &budget, &interner, requests));
     Ok(())
 }
@@ -187,7 +190,7 @@ const WORDS: [&str; 20] = [
 ];
 
 /// How many puts of the script were refused; 100 where one gave a wrong place. Each word is put twice, by two passes.
-fn script<R: Wait, A: Allocator + Copy>(rt: &R, interner: &SharedInterner<Name, A>) -> u64 {
+fn script<R: Wait, A: Allocator + Copy>(rt: &R, interner: &Interner<A>) -> u64 {
     let mut p = interner.pass();
     let mut q = interner.pass();
     let mut refused: u64 = 0;
@@ -220,7 +223,7 @@ fn script<R: Wait, A: Allocator + Copy>(rt: &R, interner: &SharedInterner<Name, 
 
 /// Whether the script goes well though its request with this number is refused.
 fn goes_on_after<R: Wait>(rt: &R, budget: &Budget<Global>, number: u64) -> bool {
-    let Ok(interner) = SharedInterner::<Name, &Budget<Global>>::new(budget) else {
+    let Ok(interner) = Interner::<&Budget<Global>>::new(budget) else {
         return false;
     };
     let asked = budget.asked().saturating_add(number);
@@ -237,20 +240,19 @@ fn a_script_goes_on_after_each_refused_request(rt: HostRuntime) -> Result<(), Fa
     for number in 0..40 {
         assert!(rt; goes_on_after(&rt, &budget, number), "at request {number}");
     }
-    assert!(rt; budget.refused() >= 8);
+    // A buffer of the list begins at the places 0, 3 and 15, and asks for its slots and for its row of words.
+    assert!(rt; budget.refused() == 6);
     Ok(())
 }
 
-/// Whether a name that a pass knows is put once more, and read, without a request for memory. The first put appends it, and the second
-/// indexes it.
+/// Whether a name that a pass knows is put once more, and read, without a request for memory.
 fn asks_nothing<R: Wait>(
     rt: &R,
     budget: &Budget<Global>,
-    interner: &SharedInterner<Name, &Budget<Global>>,
+    interner: &Interner<&Budget<Global>>,
 ) -> bool {
     let mut names = interner.pass();
-    let known = put(rt, interner, &mut names, "a") == Some(0)
-        && put(rt, interner, &mut names, "a") == Some(0);
+    let known = put(rt, interner, &mut names, "a") == Some(0);
     let before = budget.asked();
     let again = put(rt, interner, &mut names, "a") == Some(0) && has(interner, &mut names, 0, "a");
     known && again && budget.asked() == before
@@ -259,7 +261,7 @@ fn asks_nothing<R: Wait>(
 #[test]
 fn a_put_of_a_known_name_asks_for_no_memory(rt: HostRuntime) -> Result<(), Fail> {
     let budget = Budget::new(rt.alloc());
-    let interner = SharedInterner::<Name, _>::new(&budget)?;
+    let interner = SharedInterner::<Name, _, _>::new(&budget)?;
     assert!(rt; asks_nothing(&rt, &budget, &interner));
     Ok(())
 }
@@ -281,5 +283,24 @@ fn passes_that_never_met_agree_on_what_both_have_seen(rt: HostRuntime) -> Result
     let other = interner.pass();
     let place = put(&rt, &interner, &mut one, "a");
     assert!(rt; place == Some(0) && agree(&one, &other) == (1, 0));
+    Ok(())
+}
+
+/// Whether a handle puts a name, and another one finds it and counts it, each without a pass in the caller's hands.
+fn by_handles<R: Wait>(rt: &R, interner: &SharedInterner, name: Name, other: Name) -> bool {
+    let mut one = interner.handle();
+    let mut two = interner.handle();
+    let put = one.put(rt, name) == Ok(0) && one.put(rt, name) == Ok(0);
+    let found = two.find(name) == Some(0) && two.find(other).is_none();
+    put && found && two.at(0) == Some(name) && two.len() == 1
+}
+
+#[test]
+fn a_handle_needs_no_pass_in_hand(rt: HostRuntime) -> Result<(), Fail> {
+    let interner = SharedInterner::<Name>::new(rt.alloc())?;
+    let (Ok(name), Ok(other)) = (Name::new("fox"), Name::new("owl")) else {
+        return Ok(());
+    };
+    assert!(rt; by_handles(&rt, &interner, name, other));
     Ok(())
 }

@@ -7,6 +7,8 @@ mod hash_tests;
 #[cfg(test)]
 mod interner_tests;
 #[cfg(test)]
+mod large_tests;
+#[cfg(test)]
 mod name_tests;
 #[cfg(test)]
 mod push_at_tests;

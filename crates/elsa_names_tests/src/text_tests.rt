@@ -2,7 +2,7 @@
 ghost use Rattle.std.specs.Prelude.{◌≡◌, IfOk};
 
 use bumpalo::Bump;
-use elsa_names::place_text::{PlaceText, TextBuffer};
+use elsa_free_map::place_text::{PlaceText, TextBuffer};
 use elsa_names::shared::{NamePass, SharedInterner};
 use std::alloc::{AllocError, Allocator, Global};
 use std::hash::{BuildHasherDefault, FoldHasher};
@@ -61,9 +61,9 @@ fn finds_without_a_put<'a, R: Wait>(
     let mut q = interner.pass();
     let first = twice(rt, &interner, &mut p, arena, "best friend")? == (0, 0)
         && twice(rt, &interner, &mut p, arena, "")? == (1, 1);
-    let found = interner.find_text(&mut q, "")? == Some(1);
-    let absent = interner.find_text(&mut q, "best")?.is_none();
-    Ok(first && found && absent && interner.find_text(&mut q, "best friend")? == Some(0))
+    let found = interner.find_text(&mut q, "") == Some(1);
+    let absent = interner.find_text(&mut q, "best").is_none();
+    Ok(first && found && absent && interner.find_text(&mut q, "best friend") == Some(0))
 }
 
 #[test]
@@ -88,7 +88,7 @@ struct Words<'a, R: Wait, A: Allocator + Copy> {
     rt: &'a R,
     heap: &'a Budget<Global>,
     arena: &'a Bump,
-    interner: SharedInterner<&'a str, A>,
+    interner: SharedInterner<&'a str, BuildHasherDefault<FoldHasher>, A>,
     names: Texts<'a, A>,
     ghost of: { names.vector ≡ interner },
 }
@@ -108,7 +108,7 @@ impl<'a, R: Wait, A: Allocator + Copy> Drop for Words<'a, R, A> {
 /// Puts a word by a text that ends with the call.
 fn put_short<'a, R: Wait, A: Allocator + Copy>(
     rt: &R,
-    interner: &SharedInterner<&'a str, A>,
+    interner: &SharedInterner<&'a str, BuildHasherDefault<FoldHasher>, A>,
     names: &mut Texts<'a, A>,
     arena: &'a Bump,
     word: &str,

@@ -60,6 +60,38 @@ fn a_handle_does_each_of_its_calls(rt: HostRuntime) -> Result<(), Fail> {
     Ok(())
 }
 
+/// Whether a handle that has seen nothing reads what another pushed, counts it, clones it and finds it equal to the clone.
+fn reads_what_another_pushed(rt: &impl Wait, vector: &Vector) -> Result<bool, AllocError> {
+    let (mut own, mut other, mut last) = (vector.handle(), vector.handle(), vector.handle());
+    let pushed = own.push(rt, 7)? == 0 && other.get(0) == Some(7) && other.seen_len() == 1;
+    let later = own.push(rt, 8)? == 1 && other.get(1) == Some(8) && last.len() == 2;
+    let (copy, pass) = vector.handle().clone_vector()?;
+    let mut copied = Handle::of(&copy, pass);
+    Ok(pushed && later && copied.get(1) == Some(8) && vector.handle().equals(&mut copied))
+}
+
+/// Whether a handle that has seen one item of two clones both, and finds a vector of the one item unequal.
+fn clones_what_it_has_not_seen(rt: &impl Wait, vector: &Vector) -> Result<bool, AllocError> {
+    let mut part = vector.handle();
+    let one = part.push(rt, 7)? == 0;
+    let (short, seen) = part.clone_vector()?;
+    let two = vector.handle().push(rt, 8)? == 1 && part.seen_len() == 1;
+    let differ = !part.equals(&mut Handle::of(&short, seen));
+    let mut part = vector.handle();
+    let again = part.get(0) == Some(7) && vector.handle().push(rt, 9)? == 2;
+    let (copy, pass) = part.clone_vector()?;
+    Ok(one && two && differ && again && Handle::of(&copy, pass).get(2) == Some(9))
+}
+
+#[test]
+fn a_handle_sees_what_another_pushed(rt: HostRuntime) -> Result<(), Fail> {
+    let vector: Vector = LockFreeFrozenVec::new(rt.alloc())?;
+    assert!(rt; reads_what_another_pushed(&rt, &vector)?);
+    let vector: Vector = LockFreeFrozenVec::new(rt.alloc())?;
+    assert!(rt; clones_what_it_has_not_seen(&rt, &vector)?);
+    Ok(())
+}
+
 /// How many samples each thread has.
 const SAMPLES: u64 = 250;
 

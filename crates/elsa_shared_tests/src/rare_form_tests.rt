@@ -64,20 +64,20 @@ fn forms_of_a_vector_of_distinct_items(rt: HostRuntime) -> Result<(), Fail> {
     Ok(())
 }
 
-/// Whether a pass with a secret that has seen no name has seen the one of another pass where it met that.
+/// Whether a pass of an interner with a secret, which has seen no name, has seen the one of another pass where it met that.
 fn meets(rt: &impl Wait, alloc: Global, name: Name) -> Result<bool, AllocError> {
-    let names = SharedInterner::new(alloc)?;
-    let mut one = names.pass_with_hasher(SeededState::with_seed(1, 2));
-    let mut other = names.pass_with_hasher(SeededState::with_seed(3, 4));
+    let names = SharedInterner::with_hasher(alloc, SeededState::with_seed(1, 2))?;
+    let mut one = names.pass();
+    let mut other = names.pass();
     let number = names.put(rt, &mut one, name)?;
     let nothing = other.seen_len() == 0;
     other.meet(&mut one);
-    let found = names.find(&mut other, name)?;
+    let found = names.find(&mut other, name);
     Ok(nothing && other.seen_len() == 1 && found == Some(number))
 }
 
 #[test]
-fn forms_of_passes_with_a_secret(rt: HostRuntime) -> Result<(), Fail> {
+fn a_shared_interner_with_a_secret(rt: HostRuntime) -> Result<(), Fail> {
     let name = Name::new("fox").map_err(|_| AllocError)?;
     assert!(rt; meets(&rt, rt.alloc(), name)?);
     Ok(())
@@ -93,7 +93,7 @@ fn puts_of_a_text<'a>(
     let names: SharedInterner<&'a str> = SharedInterner::new(alloc)?;
     let mut pass = names.pass();
     let first = names.put_text(rt, &mut pass, &mut buffer, text)?;
-    let second = names.find_text(&mut pass, text)?.unwrap_or(100);
+    let second = names.find_text(&mut pass, text).unwrap_or(100);
     Ok((first, second, buffer.room()))
 }
 

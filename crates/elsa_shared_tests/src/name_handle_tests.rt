@@ -1,0 +1,83 @@
+//! The shared interner by handles, and a map without locks whose keys are texts, through `elsa` alone.
+use bumpalo::Bump;
+use elsa::interner::{NameHandle, SharedInterner};
+use elsa::sync::{LockFreeFrozenMap, MapHandle};
+use std::alloc::AllocError;
+use std::sync::Wait;
+use std::test::Fail;
+
+type Words<'a> = SharedInterner<&'a str>;
+
+type Ages<'a> = LockFreeFrozenMap<&'a str, u64>;
+
+/// Whether a handle puts a name and a text once each, and finds both.
+fn puts<'a>(rt: &impl Wait, words: &Words<'a>, arena: &'a Bump) -> Result<bool, AllocError> {
+    let mut one = words.handle();
+    let first = one.put(rt, "fox")? == 0 && one.put(rt, "fox")? == 0;
+    let text = one.put_text(rt, arena, "owl")? == 1 && one.put_text(rt, arena, "fox")? == 0;
+    let found = one.find("fox") == Some(0) && one.find_text("owl") == Some(1);
+    let absent = one.find("hen").is_none() && one.find_text("hen").is_none();
+    Ok(first && text && found && absent && one.at(1) == Some("owl") && one.at(2).is_none())
+}
+
+/// Whether a new handle counts both names, and one that has seen nothing sees them where it met that.
+fn meets(words: &Words<'_>) -> bool {
+    let mut seen = NameHandle::of(words, words.pass());
+    let mut fresh = words.handle();
+    let counted = seen.len() == 2 && fresh.seen_len() == 0;
+    seen.one_to_one();
+    seen.same_name_same_place(&fresh);
+    fresh.meet(&mut seen);
+    let mut pass = fresh.into_pass();
+    counted && pass.seen_len() == 2 && words.len(&mut pass) == 2
+}
+
+#[test]
+fn handles_of_an_interner_share_its_names(rt: HostRuntime) -> Result<(), Fail> {
+    let arena = Bump::new(rt.alloc());
+    let words = Words::new(rt.alloc())?;
+    assert!(rt; puts(&rt, &words, &arena)? && meets(&words));
+    Ok(())
+}
+
+/// Whether a map asked by texts through a pass keeps the first value of a text, and places each text once.
+fn asks_by_a_pass<'a>(
+    rt: &impl Wait,
+    ages: &Ages<'a>,
+    arena: &'a Bump,
+) -> Result<bool, AllocError> {
+    let mut pass = ages.pass();
+    let new = ages.insert_text_as(rt, &mut pass, arena, "ann", 30)?;
+    let placed = arena.allocated_bytes();
+    let old = ages.insert_text_as(rt, &mut pass, arena, "ann", 40)?;
+    let first = new.is_new && !old.is_new && old.value == 30 && arena.allocated_bytes() == placed;
+    let found = ages.find_text_as(&mut pass, "ann") == Some(0)
+        && ages.get_text_as(&mut pass, "ann") == Some(30);
+    Ok(first && found && ages.get_text_as(&mut pass, "zoe").is_none())
+}
+
+/// Whether a handle of a map with one text does the same.
+fn asks_by_a_handle<'a>(
+    rt: &impl Wait,
+    ages: &Ages<'a>,
+    arena: &'a Bump,
+) -> Result<bool, AllocError> {
+    let mut handle: MapHandle<'_, &'a str, u64> = ages.handle();
+    let kept = handle.insert_text(rt, arena, "ann", 50)?.value == 30;
+    let new = handle.insert_text(rt, arena, "bob", 20)?.place == 1;
+    let absent = handle.find_text("zoe").is_none();
+    Ok(
+        kept && new
+            && absent
+            && handle.find_text("bob") == Some(1)
+            && handle.get_text("bob") == Some(20),
+    )
+}
+
+#[test]
+fn a_map_without_locks_is_asked_by_texts(rt: HostRuntime) -> Result<(), Fail> {
+    let arena = Bump::new(rt.alloc());
+    let ages = Ages::new(rt.alloc())?;
+    assert!(rt; asks_by_a_pass(&rt, &ages, &arena)? && asks_by_a_handle(&rt, &ages, &arena)?);
+    Ok(())
+}
