@@ -1,4 +1,3 @@
-mod FirstCharacters
 mod DigitLemmas
 pub mod EngineLemmas
 pub mod NameLemmas

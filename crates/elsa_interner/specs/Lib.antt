@@ -1,4 +1,3 @@
-pub mod Cached
 pub mod Devices
 pub mod Engine
 pub mod Feeding

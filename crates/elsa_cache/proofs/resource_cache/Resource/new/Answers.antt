@@ -1,8 +1,8 @@
 use Rattle.std.proofs.Common.{ℕ, length, encode_utf8, sym, subst, ap, ◌∙◌}
 use Rattle.std.specs.Str.{IsCharBoundary}
 use Rattle.std.proofs.lemmas.Str.{IsCharBoundary-at_seam, IsUtf8-past_char, length-encode}
-use Rattle.elsa_interner.proofs.FirstCharacters.{first_cut, no_first}
-use Rattle.elsa_interner.proofs.cache.Resource.new.Goals as goal
+use Rattle.elsa_cache.proofs.FirstCharacters.{first_cut, no_first}
+use Rattle.elsa_cache.proofs.resource_cache.Resource.new.Goals as goal
 
 pub range-requires-clause-end_boundary : goal.range-requires-clause-end_boundary
 range-requires-clause-end_boundary c =

@@ -5,7 +5,7 @@ use Rattle.std.specs.List.{slice_range}
 use Rattle.std.specs.Str.{IsUtf8}
 use Rattle.std.proofs.lemmas.List.{take-append-le, take_rest}
 use Rattle.std.proofs.lemmas.Str.{chars-nil, chars_past_char, length-encode}
-use Rattle.elsa_interner.specs.Cached.{encoded_first, first_character}
+use Rattle.elsa_cache.specs.Cached.{encoded_first, first_character}
 
 -- the bytes of the first character
 pub first_cut : (text rest : List ℕ) (c n : ℕ) → IsUtf8 text → text ≡ encode_utf8 c ++ rest → n ≡ len_utf8 c → slice_range text 0 n ≡ first_character text

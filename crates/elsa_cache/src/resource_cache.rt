@@ -1,12 +1,9 @@
-//! Files that stay loaded: each path's text is loaded once, and what is made of it is kept.
-//!
-//! It stands on the contract of `FrozenMap` alone: the first value of a key stays.
-ghost use Rattle.std.specs.Prelude.{◌≡◌, ◌⊎◌, [], List, ℕ, None, Some, Ok, Err, IfOk, OnErr};
+//! The first characters of texts by path, as of files that are loaded once.
+ghost use Rattle.std.specs.Prelude.{◌≡◌, [], List, ℕ, None, Some, Ok, IfErr, IfOk, OnErr};
 ghost use Rattle.std.specs.Borrow.{Bor};
 ghost use Rattle.std.specs.Fn.{FnOnceTakesAt};
-ghost use Rattle.elsa_interner.specs.Cached.{BeginsText, Cached, FailsToLoad, KeepsOthers, LoadsText, first_character, resource_at, text_at};
+ghost use Rattle.elsa_cache.specs.Cached.{BeginsText, Cached, FailsToLoad, GainsText, IsLoadCause, KeepsOthers, LoadsText, first_character, resource_at, text_at};
 
-pub use crate::parsed_cache::{CacheFault, ParsedCache};
 use bumpalo::Bump;
 use elsa_maps::map::FrozenMap;
 use elsa_once::stable::Own;
@@ -63,12 +60,11 @@ pub struct ResourceCache<
 }
 
 impl<'a, A: Allocator + Copy, S: BuildHasher> Model for ResourceCache<'a, A, S> {
-    ghost use Rattle.std.specs.Prelude.{List, ℕ};
     ghost use Rattle.std.specs.Borrow.{Bor};
-    ghost use Rattle.elsa_interner.specs.Cached.{Cached};
-    ghost use Rattle.elsa_interner.specs.declared.cache.Resource.{Resource};
+    ghost use Rattle.elsa_cache.specs.Cached.{Cached};
+    ghost use Rattle.elsa_cache.specs.declared.resource_cache.Resource.{Resource};
 
-    ghost Value = { Cached (Bor (List ℕ)) (Bor (List ℕ)) (Bor Resource) };
+    ghost Value = { Cached (Bor Resource) };
 
     ghost view = { λ c. record { texts = c.texts; resources = c.resources } };
 }
@@ -119,32 +115,21 @@ impl<'a, A: Allocator + Copy, S: BuildHasher> ResourceCache<'a, A, S> {
     ) -> Result<&'a str, LoadFault>
     where
         F: Drop,
-        requires loader { text_at ⟦<&'a str as PartialEq>⟧.eq self.old path ≡ None →
-            FnOnceTakesAt F.FnOnce load path.now }
+        requires loader { text_at self.old path ≡ None → FnOnceTakesAt F.FnOnce load path.now }
 
         // A text that is there is returned, and nothing changes. Else the loader's is, and stays.
-        ensures there { (t : Bor (List ℕ)) →
-            text_at ⟦<&'a str as PartialEq>⟧.eq self.old path.entry ≡ Some t →
+        ensures present { (t : Bor (List ℕ)) → text_at self.old path.entry ≡ Some t →
             (result ≡ Ok t) × (self.new ≡ self.old) }
-        ensures stays { IfOk result (λ t.
-            text_at ⟦<&'a str as PartialEq>⟧.eq self.new path.entry ≡ Some t) }
-        ensures loaded { (t : Bor (List ℕ)) →
-            text_at ⟦<&'a str as PartialEq>⟧.eq self.old path.entry ≡ None →
-            text_at ⟦<&'a str as PartialEq>⟧.eq self.new path.entry ≡ Some t →
-            LoadsText F.FnOnce load path.entry t.now }
+        ensures stays { IfOk result (λ t. text_at self.new path.entry ≡ Some t) }
+        ensures gains { GainsText (LoadsText F.FnOnce load path.entry) self.old self.new path.entry }
 
-        // Whatever the result, all else stays.
-        ensures others { KeepsOthers ⟦<&'a str as PartialEq>⟧.eq self.old self.new path.entry }
+        // All else stays, and a refusal changes nothing.
+        ensures others { KeepsOthers self.old self.new path.entry }
         ensures resources { self.new.resources ≡ self.old.resources }
-
-        // A refusal changes nothing: by the loader, or since its text found no room.
-        ensures refused { OnErr result ((self.new ≡ self.old)
-            × (text_at ⟦<&'a str as PartialEq>⟧.eq self.old path.entry ≡ None)) }
-        ensures not_found { result ≡ Err LoadFault.NotFound →
-            FailsToLoad F.FnOnce load path.entry LoadFault.NotFound }
-        ensures no_memory { result ≡ Err LoadFault.Memory →
-            FailsToLoad F.FnOnce load path.entry LoadFault.Memory
-            ⊎ ((b : List ℕ) × LoadsText F.FnOnce load path.entry b) }
+        ensures refused { OnErr result (self.new ≡ self.old) }
+        ensures fault { IfErr result (λ f.
+            IsLoadCause (FailsToLoad F.FnOnce load path.entry) (LoadsText F.FnOnce load path.entry)
+            self.old self.new path.entry f) }
     {
         if let Some(text) = self.texts.get(&path) {
             return Ok(text);
@@ -170,36 +155,25 @@ impl<'a, A: Allocator + Copy, S: BuildHasher> ResourceCache<'a, A, S> {
     ) -> Result<&'a Resource<'a>, LoadFault>
     where
         F: Drop,
-        requires loader { resource_at ⟦<&'a str as PartialEq>⟧.eq self.old path ≡ None →
-            text_at ⟦<&'a str as PartialEq>⟧.eq self.old path ≡ None →
+        requires loader { resource_at self.old path ≡ None → text_at self.old path ≡ None →
             FnOnceTakesAt F.FnOnce load path.now }
 
         // A resource that is there is returned, and nothing changes. Else one is made of the path's text, and stays.
-        ensures present { (r : _) →
-            resource_at ⟦<&'a str as PartialEq>⟧.eq self.old path.entry ≡ Some r →
+        ensures present { (r : _) → resource_at self.old path.entry ≡ Some r →
             (result ≡ Ok r) × (self.new ≡ self.old) }
-        ensures made { resource_at ⟦<&'a str as PartialEq>⟧.eq self.old path.entry ≡ None →
-            IfOk result (λ r.
-            BeginsText (text_at ⟦<&'a str as PartialEq>⟧.eq self.new path.entry) r.now.first.now) }
-        ensures stays { IfOk result (λ r.
-            resource_at ⟦<&'a str as PartialEq>⟧.eq self.new path.entry ≡ Some r) }
+        ensures made { resource_at self.old path.entry ≡ None →
+            IfOk result (λ r. BeginsText (text_at self.new path.entry) r.now.first.now) }
+        ensures stays { IfOk result (λ r. resource_at self.new path.entry ≡ Some r) }
 
         // Whatever the result: a text that the path gains is the loader's, and all else stays.
-        ensures loaded { (t : Bor (List ℕ)) →
-            text_at ⟦<&'a str as PartialEq>⟧.eq self.old path.entry ≡ None →
-            text_at ⟦<&'a str as PartialEq>⟧.eq self.new path.entry ≡ Some t →
-            LoadsText F.FnOnce load path.entry t.now }
-        ensures others { KeepsOthers ⟦<&'a str as PartialEq>⟧.eq self.old self.new path.entry }
+        ensures gains { GainsText (LoadsText F.FnOnce load path.entry) self.old self.new path.entry }
+        ensures others { KeepsOthers self.old self.new path.entry }
 
-        // A refusal leaves the resources, and `NotFound` all. Where the path has no text then, the loader said so, or its text found no room.
+        // A refusal leaves the resources.
         ensures refused { OnErr result (self.new.resources ≡ self.old.resources) }
-        ensures not_found { result ≡ Err LoadFault.NotFound →
-            (self.new ≡ self.old) × (text_at ⟦<&'a str as PartialEq>⟧.eq self.old path.entry ≡ None)
-            × FailsToLoad F.FnOnce load path.entry LoadFault.NotFound }
-        ensures no_memory { result ≡ Err LoadFault.Memory →
-            text_at ⟦<&'a str as PartialEq>⟧.eq self.new path.entry ≡ None →
-            FailsToLoad F.FnOnce load path.entry LoadFault.Memory
-            ⊎ ((b : List ℕ) × LoadsText F.FnOnce load path.entry b) }
+        ensures fault { IfErr result (λ f.
+            IsLoadCause (FailsToLoad F.FnOnce load path.entry) (LoadsText F.FnOnce load path.entry)
+            self.old self.new path.entry f) }
     {
         if let Some(resource) = self.resources.get(&path) {
             return Ok(resource);

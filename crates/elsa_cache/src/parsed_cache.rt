@@ -1,10 +1,7 @@
 //! A cache of what a parser makes of loaded texts, which borrows from them.
-//!
-//! It stands on the contract of `FrozenMap` alone: the first value of a key stays.
-ghost use Rattle.std.specs.Prelude.{◌≡◌, [], List, ℕ, false, None, Some, Ok, Err, IfOk, IfSome, OnErr, length};
+ghost use Rattle.std.specs.Prelude.{◌≡◌, [], List, ℕ, None, Some, Ok, IfErr, IfOk, IfSome, OnErr, length};
 ghost use Rattle.std.specs.Borrow.{Bor};
-ghost use Rattle.std.specs.Fn.{FnOnceReturnsAt};
-ghost use Rattle.elsa_interner.specs.Cached.{Cached, FailsToLoad, KeepsOthers, LoadsText, resource_at, text_at};
+ghost use Rattle.elsa_cache.specs.Cached.{Cached, FailsToLoad, GainsText, IsCause, KeepsOthers, LoadsText, ParsedTo, resource_at, text_at};
 
 use bumpalo::Bump;
 use elsa_maps::map::FrozenMap;
@@ -36,11 +33,10 @@ pub struct ParsedCache<
 }
 
 impl<'a, T: Copy + 'a, S: BuildHasher, A: Allocator + Copy> Model for ParsedCache<'a, T, S, A> {
-    ghost use Rattle.std.specs.Prelude.{List, ℕ};
     ghost use Rattle.std.specs.Borrow.{Bor};
-    ghost use Rattle.elsa_interner.specs.Cached.{Cached};
+    ghost use Rattle.elsa_cache.specs.Cached.{Cached};
 
-    ghost Value = { Cached (Bor (List ℕ)) (Bor (List ℕ)) (Bor T) };
+    ghost Value = { Cached (Bor T) };
 
     ghost view = { λ c. record { texts = c.texts; resources = c.values } };
 }
@@ -86,14 +82,14 @@ impl<'a, T: Copy + 'a, S: BuildHasher, A: Allocator + Copy> ParsedCache<'a, T, S
 
     /// The value of the path, `None` exactly if it has none. Takes no memory; one hash.
     pub fn get(&self, path: &str) -> Option<&'a T>
-        ensures { result ≡ resource_at ⟦<&'a str as PartialEq>⟧.eq self.now path.entry }
+        ensures { result ≡ resource_at self.now path.entry }
     {
         self.values.get_text(path)
     }
 
     /// The text of the path, `None` exactly if it has none. Takes no memory; one hash.
     pub fn text(&self, path: &str) -> Option<&'a str>
-        ensures { result ≡ text_at ⟦<&'a str as PartialEq>⟧.eq self.now path.entry }
+        ensures { result ≡ text_at self.now path.entry }
     {
         self.texts.get_text(path)
     }
@@ -113,32 +109,24 @@ impl<'a, T: Copy + 'a, S: BuildHasher, A: Allocator + Copy> ParsedCache<'a, T, S
     ) -> Result<Option<&'a str>, L>
     where
         F: Drop,
-        requires loader { text_at ⟦<&'a str as PartialEq>⟧.eq self.old path ≡ None →
-            F.IsAlwaysCallable load }
+        requires loader { text_at self.old path ≡ None → F.IsAlwaysCallable load }
 
         // A text that is there is returned, and nothing changes. Else the loader's is, and stays.
-        ensures present { (t : Bor (List ℕ)) →
-            text_at ⟦<&'a str as PartialEq>⟧.eq self.old path.entry ≡ Some t →
+        ensures present { (t : Bor (List ℕ)) → text_at self.old path.entry ≡ Some t →
             (result ≡ Ok (Some t)) × (self.new ≡ self.old) }
-        ensures loaded { (t : Bor (List ℕ)) →
-            text_at ⟦<&'a str as PartialEq>⟧.eq self.old path.entry ≡ None →
-            text_at ⟦<&'a str as PartialEq>⟧.eq self.new path.entry ≡ Some t →
-            LoadsText F.FnOnce load path.entry t.now }
-        ensures stays { IfOk result (λ o. IfSome o (λ t.
-            text_at ⟦<&'a str as PartialEq>⟧.eq self.new path.entry ≡ Some t)) }
+        ensures stays { IfOk result (λ o. IfSome o (λ t. text_at self.new path.entry ≡ Some t)) }
+        ensures gains { GainsText (LoadsText F.FnOnce load path.entry) self.old self.new path.entry }
 
-        // Whatever the result, all else stays.
-        ensures others { KeepsOthers ⟦<&'a str as PartialEq>⟧.eq self.old self.new path.entry }
+        // All else stays.
+        ensures others { KeepsOthers self.old self.new path.entry }
         ensures values { self.new.resources ≡ self.old.resources }
 
         // No room for the text, or an error of the loader: nothing changes.
         ensures no_memory { result ≡ Ok None →
-            (self.new ≡ self.old)
-            × (text_at ⟦<&'a str as PartialEq>⟧.eq self.old path.entry ≡ None) }
-        ensures no_room { result ≡ Ok None →
-            (s : _) × FnOnceReturnsAt F.FnOnce load path.now (Ok s) }
-        ensures not_loaded { (e : L) → result ≡ Err e →
-            (self.new ≡ self.old) × FailsToLoad F.FnOnce load path.entry e }
+            (self.new ≡ self.old) × (text_at self.old path.entry ≡ None) }
+        ensures no_room { result ≡ Ok None → (b : List ℕ) × LoadsText F.FnOnce load path.entry b }
+        ensures not_loaded { IfErr result (λ e.
+            (self.new ≡ self.old) × FailsToLoad F.FnOnce load path.entry e) }
     {
         if let Some(text) = self.texts.get_text(path) {
             return Ok(Some(text));
@@ -168,49 +156,26 @@ impl<'a, T: Copy + 'a, S: BuildHasher, A: Allocator + Copy> ParsedCache<'a, T, S
     where
         F: Drop,
         G: Drop,
-        requires loader { resource_at ⟦<&'a str as PartialEq>⟧.eq self.old path ≡ None →
-            text_at ⟦<&'a str as PartialEq>⟧.eq self.old path ≡ None →
+        requires loader { resource_at self.old path ≡ None → text_at self.old path ≡ None →
             F.IsAlwaysCallable load }
-        requires parser { resource_at ⟦<&'a str as PartialEq>⟧.eq self.old path ≡ None →
-            G.IsAlwaysCallable parse }
+        requires parser { resource_at self.old path ≡ None → G.IsAlwaysCallable parse }
 
-        // A value that is there.
-        ensures present { (v : Bor T) →
-            resource_at ⟦<&'a str as PartialEq>⟧.eq self.old path.entry ≡ Some v →
+        // A value that is there, or one that is made now: of the text that the path has then.
+        ensures present { (v : Bor T) → resource_at self.old path.entry ≡ Some v →
             (result ≡ Ok v) × (self.new ≡ self.old) }
+        ensures made { resource_at self.old path.entry ≡ None →
+            IfOk result (λ v. ParsedTo (G.post parse) self.new path.entry (Ok v.now)) }
+        ensures stays { IfOk result (λ v. resource_at self.new path.entry ≡ Some v) }
 
-        // A value that is made now: of the text that the path has then, which is the loader's if it is new.
-        ensures made { resource_at ⟦<&'a str as PartialEq>⟧.eq self.old path.entry ≡ None →
-            IfOk result (λ v.
-            (t : Bor (List ℕ))
-            × (text_at ⟦<&'a str as PartialEq>⟧.eq self.new path.entry ≡ Some t)
-            × G.post parse t (Ok v.now)) }
-        ensures loaded { (t : Bor (List ℕ)) →
-            text_at ⟦<&'a str as PartialEq>⟧.eq self.old path.entry ≡ None →
-            text_at ⟦<&'a str as PartialEq>⟧.eq self.new path.entry ≡ Some t →
-            LoadsText F.FnOnce load path.entry t.now }
+        // Whatever the result: a text that the path gains is the loader's, and all else stays.
+        ensures gains { GainsText (LoadsText F.FnOnce load path.entry) self.old self.new path.entry }
+        ensures others { KeepsOthers self.old self.new path.entry }
 
-        // What stays.
-        ensures stays { IfOk result (λ v.
-            resource_at ⟦<&'a str as PartialEq>⟧.eq self.new path.entry ≡ Some v) }
-        ensures others { KeepsOthers ⟦<&'a str as PartialEq>⟧.eq self.old self.new path.entry }
-
-        // Refusals: by whom, and what each leaves.
+        // A refusal leaves the values.
         ensures refused { OnErr result (self.new.resources ≡ self.old.resources) }
-        ensures not_loaded { (e : L) → result ≡ Err (CacheFault.Load e) →
-            (self.new ≡ self.old) × FailsToLoad F.FnOnce load path.entry e }
-        ensures not_parsed { (e : P) → result ≡ Err (CacheFault.Parse e) →
-            (t : Bor (List ℕ))
-            × (text_at ⟦<&'a str as PartialEq>⟧.eq self.new path.entry ≡ Some t)
-            × G.post parse t (Err e) }
-
-        // Memory was refused for the text where the path has none, else for the value.
-        ensures no_text { result ≡ Err CacheFault.Memory →
-            text_at ⟦<&'a str as PartialEq>⟧.eq self.new path.entry ≡ None →
-            (s : _) × FnOnceReturnsAt F.FnOnce load path.now (Ok s) }
-        ensures no_value { (t : Bor (List ℕ)) → result ≡ Err CacheFault.Memory →
-            text_at ⟦<&'a str as PartialEq>⟧.eq self.new path.entry ≡ Some t →
-            (v : T) × G.post parse t (Ok v) }
+        ensures fault { IfErr result (λ f. IsCause
+            (FailsToLoad F.FnOnce load path.entry) (LoadsText F.FnOnce load path.entry) (G.post parse)
+            self.old self.new path.entry f) }
     {
         if let Some(value) = self.values.get_text(path) {
             return Ok(value);
