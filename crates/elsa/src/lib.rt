@@ -5,6 +5,7 @@
 
 pub use elsa_arena::arena;
 pub use elsa_arena::arena::TypedArena;
+pub use elsa_cache as cache;
 pub use elsa_cell as cell;
 pub use elsa_hash::seeded;
 pub use elsa_hash::seeded::SeededState;
@@ -12,13 +13,14 @@ pub use elsa_index::index_map::FrozenIndexMap;
 pub use elsa_index::index_set::FrozenIndexSet;
 pub use elsa_index::look_up::LookUp;
 pub use elsa_index::{index_laws, index_map, index_set, look_up};
-pub use elsa_interner::cache;
 pub use elsa_maps::map;
 pub use elsa_maps::map::{FrozenBTreeMap, FrozenMap, MapForm};
 pub use elsa_once::stable::{Own, StableDeref};
 pub use elsa_once::vec::FrozenVec;
 pub use elsa_once::{stable, vec, vec_laws};
 pub use elsa_run::run;
+pub use elsa_sets as set;
+pub use elsa_sets::{FrozenBTreeSet, FrozenSet};
 pub use elsa_tables as tables;
 
 pub mod command;

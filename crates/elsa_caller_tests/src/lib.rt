@@ -11,3 +11,5 @@ mod kept;
 mod labels;
 #[cfg(test)]
 mod replayed;
+#[cfg(test)]
+mod sets;

@@ -19,7 +19,7 @@ ghost use Rattle.elsa_model.specs.Insertions.{place_of, Inserted, InsertedNew, I
 
 use bumpalo::Bump;
 use elsa_model::for_its_clause;
-use elsa_once::stable::StableDeref;
+use elsa_once::stable::{KeepsText, StableDeref};
 use indexmap::IndexMap;
 use indexmap::map::{Entry, Iter, Keys, Values};
 use std::alloc::{AllocError, Allocator, Global};
@@ -180,7 +180,8 @@ where
         Some((*key, *value))
     }
 
-    /// What `f` returns for the value of this key. It is called once if the key is present, and else never.
+    /// What `f` returns for the value of this key. It is called once if the key is present, and else never. It may look up
+    /// in the same map; an insertion there doesn't compile.
     ///
     /// It takes no memory of its own. `O(1)`: one hash.
     pub fn map_get<X, F: FnOnce(V::Borrow) -> X>(&self, key: &K, f: F) -> Option<X>
@@ -298,13 +299,18 @@ where
         key: K,
         value: V,
     ) -> Result<(usize, V::Borrow, bool), AllocError>
+        // A present key keeps its place and value; a new one is the last entry.
         ensures present { (x : V.Borrow) → value_at K.eq self.old key ≡ Some x →
             (i : ℕ) × (place_of K.eq self.old key ≡ Some i) × (result ≡ Ok (i, x, false))
             × (self.new ≡ self.old) }
         ensures accepted { IfOk result (λ r.
             InsertedNew K.eq V.target V.shown self.old key value r.0 r.1 r.2 self.new) }
+
+        // Only a new key is refused, and then nothing changes.
         ensures refused { OnErr result (self.new ≡ self.old) }
         ensures only_new { OnErr result (place_of K.eq self.old key ≡ None) }
+
+        // What the key has then is found at its place.
         ensures stands { IfOk result (λ r. value_at K.eq self.new key ≡ Some r.1) }
         ensures stands_at { IfOk result (λ r. place_of K.eq self.new key ≡ Some r.0) }
     {
@@ -328,13 +334,18 @@ where
     ///
     /// Costs and the refusal are those of `insert_full_new`.
     pub fn insert_full(&mut self, key: K, value: V) -> Result<(usize, V::Borrow), AllocError>
+        // A present key keeps its place and value; a new one is the last entry.
         ensures present { (x : V.Borrow) → value_at K.eq self.old key ≡ Some x →
             (i : ℕ) × (place_of K.eq self.old key ≡ Some i) × (result ≡ Ok (i, x))
             × (self.new ≡ self.old) }
         ensures accepted { IfOk result (λ r.
             Inserted K.eq V.target V.shown self.old key value r.0 r.1 self.new) }
+
+        // Only a new key is refused, and then nothing changes.
         ensures refused { OnErr result (self.new ≡ self.old) }
         ensures only_new { OnErr result (place_of K.eq self.old key ≡ None) }
+
+        // What the key has then is found at its place.
         ensures stands { IfOk result (λ r. value_at K.eq self.new key ≡ Some r.1) }
         ensures stands_at { IfOk result (λ r. place_of K.eq self.new key ≡ Some r.0) }
     {
@@ -375,9 +386,9 @@ where
     }
 }
 
-impl<'a, V, S: BuildHasher, A, P: Allocator> FrozenIndexMap<'a, &'a str, V, S, A, P>
+impl<'a, R: KeepsText<'a>, V, S: BuildHasher, A> FrozenIndexMapIn<R, &'a str, V, S, A>
 where
-    V: StableDeref<&'a Bump<P>>,
+    V: StableDeref<R>,
     A: Allocator + Copy,
 {
     /// The value of the key that reads as `key` does, `None` exactly if there is none.
@@ -402,7 +413,7 @@ where
     }
 
     /// Adds the pair last, unless a key of the map reads as `key` does, and returns the place of that text and the value that it
-    /// now has: [`insert_full`](FrozenIndexMap::insert_full) by a text of any lifetime.
+    /// now has: [`insert_full`](FrozenIndexMapIn::insert_full) by a text of any lifetime.
     ///
     /// It looks first, by one hash: where the text is present, the given value is dropped, no memory is taken and nothing changes.
     /// Otherwise the table makes room for one pair, the text is copied into the arena, and the pair inserted by one more hash.
@@ -413,6 +424,7 @@ where
         key: &str,
         value: V,
     ) -> Result<(usize, V::Borrow), AllocError>
+        // A present key keeps its place and value; a new one is the last entry.
         ensures present { (x : V.Borrow) →
             value_at ⟦<&'a str as PartialEq>⟧.eq self.old key.entry ≡ Some x →
             (i : ℕ) × (place_of ⟦<&'a str as PartialEq>⟧.eq self.old key.entry ≡ Some i)
@@ -421,9 +433,13 @@ where
             (k : Bor (List ℕ)) × (k.now ≡ key.now)
             × Inserted ⟦<&'a str as PartialEq>⟧.eq V.target V.shown self.old k value r.0 r.1
             self.new) }
+
+        // Only a new key is refused, and then nothing changes.
         ensures refused { OnErr result (self.new ≡ self.old) }
         ensures only_new { OnErr result (
             place_of ⟦<&'a str as PartialEq>⟧.eq self.old key.entry ≡ None) }
+
+        // What the key has then is found at its place.
         ensures stands { IfOk result (λ r.
             value_at ⟦<&'a str as PartialEq>⟧.eq self.new key.entry ≡ Some r.1) }
         ensures stands_at { IfOk result (λ r.
@@ -433,7 +449,7 @@ where
             return Ok(found);
         }
         self.map.reserve(1)?;
-        let placed = self.arena.try_alloc_str(key)?;
+        let placed = self.arena.keep_text(key)?;
         self.insert_full(placed, value)
     }
 

@@ -43,6 +43,9 @@ where
 }
 
 /// The set whose values are placed in a `Bump` of lifetime `'a`; `P` is the allocator of the arena.
+///
+/// It is an interner of any value: `insert_full` gives a value its number, and `get_index` gives it back. Take `&[u8]` for bytes, and `Own<T>` for any
+/// `T: Copy + Eq + Hash`.
 pub type FrozenIndexSet<'a, T, S = BuildHasherDefault<FoldHasher>, A = Global, P = Global> =
     FrozenIndexSetIn<&'a Bump<P>, T, S, A>;
 
@@ -314,13 +317,18 @@ where
     /// leaves the set as it was; the table may keep the room.
     #[tactic(auto, using(crate::proofs::Content::found_at, crate::proofs::Content::found_nowhere, crate::proofs::Content::found_within))]
     pub fn insert_full_new(&mut self, value: T) -> Result<(usize, T::Borrow, bool), AllocError>
+        // A present value keeps its place; a new one is the last.
         ensures present { (x : T.Borrow) → find (T.finds value) self.old ≡ Some x →
             (i : ℕ) × (position (T.finds value) self.old ≡ Some i) × (result ≡ Ok (i, x, false))
             × (self.new ≡ self.old) }
         ensures accepted { IfOk result (λ r.
             SetInsertedNew T.target T.shown T.finds self.old value r.0 r.1 r.2 self.new) }
+
+        // Only a new value is refused, and then nothing changes.
         ensures refused { OnErr result (self.new ≡ self.old) }
         ensures only_new { OnErr result (position (T.finds value) self.old ≡ None) }
+
+        // The values are unequal, and what stands for this one is found at its place.
         ensures unique { IsDistinct T.Borrow.eq self.new }
         ensures stands { IfOk result (λ r. slice_get self.new r.0 ≡ Some r.1) }
         ensures stands_at { IfOk result (λ r. position (T.finds value) self.new ≡ Some r.0) }
@@ -338,13 +346,18 @@ where
     ///
     /// Costs and the refusal are those of `insert_full_new`.
     pub fn insert_full(&mut self, value: T) -> Result<(usize, T::Borrow), AllocError>
+        // A present value keeps its place; a new one is the last.
         ensures present { (x : T.Borrow) → find (T.finds value) self.old ≡ Some x →
             (i : ℕ) × (position (T.finds value) self.old ≡ Some i) × (result ≡ Ok (i, x))
             × (self.new ≡ self.old) }
         ensures accepted { IfOk result (λ r.
             SetInserted T.target T.shown T.finds self.old value r.0 r.1 self.new) }
+
+        // Only a new value is refused, and then nothing changes.
         ensures refused { OnErr result (self.new ≡ self.old) }
         ensures only_new { OnErr result (position (T.finds value) self.old ≡ None) }
+
+        // The values are unequal, and what stands for this one is found at its place.
         ensures unique { IsDistinct T.Borrow.eq self.new }
         ensures stands { IfOk result (λ r. slice_get self.new r.0 ≡ Some r.1) }
         ensures stands_at { IfOk result (λ r. position (T.finds value) self.new ≡ Some r.0) }

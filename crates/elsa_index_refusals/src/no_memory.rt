@@ -2,9 +2,9 @@
 //! memory or the arena for anything. Both are full, and refuse what they are asked; each collection has each size up to sixteen, so that its
 //! table is full too at some.
 use bumpalo::Bump;
+use elsa_cache::{LoadFault, ResourceCache};
 use elsa_index::index_map::FrozenIndexMap;
 use elsa_index::index_set::FrozenIndexSet;
-use elsa_interner::cache::{LoadFault, ResourceCache};
 use elsa_interner::interner::Interner;
 use elsa_maps::map::{FrozenBTreeMap, FrozenMap, MapForm};
 use elsa_once::stable::{Own, StableDeref};

@@ -1,8 +1,8 @@
 //! Scripts of 32 calls on the index set, the interner and the cache: each request for memory, the tables', the owners' and the arena's, is
 //! refused in turn.
 use bumpalo::Bump;
+use elsa_cache::{LoadFault, ResourceCache};
 use elsa_index::index_set::FrozenIndexSet;
-use elsa_interner::cache::{LoadFault, ResourceCache};
 use elsa_interner::interner::Interner;
 use std::alloc::{AllocError, Allocator, Global};
 use std::hash::{BuildHasherDefault, FoldHasher};

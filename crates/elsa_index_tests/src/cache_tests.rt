@@ -1,6 +1,6 @@
 //! What no clause says of the cache: texts loaded by hand, and how often the loader is called.
 use bumpalo::Bump;
-use elsa_interner::cache::{LoadFault, ResourceCache};
+use elsa_cache::{LoadFault, ResourceCache};
 use std::alloc::Global;
 use std::test::Fail;
 

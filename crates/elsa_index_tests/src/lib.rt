@@ -28,4 +28,8 @@ mod run_vec_tests;
 #[cfg(test)]
 mod set_texts;
 #[cfg(test)]
+mod shelf;
+#[cfg(test)]
+mod value_names;
+#[cfg(test)]
 mod walks;

@@ -1,7 +1,7 @@
 //! What no clause says of the cache of what a parser makes: which closures are called and how often, what each refusal leaves, and slices that
 //! outlive the cache.
 use bumpalo::Bump;
-use elsa_interner::cache::{CacheFault, ParsedCache};
+use elsa_cache::{CacheFault, ParsedCache};
 use std::alloc::{AllocError, Global};
 use std::test::Fail;
 use test_script::leave_room;

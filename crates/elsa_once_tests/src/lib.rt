@@ -1,4 +1,4 @@
-//! Tests of `elsa_once` and `elsa_maps` as a stranger calls them: worked cases, tables of probes, odd keys, and memory refused.
+//! Tests of `elsa_once`, `elsa_maps` and `elsa_sets` as a stranger calls them: worked cases, tables of probes, odd keys, and memory refused.
 #![tactic(auto)]
 
 #[cfg(test)]
@@ -17,6 +17,8 @@ mod printed;
 mod refusals;
 #[cfg(test)]
 mod search_tests;
+#[cfg(test)]
+mod sets;
 #[cfg(test)]
 mod shelf;
 #[cfg(test)]

@@ -102,6 +102,36 @@ fn a_hashed_map_is_walked_once_for_each_key(rt: HostRuntime) -> Result<(), Fail>
     Ok(())
 }
 
+/// The keys in the order of `for` over an ordered map itself, as the digits of a number.
+fn digits_by_for<'a>(map: &Ordered<'a>) -> u64 {
+    let mut digits = 0u64;
+    for (key, _value) in map {
+        digits = digits.wrapping_mul(10).wrapping_add(*key);
+    }
+    digits
+}
+
+/// The sum of the keys and of the lengths of the values, by `for` over a hashed map itself.
+fn sum_by_for<'a>(map: &FrozenMap<'a, u64, &'a str>) -> u64 {
+    let mut sum = 0u64;
+    for (key, value) in map {
+        sum = sum.wrapping_add(*key).wrapping_add(value.len() as u64);
+    }
+    sum
+}
+
+#[test]
+fn for_over_a_map_gives_each_entry_once(rt: HostRuntime) -> Result<(), Fail> {
+    let arena = Bump::new(rt.alloc());
+    let mut hashed: FrozenMap<'_, u64, &str> = FrozenMap::new(rt.alloc(), &arena);
+    for (key, value) in [(1, "a"), (20, "bb"), (300, "ccc"), (1, "zzzzz")] {
+        hashed.insert(key, value)?;
+    }
+    assert_eq!(rt; sum_by_for(&hashed), 327);
+    assert_eq!(rt; digits_by_for(&ordered(rt.alloc(), &arena)?), 123);
+    Ok(())
+}
+
 #[test]
 fn an_extended_vector_has_its_items_and_then_the_iterator_s(rt: HostRuntime) -> Result<(), Fail> {
     let arena = Bump::new(rt.alloc());

@@ -112,7 +112,8 @@ where
         self.table.find(key).copied()
     }
 
-    /// What `f` returns for the value of `key`. It is called once if the key is present, and never if it is absent.
+    /// What `f` returns for the value of `key`. It is called once if the key is present, and never if it is absent. It may
+    /// look up in the same map; an insertion there doesn't compile.
     pub fn map_get<X, F: FnOnce(V::Borrow) -> X>(&self, key: &K, f: F) -> Option<X>
         requires callable { ForSome (value_at T.same self.now key.now) (F.pre f) }
         ensures { MatchOption (value_at T.same self.now key.now) (result ≡ None) (λ value.

@@ -310,6 +310,26 @@ fn copied<K: Eq + Hash + Clone, B: Copy, S: BuildHasher + Clone, A: Allocator + 
     Ok(copy)
 }
 
+/// `for (key, value) in &map` gives each entry once, in no specified order.
+impl<
+    'm,
+    R: Copy,
+    K: Eq + Hash + Drop,
+    V: StableDeref<R>,
+    S: BuildHasher,
+    A: Allocator + Copy,
+> IntoIterator for &'m FrozenMapIn<R, K, V, S, A> {
+    type Item = (&'m K, &'m V::Borrow);
+
+    type IntoIter = Iter<'m, K, V::Borrow>;
+
+    ghost into_iter_gives = { λ m it. (it ≡ m.now) × ShowsInOrder (deref_pair {K = K} {X = V.Borrow}) };
+
+    fn into_iter(self) -> Iter<'m, K, V::Borrow> {
+        self.iter()
+    }
+}
+
 // Two maps are equal where each key has equal values in both, or none in either.
 impl<R: Copy, K: Eq + Hash + Drop, V: StableDeref<R>, S: BuildHasher, A: Allocator + Copy> PartialEq
     for FrozenMapIn<R, K, V, S, A>

@@ -16,7 +16,7 @@ ghost use Rattle.elsa_model.specs.FirstWins.{IsEqualMap};
 use super::Frozen;
 use bumpalo::Bump;
 use elsa_model::for_its_clause;
-use elsa_once::stable::StableDeref;
+use elsa_once::stable::{KeepsText, StableDeref};
 use std::alloc::{AllocError, Allocator, Global};
 use std::collections::BTreeMap;
 use std::collections::btree_map::{Iter, Keys, Range, Values};
@@ -200,10 +200,12 @@ impl<'k, R: Copy, V: StableDeref<R>, A: Allocator + Copy> FrozenBTreeMapIn<R, &'
     }
 }
 
-impl<'a, V, A: Allocator + Copy, P: Allocator> FrozenBTreeMap<'a, &'a str, V, A, P>
-where
-    V: StableDeref<&'a Bump<P>>,
-{
+impl<'a, R: KeepsText<'a>, V: StableDeref<R>, A: Allocator + Copy> FrozenBTreeMapIn<
+    R,
+    &'a str,
+    V,
+    A,
+> {
     /// Gives the text `key` the value, unless a key of the map reads the same, and returns the value that the text now has:
     /// [`insert`](Frozen::insert) by a text of any lifetime.
     ///
@@ -225,7 +227,7 @@ where
         if let Some(found) = self.get_text(key) {
             return Ok(found);
         }
-        let placed = self.arena.try_alloc_str(key)?;
+        let placed = self.arena.keep_text(key)?;
         self.insert(placed, value)
     }
 }
@@ -244,6 +246,20 @@ impl<R: Copy, B: Allocator, V: StableDeref<R>, A: Allocator + Copy> FrozenBTreeM
     {
         let value = self.table.get(key)?;
         Some(*value)
+    }
+}
+
+/// `for (key, value) in &map` gives each entry once, ascending by key.
+impl<'m, R: Copy, K: Ord + Drop, V: StableDeref<R>, A: Allocator + Copy> IntoIterator
+    for &'m FrozenBTreeMapIn<R, K, V, A> {
+    type Item = (&'m K, &'m V::Borrow);
+
+    type IntoIter = Iter<'m, K, V::Borrow>;
+
+    ghost into_iter_gives = { λ m it. (it ≡ m.now) × ShowsInOrder (deref_pair {K = K} {X = V.Borrow}) };
+
+    fn into_iter(self) -> Iter<'m, K, V::Borrow> {
+        self.iter()
     }
 }
 

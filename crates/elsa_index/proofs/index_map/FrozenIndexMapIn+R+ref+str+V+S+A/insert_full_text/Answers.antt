@@ -1,4 +1,4 @@
-use Rattle.elsa_index.proofs.index_map.FrozenIndexMap+ref+str+V+S+A+P.insert_full_text.Goals as goal
+use Rattle.elsa_index.proofs.index_map.FrozenIndexMapIn+R+ref+str+V+S+A.insert_full_text.Goals as goal
 
 -- what was said of the placed text holds of the one that was given: they read the same
 pub returns-clause-stands : goal.returns-clause-stands

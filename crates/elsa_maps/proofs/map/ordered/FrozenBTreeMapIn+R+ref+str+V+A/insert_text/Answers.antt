@@ -1,4 +1,4 @@
-use Rattle.elsa_maps.proofs.map.ordered.FrozenBTreeMap+ref+str+V+A+P.insert_text.Goals as goal
+use Rattle.elsa_maps.proofs.map.ordered.FrozenBTreeMapIn+R+ref+str+V+A.insert_text.Goals as goal
 
 -- what was said of the placed text holds of the one that was given: they read the same
 pub returns-clause-stands : goal.returns-clause-stands

@@ -1,0 +1,36 @@
+//! Words that are seen once: a set of texts, and the set of their lengths in order.
+ghost use Rattle.std.specs.Prelude.{◌≡◌, IfOk};
+
+use bumpalo::Bump;
+use elsa::{FrozenBTreeSet, FrozenSet};
+use std::alloc::{AllocError, Global};
+use std::test::*;
+
+/// The word as the set keeps it.
+fn kept<'a>(seen: &mut FrozenSet<'a, &'a str>, word: &str) -> Result<&'a str, AllocError>
+    ensures { IfOk result (λ kept. kept.now ≡ word.now) }
+{
+    seen.insert_text(word)
+}
+
+// How many words there are, the shortest and the longest length, and the last word after the set's end.
+fn told<'a>(
+    alloc: Global,
+    arena: &'a Bump,
+) -> Result<(usize, Option<usize>, Option<usize>, &'a str), AllocError> {
+    let mut seen = FrozenSet::new(alloc, arena);
+    let mut lengths: FrozenBTreeSet<'_, usize> = FrozenBTreeSet::new(alloc, arena);
+    let mut last = "";
+    for word in ["to", "be", "or", "not", "to", "be"] {
+        last = kept(&mut seen, word)?;
+        lengths.insert(word.len())?;
+    }
+    Ok((seen.len(), lengths.first(), lengths.last(), last))
+}
+
+#[test]
+fn each_word_is_seen_once(rt: HostRuntime) -> Result<(), Fail> {
+    let arena = Bump::new(rt.alloc());
+    assert!(rt; told(rt.alloc(), &arena)? == (4, Some(2), Some(3), "be"));
+    Ok(())
+}
