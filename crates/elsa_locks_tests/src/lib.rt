@@ -2,6 +2,8 @@
 #![tactic(auto)]
 
 #[cfg(test)]
+mod beside;
+#[cfg(test)]
 mod closings;
 #[cfg(test)]
 mod closures;
@@ -11,6 +13,8 @@ mod drops;
 mod harness;
 #[cfg(test)]
 mod keys;
+#[cfg(test)]
+mod large;
 #[cfg(test)]
 mod lists;
 #[cfg(test)]
