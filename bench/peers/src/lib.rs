@@ -70,6 +70,13 @@ impl Draws {
     }
 }
 
+/// A number below 65,535, each doubling as likely as the others.
+#[inline(always)]
+pub fn rank(draws: &mut Draws) -> u64 {
+    let size = 1u64 << (draws.next() & 15);
+    size - 1 + (draws.next() & (size - 1))
+}
+
 /// The key of a place: no two are equal, and they have no order.
 #[inline(always)]
 pub fn key(place: usize) -> u64 {

@@ -1,4 +1,4 @@
-//! Numbers that look like chance, the same as those that upstream's side draws, and places by chance or in order.
+//! Numbers that look like chance, the same as those that the peers draw; places by chance or in order; and numbers by Zipf or all distinct.
 
 /// The draws of one thread.
 #[derive(Clone, Copy)]
@@ -33,6 +33,52 @@ impl Draws {
 #[inline(always)]
 pub fn key(place: usize) -> u64 {
     (place as u64).wrapping_mul(0x9e37_79b9_7f4a_7c15)
+}
+
+/// A number below 65,535, each doubling as likely as the others.
+#[inline(always)]
+pub fn rank(draws: &mut Draws) -> u64 {
+    let size = 1u64 << (draws.next() & 15);
+    (size - 1).wrapping_add(draws.next() & (size - 1))
+}
+
+/// Which numbers are inserted.
+#[derive(Clone, Copy)]
+pub enum Words {
+    /// 65,535 numbers, each doubling of a number's rank as likely as the others.
+    Zipf,
+    /// Each number once.
+    Distinct,
+}
+
+/// The numbers of one thread.
+#[derive(Clone, Copy)]
+pub struct Numbers {
+    words: Words,
+    draws: Draws,
+    next: u64,
+}
+
+impl Numbers {
+    pub fn new(words: Words, thread: usize, each: usize) -> Numbers {
+        Numbers {
+            words,
+            draws: Draws::new(thread),
+            next: (thread as u64).wrapping_mul(each as u64),
+        }
+    }
+
+    #[inline(always)]
+    pub fn next(&mut self) -> u64 {
+        match self.words {
+            Words::Zipf => rank(&mut self.draws),
+            Words::Distinct => {
+                let number = self.next;
+                self.next = number.wrapping_add(1);
+                number
+            }
+        }
+    }
 }
 
 /// How many places there are to read: a power of two, so that none is drawn by a division.

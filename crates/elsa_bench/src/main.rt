@@ -9,24 +9,35 @@
 //! `tree_insert`, `tree_get`, `index_map_insert`, `index_map_get`, `index_map_at`, and the same with `_text` before the call for texts as keys;
 //! `map_clone`, `map_collect`. Walks, clones and collections are made ten times. Interners: `names_zipf` and `names_distinct` put COUNT names in
 //! all into the one that threads share, `texts_..` by one thread short-lived texts into that one, and `alone_..` into the interner of one thread.
+//! LockFreeFrozenMap: `free_insert_zipf` and `free_insert_distinct` make COUNT insertions in all, `free_get_zipf`, `free_get_present` and
+//! `free_get_absent` so many look-ups (of 65,535 keys by Zipf, of a million by chance, and of keys that aren't there), also with `_beside` for a
+//! thread that inserts as long as they last. TypedArena: `arena_alloc`, `arena_walk` (ten times) and `arena_drop`, of COUNT values that own memory.
 #![tactic(auto)]
 
+ghost use Rattle.std.specs.Prelude.{◌<◌};
+
 mod draws;
+mod free_map;
 mod items;
 mod locked_map;
 mod names;
+mod owners;
 mod recorded;
 mod tables;
 mod vector;
 mod whole_maps;
 
+use crate::draws::Words;
+use crate::free_map::Sought;
 use crate::items::ItemCall;
 use crate::locked_map::{LAST, LAST_OF_FEW};
-use crate::names::Words;
+use crate::owners::OwnerCall;
 use crate::tables::TableCall;
 use std::alloc::Global;
 use std::process::ExitCode;
 use std::rt::Clock;
+use std::sync::Wait;
+use std::thread::Threads;
 use std::{env, io};
 use vector::Reads;
 
@@ -45,6 +56,29 @@ fn reads_of(form: &str) -> Option<(Reads, bool)> {
         "plain_beside" => Some((Reads::Plain, true)),
         "plain_in_order" => Some((Reads::PlainInOrder, false)),
         "plain_in_order_beside" => Some((Reads::PlainInOrder, true)),
+        _ => None,
+    }
+}
+
+/// Which keys of the map without locks a form looks up, and whether beside an inserter; nothing for another form.
+fn sought_of(form: &str) -> Option<(Sought, bool)> {
+    match form {
+        "free_get_zipf" => Some((Sought::Zipf, false)),
+        "free_get_zipf_beside" => Some((Sought::Zipf, true)),
+        "free_get_present" => Some((Sought::Present, false)),
+        "free_get_present_beside" => Some((Sought::Present, true)),
+        "free_get_absent" => Some((Sought::Absent, false)),
+        "free_get_absent_beside" => Some((Sought::Absent, true)),
+        _ => None,
+    }
+}
+
+/// What is timed of a `TypedArena`; nothing for another form.
+fn owner_call_of(form: &str) -> Option<OwnerCall> {
+    match form {
+        "arena_alloc" => Some(OwnerCall::Alloc),
+        "arena_walk" => Some(OwnerCall::Walk),
+        "arena_drop" => Some(OwnerCall::Drop),
         _ => None,
     }
 }
@@ -96,10 +130,35 @@ fn timed_alone<R: Clock>(
     form: &str,
     count: usize,
 ) -> io::Result<Option<(u128, u64)>> {
+    if let Some(call) = owner_call_of(form) {
+        return Ok(Some(owners::timed(rt, alloc, call, count)?));
+    }
     match item_call_of(form) {
         Some(call) => Ok(Some(items::timed(rt, alloc, call, count)?)),
         None => timed_map_calls(rt, alloc, form, count),
     }
+}
+
+/// The nanoseconds and the sum of calls on the map without locks; nothing for another form.
+fn timed_free_map<R: Wait + Threads + Sync + Clock>(
+    rt: &R,
+    alloc: Global,
+    form: &str,
+    threads: usize,
+    count: usize,
+) -> io::Result<Option<(u128, u64)>>
+    requires { 0 < threads }
+{
+    if let Some((sought, beside)) = sought_of(form) {
+        let answer = free_map::timed_look_ups(rt, alloc, sought, beside, threads, count)?;
+        return Ok(Some(answer));
+    }
+    let words = match form {
+        "free_insert_zipf" => Words::Zipf,
+        "free_insert_distinct" => Words::Distinct,
+        _ => return Ok(None),
+    };
+    Ok(Some(free_map::timed_insertions(rt, alloc, words, threads, count)?))
 }
 
 fn main(rt: HostRuntime) -> io::Result<ExitCode> {
@@ -111,6 +170,10 @@ fn main(rt: HostRuntime) -> io::Result<ExitCode> {
     let threads = threads.as_str().parse::<usize>().unwrap_or(1).max(1);
     let count = count.as_str().parse::<usize>().unwrap_or(0);
     if let Some((nanos, sum)) = timed_alone(&rt, rt.alloc(), form.as_str(), count)? {
+        println!(rt; "{nanos} {sum}")?;
+        return Ok(ExitCode::SUCCESS);
+    }
+    if let Some((nanos, sum)) = timed_free_map(&rt, rt.alloc(), form.as_str(), threads, count)? {
         println!(rt; "{nanos} {sum}")?;
         return Ok(ExitCode::SUCCESS);
     }

@@ -1,7 +1,7 @@
-//! Interners: COUNT puts of names in all, by Zipf or all distinct, into the one that threads share, and into the one of one thread.
+//! Interners: COUNT puts of names in all, the digits of numbers by Zipf or all distinct, into the one that threads share, and into the one of one thread.
 ghost use Rattle.std.specs.Prelude.{◌≡◌, ◌<◌};
 
-use crate::draws::Draws;
+use crate::draws::{Numbers, Words};
 use bumpalo::Bump;
 use elsa::interner::{Interner, Name, SharedInterner};
 use itoa::Buffer;
@@ -12,57 +12,15 @@ use std::thread::Threads;
 use std::time::Instant;
 use std::{io, thread};
 
-/// Which names are put: the digits of numbers.
-#[derive(Clone, Copy)]
-pub enum Words {
-    /// 65,535 numbers, each doubling of a number's rank as likely as the others.
-    Zipf,
-    /// Each number once.
-    Distinct,
-}
-
-/// The numbers of one thread.
-#[derive(Clone, Copy)]
-struct Numbers {
-    words: Words,
-    draws: Draws,
-    next: u64,
-}
-
-impl Numbers {
-    fn new(words: Words, thread: usize, each: usize) -> Numbers {
-        Numbers {
-            words,
-            draws: Draws::new(thread),
-            next: (thread as u64).wrapping_mul(each as u64),
-        }
-    }
-
-    #[inline(always)]
-    fn next(&mut self) -> u64 {
-        match self.words {
-            Words::Zipf => {
-                let size = 1u64 << (self.draws.next() & 15);
-                (size - 1).wrapping_add(self.draws.next() & (size - 1))
-            }
-            Words::Distinct => {
-                let number = self.next;
-                self.next = number.wrapping_add(1);
-                number
-            }
-        }
-    }
-}
-
 /// The sum of the numbers that one thread's names have.
 fn puts<R: Wait>(rt: &R, names: &SharedInterner, words: Words, thread: usize, each: usize) -> u64 {
-    let mut pass = names.pass();
+    let mut names = names.handle();
     let mut numbers = Numbers::new(words, thread, each);
     let mut digits = Buffer::new();
     let mut sum = 0u64;
     for _put in 0..each {
         if let Ok(name) = Name::new(digits.format(numbers.next())) {
-            if let Ok(number) = names.put(rt, &mut pass, name) {
+            if let Ok(number) = names.put(rt, name) {
                 sum = sum.wrapping_add(number as u64);
             }
         }
@@ -100,12 +58,12 @@ fn puts_of_texts<'a, R: Wait>(
     words: Words,
     count: usize,
 ) -> u64 {
-    let mut pass = names.pass();
+    let mut names = names.handle();
     let mut numbers = Numbers::new(words, 0, count);
     let mut digits = Buffer::new();
     let mut sum = 0u64;
     for _put in 0..count {
-        if let Ok(number) = names.put_text(rt, &mut pass, arena, digits.format(numbers.next())) {
+        if let Ok(number) = names.put_text(rt, arena, digits.format(numbers.next())) {
             sum = sum.wrapping_add(number as u64);
         }
     }

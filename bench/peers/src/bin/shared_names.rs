@@ -5,7 +5,7 @@
 //! put COUNT names in all. It prints the nanoseconds between the start of the threads and the end of the last one, and the sum of the numbers.
 use dashmap::DashMap;
 use hashbrown::HashMap;
-use peers::{timed, words_of, Draws, Fold};
+use peers::{rank, timed, words_of, Draws, Fold};
 use std::hash::{Hash, Hasher};
 use std::sync::atomic::{AtomicU64, Ordering};
 
@@ -105,13 +105,6 @@ impl Shared for Counted {
         }
         *self.numbers.entry(name).or_insert_with(|| self.count.fetch_add(1, Ordering::SeqCst))
     }
-}
-
-/// A rank below 65,535, each doubling as likely.
-#[inline(always)]
-fn rank(draws: &mut Draws) -> u64 {
-    let size = 1u64 << (draws.next() & 15);
-    size - 1 + (draws.next() & (size - 1))
 }
 
 fn puts(names: &impl Shared, by_zipf: bool, thread: usize, count: usize) -> u64 {

@@ -1,0 +1,110 @@
+//! The two lists: an entry's number is its place, and its key an item that no other thread pushes.
+ghost use Rattle.std.specs.Prelude.{◌≡◌};
+
+use crate::form::Form;
+use crate::script::Entry;
+use elsa::sync::{FrozenVec, LockFreeFrozenVec, Pass};
+use std::alloc::{AllocError, Global};
+use std::sync::Wait;
+use test_alloc::Budget;
+
+/// The concurrent vector.
+#[derive(Drop)]
+pub struct FreeList<'h> {
+    pub vector: LockFreeFrozenVec<u64, &'h Budget<Global>>,
+}
+
+/// The locked vector.
+#[derive(Drop)]
+pub struct LockedList<'h> {
+    pub vector: FrozenVec<u64, &'h Budget<Global>>,
+}
+
+/// The entry of an item at a place.
+fn entry(place: u64, item: u64) -> Entry {
+    Entry {
+        number: place,
+        key: item,
+        value: 0,
+    }
+}
+
+impl<'h> Form for FreeList<'h> {
+    type Pass = Pass<u64, &'h Budget<Global>>;
+
+    ghost of = { λ form pass. pass.vector ≡ form.vector };
+
+    fn pass(&self) -> Pass<u64, &'h Budget<Global>> {
+        self.vector.pass()
+    }
+
+    fn insert<R: Wait>(
+        &self,
+        rt: &R,
+        pass: &mut Pass<u64, &'h Budget<Global>>,
+        _key: u64,
+        value: u64,
+    ) -> Result<(Entry, bool), AllocError> {
+        let place = self.vector.push_as(rt, pass, value)?;
+        Ok((entry(place as u64, value), true))
+    }
+
+    fn at<R: Wait>(
+        &self,
+        _rt: &R,
+        pass: &mut Pass<u64, &'h Budget<Global>>,
+        number: u64,
+    ) -> Option<Entry> {
+        let item = self.vector.get_as(pass, number as usize)?;
+        Some(entry(number, item))
+    }
+
+    fn has<R: Wait>(&self, _rt: &R, pass: &mut Pass<u64, &'h Budget<Global>>, new: u64) -> bool {
+        self.vector.len_as(pass) as u64 == new
+    }
+
+    fn meet(
+        &self,
+        one: &mut Pass<u64, &'h Budget<Global>>,
+        other: &mut Pass<u64, &'h Budget<Global>>,
+    ) -> bool {
+        one.meet(other);
+        one.seen_len() == other.seen_len()
+    }
+}
+
+impl<'h> Form for LockedList<'h> {
+    type Pass = ();
+
+    ghost use Rattle.std.specs.Prelude.{⊤};
+
+    ghost of = { λ form pass. ⊤ };
+
+    fn pass(&self) {}
+
+    fn insert<R: Wait>(
+        &self,
+        rt: &R,
+        _pass: &mut (),
+        _key: u64,
+        value: u64,
+    ) -> Result<(Entry, bool), AllocError> {
+        let place = self.vector.push_get_index(rt, value)?;
+        Ok((entry(place as u64, value), true))
+    }
+
+    fn at<R: Wait>(&self, rt: &R, _pass: &mut (), number: u64) -> Option<Entry> {
+        match self.vector.get(rt, number as usize) {
+            Ok(Some(item)) => Some(entry(number, *item)),
+            _ => None,
+        }
+    }
+
+    fn has<R: Wait>(&self, rt: &R, _pass: &mut (), new: u64) -> bool {
+        self.vector.len(rt) as u64 == new
+    }
+
+    fn meet(&self, _one: &mut (), _other: &mut ()) -> bool {
+        true
+    }
+}

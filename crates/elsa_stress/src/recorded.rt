@@ -1,0 +1,148 @@
+//! The recorder: the receipts of all passes are its history, and a plain table that is told the same calls gives the same replies.
+use crate::form::KEYS;
+use crate::script::{Draws, Script};
+use elsa::sync::history::{MapCommand, MapReply, RecordPass, Recorder};
+use elsa::sync::map::MapState;
+use std::alloc::{AllocError, Allocator, Global};
+use std::hash::{BuildHasherDefault, FoldHasher};
+use std::sync::Wait;
+use std::thread;
+use std::thread::Threads;
+use test_alloc::Budget;
+
+/// What the recorder is over.
+type Core<A> = MapState<u64, u64, BuildHasherDefault<FoldHasher>, A>;
+
+type Told<A> = RecordPass<Core<A>, A>;
+
+/// One recorded call by chance.
+fn call<R: Wait, A: Allocator + Copy>(
+    rt: &R,
+    heap: &Budget<Global>,
+    recorder: &Recorder<Core<A>, A>,
+    pass: &mut Told<A>,
+    draws: &mut Draws,
+) {
+    let (key, value) = (draws.below(KEYS), draws.whole());
+    let command = match draws.below(16) {
+        0 => {
+            heap.refuse_next(draws.below(4));
+            return;
+        }
+        1..6 => MapCommand::InsertNew(key, value),
+        6..9 => MapCommand::Insert(key, value),
+        9 => MapCommand::Len,
+        _ => MapCommand::Get(key),
+    };
+    let _ = recorder.call(rt, pass, command).is_ok();
+}
+
+/// What a plain table replies: the value of each key, and how many there are.
+#[derive(Drop)]
+struct Plain {
+    values: Vec<Option<u64>>,
+    count: usize,
+}
+
+impl Plain {
+    fn new(alloc: Global) -> Result<Plain, AllocError> {
+        let mut values = Vec::new(alloc);
+        values.resize(KEYS as usize, None)?;
+        Ok(Plain { values, count: 0 })
+    }
+
+    fn get(&self, key: u64) -> Option<u64> {
+        match self.values.get(key as usize) {
+            Some(value) => *value,
+            None => None,
+        }
+    }
+
+    /// The value that stands, and whether the key was new.
+    fn insert(&mut self, key: u64, value: u64) -> (u64, bool) {
+        if let Some(stands) = self.get(key) {
+            return (stands, false);
+        }
+        if let Some(place) = self.values.get_mut(key as usize) {
+            *place = Some(value);
+        }
+        self.count = self.count.saturating_add(1);
+        (value, true)
+    }
+
+    /// Whether the reply is what the table replies to the command.
+    fn replies(&mut self, command: MapCommand<u64, u64>, reply: MapReply<u64>) -> bool {
+        match command {
+            MapCommand::Insert(key, value) => reply == MapReply::Value(self.insert(key, value).0),
+            MapCommand::InsertNew(key, value) => {
+                let (stands, is_new) = self.insert(key, value);
+                reply == MapReply::ValueNew(stands, is_new)
+            }
+            MapCommand::Get(key) => reply == MapReply::Found(self.get(key)),
+            MapCommand::Len => reply == MapReply::Count(self.count),
+        }
+    }
+}
+
+/// The receipts of one thread's calls.
+fn calls<R: Wait, A: Allocator + Copy>(
+    rt: &R,
+    heap: &Budget<Global>,
+    recorder: &Recorder<Core<A>, A>,
+    pass: Told<A>,
+    script: Script,
+) -> Told<A> {
+    let mut pass = pass;
+    let mut draws = Draws::new(script.seed, pass.number());
+    for _ in 0..script.calls {
+        call(rt, heap, recorder, &mut pass, &mut draws);
+    }
+    pass
+}
+
+/// Whether the receipts are the history, and its replies those of a plain table.
+fn closes<A: Allocator + Copy>(
+    alloc: Global,
+    recorder: Recorder<Core<A>, A>,
+    passes: Vec<Told<A>, A>,
+) -> Result<bool, AllocError> {
+    let Ok(history) = recorder.close(passes) else {
+        return Ok(false);
+    };
+    let mut plain = Plain::new(alloc)?;
+    for entry in history.entries() {
+        if !plain.replies(entry.1, entry.2) {
+            return Ok(false);
+        }
+    }
+    Ok(true)
+}
+
+/// Whether one run over a recorder went well. Each pass is handed on to a second thread.
+pub fn runs_well<R: Threads + Wait + Sync, A: Allocator + Copy + Send + Sync>(
+    rt: &R,
+    alloc: Global,
+    heap: &Budget<Global>,
+    scarce: A,
+    script: Script,
+) -> Result<bool, AllocError> {
+    let recorder = Recorder::new(scarce, MapState::new(scarce));
+    let shared = &recorder;
+    let first = thread::map_indices(
+        rt,
+        alloc,
+        script.pairs.saturating_mul(2),
+        &|number| calls(rt, heap, shared, shared.pass(number as u64), script),
+    )?;
+    let later = Script {
+        seed: script.seed.wrapping_add(1),
+        ..script
+    };
+    let second = thread::map_vec(rt, first, &|pass| calls(rt, heap, shared, pass, later))?;
+    heap.refuse_next(0);
+    let mut passes = Vec::new(scarce);
+    for pass in second {
+        passes.push(pass)?;
+    }
+    closes(alloc, recorder, passes)
+}
