@@ -1,5 +1,5 @@
 """What the scripts of this repository share: its crates, and what each stands on."""
-import os, pathlib, re, subprocess, sys
+import os, pathlib, re, signal, subprocess, sys
 
 root = pathlib.Path(__file__).resolve().parent.parent
 
@@ -7,6 +7,8 @@ root = pathlib.Path(__file__).resolve().parent.parent
 def tell_help(page):
     """Prints a tool's page and ends it, where it is called with -h or --help."""
     if {"-h", "--help"} & set(sys.argv[1:]):
+        # a reader of it, as `head`, may go before the end
+        signal.signal(signal.SIGPIPE, signal.SIG_DFL)
         print(page.strip())
         sys.exit(0)
 
