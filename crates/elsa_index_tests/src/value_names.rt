@@ -41,7 +41,7 @@ fn spots_are_numbered(alloc: Global) -> Result<bool, AllocError> {
         let (place, kept) = number(&mut spots, spot)?;
         good = place == at && *kept == spot && good;
     }
-    let is_back = spots.get_index(1) == Some(&SPOTS[1]) && *spots[2] == SPOTS[3];
+    let is_back = spots.get_index(1) == Some(&SPOTS[1]) && spots.get_index(2) == Some(&SPOTS[3]);
     Ok(good && is_back && spots.len() == 3 && spots.get_index_of(&Own(SPOTS[3])) == Some(2))
 }
 
