@@ -1,9 +1,10 @@
 //! A concurrent vector with a reader that never waits.
 //!
-//! One thread pushes readings while another follows. A push may wait for another push, so the pusher takes the right to wait; a read takes no
-//! lock and no right to wait, so the type of [`Follower::next`](follower::Follower::next) says that it never waits. What a
-//! [`Handle`](elsa::sync::Handle) has seen is a beginning of the one list that all threads share, and only grows, whatever the schedule. The
-//! program prints the same whatever the schedule: what the follower missed while the pusher ran it reads afterwards.
+//! One thread pushes readings while another follows by `news`, which looks once and gives what came since. A push may wait for another
+//! push, so the pusher takes the right to wait; a look takes no lock and no right to wait, so the type of
+//! [`Follower::read_on`](follower::Follower::read_on) says that it never waits. What a [`Handle`](elsa::sync::Handle) has seen is a beginning
+//! of the one list that all threads share, and only grows, whatever the schedule. The program prints the same whatever the schedule: what
+//! the follower missed while the pusher ran it reads afterwards.
 #![tactic(auto)]
 
 mod follower;
@@ -15,14 +16,14 @@ use std::sync::Wait;
 use std::{io, thread};
 
 /// How many readings there are.
-const READINGS: u64 = 1000;
+const READINGS: usize = 1000;
 
-/// How often the follower reads on, while there may be more.
-const TRIES: u64 = 20_000;
+/// How often the follower looks, while there may be more.
+const LOOKS: u64 = 20_000;
 
 /// The reading at a time: it rises from 0 to 6 and begins anew.
-fn reading(time: u64) -> u64 {
-    time % 7
+fn reading(time: usize) -> u64 {
+    (time % 7) as u64
 }
 
 /// Pushes all readings, in order.
@@ -34,43 +35,31 @@ fn push_all<R: Wait>(rt: &R, feed: &LockFreeFrozenVec<u64>) -> Result<(), AllocE
     Ok(())
 }
 
-/// How many readings were seen, and their sum.
-#[derive(Clone, Copy)]
-struct Total {
-    count: u64,
-    sum: u64,
-}
-
-/// Reads on until all readings were seen or it has read on often enough.
-fn follow(follower: &mut Follower<'_>, seen: Total, tries: u64) -> Total {
-    let mut total = seen;
-    for _ in 0..tries {
-        if let Some(item) = follower.next() {
-            total.count = total.count.saturating_add(1);
-            total.sum = total.sum.saturating_add(item);
-        }
-        if total.count == READINGS {
+/// Reads on until all readings were seen or it has looked often enough.
+fn follow(follower: &mut Follower<'_>) {
+    for _ in 0..LOOKS {
+        follower.read_on();
+        if follower.count == READINGS {
             break;
         }
     }
-    total
 }
 
 fn main(rt: HostRuntime) -> io::Result<()> {
     let feed = LockFreeFrozenVec::new(rt.alloc())?;
     let shared = &feed;
     let mut follower = Follower::new(shared);
-    let (pushed, (mut follower, total)) = thread::join(
+    let (pushed, mut follower) = thread::join(
         &rt,
         || push_all(&rt, shared),
         || {
-            let total = follow(&mut follower, Total { count: 0, sum: 0 }, TRIES);
-            (follower, total)
+            follow(&mut follower);
+            follower
         },
     );
     pushed?;
-    let total = follow(&mut follower, total, READINGS);
-    println!(rt; "{} readings, {} in all", total.count, total.sum)?;
+    follower.read_on();
+    println!(rt; "{} readings, {} in all", follower.count, follower.sum)?;
     println!(rt;
         "the last one is {:?}",
         feed.get(feed.len().saturating_sub(1))
