@@ -29,9 +29,11 @@ impl<'v> Follower<'v> {
         ensures grows { IsPrefix self.old.feed.seen self.new.feed.seen }
         ensures counted { self.new.count ≡ length self.new.feed.seen }
     {
+        let mut sum = self.sum;
         for reading in self.feed.news() {
-            self.sum = self.sum.saturating_add(reading);
+            sum = sum.saturating_add(reading);
         }
+        self.sum = sum;
         self.count = self.feed.seen_len();
     }
 }
