@@ -10,7 +10,7 @@ use Rattle.std.specs.List.{list_any, position_or_len}
 use Rattle.std.specs.Map.{keys_of, lookup}
 use Rattle.indexmap.specs.IndexSet.{insert_key}
 use Rattle.indexmap.proofs.MapLemmas.{some_index}
-use Rattle.elsa_model.specs.Insertions.{place_of, InsertedNew}
+use Rattle.elsa_model.specs.Insertions.{place_of, Inserted, InsertedNew}
 
 -- where nothing passes, the count of those before the first is the length
 pub none_found : {X : Type 0} (t : X → Bool) (xs : List X) → position t xs ≡ None → position_or_len t xs ≡ length xs
@@ -63,6 +63,11 @@ new_pair_goes_last eq target shown es k v i b fs none at is left =
       subst (λ o. MatchOption o ((i ≡ length es) × (shown b ≡ target v) × (fs ≡ es ++ (k, b) ∷ [])) (λ j. (i ≡ j) × (lookup (eq k) es ≡ Some b) × (fs ≡ es))) gone (at, is, left),
       ap is_none gone,
     )
+
+-- the same, at the length as its place
+pub pair_goes_last : {K B V T : Type 0} (eq : K → K → Bool) (target : V → T) (shown : B → T) (es : List (K × B)) (k : K) (v : V) (b : B) (fs : List (K × B))
+    → lookup (eq k) es ≡ None → shown b ≡ target v → fs ≡ es ++ (k, b) ∷ [] → Inserted eq target shown es k v (length es) b fs
+pair_goes_last eq target shown es k v b fs none is left = (new_pair_goes_last eq target shown es k v (length es) b fs none refl is left).0
 
 -- some item passes a test that finds a place
 pub some_passes : {X : Type 0} (t : X → Bool) (xs : List X) (i : ℕ) → position t xs ≡ Some i → list_any t xs ≡ true

@@ -2,7 +2,7 @@
 //!
 //! A new key goes last, and a present key keeps its place and its value. The layers above use the list of pairs that
 //! the contracts speak of, and `rebase`.
-ghost use Rattle.std.specs.Prelude.{◌≡◌, ◌≤◌, ◌++◌, ◌∷◌, ◌↔◌, [], ℕ, List, length, false, None, Ok, Some, slice_get, IfOk, IsOk, IfSome, IsSome, IsSomeAnd, IsPermutation, IsTrue, MatchOption, OnOk, OnErr, cond, is_some};
+ghost use Rattle.std.specs.Prelude.{◌≡◌, ◌≤◌, ◌++◌, ◌∷◌, ◌↔◌, [], ℕ, List, length, false, None, Ok, Err, Some, slice_get, IfErr, IfOk, IsOk, IfSome, IsSome, IsSomeAnd, IsPermutation, IsTrue, MatchOption, OnOk, OnErr, cond, is_some};
 ghost use Rattle.std.specs.Borrow.{Bor, sem};
 ghost use Rattle.elsa_index.specs.Lent.{lends_pairs};
 ghost use Rattle.std.specs.Iterator.{Drains, IsFinite};
@@ -13,11 +13,13 @@ ghost use Rattle.std.specs.Option.{option_map, ForSome};
 ghost use Rattle.std.specs.Str.{bytes_eq};
 ghost use Rattle.std.specs.String.{string_bytes};
 ghost use Rattle.indexmap.specs.IndexMap.{insert_entry};
+ghost use Rattle.elsa_maps.specs.InsertFault.{IfCause};
 ghost use Rattle.elsa_model.proofs.MapEquality.{same_values_equivalence, same_values_laws};
 ghost use Rattle.elsa_model.specs.FirstWins.{IsEqualMap, same_values, value_at};
 ghost use Rattle.elsa_model.specs.Insertions.{place_of, Inserted, InsertedNew, IsCloneOf, CollectsTargets};
 
 use bumpalo::Bump;
+use elsa_maps::map::InsertFault;
 use elsa_model::for_its_clause;
 use elsa_once::stable::{KeepsText, StableDeref};
 use indexmap::IndexMap;
@@ -383,6 +385,96 @@ where
     {
         let (_, borrow) = self.insert_full(key, value)?;
         Ok(borrow)
+    }
+
+    /// Adds the pair last, with the value that `make` returns, unless the key is present, and returns the value that the key
+    /// now has.
+    ///
+    /// `make` is called only for an absent key, after the table made room for one pair. Where the key is present, it is dropped,
+    /// no memory is taken and nothing changes. `AllocError` comes only for an absent key and leaves the map as it was; the table
+    /// may keep the room. Costs as `insert_full_new`.
+    #[tactic(auto, using(crate::proofs::Content::no_place))]
+    pub fn insert_with<F: FnOnce() -> V + Drop>(
+        &mut self,
+        key: K,
+        make: F,
+    ) -> Result<V::Borrow, AllocError>
+        requires callable { place_of K.eq self.old key ≡ None → F.pre make }
+
+        // A present key keeps its value; a new one is the last entry, with a value of the closure.
+        ensures present { (x : V.Borrow) → value_at K.eq self.old key ≡ Some x →
+            (result ≡ Ok x) × (self.new ≡ self.old) }
+        ensures added { place_of K.eq self.old key ≡ None → IfOk result (λ b.
+            (v : V) × F.post make v
+            × Inserted K.eq V.target V.shown self.old key v (length self.old) b self.new) }
+        ensures stands { IfOk result (λ b. value_at K.eq self.new key ≡ Some b) }
+
+        // Only a new key is refused, and then nothing changes.
+        ensures refused { OnErr result (self.new ≡ self.old) }
+        ensures only_new { OnErr result (place_of K.eq self.old key ≡ None) }
+    {
+        let Ok(entry) = self.map.entry(key) else {
+            return Err(AllocError);
+        };
+        let room = match entry {
+            Entry::Occupied(present) => return Ok(*present.get()),
+            Entry::Vacant(room) => room,
+        };
+        let value = make();
+        let Ok(stored) = value.place(self.arena) else {
+            let _key = room.into_key();
+            return Err(AllocError);
+        };
+        room.insert(stored);
+        Ok(stored)
+    }
+
+    /// Adds the pair last, with the value that `make` returns, unless the key is present, and returns the value that the key
+    /// now has.
+    ///
+    /// As [`insert_with`](FrozenIndexMapIn::insert_with), where `make` may fail: `InsertFault::Value` has its error. Each refusal
+    /// comes for an absent key alone and leaves the map as it was.
+    #[tactic(auto, using(crate::proofs::Content::no_place))]
+    pub fn try_insert_with<E: Drop, F: FnOnce() -> Result<V, E> + Drop>(
+        &mut self,
+        key: K,
+        make: F,
+    ) -> Result<V::Borrow, InsertFault<E>>
+        requires callable { place_of K.eq self.old key ≡ None → F.pre make }
+
+        // A present key keeps its value; a new one is the last entry, with a value of the closure.
+        ensures present { (x : V.Borrow) → value_at K.eq self.old key ≡ Some x →
+            (result ≡ Ok x) × (self.new ≡ self.old) }
+        ensures added { place_of K.eq self.old key ≡ None → IfOk result (λ b.
+            (v : V) × F.post make (Ok v)
+            × Inserted K.eq V.target V.shown self.old key v (length self.old) b self.new) }
+        ensures stands { IfOk result (λ b. value_at K.eq self.new key ≡ Some b) }
+
+        // Only a new key is refused, and then nothing changes.
+        ensures refused { OnErr result (self.new ≡ self.old) }
+        ensures only_new { OnErr result (place_of K.eq self.old key ≡ None) }
+        ensures cause { IfErr result (λ e. IfCause e (λ c. F.post make (Err c))) }
+    {
+        let Ok(at_key) = self.map.entry(key) else {
+            return Err(InsertFault::Memory);
+        };
+        let room = match at_key {
+            Entry::Occupied(held) => return Ok(*held.get()),
+            Entry::Vacant(room) => room,
+        };
+        let value = match make() {
+            Ok(value) => value,
+            Err(e) => {
+                let _key = room.into_key();
+                return Err(InsertFault::Value(e));
+            }
+        };
+        let Ok(kept) = value.place(self.arena) else {
+            let _key = room.into_key();
+            return Err(InsertFault::Memory);
+        };
+        room.insert(kept);
+        Ok(kept)
     }
 }
 

@@ -2,6 +2,8 @@
 #![tactic(auto)]
 
 #[cfg(test)]
+mod by_closure;
+#[cfg(test)]
 mod cache_tests;
 #[cfg(test)]
 mod caller_tests;
