@@ -6,6 +6,8 @@ mod cached;
 #[cfg(test)]
 mod caller_tests;
 #[cfg(test)]
+mod columns;
+#[cfg(test)]
 mod kept;
 #[cfg(test)]
 mod labels;
