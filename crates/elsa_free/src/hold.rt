@@ -91,12 +91,15 @@ impl<T: Drop, A: Allocator + Copy, K: ItemRule<T>, X: Beside<T> + Drop> LockFree
     /// fits this one. Cannot fail. `O(1)`.
     #[doc(hidden)]
     pub fn publish<R: Wait>(&self, rt: &R, hold: Hold<T, A, K, X>, item: T) -> Pass<T, A, K, X>
+        // The hold is of this vector, and its buffer takes the item.
         requires of { hold.vector ≡ self.now }
         requires later { BeginsABuffer (length hold.seen) → ⊥ }
         requires new { K.is_new (items_of hold.seen) item }
         requires fits { (x : X) (last : T) →
             slice_get (items_of hold.seen) (length hold.seen - 1) ≡ Some last →
             X.fits x last → X.fits x item }
+
+        // The item stands behind what was seen, and is the author's.
         ensures same { IsSamePass hold result }
         ensures pushed { result.seen ≡ hold.seen ++ entry hold.author item ∷ [] }
         ensures mine { mine result ≡ mine hold ++ length hold.seen ∷ [] }
@@ -132,10 +135,13 @@ impl<T: Drop, A: Allocator + Copy, K: ItemRule<T>, X: Beside<T> + Drop> LockFree
         item: T,
         beside: X,
     ) -> Result<Pass<T, A, K, X>, Pass<T, A, K, X>>
+        // The hold is of this vector, and the item fits the new buffer.
         requires of { hold.vector ≡ self.now }
         requires begins { BeginsABuffer (length hold.seen) }
         requires new { K.is_new (items_of hold.seen) item }
         requires fits { X.fits beside item }
+
+        // The item stands behind what was seen, and is the author's, or nothing changed.
         ensures same { IfOk result (λ p. IsSamePass hold p) }
         ensures pushed { IfOk result (λ p. p.seen ≡ hold.seen ++ entry hold.author item ∷ []) }
         ensures mine { IfOk result (λ p. mine p ≡ mine hold ++ length hold.seen ∷ []) }

@@ -136,9 +136,32 @@ fn a_thousand_items(rt: HostRuntime) -> Result<(), Fail> {
 /// How many items a vector takes before the buffer that begins at place 4^10 - 1, and a few more.
 const PAST_A_MILLION: u64 = 1_048_580;
 
-/// Whether an empty vector takes a number at each place up to and past the buffer that begins there.
+/// Whether each push of an empty vector's first million and a few is told its number as its place.
+fn push_a_million<R: Wait>(rt: &R, vector: &LockFreeFrozenVec<u64>) -> bool {
+    let mut pass = vector.pass();
+    for number in 0..PAST_A_MILLION {
+        if vector.push_as(rt, &mut pass, number) != Ok(number as usize) {
+            return false;
+        }
+    }
+    true
+}
+
+/// Whether an empty vector takes a number at each place up to and past the buffer that begins there: by each 1021st place, and the last nine.
 fn takes_a_million<R: Wait>(rt: &R, vector: &LockFreeFrozenVec<u64>) -> bool {
-    push_all(rt, vector, 0, PAST_A_MILLION) && has_places(vector, PAST_A_MILLION as usize)
+    let pushed = push_a_million(rt, vector);
+    for turn in 0..1027usize {
+        let place = turn.wrapping_mul(1021);
+        if vector.get(place) != Some(place as u64) {
+            return false;
+        }
+    }
+    for place in 1_048_571..1_048_580usize {
+        if vector.get(place) != Some(place as u64) {
+            return false;
+        }
+    }
+    pushed && vector.len() == PAST_A_MILLION as usize && vector.get(1_048_580).is_none()
 }
 
 #[test]

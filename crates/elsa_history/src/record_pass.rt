@@ -180,17 +180,23 @@ fn take_receipt<C: Core, A: Allocator + Copy>(
     entry: &(u64, C::Command, C::Reply),
 ) -> Found
     requires { owner ≡ Some NOBODY → receipts_at place passes.old.items ≡ 0 }
+
+    // The receipt was taken: the passes lack it alone.
     ensures taken { result ≡ Found.Taken → (before : List (ℕ × C.Command × C.Reply)) →
         length before ≡ place →
         (AreOf C.Command.eq C.Reply.eq passes.new.items before
         ↔ AreOf C.Command.eq C.Reply.eq passes.old.items (before ++ entry.now ∷ [])) }
     ensures count { result ≡ Found.Taken →
         receipt_count passes.new.items + 1 ≡ receipt_count passes.old.items }
+
+    // No pass has one, and they stay.
     ensures nowhere { result ≡ Found.Nowhere → (before : List (ℕ × C.Command × C.Reply)) →
         length before ≡ place →
         (AreOf C.Command.eq C.Reply.eq passes.old.items before
         ↔ AreOf C.Command.eq C.Reply.eq passes.old.items (before ++ entry.now ∷ [])) }
     ensures same { result ≡ Found.Nowhere → passes.new.items ≡ passes.old.items }
+
+    // No other place gains a receipt; one that isn't the entry's is wrong.
     ensures fewer { result ≡ Found.Taken → (other : ℕ) →
         receipts_at other passes.new.items ≤ receipts_at other passes.old.items }
     ensures wrong { result ≡ Found.Wrong → (before : List (ℕ × C.Command × C.Reply)) →

@@ -208,7 +208,9 @@ fn stands_reads(alloc: Global, most: usize, fails_at: usize) -> bool {
 #[test]
 fn a_reader_that_fails_at_one_call_loses_no_answer(rt: HostRuntime) -> Result<(), Fail> {
     for most in 1..=INPUT.len() {
-        for fails_at in 0..INPUT.len() + 2 {
+        // A read of a greater number is never made.
+        let reads = (INPUT.len() / most).saturating_add(3);
+        for fails_at in 0..reads {
             assert!(rt;
                 stands_reads(rt.alloc(), most, fails_at),
                 "{most} bytes a read, read {fails_at} fails"

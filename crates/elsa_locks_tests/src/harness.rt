@@ -1,4 +1,5 @@
-//! Scripts on what lies behind a lock, in which each request for memory is refused in turn; `test_script` does the same without a lock.
+//! Scripts on what lies behind a lock, in which each request for memory is refused in turn; `test_script` does the same without a lock,
+//! and says what is looked at.
 use std::alloc::{AllocError, Global};
 use std::sync::Wait;
 use test_alloc::Budget;
@@ -22,6 +23,7 @@ pub fn goes_through<R: Wait, S: Script>(
     count: usize,
     heap: &Budget<Global>,
 ) -> Option<u64> {
+    let looks_at_each = heap.is_open();
     let mut failures = 0u64;
     for number in 0..count {
         let refused = heap.refused();
@@ -36,7 +38,8 @@ pub fn goes_through<R: Wait, S: Script>(
                     && matches!(script.call(rt, number), Ok(true))
             }
         };
-        if !good || !script.holds(rt, number + 1) {
+        let looks = looks_at_each || heap.refused() > refused || number + 1 == count;
+        if !good || looks && !script.holds(rt, number + 1) {
             return None;
         }
     }

@@ -254,12 +254,18 @@ fn all_call_few(items: &Numbers<'_>) -> bool {
     true
 }
 
+// Whether a list of so many items is tried: each short one, and those round which the number of digits changes.
+fn is_tried(count: usize) -> bool {
+    let is_edge = digits(count.saturating_sub(1)) != digits(count.saturating_add(1));
+    count <= 64 || is_edge || count == 1000
+}
+
 #[test]
 fn searches_call_at_most_once_a_binary_digit(rt: HostRuntime) -> Result<(), Fail> {
     let arena = Bump::new(rt.alloc());
     let mut items: Numbers<'_> = FrozenVec::new(rt.alloc(), &arena);
     for count in 0..1001 {
-        assert!(rt; all_call_few(&items), "{count} items");
+        assert!(rt; !is_tried(count) || all_call_few(&items), "{count} items");
         items.push(Own(count))?;
     }
     Ok(())

@@ -86,6 +86,11 @@ impl<B: Allocator> Budget<B> {
         self.refuse(asked, asked.saturating_add(count));
     }
 
+    /// Whether no request was ever named to be refused.
+    pub fn is_open(&self) -> bool {
+        self.meter.from.load(Ordering::SeqCst) == u64::MAX
+    }
+
     /// Lets the next request stand still until `go_on`, or until it has looked ten million times.
     pub fn halt_next(&self) {
         self.meter.halt.store(HALTS, Ordering::SeqCst);

@@ -4,7 +4,8 @@
 //! nothing refused, where no call may answer an allocation failure. Then it lets it go for each request with that one refused, for each with
 //! all from that one on refused, and for each placing with that one refused; each time exactly one call has to answer so (none, where the call
 //! asked again for less and got it). [`goes_through`] is how a script is walked: a refused call must leave the content as it was, and must
-//! succeed when it is made again.
+//! succeed when it is made again. Where nothing is refused, what each call leaves is looked at; else what the refused call and the last one
+//! leave, since those before do what they did then.
 #![tactic(auto)]
 
 use bumpalo::Bump;
@@ -39,7 +40,8 @@ pub const NO_SQUEEZE: Squeeze = Squeeze {
     room: 0,
 };
 
-/// Fills the arena until it has room for so many values of eight bytes, and for no more until its limit is lifted.
+/// Fills the arena until it has room for so many values of eight bytes, and for no more until its limit is lifted. Of a chunk of more than 125
+/// KiB some is left.
 pub fn leave_room(arena: &Bump, values: usize) {
     let room = values.saturating_mul(8);
     for _ in 0..64 {
@@ -48,11 +50,16 @@ pub fn leave_room(arena: &Bump, values: usize) {
         }
     }
     arena.set_allocation_limit(Some(0));
-    for _ in 0..100_000 {
-        if arena.chunk_capacity() <= room {
-            return;
+    let most = room.saturating_add(64);
+    for _ in 0..2000 {
+        if arena.chunk_capacity() >= most {
+            let _ = arena.try_alloc([0u8; 64]).is_ok();
         }
-        let _ = arena.try_alloc(0u8).is_ok();
+    }
+    for _ in 0..64 {
+        if arena.chunk_capacity() > room {
+            let _ = arena.try_alloc(0u8).is_ok();
+        }
     }
 }
 
@@ -67,6 +74,7 @@ pub fn goes_through<S: Script>(
     arena: &Bump,
     squeezed: Squeeze,
 ) -> Option<u64> {
+    let looks_at_each = heap.is_open() && squeezed.call == NO_SQUEEZE.call;
     let mut failures = 0u64;
     for number in 0..count {
         let refused = heap.refused();
@@ -84,7 +92,9 @@ pub fn goes_through<S: Script>(
                 is_refused && script.holds(number) && matches!(script.call(number), Ok(true))
             }
         };
-        if !good || !script.holds(number + 1) {
+        let is_told = heap.refused() > refused || number == squeezed.call;
+        let looks = looks_at_each || is_told || number + 1 == count;
+        if !good || looks && !script.holds(number + 1) {
             return None;
         }
     }

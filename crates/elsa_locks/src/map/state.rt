@@ -140,10 +140,14 @@ where
         f: F,
     ) -> Result<(Arc<V, A>, bool), AllocError>
         requires { value_at T.same self.old key ≡ None → FnOnceTakesAt F.FnOnce f key }
+
+        // The first value of the key stays; a new key gets what the closure returned.
         ensures answer { IfOk result (λ a.
             UnwrapsOrElse (value_at T.same self.old key) (FnOnceReturnsAt F.FnOnce f key)
             (arc_value a.0)) }
         ensures stands { IfOk result (λ a. value_at T.same self.new key ≡ Some (arc_value a.0)) }
+
+        // Whether it was new, and the content with it, or as before.
         ensures new { IfOk result (λ a. IsTrue a.1 ↔ (value_at T.same self.old key ≡ None)) }
         ensures content { IfOk result (λ a. Leaves T.same self.old key (arc_value a.0) self.new) }
         ensures refused { OnErr result (self.new ≡ self.old) }
@@ -248,9 +252,13 @@ where
         f: F,
     ) -> Result<(V, bool), AllocError>
         requires { value_at T.same self.old key ≡ None → FnOnceTakesAt F.FnOnce f key }
+
+        // The first value of the key stays; a new key gets what the closure returned.
         ensures answer { IfOk result (λ a.
             UnwrapsOrElse (value_at T.same self.old key) (FnOnceReturnsAt F.FnOnce f key) a.0) }
         ensures stands { IfOk result (λ a. value_at T.same self.new key ≡ Some a.0) }
+
+        // Whether it was new, and the content with it, or as before.
         ensures new { IfOk result (λ a. IsTrue a.1 ↔ (value_at T.same self.old key ≡ None)) }
         ensures content { IfOk result (λ a. Leaves T.same self.old key a.0 self.new) }
         ensures refused { OnErr result (

@@ -222,9 +222,13 @@ where
         make: F,
     ) -> Result<V::Borrow, AllocError>
         requires callable { value_at T.same self.old key ≡ None → F.pre make }
+
+        // A present key keeps its value.
         ensures present { (x : V.Borrow) → value_at T.same self.old key ≡ Some x →
             (result ≡ Ok x) × (self.new ≡ self.old) }
         ensures stands { IfOk result (λ b. value_at T.same self.new key ≡ Some b) }
+
+        // An absent one gets what was made, or was refused.
         ensures added { value_at T.same self.old key ≡ None → IfOk result (λ b.
             (v : V) × F.post make v × AddsNew T.same V.target V.shown self.old key v b self.new) }
         ensures new_entry { value_at T.same self.old key ≡ None →
@@ -255,9 +259,13 @@ where
         make: F,
     ) -> Result<V::Borrow, InsertFault<E>>
         requires callable { value_at T.same self.old key ≡ None → F.pre make }
+
+        // A present key keeps its value.
         ensures present { (x : V.Borrow) → value_at T.same self.old key ≡ Some x →
             (result ≡ Ok x) × (self.new ≡ self.old) }
         ensures stands { IfOk result (λ b. value_at T.same self.new key ≡ Some b) }
+
+        // An absent one gets what was made, or was refused, and the error says why.
         ensures added { value_at T.same self.old key ≡ None → IfOk result (λ b.
             (v : V) × F.post make (Ok v)
             × AddsNew T.same V.target V.shown self.old key v b self.new) }

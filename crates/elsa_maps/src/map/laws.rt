@@ -16,8 +16,11 @@ pub fn keeps_earlier_values<R, M: MapForm<R>>(
     key: M::Key,
     value: M::Value,
 ) -> Result<(<M::Value as StableDeref<R>>::Borrow, bool), AllocError>
+    // The earlier values stay, and the key has the returned one.
     ensures kept { Keeps (value_at M.same (M.entries map.old)) (value_at M.same (M.entries map.new)) }
     ensures there { IfOk result (λ r. value_at M.same (M.entries map.new) key ≡ Some r.0) }
+
+    // Whether it was new, and by how much the content grew; a refusal leaves it.
     ensures flag { IfOk result (λ r. IsTrue r.1 ↔ (value_at M.same (M.entries map.old) key ≡ None)) }
     ensures grows { IfOk result (λ r.
         length (M.entries map.new) ≡ length (M.entries map.old) + (if r.1 then 1 else 0)) }
@@ -44,12 +47,16 @@ pub fn is_new_once<R, M: MapForm<R>>(
     AllocError,
 >
     requires equal { M.same first.0 again.0 ≡ true }
+
+    // The key is new at the first insertion alone, and keeps that one's value.
     ensures first { IfOk result (λ answers.
         IsTrue answers.0.1 ↔ (value_at M.same (M.entries map.old) first.0 ≡ None)) }
     ensures once { IfOk result (λ answers. answers.1.1 ≡ false) }
     ensures same_value { IfOk result (λ answers. answers.1.0 ≡ answers.0.0) }
     ensures there { IfOk result (λ answers.
         value_at M.same (M.entries map.new) first.0 ≡ Some answers.0.0) }
+
+    // What was inserted between and before is there.
     ensures between { IfOk result (λ _.
         All (λ pair. IsSome (value_at M.same (M.entries map.new) pair.0)) between.items) }
     ensures kept { Keeps (value_at M.same (M.entries map.old)) (value_at M.same (M.entries map.new)) }
