@@ -1,4 +1,4 @@
-//! A walk over the entries of a map that a pass has seen.
+//! A walk over the entries of a map that a pass has seen, and what is printed of a map.
 ghost use Rattle.std.specs.Prelude.{◌≡◌, IfSome, Some, length};
 ghost use Rattle.std.specs.Iterator.{UpTo, YieldsFirst, item_count};
 ghost use Rattle.std.specs.Iterator.SizeHint.{IsWithinCount};
@@ -6,7 +6,9 @@ ghost use Rattle.elsa_free.specs.SharedList.{items_of};
 ghost use Rattle.elsa_free_map.specs.Entries.{pairs_of};
 
 use crate::entries::{Entries, EntriesPass};
+use crate::map::LockFreeFrozenMap;
 use std::alloc::{Allocator, Global};
+use std::fmt::{self, Debug, Formatter, Write};
 use std::hash::{BuildHasher, BuildHasherDefault, FoldHasher, Hash};
 use std::marker::Model;
 
@@ -91,5 +93,20 @@ impl<
     {
         let left = self.pass.seen_len() - self.place;
         (left, Some(left))
+    }
+}
+
+/// `{:?}` writes the entries that one read of the length sees, in the order of their insertion, as of std's maps: `{1: 10, 2: 20}`. It
+/// takes no lock and no memory, and never waits.
+impl<
+    K: Copy + Drop + Hash + Debug,
+    V: Copy + Drop + Debug,
+    S: BuildHasher + Copy + Drop,
+    A: Allocator + Copy,
+> Debug for LockFreeFrozenMap<K, V, S, A> {
+    fn fmt<W: Write>(&self, f: &mut Formatter<W>) -> fmt::Result {
+        let mut pass = self.pass();
+        self.len_as(&mut pass);
+        f.debug_map().entries(self.iter_as(&pass)).finish()
     }
 }

@@ -1,5 +1,6 @@
 //! Short texts by value.
 ghost use Rattle.std.specs.Prelude.{◌≡◌, ◌≤◌, Some, IfOk, IsOk, ◌↔◌, length, refl};
+ghost use Rattle.std.specs.Fmt.{debug_str};
 ghost use Rattle.std.specs.Hash as written;
 ghost use Rattle.std.specs.Str.{bytes_eq};
 ghost use Rattle.std.proofs.Common.{ap};
@@ -10,6 +11,7 @@ ghost use Rattle.elsa_names.specs.Names.{text_of};
 
 pub use crate::name_bytes::Name;
 use std::cmp::Ordering;
+use std::fmt::{self, Debug, Formatter, Write};
 use std::hash::{Hash, Hasher};
 
 /// How many bytes a name can have.
@@ -93,5 +95,14 @@ impl Hash for Name {
 
     fn hash<H: Hasher>(&self, state: &mut H) {
         self.as_str().hash(state);
+    }
+}
+
+/// `{:?}` writes the text in quotes, as of a `&str`: `"x"`.
+impl Debug for Name {
+    ghost debug_output = { λ name. debug_str (text_of name) };
+
+    fn fmt<W: Write>(&self, f: &mut Formatter<W>) -> fmt::Result {
+        self.as_str().fmt(f)
     }
 }

@@ -16,6 +16,7 @@ use elsa_free_map::entries::{one_to_one, same_place};
 use elsa_free_map::map::{LockFreeFrozenMap, MapPass};
 use elsa_free_map::place_text::PlaceText;
 use std::alloc::{AllocError, Allocator, Global};
+use std::fmt::{self, Debug, Formatter, Write};
 use std::hash::{BuildHasher, BuildHasherDefault, FoldHasher, Hash};
 use std::marker::Model;
 use std::sync::Wait;
@@ -280,5 +281,17 @@ impl<'a, S: BuildHasher + Copy + Drop, A: Allocator + Copy> SharedInterner<&'a s
             return Err(AllocError);
         };
         Ok(put.place)
+    }
+}
+
+/// `{:?}` writes the names that one read of their number sees, in the order of their places, as of a slice: `["x", "y"]`. It takes no lock and
+/// no memory, and never waits.
+impl<T: Copy + Drop + Hash + Debug, S: BuildHasher + Copy + Drop, A: Allocator + Copy> Debug
+    for SharedInterner<T, S, A> {
+    fn fmt<W: Write>(&self, f: &mut Formatter<W>) -> fmt::Result {
+        let mut pass = self.names.pass();
+        self.names.len_as(&mut pass);
+        let names = self.names.iter_as(&pass).map(|entry: (T, ())| entry.0);
+        f.debug_list().entries(names).finish()
     }
 }

@@ -1,4 +1,4 @@
-//! Calls on whole vectors: an independent copy, and whether two have equal items.
+//! Calls on whole vectors: an independent copy, whether two have equal items, and what is printed.
 ghost use Rattle.std.specs.Prelude.{◌≡◌, [], IfOk};
 ghost use Rattle.elsa_free.specs.SharedList.{Continues, copied, items_of, mine};
 ghost use lib.Pointwise.{pointwise};
@@ -7,6 +7,7 @@ use super::{LockFreeFrozenVec, Pass};
 use crate::item_rule::ItemRule;
 use crate::tokens::{Author, bounded_by_tickets};
 use std::alloc::{AllocError, Allocator};
+use std::fmt::{self, Debug, Formatter, Write};
 
 impl<T: Copy + Drop, A: Allocator + Copy, K: ItemRule<T>> LockFreeFrozenVec<T, A, K> {
     /// An independent vector with the items seen by one read of the length, which have no author there, and a pass of it. Its list is
@@ -106,5 +107,15 @@ impl<T: Copy + Drop + PartialEq, A: Allocator + Copy, K: ItemRule<T>> LockFreeFr
     pub fn equals<L: ItemRule<T>>(&self, other: &LockFreeFrozenVec<T, A, L>) -> bool {
         let (equal, _pass, _other_pass) = self.equals_with_passes(other);
         equal
+    }
+}
+
+/// `{:?}` writes the items that one read of the length sees, in order, as of a slice: `[10, 20]`. It takes no lock and no memory, and never
+/// waits.
+impl<T: Copy + Drop + Debug, A: Allocator + Copy, K: ItemRule<T>> Debug
+    for LockFreeFrozenVec<T, A, K> {
+    fn fmt<W: Write>(&self, f: &mut Formatter<W>) -> fmt::Result {
+        let mut pass = self.pass();
+        f.debug_list().entries(self.news_as(&mut pass)).finish()
     }
 }
