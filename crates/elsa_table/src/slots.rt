@@ -1,6 +1,6 @@
 //! The slots of a table, as slices: how they are probed, filled and copied into more of them.
 ghost use Rattle.std.specs.Prelude.{◌≡◌, ℕ, ◌<◌, ◌≤◌, ◌⊎◌, true, false, length, IfOk, IfErr, OnOk, OnErr, IfSome};
-ghost use Rattle.elsa_table.specs.Slots.{slot_of, walk, load_limit, wider_count, EndsAt, Gains, GoesOn, Holds, HoldsSame, IsFewest, IsFindable, IsTaken};
+ghost use Rattle.elsa_table.specs.Slots.{slot_of, walk, load_limit, EndsAt, Gains, GoesOn, Holds, HoldsSame, IsFewest, IsFindable, IsTaken};
 
 use std::alloc::{AllocError, Allocator};
 
@@ -15,7 +15,7 @@ pub struct Slot {
 const EMPTY: Slot = Slot { hash: 0, number: 0 };
 
 /// The fewest slots.
-const LEAST: usize = 8;
+pub(crate) const LEAST: usize = 8;
 
 /// Which of `count` slots a probe for `hash` comes to after `step` steps.
 #[tactic(auto, unfolding(crate::specs::Slots::walk))]
@@ -114,19 +114,6 @@ pub(crate) fn widened<A: Allocator>(
         }
     }
     Ok(wider)
-}
-
-/// Twice as many slots, or the fewest, with what these hold.
-#[inline(never)]
-pub(crate) fn grown<A: Allocator>(alloc: A, slots: &[Slot]) -> Result<Vec<Slot, A>, AllocError>
-    ensures same { IfOk result (λ wider. HoldsSame slots.now wider.items) }
-    ensures findable { IfOk result (λ wider. IsFindable wider.items) }
-    ensures count { IfOk result (λ wider. length wider.items ≡ wider_count (length slots.now)) }
-{
-    let Some(twice) = slots.len().checked_mul(2) else {
-        return Err(AllocError);
-    };
-    widened(alloc, slots, twice.max(LEAST))
 }
 
 /// How many slots are for so many places: `from` or the fewest, or twice as many, and so on.

@@ -2,10 +2,10 @@
 //!
 //! Contracts see a table as its slots and the number of its places; `Has` says that it has a place under a hash (`specs/Table.antt`).
 ghost use Rattle.std.specs.Prelude.{◌≡◌, ◌↔◌, ◌+◌, ◌<◌, ◌≤◌, ◌⊎◌, ℕ, [], true, false, IfOk, IfErr, IsTrue, OnOk, OnErr};
-ghost use Rattle.elsa_table.specs.Slots.{load_limit, GoesOn};
+ghost use Rattle.elsa_table.specs.Slots.{load_limit, wider_count, GoesOn};
 ghost use Rattle.elsa_table.specs.Table.{most_places, places, slots, Has, HasRoom, HasSame, IsRoom, IsVacancy, Adds, Grows};
 
-use crate::slots::{Slot, grown, search, slots_for, vacant, widened};
+use crate::slots::{LEAST, Slot, search, slots_for, vacant, widened};
 use std::alloc::{AllocError, Allocator};
 use std::marker::Model;
 
@@ -128,7 +128,26 @@ impl<A: Allocator + Copy> PlaceTable<A> {
         if self.count < self.limit && vacancy.slot < self.slots.len() {
             return Ok(vacancy);
         }
-        let wider = grown(*self.slots.allocator(), self.slots.as_slice())?;
+        self.grow(hash)
+    }
+
+    /// Doubles the slots, and returns where a place under the hash goes. Out of line, so that a caller's own loop stays short.
+    #[inline(never)]
+    fn grow(&mut self, hash: u32) -> Result<Vacancy, AllocError>
+        ensures room { IfOk result (IsRoom self.new hash) }
+        ensures places { places self.new ≡ places self.old }
+        ensures same { HasSame self.old self.new }
+        ensures doubles { OnOk result (slots self.new ≡ wider_count (slots self.old)) }
+        ensures refused { OnErr result (self.new ≡ self.old) }
+    {
+        let Some(twice) = self.slots.len().checked_mul(2) else {
+            return Err(AllocError);
+        };
+        let wider = widened(
+            *self.slots.allocator(),
+            self.slots.as_slice(),
+            twice.max(LEAST),
+        )?;
         let Some(slot) = vacant(wider.as_slice(), hash) else {
             return Err(AllocError);
         };
