@@ -59,22 +59,22 @@ fn answer_to<'a, S: BuildHasher, A: Allocator + Copy, P: Allocator>(
             Ok(n) => Reply::Number(n),
             Err(_) => {
                 if names.is_full() {
-                    Reply::TooManyNames
+                    Reply::Text("too many names")
                 } else {
-                    Reply::NoMemory
+                    Reply::Text("no memory")
                 }
             }
         },
         Request::Find(name) => match names.find(name) {
             Some(n) => Reply::Number(n),
-            None => Reply::Nothing,
+            None => Reply::Text("none"),
         },
         Request::At(n) => match names.at(n as usize) {
-            Some(name) => Reply::Name(name),
-            None => Reply::Nothing,
+            Some(name) => Reply::Text(name),
+            None => Reply::Text("none"),
         },
         Request::Len => Reply::Number(names.len()),
-        Request::Bad => Reply::BadLine,
+        Request::Bad => Reply::Text("bad line"),
     }
 }
 
@@ -122,11 +122,11 @@ impl<'a, S: BuildHasher, A: Allocator + Copy, P: Allocator> Session<'a, S, A, P>
         if self.skips {
             self.skips = false;
             self.line.clear();
-            return Reply::NoMemory;
+            return Reply::Text("no memory");
         }
         if self.line.extend_from_slice(end).is_err() {
             self.line.clear();
-            return Reply::NoMemory;
+            return Reply::Text("no memory");
         }
         let request = request_of(self.line.as_slice());
         let answer = answer_to(self.arena, &mut self.names, request, NO_GUESS);
@@ -195,7 +195,9 @@ impl<'a, S: BuildHasher, A: Allocator + Copy, P: Allocator> Session<'a, S, A, P>
         out.flush(writer)
     }
 
-    /// Answers the lines that end in the piece, and writes the answers. Where it is a text as a whole, none of its lines is looked at again.
+    /// Answers the lines that end in the piece, and writes the answers. Where it is a text as a whole, none of its lines is looked at again. Inlined, so that the loop
+    /// over the lines finds the session and what waits in the frame of the run.
+    #[inline(always)]
     fn feed_bytes<W: Sink>(
         &mut self,
         piece: &[u8],
