@@ -1,5 +1,5 @@
 -- The text of a number of at most eight digits.
-use Rattle.std.proofs.Common.{◌≡◌, ℕ, zero, suc, ◌+◌, ◌-◌, ◌*◌, ◌/◌, ◌%◌, ◌^◌, ◌<◌, ◌≤◌, Bool, true, false, ◌&&◌, T, eqb, List, [], ◌∷◌, ◌++◌, length, get_or, take, drop, refl, ap, subst, ◌∙◌, sym, inl, inr, arith, eq-zero-or-pos, eqb→eq, length-append}
+use Rattle.std.proofs.Common.{bit_or, ◌≡◌, ℕ, zero, suc, ◌+◌, ◌-◌, ◌*◌, ◌/◌, ◌%◌, ◌^◌, ◌<◌, ◌≤◌, Bool, true, false, ◌&&◌, T, eqb, List, [], ◌∷◌, ◌++◌, length, get_or, take, drop, refl, ap, subst, ◌∙◌, sym, inl, inr, arith, eq-zero-or-pos, eqb→eq, length-append}
 use Rattle.std.proofs.lemmas.Fmt.{decimal_digit, decimal_step}
 use Rattle.std.proofs.lemmas.List.{drop-append-le, length-take-le, take-take}
 use Rattle.std.proofs.lemmas.Slice.{take-put_mid}
@@ -13,6 +13,7 @@ use Rattle.std.proofs.lemmas.Bool.{cases_lt, false_from_ne_true, le-leb, leb-tru
 use Rattle.itoa.proofs.Decimal.{length_four, length_one, length_pair, length_two}
 use mir.Val.{bool_byte}
 use lib.Dec.{leb}
+use Rattle.std.proofs.lemmas.Grind.{or_before_shift}
 use lib.Ieee.Fits.{and_l, and_r}
 use Rattle.elsa_interner.specs.declared.digits.TheConstants.{PAIRS}
 
@@ -149,6 +150,10 @@ bits_of zero = refl
 bits_of (suc s) =
     let more : 8 * suc s ≡ 8 + 8 * s = omega arith in
     ap (λ k. 2 ^ k) more ∙ pow-add 2 8 (8 * s) ∙ ap (λ p. 256 * p) (bits_of s) ∙ sym (pow-succ' 256 s)
+
+-- two words of four bytes, joined
+pub halves : (low high : ℕ) → low < 2 ^ 32 → high < 2 ^ 32 → bit_or low (high * 2 ^ 32 % 2 ^ 64) ≡ high * 2 ^ 32 + low
+halves low high small fits = or_before_shift low high (2 ^ 32) (2 ^ 64) refl small (omega (arith, fits))
 
 -- the digits of a number whose eight digits are the bytes of a word that was shifted
 pub shifted_digits : (n word count shift : ℕ) → n < 10 ^ 8 → n < 2 ^ 64 → count ≡ length (decimal n) → count ≤ 8 → shift ≡ 8 * (8 - count) → bytes_low_first 0 8 word ≡ padded 8 n

@@ -71,6 +71,7 @@ pub(crate) fn digits_of(n: usize, count: usize) -> [u8; 8]
     let (high, low) = (n / 10_000, n % 10_000);
     let ([a, b], [c, d]) = (pair(high / 100), pair(high % 100));
     let ([e, f], [g, h]) = (pair(low / 100), pair(low % 100));
-    let word = u64::from_le_bytes([a, b, c, d, e, f, g, h]);
-    (word >> (8 * (8 - count))).to_le_bytes()
+    let front = u32::from_le_bytes([a, b, c, d]) as u64;
+    let back = u32::from_le_bytes([e, f, g, h]) as u64;
+    ((front | back << 32) >> (8 * (8 - count))).to_le_bytes()
 }
