@@ -114,6 +114,7 @@ impl<'a, S: BuildHasher, A: Allocator + Copy, P: Allocator> Session<'a, S, A, P>
     }
 
     /// The answer to the line that has begun in a piece before and ends so, or that is skipped.
+    #[cold]
     #[inline(never)]
     fn finish_begun(&mut self, end: &[u8]) -> Reply<'a>
         ensures { IsFinished self.old.names self.old.line.items self.old.skips

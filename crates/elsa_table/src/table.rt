@@ -132,6 +132,7 @@ impl<A: Allocator + Copy> PlaceTable<A> {
     }
 
     /// Doubles the slots, and returns where a place under the hash goes. Out of line, so that a caller's own loop stays short.
+    #[cold]
     #[inline(never)]
     fn grow(&mut self, hash: u32) -> Result<Vacancy, AllocError>
         ensures room { IfOk result (IsRoom self.new hash) }
