@@ -5,7 +5,7 @@ ghost use Rattle.std.specs.Prelude.{◌≡◌, ◌↔◌, ◌+◌, ◌<◌, ◌�
 ghost use Rattle.elsa_table.specs.Slots.{load_limit, wider_count, GoesOn};
 ghost use Rattle.elsa_table.specs.Table.{most_places, places, slots, Has, HasRoom, HasSame, IsRoom, IsVacancy, Adds, Grows};
 
-use crate::slots::{LEAST, Slot, search, slots_for, vacant, widened};
+use crate::slots::{LEAST, Slot, slots_for, vacant, walk, widened};
 use std::alloc::{AllocError, Allocator};
 use std::marker::Model;
 
@@ -76,10 +76,22 @@ impl<A: Allocator + Copy> PlaceTable<A> {
         ensures room { IfErr result (λ v. v.slot < slots self.now
             ⊎ GoesOn self.now.0 hash (slots self.now)) }
     {
-        match search(self.slots.as_slice(), hash, is_it) {
-            Ok(place) => Ok(place),
-            Err(slot) => Err(Vacancy { slot }),
+        let slots = self.slots.as_slice();
+        let count = slots.len();
+        for step in 0..count {
+            let at = walk(count, hash, step);
+            let slot = slots[at];
+            if slot.number == 0 {
+                return Err(Vacancy { slot: at });
+            }
+            if slot.hash == hash {
+                let place = slot.number as usize - 1;
+                if is_it(place) {
+                    return Ok(place);
+                }
+            }
         }
+        Err(Vacancy { slot: count })
     }
 
     /// A place that may have this hash, read from one slot, or any other number: nothing is claimed of it. Takes no memory.
