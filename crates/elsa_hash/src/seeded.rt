@@ -41,7 +41,10 @@ impl SeededState {
     fn of_bytes(bytes: [u8; 16]) -> SeededState
         ensures { seeded.first_hasher result ≡ seeded.hasher (read_u64 bytes 0) (read_u64 bytes 8) }
     {
-        SeededState::with_seed(word(&bytes, 0), word(&bytes, 8))
+        SeededState {
+            start: word(&bytes, 0),
+            factor: word(&bytes, 8),
+        }
     }
 
     /// The secret words themselves, for a run that is to be repeated. Whoever knows them can make keys collide; words of few bits hash badly.

@@ -1,10 +1,10 @@
 -- What the engine's requests and replies stand for.
-use Rattle.std.specs.Prelude.{ℕ, List, codes}
+use Rattle.std.specs.Prelude.{ℕ, List}
 use Rattle.std.specs.Fmt.{decimal}
 use Rattle.elsa_interner.specs.declared.request.Request.{Request}
 use Rattle.elsa_interner.specs.declared.request.Request.TheVariants.{Put, Find, At, Len, Bad}
 use Rattle.elsa_interner.specs.declared.reply.Reply.{Reply}
-use Rattle.elsa_interner.specs.declared.reply.Reply.TheVariants.{Number, Name, Nothing, BadLine, NoMemory, TooManyNames}
+use Rattle.elsa_interner.specs.declared.reply.Reply.TheVariants.{Number, Text}
 use Rattle.elsa_interner.specs.Lines.{Command, put, find, at, len, bad}
 
 -- what a request asks
@@ -18,8 +18,4 @@ asked Bad = bad
 -- the text of a reply
 abbrev pub shown : Reply → List ℕ
 shown (Number n) = decimal n
-shown (Name name) = name.now
-shown Nothing = codes "none"
-shown BadLine = codes "bad line"
-shown NoMemory = codes "no memory"
-shown TooManyNames = codes "too many names"
+shown (Text text) = text.now

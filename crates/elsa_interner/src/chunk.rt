@@ -5,7 +5,7 @@ ghost use Rattle.elsa_interner.specs.Lines.{command_of};
 ghost use Rattle.elsa_interner.specs.Feeding.{IsInside};
 ghost use Rattle.elsa_interner.specs.Replies.{asked};
 
-use crate::request::{Request, request_of, request_of_known};
+use crate::request::{Request, request_of, request_of_text};
 use memchr::memchr;
 use std::simd::prelude::*;
 
@@ -63,36 +63,16 @@ fn line_end(piece: &[u8]) -> usize
     memchr(10, piece).unwrap_or(piece.len())
 }
 
-/// A line up to its byte 10, and what follows.
-#[inline(always)]
-fn cut_line(piece: &[u8]) -> Option<(&[u8], &[u8])>
-    ensures { MatchOption result (IsInside piece.now) (λ p.
-        IsInside p.0.now × (piece.now ≡ p.0.now ++ (10 ∷ p.1.now))) }
-{
-    let at = line_end(piece);
-    if at == piece.len() {
-        return None;
-    }
-    Some((&piece[..at], &piece[at + 1..]))
-}
-
-/// The same of a text, whose parts are texts.
-#[inline(always)]
-fn cut_text(text: &str) -> Option<(&str, &str)>
-    ensures { MatchOption result (IsInside text.now) (λ p.
-        IsInside p.0.now × (text.now ≡ p.0.now ++ (10 ∷ p.1.now))) }
-{
-    let (line, _later) = cut_line(text.as_bytes())?;
-    let at = line.len();
-    Some((&text[..at], &text[at + 1..]))
-}
-
 impl<'t> Chunk for &'t [u8] {
     ghost bytes = { λ b. b.now };
 
     #[inline(always)]
     fn cut(self) -> Option<(&'t [u8], &'t [u8])> {
-        cut_line(self)
+        let at = line_end(self);
+        if at == self.len() {
+            return None;
+        }
+        Some((&self[..at], &self[at + 1..]))
     }
 
     #[inline(always)]
@@ -111,7 +91,9 @@ impl<'t> Chunk for &'t str {
 
     #[inline(always)]
     fn cut(self) -> Option<(&'t str, &'t str)> {
-        cut_text(self)
+        let (line, _later) = self.as_bytes().cut()?;
+        let at = line.len();
+        Some((&self[..at], &self[at + 1..]))
     }
 
     #[inline(always)]
@@ -122,6 +104,6 @@ impl<'t> Chunk for &'t str {
 
     #[inline(always)]
     fn request(&self) -> Request<'_> {
-        request_of_known(*self)
+        request_of_text(*self)
     }
 }

@@ -33,25 +33,20 @@ static PAIRS: [u8; 200] =
 /// The numbers below this one have at most eight digits.
 pub(crate) const SHORT: usize = 100_000_000;
 
-/// How many bytes of a [`number_line`] are copied: at most eight digits, byte 10, and what lies behind a shorter number.
+/// How many bytes the line of such a number has, at most: eight digits and byte 10.
 pub(crate) const LINE: usize = 9;
 
-/// How many digits a number has. No processor could foretell it, so nothing branches: each choice is of two numbers that are known.
-#[tactic(auto, using(itoa::proofs::Decimal::length_four, itoa::proofs::Decimal::length_pair, itoa::proofs::Decimal::length_two, itoa::proofs::Decimal::length_one))]
+/// How many digits a number has. No processor could foretell it, so nothing branches: each comparison is a number.
 #[inline(always)]
 pub(crate) fn digit_count(n: usize) -> usize
     requires { n < SHORT }
     ensures length { result ≡ length (decimal n) }
     ensures few { (1 ≤ result) × (result ≤ 8) }
 {
-    let (four, short) = if n >= 10_000 { (4, n / 10_000) } else { (0, n) };
-    let (two, last) = if short >= 100 {
-        (2, short / 100)
-    } else {
-        (0, short)
-    };
-    let one = if last >= 10 { 2 } else { 1 };
-    four + two + one
+    let (one, two, three) = (n >= 10, n >= 100, n >= 1_000);
+    let (four, five, six, seven) = (n >= 10_000, n >= 100_000, n >= 1_000_000, n >= 10_000_000);
+    let few = 1 + one as usize + two as usize + three as usize;
+    few + four as usize + five as usize + six as usize + seven as usize
 }
 
 /// The two digits of a number below a hundred.
@@ -64,15 +59,19 @@ fn pair(number: usize) -> [u8; 2]
     [tens, ones]
 }
 
-/// The number in eight digits, with zeros in front, and byte 10 behind them. What lies behind that is there to be read and means nothing.
+/// The digits of a number, and behind them what is there to be read and means nothing. They are shifted in a word, so that no byte is read from memory that
+/// was just written there.
 #[inline(always)]
-pub(crate) fn number_line(n: usize) -> [u8; 16]
-    requires { n < SHORT }
-    ensures { take (length (decimal n) + 1) (drop (8 - length (decimal n)) result)
-        ≡ decimal n ++ (10 ∷ []) }
+pub(crate) fn digits_of(n: usize, count: usize) -> [u8; 8]
+    requires short { n < SHORT }
+    requires count { count ≡ length (decimal n) }
+    requires few { (1 ≤ count) × (count ≤ 8) }
+    ensures { take count result ≡ decimal n }
 {
     let (high, low) = (n / 10_000, n % 10_000);
     let ([a, b], [c, d]) = (pair(high / 100), pair(high % 100));
     let ([e, f], [g, h]) = (pair(low / 100), pair(low % 100));
-    [a, b, c, d, e, f, g, h, b'\n', 0, 0, 0, 0, 0, 0, 0]
+    let front = u32::from_le_bytes([a, b, c, d]) as u64;
+    let back = u32::from_le_bytes([e, f, g, h]) as u64;
+    ((front | back << 32) >> (8 * (8 - count))).to_le_bytes()
 }

@@ -8,8 +8,8 @@ ghost use Rattle.elsa_interner.specs.Replies.{asked, shown};
 
 use crate::chunk::Chunk;
 use crate::devices::{Failed, Sink, Source};
-use crate::interner::Interner;
 use crate::pending::Pending;
+use crate::reader::InternerReader;
 use crate::reply::{Reply, push_reply};
 use crate::request::{Request, request_of};
 use bumpalo::Bump;
@@ -24,6 +24,9 @@ const AHEAD: usize = 16;
 
 /// The table of fewer names fits in the processor's nearest caches, and isn't read ahead.
 const MANY: usize = 1 << 16;
+
+/// A guess at no name.
+const NO_GUESS: usize = usize::MAX;
 
 /// Why the engine stopped before the input's end.
 #[derive(Clone, Copy, Debug, PartialEq, Eq)]
@@ -40,7 +43,8 @@ pub enum EngineFault {
 #[tactic(auto, using(crate::proofs::ReplyLemmas::put_replies, crate::proofs::ReplyLemmas::full_replies))]
 #[inline(always)]
 fn answer_to<'a, S: BuildHasher, A: Allocator + Copy, P: Allocator>(
-    names: &mut Interner<'a, S, A, P>,
+    arena: &'a Bump<P>,
+    names: &mut InternerReader<'a, S, A>,
     request: Request<'_>,
     guess: usize,
 ) -> Reply<'a>
@@ -51,33 +55,35 @@ fn answer_to<'a, S: BuildHasher, A: Allocator + Copy, P: Allocator>(
         shown result ≡ codes "too many names" }
 {
     match request {
-        Request::Put(name) => match names.put_guessed(name, guess) {
+        Request::Put(name) => match names.put_guessed(arena, name, guess) {
             Ok(n) => Reply::Number(n),
             Err(_) => {
                 if names.is_full() {
-                    Reply::TooManyNames
+                    Reply::Text("too many names")
                 } else {
-                    Reply::NoMemory
+                    Reply::Text("no memory")
                 }
             }
         },
         Request::Find(name) => match names.find(name) {
             Some(n) => Reply::Number(n),
-            None => Reply::Nothing,
+            None => Reply::Text("none"),
         },
         Request::At(n) => match names.at(n as usize) {
-            Some(name) => Reply::Name(name),
-            None => Reply::Nothing,
+            Some(name) => Reply::Text(name),
+            None => Reply::Text("none"),
         },
         Request::Len => Reply::Number(names.len()),
-        Request::Bad => Reply::BadLine,
+        Request::Bad => Reply::Text("bad line"),
     }
 }
 
 /// The names so far, and the line that has begun.
 #[derive(Drop)]
 struct Session<'a, S: BuildHasher, A: Allocator + Copy, P: Allocator> {
-    names: Interner<'a, S, A, P>,
+    // Where the names lie, and the names.
+    arena: &'a Bump<P>,
+    names: InternerReader<'a, S, A>,
     // What was read of the line that has begun, unless it lies whole in the piece.
     line: Vec<u8, A>,
     // Whether memory for that line was refused; its rest is then skipped.
@@ -85,19 +91,6 @@ struct Session<'a, S: BuildHasher, A: Allocator + Copy, P: Allocator> {
 }
 
 impl<'a, S: BuildHasher, A: Allocator + Copy, P: Allocator> Session<'a, S, A, P> {
-    /// No names and no line.
-    fn new(alloc: A, arena: &'a Bump<P>, hash_builder: S) -> Self
-        ensures names { result.names ≡ [] }
-        ensures line { result.line.items ≡ [] }
-        ensures skips { result.skips ≡ false }
-    {
-        Session {
-            names: Interner::with_hasher(alloc, arena, hash_builder),
-            line: Vec::new(alloc),
-            skips: false,
-        }
-    }
-
     /// For each of the next lines a number that the name that it puts may have. The table is read in a loop of its own, which is short enough that the processor
     /// begins all sixteen reads before the first one has come from memory. Out of line, so that the loop over the lines of few names stays short.
     #[inline(never)]
@@ -113,7 +106,7 @@ impl<'a, S: BuildHasher, A: Allocator + Copy, P: Allocator> Session<'a, S, A, P>
             }
             rest = later;
         }
-        let mut guesses = [usize::MAX; AHEAD];
+        let mut guesses = [NO_GUESS; AHEAD];
         for i in 0..AHEAD {
             guesses[i] = self.names.guess(hashes[i]);
         }
@@ -121,6 +114,7 @@ impl<'a, S: BuildHasher, A: Allocator + Copy, P: Allocator> Session<'a, S, A, P>
     }
 
     /// The answer to the line that has begun in a piece before and ends so, or that is skipped.
+    #[cold]
     #[inline(never)]
     fn finish_begun(&mut self, end: &[u8]) -> Reply<'a>
         ensures { IsFinished self.old.names self.old.line.items self.old.skips
@@ -129,14 +123,14 @@ impl<'a, S: BuildHasher, A: Allocator + Copy, P: Allocator> Session<'a, S, A, P>
         if self.skips {
             self.skips = false;
             self.line.clear();
-            return Reply::NoMemory;
+            return Reply::Text("no memory");
         }
         if self.line.extend_from_slice(end).is_err() {
             self.line.clear();
-            return Reply::NoMemory;
+            return Reply::Text("no memory");
         }
         let request = request_of(self.line.as_slice());
-        let answer = answer_to(&mut self.names, request, usize::MAX);
+        let answer = answer_to(self.arena, &mut self.names, request, NO_GUESS);
         self.line.clear();
         answer
     }
@@ -150,7 +144,7 @@ impl<'a, S: BuildHasher, A: Allocator + Copy, P: Allocator> Session<'a, S, A, P>
         if self.skips || !self.line.is_empty() {
             return self.finish_begun(end.as_bytes());
         }
-        answer_to(&mut self.names, end.request(), guess)
+        answer_to(self.arena, &mut self.names, end.request(), guess)
     }
 
     /// Keeps a piece of a line that goes on. The rest of a line that was refused memory isn't kept, and takes none.
@@ -169,14 +163,6 @@ impl<'a, S: BuildHasher, A: Allocator + Copy, P: Allocator> Session<'a, S, A, P>
         }
     }
 
-    /// Whether a line has begun.
-    fn has_begun(&self) -> bool
-        ensures { (tail : List ℕ) → IsSoFar self.now.line.items self.now.skips tail →
-            (result ≡ true → 0 < length tail) × (result ≡ false → tail ≡ []) }
-    {
-        self.skips || !self.line.is_empty()
-    }
-
     /// Answers the lines that end in the chunk, and writes the answers. With `is_ahead` the table is read for several of them at once; it is inlined, so that a call without it does none of that.
     #[inline(always)]
     fn feed<C: Chunk, W: Sink>(
@@ -193,14 +179,14 @@ impl<'a, S: BuildHasher, A: Allocator + Copy, P: Allocator> Session<'a, S, A, P>
         ensures counts { CountsFault result (W.failures writer.old) (W.failures writer.new) }
     {
         let mut rest = chunk;
-        let mut guesses = [usize::MAX; AHEAD];
+        let mut guesses = [NO_GUESS; AHEAD];
         let mut turn = AHEAD;
         while let Some((end, later)) = rest.cut() {
             if is_ahead && turn >= AHEAD {
                 guesses = self.guesses(rest);
                 turn = 0;
             }
-            let guess = if is_ahead { guesses[turn] } else { usize::MAX };
+            let guess = if is_ahead { guesses[turn] } else { NO_GUESS };
             let answer = self.finish(end, guess);
             push_reply(out, writer, answer)?;
             rest = later;
@@ -210,7 +196,9 @@ impl<'a, S: BuildHasher, A: Allocator + Copy, P: Allocator> Session<'a, S, A, P>
         out.flush(writer)
     }
 
-    /// Answers the lines that end in the piece, and writes the answers. Where it is a text as a whole, none of its lines is looked at again.
+    /// Answers the lines that end in the piece, and writes the answers. Where it is a text as a whole, none of its lines is looked at again. Inlined, so that the loop
+    /// over the lines finds the session and what waits in the frame of the run.
+    #[inline(always)]
     fn feed_bytes<W: Sink>(
         &mut self,
         piece: &[u8],
@@ -239,11 +227,10 @@ impl<'a, S: BuildHasher, A: Allocator + Copy, P: Allocator> Session<'a, S, A, P>
         ensures none { OnOk result (out.new ≡ []) }
         ensures counts { CountsFault result (W.failures writer.old) (W.failures writer.new) }
     {
-        if !self.has_begun() {
+        if !self.skips && self.line.is_empty() {
             return Ok(());
         }
-        let none: &[u8] = &[];
-        let answer = self.finish(none, usize::MAX);
+        let answer = self.finish_begun(&[]);
         push_reply(out, writer, answer)?;
         out.flush(writer)
     }
@@ -317,7 +304,12 @@ pub fn intern_engine_with_hasher<
     ensures counts { CountsRun result (R.failures reader.old) (R.failures reader.new)
         (W.failures writer.old) (W.failures writer.new) }
 {
-    let mut session = Session::new(alloc, arena, hash_builder);
+    let mut session = Session {
+        arena,
+        names: InternerReader::new(alloc, hash_builder),
+        line: Vec::new(alloc),
+        skips: false,
+    };
     let mut out = Pending::new();
     let mut piece = [0u8; PIECE];
     for _turn in 0..u64::MAX {

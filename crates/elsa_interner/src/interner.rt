@@ -235,30 +235,6 @@ impl<'a, S: BuildHasher, A: Allocator + Copy, P: Allocator> Interner<'a, S, A, P
         } = self;
         names
     }
-
-    /// The hash of a text, for [`Interner::guess`]. Takes no memory.
-    #[inline(always)]
-    pub(crate) fn hash(&self, text: &str) -> u32 {
-        self.names.hash(text)
-    }
-
-    /// A number that a text with this hash may have, or any other. Takes no memory.
-    #[inline(always)]
-    pub(crate) fn guess(&self, hash: u32) -> usize {
-        self.names.guess(hash)
-    }
-
-    /// As [`Interner::put`]; the name at `guess`, any number, is compared before the search.
-    #[inline(always)]
-    pub(crate) fn put_guessed(&mut self, text: &str, guess: usize) -> Result<usize, AllocError>
-        ensures put { IfOk result (λ n. Puts self.old text.now n self.new) }
-        ensures refused { OnErr result (self.new ≡ self.old) }
-        ensures only_new { OnErr result (position (bytes_eq text.now) self.old ≡ None) }
-        ensures limit { OnOk result (position (bytes_eq text.now) self.old ≡ None →
-            ¬ IsFull self.old) }
-    {
-        self.names.put_guessed(self.arena, text, guess)
-    }
 }
 
 /// `for name in &names` gives each name once, in the order of the numbers.

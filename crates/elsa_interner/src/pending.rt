@@ -4,7 +4,7 @@ ghost use Rattle.std.specs.Fmt.{decimal};
 ghost use Rattle.elsa_interner.specs.Devices.{Queues, CountsFault};
 
 use crate::devices::{Failed, Sink};
-use crate::digits::{LINE, SHORT, digit_count, number_line};
+use crate::digits::{LINE, SHORT, digit_count, digits_of};
 use itoa::Buffer;
 use std::marker::Model;
 
@@ -98,10 +98,10 @@ impl Pending {
         ensures { self.new ≡ self.old ++ (decimal n ++ (10 ∷ [])) }
     {
         let count = digit_count(n);
-        let from = 8 - count;
-        let line = number_line(n);
-        self.bytes[self.len..self.len + LINE].copy_from_slice(&line[from..from + LINE]);
-        self.len += count + 1;
+        let end = self.len + count;
+        self.bytes[self.len..self.len + 8].copy_from_slice(&digits_of(n, count));
+        self.bytes[end] = b'\n';
+        self.len = end + 1;
     }
 
     /// Adds a line: a number, and byte 10 behind it.

@@ -61,22 +61,6 @@ fn search<A: Allocator + Copy>(
     table.search(hash, is_it)
 }
 
-/// The text that is placed already, or else a copy of it in the arena.
-#[inline(always)]
-fn placed_or_copied<'a, P: Allocator>(
-    arena: &'a Bump<P>,
-    text: &str,
-    placed: Option<&'a str>,
-) -> Result<&'a str, AllocError>
-    requires placed { IfSome placed (λ p. p.now ≡ text.now) }
-    ensures { IfOk result (λ name. name.now ≡ text.now) }
-{
-    match placed {
-        Some(name) => Ok(name),
-        None => Ok(arena.try_alloc_str(text)?),
-    }
-}
-
 /// Names, each with the number that an [`Interner`](crate::interner::Interner) gave it, for look-ups alone.
 ///
 /// Threads can share it, where they can share `S` and `A`: it has the names, which lie in the arena, and not the arena.
@@ -228,7 +212,11 @@ impl<'a, S: BuildHasher, A: Allocator + Copy> InternerReader<'a, S, A> {
         };
         self.names.reserve(1)?;
         let room = self.table.reserve(hash, vacancy)?;
-        let name = placed_or_copied(arena, text, placed)?;
+        let name = if let Some(name) = placed {
+            name
+        } else {
+            arena.try_alloc_str(text)?
+        };
         let place = self.table.add(hash, room);
         self.names.push_reserved(name);
         Ok(place)

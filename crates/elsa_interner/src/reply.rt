@@ -11,16 +11,8 @@ use crate::pending::Pending;
 pub enum Reply<'a> {
     /// A name's number, or how many names there are.
     Number(usize),
-    /// A name.
-    Name(&'a str),
-    /// There is no such name.
-    Nothing,
-    /// The line asks for nothing that is known.
-    BadLine,
-    /// Memory was refused.
-    NoMemory,
-    /// There are as many names as numbers.
-    TooManyNames,
+    /// A name, or why there is no other answer.
+    Text(&'a str),
 }
 
 /// Adds a reply as a line to what waits.
@@ -36,10 +28,6 @@ pub fn push_reply<W: Sink>(
 {
     match reply {
         Reply::Number(n) => out.push_number(writer, n),
-        Reply::Name(name) => out.push_line(writer, name.as_bytes()),
-        Reply::Nothing => out.push_line(writer, b"none"),
-        Reply::BadLine => out.push_line(writer, b"bad line"),
-        Reply::NoMemory => out.push_line(writer, b"no memory"),
-        Reply::TooManyNames => out.push_line(writer, b"too many names"),
+        Reply::Text(text) => out.push_line(writer, text.as_bytes()),
     }
 }

@@ -1,7 +1,7 @@
 //! What a line asks for.
 ghost use Rattle.std.specs.Prelude.{◌≡◌, true, false, nat_eq, length, drop, MatchOption};
 ghost use Rattle.std.specs.List.{starts_with};
-ghost use Rattle.elsa_interner.specs.Lines.{command_of, command_of_text};
+ghost use Rattle.elsa_interner.specs.Lines.{command_of};
 ghost use Rattle.elsa_interner.specs.Replies.{asked};
 
 use crate::digits::number_of;
@@ -29,10 +29,11 @@ fn after<'t>(text: &'t str, word: &str) -> Option<&'t str>
     text.strip_prefix(word)
 }
 
-/// What a text asks for.
+/// What a line asks for that is known to be a text.
+#[tactic(auto, using(crate::proofs::RequestLemmas::command_of_text_is))]
 #[inline(always)]
-fn request_of_text(text: &str) -> Request<'_>
-    ensures { asked result ≡ command_of_text text.now }
+pub fn request_of_text(text: &str) -> Request<'_>
+    ensures { asked result ≡ command_of text.now }
 {
     if let Some(name) = after(text, "put ") {
         return Request::Put(name);
@@ -62,12 +63,4 @@ pub fn request_of(line: &[u8]) -> Request<'_>
         Ok(text) => request_of_text(text),
         Err(_) => Request::Bad,
     }
-}
-
-/// What a line asks for that is known to be a text.
-#[inline(always)]
-pub fn request_of_known(line: &str) -> Request<'_>
-    ensures { asked result ≡ command_of line.now }
-{
-    request_of_text(line)
 }

@@ -1,6 +1,6 @@
 //! The slots of a table, as slices: how they are probed, filled and copied into more of them.
-ghost use Rattle.std.specs.Prelude.{◌≡◌, ℕ, ◌<◌, ◌≤◌, ◌⊎◌, true, false, length, IfOk, IfErr, OnOk, OnErr, IfSome};
-ghost use Rattle.elsa_table.specs.Slots.{slot_of, walk, load_limit, wider_count, EndsAt, Gains, GoesOn, Holds, HoldsSame, IsFewest, IsFindable, IsTaken};
+ghost use Rattle.std.specs.Prelude.{◌≡◌, ◌<◌, ◌≤◌, length, IfOk, OnOk, IfSome};
+ghost use Rattle.elsa_table.specs.Slots.{walk, load_limit, EndsAt, Gains, HoldsSame, IsFewest, IsFindable, IsTaken};
 
 use std::alloc::{AllocError, Allocator};
 
@@ -15,51 +15,17 @@ pub struct Slot {
 const EMPTY: Slot = Slot { hash: 0, number: 0 };
 
 /// The fewest slots.
-const LEAST: usize = 8;
+pub(crate) const LEAST: usize = 8;
 
 /// Which of `count` slots a probe for `hash` comes to after `step` steps.
 #[tactic(auto, unfolding(crate::specs::Slots::walk))]
 #[inline(always)]
-fn walk(count: usize, hash: u32, step: usize) -> usize
+pub(crate) fn walk(count: usize, hash: u32, step: usize) -> usize
     requires { step < count }
     ensures slot { result ≡ walk count hash step }
     ensures within { result < count }
 {
     (hash as usize).wrapping_add(step) & (count - 1)
-}
-
-/// The place with this hash that `is_it` accepts, or else the slot where one would go: `slots.len()` if there is none.
-#[inline(always)]
-pub(crate) fn search<F: Fn(usize) -> bool>(
-    slots: &[Slot],
-    hash: u32,
-    is_it: F,
-) -> Result<usize, usize>
-    requires findable { IsFindable slots.now }
-    requires callable { (place : ℕ) → Holds slots.now (slot_of hash place) → F.pre is_it place }
-
-    // What it finds it holds under the hash, and `is_it` accepted it; else `is_it` refused all such.
-    ensures found { IfOk result (λ p. Holds slots.now (slot_of hash p) × F.post is_it p true) }
-    ensures absent { OnErr result ((p : ℕ) → Holds slots.now (slot_of hash p) → F.post is_it p false) }
-    ensures ends { IfErr result (λ i. i < length slots.now → EndsAt slots.now hash i) }
-    ensures room { IfErr result (λ i. i < length slots.now
-        ⊎ GoesOn slots.now hash (length slots.now)) }
-{
-    let count = slots.len();
-    for step in 0..count {
-        let at = walk(count, hash, step);
-        let slot = slots[at];
-        if slot.number == 0 {
-            return Err(at);
-        }
-        if slot.hash == hash {
-            let place = slot.number as usize - 1;
-            if is_it(place) {
-                return Ok(place);
-            }
-        }
-    }
-    Err(count)
 }
 
 /// The first slot of a probe for `hash` that has nothing in it.
@@ -114,19 +80,6 @@ pub(crate) fn widened<A: Allocator>(
         }
     }
     Ok(wider)
-}
-
-/// Twice as many slots, or the fewest, with what these hold.
-#[inline(never)]
-pub(crate) fn grown<A: Allocator>(alloc: A, slots: &[Slot]) -> Result<Vec<Slot, A>, AllocError>
-    ensures same { IfOk result (λ wider. HoldsSame slots.now wider.items) }
-    ensures findable { IfOk result (λ wider. IsFindable wider.items) }
-    ensures count { IfOk result (λ wider. length wider.items ≡ wider_count (length slots.now)) }
-{
-    let Some(twice) = slots.len().checked_mul(2) else {
-        return Err(AllocError);
-    };
-    widened(alloc, slots, twice.max(LEAST))
 }
 
 /// How many slots are for so many places: `from` or the fewest, or twice as many, and so on.

@@ -2,10 +2,10 @@
 //!
 //! Contracts see a table as its slots and the number of its places; `Has` says that it has a place under a hash (`specs/Table.antt`).
 ghost use Rattle.std.specs.Prelude.{◌≡◌, ◌↔◌, ◌+◌, ◌<◌, ◌≤◌, ◌⊎◌, ℕ, [], true, false, IfOk, IfErr, IsTrue, OnOk, OnErr};
-ghost use Rattle.elsa_table.specs.Slots.{load_limit, GoesOn};
+ghost use Rattle.elsa_table.specs.Slots.{load_limit, wider_count, GoesOn};
 ghost use Rattle.elsa_table.specs.Table.{most_places, places, slots, Has, HasRoom, HasSame, IsRoom, IsVacancy, Adds, Grows};
 
-use crate::slots::{Slot, grown, search, slots_for, vacant, widened};
+use crate::slots::{LEAST, Slot, slots_for, vacant, walk, widened};
 use std::alloc::{AllocError, Allocator};
 use std::marker::Model;
 
@@ -76,10 +76,22 @@ impl<A: Allocator + Copy> PlaceTable<A> {
         ensures room { IfErr result (λ v. v.slot < slots self.now
             ⊎ GoesOn self.now.0 hash (slots self.now)) }
     {
-        match search(self.slots.as_slice(), hash, is_it) {
-            Ok(place) => Ok(place),
-            Err(slot) => Err(Vacancy { slot }),
+        let slots = self.slots.as_slice();
+        let count = slots.len();
+        for step in 0..count {
+            let at = walk(count, hash, step);
+            let slot = slots[at];
+            if slot.number == 0 {
+                return Err(Vacancy { slot: at });
+            }
+            if slot.hash == hash {
+                let place = slot.number as usize - 1;
+                if is_it(place) {
+                    return Ok(place);
+                }
+            }
         }
+        Err(Vacancy { slot: count })
     }
 
     /// A place that may have this hash, read from one slot, or any other number: nothing is claimed of it. Takes no memory.
@@ -128,7 +140,27 @@ impl<A: Allocator + Copy> PlaceTable<A> {
         if self.count < self.limit && vacancy.slot < self.slots.len() {
             return Ok(vacancy);
         }
-        let wider = grown(*self.slots.allocator(), self.slots.as_slice())?;
+        self.grow(hash)
+    }
+
+    /// Doubles the slots, and returns where a place under the hash goes. Out of line, so that a caller's own loop stays short.
+    #[cold]
+    #[inline(never)]
+    fn grow(&mut self, hash: u32) -> Result<Vacancy, AllocError>
+        ensures room { IfOk result (IsRoom self.new hash) }
+        ensures places { places self.new ≡ places self.old }
+        ensures same { HasSame self.old self.new }
+        ensures doubles { OnOk result (slots self.new ≡ wider_count (slots self.old)) }
+        ensures refused { OnErr result (self.new ≡ self.old) }
+    {
+        let Some(twice) = self.slots.len().checked_mul(2) else {
+            return Err(AllocError);
+        };
+        let wider = widened(
+            *self.slots.allocator(),
+            self.slots.as_slice(),
+            twice.max(LEAST),
+        )?;
         let Some(slot) = vacant(wider.as_slice(), hash) else {
             return Err(AllocError);
         };

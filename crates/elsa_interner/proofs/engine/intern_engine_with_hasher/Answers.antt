@@ -15,7 +15,7 @@ loop-turn-init g c = record {
     written = [];
     many = omega arith;
     consumed = Consumes-nil _;
-    reached = reached_new _ _ _ c.new-session.ensures.names c.new-session.ensures.line c.new-session.ensures.skips;
+    reached = reached_new _ _ _ c.new.ensures c.new-2.ensures.items refl;
     held = Appends-nil _;
   };
 }

@@ -1,10 +1,11 @@
-use Rattle.std.proofs.Common.{◌≡◌, ℕ, List, length, map, position, Some, None, ap, subst, sym, ◌∙◌, arith}
+use Rattle.std.proofs.Common.{◌≡◌, ℕ, List, length, map, position, IfSome, Some, None, ap, subst, sym, ◌∙◌, arith}
 use Rattle.std.proofs.lemmas.List.{length-map}
 use Rattle.std.specs.Borrow.{Bor}
 use Rattle.std.specs.Str.{bytes_eq}
 use Rattle.elsa_interner.specs.Names.{IsNumbered, Puts, text_hash}
 use Rattle.elsa_interner.proofs.NameLemmas.{at_place, kept_put, numbered_put, numbered_same, put_new, shown_push, stands_put}
 use Rattle.elsa_interner.proofs.reader.InternerReader.put_in.Goals as goal
+use Rattle.elsa_interner.proofs.reader.InternerReader.put_in.Goals.{in-Some, in_default+in_ok-name}
 
 pub search-requires-clause-within : goal.search-requires-clause-within
 search-requires-clause-within g c h i has =
@@ -29,7 +30,11 @@ invariant_of-self-2 g c =
     let ks = c.self.inside.names.items in
     let text = c.args.text.now in
     let reserved = c.in_ok-room.ensures in
-    let last = shown_push ks c.reserve.new.self.items c.push_reserved.new.self.items text c.in_ok-name.name c.in_ok-reserve.ensures.items c.push_reserved.ensures.items c.in_ok-name.ensures in
+    let named : c.match-placed.name.now ≡ text = elim c.match-placed.branch [
+      | in-Some w ↦ ap (λ (b : Bor (List ℕ)). b.now) w.name-is ∙ subst (λ o. IfSome o (λ (b : Bor (List ℕ)). b.now ≡ text)) w.in-Some.is c.requires.placed
+      | in_default+in_ok-name w ↦ ap (λ (b : Bor (List ℕ)). b.now) w.name-is ∙ w.in_ok-name.ensures
+    ] in
+    let last = shown_push ks c.reserve.new.self.items c.push_reserved.new.self.items text c.match-placed.name c.in_ok-reserve.ensures.items c.push_reserved.ensures.items named in
     let none = subst (λ l. position (bytes_eq text) (map (λ (b : Bor (List ℕ)). b.now) l) ≡ None) c.as_slice.ensures.value c.in-Err.ensures.absent in
     let before = numbered_same _ c.self.inside.table c.reserve-2.new.self (map (λ (b : Bor (List ℕ)). b.now) ks) c.self.invariant reserved.places reserved.same in
     subst (IsNumbered _ c.add-place.new.self) (sym last)
@@ -39,7 +44,11 @@ pub returns-clause-put : goal.returns-clause-put
 returns-clause-put g c =
     let ks = c.self.inside.names.items in
     let text = c.args.text.now in
-    let last = shown_push ks c.reserve.new.self.items c.push_reserved.new.self.items text c.in_ok-name.name c.in_ok-reserve.ensures.items c.push_reserved.ensures.items c.in_ok-name.ensures in
+    let named : c.match-placed.name.now ≡ text = elim c.match-placed.branch [
+      | in-Some w ↦ ap (λ (b : Bor (List ℕ)). b.now) w.name-is ∙ subst (λ o. IfSome o (λ (b : Bor (List ℕ)). b.now ≡ text)) w.in-Some.is c.requires.placed
+      | in_default+in_ok-name w ↦ ap (λ (b : Bor (List ℕ)). b.now) w.name-is ∙ w.in_ok-name.ensures
+    ] in
+    let last = shown_push ks c.reserve.new.self.items c.push_reserved.new.self.items text c.match-placed.name c.in_ok-reserve.ensures.items c.push_reserved.ensures.items named in
     let none = subst (λ l. position (bytes_eq text) (map (λ (b : Bor (List ℕ)). b.now) l) ≡ None) c.as_slice.ensures.value c.in-Err.ensures.absent in
     let placed : c.add-place.result ≡ length (map (λ (b : Bor (List ℕ)). b.now) ks) = omega (arith, c.add-place.ensures.place, c.in_ok-room.ensures.places, c.self.invariant.counted) in
     subst (λ l. Puts l text c.add-place.result (map (λ (b : Bor (List ℕ)). b.now) c.push_reserved.new.self.items)) c.self.view_is (put_new _ _ text c.add-place.result none placed last)

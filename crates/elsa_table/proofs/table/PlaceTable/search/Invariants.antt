@@ -1,7 +1,7 @@
 use Rattle.std.proofs.Common.{false}
 use Rattle.elsa_table.specs.Slots.{GoesOn}
 use Rattle.elsa_table.proofs.SlotLemmas.{Missed}
-use Rattle.elsa_table.proofs.slots.search.Given as goal
+use Rattle.elsa_table.proofs.table.PlaceTable.search.Given as goal
 
 abbrev pub invariant-loop-step : goal.invariant-loop-step
 invariant-loop-step g l = GoesOn l.slots l.hash l.step × Missed l.slots l.hash (λ place. goal.F-post g l.is_it place false) l.step
