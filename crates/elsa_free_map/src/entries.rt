@@ -86,7 +86,8 @@ pub fn same_place<
 
 /// 32 bits of the hash of a key, or of what stands for keys.
 pub fn hash_of<Q: Copy + Drop + Hash, S: BuildHasher>(builder: &S, key: Q) -> u32
-    ensures { result ≡ short (S.Hasher.finish (fold S.Hasher.write (S.build_hasher builder.now) (Q.hash_input key))) }
+    ensures { result ≡ short (S.Hasher.finish (fold S.Hasher.write
+        (S.build_hasher builder.now) (Q.hash_input key))) }
 {
     (builder.hash_one(key).wrapping_mul(0x9E37_79B9_7F4A_7C15) / 0x1_0000_0000) as u32
 }

@@ -394,7 +394,8 @@ impl<
         ensures own { IfOk result (λ r. r.is_new ≡ true → r.value ≡ value) }
 
         // What the pass had seen of the key stays, and nothing is pushed.
-        ensures known { IfOk result (λ r. (j : ℕ) (v : V) → HasAt K.eq (items_of pass.old.seen) j key v →
+        ensures known { IfOk result (λ r. (j : ℕ) (v : V) →
+            HasAt K.eq (items_of pass.old.seen) j key v →
             (r.place ≡ j) × (r.is_new ≡ false)) }
         ensures refused { IfErr result (λ e. mine pass.new ≡ mine pass.old) }
     {
@@ -433,7 +434,8 @@ impl<
         ensures made { IfOk result (λ r. r.is_new ≡ true → F.post make r.value) }
 
         // What the pass had seen of the key stays, and nothing is pushed.
-        ensures known { IfOk result (λ r. (j : ℕ) (v : V) → HasAt K.eq (items_of pass.old.seen) j key v →
+        ensures known { IfOk result (λ r. (j : ℕ) (v : V) →
+            HasAt K.eq (items_of pass.old.seen) j key v →
             (r.place ≡ j) × (r.is_new ≡ false)) }
         ensures refused { IfErr result (λ e. mine pass.new ≡ mine pass.old) }
     {
@@ -465,8 +467,8 @@ impl<
     pub fn get_by_place_as(&self, pass: &mut MapPass<K, V, S, A>, place: usize) -> Option<(K, V)>
         requires of { pass.old.vector ≡ self.now }
         ensures continues { Continues pass.old pass.new }
-        ensures found { IfSome result (λ r. (e : Entry K V S) × (slice_get (items_of pass.new.seen) place ≡ Some e)
-            × (r ≡ (e.key, e.value))) }
+        ensures found { IfSome result (λ r. (e : Entry K V S)
+            × (slice_get (items_of pass.new.seen) place ≡ Some e) × (r ≡ (e.key, e.value))) }
         ensures absent { IfNone result (length pass.new.seen ≤ place) }
     {
         if place < pass.seen_len() {

@@ -276,7 +276,8 @@ where
     /// The pairs, to write: a new base begins with what is left in them. It takes no memory.
     pub fn as_mut(&mut self) -> &mut IndexMap<K, V::Borrow, S, A>
         ensures* writes_back { sem 𝓛 (lends_pairs R.row K.row V.row S.row A.row V.Borrow.row
-            S.Hasher.row K.Hash V.HasTarget S.BuildHasher S.Hasher.Hasher A.Allocator self.entry result) }
+            S.Hasher.row K.Hash V.HasTarget S.BuildHasher S.Hasher.Hasher A.Allocator
+            self.entry result) }
         ensures content { result.now.entries ≡ self.old }
     {
         &mut self.map

@@ -32,7 +32,8 @@ pub trait Words<S> {
         ensures same { (Self.count self.new ≡ Self.count self.old) ×
             (Self.whose self.new ≡ Self.whose self.old) }
         ensures later { IsLater (Self.known self.old) (Self.known self.new) }
-        ensures filled { MatchBool result (Self.known self.new at ≡ word) (0 < Self.known self.new at) };
+        ensures filled { MatchBool result (Self.known self.new at ≡ word)
+            (0 < Self.known self.new at) };
 }
 
 /// Which of `count` words a probe for `hash` comes to after `step` steps.

@@ -35,7 +35,8 @@ fn store<K: Ord + Drop, V: Drop, A: Allocator + Copy>(
     ensures { OnOk result (
         (q : K) →
         value_at (eq_by_cmp K.cmp) (shown table.new.entries) q
-        ≡ (if eq_by_cmp K.cmp key q then Some (arc_value value) else value_at (eq_by_cmp K.cmp) (shown table.old.entries) q)) }
+        ≡ (if eq_by_cmp K.cmp key q then Some (arc_value value)
+        else value_at (eq_by_cmp K.cmp) (shown table.old.entries) q)) }
 {
     table.insert(key, value)?;
     Ok(())
