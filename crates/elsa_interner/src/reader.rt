@@ -33,6 +33,26 @@ fn name_hash<S: BuildHasher>(hash_builder: &S, text: &str) -> u32
     ((hash ^ (hash >> 32)) & 0xFFFF_FFFF) as u32
 }
 
+/// Whether two texts of more than sixteen bytes are the same. Out of line, so that [`same_text`] stays short.
+#[inline(never)]
+fn same_long_text(a: &str, b: &str) -> bool
+    ensures { result ≡ bytes_eq a.now b.now }
+{
+    a == b
+}
+
+/// Whether two texts are the same. Most names are short, and what std compares of up to sixteen bytes is two words.
+#[inline(always)]
+fn same_text(a: &str, b: &str) -> bool
+    ensures { result ≡ bytes_eq a.now b.now }
+{
+    if a.len() <= 16 {
+        a == b
+    } else {
+        same_long_text(a, b)
+    }
+}
+
 /// The place of the text in `names`, or else where the table has room for it.
 #[inline(always)]
 fn search<A: Allocator + Copy>(
@@ -57,7 +77,7 @@ fn search<A: Allocator + Copy>(
         requires { place < length names.now }
         ensures { (d : Bor (List ℕ)) →
             result ≡ bytes_eq text.entry.now (slice_index_or names.entry.now place d).now }
-    { text == names[place] };
+    { same_text(text, names[place]) };
     table.search(hash, is_it)
 }
 
@@ -249,7 +269,7 @@ impl<'a, S: BuildHasher, A: Allocator + Copy> InternerReader<'a, S, A> {
             ¬ IsFull self.old) }
     {
         if let Some(name) = self.names.get(guess) {
-            if text == *name {
+            if same_text(text, *name) {
                 return Ok(guess);
             }
         }
