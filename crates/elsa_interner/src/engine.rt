@@ -135,17 +135,6 @@ impl<'a, S: BuildHasher, A: Allocator + Copy, P: Allocator> Session<'a, S, A, P>
         answer
     }
 
-    /// The answer to a line that lies whole in the piece; a name that it puts may be at `guess`.
-    #[inline(always)]
-    fn finish<C: Chunk>(&mut self, line: C, guess: usize) -> Reply<'a>
-        requires { (self.old.skips ≡ false) × (self.old.line.items ≡ []) }
-        ensures finished { IsFinished self.old.names self.old.line.items self.old.skips
-            (C.bytes line) (shown result) self.new.names self.new.line.items self.new.skips }
-        ensures same { (self.new.skips ≡ false) × (self.new.line.items ≡ []) }
-    {
-        answer_to(self.arena, &mut self.names, line.request(), guess)
-    }
-
     /// Keeps a piece of a line that goes on. The rest of a line that was refused memory isn't kept, and takes none.
     fn keep(&mut self, piece: &[u8])
         ensures line { (tail : List ℕ) → IsSoFar self.old.line.items self.old.skips tail →
@@ -187,7 +176,7 @@ impl<'a, S: BuildHasher, A: Allocator + Copy, P: Allocator> Session<'a, S, A, P>
                 turn = 0;
             }
             let guess = if is_ahead { guesses[turn] } else { NO_GUESS };
-            let answer = self.finish(line, guess);
+            let answer = answer_to(self.arena, &mut self.names, line.request(), guess);
             push_reply(out, writer, answer)?;
             rest = later;
             turn = turn.wrapping_add(1);
