@@ -135,18 +135,6 @@ impl<'a, S: BuildHasher, A: Allocator + Copy, P: Allocator> Session<'a, S, A, P>
         answer
     }
 
-    /// The answer to the line that has begun and ends so; a name that it puts may be at `guess`.
-    #[inline(always)]
-    fn finish<C: Chunk>(&mut self, end: C, guess: usize) -> Reply<'a>
-        ensures { IsFinished self.old.names self.old.line.items self.old.skips
-            (C.bytes end) (shown result) self.new.names self.new.line.items self.new.skips }
-    {
-        if self.skips || !self.line.is_empty() {
-            return self.finish_begun(end.as_bytes());
-        }
-        answer_to(self.arena, &mut self.names, end.request(), guess)
-    }
-
     /// Keeps a piece of a line that goes on. The rest of a line that was refused memory isn't kept, and takes none.
     fn keep(&mut self, piece: &[u8])
         ensures line { (tail : List ℕ) → IsSoFar self.old.line.items self.old.skips tail →
@@ -163,7 +151,7 @@ impl<'a, S: BuildHasher, A: Allocator + Copy, P: Allocator> Session<'a, S, A, P>
         }
     }
 
-    /// Answers the lines that end in the chunk, and writes the answers. With `is_ahead` the table is read for several of them at once; it is inlined, so that a call without it does none of that.
+    /// Answers the lines that end in the chunk, before which no line has begun, and writes the answers. With `is_ahead` the table is read for several of them at once; it is inlined, so that a call without it does none of that.
     #[inline(always)]
     fn feed<C: Chunk, W: Sink>(
         &mut self,
@@ -172,6 +160,7 @@ impl<'a, S: BuildHasher, A: Allocator + Copy, P: Allocator> Session<'a, S, A, P>
         out: &mut Pending,
         writer: &mut W,
     ) -> Result<(), Failed>
+        requires { (self.old.skips ≡ false) × (self.old.line.items ≡ []) }
         ensures feeds { Feeds result self.old.names self.old.line.items self.old.skips
             (C.bytes chunk) self.new.names self.new.line.items self.new.skips
             (W.held writer.old) out.old (W.held writer.new) out.new }
@@ -181,13 +170,13 @@ impl<'a, S: BuildHasher, A: Allocator + Copy, P: Allocator> Session<'a, S, A, P>
         let mut rest = chunk;
         let mut guesses = [NO_GUESS; AHEAD];
         let mut turn = AHEAD;
-        while let Some((end, later)) = rest.cut() {
+        while let Some((line, later)) = rest.cut() {
             if is_ahead && turn >= AHEAD {
                 guesses = self.guesses(rest);
                 turn = 0;
             }
             let guess = if is_ahead { guesses[turn] } else { NO_GUESS };
-            let answer = self.finish(end, guess);
+            let answer = answer_to(self.arena, &mut self.names, line.request(), guess);
             push_reply(out, writer, answer)?;
             rest = later;
             turn = turn.wrapping_add(1);
@@ -196,7 +185,8 @@ impl<'a, S: BuildHasher, A: Allocator + Copy, P: Allocator> Session<'a, S, A, P>
         out.flush(writer)
     }
 
-    /// Answers the lines that end in the piece, and writes the answers. Where it is a text as a whole, none of its lines is looked at again. Inlined, so that the loop
+    /// Answers the lines that end in the piece, and writes the answers. The first may have begun in a piece before. Where what follows is a text as a whole, none of
+    /// its lines is looked at again. Inlined, so that the loop
     /// over the lines finds the session and what waits in the frame of the run.
     #[inline(always)]
     fn feed_bytes<W: Sink>(
@@ -211,11 +201,21 @@ impl<'a, S: BuildHasher, A: Allocator + Copy, P: Allocator> Session<'a, S, A, P>
         ensures none { OnOk result (out.new ≡ []) }
         ensures counts { CountsFault result (W.failures writer.old) (W.failures writer.new) }
     {
+        let mut rest = piece;
+        if self.skips || !self.line.is_empty() {
+            let Some((end, later)) = piece.cut() else {
+                self.keep(piece);
+                return out.flush(writer);
+            };
+            let answer = self.finish_begun(end);
+            push_reply(out, writer, answer)?;
+            rest = later;
+        }
         let is_ahead = self.names.len() >= MANY;
-        match str::from_utf8(piece) {
+        match str::from_utf8(rest) {
             Ok(text) if is_ahead => self.feed(text, true, out, writer),
             Ok(text) => self.feed(text, false, out, writer),
-            Err(_) => self.feed(piece, false, out, writer),
+            Err(_) => self.feed(rest, false, out, writer),
         }
     }
 
