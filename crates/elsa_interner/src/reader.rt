@@ -1,7 +1,7 @@
 //! [`InternerReader`]: names and the table that finds them, without the arena.
 //!
 //! It is what an interner has but for the arena that its names lie in, so threads can share it. [`InternerReader::put_in`] is where a name is kept.
-ghost use Rattle.std.specs.Prelude.{◌≡◌, ◌↔◌, ◌+◌, slice_index, ℕ, [], List, length, None, Some, slice_get, position, map, is_some, slice_index_or, ◌<◌, ◌≤◌, IfErr, IfOk, IfSome, IsTrue, OnErr, OnOk};
+ghost use Rattle.std.specs.Prelude.{◌≡◌, ◌↔◌, ℕ, [], List, length, None, Some, slice_get, position, map, is_some, slice_index_or, ◌<◌, ◌≤◌, IfErr, IfOk, IfSome, IsTrue, OnErr, OnOk};
 ghost use Rattle.std.specs.Borrow.{Bor};
 ghost use Rattle.std.specs.Fmt.{debug_list, debug_str};
 ghost use Rattle.std.specs.Iterator.Adapters.{IterYieldsInOrder, IterYieldsInReverse};
@@ -19,7 +19,6 @@ use std::fmt::{self, Debug, Formatter, Write};
 use std::hash::{BuildHasher, BuildHasherDefault, FoldHasher, Hasher};
 use std::marker::Model;
 use std::ops::Index;
-use std::simd::prelude::*;
 use std::slice::Iter;
 
 /// The hash of a text, of 32 bits. The hasher is given its bytes alone: std's hash of a text has byte 255 behind them, which parts a text from what follows, and
@@ -34,19 +33,6 @@ fn name_hash<S: BuildHasher>(hash_builder: &S, text: &str) -> u32
     ((hash ^ (hash >> 32)) & 0xFFFF_FFFF) as u32
 }
 
-/// Whether the four bytes from `at` on are the same. They are read as one lane, which the compiler sees as a single load: so the search stays small enough to have
-/// the comparison in its own frame.
-#[inline(always)]
-fn same_four(a: &[u8], b: &[u8], at: usize) -> bool
-    requires { (at + 4 ≤ length a.now) × (at + 4 ≤ length b.now) }
-    ensures same { IsTrue result → (k : ℕ) → at ≤ k → k < at + 4 →
-        slice_index a.now k ≡ slice_index b.now k }
-    ensures whole { a.now ≡ b.now → IsTrue result }
-{
-    let (x, y) = (u8x4::from_slice(&a[at..]), u8x4::from_slice(&b[at..]));
-    u32x1::from_le_bytes(x).to_array()[0] == u32x1::from_le_bytes(y).to_array()[0]
-}
-
 /// Whether two texts of more than sixteen bytes are the same. Out of line, so that [`same_text`] stays short.
 #[inline(never)]
 fn same_long_text(a: &str, b: &str) -> bool
@@ -55,28 +41,16 @@ fn same_long_text(a: &str, b: &str) -> bool
     a == b
 }
 
-/// Whether two texts are the same. Most names are short, so they are compared by few words: those of eight to sixteen bytes as std does it, and those of four to
-/// seven by two halves of a word, which may overlap.
+/// Whether two texts are the same. Most names are short, and what std compares of up to sixteen bytes is two words.
 #[inline(always)]
 fn same_text(a: &str, b: &str) -> bool
     ensures { result ≡ bytes_eq a.now b.now }
 {
-    let n = a.len();
-    if n != b.len() {
-        return false;
+    if a.len() <= 16 {
+        a == b
+    } else {
+        same_long_text(a, b)
     }
-    if n > 16 {
-        return same_long_text(a, b);
-    }
-    if n >= 8 {
-        return a == b;
-    }
-    let x = a.as_bytes();
-    let y = b.as_bytes();
-    if n >= 4 {
-        return same_four(x, y, 0) & same_four(x, y, n - 4);
-    }
-    (n < 1 || x[0] == y[0]) && (n < 2 || x[1] == y[1]) && (n < 3 || x[2] == y[2])
 }
 
 /// The place of the text in `names`, or else where the table has room for it.
