@@ -41,7 +41,7 @@ fn same_long_text(a: &str, b: &str) -> bool
     a == b
 }
 
-/// Whether two texts are the same. Most names are short, and what std compares of up to sixteen bytes is two words.
+/// Whether two texts are the same. Most names are short, and of up to sixteen bytes the compiler compares two words in place of a call.
 #[inline(always)]
 fn same_text(a: &str, b: &str) -> bool
     ensures { result ≡ bytes_eq a.now b.now }
@@ -67,6 +67,7 @@ fn search<A: Allocator + Copy>(
     requires within { (h i : ℕ) → Has table.now h i → i < length names.now }
     requires one_to_one { IsOneToOne (map (λ b. b.now) names.now) }
 
+    // The text's place, or that it is no name, and where it would go.
     ensures found { IfOk result (λ i.
         position (bytes_eq text.now) (map (λ b. b.now) names.now) ≡ Some i) }
     ensures absent { OnErr result
