@@ -138,9 +138,9 @@ const PAST_A_MILLION: u64 = 1_048_580;
 
 /// Whether each push of an empty vector's first million and a few is told its number as its place.
 fn push_a_million<R: Wait>(rt: &R, vector: &LockFreeFrozenVec<u64>) -> bool {
-    let mut pass = vector.pass();
+    let mut handle = vector.handle();
     for number in 0..PAST_A_MILLION {
-        if vector.push_as(rt, &mut pass, number) != Ok(number as usize) {
+        if handle.push(rt, number) != Ok(number as usize) {
             return false;
         }
     }
