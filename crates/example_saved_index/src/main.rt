@@ -81,11 +81,13 @@ impl<'a> Index<'a> {
 
 /// How many words have another number in the two indexes.
 fn moved_words(before: &Index<'_>, after: &Index<'_>) -> usize {
-    before
-        .words
-        .iter()
-        .filter(|word| before.words.find(**word) != after.words.find(**word))
-        .count()
+    let mut moved: usize = 0;
+    for word in before.words.iter() {
+        if before.words.find(word) != after.words.find(word) {
+            moved = moved.saturating_add(1);
+        }
+    }
+    moved
 }
 
 fn main(rt: HostRuntime) -> io::Result<()> {

@@ -13,7 +13,7 @@ use bumpalo::Bump;
 use elsa::interner::{Interner, InternerReader};
 use std::alloc::{AllocError, Global};
 use std::io::{self, BufRead, BufReader};
-use std::thread;
+use std::thread::{self, Threads};
 
 const THREADS: usize = 4;
 
@@ -49,6 +49,17 @@ impl Symbols<'_> {
         self.names.put(name)?;
         self.known.push(symbol).unwrap();
         Ok(true)
+    }
+
+    /// Declares the name of a line, if it declares one. Prints which is declared again.
+    fn read(&mut self, rt: &impl Print, line: &str, number: usize) -> io::Result<()> {
+        let Some((kind, name)) = declaration(line) else {
+            return Ok(());
+        };
+        if self.declare(name, Symbol { kind, line: number })? {
+            return Ok(());
+        }
+        println!(rt; "line {number} declares {name} again")
     }
 }
 
@@ -88,10 +99,43 @@ fn count_lines(
     Ok(counts)
 }
 
+/// The counts of all threads.
+fn count_all(
+    rt: &(impl Threads + Sync),
+    alloc: Global,
+    names: &InternerReader<'_>,
+    lines: &[String],
+) -> io::Result<Vec<Vec<u64>>> {
+    let count = |first| count_lines(alloc, names, lines, first);
+    let mut parts = Vec::new(alloc);
+    for part in thread::map_indices(rt, alloc, THREADS, &count)? {
+        parts.push(part?)?;
+    }
+    Ok(parts)
+}
+
 /// The uses that all threads have counted at a number.
 fn uses_at(counts: &[Vec<u64>], number: usize) -> u64 {
-    let counted = counts.iter().filter_map(|part| part.get(number));
-    counted.fold(0u64, |sum, count| sum.saturating_add(*count))
+    let mut sum: u64 = 0;
+    for part in counts {
+        sum = sum.saturating_add(part.get(number).copied().unwrap_or(0));
+    }
+    sum
+}
+
+/// Prints what is known of each name, and its uses beside the declaration.
+fn tell(
+    rt: &impl Print,
+    names: &InternerReader<'_>,
+    known: &[Symbol],
+    counts: &[Vec<u64>],
+) -> io::Result<()> {
+    for (number, (name, symbol)) in names.iter().zip(known).enumerate() {
+        let uses = uses_at(counts, number).saturating_sub(1);
+        let Symbol { kind, line } = *symbol;
+        println!(rt; "{number} {name}: {kind} of line {line}, used {uses} times")?;
+    }
+    Ok(())
 }
 
 fn main(rt: HostRuntime) -> io::Result<()> {
@@ -104,26 +148,11 @@ fn main(rt: HostRuntime) -> io::Result<()> {
     let mut lines = Vec::new(alloc);
     for line in BufReader::new(alloc, rt.reader())?.lines(alloc) {
         let line = line?;
-        let number = lines.len() + 1;
-        if let Some((kind, name)) = declaration(line.as_str()) {
-            if !symbols.declare(name, Symbol { kind, line: number })? {
-                println!(rt; "line {number} declares {name} again")?;
-            }
-        }
+        symbols.read(&rt, line.as_str(), lines.len() + 1)?;
         lines.push(line)?;
     }
     let Symbols { names, known } = symbols;
     let names = names.into_reader();
-    let count = |first| count_lines(alloc, &names, &lines, first);
-    let counts = thread::map_indices(&rt, alloc, THREADS, &count)?;
-    let mut parts = Vec::new(alloc);
-    for part in counts {
-        parts.push(part?)?;
-    }
-    for (number, (name, symbol)) in names.iter().zip(&known).enumerate() {
-        let uses = uses_at(&parts, number).saturating_sub(1);
-        let Symbol { kind, line } = *symbol;
-        println!(rt; "{number} {name}: {kind} of line {line}, used {uses} times")?;
-    }
-    Ok(())
+    let counts = count_all(&rt, alloc, &names, &lines)?;
+    tell(&rt, &names, &known, &counts)
 }
