@@ -1,4 +1,4 @@
-//! The concurrent vector: COUNT pushes in all, COUNT reads in all at rest or beside a thread that pushes as long as they last, and
+//! The concurrent vector: COUNT pushes in all, one by one or in batches, COUNT reads in all at rest or beside a thread that pushes as long as they last, and
 //! walks over COUNT items.
 ghost use Rattle.std.specs.Prelude.{◌≡◌, ◌<◌};
 
@@ -14,6 +14,9 @@ use std::{io, thread};
 
 /// The most items that a thread pushes beside readers.
 const BESIDE: u64 = 100_000_000;
+
+/// How many items a batch has.
+const BATCH: usize = 64;
 
 /// How often a walk is made, so that one lasts long enough to be timed.
 const WALKS: usize = 10;
@@ -38,6 +41,18 @@ fn push<R: Wait>(rt: &R, vector: &LockFreeFrozenVec<u64>, count: u64) -> u64 {
     let mut sum = 0u64;
     for item in 0..count {
         if let Ok(place) = vector.push_as(rt, &mut pass, item) {
+            sum = sum.wrapping_add(place as u64);
+        }
+    }
+    sum
+}
+
+fn extend<R: Wait>(rt: &R, vector: &LockFreeFrozenVec<u64>, count: u64) -> u64 {
+    let mut handle = vector.handle();
+    let batch = [1u64; BATCH];
+    let mut sum = 0u64;
+    for _ in 0..count / BATCH as u64 {
+        if let Ok(place) = handle.extend(rt, &batch) {
             sum = sum.wrapping_add(place as u64);
         }
     }
@@ -104,10 +119,11 @@ fn read(reads: Reads, vector: &LockFreeFrozenVec<u64>, thread: usize, count: usi
     }
 }
 
-/// The nanoseconds and the sum of the pushes of all threads.
+/// The nanoseconds and the sum of the pushes of all threads, in batches or one by one.
 pub fn timed_pushes<R: Wait + Threads + Sync + Clock>(
     rt: &R,
     alloc: Global,
+    batched: bool,
     threads: usize,
     count: usize,
 ) -> io::Result<(u128, u64)>
@@ -116,8 +132,15 @@ pub fn timed_pushes<R: Wait + Threads + Sync + Clock>(
     let vector = LockFreeFrozenVec::new(alloc)?;
     let shared = &vector;
     let each = (count / threads) as u64;
+    let work = |_| {
+        if batched {
+            extend(rt, shared, each)
+        } else {
+            push(rt, shared, each)
+        }
+    };
     let start = Instant::now(rt)?;
-    let sums = thread::map_indices(rt, alloc, threads, &|_| push(rt, shared, each))?;
+    let sums = thread::map_indices(rt, alloc, threads, &work)?;
     let nanos = start.elapsed(rt)?.as_nanos();
     Ok((
         nanos,

@@ -1,17 +1,18 @@
 -- What happens to a vector, one event after the other, and what that leaves: the shared list, and whether a thread holds.
 -- A vector is made held by its maker, who fills it and releases it, as every later holder does.
-use Rattle.std.specs.Prelude.{ℕ, Bool, true, false, List, [], ◌∷◌, ◌++◌, length}
+use Rattle.std.specs.Prelude.{ℕ, Bool, true, false, List, [], ◌∷◌, ◌++◌, drop, length}
 use Rattle.elsa_free.specs.declared.event.Entry.{Entry}
 use Rattle.elsa_free.specs.declared.event.Event.{Event}
-use Rattle.elsa_free.specs.declared.event.Event.TheVariants.{Acquired, Published, Cloned, Released, OfferOf}
+use Rattle.elsa_free.specs.declared.event.Event.TheVariants.{Acquired, Published, Extended, Cloned, Released, OfferOf}
 use Rattle.elsa_machine.specs.AtomicSteps.{Shared}
-use Rattle.elsa_free.specs.SharedList.{copied}
+use Rattle.elsa_free.specs.SharedList.{authored, copied}
 
 module _ {T : Type 0} where
   -- what an event adds to the shared list
   abbrev pub entries : Event T → List (Entry T)
   entries Acquired = []
   entries (Published x) = x ∷ []
+  entries (Extended a xs) = authored a xs
   entries (Cloned xs) = copied xs
   entries Released = []
   entries (OfferOf a n) = []
@@ -25,6 +26,7 @@ module _ {T : Type 0} where
   abbrev pub begins_hold : Event T → Bool
   begins_hold Acquired = true
   begins_hold (Published x) = false
+  begins_hold (Extended a xs) = false
   begins_hold (Cloned xs) = false
   begins_hold Released = false
   begins_hold (OfferOf a n) = false
@@ -46,6 +48,7 @@ module _ {T : Type 0} where
   abbrev pub added_by : Event T → ℕ
   added_by Acquired = 0
   added_by (Published x) = 1
+  added_by (Extended a xs) = length xs
   added_by (Cloned xs) = length xs
   added_by Released = 0
   added_by (OfferOf a n) = 0
@@ -61,6 +64,7 @@ module _ {T : Type 0} where
   author_of [] = 0
   author_of (Acquired ∷ es) = 0
   author_of (Published x ∷ es) = 0
+  author_of (Extended a xs ∷ es) = 0
   author_of (Cloned xs ∷ es) = 0
   author_of (Released ∷ es) = 0
   author_of (OfferOf a n ∷ es) = a
@@ -70,11 +74,21 @@ module _ {T : Type 0} where
   used_of [] = 0
   used_of (Acquired ∷ es) = 0
   used_of (Published x ∷ es) = 0
+  used_of (Extended a xs ∷ es) = 0
   used_of (Cloned xs ∷ es) = 0
   used_of (Released ∷ es) = 0
   used_of (OfferOf a n ∷ es) = n
+
+  -- how many entries it pushes, where it says what it pushes before what it knows of the history
+  abbrev pub pushes_of : List (Event T) → ℕ
+  pushes_of [] = 0
+  pushes_of (e ∷ es) = added_by e
 
   -- what it knows of the history
   abbrev pub others : List (Event T) → List (Event T)
   others [] = []
   others (e ∷ es) = es
+
+  -- of these items, those behind the list that a history leaves
+  abbrev pub behind : List (Event T) → List T → List T
+  behind es xs = drop (length (list_of es)) xs

@@ -16,10 +16,10 @@ pub use Rattle.elsa_slots.specs.WrittenPrefix.{Location, place_written_at, place
 use Rattle.elsa_machine.specs.Geometry.{IsAt}
 use Rattle.elsa_free.specs.declared.event.Entry.{Entry}
 use Rattle.elsa_free.specs.declared.event.Event.{Event}
-use Rattle.elsa_free.specs.declared.event.Event.TheVariants.{Acquired, Published, Cloned, Released, OfferOf}
-use Rattle.elsa_free.specs.SharedList.{copied, count, items_of}
-use Rattle.elsa_machine.specs.AtomicSteps.{Acquires as IsAcquire, Looks as IsLook, Opens as IsOpening, Publishes as IsPublish, Releases as IsRelease}
-use Rattle.elsa_free.specs.History.{list_of, is_held, shared_by, added, author_of, used_of, others}
+use Rattle.elsa_free.specs.declared.event.Event.TheVariants.{Acquired, Published, Extended, Cloned, Released, OfferOf}
+use Rattle.elsa_free.specs.SharedList.{authored, copied, count, items_of}
+use Rattle.elsa_machine.specs.AtomicSteps.{Acquires as IsAcquire, Extends as IsExtension, Looks as IsLook, Opens as IsOpening, Publishes as IsPublish, Releases as IsRelease}
+use Rattle.elsa_free.specs.History.{list_of, is_held, shared_by, added, author_of, used_of, pushes_of, others}
 
 -- the histories of added, by how they grow
 abbrev pub logs : Order (List ℕ)
@@ -82,6 +82,7 @@ module _ {T : Type 0} where
   abbrev pub IsStep : Event T → List (Event T) → List (Event T) → List (Event T) → Type 0
   IsStep Acquired xs ys r = (r ≡ xs) × ((ys ≡ xs ++ Acquired ∷ []) × IsAcquire (length (list_of xs)) (shared_by xs) (shared_by ys))
   IsStep (Published x) xs ys r = (r ≡ xs) × ((ys ≡ xs) ⊎ ((ys ≡ xs ++ Published x ∷ []) × IsPublish x (shared_by xs) (shared_by ys)))
+  IsStep (Extended a cs) xs ys r = (r ≡ xs) × ((ys ≡ xs) ⊎ ((ys ≡ xs ++ Extended a cs ∷ []) × IsExtension (authored a cs) (shared_by xs) (shared_by ys)))
   IsStep (Cloned cs) xs ys r = (r ≡ xs) × ((ys ≡ xs) ⊎ ((ys ≡ xs ++ Cloned cs ∷ []) × IsOpening (copied cs) (shared_by xs) (shared_by ys)))
   IsStep Released xs ys r = (r ≡ xs) × ((ys ≡ xs) ⊎ ((ys ≡ xs ++ Released ∷ []) × IsRelease (shared_by xs) (shared_by ys)))
   IsStep (OfferOf a n) xs ys r = (r ≡ xs) × ((ys ≡ xs) × IsLook (length (list_of xs)) (shared_by xs) (shared_by ys))
@@ -135,3 +136,7 @@ module _ (T B : RattleType) (slot_names : B.Denot → List ℕ) (fits : B.Denot 
   -- at a publish, one ticket fewer comes back
   abbrev pub publish_gain : List (Event T.Denot) → List (Event T.Denot) → Fml
   publish_gain about r = fsep (author (author_of about) (suc (used_of about))) (fact ((length r ≡ length (others about)) × OnlyPushed about r))
+
+  -- at a publish of many, as many fewer as it pushes: the offer says what it pushes before what it knows of the history
+  abbrev pub extend_gain : List (Event T.Denot) → List (Event T.Denot) → Fml
+  extend_gain about r = fsep (author (author_of about) (used_of about + pushes_of (others about))) (fact ((length r ≡ length (others (others about))) × OnlyPushed about r))

@@ -1,6 +1,6 @@
 -- The list that all threads of a vector share: entries of an author and an item, which only grows at its end.
 -- A pass has seen a beginning of it. There is no buffer, no lock, no pointer and no word of memory in it.
-use Rattle.std.specs.Prelude.{ℕ, suc, ◌≡◌, ◌+◌, ◌≤◌, ◌==◌, List, [], ◌∷◌, ◌++◌, length, map, if◌then◌else◌, Contains, nat_le}
+use Rattle.std.specs.Prelude.{ℕ, zero, suc, ◌≡◌, ◌+◌, ◌<◌, ◌≤◌, ◌==◌, List, [], ◌∷◌, ◌++◌, length, map, if◌then◌else◌, Contains, nat_le}
 use mathlib.Core.List.{IsPrefix}
 use Rattle.logbook.specs.Pages.{Book}
 pub use Rattle.elsa_machine.specs.AtomicSteps.{bit}
@@ -24,10 +24,14 @@ module _ {T : Type 0} where
   abbrev pub entry : ℕ → T → Entry T
   entry author item = record { author = author; item = item }
 
+  -- an author's entries for these items
+  abbrev pub authored : ℕ → List T → List (Entry T)
+  authored author [] = []
+  authored author (x ∷ xs) = entry author x ∷ authored author xs
+
   -- items that have no author, as those of a clone: the number of an author is above 0
   abbrev pub copied : List T → List (Entry T)
-  copied [] = []
-  copied (x ∷ xs) = entry 0 x ∷ copied xs
+  copied xs = authored 0 xs
 
   -- the places of an author's entries in a list that begins at place `first`, rising
   abbrev pub places_from : ℕ → ℕ → List (Entry T) → List ℕ
@@ -42,6 +46,15 @@ module _ {T : Type 0} where
   -- the list was longer by some entries or none, and then the one given was put at this place, its end
   abbrev pub Appends : List (Entry T) → List (Entry T) → ℕ → Entry T → Type 0
   Appends old new place e = (before : List (Entry T)) × IsPrefix old before × (length before ≡ place) × (new ≡ before ++ e ∷ [])
+
+  -- the list was longer by some entries or none, and then these were put behind it, the first at this place, its end
+  abbrev pub AppendsAll : List (Entry T) → List (Entry T) → ℕ → List (Entry T) → Type 0
+  AppendsAll old new place es = (before : List (Entry T)) × IsPrefix old before × (length before ≡ place) × (new ≡ before ++ es)
+
+-- so many places side by side, from this one on
+abbrev pub run : ℕ → ℕ → List ℕ
+run place zero = []
+run place (suc n) = place ∷ run (suc place) n
 
 -- what a pass is: the vector, the number of the author that it pushes as, and the beginning of the list that it has seen
 pub record View (T : Type 0) : Type 0 where
@@ -62,6 +75,12 @@ module _ {T : Type 0} where
   abbrev pub Continues : View T → View T → Type 0
   Continues before after = IsSamePass before after × IsPrefix before.seen after.seen × (mine after ≡ mine before)
 
+  -- the same pass later: it has pushed these items, and they stand side by side from this place on, behind all that came before
+  pub record PushedAll (before after : View T) (place : ℕ) (items : List T) : Type 0 where
+    pub same : IsSamePass before after
+    pub stand : AppendsAll before.seen after.seen place (authored before.author items)
+    pub places : mine after ≡ mine before ++ run place (length items)
+
   -- the longer of two lists, the first where they are as long
   abbrev pub longer : List (Entry T) → List (Entry T) → List (Entry T)
   longer xs ys = if nat_le (length ys) (length xs) then xs else ys
@@ -73,3 +92,7 @@ Apart xs ys = (n : ℕ) → Contains xs n → Contains ys n → ⊥
 -- at this length a new buffer begins, or the list is full
 abbrev pub BeginsABuffer : ℕ → Type 0
 BeginsABuffer place = (buffer : ℕ) × (buffer ≤ 31) × (place ≡ slots_before buffer)
+
+-- at this place or at one of those behind it, so many in all, a new buffer begins, or the list is full
+abbrev pub BeginsAmong : ℕ → ℕ → Type 0
+BeginsAmong place n = (at : ℕ) × BeginsABuffer at × (place ≤ at) × (at < place + n)

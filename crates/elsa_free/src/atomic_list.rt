@@ -2,7 +2,8 @@
 //!
 //! The word is twice the length, and one more while a thread holds. A read of the length is one load. A push acquires the
 //! word by one exchange, opens a buffer or not, writes the slot of the length, and publishes by a second exchange, which releases
-//! too: these steps are in `push`. How a list begins, with nothing or with a copy, is in `begin`.
+//! too: these steps are in `push`, and those of many pushes under one hold in `extend`. How a list begins, with nothing or with a
+//! copy, is in `begin`.
 ghost use Rattle.std.specs.Prelude.{◌≡◌, ◌^◌, ◌<◌, ◌≤◌, [], ◌∷◌, drop, length, Some, slice_get};
 ghost use lib.Pointwise.{pointwise};
 ghost use mathlib.Core.List.{IsPrefix};
@@ -16,6 +17,7 @@ ghost use Rattle.elsa_free.specs.OneWord.{word_in, word_of};
 ghost use Rattle.crossbeam_utils.specs.Padded.{padded_value};
 
 mod begin;
+mod extend;
 mod push;
 
 use crate::event::Event;

@@ -8,10 +8,11 @@ pub struct Entry<T> {
     pub item: T,
 }
 
-/// What a step adds to the history. `OfferOf` is in no history: an offer says by it whose it is, as author and used tickets.
+/// What a step adds to the history. `Extended` has the number of the pass that pushed these items. `OfferOf` is in no history: an offer says by it whose it is, as author and used tickets.
 pub enum Event<T> {
     Acquired,
     Published(Entry<T>),
+    Extended(u64, LinkedList<T, Global>),
     Cloned(LinkedList<T, Global>),
     Released,
     OfferOf(u64, u64),

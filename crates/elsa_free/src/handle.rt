@@ -1,7 +1,7 @@
 //! A vector together with a pass of it. They belong together by the type, so no call but [`Handle::meet`] has a condition.
 ghost use Rattle.std.specs.Prelude.{◌≡◌, ◌<◌, ◌^◌, ◌+◌, [], ◌∷◌, ◌++◌, drop, length, slice_get, IfOk, IfErr, IfSome};
 ghost use mathlib.Core.List.{IsPrefix};
-ghost use Rattle.elsa_free.specs.SharedList.{Apart, Appends, BeginsABuffer, Continues, IsSamePass, copied, entry, items_of, longer, mine};
+ghost use Rattle.elsa_free.specs.SharedList.{Apart, Appends, BeginsABuffer, BeginsAmong, Continues, IsSamePass, PushedAll, copied, entry, items_of, longer, mine};
 ghost use lib.Pointwise.{pointwise};
 
 use crate::lock_free::LockFreeFrozenVec;
@@ -76,6 +76,21 @@ impl<'v, T: Copy + Drop, A: Allocator + Copy> Handle<'v, T, A> {
         ensures refused_mine { IfErr result (λ e. mine self.new ≡ mine self.old) }
     {
         self.vector.push_as(rt, &mut self.pass, item)
+    }
+
+    /// Pushes all items side by side, under one hold of the vector, and returns the place of the first: other threads see all of them
+    /// or none. It waits while another thread pushes.
+    ///
+    /// `Err`: the handle has pushed no more than before. An allocation failed, of the buffers that begin among these items or of a table
+    /// of them, or the length would be above `2^62 - 1`, the greatest; the same call may succeed later. One exchange to hold the vector
+    /// and one to publish, however many items; `O(n)`, with buffers four times as large as the ones before where they begin.
+    pub fn extend<R: Wait>(&mut self, rt: &R, items: &[T]) -> Result<usize, AllocError>
+        ensures pushed { IfOk result (λ i. PushedAll self.old self.new i items.now) }
+        ensures limit { IfOk result (λ i. i + length items.now < 2 ^ 62) }
+        ensures refused { IfErr result (λ e. Continues self.old self.new
+            × BeginsAmong (length self.new.seen) (length items.now)) }
+    {
+        self.vector.extend_as(rt, &mut self.pass, items)
     }
 
     /// How many items the vector has, by one atomic read of the length. It takes no lock and no memory, and never waits. `O(1)`.

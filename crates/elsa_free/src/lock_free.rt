@@ -3,12 +3,12 @@
 //! A [`Pass`] is what a thread has seen of a vector. What it sees is a beginning of the one list that all threads share, so it
 //! only grows, and the places at which it pushed are its own for good. What a pass has seen it reads without an atomic step.
 //!
-//! Each call has three forms. `push_as` takes the caller's pass. `push_with_pass` makes a pass and returns it beside the
-//! result: its clauses relate the result to what that pass has seen, and by [`Pass::meet`] the caller relates it to other
+//! Many items are pushed under one hold by `extend_as`. Each other call has three forms. `push_as` takes the caller's pass.
+//! `push_with_pass` makes a pass and returns it beside the result: its clauses relate the result to what that pass has seen, and by [`Pass::meet`] the caller relates it to other
 //! results. `push` drops that pass, so its contract keeps only what can be said without one: limits of places and lengths.
 ghost use Rattle.std.specs.Prelude.{◌≡◌, ◌≤◌, ◌<◌, ◌^◌, ◌+◌, [], ◌∷◌, ◌++◌, drop, length, slice_get, IfOk, IfErr, IfSome, IfNone, List, Some, suc, take};
 ghost use mathlib.Core.List.{IsPrefix};
-ghost use Rattle.elsa_free.specs.SharedList.{Appends, BeginsABuffer, Continues, IsSamePass, entry, items_of, mine};
+ghost use Rattle.elsa_free.specs.SharedList.{Appends, BeginsABuffer, BeginsAmong, Continues, IsSamePass, PushedAll, entry, items_of, mine};
 
 mod whole;
 
@@ -89,6 +89,35 @@ impl<T: Copy + Drop, A: Allocator + Copy> LockFreeFrozenVec<T, A> {
         let (after, answer) = self.push_in(rt, before, item);
         drop(std::mem::replace(pass, after));
         answer
+    }
+
+    /// Pushes all items side by side, under one hold of the vector, and returns the place of the first: other threads see all of them
+    /// or none. It waits while another thread pushes.
+    ///
+    /// `Err`: the pass has pushed no more than before. An allocation failed, of the buffers that begin among these items or of a table
+    /// of them, or the length would be above `2^62 - 1`, the greatest; the same call may succeed later. One exchange to hold the vector
+    /// and one to publish, however many items; `O(n)`, with buffers four times as large as the ones before where they begin.
+    pub fn extend_as<R: Wait>(
+        &self,
+        rt: &R,
+        pass: &mut Pass<T, A>,
+        items: &[T],
+    ) -> Result<usize, AllocError>
+        requires of { pass.old.vector ≡ self.now }
+        ensures pushed { IfOk result (λ i. PushedAll pass.old pass.new i items.now) }
+        ensures limit { IfOk result (λ i. i + length items.now < 2 ^ 62) }
+        ensures refused { IfErr result (λ e. Continues pass.old pass.new
+            × BeginsAmong (length pass.new.seen) (length items.now)) }
+    {
+        let before = std::mem::replace(pass, self.pass());
+        let (seen, author, length) = before.parts();
+        let (seen, author, place, pushed) = self.list.extend(rt, seen, author, length, items);
+        let after = Pass::of(seen, author, place + pushed);
+        drop(std::mem::replace(pass, after));
+        if pushed < items.len() {
+            return Err(AllocError);
+        }
+        Ok(place)
     }
 
     /// [`push_as`](Self::push_as) with a pass of its own, whose only place is the one that is returned.

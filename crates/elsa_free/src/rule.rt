@@ -78,6 +78,17 @@ impl<T, B: HasSlots<T>> Gain<Event<T>, Log<T>> for PublishGain<B> {
     ghost after = { λ names about answer. publish_gain T.row B.row B.slot_names B.fits about answer };
 }
 
+/// A publish of many gains the same, with as many tickets fewer.
+pub struct ExtendGain<B> {
+    buffers: PhantomData<B>,
+}
+
+impl<T, B: HasSlots<T>> Gain<Event<T>, Log<T>> for ExtendGain<B> {
+    ghost use Rattle.elsa_free.specs.Rights.{extend_gain};
+
+    ghost after = { λ names about answer. extend_gain T.row B.row B.slot_names B.fits about answer };
+}
+
 /// Nothing is gained.
 pub struct Nothing;
 

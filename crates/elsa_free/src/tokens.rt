@@ -2,20 +2,21 @@
 //!
 //! Each function here has a manual proof: it takes tokens apart and makes others of them, and does nothing when it runs.
 ghost use Rattle.std.specs.Prelude.{◌≡◌, ◌≢◌, ◌+◌, ◌*◌, ◌^◌, ◌<◌, ◌≤◌, ◌∷◌, ◌++◌, ℕ, suc, List, [], length, drop, slice_get, slice_index_or, None, Some};
+ghost use mathlib.Core.List.{IsPrefix};
 ghost use base.Stored.{coded_list, coded_ℕ};
 ghost use base.Share.{three_quarters};
 ghost use base.Growing.{latest};
 ghost use Rattle.elsa_slots.specs.Ahead.{IsClosedAt, IsInOpenBuffer, IsOpenAt};
 ghost use Rattle.elsa_machine.specs.Geometry.{IsAt};
-ghost use Rattle.elsa_free.specs.declared.event.Event.TheVariants.{Acquired, Published, Cloned, Released, OfferOf};
+ghost use Rattle.elsa_free.specs.declared.event.Event.TheVariants.{Acquired, Published, Extended, Cloned, Released, OfferOf};
 ghost use Rattle.elsa_free.specs.declared.event.Entry.{Entry};
-ghost use Rattle.elsa_free.specs.History.{list_of, added, author_of, used_of, others};
+ghost use Rattle.elsa_free.specs.History.{list_of, added, author_of, used_of, pushes_of, others, behind};
 ghost use Rattle.elsa_free.specs.SharedList.{count, entry, items_of};
 ghost use Rattle.elsa_free.specs.Rights.{logs, head, buffer_slots_of, author, OnlyPushed};
 
 use crate::event::Event;
 use crate::item_rule::ItemRule;
-use crate::rule::{AcquireGain, Log, OneWord, PublishGain, ReadGain, ReleaseGain};
+use crate::rule::{AcquireGain, ExtendGain, Log, OneWord, PublishGain, ReadGain, ReleaseGain};
 use elsa_slots::slots::{HasSlots, WriteRights, Written, WrittenPrefix};
 use logbook::{Gained, Offer, Seen, Start};
 use std::marker::{Model, PhantomData};
@@ -223,6 +224,59 @@ pub fn offer_publish<T, B: HasSlots<T>, K: ItemRule<T>>(
     }
 }
 
+/// An offer to publish many items at once, those of the evidence behind the list that was seen, if the next place begins a buffer
+/// that nobody has opened.
+pub fn offer_extend_closed<T, B: HasSlots<T>, K: ItemRule<T>>(
+    seen: &Seen<Event<T>, Log<T>, OneWord<B, K>>,
+    held: Held,
+    prefix: WrittenPrefix<T, B>,
+    further: WriteRights,
+    author: Author,
+) -> Offer<Event<T>, Log<T>, OneWord<B, K>, ExtendGain<B>>
+    requires { (held.name ≡ head seen.now.names) × (held.added ≡ added seen.now.log)
+        × (prefix.buffer_slots ≡ buffer_slots_of seen.now.names)
+        × IsPrefix (items_of (list_of seen.now.log)) prefix.items
+        × IsClosedAt (buffer_slots_of seen.now.names) (length prefix.items) further.of }
+    ensures { (result.names ≡ seen.now.names)
+        × (result.ask ≡ Extended (suc author.name) (behind seen.now.log prefix.items))
+        × (result.about ≡ OfferOf author.name author.used
+        ∷ Extended (suc author.name) (behind seen.now.log prefix.items) ∷ seen.now.log)
+        × (result.state ≡ None) }
+{
+    spend!(held: Held, prefix: WrittenPrefix, further: WriteRights, author: Author);
+    Offer {
+        marker: PhantomData,
+    }
+}
+
+/// The same, if the next place is in an open buffer.
+pub fn offer_extend_open<T, B: HasSlots<T>, K: ItemRule<T>>(
+    seen: &Seen<Event<T>, Log<T>, OneWord<B, K>>,
+    held: Held,
+    prefix: WrittenPrefix<T, B>,
+    opened: Written<B>,
+    slots: WriteRights,
+    further: WriteRights,
+    author: Author,
+) -> Offer<Event<T>, Log<T>, OneWord<B, K>, ExtendGain<B>>
+    requires { (held.name ≡ head seen.now.names) × (held.added ≡ added seen.now.log)
+        × (prefix.buffer_slots ≡ buffer_slots_of seen.now.names)
+        × IsPrefix (items_of (list_of seen.now.log)) prefix.items
+        × IsInOpenBuffer (buffer_slots_of seen.now.names) (length prefix.items)
+        opened.of (B.slot_names opened.value) slots.of further.of }
+    ensures { (result.names ≡ seen.now.names)
+        × (result.ask ≡ Extended (suc author.name) (behind seen.now.log prefix.items))
+        × (result.about ≡ OfferOf author.name author.used
+        ∷ Extended (suc author.name) (behind seen.now.log prefix.items) ∷ seen.now.log)
+        × (result.state ≡ None) }
+{
+    spend!(held: Held, prefix: WrittenPrefix, opened: Written);
+    spend!(slots: WriteRights, further: WriteRights, author: Author);
+    Offer {
+        marker: PhantomData,
+    }
+}
+
 /// An offer to publish the items of a clone, if the next place begins a buffer that nobody has opened.
 pub fn offer_clone_closed<T, B: HasSlots<T>, K: ItemRule<T>>(
     seen: &Seen<Event<T>, Log<T>, OneWord<B, K>>,
@@ -283,6 +337,19 @@ pub fn take_released<T, B: HasSlots<T>>(gained: Gained<Event<T>, Log<T>, Release
 pub fn take_published<T, B: HasSlots<T>>(gained: Gained<Event<T>, Log<T>, PublishGain<B>>) -> Author
     ensures { (result.name ≡ author_of gained.about) × (result.used ≡ suc (used_of gained.about))
         × (length gained.answer ≡ length (others gained.about))
+        × (OnlyPushed gained.about gained.answer) }
+{
+    spend!(gained: Gained);
+    Author {
+        marker: PhantomData,
+    }
+}
+
+/// What a publish of many gained: the same, with as many tickets fewer.
+pub fn take_extended<T, B: HasSlots<T>>(gained: Gained<Event<T>, Log<T>, ExtendGain<B>>) -> Author
+    ensures { (result.name ≡ author_of gained.about)
+        × (result.used ≡ used_of gained.about + pushes_of (others gained.about))
+        × (length gained.answer ≡ length (others (others gained.about)))
         × (OnlyPushed gained.about gained.answer) }
 {
     spend!(gained: Gained);

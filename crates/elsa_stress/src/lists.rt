@@ -45,7 +45,11 @@ impl<'h> Form for FreeList<'h> {
         _key: u64,
         value: u64,
     ) -> Result<(Entry, bool), AllocError> {
-        let place = self.vector.push_as(rt, pass, value)?;
+        let place = if value % 2 == 0 {
+            self.vector.push_as(rt, pass, value)?
+        } else {
+            self.vector.extend_as(rt, pass, &[value])?
+        };
         Ok((entry(place as u64, value), true))
     }
 

@@ -2,7 +2,7 @@
 //! say one by one whether they are written, as the crate boxcar has them, which Debian doesn't package. `slots` promises less: a place may be empty
 //! while a later one is written, and it knows no length.
 //!
-//! usage: lock_free SIDE FORM THREADS COUNT. `push` (COUNT pushes in all), and COUNT reads in
+//! usage: lock_free SIDE FORM THREADS COUNT. `push` (COUNT pushes in all), `extend` (the same in batches of 64), and COUNT reads in
 //! all: `seen` and `plain` (both by `get`: none of these has another way), with `_in_order` for places one after the other, and with `_beside` for a
 //! thread that pushes as long as they last; `growing` (each next place as soon as it is there, and from the first again where it isn't), with `_beside`
 //! too; `walk` (ten walks over COUNT items by `get`); and `exchange` (COUNT times two exchanges of one word, which is the least that a push of ours can
@@ -16,11 +16,21 @@ use std::time::Instant;
 const STOCK: u64 = 1 << 17;
 const BESIDE: u64 = 100_000_000;
 const WALKS: usize = 10;
+const BATCH: usize = 64;
 
 /// A vector that threads share.
 trait Shared: Sync {
     fn push(&self, item: u64) -> usize;
     fn get(&self, place: usize) -> Option<u64>;
+
+    /// Pushes the items, and returns the place of the first.
+    fn extend(&self, items: &[u64]) -> usize {
+        let place = self.push(items[0]);
+        for item in &items[1..] {
+            self.push(*item);
+        }
+        place
+    }
 }
 
 impl Shared for LockFreeFrozenVec<u64> {
@@ -43,6 +53,12 @@ impl Shared for std::sync::RwLock<Vec<u64>> {
         items.len() - 1
     }
 
+    fn extend(&self, batch: &[u64]) -> usize {
+        let mut items = self.write().unwrap();
+        items.extend_from_slice(batch);
+        items.len() - batch.len()
+    }
+
     #[inline(always)]
     fn get(&self, place: usize) -> Option<u64> {
         self.read().unwrap().get(place).copied()
@@ -55,6 +71,12 @@ impl Shared for parking_lot::RwLock<Vec<u64>> {
         let mut items = self.write();
         items.push(item);
         items.len() - 1
+    }
+
+    fn extend(&self, batch: &[u64]) -> usize {
+        let mut items = self.write();
+        items.extend_from_slice(batch);
+        items.len() - batch.len()
     }
 
     #[inline(always)]
@@ -164,6 +186,11 @@ fn push(vector: &impl Shared, count: usize) -> u64 {
     sum
 }
 
+fn extend(vector: &impl Shared, count: usize) -> u64 {
+    let batch = [1u64; BATCH];
+    (0..count / BATCH).fold(0u64, |sum, _| sum.wrapping_add(vector.extend(&batch) as u64))
+}
+
 fn push_beside(vector: &impl Shared, done: &AtomicBool) {
     for item in 0..BESIDE {
         if done.load(Ordering::SeqCst) {
@@ -241,6 +268,9 @@ fn run(vector: &impl Shared, form: &str, threads: usize, count: usize) -> (u128,
     };
     if reads == "push" {
         return timed(threads, |_| push(vector, each));
+    }
+    if reads == "extend" {
+        return timed(threads, |_| extend(vector, each));
     }
     if reads == "walk" {
         push(vector, count);

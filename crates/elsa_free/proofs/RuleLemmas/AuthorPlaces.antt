@@ -4,9 +4,9 @@ use Rattle.std.proofs.lemmas.List.{append-nil}
 use Rattle.std.proofs.lemmas.Bool.Decides.{nat_tests}
 use mathlib.Core.List.{IsPrefix}
 use Rattle.elsa_free.specs.declared.event.Entry.{Entry}
-use Rattle.elsa_free.specs.SharedList.{Apart, Appends, bit, count, places_from}
+use Rattle.elsa_free.specs.SharedList.{Apart, Appends, AppendsAll, authored, bit, count, places_from, run}
 use Rattle.elsa_free.proofs.RuleLemmas.History.{count_append}
-use Rattle.elsa_free.proofs.RuleLemmas.HoldEnd.{published_count}
+use Rattle.elsa_free.proofs.RuleLemmas.HoldEnd.{extended_count, published_count}
 
 no_bit : (b : Bool) → bit b ≡ 0 → b ≡ false
 no_bit true e = absurd (omega arith)
@@ -55,6 +55,18 @@ module _ {T : Type 0} where
   push_places a n i es fs e (before, pre, at, is) mine was now =
       let b : suc (count a before) ≡ count a fs = sym (published_count a before e mine) ∙ ap (count a) (sym is) in
       ap (places_from a 0) is ∙ (one_place_more a before e mine ∙ (ap (λ (l : List ℕ). l ++ length before ∷ []) (same_places a es before pre (omega (arith, b, was, now))) ∙ ap (λ (k : ℕ). places_from a 0 es ++ k ∷ []) at))
+
+  -- all places of an author's entries
+  all_places : (a i : ℕ) (cs : List T) → places_from a i (authored a cs) ≡ run i (length cs)
+  all_places a i [] = refl
+  all_places a i (c ∷ cs) = let is : (a == a) ≡ true = grind (arith, nat_tests) in rw is (ap (λ (l : List ℕ). i ∷ l) (all_places a (suc i) cs))
+
+  -- many entries of its own at the end are as many places more
+  pub extend_places : (a n i : ℕ) (es fs : List (Entry T)) (cs : List T) → AppendsAll es fs i (authored a cs) → count a es ≡ n → count a fs ≡ n + length cs → places_from a 0 fs ≡ places_from a 0 es ++ run i (length cs)
+  extend_places a n i es fs cs (before, pre, at, is) was now =
+      let b : count a before + length cs ≡ count a fs = sym (extended_count a before cs) ∙ ap (count a) (sym is) in
+      let k : 0 + length before ≡ i = omega (arith, at) in
+      ap (places_from a 0) is ∙ (places_append a 0 before (authored a cs) ∙ (ap (λ (l : List ℕ). l ++ places_from a (0 + length before) (authored a cs)) (same_places a es before pre (omega (arith, b, was, now))) ∙ (ap (λ (j : ℕ). places_from a 0 es ++ places_from a j (authored a cs)) k ∙ ap (λ (l : List ℕ). places_from a 0 es ++ l) (all_places a i cs))))
 
   -- what was appended is at the end
   pub appended_end : (es fs : List (Entry T)) (i : ℕ) (e : Entry T) → Appends es fs i e → length fs ≡ i + 1

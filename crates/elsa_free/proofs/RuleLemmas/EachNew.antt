@@ -52,6 +52,10 @@ module _ {A : Type 0} where
       | inr t ↦ subst (λ (l : List A). is_new l y) (sym t.1) (subst (λ (z : A). is_new xs z) t.0 new)
     ]
 
+    -- where every item is new to every list
+    pub any_is_new : ((xs : List A) (x : A) → is_new xs x) → (xs : List A) → EachIsNew is_new xs
+    any_is_new all xs i x e = all (take i xs) x
+
     -- an empty list has no item
     pub none_is_new : EachIsNew is_new []
     none_is_new i x e = absurd (cc e)

@@ -1,12 +1,12 @@
 -- What an event behind a history does to it.
-use Rattle.std.proofs.Common.{◌≡◌, ℕ, suc, ◌+◌, ◌≤◌, ◌==◌, Bool, List, [], ◌∷◌, ◌++◌, length, refl, ap, sym, ◌∙◌, arith, length-append, append_assoc}
-use Rattle.std.proofs.lemmas.List.{append-nil, length-map, map-append}
+use Rattle.std.proofs.Common.{◌≡◌, ℕ, suc, drop, ◌+◌, ◌≤◌, ◌==◌, Bool, List, [], ◌∷◌, ◌++◌, length, refl, ap, sym, ◌∙◌, arith, length-append, append_assoc}
+use Rattle.std.proofs.lemmas.List.{append-nil, drop_at, length-map, map-append}
 use Rattle.elsa_free.specs.declared.event.Entry.{Entry}
 use Rattle.elsa_free.specs.declared.event.Event.{Event}
-use Rattle.elsa_free.specs.declared.event.Event.TheVariants.{Acquired, Published, Cloned, Released, OfferOf}
+use Rattle.elsa_free.specs.declared.event.Event.TheVariants.{Acquired, Published, Extended, Cloned, Released, OfferOf}
 use mathlib.Core.List.{IsPrefix}
-use Rattle.elsa_free.specs.SharedList.{bit, copied, count, item_of, items_of}
-use Rattle.elsa_free.specs.History.{list_of, entries, begins_hold, held_from, added_by, added}
+use Rattle.elsa_free.specs.SharedList.{authored, bit, copied, count, item_of, items_of}
+use Rattle.elsa_free.specs.History.{list_of, entries, begins_hold, held_from, added_by, added, behind}
 
 -- all that the events added
 abbrev total : List ℕ → ℕ
@@ -37,13 +37,19 @@ module _ {T : Type 0} where
   pub added_prefix : (xs : List (Event T)) (e : Event T) → IsPrefix (added xs) (added (xs ++ e ∷ []))
   added_prefix xs e = (added_by e ∷ [], sym (added_snoc xs e))
 
+  pub authored_length : (a : ℕ) (xs : List T) → length (authored a xs) ≡ length xs
+  authored_length a [] = refl
+  authored_length a (x ∷ xs) = ap suc (authored_length a xs)
+
+  pub authored_items : (a : ℕ) (xs : List T) → items_of (authored a xs) ≡ xs
+  authored_items a [] = refl
+  authored_items a (x ∷ xs) = ap (λ (l : List T). x ∷ l) (authored_items a xs)
+
   pub copied_length : (xs : List T) → length (copied xs) ≡ length xs
-  copied_length [] = refl
-  copied_length (x ∷ xs) = ap suc (copied_length xs)
+  copied_length xs = authored_length 0 xs
 
   pub copied_items : (xs : List T) → items_of (copied xs) ≡ xs
-  copied_items [] = refl
-  copied_items (x ∷ xs) = ap (λ (l : List T). x ∷ l) (copied_items xs)
+  copied_items xs = authored_items 0 xs
 
   pub items_append : (xs ys : List (Entry T)) → items_of (xs ++ ys) ≡ items_of xs ++ items_of ys
   items_append xs ys = map-append item_of xs ys
@@ -56,6 +62,7 @@ module _ {T : Type 0} where
   added_entries (Published x) = refl
   added_entries Released = refl
   added_entries (OfferOf a n) = refl
+  added_entries (Extended a xs) = sym (authored_length a xs)
   added_entries (Cloned xs) = sym (copied_length xs)
 
   -- a history has as many entries as its events added
@@ -68,6 +75,12 @@ module _ {T : Type 0} where
 
   pub added_same : (xs ys : List (Event T)) → added xs ≡ added ys → length xs ≡ length ys
   added_same xs ys e = let a = added_length xs in let b = added_length ys in let c = ap length e in omega arith
+
+  -- a list of items that begins with a history's is that and what is behind it
+  pub behind_whole : (es : List (Event T)) (xs : List T) → IsPrefix (items_of (list_of es)) xs → items_of (list_of es) ++ behind es xs ≡ xs
+  behind_whole es xs p =
+      let rest : behind es xs ≡ p.0 = ap (drop (length (list_of es))) (sym p.1) ∙ drop_at (items_of (list_of es)) p.0 (length (list_of es)) (items_length (list_of es)) in
+      ap (λ (l : List T). items_of (list_of es) ++ l) rest ∙ p.1
 
 -- a beginning that is as long is the whole
 pub prefix_whole : {A : Type 0} (xs ys : List A) → IsPrefix xs ys → length ys ≤ length xs → xs ≡ ys

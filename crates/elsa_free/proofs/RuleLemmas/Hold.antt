@@ -1,8 +1,8 @@
 -- Where the length that a thread holds lies: at the begin of a buffer, or in an open one.
-use Rattle.std.proofs.Common.{◌≡◌, ℕ, zero, suc, ◌+◌, ◌-◌, ◌*◌, ◌^◌, ◌<◌, ◌≤◌, ◌==◌, true, false, refl, ap, sym, subst, arith}
+use Rattle.std.proofs.Common.{◌≡◌, ℕ, zero, suc, ◌+◌, ◌-◌, ◌^◌, ◌<◌, ◌==◌, true, false, refl, sym, subst, arith}
 use Rattle.std.specs.Prelude.{MatchBool}
 use Rattle.std.proofs.lemmas.Bool.Decides.{nat_tests}
-use Rattle.elsa_machine.specs.Geometry.{IsAt, slots_before}
+use Rattle.elsa_machine.specs.Geometry.{IsAt}
 use Rattle.elsa_machine.proofs.GeometryLemmas.OneToOne.{one_slot}
 use Rattle.elsa_machine.proofs.GeometryLemmas.Powers.{before_power, four_pos}
 use Rattle.elsa_free.specs.SharedList.{BeginsABuffer}

@@ -1,5 +1,5 @@
 -- The offers of each step, over all that the rule owns. Assumes `Logic`.
-use Rattle.std.proofs.Common.{◌≡◌, ℕ, suc, ◌+◌, ◌≤◌, ◌⊎◌, inl, inr, Bool, true, false, List, [], ◌∷◌, ◌++◌, length, refl, ap, sym, ◌∙◌, subst, arith, length-append, None}
+use Rattle.std.proofs.Common.{◌≡◌, ℕ, suc, ◌+◌, ◌≤◌, ◌==◌, ◌⊎◌, inl, inr, Bool, true, false, List, [], ◌∷◌, ◌++◌, length, refl, ap, sym, ◌∙◌, subst, arith, length-append, None}
 use Rattle.std.proofs.lemmas.List.{append-nil}
 use seplogic.Ra.Ura.{Ura}
 use base.Fraction.{full_share}
@@ -17,11 +17,11 @@ use denote.RattleType.{RattleType}
 use Rattle.logbook.specs.Kept.{offer_owns}
 use Rattle.elsa_free.specs.declared.event.Entry.{Entry}
 use Rattle.elsa_free.specs.declared.event.Event.{Event}
-use Rattle.elsa_free.specs.declared.event.Event.TheVariants.{Acquired, Published, Cloned, Released, OfferOf}
-use Rattle.elsa_free.specs.SharedList.{copied, count, items_of}
+use Rattle.elsa_free.specs.declared.event.Event.TheVariants.{Acquired, Published, Extended, Cloned, Released, OfferOf}
+use Rattle.elsa_free.specs.SharedList.{authored, bit, copied, count, entry, items_of}
 use Rattle.elsa_free.specs.History.{begins_hold, is_held, list_of, entries, added}
-use Rattle.elsa_free.specs.Rights.{logs, head, buffer_slots_of, part, fact, author, at_log, right, one_ticket, tickets, IsStep, place_written, prefix_written, rights_from, free_rights, rule_owns, acquire_gain, read_gain, release_gain, publish_gain}
-use Rattle.elsa_free.proofs.RuleLemmas.History.{held_snoc, items_append, items_length, list_snoc, added_prefix, added_list, added_same}
+use Rattle.elsa_free.specs.Rights.{logs, head, buffer_slots_of, part, fact, author, at_log, right, one_ticket, tickets, IsStep, place_written, prefix_written, rights_from, free_rights, rule_owns, acquire_gain, read_gain, release_gain, publish_gain, extend_gain}
+use Rattle.elsa_free.proofs.RuleLemmas.History.{count_snoc, held_snoc, items_append, items_length, list_snoc, added_prefix, added_list, added_same}
 use Rattle.elsa_slots.proofs.SlotLemmas.Prefix.{prefix_append, prefix_dup}
 use Rattle.elsa_free.proofs.RuleLemmas.Tickets.{copied_tickets, tickets_append, tickets_bound}
 
@@ -200,3 +200,21 @@ module _ {M : Type 1} {𝓤 : Ura M} (𝓛 : Logic 𝓤) where
     publish_offer v x a k mine = qed 𝓛 (‵ (fsep (right names v) (fsep (fsep (Rights (suc (length (list_of v)))) (place_written T B slot_names fits buffer_slots (length (list_of v)) x.item)) (author a k))) ∷ []) ∵
         fsplit3 ! $ move ! (1 ∷ []) $ fsplit ! $ rewrite ! 0 (λ (y : ℕ). ‵ (Rights y)) (let z : suc (length (list_of v)) ≡ length (list_of v) + 1 = omega arith in z) refl $ move ! (1 ∷ []) $ nothing ! $ move ! (1 ∷ 0 ∷ []) $ fjoin ! $
         move ! (1 ∷ 0 ∷ []) $ fjoin ! $ move ! (1 ∷ 0 ∷ 2 ∷ []) $ fjoin3 ! $ by ! (ends_hold v (Published x) refl a k (suc k) (entry_pays x a k mine) (IsStep {T = T.Denot} (Published x)) (λ xs ys r m. (m.0, elim m.1 [ inl s ↦ inl s | inr t ↦ inr (t.0, t.1.was_held) ])))
+
+    -- publish many items of one author
+    at_most : (b : Bool) → bit b ≤ 1
+    at_most true = omega arith
+    at_most false = omega arith
+
+    items_pay : (a k : ℕ) (cs : List T.Denot) (L : Entries) → count (suc a) L ≤ k → ⟦ author a k ⟧ ⊢ ⟦ tickets L (authored (suc a) cs) ⟧ ∗ ⟦ author a (k + length cs) ⟧
+    items_pay a k [] L le = let none : List T.Denot = [] in qed 𝓛 (‵ (author a k) ∷ []) ∵ rewrite ! 0 (λ (n : ℕ). ‵ (author a n)) (let z : k ≡ k + length none = omega arith in z) refl $ nothing ! $ done !
+    items_pay a k (c ∷ cs) L le = let F : ℕ → Fml = λ j. fsep (ticket a j) (fact (count (suc a) L ≤ j)) in let x : Entry T.Denot = entry (suc a) c in let next : Entries = L ++ x ∷ [] in
+        let more : count (suc a) next ≤ suc k = let s = count_snoc (suc a) L x in let b = at_most (x.author == suc a) in omega (arith, s, b, le) in
+        qed 𝓛 (‵ (author a k) ∷ []) ∵ use1 𝓛 (‵ (ticket a k) ⊛ ‵ (tickets_from a (suc k))) (entries_take token 𝓛 a k (λ _. tt)) $ split ! $ move ! (1 ∷ []) $
+        use1 𝓛 (‵ (tickets next (authored (suc a) cs)) ⊛ ‵ (author a (suc k + length cs))) (items_pay a (suc k) cs next more) $ split ! $ move ! (2 ∷ []) $
+        nothing ! $ fpack ! (count (suc a) L ≤ k) (λ _. ftrue) le $ move ! (1 ∷ 0 ∷ []) $ fjoin ! $ fpack ! ℕ F k $ fjoin ! $
+        rewrite ! 1 (λ (n : ℕ). ‵ (author a n)) (let z : suc k + length cs ≡ k + length (c ∷ cs) = omega arith in z) refl $ done !
+
+    pub extend_offer : (v : Log) (cs : List T.Denot) (a k : ℕ) → ⟦ fsep (right names v) (fsep (fsep (Rights (length (list_of v) + length (authored (suc a) cs))) (prefix_written T B slot_names fits buffer_slots (length (list_of v)) (items_of (authored (suc a) cs)))) (author a k)) ⟧
+        ⊢ ⟦ offer_owns Kept (IsStep {T = T.Denot} (Extended (suc a) cs)) (extend_gain T B slot_names fits (OfferOf a k ∷ Extended (suc a) cs ∷ v)) None ⟧
+    extend_offer v cs a k = ends_hold v (Extended (suc a) cs) refl a k (k + length cs) (items_pay a k cs) (IsStep {T = T.Denot} (Extended (suc a) cs)) (λ xs ys r m. (m.0, elim m.1 [ inl s ↦ inl s | inr t ↦ inr (t.0, t.1.was_held) ]))

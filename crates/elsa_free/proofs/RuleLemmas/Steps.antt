@@ -6,12 +6,12 @@ use mathlib.Core.List.{IsPrefix}
 use prog.Atomic.{either}
 use Rattle.logbook.specs.Pages.{Cell, cell, keeps, no_nib, step, Moves, Goes}
 use Rattle.elsa_free.specs.declared.event.Event.{Event}
-use Rattle.elsa_free.specs.declared.event.Event.TheVariants.{Acquired, Published, Cloned, Released, OfferOf}
+use Rattle.elsa_free.specs.declared.event.Event.TheVariants.{Acquired, Published, Extended, Cloned, Released, OfferOf}
 use Rattle.elsa_free.specs.declared.event.Entry.{Entry}
-use Rattle.elsa_machine.specs.AtomicSteps.{bit, Acquires as IsAcquire, Opens as IsOpening, Publishes as IsPublish, Releases as IsRelease}
+use Rattle.elsa_machine.specs.AtomicSteps.{bit, Acquires as IsAcquire, Extends as IsExtension, Opens as IsOpening, Publishes as IsPublish, Releases as IsRelease}
 use Rattle.elsa_free.specs.Distinct.{EachIsNew}
 use Rattle.elsa_free.specs.History.{list_of, entries, begins_hold, is_held, shared_by}
-use Rattle.elsa_free.specs.SharedList.{copied, items_of}
+use Rattle.elsa_free.specs.SharedList.{authored, copied, items_of}
 use Rattle.elsa_free.specs.Rights.{IsStep}
 use Rattle.elsa_free.specs.OneWord.{IsKept, Acquires, Ends, word_of}
 use Rattle.elsa_free.proofs.RuleLemmas.History.{held_snoc, list_prefix, list_snoc, prefix_whole}
@@ -33,6 +33,7 @@ bit_one false e = absurd (omega arith)
 abbrev pub plain : {T : Type 0} → Event T → Bool
 plain Acquired = true
 plain (Published x) = true
+plain (Extended a cs) = true
 plain (Cloned cs) = true
 plain Released = true
 plain (OfferOf a n) = false
@@ -59,6 +60,10 @@ module _ (T : Type 0) where
   release_holds : (xs ys : Log) → ys ≡ xs ++ Released ∷ [] → is_held xs ≡ true → IsRelease (shared_by xs) (shared_by ys)
   release_holds xs ys is held = let l : list_of ys ≡ list_of xs = ap list_of is ∙ (list_snoc xs Released ∙ append-nil (list_of xs)) in
       record { was_held = held; length_is = ap length l; held_is = ap is_held is ∙ held_snoc true xs Released; list_is = l }
+
+  extension_holds : (xs ys : Log) (a : ℕ) (cs : List T) → ys ≡ xs ++ Extended a cs ∷ [] → is_held xs ≡ true → IsExtension (authored a cs) (shared_by xs) (shared_by ys)
+  extension_holds xs ys a cs is held = let l : list_of ys ≡ list_of xs ++ authored a cs = ap list_of is ∙ list_snoc xs (Extended a cs) in
+      record { was_held = held; length_is = ap length l ∙ length-append (list_of xs) (authored a cs); held_is = ap is_held is ∙ held_snoc true xs (Extended a cs); list_is = l }
 
   opening_holds : (xs ys : Log) (cs : List T) → ys ≡ xs ++ Cloned cs ∷ [] → is_held xs ≡ true → list_of xs ≡ [] → IsOpening (copied cs) (shared_by xs) (shared_by ys)
   opening_holds xs ys cs is held none = let l : list_of ys ≡ copied cs = ap list_of is ∙ (list_snoc xs (Cloned cs) ∙ ap (λ (z : List (Entry T)). z ++ copied cs) none) in
@@ -107,6 +112,7 @@ module _ (T : Type 0) where
   MayFollow (Cloned cs) es = es ≡ []
   MayFollow Acquired es = Unit {0}
   MayFollow (Published x) es = Unit {0}
+  MayFollow (Extended a cs) es = Unit {0}
   MayFollow Released es = Unit {0}
   MayFollow (OfferOf a n) es = Unit {0}
 
@@ -119,12 +125,14 @@ module _ (T : Type 0) where
   may_follow (Cloned cs) es fs same none = let n : length es ≡ 0 = ap length none in empty_of_length fs (same ∙ n)
   may_follow Acquired es fs same may = tt
   may_follow (Published x) es fs same may = tt
+  may_follow (Extended a cs) es fs same may = tt
   may_follow Released es fs same may = tt
   may_follow (OfferOf a n) es fs same may = tt
 
   is_step : (e : Event T) (xs ys r : Log) → begins_hold e ≡ false → plain e ≡ true → (r ≡ xs) × ((ys ≡ xs) ⊎ ((ys ≡ xs ++ e ∷ []) × (is_held xs ≡ true) × MayFollow e (list_of xs))) → IsStep e xs ys r
   is_step Acquired xs ys r ends pl m = absurd (cc ends)
   is_step (Published x) xs ys r ends pl m = (m.0, elim m.1 [ inl s ↦ inl s | inr t ↦ inr (t.0, publish_holds xs ys x t.0 t.1) ])
+  is_step (Extended a cs) xs ys r ends pl m = (m.0, elim m.1 [ inl s ↦ inl s | inr t ↦ inr (t.0, extension_holds xs ys a cs t.0 t.1) ])
   is_step (Cloned cs) xs ys r ends pl m = (m.0, elim m.1 [ inl s ↦ inl s | inr t ↦ inr (t.0, opening_holds xs ys cs t.0 t.1 t.2) ])
   is_step Released xs ys r ends pl m = (m.0, elim m.1 [ inl s ↦ inl s | inr t ↦ inr (t.0, release_holds xs ys t.0 t.1) ])
   is_step (OfferOf a n) xs ys r ends pl m = absurd (cc pl)

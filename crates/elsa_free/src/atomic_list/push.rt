@@ -26,7 +26,7 @@ use std::sync::Wait;
 use std::thread::yield_now;
 
 /// The greatest length: buffer 31, which would come next, is never opened.
-const LIMIT: usize = (1 << 62) - 1;
+pub(super) const LIMIT: usize = (1 << 62) - 1;
 
 /// How often a pusher reads a word that another thread holds before it yields.
 const TRIES: u32 = 64;
@@ -71,7 +71,7 @@ impl<T: Drop, A: Allocator + Copy, K: ItemRule<T>, X: Beside<T> + Drop> AtomicLi
     }
 
     /// Acquires the word, first trying at the length `guess`. Returns the length of the list.
-    fn acquire<R: Wait>(
+    pub(super) fn acquire<R: Wait>(
         &self,
         rt: &R,
         seen: &mut SeenHistory<T, A, K, X>,

@@ -11,10 +11,10 @@ use elsa_machine::geometry::{buffer_size, locate, prior_total_buffer_size};
 use std::alloc::{AllocError, Allocator, Global};
 
 /// How many places there are: all slots of all buffers.
-const PLACES: usize = (1 << 62) - 1;
+pub(super) const PLACES: usize = (1 << 62) - 1;
 
 /// How many buffers are wholly below the place `n`, and in which slot of the next one it is.
-fn whole_buffers(n: usize) -> (usize, usize)
+pub(super) fn whole_buffers(n: usize) -> (usize, usize)
     requires { n < 2 ^ 62 }
     ensures at { IsAt n result.0 result.1 }
     ensures few { result.0 ≤ 31 }

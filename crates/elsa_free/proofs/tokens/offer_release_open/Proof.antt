@@ -1,4 +1,4 @@
-use Rattle.elsa_free.proofs.ByHand.{ftrue, latest, SProp, emp, three_quarters, fact_i, fact, tables, unit, RefOf, usize, yes, no, param, bounded, uint_vals, uint_Tells, owns, RattleType, shr_vals, shr_Tells, types_at, plain, nothing, Tuple, Stays, walk_of, stay_dropped, Goes-dropped, inst_fn, a_type, dcons, dnil, named, Val, vptr, vint, alloc_all, pass_all, free_all, look_at, get, sets, env, ‵, raw, ◌⊛◌, ◌$◌, ◌∵◌, !, qed, by, keep, split, fjoin, use0, move, fsplit, given, learn, drop, use1, fjoin3, rewrite, agg, no_more, and_then, returns, enter, proved, token, Token, token_made, ends, token_told, offer_owns, ℕ, [], ◌∷◌, refl, List, None, suc, length, w64}
+use Rattle.elsa_free.proofs.ByHand.{ftrue, latest, SProp, emp, three_quarters, fact_i, fact, tables, unit, RefOf, usize, yes, no, param, bounded, uint_vals, uint_Tells, owns, RattleType, shr_vals, shr_Tells, types_at, plain, nothing, Tuple, Stays, walk_of, stay_dropped, Goes-dropped, inst_fn, a_type, dcons, dnil, named, Val, vptr, vint, alloc_all, pass_all, free_all, look_at, get, sets, env, ‵, raw, ◌⊛◌, ◌$◌, ◌∵◌, !, qed, by, keep, split, fjoin, use0, move, fsplit, given, learn, drop, use1, fjoin3, rewrite, agg, no_more, and_then, returns, enter, proved, token, Token, token_made, ends, token_told, offer_owns, ℕ, [], ◌∷◌, refl, List, None, length, w64}
 use Rattle.logbook.specs.contracts.tokens.Seen as Seen
 use Rattle.std.specs.contracts.alloc.Global as Global
 use Rattle.std.specs.contracts.impls.GlobalAllocator.TheImpl as galloc

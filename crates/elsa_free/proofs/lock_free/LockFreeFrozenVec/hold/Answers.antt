@@ -1,5 +1,4 @@
 use Rattle.std.proofs.Common.{◌≡◌, suc, length, refl, ap, sym, ◌∙◌, arith}
-use Rattle.elsa_free.specs.declared.event.Entry.{Entry}
 use Rattle.elsa_free.specs.SharedList.{count}
 use Rattle.elsa_free.specs.History.{list_of}
 use Rattle.elsa_free.proofs.RuleLemmas.History.{list_prefix, prefix_whole}

@@ -1,15 +1,14 @@
-use Rattle.std.proofs.Common.{◌≡◌, ◌∷◌, [], ◌-◌, ◌+◌, ◌<◌, ◌^◌, ℕ, List, true, suc, Some, slice_get, slice_index_or, drop as drops, length, length-append, refl, ap, sym, ◌∙◌, arith, subst}
+use Rattle.std.proofs.Common.{◌≡◌, ◌∷◌, [], ◌<◌, ℕ, List, true, suc, slice_index_or, drop as drops, length, length-append, refl, ap, sym, ◌∙◌, arith, subst}
 use Rattle.std.proofs.lemmas.List.{append-nil}
 use lib.Seq.{drop-cons}
-use Rattle.elsa_machine.specs.Geometry.{IsAt}
 use Rattle.elsa_free.specs.declared.event.Entry.{Entry}
 use Rattle.elsa_free.specs.declared.event.Event.TheVariants.{Acquired}
-use Rattle.elsa_free.specs.SharedList.{BeginsABuffer, count, entry, items_of}
+use Rattle.elsa_free.specs.SharedList.{BeginsABuffer, count, entry}
 use Rattle.elsa_free.specs.History.{list_of, added, is_held}
 use Rattle.elsa_free.specs.Rights.{head, buffer_slots_of}
 use Rattle.elsa_free.proofs.RuleLemmas.AuthorPlaces.{push_places}
-use Rattle.elsa_free.proofs.RuleLemmas.History.{held_snoc, items_length}
-use Rattle.elsa_free.proofs.RuleLemmas.Hold.{before_slot, begins_closed, later_slot}
+use Rattle.elsa_free.proofs.RuleLemmas.History.{held_snoc}
+use Rattle.elsa_free.proofs.RuleLemmas.Hold.{begins_closed}
 use Rattle.elsa_free.proofs.RuleLemmas.HoldEnd.{acquired_list, published_count}
 use Rattle.elsa_free.proofs.lock_free.LockFreeFrozenVec.publish_first.Goals as goal
 
