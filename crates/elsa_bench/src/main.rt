@@ -2,8 +2,8 @@
 //!
 //! `elsa_bench FORM THREADS COUNT` prints the nanoseconds between the start of the threads and the end of the last one, and a sum of what
 //! was read, so that no read is left out. The forms are `copy` and `owner` (the locked map, COUNT calls in all, a tenth of them insertions, at
-//! 65,536 keys), `copy_few` (`copy` at 256 keys), and of LockFreeFrozenVec `push` (COUNT pushes in all; `extend` in batches of 64), `seen`, `plain` and `growing` (COUNT
-//! reads in all; `seen` and `plain` with `_in_order`, all three with `_beside` for a thread that pushes as long as they last), `walk` (ten walks
+//! 65,536 keys), `copy_few` (`copy` at 256 keys), and of LockFreeFrozenVec `push` (COUNT pushes in all; `extend` in batches of 64),
+//! `seen`, `plain` and `growing` (COUNT reads in all; `seen` and `plain` with `_in_order`, all three with `_beside` for a thread that pushes as long as they last), `walk` (ten walks
 //! over COUNT items) and `exchange` (COUNT times two exchanges of one word). `recorded` makes the calls of `copy` through a recorder. The
 //! collections of one thread (THREADS is not read): `vec_push`, `vec_get`, `vec_walk`, `vec_clone`, `vec_collect`; `map_insert`, `map_get`,
 //! `tree_insert`, `tree_get`, `index_map_insert`, `index_map_get`, `index_map_at`, and the same with `_text` before the call for texts as keys;

@@ -1,5 +1,5 @@
-//! The concurrent vector: COUNT pushes in all, one by one or in batches, COUNT reads in all at rest or beside a thread that pushes as long as they last, and
-//! walks over COUNT items.
+//! The concurrent vector: COUNT pushes in all, one by one or in batches, COUNT reads in all at rest or beside a thread that
+//! pushes as long as they last, and walks over COUNT items.
 ghost use Rattle.std.specs.Prelude.{◌≡◌, ◌<◌};
 
 use crate::draws::{InOrder, Places, Random, STOCK};

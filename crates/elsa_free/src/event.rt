@@ -8,7 +8,8 @@ pub struct Entry<T> {
     pub item: T,
 }
 
-/// What a step adds to the history. `Extended` has the number of the pass that pushed these items. `OfferOf` is in no history: an offer says by it whose it is, as author and used tickets.
+/// What a step adds to the history. `Extended` has the number of the pass that pushed these items. `OfferOf` is in no history: an
+/// offer says by it whose it is, as author and used tickets.
 pub enum Event<T> {
     Acquired,
     Published(Entry<T>),

@@ -4,8 +4,9 @@
 //! only grows, and the places at which it pushed are its own for good. What a pass has seen it reads without an atomic step.
 //!
 //! Many items are pushed under one hold by `extend_as`. Each other call has three forms. `push_as` takes the caller's pass.
-//! `push_with_pass` makes a pass and returns it beside the result: its clauses relate the result to what that pass has seen, and by [`Pass::meet`] the caller relates it to other
-//! results. `push` drops that pass, so its contract keeps only what can be said without one: limits of places and lengths.
+//! `push_with_pass` makes a pass and returns it beside the result: its clauses relate the result to what that pass has seen, and by
+//! [`Pass::meet`] the caller relates it to other results. `push` drops that pass, so its contract keeps only what can be said
+//! without one: limits of places and lengths.
 ghost use Rattle.std.specs.Prelude.{◌≡◌, ◌≤◌, ◌<◌, ◌^◌, ◌+◌, [], ◌∷◌, ◌++◌, drop, length, slice_get, IfOk, IfErr, IfSome, IfNone, List, Some, suc, take};
 ghost use mathlib.Core.List.{IsPrefix};
 ghost use Rattle.elsa_free.specs.SharedList.{Appends, BeginsABuffer, BeginsAmong, Continues, IsSamePass, PushedAll, entry, items_of, mine};
