@@ -1,17 +1,18 @@
 //! Times the collections that threads share, for `bench/run`, which runs upstream's beside it.
 //!
 //! `elsa_bench FORM THREADS COUNT` prints the nanoseconds between the start of the threads and the end of the last one, and a sum of what
-//! was read, so that no read is left out. The forms are `copy` and `owner` (the locked map, COUNT calls in all, a tenth of them insertions, at
-//! 65,536 keys), `copy_few` (`copy` at 256 keys), and of LockFreeFrozenVec `push` (COUNT pushes in all; `extend` in batches of 64),
-//! `seen`, `plain` and `growing` (COUNT reads in all; `seen` and `plain` with `_in_order`, all three with `_beside` for a thread that pushes as long as they last), `walk` (ten walks
-//! over COUNT items) and `exchange` (COUNT times two exchanges of one word). `recorded` makes the calls of `copy` through a recorder. The
-//! collections of one thread (THREADS is not read): `vec_push`, `vec_get`, `vec_walk`, `vec_clone`, `vec_collect`; `map_insert`, `map_get`,
-//! `tree_insert`, `tree_get`, `index_map_insert`, `index_map_get`, `index_map_at`, and the same with `_text` before the call for texts as keys;
-//! `map_clone`, `map_collect`. Walks, clones and collections are made ten times. Interners: `names_zipf` and `names_distinct` put COUNT names in
-//! all into the one that threads share, `texts_..` by one thread short-lived texts into that one, and `alone_..` into the interner of one thread.
-//! LockFreeFrozenMap: `free_insert_zipf` and `free_insert_distinct` make COUNT insertions in all, `free_get_zipf`, `free_get_present` and
-//! `free_get_absent` so many look-ups (of 65,535 keys by Zipf, of a million by chance, and of keys that aren't there), also with `_beside` for a
-//! thread that inserts as long as they last. TypedArena: `arena_alloc`, `arena_walk` (ten times) and `arena_drop`, of COUNT values that own memory.
+//! was read, so that no read is left out. The forms are `copy` and `owner` (the locked map, COUNT calls in all, a tenth of them insertions,
+//! at 65,536 keys), `copy_few` (`copy` at 256 keys), and of LockFreeFrozenVec `push` (COUNT pushes in all; `extend` in batches of 64),
+//! `seen`, `plain` and `growing` (COUNT reads in all; `seen` and `plain` with `_in_order`, all three with `_beside` for a thread that
+//! pushes as long as they last), `walk` (ten walks over COUNT items) and `exchange` (COUNT times two exchanges of one word). `recorded`
+//! makes the calls of `copy` through a recorder. The collections of one thread (THREADS is not read): `vec_push`, `vec_get`, `vec_walk`,
+//! `vec_clone`, `vec_collect`; `map_insert`, `map_get`, `tree_insert`, `tree_get`, `index_map_insert`, `index_map_get`, `index_map_at`, and
+//! the same with `_text` before the call for texts as keys; `map_clone`, `map_collect`. Walks, clones and collections are made ten times.
+//! Interners: `names_zipf` and `names_distinct` put COUNT names in all into the one that threads share, `texts_..` by one thread
+//! short-lived texts into that one, and `alone_..` into the interner of one thread. LockFreeFrozenMap: `free_insert_zipf` and
+//! `free_insert_distinct` make COUNT insertions in all, `free_get_zipf`, `free_get_present` and `free_get_absent` so many look-ups (of
+//! 65,535 keys by Zipf, of a million by chance, and of keys that aren't there), also with `_beside` for a thread that inserts as long as
+//! they last. TypedArena: `arena_alloc`, `arena_walk` (ten times) and `arena_drop`, of COUNT values that own memory.
 #![tactic(auto)]
 
 ghost use Rattle.std.specs.Prelude.{◌<◌};
