@@ -1,3 +1,4 @@
 pub mod Counts
 pub mod Owners
+pub mod Parts
 pub mod Receipts

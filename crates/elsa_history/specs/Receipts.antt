@@ -49,6 +49,10 @@ pub record AreOf {C R : Type 0} (eqc : C → C → Bool) (eqr : R → R → Bool
 abbrev pub LacksAReceipt : {C R : Type 0} → List (ℕ × List (ℕ × C × R)) → List (ℕ × C × R) → Type 0
 LacksAReceipt passes history = (place : ℕ) × (place < length history) × (receipts_at place passes ≡ 0)
 
+-- the history is one call of that command by that caller
+abbrev pub IsOneCall : {C R : Type 0} → (C → C → Bool) → (R → R → Bool) → ℕ → C → List (ℕ × C × R) → Type 0
+IsOneCall {C} {R} eqc eqr caller command history = (place : ℕ) × (reply : R) × AreReceipts eqc eqr ((caller, (place, command, reply) ∷ []) ∷ []) history
+
 -- the pass has no receipt, or its last one is for another place
 abbrev pub EndsElsewhere : {C R : Type 0} → ℕ → List (ℕ × C × R) → Type 0
 EndsElsewhere place receipts = IfSome (slice_get receipts (length receipts - 1)) (λ last. last.0 ≢ place)

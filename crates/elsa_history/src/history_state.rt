@@ -2,22 +2,26 @@
 ghost use Rattle.std.specs.Prelude.{◌≡◌, [], ◌∷◌, ◌++◌, length, IfOk, OnErr};
 ghost use Rattle.elsa_model.specs.Replay.{Replays, IsRecorded};
 
-use crate::Core;
+use crate::{AtOpening, Core, Start};
 use elsa_model::Call;
 use std::alloc::{AllocError, Allocator, Global};
 use std::marker::Model;
 
+/// Calls of passes, in order: the number of the caller's pass, the command and the reply.
+pub type Entries<C, A = Global> = Vec<(u64, <C as Core>::Command, <C as Core>::Reply), A>;
+
 /// A core with all calls that were made on it, in order.
 ///
 /// Contracts see the pair of the core and its entries; an entry is the number of the caller's pass, the command and the
-/// reply. Each such pair is legal: the entries lead from the opening state of the core's type to the core's state.
+/// reply. Each such pair is legal: the entries lead from the state `S.start`, which is the opening one of the core's type unless
+/// the history is a later part of another, to the core's state.
 #[derive(Drop)]
-pub struct History<C: Core, A: Allocator = Global> {
+pub struct History<C: Core, A: Allocator = Global, S: Start<C> = AtOpening> {
     core: C,
-    entries: Vec<(u64, C::Command, C::Reply), A>,
+    entries: Entries<C, A>,
 }
 
-impl<C: Core, A: Allocator> Model for History<C, A> {
+impl<C: Core, A: Allocator, S: Start<C>> Model for History<C, A, S> {
     ghost use Rattle.std.specs.Prelude.{ℕ, List};
     ghost use Rattle.elsa_model.specs.Replay.{Replays};
 
@@ -26,13 +30,13 @@ impl<C: Core, A: Allocator> Model for History<C, A> {
     ghost view = { λ h. (h.core, h.entries.items) };
 
     ghost invariant = { λ h.
-        Replays C.Command.steps C.Command.opening h.entries.items (C.Command.state h.core) };
+        Replays C.Command.steps S.start h.entries.items (C.Command.state h.core) };
 }
 
-impl<C: Core, A: Allocator + Copy> History<C, A> {
+impl<C: Core, A: Allocator + Copy, S: Start<C>> History<C, A, S> {
     /// The history of a core that was not called yet. Takes no memory.
     pub(crate) fn new(alloc: A, core: C) -> Self
-        requires { C.Command.state core ≡ C.Command.opening }
+        requires { C.Command.state core ≡ S.start }
         ensures { result ≡ (core, []) }
     {
         History {
@@ -44,7 +48,7 @@ impl<C: Core, A: Allocator + Copy> History<C, A> {
     /// The core, as it ended.
     pub fn core(&self) -> &C
         ensures core { result.now ≡ self.now.0 }
-        ensures legal { Replays C.Command.steps C.Command.opening self.now.1
+        ensures legal { Replays C.Command.steps S.start self.now.1
             (C.Command.state self.now.0) }
     {
         &self.core
@@ -53,10 +57,20 @@ impl<C: Core, A: Allocator + Copy> History<C, A> {
     /// The calls, in order: the number of the caller's pass, the command and the reply.
     pub fn entries(&self) -> &[(u64, C::Command, C::Reply)]
         ensures entries { result.now ≡ self.now.1 }
-        ensures legal { Replays C.Command.steps C.Command.opening self.now.1
+        ensures legal { Replays C.Command.steps S.start self.now.1
             (C.Command.state self.now.0) }
     {
         self.entries.as_slice()
+    }
+
+    /// The core, as it ended, and the calls, in order. Takes no memory.
+    pub fn into_parts(self) -> (C, Entries<C, A>)
+        ensures core { result.0 ≡ self.0 }
+        ensures entries { result.1.items ≡ self.1 }
+        ensures legal { Replays C.Command.steps S.start result.1.items (C.Command.state result.0) }
+    {
+        let History { core, entries } = self;
+        (core, entries)
     }
 
     /// Makes room, does the command and stores its entry; returns the entry's place with the reply.
@@ -72,7 +86,7 @@ impl<C: Core, A: Allocator + Copy> History<C, A> {
         ensures place { IfOk result (λ r. r.0 ≡ length self.old.1) }
         ensures stored { IfOk result (λ r. self.new.1 ≡ self.old.1 ++ (number, command, r.1) ∷ []) }
         ensures recorded { IfOk result (λ r.
-            IsRecorded C.Command.steps C.Command.opening r.0 (number, command, r.1)) }
+            IsRecorded C.Command.steps S.start r.0 (number, command, r.1)) }
         ensures step { IfOk result (λ r.
             C.Command.steps (C.Command.state self.old.0) command r.1 (C.Command.state self.new.0)) }
 

@@ -1,11 +1,12 @@
 //! What callers of a recorder may rely on beyond one call: each law is the contract of a function that only makes public
 //! calls.
-ghost use Rattle.std.specs.Prelude.{◌≡◌, ◌∷◌, ◌⊎◌, ℕ, [], List, length, IfErr, IfOk};
-ghost use Rattle.elsa_history.specs.Receipts.{AreReceipts};
+ghost use Rattle.std.specs.Prelude.{◌≡◌, ◌++◌, ◌⊎◌, ℕ, List, length, IfErr, IfOk, IfSome};
+ghost use Rattle.elsa_history.specs.Receipts.{IsOneCall};
 ghost use Rattle.elsa_model.specs.Replay.{Replays};
 
-use crate::{CloseFault, Core, History, ReceiptsFault, Recorder};
+use crate::{AtOpening, CloseFault, Core, Entries, History, ReceiptsFault, Recorder, Start};
 use std::alloc::{AllocError, Allocator};
+use std::marker::Brand;
 use std::sync::Wait;
 
 /// A recording of one command by one caller. Where it closes, the history is that one call, and legal from the opening
@@ -20,9 +21,7 @@ pub fn recorded_alone<C: Core + Drop, A: Allocator + Copy, R: Wait>(
     requires { C.Command.state core ≡ C.Command.opening }
     ensures one { IfOk result (λ closed. IfOk closed (λ h. length h.1 ≡ 1)) }
     ensures call { IfOk result (λ closed.
-        IfOk closed (λ h.
-        (place : ℕ) × (reply : C.Reply)
-        × AreReceipts C.Command.eq C.Reply.eq ((number, (place, command, reply) ∷ []) ∷ []) h.1)) }
+        IfOk closed (λ h. IsOneCall C.Command.eq C.Reply.eq number command h.1)) }
     ensures legal { IfOk result (λ closed.
         IfOk closed (λ h. Replays C.Command.steps C.Command.opening h.1 (C.Command.state h.0))) }
     ensures fault { IfOk result (λ closed.
@@ -38,4 +37,59 @@ pub fn recorded_alone<C: Core + Drop, A: Allocator + Copy, R: Wait>(
     recorder.call(rt, &mut pass, command)?;
     passes.push(pass)?;
     Ok(recorder.close(passes))
+}
+
+/// A part of a history, of one command by one caller: how the core ended, and the calls. `None` where it doesn't close.
+fn recorded_part<C: Core + Drop, A: Allocator + Copy, R: Wait, S: Start<C>>(
+    rt: &R,
+    alloc: A,
+    core: C,
+    number: u64,
+    command: C::Command,
+) -> Result<Option<(C, Entries<C, A>)>, AllocError>
+    requires { C.Command.state core ≡ S.start }
+    ensures call { IfOk result (λ closed. IfSome closed (λ part.
+        IsOneCall C.Command.eq C.Reply.eq number command part.1.items)) }
+    ensures legal { IfOk result (λ closed. IfSome closed (λ part.
+        Replays C.Command.steps S.start part.1.items (C.Command.state part.0))) }
+{
+    let recorder: Recorder<C, A, S> = Recorder::with_start(alloc, core);
+    let mut pass = recorder.pass(number);
+    let mut passes = Vec::new(alloc);
+    recorder.call(rt, &mut pass, command)?;
+    passes.push(pass)?;
+    let Ok(history) = recorder.close(passes) else {
+        return Ok(None);
+    };
+    Ok(Some(history.into_parts()))
+}
+
+/// A history in two parts, of one command each: the calls of the first part, and those of the second behind how the core
+/// ended. Where both close, the calls side by side are one legal history from the opening content. `None` where one doesn't.
+#[tactic(auto, using(crate::proofs::Parts::replays_append))]
+pub fn recorded_in_parts<C: Core + Drop, A: Allocator + Copy, R: Wait>(
+    rt: &R,
+    alloc: A,
+    core: C,
+    number: u64,
+    first: C::Command,
+    second: C::Command,
+) -> Result<Option<(Entries<C, A>, (C, Entries<C, A>))>, AllocError>
+    requires { C.Command.state core ≡ C.Command.opening }
+    ensures first { IfOk result (λ closed. IfSome closed (λ parts.
+        IsOneCall C.Command.eq C.Reply.eq number first parts.0.items)) }
+    ensures second { IfOk result (λ closed. IfSome closed (λ parts.
+        IsOneCall C.Command.eq C.Reply.eq number second parts.1.1.items)) }
+    ensures legal { IfOk result (λ closed. IfSome closed (λ parts.
+        Replays C.Command.steps C.Command.opening (parts.0.items ++ parts.1.1.items)
+        (C.Command.state parts.1.0))) }
+{
+    let found = recorded_part::<C, A, R, AtOpening>(rt, alloc, core, number, first)?;
+    let Some((core, earlier)) = found else {
+        return Ok(None);
+    };
+    let Some(later) = recorded_part::<C, A, R, Brand>(rt, alloc, core, number, second)? else {
+        return Ok(None);
+    };
+    Ok(Some((earlier, later)))
 }

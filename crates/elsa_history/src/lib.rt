@@ -17,11 +17,13 @@ mod recorder;
 mod vec_core;
 
 pub use elsa_model::Call;
-pub use history_state::History;
+pub use history_state::{Entries, History};
 pub use map_core::{MapCommand, MapReply};
 pub use record_pass::RecordPass;
 pub use recorder::{CloseFault, ReceiptsFault, Recorder};
 pub use vec_core::{VecCommand, VecReply};
+
+use std::marker::Brand;
 
 /// A sequential object whose calls a recorder writes down.
 pub trait Core: Sized {
@@ -30,4 +32,25 @@ pub trait Core: Sized {
 
     /// An answer.
     type Reply: Copy + Eq;
+}
+
+/// The state of the core with which a history starts.
+///
+/// A history is closed in parts by a function over any `S: Start<C>`, which records one part and is called at `Brand` for each:
+/// the caller's proof picks the state in which the part before it left the core ([`laws::recorded_in_parts`]).
+pub trait Start<C: Core> {
+    /// The state.
+    ghost start: { C.Command.State };
+}
+
+/// The opening state of the core's type.
+pub struct AtOpening;
+
+impl<C: Core> Start<C> for AtOpening {
+    ghost start = { C.Command.opening };
+}
+
+// A call at it picks the state.
+impl<C: Core> Start<C> for Brand {
+    ghost start = { C.Command.opening };
 }

@@ -3,7 +3,7 @@ ghost use Rattle.std.specs.Prelude.{◌≡◌, ℕ, List, [], ◌∷◌, ◌++�
 ghost use Rattle.elsa_history.specs.Receipts.{AreOf, EndsElsewhere, IsCall, IsTakenFrom, KnowsWhoLacks, receipt_count, receipts_at, receipts_for};
 ghost use Rattle.elsa_model.specs.Replay.{IsRecorded};
 
-use crate::{Core, History};
+use crate::{Core, History, Start};
 use std::alloc::{AllocError, Allocator, Global};
 use std::marker::{Model, PhantomData};
 use std::sync::{RwLock, Wait};
@@ -53,15 +53,15 @@ impl<C: Core, A: Allocator + Copy> RecordPass<C, A> {
     }
 
     /// Makes room for a receipt, does the command under the lock, and stores the receipt.
-    pub(crate) fn call<R: Wait>(
+    pub(crate) fn call<R: Wait, S: Start<C>>(
         &mut self,
         rt: &R,
-        lock: &RwLock<History<C, A>>,
+        lock: &RwLock<History<C, A, S>>,
         command: C::Command,
     ) -> Result<C::Reply, AllocError>
         ensures ok { IfOk result (λ reply.
             (place : ℕ) × (self.new ≡ (self.old.0, self.old.1 ++ (place, command, reply) ∷ []))
-            × IsRecorded C.Command.steps C.Command.opening place (self.old.0, command, reply)) }
+            × IsRecorded C.Command.steps S.start place (self.old.0, command, reply)) }
         ensures err { OnErr result (self.new ≡ self.old) }
     {
         self.receipts.reserve(1)?;

@@ -4,7 +4,7 @@ ghost use Rattle.elsa_model.specs.Replay.{Replays, IsRecorded};
 ghost use Rattle.elsa_history.specs.Receipts.{AreOf, AreReceipts, LacksAReceipt, receipt_count};
 
 use crate::record_pass::count_receipts;
-use crate::{Core, History, RecordPass};
+use crate::{AtOpening, Core, History, RecordPass, Start};
 use std::alloc::{AllocError, Allocator, Global};
 use std::sync::{RwLock, Wait};
 
@@ -20,17 +20,17 @@ pub enum ReceiptsFault {
 
 /// Why a recorder couldn't be closed with the passes that were given.
 #[derive(Drop)]
-pub enum CloseFault<C: Core, A: Allocator = Global> {
+pub enum CloseFault<C: Core, A: Allocator = Global, S: Start<C> = AtOpening> {
     /// The receipts of the passes aren't the history, which is handed out and is legal all the same.
-    Receipts(ReceiptsFault, History<C, A>),
+    Receipts(ReceiptsFault, History<C, A, S>),
 }
 
 /// A core that threads share, with the history of all calls on it.
 ///
 /// What the lock holds is a [`History`], which is legal by its type: so the history is legal whenever the lock is free.
 #[derive(Drop)]
-pub struct Recorder<C: Core, A: Allocator = Global> {
-    lock: RwLock<History<C, A>>,
+pub struct Recorder<C: Core, A: Allocator = Global, S: Start<C> = AtOpening> {
+    lock: RwLock<History<C, A, S>>,
     alloc: A,
 }
 
@@ -38,6 +38,15 @@ impl<C: Core, A: Allocator + Copy> Recorder<C, A> {
     /// A recorder of a core in the opening state of its type. Takes no memory and no lock.
     pub fn new(alloc: A, core: C) -> Self
         requires { C.Command.state core ≡ C.Command.opening }
+    {
+        Recorder::with_start(alloc, core)
+    }
+}
+
+impl<C: Core, A: Allocator + Copy, S: Start<C>> Recorder<C, A, S> {
+    /// A recorder of a core in the state `S.start`: it goes on from an earlier part of a history. Takes no memory and no lock.
+    pub fn with_start(alloc: A, core: C) -> Self
+        requires { C.Command.state core ≡ S.start }
     {
         Recorder {
             lock: RwLock::new(History::new(alloc, core)),
@@ -69,7 +78,7 @@ impl<C: Core, A: Allocator + Copy> Recorder<C, A> {
     ) -> Result<C::Reply, AllocError>
         ensures ok { IfOk result (λ reply.
             (place : ℕ) × (pass.new ≡ (pass.old.0, pass.old.1 ++ (place, command, reply) ∷ []))
-            × IsRecorded C.Command.steps C.Command.opening place (pass.old.0, command, reply)) }
+            × IsRecorded C.Command.steps S.start place (pass.old.0, command, reply)) }
         ensures err { OnErr result (pass.new ≡ pass.old) }
     {
         pass.call(rt, &self.lock, command)
@@ -80,19 +89,19 @@ impl<C: Core, A: Allocator + Copy> Recorder<C, A> {
     ///
     /// Takes no lock, since the owner has the recorder alone. With two passes or more it asks for 8 bytes an entry, to note who has its
     /// receipt: entries plus receipts. Where that is refused, or a pass is of another recorder: entries times passes at most.
-    pub fn close(self, passes: Vec<RecordPass<C, A>, A>) -> Result<History<C, A>, CloseFault<C, A>>
+    pub fn close(self, passes: Vec<RecordPass<C, A>, A>) -> Result<History<C, A, S>, CloseFault<C, A, S>>
         // The receipts are the history, so it has one entry for each accepted call of these passes.
         ensures ok { IfOk result (λ h. AreReceipts C.Command.eq C.Reply.eq passes.items h.1) }
         ensures count { IfOk result (λ h. length h.1 ≡ receipt_count passes.items) }
         ensures legal { IfOk result (λ h.
-            Replays C.Command.steps C.Command.opening h.1 (C.Command.state h.0)) }
+            Replays C.Command.steps S.start h.1 (C.Command.state h.0)) }
 
         // The history is legal, and the receipts aren't that history: an entry has none, or they aren't even of it.
         ensures fault { IfErr result (λ f.
             (h : C × List (ℕ × C.Command × C.Reply))
             × ((f ≡ CloseFault.Receipts ReceiptsFault.MissingPass h)
             ⊎ (f ≡ CloseFault.Receipts ReceiptsFault.ForeignPass h))
-            × Replays C.Command.steps C.Command.opening h.1 (C.Command.state h.0)) }
+            × Replays C.Command.steps S.start h.1 (C.Command.state h.0)) }
         ensures missing { IfErr result (λ f.
             (h : C × List (ℕ × C.Command × C.Reply)) →
             f ≡ CloseFault.Receipts ReceiptsFault.MissingPass h →

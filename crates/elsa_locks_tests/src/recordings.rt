@@ -1,8 +1,8 @@
 //! Recordings by one thread and by two, and what closes and what does not.
 use crate::marks::Mark;
-use elsa_history::laws::recorded_alone;
+use elsa_history::laws::{recorded_alone, recorded_in_parts};
 use elsa_history::{
-    CloseFault, Core, History, MapCommand, MapReply, ReceiptsFault, RecordPass, Recorder,
+    CloseFault, Core, Entries, History, MapCommand, MapReply, ReceiptsFault, RecordPass, Recorder,
     VecCommand, VecReply,
 };
 use elsa_locks::map::{MapState, TreeState};
@@ -94,6 +94,25 @@ fn one_call_is_the_history(rt: HostRuntime) -> Result<(), Fail> {
     };
     let entries = [(1, MapCommand::Insert(1, 6), MapReply::Value(6))];
     assert!(rt; history.entries() == entries.as_slice());
+    Ok(())
+}
+
+// Whether the part is one push of the item by pass 1, answered by the place.
+fn is_push(part: &Entries<VecState<u64>>, item: u64, place: usize) -> bool {
+    let entries = [(1, VecCommand::Push(item), VecReply::Place(place))];
+    part.as_slice() == entries.as_slice()
+}
+
+#[test]
+fn the_second_part_goes_on_where_the_first_ended(rt: HostRuntime) -> Result<(), Fail> {
+    let list: VecState<u64> = VecState::new(rt.alloc());
+    let (first, second) = (VecCommand::Push(6), VecCommand::Push(12));
+    let Some(parts) = recorded_in_parts(&rt, rt.alloc(), list, 1, first, second)? else {
+        return Err(Fail::from("each part's receipt is its history"));
+    };
+    let (earlier, (list, later)) = parts;
+    assert!(rt; is_push(&earlier, 6, 0) && is_push(&later, 12, 1));
+    assert!(rt; list.len() == 2);
     Ok(())
 }
 
