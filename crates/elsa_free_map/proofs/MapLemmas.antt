@@ -1,5 +1,5 @@
 -- What the rule of a map's list says of all that was seen of it.
-use Rattle.std.proofs.Common.{◌≡◌, ℕ, zero, suc, ◌+◌, ◌-◌, ◌<◌, ◌≤◌, ◌^◌, Bool, true, false, List, [], ◌∷◌, ◌++◌, drop, length, take, slice_get, Some, refl, ap, sym, ◌∙◌, subst, arith}
+use Rattle.std.proofs.Common.{◌≡◌, ℕ, zero, suc, ◌+◌, ◌<◌, ◌≤◌, ◌^◌, Bool, true, List, [], ◌∷◌, ◌++◌, drop, length, take, slice_get, Some, refl, ap, sym, ◌∙◌, subst, arith}
 use Rattle.std.specs.Prelude.{Option, None, IfSome, Result, Ok, Err, OnOk, OnErr}
 use Rattle.std.specs.Option.{is_some}
 use Rattle.std.specs.Borrow.{Bor}
@@ -44,6 +44,7 @@ take_keys zero es = refl
 take_keys (suc i) [] = refl
 take_keys (suc i) (e ∷ es) = ap (λ l. e.key ∷ l) (take_keys i es)
 
+-- the key at a place is that of the entry there
 pub key_at : {K V S : Type 0} (es : List (Entry K V S)) (i : ℕ) (e : Entry K V S) → slice_get es i ≡ Some e → slice_get (keys_of es) i ≡ Some e.key
 key_at [] i e at = absurd (cc at)
 key_at (x ∷ es) zero e at = let same : x ≡ e = cc at in ap (λ y. Some y.key) same
@@ -69,6 +70,7 @@ kept_at [] ys i x at = absurd (cc at)
 kept_at (y ∷ xs) ys zero x at = at
 kept_at (y ∷ xs) ys (suc i) x at = kept_at xs ys i x at
 
+-- what stands at a place stands there in each longer list
 pub later_at : {A : Type 0} (xs ys : List A) (i : ℕ) (x : A) → IsPrefix xs ys → slice_get xs i ≡ Some x → slice_get ys i ≡ Some x
 later_at {A} xs ys i x p at = subst (λ (l : List A). slice_get l i ≡ Some x) p.1 (kept_at xs p.0 i x at)
 
@@ -123,14 +125,17 @@ pub on_ok : {A E : Type 0} (r : Result A E) (x : A) (P : Type 0) → r ≡ Ok x 
 on_ok (Ok y) x P e h = h
 on_ok (Err y) x P e h = absurd (cc e)
 
+-- and what a refusal tells
 pub on_err : {A E : Type 0} (r : Result A E) (x : E) (P : Type 0) → r ≡ Err x → OnErr r P → P
 on_err (Ok y) x P e h = absurd (cc e)
 on_err (Err y) x P e h = h
 
+-- what holds of an item if there is one, where there is one
 pub some_has : {A : Type 0} (o : Option A) (P : A → Type 0) → IfSome o P → is_some o ≡ true → (x : A) × P x
 some_has None P h e = absurd (one_answer e)
 some_has (Some x) P h e = (x, h)
 
+-- and of this one, if it is there
 pub some_at : {A : Type 0} (o : Option A) (x : A) (P : A → Type 0) → o ≡ Some x → IfSome o P → P x
 some_at None x P e h = absurd (cc e)
 some_at (Some y) x P e h = let same : y ≡ x = cc e in subst P same h

@@ -6,7 +6,7 @@ use Rattle.std.proofs.lemmas.Option.{slice_get_within}
 use mathlib.Core.List.{IsPrefix}
 use Rattle.elsa_index_words.specs.declared.row.Event.{Event}
 use Rattle.elsa_index_words.specs.declared.entry.Entry.{Entry}
-use Rattle.elsa_index_words.specs.Entries.{EachIsNew, key_of, keys_of, IsAbsent, Indexes, IndexesKeys, IsBehind}
+use Rattle.elsa_index_words.specs.Entries.{EachIsNew, key_of, keys_of, Indexes, IndexesKeys, IsBehind}
 use Rattle.elsa_index_words.specs.Row.{value_at, count_of, builder_of}
 use Rattle.elsa_index_words.specs.Words.{IsIndexed, IsLater}
 use Rattle.elsa_index_words.proofs.RowLemmas.{later_at, count_prefix, builder_prefix}
@@ -96,10 +96,12 @@ get_within [] i h = absurd (omega (arith, h))
 get_within (x ∷ xs) zero h = (x, refl)
 get_within (x ∷ xs) (suc i) h = get_within xs i (omega (arith, h))
 
+-- what follows from what holds of a number if there is one, holds of it too
 pub some_weaker : (o : Option ℕ) (P Q : ℕ → Type 0) → ((p : ℕ) → P p → Q p) → IfSome o P → IfSome o Q
 some_weaker None P Q f h = tt
 some_weaker (Some p) P Q f h = f p h
 
+-- and so of what holds if there is none
 pub none_weaker : (o : Option ℕ) (P Q : Type 0) → (P → Q) → IfNone o P → IfNone o Q
 none_weaker None P Q f h = f h
 none_weaker (Some p) P Q f h = tt

@@ -3,7 +3,7 @@ use Rattle.std.proofs.Common.{◌≡◌, ℕ, zero, suc, ◌+◌, ◌<◌, ◌==
 use Rattle.std.proofs.lemmas.Bool.{cases_eq}
 use Rattle.std.proofs.lemmas.Bool.Decides.{nat_tests}
 use Rattle.std.proofs.lemmas.List.{append-nil, get_or-set_same, get_or-set_other, length-set}
-use Rattle.std.specs.Prelude.{Option, Some, None, MatchBool}
+use Rattle.std.specs.Prelude.{Option, Some, MatchBool}
 use mathlib.Core.List.{IsPrefix}
 use prog.Atomic.{either}
 use Rattle.logbook.specs.Pages.{Book, Named, Cell, cell, keeps, no_nib, step, Moves, Goes}
@@ -29,6 +29,7 @@ pub value_append : {S : Type 0} (k : ℕ) (xs ys : List (Event S)) → value_at 
 value_append k [] ys = refl
 value_append k (x ∷ xs) ys = ap (first_not_0 (filled_by k x)) (value_append k xs ys) ∙ first_assoc (filled_by k x) (value_at k xs) (value_at k ys)
 
+-- the count of words is in the first event, so that no later one changes it
 pub count_append : {S : Type 0} (x : Event S) (xs ys : List (Event S)) → count_of ((x ∷ xs) ++ ys) ≡ count_of (x ∷ xs)
 count_append x xs ys = refl
 
@@ -140,15 +141,18 @@ module _ {S A : Type 0} (moves : List (Event S) → List (Event S) → A → Typ
 abbrev pub named : Book → ℕ → Named
 named b k = record { tracked = true; key = k; book = b }
 
+-- one word more goes last
 pub named_snoc : (b : Book) (k n : ℕ) → named_from b k (suc n) ≡ named_from b k n ++ named b (k + n) ∷ []
 named_snoc b k zero = let e : k ≡ k + 0 = omega arith in ap (λ i. named b i ∷ []) e
 named_snoc b k (suc n) = let e : suc k + n ≡ k + suc n = omega arith in ap (λ (l : List Named). named b k ∷ l) (named_snoc b (suc k) n ∙ ap (λ i. named_from b (suc k) n ++ named b i ∷ []) e)
 
+-- the word at a place has that number, counted from the first
 pub named_at : (b : Book) (k n i : ℕ) (d : Named) → i < n → slice_index_or (named_from b k n) i d ≡ named b (k + i)
 named_at b k zero i d h = absurd (omega (arith, h))
 named_at b k (suc n) zero d h = let e : k ≡ k + 0 = omega arith in ap (named b) e
 named_at b k (suc n) (suc i) d h = let e : suc k + i ≡ k + suc i = omega arith in named_at b (suc k) n i d (omega (arith, h)) ∙ ap (named b) e
 
+-- there are as many as were asked for
 pub named_length : (b : Book) (k n : ℕ) → length (named_from b k n) ≡ n
 named_length b k zero = refl
 named_length b k (suc n) = let e = named_length b (suc k) n in omega (arith, e)

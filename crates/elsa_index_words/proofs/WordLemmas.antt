@@ -10,12 +10,15 @@ pub walk_within : (count hash step : ℕ) → step < count → walk count hash s
 unfolding walk
 walk_within count hash step h = mod_below (((hash * count) % 2 ^ 64 / 2 ^ 32 + step) % 2 ^ 64) count (omega (arith, h))
 
+-- a number below the divisor is its own rest
 pub small_mod : (n m : ℕ) → n < m → n % m ≡ n
 small_mod n m h = mod-eq_of_lt h
 
+-- words are as late as themselves
 pub later_same : (f : ℕ → ℕ) → IsLater f f
 later_same f i h = refl
 
+-- what is later than something later is later
 pub later_later : (f g h : ℕ → ℕ) → IsLater f g → IsLater g h → IsLater f h
 later_later f g h a b i lt = let e = a i lt in b i (omega (arith, e, lt)) ∙ e
 
@@ -23,6 +26,7 @@ later_later f g h a b i lt = let e = a i lt in b i (omega (arith, e, lt)) ∙ e
 pub later_goes_on : (count : ℕ) (f g : ℕ → ℕ) (hash step : ℕ) → IsLater f g → GoesOn count f hash step → GoesOn count g hash step
 later_goes_on count f g hash step later on k lt = let h = on k lt in let e = later (walk count hash k) h in omega (arith, e, h)
 
+-- nor does a later word hide a place
 pub later_indexed : (count : ℕ) (f g : ℕ → ℕ) (hash place : ℕ) → IsLater f g → IsIndexed count f hash place → IsIndexed count g hash place
 later_indexed count f g hash place later i = record {
   step = i.step;

@@ -38,6 +38,7 @@ abbrev pub padded : ℕ → ℕ → List ℕ
 padded zero n = []
 padded (suc k) n = padded k (n / 10) ++ (48 + n % 10) ∷ []
 
+-- there are k of them
 pub length_padded : (k n : ℕ) → length (padded k n) ≡ k
 length_padded zero n = refl
 length_padded (suc k) n = omega (arith, length-append (padded k (n / 10)) ((48 + n % 10) ∷ []), length_padded k (n / 10))
@@ -89,6 +90,7 @@ shifted k n = elim (cases_lt n (k * 10000)) [
   | inr b ↦ yes (k * 10000) n b ∙ sym (yes k (n / 10000) (omega (arith, b)))
 ]
 
+-- seven comparisons count the digits of a number of at most eight
 pub counted : (n : ℕ) → n < 10 ^ 8 → n < 2 ^ 64
     → ((((((1 + bool_byte (leb 10 n)) + bool_byte (leb 100 n)) + bool_byte (leb 1000 n)) + bool_byte (leb 10000 n)) + bool_byte (leb 100000 n)) + bool_byte (leb 1000000 n)) + bool_byte (leb 10000000 n) ≡ length (decimal n)
 counted n h small = elim (cases_lt n 10000) [

@@ -15,6 +15,7 @@ by_place names after text n None room h =
     rw has_room (ap decimal h.0, h.1)
 by_place names after text n (Some i) room h = (ap decimal h.0, h.1)
 
+-- the number of a name that was put, in digits, is the reply
 pub put_replies : (names after : List (List ℕ)) (text : List ℕ) (n : ℕ) → (position (bytes_eq text) names ≡ None → IsFull names → ⊥) → Puts names text n after
     → Replies names (put text) (decimal n) after
 put_replies names after text n room h = inl (by_place names after text n (position (bytes_eq text) names) room h)

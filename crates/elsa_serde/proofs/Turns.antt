@@ -8,13 +8,16 @@ use Rattle.elsa_serde.specs.Loaded.{StopsAt, Stops}
 use Rattle.elsa_serde.specs.declared.fault.ReadFault.{ReadFault}
 use Rattle.elsa_serde.specs.declared.fault.ReadFault.TheVariants.{Duplicate, TooMany, Memory}
 
+-- one item more
 pub in_turn_more : {S X : Type 0} (step : S → X → S → Type 0) (xs : List X) (x : X) (old mid new : S) → InTurn step old xs mid → step mid x new → InTurn step old (xs ++ x ∷ []) new
 in_turn_more step [] x old mid new is made = (new, subst (λ m. step m x new) is made, refl)
 in_turn_more step (y ∷ ys) x old mid new went made = (went.0, went.1, in_turn_more step ys x went.0 mid new went.2 made)
 
+-- the same, of a list that is the items with one more behind them
 pub in_turn_push : {S X : Type 0} (step : S → X → S → Type 0) (xs ys : List X) (x : X) (old mid new : S) → ys ≡ xs ++ x ∷ [] → InTurn step old xs mid → step mid x new → InTurn step old ys new
 in_turn_push step xs ys x old mid new is went made = subst (λ zs. InTurn step old zs new) (sym is) (in_turn_more step xs x old mid new went made)
 
+-- no item leaves everything
 pub in_turn_none : {S X : Type 0} (step : S → X → S → Type 0) (xs : List X) (old : S) → xs ≡ [] → InTurn step old xs old
 in_turn_none step xs old none = subst (λ zs. InTurn step old zs old) (sym none) refl
 
@@ -22,9 +25,11 @@ in_turn_none step xs old none = subst (λ zs. InTurn step old zs old) (sym none)
 abbrev pub UpTo : {S X : Type 0} → (S → X → S → Type 0) → (S → ℕ) → List X → List X → S → S → Type 0
 UpTo {X = X} step size all rest old new = (done : List X) × (all ≡ done ++ rest) × InTurn step old done new × (size new ≡ size old + length done)
 
+-- at the start none went in
 pub up_to_start : {S X : Type 0} (step : S → X → S → Type 0) (size : S → ℕ) (all rest : List X) (old : S) → rest ≡ all → UpTo step size all rest old old
 up_to_start step size all rest old same = ([], sym same, refl, omega arith)
 
+-- the next one went in
 pub up_to_more : {S X : Type 0} (step : S → X → S → Type 0) (size : S → ℕ) (all rest left : List X) (x : X) (old mid new : S) → UpTo step size all rest old mid → rest ≡ x ∷ left → step mid x new → size new ≡ size mid + 1 → UpTo step size all left old new
 up_to_more step size all rest left x old mid new before next made grew =
     let longer = length_push before.0 x in
@@ -35,6 +40,7 @@ up_to_more step size all rest left x old mid new before next made grew =
       omega (arith, longer, sum, grew),
     )
 
+-- where nothing is left, all went in
 pub up_to_all : {S X : Type 0} (step : S → X → S → Type 0) (size : S → ℕ) (all rest : List X) (old new : S) → UpTo step size all rest old new → rest ≡ [] → InTurn step old all new
 up_to_all step size all rest old new before none =
     subst (λ ys. InTurn step old ys new) (sym (before.1 ∙ ap (λ ys. before.0 ++ ys) none ∙ append-nil before.0)) before.2

@@ -9,6 +9,7 @@ use Rattle.std.specs.Result.{IsErr}
 use Rattle.std.specs.Io.KnownBytes.{Appends, Keeps}
 use Rattle.elsa_interner.specs.Devices.{Queues, AppendsSome, Queued}
 
+-- two appended pieces, one after the other, are one
 pub appends_more : (a b c : Option (List ℕ)) (piece : List ℕ) (i n : ℕ) → Appends a b (take i piece) → Appends b c (take n (drop i piece)) → Appends a c (take (i + n) piece)
 appends_more a b c piece i n p q = rw take-add (Appends-trans a b c (take i piece) (take n (drop i piece)) p q)
 

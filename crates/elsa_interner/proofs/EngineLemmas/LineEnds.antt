@@ -36,9 +36,11 @@ none_near xs room none k l = none_from_empty_mask (is_byte 10) xs 0 16 0 (omega 
 pub near_within : (xs : List ℕ) → 16 ≤ length xs → (ends_of xs ≡ 0 → ⊥) → count_trailing_zeros 64 (ends_of xs) ≤ 16
 near_within xs room some = run_in_chunk_le (is_byte 10) xs 0 16 _ 0 (omega arith) (counted xs room some)
 
+-- before which there is none
 pub near_before : (xs : List ℕ) → 16 ≤ length xs → (ends_of xs ≡ 0 → ⊥) → (k : ℕ) → k < count_trailing_zeros 64 (ends_of xs) → is_byte 10 (get_or xs k 0) ≡ false
 near_before xs room some k l = run_in_chunk_fails (is_byte 10) xs 0 16 _ 0 (omega arith) (counted xs room some) k (omega arith) (omega arith)
 
+-- and where there is one
 pub near_there : (xs : List ℕ) → 16 ≤ length xs → (ends_of xs ≡ 0 → ⊥) → count_trailing_zeros 64 (ends_of xs) < 16 → is_byte 10 (get_or xs (count_trailing_zeros 64 (ends_of xs)) 0) ≡ true
 near_there xs room some l =
     let from_zero : 0 + count_trailing_zeros 64 (ends_of xs) ≡ count_trailing_zeros 64 (ends_of xs) = omega arith in

@@ -34,6 +34,7 @@ finished_answers : (names names' : List (List ℕ)) (line end answer tail line' 
 finished_answers names names' line end answer tail line' false skips' f s = subst (λ t. Answers names (t ++ end) answer names') (s.kept refl) (f.kept refl)
 finished_answers names names' line end answer tail line' true skips' f s = inr (f.skipped refl)
 
+-- at the start nothing was cut and nothing answered
 pub reached_new : (names : List (List ℕ)) (line : List ℕ) (skips : Bool) → names ≡ [] → line ≡ [] → skips ≡ false → IsReached [] names line skips []
 reached_new names line skips e f h = record {
   lines = [];
@@ -75,6 +76,7 @@ reached_tail bytes written piece line line' names names' skips skips' r inside k
   so_far = keeps r.tail r.so_far;
 }
 
+-- where the bytes end, what was written answers their lines
 pub answers_reached : (bytes written line : List ℕ) (names : List (List ℕ)) (skips : Bool) → IsReached bytes names line skips written → AnswersLines bytes written
 answers_reached bytes written line names skips r = (r.lines, r.tail, names, r.cut, r.answered)
 

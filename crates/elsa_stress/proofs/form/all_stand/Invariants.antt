@@ -1,4 +1,3 @@
-use Rattle.std.proofs.Common.{◌≡◌}
 use Rattle.elsa_stress.proofs.form.all_stand.Given as goal
 
 abbrev pub invariant-loop-entry : goal.invariant-loop-entry

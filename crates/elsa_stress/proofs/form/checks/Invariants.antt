@@ -1,4 +1,3 @@
-use Rattle.std.proofs.Common.{◌≡◌}
 use Rattle.elsa_stress.proofs.form.checks.Given as goal
 
 abbrev pub invariant-loop-both : goal.invariant-loop-both

@@ -1,4 +1,3 @@
-use Rattle.std.proofs.Common.{◌≡◌}
 use Rattle.elsa_stress.proofs.form.work.Given as goal
 
 abbrev pub invariant-loop-turn : goal.invariant-loop-turn

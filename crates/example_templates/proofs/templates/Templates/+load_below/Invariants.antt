@@ -1,4 +1,4 @@
-use Rattle.std.proofs.Common.{◌≡◌, ℕ, ◌<◌}
+use Rattle.std.proofs.Common.{◌≡◌, ◌<◌}
 use Rattle.example_templates.proofs.templates.Templates.+load_below.Given as goal
 
 -- proposed from what the function passes where it calls itself
