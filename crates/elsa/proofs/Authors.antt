@@ -6,7 +6,7 @@ use Rattle.std.proofs.Math.Nat.{mul-div_cancel}
 use mathlib.Core.List.{IsPrefix}
 use Rattle.std.proofs.lemmas.Bool.Decides.{nat_tests}
 use Rattle.std.proofs.lemmas.Option.{get_or_from_slice_get, slice_get-get_or, slice_get-map, slice_get_within}
-use Rattle.elsa_free.specs.declared.event.Entry.{Entry}
+use Rattle.elsa_lock_free.specs.declared.event.Entry.{Entry}
 use Rattle.elsa.specs.declared.shared.SharedFault.{SharedFault}
 use Rattle.elsa.specs.declared.shared.SharedFault.TheVariants.{Memory, Gate, Check, Thread}
 use Rattle.elsa.specs.Workers.{Each, EndsAfter, HasPushed, HaveWorked, numbers, pushed_by}

@@ -2,8 +2,8 @@
 use Rattle.std.proofs.Common.{◌≡◌, ℕ, ◌≤◌, ◌∙◌, List, ◌++◌, length, ap, sym, append_assoc, arith, length-append}
 use mathlib.Core.List.{IsPrefix}
 use Rattle.std.proofs.lemmas.Bool.Decides.{nat_tests}
-use Rattle.elsa_free.specs.declared.event.Entry.{Entry}
-use Rattle.elsa_free.specs.SharedList.{Continues, Vector, View, longer}
+use Rattle.elsa_lock_free.specs.declared.event.Entry.{Entry}
+use Rattle.elsa_lock_free.specs.SharedList.{Continues, Vector, View, longer}
 
 -- what begins a list begins a longer one
 pub prefix_more : {X : Type 0} (xs ys zs : List X) → IsPrefix xs ys → IsPrefix ys zs → IsPrefix xs zs

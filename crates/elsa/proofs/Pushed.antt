@@ -2,9 +2,9 @@
 use Rattle.std.proofs.Common.{◌≡◌, ℕ, suc, ◌+◌, ◌==◌, Bool, true, false, List, [], ◌∷◌, ◌++◌, Option, length, if◌then◌else◌, refl, ap, sym, ◌∙◌, arith, append_assoc}
 use Rattle.std.proofs.lemmas.List.{append-nil, length-append}
 use Rattle.std.proofs.lemmas.Bool.Decides.{nat_tests}
-use Rattle.elsa_free.specs.declared.event.Entry.{Entry}
+use Rattle.elsa_lock_free.specs.declared.event.Entry.{Entry}
 use mathlib.Core.List.{IsPrefix}
-use Rattle.elsa_free.specs.SharedList.{Appends, IsSamePass, Vector, View, entry, mine, places_from}
+use Rattle.elsa_lock_free.specs.SharedList.{Appends, IsSamePass, Vector, View, entry, mine, places_from}
 use Rattle.elsa.specs.declared.shared.SharedFault.{SharedFault}
 use Rattle.elsa.specs.Workers.{IsPromiseOf, IsWorkOf, numbers, pushed_by}
 

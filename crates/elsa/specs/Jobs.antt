@@ -3,8 +3,8 @@ use Rattle.std.specs.Prelude.{ℕ, ◌≤◌, ⊤, ◌&&◌, nat_le, Bool, List,
 use Rattle.std.specs.Str.{bytes_eq}
 use Rattle.std.specs.Str.Parse.{digits_value}
 use Rattle.elsa_interner.specs.Lines.{is_number}
-use Rattle.elsa.specs.declared.words.Job.{Job}
-use Rattle.elsa.specs.declared.words.Job.TheVariants.{Intern, Shared}
+use Rattle.elsa.specs.declared.jobs.Job.{Job}
+use Rattle.elsa.specs.declared.jobs.Job.TheVariants.{Intern, Shared}
 
 -- one or more ASCII digits of a value from low to high; zeros may stand in front
 abbrev pub is_number_within : ℕ → ℕ → List ℕ → Bool

@@ -1,7 +1,7 @@
 -- What workers push into the list that all of them share.
 use Rattle.std.specs.Prelude.{ℕ, zero, suc, ◌≡◌, ◌+◌, ◌*◌, ◌==◌, ◌<◌, ◌≤◌, All, Contains, IfSome, List, [], ◌∷◌, ◌++◌, length, slice_index_or, Option, Some, None, if◌then◌else◌}
-use Rattle.elsa_free.specs.declared.event.Entry.{Entry}
-use Rattle.elsa_free.specs.SharedList.{Vector, View}
+use Rattle.elsa_lock_free.specs.declared.event.Entry.{Entry}
+use Rattle.elsa_lock_free.specs.SharedList.{Vector, View}
 use Rattle.elsa.specs.declared.shared.Done.{Done}
 use Rattle.elsa.specs.declared.shared.SharedFault.{SharedFault}
 use Rattle.elsa.specs.declared.shared.SharedFault.TheVariants.{Memory, Gate, Check, Thread}

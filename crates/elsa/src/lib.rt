@@ -15,18 +15,18 @@ pub use elsa_index::look_up::LookUp;
 pub use elsa_index::{index_laws, index_map, index_set, look_up};
 pub use elsa_maps::map;
 pub use elsa_maps::map::{FrozenBTreeMap, FrozenMap, MapForm};
-pub use elsa_once::stable::{Own, StableDeref};
-pub use elsa_once::vec::FrozenVec;
-pub use elsa_once::{stable, vec, vec_laws};
 pub use elsa_run::run;
 pub use elsa_sets as set;
 pub use elsa_sets::{FrozenBTreeSet, FrozenSet};
 pub use elsa_tables as tables;
+pub use elsa_vec::stable::{Own, StableDeref};
+pub use elsa_vec::vec::FrozenVec;
+pub use elsa_vec::{stable, vec, vec_laws};
 
 pub mod command;
 pub mod interner;
+mod jobs;
 pub mod shared;
 pub mod sync;
-mod words;
 
-pub use words::Job;
+pub use jobs::Job;

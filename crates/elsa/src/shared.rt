@@ -4,11 +4,11 @@
 //! end one length says whether all is there.
 ghost use Rattle.std.specs.Prelude.{◌≡◌, ◌≢◌, ◌⊎◌, ◌+◌, ◌*◌, ◌<◌, ◌≤◌, [], ◌∷◌, All, IfErr, IfOk, None, length, map, vec_capacity, vec_len};
 ghost use mathlib.Core.List.{IsPrefix};
-ghost use Rattle.elsa_free.specs.SharedList.{Continues, IsSamePass, mine};
+ghost use Rattle.elsa_lock_free.specs.SharedList.{Continues, IsSamePass, mine};
 ghost use Rattle.elsa.specs.Workers.{Each, HasPushed, HaveHandedBack, HaveWorked, IsFirstFault, IsPromiseOf, IsWorkOf, pushed_by};
 
 use core::thread::Stack;
-use elsa_free::lock_free::{LockFreeFrozenVec, Pass};
+use elsa_lock_free::lock_free::{LockFreeFrozenVec, Pass};
 use std::alloc::{AllocError, Allocator};
 use std::cmp::min;
 use std::sync::Wait;

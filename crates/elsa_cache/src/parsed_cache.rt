@@ -5,7 +5,7 @@ ghost use Rattle.elsa_cache.specs.Cached.{Cached, FailsToLoad, GainsText, IsCaus
 
 use bumpalo::Bump;
 use elsa_maps::map::FrozenMap;
-use elsa_once::stable::Own;
+use elsa_vec::stable::Own;
 use std::alloc::{Allocator, Global};
 use std::hash::{BuildHasher, BuildHasherDefault, FoldHasher};
 use std::marker::Model;

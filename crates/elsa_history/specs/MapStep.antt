@@ -1,7 +1,7 @@
 -- The calls of a map whose first insertion wins, as steps from one content to the next.
 -- A content is a partial function from keys to values; each line says which reply may be given there and what is left.
 use Rattle.std.specs.Prelude.{◌≡◌, ◌↔◌, Bool, Option, Some, None, IsTrue}
-use Rattle.elsa_model.specs.FirstWins.{inserted, HasCount}
+use Rattle.elsa_words.specs.FirstWins.{inserted, HasCount}
 use Rattle.elsa_history.specs.declared.map_core.MapCommand.{MapCommand}
 use Rattle.elsa_history.specs.declared.map_core.MapCommand.TheVariants.{Insert, InsertNew, Get, Len}
 use Rattle.elsa_history.specs.declared.map_core.MapReply.{MapReply}

@@ -1,9 +1,9 @@
 //! A core with the list of its calls, which is legal by its type.
 ghost use Rattle.std.specs.Prelude.{◌≡◌, [], ◌∷◌, ◌++◌, length, IfOk, OnErr};
-ghost use Rattle.elsa_model.specs.Replay.{Replays, IsRecorded};
+ghost use Rattle.elsa_words.specs.Replay.{Replays, IsRecorded};
 
 use crate::{AtOpening, Core, Start};
-use elsa_model::Call;
+use elsa_words::Call;
 use std::alloc::{AllocError, Allocator, Global};
 use std::marker::Model;
 
@@ -23,7 +23,7 @@ pub struct History<C: Core, A: Allocator = Global, S: Start<C> = AtOpening> {
 
 impl<C: Core, A: Allocator, S: Start<C>> Model for History<C, A, S> {
     ghost use Rattle.std.specs.Prelude.{ℕ, List};
-    ghost use Rattle.elsa_model.specs.Replay.{Replays};
+    ghost use Rattle.elsa_words.specs.Replay.{Replays};
 
     ghost Value = { C × List (ℕ × C.Command × C.Reply) };
 
@@ -76,7 +76,7 @@ impl<C: Core, A: Allocator + Copy, S: Start<C>> History<C, A, S> {
     /// Makes room, does the command and stores its entry; returns the entry's place with the reply.
     ///
     /// `Err` leaves the core's state and the entries.
-    #[tactic(auto, using(elsa_model::proofs::Replay::replays_more, elsa_model::proofs::Replay::recorded_last))]
+    #[tactic(auto, using(elsa_words::proofs::Replay::replays_more, elsa_words::proofs::Replay::recorded_last))]
     pub(crate) fn record(
         &mut self,
         number: u64,

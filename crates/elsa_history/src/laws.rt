@@ -2,7 +2,7 @@
 //! calls.
 ghost use Rattle.std.specs.Prelude.{◌≡◌, ◌++◌, ◌⊎◌, ℕ, List, length, IfErr, IfOk, IfSome};
 ghost use Rattle.elsa_history.specs.Receipts.{IsOneCall};
-ghost use Rattle.elsa_model.specs.Replay.{Replays};
+ghost use Rattle.elsa_words.specs.Replay.{Replays};
 
 use crate::{AtOpening, CloseFault, Core, Entries, History, ReceiptsFault, Recorder, Start};
 use std::alloc::{AllocError, Allocator};

@@ -16,14 +16,13 @@ mod record_pass;
 mod recorder;
 mod vec_core;
 
-pub use elsa_model::Call;
+pub use elsa_words::Call;
 pub use history_state::{Entries, History};
 pub use map_core::{MapCommand, MapReply};
 pub use record_pass::RecordPass;
 pub use recorder::{CloseFault, ReceiptsFault, Recorder};
-pub use vec_core::{VecCommand, VecReply};
-
 use std::marker::Brand;
+pub use vec_core::{VecCommand, VecReply};
 
 /// A sequential object whose calls a recorder writes down.
 pub trait Core: Sized {

@@ -2,7 +2,7 @@
 
 use crate::Core;
 use elsa_locks::map::{MapState, TreeState};
-use elsa_model::Call;
+use elsa_words::Call;
 use std::alloc::{AllocError, Allocator};
 use std::hash::{BuildHasherDefault, FoldHasher, Hash};
 
@@ -38,7 +38,7 @@ impl<K: Copy + Eq + Hash, V: Copy + Eq, A: Allocator + Copy> Call<
     (),
 > for MapCommand<K, V> {
     ghost use Rattle.std.specs.Prelude.{None, Option, ⊤};
-    ghost use Rattle.elsa_model.specs.FirstWins.{value_at};
+    ghost use Rattle.elsa_words.specs.FirstWins.{value_at};
     ghost use Rattle.elsa_history.specs.MapStep.{MapStep};
 
     ghost State = { K → Option V };
@@ -82,7 +82,7 @@ impl<K: Copy + Ord, V: Copy + Eq, A: Allocator + Copy> Call<TreeState<K, V, A>, 
     for MapCommand<K, V> {
     ghost use Rattle.std.specs.Prelude.{None, Option, ⊤};
     ghost use Rattle.std.specs.Ordering.{eq_by_cmp};
-    ghost use Rattle.elsa_model.specs.FirstWins.{value_at};
+    ghost use Rattle.elsa_words.specs.FirstWins.{value_at};
     ghost use Rattle.elsa_history.specs.MapStep.{MapStep};
 
     ghost State = { K → Option V };

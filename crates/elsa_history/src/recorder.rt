@@ -1,6 +1,6 @@
 //! A core under a lock, with the history of its calls.
 ghost use Rattle.std.specs.Prelude.{◌≡◌, ℕ, List, [], ◌∷◌, ◌++◌, ◌⊎◌, length, IfOk, IfErr, OnErr};
-ghost use Rattle.elsa_model.specs.Replay.{Replays, IsRecorded};
+ghost use Rattle.elsa_words.specs.Replay.{Replays, IsRecorded};
 ghost use Rattle.elsa_history.specs.Receipts.{AreOf, AreReceipts, LacksAReceipt, receipt_count};
 
 use crate::record_pass::count_receipts;
@@ -89,7 +89,10 @@ impl<C: Core, A: Allocator + Copy, S: Start<C>> Recorder<C, A, S> {
     ///
     /// Takes no lock, since the owner has the recorder alone. With two passes or more it asks for 8 bytes an entry, to note who has its
     /// receipt: entries plus receipts. Where that is refused, or a pass is of another recorder: entries times passes at most.
-    pub fn close(self, passes: Vec<RecordPass<C, A>, A>) -> Result<History<C, A, S>, CloseFault<C, A, S>>
+    pub fn close(
+        self,
+        passes: Vec<RecordPass<C, A>, A>,
+    ) -> Result<History<C, A, S>, CloseFault<C, A, S>>
         // The receipts are the history, so it has one entry for each accepted call of these passes.
         ensures ok { IfOk result (λ h. AreReceipts C.Command.eq C.Reply.eq passes.items h.1) }
         ensures count { IfOk result (λ h. length h.1 ≡ receipt_count passes.items) }

@@ -2,7 +2,7 @@
 
 use crate::Core;
 use elsa_locks::vec::VecState;
-use elsa_model::Call;
+use elsa_words::Call;
 use std::alloc::{AllocError, Allocator};
 
 /// A call on a list.

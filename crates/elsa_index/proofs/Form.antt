@@ -2,9 +2,9 @@
 use Rattle.std.proofs.Common.{◌≡◌, ◌+◌, ℕ, Bool, List, [], ◌∷◌, ◌++◌, length, None, Some, MatchOption, sym, ap, subst, ◌∙◌}
 use Rattle.std.specs.Cmp.{IsEquivalence}
 use Rattle.std.proofs.lemmas.List.{length-append}
-use Rattle.elsa_model.specs.FirstWins.{Adds, value_at}
-use Rattle.elsa_model.specs.Insertions.{Inserted}
-use Rattle.elsa_model.proofs.Entries.{adds_last}
+use Rattle.elsa_words.specs.FirstWins.{Adds, value_at}
+use Rattle.elsa_words.specs.Insertions.{Inserted}
+use Rattle.elsa_words.proofs.Entries.{adds_last}
 use Rattle.elsa_index.proofs.Content.{no_place}
 
 module _ {K V B T : Type 0} (eq : K → K → Bool) (laws : IsEquivalence eq) (target : V → T) (shown : B → T) (es fs : List (K × B)) (k : K) (v : V) (i : ℕ) (b : B) where

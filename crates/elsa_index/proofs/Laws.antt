@@ -7,10 +7,10 @@ use Rattle.std.specs.Option.{option_eq}
 use Rattle.std.proofs.lemmas.List.{length-map, map-append}
 use Rattle.std.proofs.lemmas.List.Sorted.{list_any-IsPermutation}
 use Rattle.indexmap.proofs.MapLemmas.{lookup_permutation}
-use Rattle.elsa_model.specs.FirstWins.{same_values, value_at}
-use Rattle.elsa_model.specs.Insertions.{place_of, Inserted}
-use Rattle.elsa_model.proofs.Entries.{found_last}
-use Rattle.elsa_model.proofs.MapEquality.{same_from_each}
+use Rattle.elsa_words.specs.FirstWins.{same_values, value_at}
+use Rattle.elsa_words.specs.Insertions.{place_of, Inserted}
+use Rattle.elsa_words.proofs.Entries.{found_last}
+use Rattle.elsa_words.proofs.MapEquality.{same_from_each}
 use Rattle.elsa_index.specs.Equality.{same_set}
 use Rattle.elsa_index.proofs.Equality.{same_set_decides}
 use Rattle.elsa_index.proofs.Content.{no_value, place_of_last}

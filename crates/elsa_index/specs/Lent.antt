@@ -5,7 +5,7 @@ use Rattle.std.specs.HashMap.Lent.{HashMembers}
 use Rattle.std.specs.declared.alloc.Allocator as alloc
 use Rattle.std.specs.declared.hash.Hasher as hasher
 use Rattle.std.specs.declared.hash.BuildHasher as builder
-use Rattle.elsa_once.specs.declared.stable.HasTarget as target
+use Rattle.elsa_vec.specs.declared.stable.HasTarget as target
 use Rattle.indexmap.specs.contracts.map.IndexMap.{the_row as inner_map_row}
 use Rattle.indexmap.specs.contracts.set.IndexSet.{the_row as inner_set_row}
 use Rattle.elsa_index.specs.contracts.index_map.FrozenIndexMapIn.{the_row as map_row}

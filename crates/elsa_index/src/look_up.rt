@@ -9,7 +9,7 @@ ghost use Rattle.std.specs.String.{string_bytes};
 ghost use Rattle.std.proofs.Common.{ap, sym};
 ghost use Rattle.indexmap.specs.IndexSet.{index_of_by};
 
-use elsa_once::stable::{HasTarget, Own};
+use elsa_vec::stable::{HasTarget, Own};
 use indexmap::IndexSet;
 use std::alloc::Allocator;
 use std::hash::{BuildHasher, Hash};

@@ -3,7 +3,7 @@ ghost use Rattle.std.specs.Prelude.{◌≡◌, ◌++◌, ◌∷◌, []};
 
 use crate::index_map::FrozenIndexMapIn;
 use elsa_maps::map::MapForm;
-use elsa_once::stable::StableDeref;
+use elsa_vec::stable::StableDeref;
 use indexmap::IndexMap;
 use std::alloc::{AllocError, Allocator};
 use std::hash::{BuildHasher, Hash};

@@ -6,7 +6,7 @@ use Rattle.std.specs.String.{string_bytes}
 use Rattle.std.specs.declared.string.String.{String}
 use Rattle.std.specs.declared.sync.Arc.{Arc}
 use Rattle.std.specs.Arc.{arc_value}
-use Rattle.elsa_model.specs.FirstWins.{value_at, IsInserted}
+use Rattle.elsa_words.specs.FirstWins.{value_at, IsInserted}
 
 -- the entries, each with the value that its `Arc` shares
 abbrev pub shown : {K V Z : Type 0} → List (K × Arc V Z) → List (K × V)

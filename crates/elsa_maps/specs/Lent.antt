@@ -2,7 +2,7 @@
 use Rattle.std.specs.Prelude.{List}
 use Rattle.std.specs.Borrow.{Fml, RattleType, MutBor, Lends}
 use Rattle.std.specs.declared.alloc.Allocator as alloc
-use Rattle.elsa_once.specs.declared.stable.HasTarget as target
+use Rattle.elsa_vec.specs.declared.stable.HasTarget as target
 use Rattle.elsa_tables.specs.declared.table.Table as table
 use Rattle.elsa_maps.specs.contracts.map.frozen.Frozen.{the_row}
 

@@ -1,9 +1,9 @@
 -- The runs of an index map.
 use Rattle.std.proofs.Common.{◌≡◌, ℕ, Bool, List, Some, append-nil, length}
 use Rattle.std.specs.Cmp.{IsEquivalence}
-use Rattle.elsa_model.specs.FirstWins.{value_at}
-use Rattle.elsa_model.specs.Insertions.{place_of, InsertedNew}
-use Rattle.elsa_model.specs.Replay.{Answered}
+use Rattle.elsa_words.specs.FirstWins.{value_at}
+use Rattle.elsa_words.specs.Insertions.{place_of, InsertedNew}
+use Rattle.elsa_words.specs.Replay.{Answered}
 use Rattle.elsa_run.specs.Runs.{InsertionAnswers, changed, epoch_from, held, Added}
 use Rattle.elsa_run.specs.IndexRun.{Answers, IndexRunsTo, Step, change}
 use Rattle.elsa_run.specs.declared.run_index.IndexCommand.{IndexCommand}

@@ -1,7 +1,7 @@
 -- Which replies the commands of `run_index` may get, and which epoch follows each of them.
 use Rattle.std.specs.Prelude.{◌≡◌, ◌↔◌, ℕ, Bool, List, [], length, Some, IsTrue}
-use Rattle.elsa_model.specs.FirstWins.{value_at}
-use Rattle.elsa_model.specs.Insertions.{place_of}
+use Rattle.elsa_words.specs.FirstWins.{value_at}
+use Rattle.elsa_words.specs.Insertions.{place_of}
 use Rattle.elsa_run.specs.Runs.{Change, held, InsertionAnswers, RunsTo, StepsTo, Kept, Added, Replaced}
 use Rattle.elsa_run.specs.declared.run_index.IndexCommand.{IndexCommand}
 use Rattle.elsa_run.specs.declared.run_index.IndexCommand.TheVariants.{Insert, InsertFull, InsertNew, InsertFullNew, Get, IndexOf, IsEmpty, Rebase}

@@ -1,7 +1,7 @@
 -- Which replies the commands of `run_map` may get, and which epoch follows each of them. A map has no order: what it holds is seen through the list
 -- of the base and of the first accepted insertion of each further key, by the value at each key and the number of entries.
 use Rattle.std.specs.Prelude.{◌≡◌, ◌+◌, ◌↔◌, ◌⊎◌, Bool, true, false, IsTrue, List, length, None, Some}
-use Rattle.elsa_model.specs.FirstWins.{Adds, SameAt, value_at}
+use Rattle.elsa_words.specs.FirstWins.{Adds, SameAt, value_at}
 use Rattle.elsa_run.specs.Runs.{Change, held, RunsTo, Kept, Added, Replaced}
 use Rattle.elsa_run.specs.declared.run_map.MapCommand.{MapCommand}
 use Rattle.elsa_run.specs.declared.run_map.MapCommand.TheVariants.{Insert, InsertNew, Get, Len, IsEmpty, Rebase}

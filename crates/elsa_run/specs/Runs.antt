@@ -1,7 +1,7 @@
 -- Whole runs of calls. What is held is never carried from call to call: it is read back from what the epoch began with and
 -- from all its accepted insertions.
 use Rattle.std.specs.Prelude.{◌≡◌, ◌⊎◌, ℕ, Bool, true, false, List, [], ◌∷◌, ◌++◌, map, Option, None, Some}
-use Rattle.elsa_model.specs.Insertions.{first_of_each}
+use Rattle.elsa_words.specs.Insertions.{first_of_each}
 
 -- An epoch: the content that it began with, and its accepted insertions as they were answered, in order.
 pub record Epoch (X : Type 0) : Type 0 where

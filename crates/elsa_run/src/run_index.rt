@@ -6,8 +6,8 @@ ghost use Rattle.std.specs.Prelude.{◌≡◌, IfOk, OnErr, length};
 ghost use Rattle.elsa_run.specs.IndexRun.{IndexRunsTo};
 
 use elsa_index::index_map::FrozenIndexMapIn;
-use elsa_model::{Call, run};
-use elsa_once::stable::StableDeref;
+use elsa_vec::stable::StableDeref;
+use elsa_words::{Call, run};
 use indexmap::IndexMap;
 use std::alloc::{AllocError, Allocator};
 use std::hash::{BuildHasher, Hash};

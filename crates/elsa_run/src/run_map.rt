@@ -6,8 +6,8 @@ ghost use Rattle.std.specs.Prelude.{◌≡◌, IfOk, OnErr, length};
 ghost use Rattle.elsa_run.specs.MapRun.{MapRunsTo};
 
 use elsa_maps::map::MapForm;
-use elsa_model::{Call, for_its_clause, run};
-use elsa_once::stable::StableDeref;
+use elsa_vec::stable::StableDeref;
+use elsa_words::{Call, for_its_clause, run};
 use std::alloc::{AllocError, Allocator};
 
 /// A call on a map, where `M` is the inner map.

@@ -7,8 +7,8 @@ ghost use Rattle.elsa_run.specs.SetRun.{SetRunsTo};
 
 use elsa_index::index_set::FrozenIndexSetIn;
 use elsa_index::look_up::LookUp;
-use elsa_model::{Call, run};
-use elsa_once::stable::StableDeref;
+use elsa_vec::stable::StableDeref;
+use elsa_words::{Call, run};
 use indexmap::IndexSet;
 use std::alloc::{AllocError, Allocator};
 use std::hash::{BuildHasher, Hash};

@@ -4,9 +4,9 @@
 ghost use Rattle.std.specs.Prelude.{◌≡◌, IfOk, OnErr, length, map};
 ghost use Rattle.elsa_run.specs.VecRun.{VecRunsTo};
 
-use elsa_model::{Call, run};
-use elsa_once::stable::StableDeref;
-use elsa_once::vec::FrozenVecIn;
+use elsa_vec::stable::StableDeref;
+use elsa_vec::vec::FrozenVecIn;
+use elsa_words::{Call, run};
 use std::alloc::{AllocError, Allocator};
 
 /// A call on a vector, where `M` is the inner vector.

@@ -8,7 +8,7 @@ ghost use Rattle.elsa_serde.specs.Read.{InTurn};
 use crate::ReadFault;
 use crate::items::ReadItem;
 use elsa_maps::map::MapForm;
-use elsa_once::stable::StableDeref;
+use elsa_vec::stable::StableDeref;
 use serde::{Deserialize, DeserializeOwned, Deserializer, Format};
 use std::alloc::Global;
 

@@ -1,15 +1,15 @@
 //! Values as serde reads them, for a vector or a set.
 ghost use Rattle.std.specs.Prelude.{◌≡◌, ◌≢◌, ◌≤◌, ◌-◌, ℕ, Err, None, IfErr, OnErr, OnOk, length, position};
 ghost use Rattle.elsa_serde.specs.declared.fault.ReadFault.TheVariants.{Duplicate, TooMany};
-ghost use Rattle.elsa_once.specs.Vec.{GainsAll};
+ghost use Rattle.elsa_vec.specs.Vec.{GainsAll};
 ghost use Rattle.elsa_serde.specs.Loaded.{AddsValue, ValuesStop};
 ghost use Rattle.elsa_serde.specs.Read.{InTurn};
 
 use crate::ReadFault;
 use elsa_index::index_set::FrozenIndexSetIn;
 use elsa_index::look_up::LookUp;
-use elsa_once::stable::{Own, StableDeref};
-use elsa_once::vec::FrozenVecIn;
+use elsa_vec::stable::{Own, StableDeref};
+use elsa_vec::vec::FrozenVecIn;
 use serde::{Deserialize, DeserializeOwned, Deserializer, Format};
 use std::alloc::{AllocError, Allocator, Global};
 use std::hash::{BuildHasher, Hash};

@@ -7,7 +7,7 @@ ghost use Rattle.std.specs.Map.Iter.{ShowsInOrder, deref};
 
 use crate::FrozenKeys;
 use bumpalo::Bump;
-use elsa_once::stable::KeepsText;
+use elsa_vec::stable::KeepsText;
 use std::alloc::{AllocError, AllocFailed, Allocator, Global};
 use std::collections::HashSet;
 use std::collections::hash_set::Iter;

@@ -8,7 +8,7 @@ ghost use Rattle.std.specs.Map.Iter.{ShowsInOrder, ShowsInReverse, deref};
 
 use crate::FrozenKeys;
 use bumpalo::Bump;
-use elsa_once::stable::KeepsText;
+use elsa_vec::stable::KeepsText;
 use std::alloc::{AllocError, AllocFailed, Allocator, Global};
 use std::collections::BTreeSet;
 use std::collections::btree_set::{Iter, Range};

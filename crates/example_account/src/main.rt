@@ -9,7 +9,7 @@
 #![tactic(auto)]
 
 ghost use Rattle.std.specs.Prelude.{◌≡◌, ◌++◌, ℕ, IfOk, IfSome};
-ghost use Rattle.elsa_model.specs.Replay.{Replays};
+ghost use Rattle.elsa_words.specs.Replay.{Replays};
 ghost use Rattle.example_account.specs.Account.{AccountStep};
 
 mod account;
@@ -98,5 +98,8 @@ fn tell(rt: &impl Print, name: &str, day: &Entries<Account>) -> io::Result<()> {
             refused = refused.wrapping_add(1);
         }
     }
-    println!(rt; "the {name} day: {} calls, {refused} of them refused", day.len())
+    println!(rt;
+        "the {name} day: {} calls, {refused} of them refused",
+        day.len()
+    )
 }

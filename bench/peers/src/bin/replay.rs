@@ -1,4 +1,4 @@
-//! Answers a script of calls by upstream's collections, one line a call: what `crates/elsa_replay` must answer too.
+//! Answers a script of calls by upstream's collections, one line a call: what `crates/test_replay` must answer too.
 //! A line is `FORM CALL WORD..`; a text is one word. `tools/make_replay` writes the script and stores the answers.
 use elsa::index_map::FrozenIndexMap;
 use elsa::index_set::FrozenIndexSet;

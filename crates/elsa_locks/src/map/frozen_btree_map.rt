@@ -4,7 +4,7 @@ ghost use Rattle.std.specs.BTreeMap.Range.{IsLeBy, IsLtBy};
 ghost use Rattle.std.specs.List.Sorted.{IsStrictlySortedBy};
 ghost use Rattle.std.specs.Map.{keys_of};
 ghost use Rattle.std.specs.Iterator.{IsFinite};
-ghost use Rattle.elsa_model.specs.FirstWins.{CloneIsEqual};
+ghost use Rattle.elsa_words.specs.FirstWins.{CloneIsEqual};
 
 use super::{Locked, TreeState};
 use std::alloc::{AllocError, Allocator, Global};

@@ -2,7 +2,7 @@
 ghost use Rattle.std.specs.Prelude.{IfOk};
 ghost use Rattle.std.specs.List.{IsDistinct};
 ghost use Rattle.std.specs.Map.{keys_of};
-ghost use Rattle.elsa_model.specs.FirstWins.{CloneIsEqual};
+ghost use Rattle.elsa_words.specs.FirstWins.{CloneIsEqual};
 
 use super::{Locked, MapState};
 use std::alloc::{AllocError, Allocator, Global};

@@ -7,13 +7,13 @@ ghost use Rattle.std.specs.List.{AllZip};
 ghost use Rattle.std.specs.List.Sorted.{IsStrictlySortedBy};
 ghost use Rattle.std.specs.Map.{keys_of};
 ghost use Rattle.std.specs.Ordering.{eq_by_cmp};
-ghost use Rattle.elsa_model.specs.FirstWins.{value_at, IsSameContent, IsEqualMap, IsCollected, IsKeys, CloneIsEqual};
+ghost use Rattle.elsa_words.specs.FirstWins.{value_at, IsSameContent, IsEqualMap, IsCollected, IsKeys, CloneIsEqual};
 ghost use Rattle.elsa_locks.specs.Shared.{shown};
 ghost use Rattle.elsa_locks.specs.Walks.{VisitsAll, IsCopyOf};
 
 use super::State;
 use super::walks::{copied_entry, visit};
-use elsa_model::for_its_clause;
+use elsa_words::for_its_clause;
 use std::alloc::{AllocError, Allocator, Global};
 use std::collections::BTreeMap;
 use std::ops::RangeBounds;

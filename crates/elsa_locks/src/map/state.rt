@@ -5,7 +5,7 @@ ghost use Rattle.std.specs.Arc.{arc_value};
 ghost use Rattle.std.specs.Fn.{FnOnceReturnsAt, FnOnceTakesAt};
 ghost use Rattle.std.specs.List.{IsDistinct};
 ghost use Rattle.std.specs.Map.{keys_of};
-ghost use Rattle.elsa_model.specs.FirstWins.{value_at};
+ghost use Rattle.elsa_words.specs.FirstWins.{value_at};
 ghost use Rattle.elsa_locks.specs.Shared.{shown, Leaves};
 
 use elsa_tables::{Put, Table};

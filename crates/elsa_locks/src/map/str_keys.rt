@@ -3,7 +3,7 @@ ghost use Rattle.std.specs.Prelude.{◌≡◌, true, is_some, IfOk, OnErr};
 ghost use Rattle.std.specs.Option.{option_map};
 ghost use Rattle.std.specs.Arc.{arc_value};
 ghost use Rattle.std.specs.Ordering.{eq_by_cmp};
-ghost use Rattle.elsa_model.specs.FirstWins.{value_at};
+ghost use Rattle.elsa_words.specs.FirstWins.{value_at};
 ghost use Rattle.elsa_locks.specs.Shared.{shown};
 
 use super::{Locked, State};

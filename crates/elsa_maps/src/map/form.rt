@@ -6,8 +6,8 @@ ghost use Rattle.std.specs.Map.{keys_of};
 ghost use Rattle.elsa_maps.specs.FirstWins.{AddsNew, IsRefused, value_at};
 
 use super::Frozen;
-use elsa_once::stable::StableDeref;
 use elsa_tables::Table;
+use elsa_vec::stable::StableDeref;
 use std::alloc::{AllocError, Allocator};
 
 /// A map in which the first value of a key stays, however it finds its keys.

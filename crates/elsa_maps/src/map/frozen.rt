@@ -8,8 +8,8 @@ ghost use Rattle.elsa_maps.specs.FirstWins.{AddsNew, IsRefused, value_at};
 ghost use Rattle.elsa_maps.specs.InsertFault.{IfCause};
 ghost use Rattle.elsa_maps.specs.Lent.{lends_table};
 
-use elsa_once::stable::StableDeref;
 use elsa_tables::{IntoPairs, Refusal, Table, insert_with};
+use elsa_vec::stable::StableDeref;
 use std::alloc::{AllocError, Allocator, Global};
 use std::fmt::{self, Debug, Formatter, Write};
 use std::marker::{Model, PhantomData};

@@ -7,12 +7,12 @@ ghost use Rattle.std.specs.Map.Iter.{ShowsInOrder, deref, deref_pair};
 ghost use Rattle.std.specs.Str.{bytes_eq};
 ghost use Rattle.std.specs.String.{string_bytes};
 ghost use Rattle.elsa_maps.specs.FirstWins.{AddsNew, HoldsLast, IsRefused, SameAt, entry_at, same_values, value_at};
-ghost use Rattle.elsa_model.proofs.MapEquality.{same_values_equivalence, same_values_laws};
-ghost use Rattle.elsa_model.specs.FirstWins.{IsEqualMap};
+ghost use Rattle.elsa_words.proofs.MapEquality.{same_values_equivalence, same_values_laws};
+ghost use Rattle.elsa_words.specs.FirstWins.{IsEqualMap};
 
 use super::Frozen;
 use bumpalo::Bump;
-use elsa_once::stable::{KeepsText, StableDeref};
+use elsa_vec::stable::{KeepsText, StableDeref};
 use std::alloc::{AllocError, Allocator, Global};
 use std::collections::HashMap;
 use std::collections::hash_map::{Iter, Keys, Values};

@@ -5,8 +5,8 @@ ghost use Rattle.std.specs.Prelude.{◌≡◌, ◌+◌, ◌⊎◌, ◌↔◌, Al
 ghost use Rattle.elsa_maps.specs.FirstWins.{Inserts, Keeps, SameAt, value_at};
 
 use super::MapForm;
-use elsa_model::for_its_clause;
-use elsa_once::stable::StableDeref;
+use elsa_vec::stable::StableDeref;
+use elsa_words::for_its_clause;
 use std::alloc::AllocError;
 
 /// An insertion, accepted or refused, keeps the value of every key that has one; the key has the returned value

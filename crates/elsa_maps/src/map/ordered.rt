@@ -10,13 +10,13 @@ ghost use Rattle.std.specs.Ordering.{eq_by_cmp, nat_cmp};
 ghost use Rattle.std.specs.Cmp.Lexicographic.{slice_cmp};
 ghost use Rattle.std.specs.String.{string_bytes};
 ghost use Rattle.elsa_maps.specs.FirstWins.{AddsNew, HoldsLast, IsRefused, SameAt, same_values, value_at};
-ghost use Rattle.elsa_model.proofs.MapEquality.{same_values_equivalence, same_values_laws};
-ghost use Rattle.elsa_model.specs.FirstWins.{IsEqualMap};
+ghost use Rattle.elsa_words.proofs.MapEquality.{same_values_equivalence, same_values_laws};
+ghost use Rattle.elsa_words.specs.FirstWins.{IsEqualMap};
 
 use super::Frozen;
 use bumpalo::Bump;
-use elsa_model::for_its_clause;
-use elsa_once::stable::{KeepsText, StableDeref};
+use elsa_vec::stable::{KeepsText, StableDeref};
+use elsa_words::for_its_clause;
 use std::alloc::{AllocError, Allocator, Global};
 use std::collections::BTreeMap;
 use std::collections::btree_map::{Iter, Keys, Range, Values};

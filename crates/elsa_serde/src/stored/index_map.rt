@@ -3,7 +3,7 @@ ghost use Rattle.serde.specs.Event.{WritesMap};
 
 use super::{Stored, write_entry};
 use elsa_index::index_map::FrozenIndexMapIn;
-use elsa_once::stable::StableDeref;
+use elsa_vec::stable::StableDeref;
 use serde::{Described, Serialize, Serializer};
 use std::alloc::Allocator;
 use std::hash::{BuildHasher, Hash};

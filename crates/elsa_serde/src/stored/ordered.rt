@@ -3,7 +3,7 @@ ghost use Rattle.serde.specs.Event.{WritesMap};
 
 use super::{Stored, write_entry};
 use elsa_maps::map::FrozenBTreeMapIn;
-use elsa_once::stable::StableDeref;
+use elsa_vec::stable::StableDeref;
 use serde::{Described, Serialize, Serializer};
 use std::alloc::Allocator;
 

@@ -2,8 +2,8 @@
 ghost use Rattle.serde.specs.Event.{WritesSeq};
 
 use super::Stored;
-use elsa_once::stable::StableDeref;
-use elsa_once::vec::FrozenVecIn;
+use elsa_vec::stable::StableDeref;
+use elsa_vec::vec::FrozenVecIn;
 use serde::{Described, Serialize, Serializer};
 use std::alloc::Allocator;
 

@@ -1,6 +1,6 @@
 use Rattle.std.proofs.Common.{rules, arith, ◌≡◌, ℕ, ◌+◌, ◌≤◌, ◌∙◌, List, [], ◌∷◌, ◌++◌, All, length, ap, subst, sym}
 use Rattle.std.proofs.lemmas.List.Elements.{All-push}
-use Rattle.elsa_free.specs.declared.event.Entry.{Entry}
+use Rattle.elsa_lock_free.specs.declared.event.Entry.{Entry}
 use Rattle.elsa.specs.declared.shared.Done.{Done}
 use Rattle.elsa.specs.Workers.{Each, IsPromiseOf, IsWorkOf}
 use Rattle.elsa.proofs.Passes.{continues_more, prefix_within}

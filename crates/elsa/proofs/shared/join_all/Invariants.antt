@@ -1,6 +1,6 @@
 use Rattle.std.proofs.Common.{◌≡◌, ℕ, ◌+◌, ◌<◌, ◌≤◌, All, get_or, length, vec_capacity, vec_len}
 use Rattle.std.specs.Vec.Iter.{into_iter_items, into_iter_len}
-use Rattle.elsa_free.specs.SharedList.{Continues}
+use Rattle.elsa_lock_free.specs.SharedList.{Continues}
 use Rattle.elsa.specs.Workers.{Each, IsPromiseOf, IsWorkOf}
 use Rattle.elsa.proofs.shared.join_all.Given as goal
 

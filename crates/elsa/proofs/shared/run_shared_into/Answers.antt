@@ -1,8 +1,8 @@
 use Rattle.std.proofs.Common.{◌≡◌, ℕ, ◌∙◌, List, ap, map, subst, sym}
 use mathlib.Core.List.{IsPrefix}
 use Rattle.std.specs.Prelude.{Option}
-use Rattle.elsa_free.specs.declared.event.Entry.{Entry}
-use Rattle.elsa_free.specs.SharedList.{View}
+use Rattle.elsa_lock_free.specs.declared.event.Entry.{Entry}
+use Rattle.elsa_lock_free.specs.SharedList.{View}
 use Rattle.elsa.specs.declared.shared.Done.{Done}
 use Rattle.elsa.specs.declared.shared.SharedFault.{SharedFault}
 use Rattle.elsa.specs.Workers.{HaveWorked, pushed_by}

@@ -2,8 +2,8 @@ use Rattle.std.proofs.Common.{rules, ◌≡◌, ℕ, ◌+◌, ◌∙◌, List, A
 use Rattle.std.specs.Vec.Iter.{into_iter_items}
 use Rattle.std.proofs.lemmas.Grind.{common_steps}
 use Rattle.std.proofs.lemmas.List.Elements.{All-cons}
-use Rattle.elsa_free.specs.declared.event.Entry.{Entry}
-use Rattle.elsa_free.specs.SharedList.{View}
+use Rattle.elsa_lock_free.specs.declared.event.Entry.{Entry}
+use Rattle.elsa_lock_free.specs.SharedList.{View}
 use Rattle.elsa.specs.declared.shared.Done.{Done}
 use Rattle.elsa.specs.Workers.{pushed_by}
 use Rattle.elsa.proofs.Passes.{first_is_longer, same_view}

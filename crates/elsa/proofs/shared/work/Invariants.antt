@@ -1,5 +1,5 @@
 use Rattle.std.proofs.Common.{◌≡◌, ◌*◌}
-use Rattle.elsa_free.specs.SharedList.{IsSamePass}
+use Rattle.elsa_lock_free.specs.SharedList.{IsSamePass}
 use Rattle.elsa.specs.Workers.{numbers, pushed_by}
 use Rattle.elsa.proofs.shared.work.Given as goal
 

@@ -1,5 +1,5 @@
-use Rattle.elsa_model.specs.Insertions.{Grows}
-use Rattle.elsa_model.proofs.Growing.{AreFound}
+use Rattle.elsa_words.specs.Insertions.{Grows}
+use Rattle.elsa_words.proofs.Growing.{AreFound}
 use Rattle.elsa_index.proofs.index_laws.set_is_new_once.Given as goal
 
 abbrev pub invariant-loop-value : goal.invariant-loop-value

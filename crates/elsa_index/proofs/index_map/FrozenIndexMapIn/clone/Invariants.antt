@@ -1,5 +1,5 @@
 use Rattle.std.proofs.Common.{take}
-use Rattle.elsa_model.specs.Insertions.{IsCloneOf}
+use Rattle.elsa_words.specs.Insertions.{IsCloneOf}
 use Rattle.elsa_index.proofs.index_map.FrozenIndexMapIn.clone.Given as goal
 
 abbrev pub invariant-loop-i : goal.invariant-loop-i

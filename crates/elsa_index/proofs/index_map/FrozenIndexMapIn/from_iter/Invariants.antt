@@ -1,4 +1,4 @@
-use Rattle.elsa_model.specs.Insertions.{CollectsTargets}
+use Rattle.elsa_words.specs.Insertions.{CollectsTargets}
 use Rattle.elsa_index.proofs.index_map.FrozenIndexMapIn.from_iter.Given as goal
 
 abbrev pub invariant-loop-pair : goal.invariant-loop-pair

@@ -3,7 +3,7 @@ use Rattle.std.proofs.lemmas.Iterator.{items_from_drains}
 use Rattle.std.proofs.lemmas.Iterator.Adapters.{YieldsList-from_vec}
 use Rattle.std.proofs.lemmas.Result.{on_ok_weaker}
 use Rattle.std.specs.Vec.Iter.{into_iter_steps}
-use Rattle.elsa_once.specs.Vec.{GainsAll}
+use Rattle.elsa_vec.specs.Vec.{GainsAll}
 use Rattle.std.proofs.lemmas.List.{map-id}
 use Rattle.elsa_serde.proofs.items.Items.push_into.Goals as goal
 

@@ -1,8 +1,8 @@
 use Rattle.std.proofs.Common.{rules, arith, ◌≡◌, ℕ, ◌∙◌, List, [], ◌∷◌, ◌++◌, length, ap, subst, sym}
 use Rattle.core.specs.declared.thread.PromisedHandle.{PromisedHandle}
-use Rattle.elsa_free.specs.declared.event.Entry.{Entry}
+use Rattle.elsa_lock_free.specs.declared.event.Entry.{Entry}
 use mathlib.Core.List.{IsPrefix}
-use Rattle.elsa_free.specs.SharedList.{Vector, View}
+use Rattle.elsa_lock_free.specs.SharedList.{Vector, View}
 use Rattle.elsa.specs.declared.shared.Done.{Done}
 use Rattle.elsa.specs.declared.shared.WorkOf.{WorkOf}
 use Rattle.elsa.specs.Workers.{Each, IsPromiseOf, IsWorkOf, pushed_by}

@@ -1,7 +1,7 @@
 use Rattle.std.proofs.Common.{◌≡◌, Bool, List, [], ◌∷◌, ◌++◌, Some, refl, if◌then◌else◌}
 use Rattle.std.proofs.lemmas.List.{reverse-append}
 use Rattle.std.specs.Cmp.{IsEquivalence, eq_by_cmp_equiv}
-use Rattle.elsa_model.specs.FirstWins.{value_at, IsCollected}
+use Rattle.elsa_words.specs.FirstWins.{value_at, IsCollected}
 use Rattle.elsa_locks.proofs.map.ordered_state.State+K+V+BTreeMap+K+Arc+V+A+A+A.from_iter.Goals as goal
 
 -- where a pair is put at its key over what was collected, that is what is collected with this pair behind the others

@@ -1,4 +1,0 @@
-use Rattle.elsa_cell_tests.proofs.includes.+load.Given as goal
-
-abbrev pub decreases-load : goal.decreases-load
-decreases-load l = l.left

@@ -1,4 +1,0 @@
-use Rattle.elsa_free.proofs.pass.Pass.meet.Goals as goal
-
-pub returns-clause-apart : goal.returns-clause-apart
-returns-clause-apart g c = rw (c.replace.ensures.after, c.replace-2.ensures.after) c.met-one.ensures.apart

@@ -1,6 +1,0 @@
-use Rattle.std.proofs.Common.{◌≡◌}
-use Rattle.elsa_free_tests.proofs.pass_tests.reads_until.Given as goal
-
--- the pass stays one of this vector
-abbrev pub invariant-loop-turn : goal.invariant-loop-turn
-invariant-loop-turn l = l.pass.vector ≡ l.vector

@@ -1,0 +1,113 @@
+-- The places of an author, in a list that grows.
+use Rattle.std.proofs.Common.{◌≡◌, ◌≢◌, ◌⊎◌, inl, inr, slice_index_or, ℕ, zero, suc, ◌+◌, ◌<◌, ◌≤◌, ◌==◌, Bool, true, false, List, [], ◌∷◌, ◌++◌, length, if◌then◌else◌, refl, ap, sym, ◌∙◌, arith, length-append, append_assoc}
+use Rattle.std.proofs.lemmas.List.{append-nil}
+use Rattle.std.proofs.lemmas.Bool.Decides.{nat_tests}
+use mathlib.Core.List.{IsPrefix}
+use Rattle.elsa_lock_free.specs.declared.event.Entry.{Entry}
+use Rattle.elsa_lock_free.specs.SharedList.{Apart, Appends, AppendsAll, authored, bit, count, places_from, run}
+use Rattle.elsa_lock_free.proofs.RuleLemmas.History.{count_append}
+use Rattle.elsa_lock_free.proofs.RuleLemmas.HoldEnd.{extended_count, published_count}
+
+no_bit : (b : Bool) → bit b ≡ 0 → b ≡ false
+no_bit true e = absurd (omega arith)
+no_bit false e = refl
+
+module _ {T : Type 0} where
+  pub places_append : (a i : ℕ) (es ds : List (Entry T)) → places_from a i (es ++ ds) ≡ places_from a i es ++ places_from a (i + length es) ds
+  places_append a i [] ds = ap (λ (k : ℕ). places_from a k ds) (let z : i ≡ i + 0 = omega arith in z)
+  places_append a i (e ∷ es) ds =
+      let here : List ℕ = if e.author == a then i ∷ [] else [] in
+      let k : suc i + length es ≡ i + suc (length es) = omega arith in
+      ap (λ (l : List ℕ). here ++ l) (places_append a (suc i) es ds ∙ ap (λ (n : ℕ). places_from a (suc i) es ++ places_from a n ds) k)
+      ∙ sym (append_assoc here (places_from a (suc i) es) (places_from a (i + suc (length es)) ds))
+
+  -- an author without entries has no places
+  pub no_places : (a i : ℕ) (es : List (Entry T)) → count a es ≡ 0 → places_from a i es ≡ []
+  no_places a i [] none = refl
+  no_places a i (e ∷ es) none =
+      let f : (e.author == a) ≡ false = no_bit (e.author == a) (omega arith) in
+      rw f (no_places a (suc i) es (omega arith))
+
+  -- where an author has no more entries in a longer list, its places are the same
+  pub same_places : (a : ℕ) (es fs : List (Entry T)) → IsPrefix es fs → count a fs ≡ count a es → places_from a 0 fs ≡ places_from a 0 es
+  same_places a es fs pre same =
+      let ds : List (Entry T) = pre.0 in
+      let c : count a es + count a ds ≡ count a fs = sym (count_append a es ds) ∙ ap (count a) pre.1 in
+      let none : places_from a (0 + length es) ds ≡ [] = no_places a (0 + length es) ds (omega (arith, c, same)) in
+      ap (places_from a 0) (sym pre.1) ∙ (places_append a 0 es ds ∙ (ap (λ (l : List ℕ). places_from a 0 es ++ l) none ∙ append-nil (places_from a 0 es)))
+
+  -- an entry of its own at the end is one place more
+  pub one_place_more : (a : ℕ) (es : List (Entry T)) (e : Entry T) → e.author ≡ a → places_from a 0 (es ++ e ∷ []) ≡ places_from a 0 es ++ length es ∷ []
+  one_place_more a es e mine =
+      let is : (e.author == a) ≡ true = grind (arith, nat_tests) in
+      let k : 0 + length es ≡ length es = omega arith in
+      places_append a 0 es (e ∷ []) ∙ rw (is, k) refl
+
+  prefix_count : (a : ℕ) (es fs : List (Entry T)) → IsPrefix es fs → count a es ≤ count a fs
+  prefix_count a es fs p = let h = count_append a es p.0 in let e = ap (count a) p.1 in omega (arith, h, e)
+
+  -- a read of the length leaves an author's places
+  pub read_places : (a n : ℕ) (es fs : List (Entry T)) → IsPrefix es fs → count a es ≡ n → count a fs ≤ n → (count a fs ≡ n) × (places_from a 0 fs ≡ places_from a 0 es)
+  read_places a n es fs p was few = let more = prefix_count a es fs p in let same : count a fs ≡ n = omega (arith, was, few, more) in (same, same_places a es fs p (same ∙ sym was))
+
+  -- a push adds one
+  pub push_places : (a n i : ℕ) (es fs : List (Entry T)) (e : Entry T) → Appends es fs i e → e.author ≡ a → count a es ≡ n → count a fs ≡ suc n → places_from a 0 fs ≡ places_from a 0 es ++ i ∷ []
+  push_places a n i es fs e (before, pre, at, is) mine was now =
+      let b : suc (count a before) ≡ count a fs = sym (published_count a before e mine) ∙ ap (count a) (sym is) in
+      ap (places_from a 0) is ∙ (one_place_more a before e mine ∙ (ap (λ (l : List ℕ). l ++ length before ∷ []) (same_places a es before pre (omega (arith, b, was, now))) ∙ ap (λ (k : ℕ). places_from a 0 es ++ k ∷ []) at))
+
+  -- all places of an author's entries
+  all_places : (a i : ℕ) (cs : List T) → places_from a i (authored a cs) ≡ run i (length cs)
+  all_places a i [] = refl
+  all_places a i (c ∷ cs) = let is : (a == a) ≡ true = grind (arith, nat_tests) in rw is (ap (λ (l : List ℕ). i ∷ l) (all_places a (suc i) cs))
+
+  -- many entries of its own at the end are as many places more
+  pub extend_places : (a n i : ℕ) (es fs : List (Entry T)) (cs : List T) → AppendsAll es fs i (authored a cs) → count a es ≡ n → count a fs ≡ n + length cs → places_from a 0 fs ≡ places_from a 0 es ++ run i (length cs)
+  extend_places a n i es fs cs (before, pre, at, is) was now =
+      let b : count a before + length cs ≡ count a fs = sym (extended_count a before cs) ∙ ap (count a) (sym is) in
+      let k : 0 + length before ≡ i = omega (arith, at) in
+      ap (places_from a 0) is ∙ (places_append a 0 before (authored a cs) ∙ (ap (λ (l : List ℕ). l ++ places_from a (0 + length before) (authored a cs)) (same_places a es before pre (omega (arith, b, was, now))) ∙ (ap (λ (j : ℕ). places_from a 0 es ++ places_from a j (authored a cs)) k ∙ ap (λ (l : List ℕ). places_from a 0 es ++ l) (all_places a i cs))))
+
+  -- what was appended is at the end
+  pub appended_end : (es fs : List (Entry T)) (i : ℕ) (e : Entry T) → Appends es fs i e → length fs ≡ i + 1
+  appended_end es fs i e (before, pre, at, is) = ap length is ∙ (length-append before (e ∷ []) ∙ ap (λ (k : ℕ). k + 1) at)
+
+-- a number in a list, by the list's own form
+In : ℕ → List ℕ → Type 0
+In n [] = ⊥
+In n (x ∷ xs) = (x ≡ n) ⊎ In n xs
+
+inside : (xs : List ℕ) (n k : ℕ) → k < length xs → slice_index_or xs k n ≡ n → In n xs
+unfolding In
+inside [] n k low is = absurd (omega arith)
+inside (x ∷ xs) n zero low is = inl is
+inside (x ∷ xs) n (suc k) low is = inr (inside xs n k (omega arith) is)
+
+module _ {T : Type 0} where
+  split : (a i n : ℕ) (es : List (Entry T)) (b : Bool) → (In n (places_from a (suc i) es) → suc i ≤ n) → In n ((if b then i ∷ [] else []) ++ places_from a (suc i) es) → i ≤ n
+  unfolding In
+  split a i n es true more at = elim at [ inl e ↦ omega (arith, e) | inr h ↦ (let m = more h in omega (arith, m)) ]
+  split a i n es false more at = let m = more at in omega (arith, m)
+
+  -- an author's place is where the list begins, or later
+  later : (a i n : ℕ) (es : List (Entry T)) → In n (places_from a i es) → i ≤ n
+  unfolding In
+  later a i n [] at = absurd at
+  later a i n (e ∷ es) at = split a i n es (e.author == a) (λ h. later a (suc i) n es h) at
+
+  -- two authors have no place in common
+  both : (a b i n : ℕ) (es : List (Entry T)) (p q : Bool) → (p ≡ true → q ≡ true → ⊥) → (In n (places_from a (suc i) es) → In n (places_from b (suc i) es) → ⊥)
+      → In n ((if p then i ∷ [] else []) ++ places_from a (suc i) es) → In n ((if q then i ∷ [] else []) ++ places_from b (suc i) es) → ⊥
+  unfolding In
+  both a b i n es true true differ rest x y = differ refl refl
+  both a b i n es true false differ rest x y = elim x [ inl e ↦ (let m = later b (suc i) n es y in absurd (omega (arith, e, m))) | inr h ↦ rest h y ]
+  both a b i n es false true differ rest x y = elim y [ inl e ↦ (let m = later a (suc i) n es x in absurd (omega (arith, e, m))) | inr h ↦ rest x h ]
+  both a b i n es false false differ rest x y = rest x y
+
+  apart_from : (a b i n : ℕ) (es : List (Entry T)) → a ≢ b → In n (places_from a i es) → In n (places_from b i es) → ⊥
+  unfolding In
+  apart_from a b i n [] differ x y = x
+  apart_from a b i n (e ∷ es) differ x y = both a b i n es (e.author == a) (e.author == b) (λ p q. let z : e.author ≡ a = grind (arith, nat_tests, p) in let w : e.author ≡ b = grind (arith, nat_tests, q) in differ (sym z ∙ w)) (apart_from a b (suc i) n es differ) x y
+
+  pub apart_places : (a b : ℕ) (es : List (Entry T)) → a ≢ b → Apart (places_from a 0 es) (places_from b 0 es)
+  apart_places a b es differ n x y = apart_from a b 0 n es differ (inside (places_from a 0 es) n x.0 x.1 x.2) (inside (places_from b 0 es) n y.0 y.1 y.2)

@@ -1,0 +1,44 @@
+-- The one word of a vector, and what each of its atomic steps tells the thread that makes it.
+-- The word is that of the atomic steps: twice the length of the shared list, and one more while a thread holds.
+use Rattle.std.specs.Prelude.{ℕ, ◌≡◌, ◌<◌, ◌^◌, ◌==◌, true, false, List, [], ◌∷◌, ◌++◌, length, MatchBool, Some}
+use mathlib.Core.List.{IsPrefix}
+use Rattle.logbook.specs.Pages.{Cell, Step, View, Book, Named}
+use Rattle.elsa_lock_free.specs.declared.event.Event.{Event}
+use Rattle.elsa_machine.specs.AtomicSteps as steps
+use Rattle.elsa_lock_free.specs.Distinct.{EachIsNew}
+use Rattle.elsa_lock_free.specs.History.{list_of, is_held, shared_by}
+use Rattle.elsa_lock_free.specs.SharedList.{items_of}
+
+-- the vector's word is the first of its book
+abbrev pub word_in : Book → Named
+word_in b = record { tracked = true; key = 0; book = b }
+
+module _ {T : Type 0} where
+  -- the word that a history leaves
+  abbrev pub word_of : List (Event T) → ℕ
+  word_of log = steps.word_of (shared_by log)
+
+  -- the rule: the word says how long the list is and whether a thread holds, and a second word that nobody uses stays 0. Each
+  -- item of the list was new to those before it, by the vector's rule for items
+  pub record IsKept (is_new : List T → T → Type 0) (cells : List Cell) (log : List (Event T)) : Type 0 where
+    pub words : cells ≡ (word_of log, true) ∷ (0, true) ∷ []
+    pub small : length (list_of log) < 2 ^ 62
+    pub each_is_new : EachIsNew is_new (items_of (list_of log))
+
+  -- a read of the word: the history so far was seen
+  abbrev pub Sees : Step (Event T) → View (Event T) (List (Event T)) → ℕ → View (Event T) (List (Event T)) → Type 0
+  Sees s v found w = word_of w.0 ≡ found
+
+  -- and the read has its result
+  abbrev pub Reads : Step (Event T) → View (Event T) (List (Event T)) → ℕ → View (Event T) (List (Event T)) → Type 0
+  Reads s v found w = (word_of w.0 ≡ found) × (w.1.1 ≡ Some w.0) × (length (list_of w.0) < 2 ^ 62)
+
+  -- where the word was as expected, this thread holds; else nothing is known but the history
+  abbrev pub Acquires : Step (Event T) → View (Event T) (List (Event T)) → ℕ → View (Event T) (List (Event T)) → Type 0
+  Acquires s v found w = MatchBool (found == s.old)
+      ((log : List (Event T)) × (w.0 ≡ log ++ s.ask ∷ []) × (w.1.1 ≡ Some log) × (word_of log ≡ found) × (is_held log ≡ false) × (length (list_of log) < 2 ^ 62))
+      (word_of w.0 ≡ found)
+
+  -- the event was added to the history that was there, if the word was as expected
+  abbrev pub Ends : Step (Event T) → View (Event T) (List (Event T)) → ℕ → View (Event T) (List (Event T)) → Type 0
+  Ends s v found w = (log : List (Event T)) × IsPrefix v.0 log × (word_of log ≡ found) × (w.1.1 ≡ Some log) × MatchBool (found == s.old) (w.0 ≡ log ++ s.ask ∷ []) (w.0 ≡ log)

@@ -1,0 +1,98 @@
+-- The list that all threads of a vector share: entries of an author and an item, which only grows at its end.
+-- A pass has seen a beginning of it. There is no buffer, no lock, no pointer and no word of memory in it.
+use Rattle.std.specs.Prelude.{ℕ, zero, suc, ◌≡◌, ◌+◌, ◌<◌, ◌≤◌, ◌==◌, List, [], ◌∷◌, ◌++◌, length, map, if◌then◌else◌, Contains, nat_le}
+use mathlib.Core.List.{IsPrefix}
+use Rattle.logbook.specs.Pages.{Book}
+pub use Rattle.elsa_machine.specs.AtomicSteps.{bit}
+use Rattle.elsa_machine.specs.Geometry.{slots_before}
+use Rattle.elsa_lock_free.specs.declared.event.Entry.{Entry}
+
+-- which vector a pass is of
+abbrev pub Vector : Type 0
+Vector = Book × List ℕ
+
+module _ {T : Type 0} where
+  -- the item of an entry
+  abbrev pub item_of : Entry T → T
+  item_of e = e.item
+
+  -- the items of a list, without their authors
+  abbrev pub items_of : List (Entry T) → List T
+  items_of es = map item_of es
+
+  -- an author's entry
+  abbrev pub entry : ℕ → T → Entry T
+  entry author item = record { author = author; item = item }
+
+  -- an author's entries for these items
+  abbrev pub authored : ℕ → List T → List (Entry T)
+  authored author [] = []
+  authored author (x ∷ xs) = entry author x ∷ authored author xs
+
+  -- items that have no author, as those of a clone: the number of an author is above 0
+  abbrev pub copied : List T → List (Entry T)
+  copied xs = authored 0 xs
+
+  -- the places of an author's entries in a list that begins at place `first`, rising
+  abbrev pub places_from : ℕ → ℕ → List (Entry T) → List ℕ
+  places_from author first [] = []
+  places_from author first (e ∷ es) = (if e.author == author then first ∷ [] else []) ++ places_from author (suc first) es
+
+  -- how many entries are of this author
+  abbrev pub count : ℕ → List (Entry T) → ℕ
+  count author [] = 0
+  count author (e ∷ es) = bit (e.author == author) + count author es
+
+  -- the list was longer by some entries or none, and then the one given was put at this place, its end
+  abbrev pub Appends : List (Entry T) → List (Entry T) → ℕ → Entry T → Type 0
+  Appends old new place e = (before : List (Entry T)) × IsPrefix old before × (length before ≡ place) × (new ≡ before ++ e ∷ [])
+
+  -- the list was longer by some entries or none, and then these were put behind it, the first at this place, its end
+  abbrev pub AppendsAll : List (Entry T) → List (Entry T) → ℕ → List (Entry T) → Type 0
+  AppendsAll old new place es = (before : List (Entry T)) × IsPrefix old before × (length before ≡ place) × (new ≡ before ++ es)
+
+-- so many places side by side, from this one on
+abbrev pub run : ℕ → ℕ → List ℕ
+run place zero = []
+run place (suc n) = place ∷ run (suc place) n
+
+-- what a pass is: the vector, the number of the author that it pushes as, and the beginning of the list that it has seen
+pub record View (T : Type 0) : Type 0 where
+  pub vector : Vector
+  pub author : ℕ
+  pub seen : List (Entry T)
+
+module _ {T : Type 0} where
+  -- the places of what the pass has seen at which it pushed
+  abbrev pub mine : View T → List ℕ
+  mine pass = places_from pass.author 0 pass.seen
+
+  -- the same pass, later
+  abbrev pub IsSamePass : View T → View T → Type 0
+  IsSamePass before after = (after.vector ≡ before.vector) × (after.author ≡ before.author)
+
+  -- the same pass later, which has seen as much or more, and whose own places are as before
+  abbrev pub Continues : View T → View T → Type 0
+  Continues before after = IsSamePass before after × IsPrefix before.seen after.seen × (mine after ≡ mine before)
+
+  -- the same pass later: it has pushed these items, and they stand side by side from this place on, behind all that came before
+  pub record PushedAll (before after : View T) (place : ℕ) (items : List T) : Type 0 where
+    pub same : IsSamePass before after
+    pub stand : AppendsAll before.seen after.seen place (authored before.author items)
+    pub places : mine after ≡ mine before ++ run place (length items)
+
+  -- the longer of two lists, the first where they are as long
+  abbrev pub longer : List (Entry T) → List (Entry T) → List (Entry T)
+  longer xs ys = if nat_le (length ys) (length xs) then xs else ys
+
+-- the lists have no number in common
+abbrev pub Apart : List ℕ → List ℕ → Type 0
+Apart xs ys = (n : ℕ) → Contains xs n → Contains ys n → ⊥
+
+-- at this length a new buffer begins, or the list is full
+abbrev pub BeginsABuffer : ℕ → Type 0
+BeginsABuffer place = (buffer : ℕ) × (buffer ≤ 31) × (place ≡ slots_before buffer)
+
+-- at this place or at one of those behind it, so many in all, a new buffer begins, or the list is full
+abbrev pub BeginsAmong : ℕ → ℕ → Type 0
+BeginsAmong place n = (at : ℕ) × BeginsABuffer at × (place ≤ at) × (at < place + n)

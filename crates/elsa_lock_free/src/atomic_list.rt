@@ -1,0 +1,193 @@
+//! What the threads of a vector share: its slots and its one word.
+//!
+//! The word is twice the length, and one more while a thread holds. A read of the length is one load. A push acquires the
+//! word by one exchange, opens a buffer or not, writes the slot of the length, and publishes by a second exchange, which releases
+//! too: these steps are in `push`, and those of many pushes under one hold in `extend`. How a list begins, with nothing or with a
+//! copy, is in `begin`.
+ghost use Rattle.std.specs.Prelude.{◌≡◌, ◌^◌, ◌<◌, ◌≤◌, [], ◌∷◌, drop, length, Some, slice_get};
+ghost use lib.Pointwise.{pointwise};
+ghost use mathlib.Core.List.{IsPrefix};
+ghost use Rattle.elsa_lock_free.specs.Distinct.{EachIsNew};
+ghost use Rattle.elsa_lock_free.specs.SharedList.{items_of};
+ghost use Rattle.elsa_lock_free.specs.declared.event.Event.TheVariants.{OfferOf};
+ghost use Rattle.elsa_lock_free.specs.History.{list_of};
+ghost use Rattle.elsa_lock_free.specs.Rights.{buffer_slots_of};
+ghost use Rattle.elsa_lock_free.specs.SeenHistory.{IsOf};
+ghost use Rattle.elsa_lock_free.specs.OneWord.{word_in, word_of};
+ghost use Rattle.crossbeam_utils.specs.Padded.{padded_value};
+
+mod begin;
+mod extend;
+mod push;
+
+use crate::event::Event;
+use crate::item_rule::ItemRule;
+use crate::rule::{Log, Nothing, OneWord, PlainRead, ReadGain, ReadLength};
+use crate::tokens::{Author, offer_read};
+use crossbeam_utils::CachePadded;
+use elsa_machine::geometry::locate;
+use elsa_slots::iter::{Iter, walk, walk_from};
+use elsa_slots::slots::{Beside, Buffer, Slots, WrittenPrefix};
+use logbook::{Gained, Offer, Seen, Word};
+use std::alloc::{AllocError, Allocator};
+
+/// What is known of a vector's history.
+pub type SeenHistory<T, A, K, X> = Seen<Event<T>, Log<T>, OneWord<Buffer<T, A, X>, K>>;
+
+/// What a push leaves: what is known of the history, its author, the length after it, and its result.
+pub type Pushed<T, A, K, R> = (
+    SeenHistory<T, A, K, ()>,
+    Author,
+    usize,
+    Result<R, AllocError>,
+);
+
+/// The slots, the word, and what is known of every history of it: that it begins.
+///
+/// The word has cache lines of its own: a pusher changes it all the time, and each read needs the slots. A processor that fetches lines
+/// in pairs takes both of a pair from the readers, so the word is padded twice: 128 bytes lie between it and anything else.
+#[derive(Drop)]
+pub struct AtomicList<T, A: Allocator, K: ItemRule<T>, X: Beside<T> = ()> {
+    pub(crate) slots: Slots<T, A, X>,
+    word: CachePadded<CachePadded<Word<Event<T>, Log<T>, OneWord<Buffer<T, A, X>, K>>>>,
+    pub(crate) first: SeenHistory<T, A, K, X>,
+    ghost word_is: { padded_value (padded_value word) ≡ word_in first.book },
+    ghost buffer_slots_are: { buffer_slots_of first.names ≡ slots },
+    ghost all: { length slots ≡ 31 },
+    ghost empty: { first.log ≡ [] },
+}
+
+/// What holds of a history that was seen: each item of its list was new to those before it, and the list is below the limit. It
+/// does nothing when it runs.
+pub fn obeys_rule<T, A: Allocator, K: ItemRule<T>, X: Beside<T>>(seen: &SeenHistory<T, A, K, X>)
+    ensures new { EachIsNew K.is_new (items_of (list_of seen.now.log)) }
+    ensures limit { length (list_of seen.now.log) < 2 ^ 62 }
+{
+    let mut known = seen.again();
+    known.learn(seen);
+    drop(known);
+}
+
+impl<T: Drop, A: Allocator + Copy, K: ItemRule<T>, X: Beside<T> + Drop> AtomicList<T, A, K, X> {
+    /// The word, by a load that exchanges nothing with the rule.
+    fn load(&self, seen: &mut SeenHistory<T, A, K, X>) -> u64
+        requires { seen.old.book ≡ self.now.first.book }
+        ensures same { IsOf seen.new seen.old }
+        ensures seen { IsPrefix seen.old.log seen.new.log }
+        ensures word { result ≡ word_of seen.new.log }
+    {
+        let mut offer: Offer<Event<T>, Log<T>, OneWord<Buffer<T, A, X>, K>, Nothing> = seen.plain::<
+            Nothing,
+            (),
+            PlainRead,
+        >(&());
+        self.word.load::<PlainRead, Nothing>(seen, &mut offer)
+    }
+
+    /// One item of what is known to be written. It takes no atomic step.
+    pub fn item<'a>(&'a self, prefix: &WrittenPrefix<T, Buffer<T, A, X>>, place: usize) -> &'a T
+        requires prefix { prefix.now.buffer_slots ≡ buffer_slots_of self.now.first.names }
+        requires place { (place < length prefix.now.items) × (length prefix.now.items < 2 ^ 62) }
+        ensures { slice_get prefix.now.items place ≡ Some result.now }
+    {
+        let (buffer, slot) = locate(place);
+        let (opened, item) = prefix.at(place, buffer, slot);
+        let answer = self.slots.get(buffer, slot, &opened, &item);
+        opened.discard();
+        item.discard();
+        answer
+    }
+
+    /// What lies beside the slot of a place that is known to be written. It takes no atomic step.
+    pub fn beside<'a>(&'a self, prefix: &WrittenPrefix<T, Buffer<T, A, X>>, place: usize) -> &'a X
+        requires prefix { prefix.now.buffer_slots ≡ buffer_slots_of self.now.first.names }
+        requires place { (place < length prefix.now.items) × (length prefix.now.items < 2 ^ 62) }
+        ensures { (item : T) → slice_get prefix.now.items place ≡ Some item → X.fits result.now item }
+    {
+        let (buffer, slot) = locate(place);
+        let (opened, item) = prefix.at(place, buffer, slot);
+        let answer = self.slots.beside(buffer, &opened);
+        opened.discard();
+        item.discard();
+        answer
+    }
+
+    /// The length of the list, by one load, with the evidence for all of it.
+    pub fn read_length(
+        &self,
+        seen: SeenHistory<T, A, K, X>,
+        author: Author,
+    ) -> (
+        usize,
+        SeenHistory<T, A, K, X>,
+        Gained<Event<T>, Log<T>, ReadGain<Buffer<T, A, X>>>,
+    )
+        requires { IsOf seen self.now.first }
+        ensures same { IsOf result.1 seen }
+        ensures seen { IsPrefix seen.log result.1.log }
+        ensures gained { (result.2.names ≡ seen.names)
+            × (result.2.about ≡ OfferOf author.name author.used ∷ [])
+            × (result.2.answer ≡ result.1.log) }
+        ensures length { (result.0 ≡ length (list_of result.1.log)) × (result.0 < 2 ^ 62) }
+    {
+        let mut seen = seen;
+        let mut offer = offer_read(&seen, author);
+        let found = self
+            .word
+            .load::<ReadLength, ReadGain<Buffer<T, A, X>>>(&mut seen, &mut offer);
+        (found as usize / 2, seen, offer.into_gain())
+    }
+}
+
+impl<T: Copy + Drop, A: Allocator + Copy, K: ItemRule<T>> AtomicList<T, A, K> {
+    /// A walk over the items that are known to be written. It takes no atomic step.
+    pub fn items<'a>(&'a self, prefix: WrittenPrefix<T, Buffer<T, A>>, len: usize) -> Iter<'a, T, A>
+        requires prefix { prefix.buffer_slots ≡ buffer_slots_of self.now.first.names }
+        requires len { (len ≡ length prefix.items) × (len < 2 ^ 62) }
+        ensures { result ≡ prefix.items }
+    {
+        walk(&self.slots, prefix, len)
+    }
+
+    /// A walk over the items from a place on that are known to be written. It takes no atomic step.
+    pub fn items_from<'a>(
+        &'a self,
+        prefix: WrittenPrefix<T, Buffer<T, A>>,
+        len: usize,
+        place: usize,
+    ) -> Iter<'a, T, A>
+        requires prefix { prefix.buffer_slots ≡ buffer_slots_of self.now.first.names }
+        requires len { (len ≡ length prefix.items) × (len < 2 ^ 62) }
+        requires place { place ≤ len }
+        ensures { result ≡ drop place prefix.items }
+    {
+        walk_from(&self.slots, prefix, len, place)
+    }
+}
+
+impl<T: Copy + Drop + PartialEq, A: Allocator + Copy, K: ItemRule<T>> AtomicList<T, A, K> {
+    /// Whether what is known to be written in this vector and in another are `n` equal items each, one by one.
+    pub fn has_items_of<L: ItemRule<T>>(
+        &self,
+        prefix: &WrittenPrefix<T, Buffer<T, A>>,
+        other: &AtomicList<T, A, L>,
+        other_prefix: &WrittenPrefix<T, Buffer<T, A>>,
+        n: usize,
+    ) -> bool
+        requires prefix { (prefix.now.buffer_slots ≡ buffer_slots_of self.now.first.names)
+            × (other_prefix.now.buffer_slots ≡ buffer_slots_of other.now.first.names) }
+        requires n { (n ≡ length prefix.now.items) × (n ≡ length other_prefix.now.items)
+            × (n < 2 ^ 62) }
+        ensures { result ≡ pointwise T.eq prefix.now.items other_prefix.now.items }
+    {
+        let mut equal = true;
+        let mut place = 0;
+        while equal && place < n {
+            let item = self.item(prefix, place);
+            let other_item = other.item(other_prefix, place);
+            equal = *item == *other_item;
+            place += 1;
+        }
+        equal
+    }
+}

@@ -1,0 +1,190 @@
+//! Many pushes under one hold: acquire the word, write the slots from the length on, publish them at once.
+ghost use Rattle.std.specs.Prelude.{◌≡◌, true, false, ◌+◌, ◌^◌, ◌<◌, ◌≤◌, ◌∷◌, ◌++◌, [], length, List, None, suc, take};
+ghost use Rattle.elsa_slots.specs.Ahead.{GoesOn};
+ghost use Rattle.elsa_lock_free.specs.SharedList.{AppendsAll, BeginsAmong, authored, count};
+ghost use Rattle.elsa_lock_free.specs.declared.event.Event.TheVariants.{Acquired, Extended, OfferOf};
+ghost use Rattle.elsa_lock_free.specs.History.{added, author_of, entries, is_held, list_of, used_of};
+ghost use Rattle.elsa_lock_free.specs.Rights.{head, buffer_slots_of};
+ghost use Rattle.elsa_lock_free.specs.SeenHistory.{IsOf};
+
+use super::push::LIMIT;
+use super::{AtomicList, SeenHistory};
+use crate::event::Event;
+use crate::item_rule::ItemRule;
+use crate::rule::{AcquireGain, EndHold, ExtendGain, Log, OneWord};
+use crate::tokens::{
+    Author, Held, evidence, offer_extend_closed, offer_extend_open, take_acquired_closed,
+    take_acquired_open, take_extended,
+};
+use elsa_machine::geometry::locate;
+use elsa_slots::slots::{Ahead, Buffer, WriteRights};
+use logbook::{Gained, Offer};
+use std::alloc::Allocator;
+use std::sync::Wait;
+
+/// What many pushes leave: what is known of the history, its author, the place of the first item, and how many were pushed.
+pub type Extension<T, A, K> = (SeenHistory<T, A, K, ()>, Author, usize, usize);
+
+/// What an acquire at the length `n` gained: the hold, and what it takes to append there.
+fn take_acquired<T, A: Allocator>(
+    right: Gained<Event<T>, Log<T>, AcquireGain<Buffer<T, A>>>,
+    n: usize,
+) -> (Held, Ahead<T, A>)
+    requires { (n ≡ length (list_of right.answer)) × (n < 2 ^ 62) }
+    ensures held { (result.0.name ≡ head right.names)
+        × (result.0.added ≡ added (right.answer ++ Acquired ∷ [])) }
+    ensures ahead { GoesOn (buffer_slots_of right.names) n
+        result.1.opened result.1.slots.of result.1.further.of }
+{
+    let (buffer, slot) = if n < LIMIT { locate(n) } else { (31, 0) };
+    if slot == 0 {
+        let (held, further) = take_acquired_closed(right, buffer);
+        let ahead = Ahead {
+            opened: None,
+            slots: WriteRights::none(),
+            further,
+        };
+        return (held, ahead);
+    }
+    let (held, opened, slots, further) = take_acquired_open(right, buffer, slot);
+    let ahead = Ahead {
+        opened: Some(opened),
+        slots,
+        further,
+    };
+    (held, ahead)
+}
+
+impl<T: Copy + Drop, A: Allocator + Copy, K: ItemRule<T>> AtomicList<T, A, K> {
+    /// Ends the hold at the length `n`, by an offer of `pushed` items.
+    fn publish_all(
+        &self,
+        seen: SeenHistory<T, A, K, ()>,
+        offer: Offer<Event<T>, Log<T>, OneWord<Buffer<T, A>, K>, ExtendGain<Buffer<T, A>>>,
+        n: usize,
+        pushed: usize,
+    ) -> (SeenHistory<T, A, K, ()>, Author)
+        // The holder's history, and its length.
+        requires of { IsOf seen self.now.first × (is_held seen.log ≡ true) }
+        requires n { (n ≡ length (list_of seen.log)) × (n + pushed < 2 ^ 62) }
+
+        // The offer of these items, by an author who has no fewer tickets than entries.
+        requires offer { (offer.names ≡ seen.names) × (offer.state ≡ None) }
+        requires about { offer.about
+            ≡ OfferOf (author_of offer.about) (used_of offer.about) ∷ offer.ask ∷ seen.log }
+        requires ask { (xs : List T) × (offer.ask ≡ Extended (suc (author_of offer.about)) xs)
+            × (pushed ≡ length xs) }
+        requires mine { used_of offer.about
+            ≤ count (suc (author_of offer.about)) (list_of seen.log) }
+        requires new { (xs : List T) (x : T) → K.is_new xs x }
+
+        // The word is free, the list has these entries more, and the author as many tickets fewer.
+        ensures free { is_held result.0.log ≡ false }
+        ensures same { IsOf result.0 seen × (result.1.name ≡ author_of offer.about)
+            × (result.1.used ≡ used_of offer.about + pushed) }
+        ensures seen { list_of result.0.log ≡ list_of seen.log ++ entries offer.ask }
+        ensures mine { count (suc (author_of offer.about)) (list_of seen.log)
+            ≡ used_of offer.about }
+    {
+        let mut seen = seen;
+        let mut offer = offer;
+        let mut pen = seen.no_pen();
+        let word = 2 * n as u64;
+        self.word
+            .compare_exchange::<EndHold, ExtendGain<Buffer<T, A>>>(
+                word + 1,
+                word + 2 * pushed as u64,
+                &mut seen,
+                &mut offer,
+                &mut pen,
+            );
+        (seen, take_extended(offer.into_gain()))
+    }
+
+    /// Appends items, and releases the word that was acquired at the length `n`. Returns how many were pushed: all, or none if an
+    /// allocation failed.
+    fn append_all(
+        &self,
+        seen: SeenHistory<T, A, K, ()>,
+        right: Gained<Event<T>, Log<T>, AcquireGain<Buffer<T, A>>>,
+        author: Author,
+        n: usize,
+        items: &[T],
+    ) -> (SeenHistory<T, A, K, ()>, Author, usize)
+        requires of { IsOf seen self.now.first }
+        requires right { (right.names ≡ seen.names) × (seen.log ≡ right.answer ++ Acquired ∷ []) }
+        requires length { (n ≡ length (list_of right.answer)) × (n < 2 ^ 62) }
+        requires mine { author.used ≤ count (suc author.name) (list_of seen.log) }
+        requires new { (xs : List T) (x : T) → K.is_new xs x }
+
+        // The word is free, and the author's entries are its own.
+        ensures free { is_held result.0.log ≡ false }
+        ensures same { IsOf result.0 seen × (result.1.name ≡ author.name) }
+        ensures mine { (count (suc author.name) (list_of seen.log) ≡ author.used)
+            × (result.1.used ≡ author.used + result.2) }
+
+        // The items that were pushed are at the end: all, or none.
+        ensures pushed { list_of result.0.log
+            ≡ list_of seen.log ++ authored (suc author.name) (take result.2 items.now) }
+        ensures count { (result.2 ≤ length items.now) × (n + result.2 < 2 ^ 62) }
+        ensures refused { result.2 < length items.now → (result.2 ≡ 0)
+            × BeginsAmong n (length items.now) }
+    {
+        let mut prefix = evidence(&seen);
+        let (held, ahead) = take_acquired(right, n);
+        let (ahead, pushed) = self.slots.append(ahead, n, items, &mut prefix);
+        let Ahead {
+            opened,
+            slots,
+            further,
+        } = ahead;
+        match opened {
+            Some(opened) => {
+                let offer = offer_extend_open(&seen, held, prefix, opened, slots, further, author);
+                let (seen, author) = self.publish_all(seen, offer, n, pushed);
+                (seen, author, pushed)
+            }
+            None => {
+                slots.discard();
+                let offer = offer_extend_closed(&seen, held, prefix, further, author);
+                let (seen, author) = self.publish_all(seen, offer, n, pushed);
+                (seen, author, pushed)
+            }
+        }
+    }
+
+    /// Pushes items side by side under one hold, tried first at the length `guess`, and publishes them at once. Returns the place of
+    /// the first, and how many were pushed: all, or none if an allocation failed.
+    pub fn extend<R: Wait>(
+        &self,
+        rt: &R,
+        seen: SeenHistory<T, A, K, ()>,
+        author: Author,
+        guess: usize,
+        items: &[T],
+    ) -> Extension<T, A, K>
+        requires of { IsOf seen self.now.first }
+        requires mine { count (suc author.name) (list_of seen.log) ≡ author.used }
+        requires guess { guess < 2 ^ 62 }
+        requires new { (xs : List T) (x : T) → K.is_new xs x }
+
+        // The word is free, and the author's entries are its own.
+        ensures free { is_held result.0.log ≡ false }
+        ensures same { IsOf result.0 seen × (result.1.name ≡ author.name) }
+        ensures mine { (count (suc author.name) (list_of result.0.log) ≡ result.1.used)
+            × (result.1.used ≡ author.used + result.3) }
+
+        // The items that were pushed are at the end: all, or none.
+        ensures pushed { AppendsAll (list_of seen.log) (list_of result.0.log) result.2
+            (authored (suc author.name) (take result.3 items.now)) }
+        ensures count { (result.3 ≤ length items.now) × (result.2 + result.3 < 2 ^ 62) }
+        ensures length { length (list_of result.0.log) ≡ result.2 + result.3 }
+        ensures refused { result.3 < length items.now → (result.3 ≡ 0)
+            × BeginsAmong result.2 (length items.now) }
+    {
+        let mut seen = seen;
+        let (n, right) = self.acquire(rt, &mut seen, guess);
+        let (seen, author, pushed) = self.append_all(seen, right, author, n, items);
+        (seen, author, n, pushed)
+    }
+}

@@ -1,0 +1,58 @@
+//! Which items a vector takes: any, or only those that it doesn't hold yet.
+//!
+//! The rule is part of the vector's type. A vector that takes any item has a plain push; one that takes only new items has
+//! [`push_at_as`](crate::lock_free::LockFreeFrozenVec::push_at_as) alone, which requires that the item is new.
+ghost use Rattle.std.specs.Prelude.{◌≡◌, Bool, List, Some, slice_get, true, ℕ};
+
+/// Which items may come behind a list.
+pub trait ItemRule<T> {
+    /// Whether an item is new to a list, so that it may come behind it.
+    ghost is_new: { List T → T → Type 0 };
+
+    /// Whether no item can be at two places.
+    ghost distinct: { Bool };
+
+    /// Whether no item can be at two places.
+    fn is_distinct() -> bool
+        ensures { result ≡ Self.distinct };
+
+    // Where no item can be at two places, an item that is new to a list isn't in it.
+    ghost apart: { distinct ≡ true → (xs : List T) (i : ℕ) (x : T) →
+        is_new xs x → slice_get xs i ≡ Some x → ⊥ };
+}
+
+/// Any item may come.
+pub struct AnyItems;
+
+impl<T> ItemRule<T> for AnyItems {
+    ghost use Rattle.std.specs.Prelude.{false};
+    ghost use Rattle.elsa_lock_free.specs.Distinct.{one_answer};
+
+    ghost is_new = { λ xs x. Unit {0} };
+
+    ghost distinct = { false };
+
+    ghost apart = { λ is xs i x new at. one_answer is };
+
+    fn is_distinct() -> bool {
+        false
+    }
+}
+
+/// Only an item that is equal to none of the list may come, so that no item is at two places.
+pub struct DistinctItems;
+
+impl<T: Eq> ItemRule<T> for DistinctItems {
+    ghost use Rattle.std.specs.Prelude.{true};
+    ghost use Rattle.elsa_lock_free.specs.Distinct.{IsAbsent, absent_is_nowhere};
+
+    ghost is_new = { λ xs x. IsAbsent T.eq xs x };
+
+    ghost distinct = { true };
+
+    ghost apart = { λ is xs i x new at. absent_is_nowhere T.eq T.Eq.laws.refl xs i x new at };
+
+    fn is_distinct() -> bool {
+        true
+    }
+}

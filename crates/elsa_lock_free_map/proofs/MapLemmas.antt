@@ -1,0 +1,149 @@
+-- What the rule of a map's list says of all that was seen of it.
+use Rattle.std.proofs.Common.{◌≡◌, ℕ, zero, suc, ◌+◌, ◌<◌, ◌≤◌, ◌^◌, Bool, true, List, [], ◌∷◌, ◌++◌, drop, length, take, slice_get, Some, refl, ap, sym, ◌∙◌, subst, arith}
+use Rattle.std.specs.Prelude.{Option, None, IfSome, Result, Ok, Err, OnOk, OnErr}
+use Rattle.std.specs.Option.{is_some}
+use Rattle.std.specs.Borrow.{Bor}
+use Rattle.std.specs.Str.{bytes_eq}
+use mathlib.Core.List.{IsPrefix}
+use Rattle.std.proofs.lemmas.List.{length-map, map-append}
+use Rattle.elsa_index_words.specs.declared.entry.Entry.{Entry}
+use Rattle.elsa_index_words.specs.Entries.{EachIsNew, IsAbsent, IsBehind, key_of, keys_of}
+use Rattle.elsa_index_words.proofs.EntryLemmas.{entry_at}
+use Rattle.elsa_lock_free.specs.Distinct.{AgreeOnPlaces, one_answer}
+use Rattle.elsa_lock_free.specs.SharedList.{entry, item_of, items_of}
+use Rattle.elsa_lock_free.specs.declared.event.Entry.{Entry as Listed}
+use Rattle.elsa_lock_free.proofs.RuleLemmas.EachNew.{agree_on_places, one_to_one}
+use Rattle.elsa_lock_free_map.specs.Entries.{HasAt, Lacks, MayFollow, is_text, pairs_of}
+
+last_at : {A : Type 0} (x : A) (xs : List A) → (y : A) × (slice_get (x ∷ xs) (length xs) ≡ Some y)
+last_at x [] = (x, refl)
+last_at x (z ∷ zs) = last_at z zs
+
+taken : {A : Type 0} (n : ℕ) (xs : List A) → n ≤ length xs → length (take n xs) ≡ n
+taken zero xs h = refl
+taken (suc n) [] h = absurd (omega (arith, h))
+taken (suc n) (x ∷ xs) h = ap suc (taken n xs (omega (arith, h)))
+
+module _ {K V S : Type 0} (equal : K → K → Bool) (hash : S → K → ℕ) where
+  -- each entry is behind those before it
+  pub each_behind : (es : List (Entry K V S)) → EachIsNew (MayFollow equal hash) es → EachIsNew (IsBehind equal hash) es
+  each_behind es rule i e at = (rule i e at).0
+
+  -- and they are fewer than 2 ^ 32
+  pub few : (es : List (Entry K V S)) → EachIsNew (MayFollow equal hash) es → length es < 2 ^ 32
+  few [] rule = omega arith
+  few (e ∷ es) rule =
+      let last = last_at e es in
+      let low = (rule (length es) last.0 last.1).1 in
+      let l = taken (length es) (e ∷ es) (omega arith) in
+      omega (arith, low, l)
+
+-- what a beginning of a list is, is not changed by what comes behind
+take_keys : {K V S : Type 0} (i : ℕ) (es : List (Entry K V S)) → keys_of (take i es) ≡ take i (keys_of es)
+take_keys zero es = refl
+take_keys (suc i) [] = refl
+take_keys (suc i) (e ∷ es) = ap (λ l. e.key ∷ l) (take_keys i es)
+
+-- the key at a place is that of the entry there
+pub key_at : {K V S : Type 0} (es : List (Entry K V S)) (i : ℕ) (e : Entry K V S) → slice_get es i ≡ Some e → slice_get (keys_of es) i ≡ Some e.key
+key_at [] i e at = absurd (cc at)
+key_at (x ∷ es) zero e at = let same : x ≡ e = cc at in ap (λ y. Some y.key) same
+key_at (x ∷ es) (suc i) e at = key_at es i e at
+
+module _ {K V S : Type 0} (equal : K → K → Bool) (hash : S → K → ℕ) where
+  -- each key was absent when it came
+  pub keys_are_new : (es : List (Entry K V S)) → EachIsNew (MayFollow equal hash) es → EachIsNew (IsAbsent equal) (keys_of es)
+  keys_are_new es rule i y at =
+      let here = entry_at es i y at in
+      subst (λ z. IsAbsent equal (take i (keys_of es)) z) here.2 (subst (λ l. IsAbsent equal l here.0.key) (take_keys i es) (rule i here.0 here.1).0.absent)
+
+  -- so a key is at one place
+  module _ (symm : (x y : K) → equal x y ≡ equal y x) (congr : (q x y : K) → equal q x ≡ true → equal q y ≡ equal x y) where
+    pub one_place : (es : List (Entry K V S)) → EachIsNew (MayFollow equal hash) es → (key : K) (i j : ℕ) (x y : Entry K V S) → slice_get es i ≡ Some x → slice_get es j ≡ Some y
+        → equal key x.key ≡ true → equal key y.key ≡ true → i ≡ j
+    one_place es rule key i j x y at_i at_j is_x is_y =
+        one_to_one equal symm (keys_of es) (keys_are_new es rule) i j x.key y.key (key_at es i x at_i) (key_at es j y at_j) (sym (congr key x.key y.key is_x) ∙ is_y)
+
+-- what a beginning of a list has at a place, the list has
+kept_at : {A : Type 0} (xs ys : List A) (i : ℕ) (x : A) → slice_get xs i ≡ Some x → slice_get (xs ++ ys) i ≡ Some x
+kept_at [] ys i x at = absurd (cc at)
+kept_at (y ∷ xs) ys zero x at = at
+kept_at (y ∷ xs) ys (suc i) x at = kept_at xs ys i x at
+
+-- what stands at a place stands there in each longer list
+pub later_at : {A : Type 0} (xs ys : List A) (i : ℕ) (x : A) → IsPrefix xs ys → slice_get xs i ≡ Some x → slice_get ys i ≡ Some x
+later_at {A} xs ys i x p at = subst (λ (l : List A). slice_get l i ≡ Some x) p.1 (kept_at xs p.0 i x at)
+
+keys_prefix : {K V S : Type 0} (xs ys : List (Entry K V S)) → IsPrefix xs ys → IsPrefix (keys_of xs) (keys_of ys)
+keys_prefix xs ys p = (keys_of p.0, sym (map-append key_of xs p.0) ∙ ap keys_of p.1)
+
+-- and what it lacks, its beginnings lack
+pub lacks_before : {Q K V S : Type 0} (equal : Q → K → Bool) (xs ys : List (Entry K V S)) (key : Q) → IsPrefix xs ys → Lacks equal ys key → Lacks equal xs key
+lacks_before equal xs ys key p lacks i y at = lacks i y (later_at (keys_of xs) (keys_of ys) i y (keys_prefix xs ys p) at)
+
+-- the keys of two beginnings of a map's list are at one place each
+pub keys_agree : {K V S : Type 0} (equal : K → K → Bool) (hash : S → K → ℕ) (symm : (x y : K) → equal x y ≡ equal y x) (xs ys zs : List (Entry K V S)) → IsPrefix xs zs → IsPrefix ys zs
+    → EachIsNew (MayFollow equal hash) zs → AgreeOnPlaces equal (keys_of xs) (keys_of ys)
+keys_agree equal hash symm xs ys zs p q rule = agree_on_places equal symm (keys_of xs) (keys_of ys) (keys_of zs) (keys_prefix xs zs p) (keys_prefix ys zs q) (keys_are_new equal hash zs rule)
+
+-- the entry at a place is the first of those from there on
+pub pair_at : {K V S : Type 0} (es : List (Entry K V S)) (i : ℕ) (e : Entry K V S) → slice_get es i ≡ Some e → drop i (pairs_of es) ≡ (e.key, e.value) ∷ drop (suc i) (pairs_of es)
+pair_at [] i e at = absurd (cc at)
+pair_at (x ∷ es) zero e at = let same : x ≡ e = cc at in ap (λ y. (y.key, y.value) ∷ pairs_of es) same
+pair_at (x ∷ es) (suc i) e at = pair_at es i e at
+
+-- what a list has at a place isn't lacking in it
+pub not_lacking : {Q K V S : Type 0} (equal : Q → K → Bool) (es : List (Entry K V S)) (key : Q) (i : ℕ) (e : Entry K V S) → Lacks equal es key → slice_get es i ≡ Some e → equal key e.key ≡ true → ⊥
+not_lacking equal es key i e lacks at is = one_answer (sym (lacks i e.key (key_at es i e at)) ∙ is)
+
+-- the entry that is read at a place where the key was found
+pub stands_at : {Q K V S : Type 0} (equal : Q → K → Bool) (es : List (Entry K V S)) (i : ℕ) (key : Q) (x : Entry K V S)
+    → ((e : Entry K V S) × (slice_get es i ≡ Some e) × (equal key e.key ≡ true)) → slice_get es i ≡ Some x → HasAt equal es i key x.value
+stands_at equal es i key x found here =
+    let both : Some found.0 ≡ Some x = sym found.1 ∙ here in
+    let same : found.0 ≡ x = cc both in
+    (x, here, subst (λ e. equal key e.key ≡ true) same found.2, refl)
+
+last : {A : Type 0} (xs : List A) (x : A) → slice_get (xs ++ x ∷ []) (length xs) ≡ Some x
+last [] x = refl
+last (y ∷ xs) x = last xs x
+
+get_pushed : {A : Type 0} (xs ys : List (Listed A)) (author i : ℕ) (x : A) → length xs ≡ i → ys ≡ xs ++ entry author x ∷ [] → slice_get (items_of ys) i ≡ Some x
+get_pushed {A} xs ys author i x at is =
+    ap (λ (l : List (Listed A)). slice_get (items_of l) i) is ∙ (ap (λ (l : List A). slice_get l i) (map-append item_of xs (entry author x ∷ []))
+    ∙ (ap (λ (k : ℕ). slice_get (items_of xs ++ x ∷ []) k) (sym at ∙ sym (length-map xs item_of)) ∙ last (items_of xs) x))
+
+-- the entry that was pushed behind a list is at the place of its length
+pub pushed_at : {K V S : Type 0} (equal : K → K → Bool) (refl_key : (k : K) → equal k k ≡ true) (before after : List (Listed (Entry K V S))) (author i : ℕ) (key : K) (value : V)
+    → ((e : Entry K V S) × (e.key ≡ key) × (e.value ≡ value) × (i ≡ length before) × (after ≡ before ++ entry author e ∷ [])) → HasAt equal (items_of after) i key value
+pushed_at equal refl_key before after author i key value new =
+    let e = new.0 in
+    (e, get_pushed before after author i e (sym new.3) new.4, subst (λ k. equal key k ≡ true) (sym new.1) (refl_key key), new.2)
+
+-- what a result tells
+pub on_ok : {A E : Type 0} (r : Result A E) (x : A) (P : Type 0) → r ≡ Ok x → OnOk r P → P
+on_ok (Ok y) x P e h = h
+on_ok (Err y) x P e h = absurd (cc e)
+
+-- and what a refusal tells
+pub on_err : {A E : Type 0} (r : Result A E) (x : E) (P : Type 0) → r ≡ Err x → OnErr r P → P
+on_err (Ok y) x P e h = absurd (cc e)
+on_err (Err y) x P e h = h
+
+-- what holds of an item if there is one, where there is one
+pub some_has : {A : Type 0} (o : Option A) (P : A → Type 0) → IfSome o P → is_some o ≡ true → (x : A) × P x
+some_has None P h e = absurd (one_answer e)
+some_has (Some x) P h e = (x, h)
+
+-- and of this one, if it is there
+pub some_at : {A : Type 0} (o : Option A) (x : A) (P : A → Type 0) → o ≡ Some x → IfSome o P → P x
+some_at None x P e h = absurd (cc e)
+some_at (Some y) x P e h = let same : y ≡ x = cc e in subst P same h
+
+-- a borrow of a text is asked for as the text is
+module _ {V S : Type 0} (es : List (Entry (Bor (List ℕ)) V S)) (text : List ℕ) (key : Bor (List ℕ)) (same : key.now ≡ text) where
+  pub text_lacks : Lacks is_text es text → Lacks (λ a b. bytes_eq a.now b.now) es key
+  text_lacks lacks i y at = ap (λ t. bytes_eq t y.now) same ∙ lacks i y at
+
+  pub text_stands : (i : ℕ) (value : V) → HasAt (λ a b. bytes_eq a.now b.now) es i key value → HasAt is_text es i text value
+  text_stands i value h = (h.0, h.1, sym (ap (λ t. bytes_eq t h.0.key.now) same) ∙ h.2, h.3)

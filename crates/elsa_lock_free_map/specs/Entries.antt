@@ -1,0 +1,47 @@
+-- What a map's list holds: entries of a key and a value, each with evidence of the row in which its key was entered.
+use Rattle.std.specs.Prelude.{◌≡◌, ℕ, ◌+◌, ◌*◌, ◌/◌, ◌%◌, ◌^◌, ◌<◌, ◌≤◌, Bool, true, false, List, [], ◌∷◌, ◌++◌, length, map, slice_get, Some}
+use Rattle.std.specs.Borrow.{Bor}
+use Rattle.std.specs.Str.{bytes_eq}
+use Rattle.elsa_index_words.specs.declared.entry.Entry.{Entry}
+use Rattle.elsa_index_words.specs.Entries.{IsAbsent, IsBehind, keys_of}
+use Rattle.elsa_lock_free.specs.SharedList.{View, mine}
+
+-- 32 bits of a hash, of which each depends on all 64
+abbrev pub short : ℕ → ℕ
+short hash = (hash * 11400714819323198485) % 2 ^ 64 / 2 ^ 32
+
+module _ {K V S : Type 0} where
+  -- an entry as a walk gives it: its key and its value
+  abbrev pub pair_of : Entry K V S → K × V
+  pair_of e = (e.key, e.value)
+
+  -- entries as a walk gives them
+  abbrev pub pairs_of : List (Entry K V S) → List (K × V)
+  pairs_of es = map pair_of es
+
+  -- what may come behind a list: an entry whose key is new, and found by its own evidence as all before it are; up to the greatest length
+  abbrev pub MayFollow : (K → K → Bool) → (S → K → ℕ) → List (Entry K V S) → Entry K V S → Type 0
+  MayFollow equal hash es e = IsBehind equal hash es e × (length es + 1 < 2 ^ 32)
+
+  -- by a test for equal keys; or of what stands for keys
+  module _ {Q : Type 0} (equal : Q → K → Bool) where
+    -- an entry of the key, with this value, is at the place
+    abbrev pub HasAt : List (Entry K V S) → ℕ → Q → V → Type 0
+    HasAt es i key value = (e : Entry K V S) × (slice_get es i ≡ Some e) × (equal key e.key ≡ true) × (e.value ≡ value)
+
+    -- it is at some place
+    abbrev pub Has : List (Entry K V S) → Q → V → Type 0
+    Has es key value = (i : ℕ) × HasAt es i key value
+
+    -- no entry has the key
+    abbrev pub Lacks : List (Entry K V S) → Q → Type 0
+    Lacks es key = IsAbsent equal (keys_of es) key
+
+-- a text stands for the borrows of it
+abbrev pub is_text : List ℕ → Bor (List ℕ) → Bool
+is_text text key = bytes_eq text key.now
+
+-- a key was entered at the place: pushed by the pass, behind all that it had seen, or there already
+abbrev pub Came : {T : Type 0} → Bool → View T → View T → ℕ → Type 0
+Came true before after i = (length before.seen ≤ i) × (mine after ≡ mine before ++ i ∷ [])
+Came false before after i = mine after ≡ mine before

@@ -1,6 +1,0 @@
-use Rattle.std.proofs.Common.{◌≡◌}
-use Rattle.elsa_names_tests.proofs.text_tests.numbers.Given as goal
-
--- the pass stays one of this vector
-abbrev pub invariant-loop-i : goal.invariant-loop-i
-invariant-loop-i g l = l.names.vector ≡ l.initial.names.vector

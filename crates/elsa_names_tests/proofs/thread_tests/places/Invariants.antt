@@ -1,6 +1,0 @@
-use Rattle.std.proofs.Common.{◌≡◌}
-use Rattle.elsa_names_tests.proofs.thread_tests.places.Given as goal
-
--- the pass stays one of this vector
-abbrev pub invariant-loop-number : goal.invariant-loop-number
-invariant-loop-number g l = l.names.vector ≡ l.initial.names.vector

@@ -1,6 +1,0 @@
-use Rattle.std.proofs.Common.{◌≡◌}
-use Rattle.elsa_names_tests.proofs.thread_tests.waits_for.Given as goal
-
--- the pass stays one of this vector
-abbrev pub invariant-loop-turn : goal.invariant-loop-turn
-invariant-loop-turn l = l.names.vector ≡ l.initial.names.vector

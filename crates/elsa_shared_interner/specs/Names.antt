@@ -1,0 +1,37 @@
+-- What a short name means: its text; what a pass of an interner has seen; and that a list has an item at a place, or lacks it.
+use Rattle.std.specs.Prelude.{ℕ, ◌≡◌, ◌≤◌, ◌⊎◌, Bool, true, false, List, [], ◌∷◌, ◌++◌, map, take, length, slice_get, Some}
+use Rattle.std.specs.Borrow.{Bor}
+use Rattle.std.specs.List.{list_any}
+use Rattle.elsa_lock_free.specs.SharedList.{View, mine}
+use Rattle.elsa_lock_free.specs.declared.event.Entry.{Entry as Pushed}
+use Rattle.elsa_index_words.specs.declared.entry.Entry.{Entry}
+use Rattle.elsa_shared_interner.specs.declared.name_bytes.Name.{Name}
+
+-- the bytes of a name's text
+abbrev pub text_of : Name → List ℕ
+text_of n = take n.len n.bytes
+
+module _ {T V S : Type 0} where
+  -- an entry of the interner's map as its name, of the same author
+  abbrev pub name_of : Pushed (Entry T V S) → Pushed T
+  name_of e = record { author = e.author; item = e.item.key }
+
+  -- a pass of the interner's map as a pass of names alone
+  abbrev pub names_of : View (Entry T V S) → View T
+  names_of pass = record { vector = pass.vector; author = pass.author; seen = map name_of pass.seen }
+
+-- at this place of the list is an item that is equal to x
+abbrev pub HasAt : {Q T : Type 0} → (Q → T → Bool) → List T → ℕ → Q → Type 0
+HasAt {Q} {T} equal xs i x = (y : T) × (slice_get xs i ≡ Some y) × (equal x y ≡ true)
+
+-- at this place of the list is a borrow of this text
+abbrev pub HasTextAt : List (Bor (List ℕ)) → ℕ → List ℕ → Type 0
+HasTextAt xs i text = (y : Bor (List ℕ)) × (slice_get xs i ≡ Some y) × (y.now ≡ text)
+
+-- no item of the list passes the test
+abbrev pub Lacks : {T : Type 0} → (T → Bool) → List T → Type 0
+Lacks test xs = list_any test xs ≡ false
+
+-- the pass pushed nothing, or one item at this place
+abbrev pub FoundOrPushed : {T : Type 0} → View T → View T → ℕ → Type 0
+FoundOrPushed before after i = (mine after ≡ mine before) ⊎ (mine after ≡ mine before ++ i ∷ [])

@@ -1,0 +1,12 @@
+use Rattle.std.proofs.Common.{◌-◌, length}
+use Rattle.std.specs.declared.cmp.Ordering.TheVariants.{Less, Greater}
+use Rattle.elsa_vec.specs.Search.{SearchedTo}
+use Rattle.elsa_vec.proofs.Narrowing.{Narrowed}
+use Rattle.elsa_vec.proofs.search.binary_search_by.Given as goal
+
+abbrev pub invariant-loop-left : goal.invariant-loop-left
+invariant-loop-left g l =
+    SearchedTo (λ p b r q. goal.F-step g p b r q) l.items l.fn.order l.order (Narrowed Less Greater (length l.items) l.left l.right)
+
+abbrev pub decreases-loop-left : goal.decreases-loop-left
+decreases-loop-left g l = l.right - l.left

@@ -1,0 +1,11 @@
+use Rattle.std.proofs.Common.{◌-◌, true, false, length}
+use Rattle.elsa_vec.specs.Search.{SearchedTo}
+use Rattle.elsa_vec.proofs.Narrowing.{Narrowed}
+use Rattle.elsa_vec.proofs.search.partition_point.Given as goal
+
+abbrev pub invariant-loop-left : goal.invariant-loop-left
+invariant-loop-left g l =
+    SearchedTo (λ p b r q. goal.F-step g p b r q) l.items l.fn.belongs l.belongs (Narrowed true false (length l.items) l.left l.right)
+
+abbrev pub decreases-loop-left : goal.decreases-loop-left
+decreases-loop-left g l = l.right - l.left

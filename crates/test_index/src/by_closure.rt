@@ -1,0 +1,84 @@
+//! Insertions of the index map by a closure: it runs for an absent key alone, its error comes back, and refused memory is told
+//! apart from it.
+use bumpalo::Bump;
+use elsa_index::index_map::FrozenIndexMap;
+use elsa_maps::map::InsertFault;
+use elsa_vec::stable::Own;
+use std::alloc::{AllocError, Global};
+use std::test::Fail;
+use test_alloc::Budget;
+
+// What two insertions under one key return, and how often the closures ran.
+fn made_once(alloc: Global) -> Result<(u64, u64, u32), AllocError> {
+    let arena = Bump::new(alloc);
+    let mut map: FrozenIndexMap<'_, u64, Own<u64>> = FrozenIndexMap::new(alloc, &arena);
+    let mut runs = 0u32;
+    let first = *map.insert_with(7, || {
+        runs = runs.saturating_add(1);
+        Own(1)
+    })?;
+    let second = *map.insert_with(7, || {
+        runs = runs.saturating_add(1);
+        Own(2)
+    })?;
+    Ok((first, second, runs))
+}
+
+// What a closure says that fails, or that makes a value.
+fn five(fails: bool) -> Result<Own<u64>, u8> {
+    if fails {
+        return Err(3);
+    }
+    Ok(Own(5))
+}
+
+// Whether an error of the closure comes back and leaves the map, in which a later value stays.
+fn error_comes_back(alloc: Global) -> bool {
+    let arena = Bump::new(alloc);
+    let mut map: FrozenIndexMap<'_, u64, Own<u64>> = FrozenIndexMap::new(alloc, &arena);
+    let is_refused = matches!(
+        map.try_insert_with(7, || five(true)),
+        Err(InsertFault::Value(3))
+    );
+    let is_left = map.is_empty();
+    let is_kept = matches!(map.try_insert_with(7, || five(false)), Ok(value) if *value == 5);
+    let is_unasked = matches!(map.try_insert_with(7, || five(true)), Ok(value) if *value == 5);
+    is_refused && is_left && is_kept && is_unasked
+}
+
+// Whether a table without memory is told apart from the closure's error, and how often the closure ran.
+fn memory_is_told_apart(alloc: Global) -> (bool, u32) {
+    let heap = Budget::new(alloc);
+    let arena = Bump::new(alloc);
+    let mut map: FrozenIndexMap<'_, u64, Own<u64>, _, _> = FrozenIndexMap::new(&heap, &arena);
+    heap.refuse(heap.asked(), u64::MAX);
+    let mut runs = 0u32;
+    let is_memory = matches!(
+        map.try_insert_with(7, || {
+            runs = runs.saturating_add(1);
+            five(true)
+        }),
+        Err(InsertFault::Memory)
+    );
+    (is_memory && map.is_empty(), runs)
+}
+
+#[test]
+fn a_closure_of_the_index_map_runs_for_an_absent_key_alone(rt: HostRuntime) -> Result<(), Fail> {
+    assert_eq!(rt; made_once(rt.alloc())?, (1, 1, 1));
+    Ok(())
+}
+
+#[test]
+fn the_error_of_a_closure_of_the_index_map_comes_back(rt: HostRuntime) -> Result<(), Fail> {
+    assert!(rt; error_comes_back(rt.alloc()));
+    Ok(())
+}
+
+#[test]
+fn a_closure_of_the_index_map_runs_only_after_the_table_got_memory(
+    rt: HostRuntime,
+) -> Result<(), Fail> {
+    assert_eq!(rt; memory_is_told_apart(rt.alloc()), (true, 0));
+    Ok(())
+}

@@ -1,0 +1,558 @@
+//! Worked rows of the index forms.
+use crate::odd_keys::{Fold, SameHash};
+use bumpalo::Bump;
+use elsa_index::index_laws::{
+    clone_and_part, is_new_once, keeps_earlier_pairs, set_is_new_once, set_keeps_earlier_values,
+};
+use elsa_index::index_map::FrozenIndexMap;
+use elsa_index::index_set::FrozenIndexSet;
+use elsa_maps::map::{FrozenBTreeMap, FrozenMap};
+use elsa_run::run::{run_index, run_set};
+use elsa_run::run_index::{IndexCommand, IndexReply};
+use elsa_run::run_set::{SetCommand, SetReply};
+use elsa_vec::stable::Own;
+use indexmap::{IndexMap, IndexSet};
+use std::alloc::{AllocError, Global};
+use std::hash::{BuildHasherDefault, FoldHasher};
+use std::test::Fail;
+
+// ---- looking up in a map
+
+type Keyed<'a> = FrozenIndexMap<'a, &'a str, &'a str>;
+
+fn at_places<'a>(map: &Keyed<'a>) -> [Option<(&'a str, &'a str)>; 3] {
+    [
+        map.get_index(0),
+        map.get_index(1),
+        map.get_index(usize::MAX),
+    ]
+}
+
+fn full<'a>(map: &Keyed<'a>, key: &'a str) -> Option<(usize, &'a str, &'a str)> {
+    map.get_full(&key)
+}
+
+fn place<'a>(map: &Keyed<'a>, key: &'a str) -> Option<usize> {
+    map.get_index_of(&key)
+}
+
+fn length<'a>(map: &Keyed<'a>, key: &'a str) -> Option<usize> {
+    map.map_get(&key, |value: &str| -> usize { value.len() })
+}
+
+// The value at a key, by indexing, if the key is there.
+fn by_key<'a>(map: &Keyed<'a>, key: &'a str) -> Option<&'a str> {
+    if map.get(&key).is_none() {
+        return None;
+    }
+    Some(map[&key])
+}
+
+#[test]
+fn look_ups_in_a_map(rt: HostRuntime) -> Result<(), Fail> {
+    let arena = Bump::new(rt.alloc());
+    let mut map: Keyed<'_> = FrozenIndexMap::new(rt.alloc(), &arena);
+    let before = map.get_index(usize::MAX);
+    let first = map.insert_full("foo", "a")?;
+    assert!(rt; before.is_none() && first == (0, "a") && by_key(&map, "foo") == Some("a"));
+    assert!(rt; at_places(&map) == [Some(("foo", "a")), None, None]);
+    assert!(rt; [full(&map, "foo"), full(&map, "2")] == [Some((0, "foo", "a")), None]);
+    assert!(rt;
+        [place(&map, "foo"), place(&map, "2"), length(&map, "foo")] == [Some(0), None, Some(1)]
+    );
+    Ok(())
+}
+
+// ---- making a map, and comparing
+
+type Texts<'a> = FrozenIndexMap<'a, u32, &'a str>;
+
+// A map of these pairs.
+fn collected<'a>(
+    alloc: Global,
+    arena: &'a Bump,
+    pairs: &[(u32, &'a str)],
+) -> Result<Texts<'a>, AllocError> {
+    let mut given: Vec<(u32, &'a str)> = Vec::new(alloc);
+    for pair in pairs {
+        given.push(*pair)?;
+    }
+    FrozenIndexMap::from_iter(alloc, arena, BuildHasherDefault::new(), given)
+}
+
+#[test]
+fn collecting_keeps_the_first_place_and_the_last_value(rt: HostRuntime) -> Result<(), Fail> {
+    let arena = Bump::new(rt.alloc());
+    let map = collected(rt.alloc(), &arena, &[(1, "a"), (2, "x"), (1, "b")])?;
+    let pairs = map.into_tuple_vec()?;
+    assert!(rt; pairs.as_slice() == [(1, "b"), (2, "x")].as_slice());
+    Ok(())
+}
+
+#[test]
+fn order_does_not_count(rt: HostRuntime) -> Result<(), Fail> {
+    let arena = Bump::new(rt.alloc());
+    let ab = collected(rt.alloc(), &arena, &[(1, "a"), (2, "b")])?;
+    let ba = collected(rt.alloc(), &arena, &[(2, "b"), (1, "a")])?;
+    let other = collected(rt.alloc(), &arena, &[(1, "a"), (2, "c")])?;
+    assert!(rt; ab == ba && ab != other);
+    assert!(rt; [ab.get_index_of(&1), ba.get_index_of(&1)] == [Some(0), Some(1)]);
+    Ok(())
+}
+
+// The pairs at the first three places of a map.
+fn pairs_of<'a>(map: &Texts<'a>) -> [Option<(u32, &'a str)>; 3] {
+    [map.get_index(0), map.get_index(1), map.get_index(2)]
+}
+
+#[test]
+fn insertions_into_a_clone_leave_its_source(rt: HostRuntime) -> Result<(), Fail> {
+    let arena = Bump::new(rt.alloc());
+    let mut map = collected(rt.alloc(), &arena, &[(1, "a")])?;
+    let copy = clone_and_part(&mut map, (2, "b"), (3, "c"))?;
+    let kept = pairs_of(&FrozenIndexMap::from_map(&arena, copy.into_map()));
+    assert!(rt; kept == [Some((1, "a")), Some((3, "c")), None]);
+    assert!(rt; pairs_of(&map) == [Some((1, "a")), Some((2, "b")), None]);
+    map.as_mut().clear();
+    assert!(rt; map.insert_full(2, "z")? == (0, "z"));
+    Ok(())
+}
+
+// ---- runs
+
+type MapCommand<'a> = IndexCommand<
+    u32,
+    &'a str,
+    IndexMap<u32, &'a str, BuildHasherDefault<FoldHasher>>,
+>;
+
+// The first value of a key stays.
+fn insertions<'a>(alloc: Global) -> Result<Vec<MapCommand<'a>>, AllocError> {
+    Ok(Vec::from_array(
+        alloc,
+        [
+            IndexCommand::IsEmpty,
+            IndexCommand::InsertFull(12, "a"),
+            IndexCommand::InsertFull(12, "b"),
+            IndexCommand::InsertNew(12, "c"),
+            IndexCommand::InsertFullNew(7, "d"),
+            IndexCommand::Insert(7, "e"),
+            IndexCommand::Get(7),
+            IndexCommand::Get(8),
+        ],
+    )?)
+}
+
+fn are_insertions(replies: &[IndexReply<&str>]) -> bool {
+    replies
+        == [
+            IndexReply::Flag(true),
+            IndexReply::Full(0, "a"),
+            IndexReply::Full(0, "a"),
+            IndexReply::New("a", false),
+            IndexReply::FullNew(1, "d", true),
+            IndexReply::Item("d"),
+            IndexReply::Found(Some("d")),
+            IndexReply::Found(None),
+        ]
+        .as_slice()
+}
+
+// An insertion says whether the key was new.
+fn repeats<'a>(alloc: Global) -> Result<Vec<MapCommand<'a>>, AllocError> {
+    Ok(Vec::from_array(
+        alloc,
+        [
+            IndexCommand::InsertFullNew(12, "a"),
+            IndexCommand::InsertFullNew(12, "b"),
+        ],
+    )?)
+}
+
+fn are_repeats(replies: &[IndexReply<&str>]) -> bool {
+    replies
+        == [
+            IndexReply::FullNew(0, "a", true),
+            IndexReply::FullNew(0, "a", false),
+        ]
+        .as_slice()
+}
+
+fn map_commands<'a>(alloc: Global) -> Result<Vec<MapCommand<'a>>, AllocError> {
+    Ok(Vec::from_array(
+        alloc,
+        [
+            IndexCommand::InsertFull(5, "p"),
+            IndexCommand::InsertFull(4, "q"),
+            IndexCommand::InsertFull(5, "r"),
+            IndexCommand::IndexOf(4),
+            IndexCommand::IndexOf(9),
+            IndexCommand::InsertNew(4, "s"),
+            IndexCommand::InsertFullNew(6, "t"),
+            IndexCommand::Insert(6, "u"),
+            IndexCommand::Get(6),
+            IndexCommand::IsEmpty,
+        ],
+    )?)
+}
+
+fn are_of_a_map(replies: &[IndexReply<&str>]) -> bool {
+    replies
+        == [
+            IndexReply::Full(0, "p"),
+            IndexReply::Full(1, "q"),
+            IndexReply::Full(0, "p"),
+            IndexReply::Place(Some(1)),
+            IndexReply::Place(None),
+            IndexReply::New("q", false),
+            IndexReply::FullNew(2, "t", true),
+            IndexReply::Item("t"),
+            IndexReply::Found(Some("t")),
+            IndexReply::Flag(false),
+        ]
+        .as_slice()
+}
+
+fn replies_to<'a>(
+    alloc: Global,
+    arena: &'a Bump,
+    commands: Vec<MapCommand<'a>>,
+) -> Result<Vec<IndexReply<&'a str>>, AllocError> {
+    let mut map: Texts<'a> = FrozenIndexMap::new(alloc, arena);
+    run_index(&mut map, commands)
+}
+
+fn are_rows(alloc: Global, arena: &Bump) -> Result<bool, AllocError> {
+    Ok(
+        are_insertions(replies_to(alloc, arena, insertions(alloc)?)?.as_slice())
+            && are_repeats(replies_to(alloc, arena, repeats(alloc)?)?.as_slice())
+            && are_of_a_map(replies_to(alloc, arena, map_commands(alloc)?)?.as_slice()),
+    )
+}
+
+#[test]
+fn runs_of_a_map(rt: HostRuntime) -> Result<(), Fail> {
+    let arena = Bump::new(rt.alloc());
+    assert!(rt; are_rows(rt.alloc(), &arena)?);
+    Ok(())
+}
+
+type BorrowCommand<'a> = SetCommand<
+    &'a str,
+    &'a str,
+    IndexSet<&'a str, BuildHasherDefault<FoldHasher>>,
+>;
+
+fn set_commands<'a>(alloc: Global, arena: &'a Bump) -> Result<Vec<BorrowCommand<'a>>, Fail> {
+    let mut base: FrozenIndexSet<'a, &'a str> = FrozenIndexSet::new(alloc, arena);
+    base.insert("b")?;
+    Ok(Vec::from_array(
+        alloc,
+        [
+            SetCommand::Insert("a"),
+            SetCommand::InsertFull("b"),
+            SetCommand::InsertFull("a"),
+            SetCommand::IndexOf("c"),
+            SetCommand::At(1),
+            SetCommand::Rebase(base.into_set()),
+            SetCommand::IndexOf("b"),
+            SetCommand::InsertNew("b"),
+            SetCommand::InsertFullNew("c"),
+            SetCommand::Get("c"),
+        ],
+    )?)
+}
+
+fn are_of_a_set(replies: &[SetReply<&str>]) -> bool {
+    replies
+        == [
+            SetReply::Item("a"),
+            SetReply::Full(1, "b"),
+            SetReply::Full(0, "a"),
+            SetReply::Place(None),
+            SetReply::Found(Some("b")),
+            SetReply::Done,
+            SetReply::Place(Some(0)),
+            SetReply::New("b", false),
+            SetReply::FullNew(1, "c", true),
+            SetReply::Found(Some("c")),
+        ]
+        .as_slice()
+}
+
+#[test]
+fn runs_of_a_set(rt: HostRuntime) -> Result<(), Fail> {
+    let alloc = rt.alloc();
+    let arena = Bump::new(alloc);
+    let mut set: FrozenIndexSet<'_, &str> = FrozenIndexSet::new(alloc, &arena);
+    let replies = run_set(&mut set, set_commands(alloc, &arena)?)?;
+    assert!(rt; are_of_a_set(replies.as_slice()));
+    Ok(())
+}
+
+// ---- sets
+
+type Set<'a> = FrozenIndexSet<'a, String>;
+
+// A set of owned copies of these texts.
+fn set_of<'a>(alloc: Global, arena: &'a Bump, texts: &[&str]) -> Result<Set<'a>, AllocError> {
+    let mut given: Vec<String> = Vec::new(alloc);
+    for of in texts {
+        given.push(String::from_str(alloc, *of)?)?;
+    }
+    FrozenIndexSet::from_iter(alloc, arena, BuildHasherDefault::new(), given)
+}
+
+// The value at a place, by indexing, if the place is there.
+fn by_place<'a>(set: &Set<'a>, place: usize) -> Option<&'a str> {
+    if set.get_index(place).is_none() {
+        return None;
+    }
+    Some(set[place])
+}
+
+// What is found by an owner and by a text, and whether the owner can be inserted anew.
+fn found<'a>(
+    set: &mut Set<'a>,
+    owner: String,
+) -> Result<
+    (
+        Option<&'a str>,
+        Option<(usize, &'a str)>,
+        (usize, &'a str, bool),
+    ),
+    AllocError,
+> {
+    let by_owner = set.get(&owner);
+    let by_text = set.get_full(&owner.as_str());
+    Ok((by_owner, by_text, set.insert_full_new(owner)?))
+}
+
+#[test]
+fn a_set_finds_by_owner_text_and_place(rt: HostRuntime) -> Result<(), Fail> {
+    let alloc = rt.alloc();
+    let arena = Bump::new(alloc);
+    let mut ab = set_of(alloc, &arena, &["a", "b", "a"])?;
+    let ba = set_of(alloc, &arena, &["b", "a"])?;
+    assert!(rt; ab == ba && by_place(&ba, 0) == Some("b"));
+    assert!(rt;
+        [by_place(&ab, 0), by_place(&ab, 1), by_place(&ab, 2)] == [Some("a"), Some("b"), None]
+    );
+    let b = found(&mut ab, String::from_str(alloc, "b")?)?;
+    assert!(rt; b == (Some("b"), Some((1, "b")), (1, "b", false)));
+    Ok(())
+}
+
+// A clone with one more value, taken apart and made again: whether it differed, and the value's place.
+fn made_again<'a>(
+    alloc: Global,
+    arena: &'a Bump,
+    set: &Set<'a>,
+) -> Result<(bool, bool, Option<usize>), AllocError> {
+    let mut copy = set.clone()?;
+    let (_, new) = copy.insert_new(String::from_str(alloc, "c")?)?;
+    let differs = copy != *set;
+    let again: Set<'a> = FrozenIndexSet::from_set(arena, copy.into_set());
+    Ok((new, differs, again.get_index_of(&"c")))
+}
+
+#[test]
+fn sets_are_cloned_and_cleared(rt: HostRuntime) -> Result<(), Fail> {
+    let arena = Bump::new(rt.alloc());
+    let mut ab = set_of(rt.alloc(), &arena, &["a", "b"])?;
+    assert!(rt; made_again(rt.alloc(), &arena, &ab)? == (true, true, Some(2)));
+    let before = ab.get_index(usize::MAX);
+    ab.as_mut().clear();
+    assert!(rt;
+        before.is_none() && ab.get_index(0).is_none() && ab.get_index(usize::MAX).is_none()
+    );
+    Ok(())
+}
+
+// A set of numbers finds one by an equal number and none by another.
+fn finds_numbers(alloc: Global, arena: &Bump) -> Result<bool, AllocError> {
+    let mut numbers: FrozenIndexSet<'_, Own<u32>> = FrozenIndexSet::new(alloc, arena);
+    let seven = *numbers.insert(Own(7))?;
+    let places = [numbers.get_index_of(&Own(7)), numbers.get_index_of(&Own(8))];
+    Ok(seven == 7 && places == [Some(0), None])
+}
+
+// A set of lists finds one by a slice of equal items.
+fn finds_lists(alloc: Global, arena: &Bump) -> Result<bool, AllocError> {
+    let mut lists: FrozenIndexSet<'_, Vec<u32>> = FrozenIndexSet::new(alloc, arena);
+    let (place, _) = lists.insert_full(Vec::from_slice(alloc, &[1, 2])?)?;
+    Ok(place == 0 && lists.get_index_of(&[1u32, 2].as_slice()) == Some(0))
+}
+
+#[test]
+fn forms_of_values(rt: HostRuntime) -> Result<(), Fail> {
+    let arena = Bump::new(rt.alloc());
+    assert!(rt; finds_numbers(rt.alloc(), &arena)? && finds_lists(rt.alloc(), &arena)?);
+    Ok(())
+}
+
+// ---- the laws' places and flags
+
+fn laws_of_a_map(alloc: Global, arena: &Bump) -> Result<bool, AllocError> {
+    let mut map: Texts<'_> = FrozenIndexMap::new(alloc, arena);
+    let five = keeps_earlier_pairs(&mut map, 5, "a")?;
+    let four = keeps_earlier_pairs(&mut map, 4, "b")?;
+    let (first, again) = is_new_once(
+        &mut map,
+        (6, "c"),
+        vec![in alloc; (7, "e"), (5, "z")]?,
+        (6, "d"),
+    )?;
+    let last = keeps_earlier_pairs(&mut map, 7, "z")?;
+    Ok(
+        five.0 == 0
+            && four.0 == 1
+            && first == (2, "c", true)
+            && again == (2, "c", false)
+            && last == (3, "e", false),
+    )
+}
+
+fn laws_of_a_set(alloc: Global, arena: &Bump) -> Result<bool, AllocError> {
+    let mut set: Set<'_> = FrozenIndexSet::new(alloc, arena);
+    let a = set_keeps_earlier_values(&mut set, String::from_str(alloc, "a")?)?;
+    let b = set_keeps_earlier_values(&mut set, String::from_str(alloc, "b")?)?;
+    let between = vec![in alloc; String::from_str(alloc, "d")?]?;
+    let c = String::from_str(alloc, "c")?;
+    let (first, again) = set_is_new_once(&mut set, c, between, String::from_str(alloc, "c")?)?;
+    let last = set_keeps_earlier_values(&mut set, String::from_str(alloc, "d")?)?;
+    Ok(
+        a.0 == 0
+            && b.0 == 1
+            && first == (2, "c", true)
+            && again == (2, "c", false)
+            && last == (3, "d", false),
+    )
+}
+
+#[test]
+fn the_laws_of_index_forms_answer_places_and_flags(rt: HostRuntime) -> Result<(), Fail> {
+    let arena = Bump::new(rt.alloc());
+    assert!(rt; laws_of_a_map(rt.alloc(), &arena)? && laws_of_a_set(rt.alloc(), &arena)?);
+    Ok(())
+}
+
+// ---- odd keys
+
+type AlikeMap<'a> = FrozenIndexMap<'a, SameHash, Own<u32>>;
+
+fn map_has_all(map: &AlikeMap<'_>) -> bool {
+    for i in 0..200u32 {
+        let key = SameHash(i);
+        if map.get_index_of(&key) != Some(i as usize) || map.get(&key).copied() != Some(i + 1) {
+            return false;
+        }
+    }
+    map.get_index_of(&SameHash(200)).is_none()
+}
+
+#[test]
+fn keys_of_a_map_that_hash_alike(rt: HostRuntime) -> Result<(), Fail> {
+    let arena = Bump::new(rt.alloc());
+    let mut map: AlikeMap<'_> = FrozenIndexMap::new(rt.alloc(), &arena);
+    for i in 0..200u32 {
+        map.insert(SameHash(i), Own(i + 1))?;
+    }
+    assert!(rt; map_has_all(&map));
+    Ok(())
+}
+
+type AlikeSet<'a> = FrozenIndexSet<'a, Own<SameHash>>;
+
+fn set_has_all(set: &AlikeSet<'_>) -> bool {
+    for i in 0..200u32 {
+        if set.get_index_of(&Own(SameHash(i))) != Some(i as usize) {
+            return false;
+        }
+    }
+    set.get_index_of(&Own(SameHash(200))).is_none()
+}
+
+#[test]
+fn values_of_a_set_that_hash_alike(rt: HostRuntime) -> Result<(), Fail> {
+    let arena = Bump::new(rt.alloc());
+    let mut set: AlikeSet<'_> = FrozenIndexSet::new(rt.alloc(), &arena);
+    for i in 0..200u32 {
+        set.insert(Own(SameHash(i)))?;
+    }
+    assert!(rt; set_has_all(&set));
+    Ok(())
+}
+
+type Folded<'a> = FrozenIndexMap<'a, Fold<'a>, &'a str>;
+
+fn folded_at<'a>(map: &Folded<'a>, key: &'a str) -> (Option<usize>, Option<&'a str>) {
+    let found = map.get_full(&Fold(key)).map(|found| -> &str { found.1.0 });
+    (map.get_index_of(&Fold(key)), found)
+}
+
+#[test]
+fn an_index_map_shows_the_first_of_equal_keys(rt: HostRuntime) -> Result<(), Fail> {
+    let arena = Bump::new(rt.alloc());
+    let mut map: Folded<'_> = FrozenIndexMap::new(rt.alloc(), &arena);
+    let answers = [map.insert(Fold("AB"), "x")?, map.insert(Fold("ab"), "y")?];
+    assert!(rt; answers == ["x", "x"] && folded_at(&map, "aB") == (Some(0), Some("AB")));
+    Ok(())
+}
+
+type HashedFolds<'a> = FrozenMap<'a, Fold<'a>, &'a str>;
+
+// The key shown and its value.
+fn hashed_pair<'a>(map: &HashedFolds<'a>, key: &'a str) -> Option<(&'a str, &'a str)> {
+    let (shown, value) = map.get_key_value(&Fold(key))?;
+    Some((shown.0, value))
+}
+
+#[test]
+fn a_hashed_map_shows_the_first_of_equal_keys(rt: HostRuntime) -> Result<(), Fail> {
+    let arena = Bump::new(rt.alloc());
+    let mut map: HashedFolds<'_> = FrozenMap::new(rt.alloc(), &arena);
+    let answers = [map.insert(Fold("AB"), "x")?, map.insert(Fold("ab"), "y")?];
+    assert!(rt; answers == ["x", "x"] && map.len() == 1);
+    assert!(rt; hashed_pair(&map, "aB") == Some(("AB", "x")) && hashed_pair(&map, "a").is_none());
+    Ok(())
+}
+
+type OrderedFolds<'a> = FrozenBTreeMap<'a, Fold<'a>, &'a str>;
+
+// The pairs of a map of these, as the map gives them up.
+fn ordered_folds<'a>(
+    alloc: Global,
+    arena: &'a Bump,
+    pairs: [(&'a str, &'a str); 4],
+) -> Result<Vec<(Fold<'a>, &'a str)>, AllocError> {
+    let mut map: OrderedFolds<'a> = FrozenBTreeMap::new(alloc, arena);
+    for (key, value) in pairs {
+        map.insert(Fold(key), value)?;
+    }
+    map.into_tuple_vec()
+}
+
+// Whether these are the pairs, with the keys as they are written.
+fn are_shown(pairs: &[(Fold<'_>, &str)], want: &[(&str, &str)]) -> bool {
+    let mut place = 0usize;
+    for pair in pairs {
+        if want.get(place) != Some(&(pair.0.0, pair.1)) {
+            return false;
+        }
+        place = place.saturating_add(1);
+    }
+    place == want.len()
+}
+
+#[test]
+fn an_ordered_map_shows_the_first_of_equal_keys(rt: HostRuntime) -> Result<(), Fail> {
+    let arena = Bump::new(rt.alloc());
+    let pairs = ordered_folds(
+        rt.alloc(),
+        &arena,
+        [("b", "z"), ("AB", "x"), ("ab", "y"), ("B", "w")],
+    )?;
+    assert!(rt; are_shown(pairs.as_slice(), [("AB", "x"), ("b", "z")].as_slice()));
+    Ok(())
+}

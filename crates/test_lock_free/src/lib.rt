@@ -1,0 +1,22 @@
+//! Tests of `elsa_machine`, `elsa_slots` and `elsa_lock_free` as a stranger calls them: worked cases, memory that is refused, and
+//! threads run to their end.
+#![tactic(auto)]
+
+#[cfg(test)]
+mod extend_tests;
+#[cfg(test)]
+mod geometry_tests;
+#[cfg(test)]
+mod lock_free_tests;
+#[cfg(test)]
+mod machine_tests;
+#[cfg(test)]
+mod news_tests;
+#[cfg(test)]
+mod no_memory;
+#[cfg(test)]
+mod pass_tests;
+#[cfg(test)]
+mod schedule_rows;
+#[cfg(test)]
+mod slots_tests;

@@ -1,0 +1,476 @@
+//! The concurrent vector.
+use elsa_lock_free::item_rule::DistinctItems;
+use elsa_lock_free::lock_free::LockFreeFrozenVec;
+use std::alloc::{AllocError, Allocator, Global};
+use std::process::Abort;
+use std::sync::Wait;
+use std::test::*;
+use std::thread;
+use test_alloc::Budget;
+
+/// How often a reader asks before it gives up.
+const TURNS: u64 = 10_000_000;
+
+/// Pushes `count` numbers from `first` on. Whether the places that it was answered rise, and each holds its number.
+fn push_all<R: Wait>(rt: &R, vector: &LockFreeFrozenVec<u64>, first: u64, count: u64) -> bool {
+    let mut least = 0;
+    for i in 0..count {
+        let item = first.wrapping_add(i);
+        let Ok(place) = vector.push(rt, item) else {
+            return false;
+        };
+        if place < least || vector.get(place) != Some(item) {
+            return false;
+        }
+        least = place + 1;
+    }
+    true
+}
+
+/// Whether each number below the length is an item at one place. At the start no number was seen.
+fn has_each_once(vector: &LockFreeFrozenVec<u64>, seen: &mut [bool]) -> bool {
+    for place in 0..seen.len() {
+        let Some(item) = vector.get(place) else {
+            return false;
+        };
+        match seen.get_mut(item as usize) {
+            Some(was) if !*was => *was = true,
+            _ => return false,
+        }
+    }
+    true
+}
+
+/// Whether the items are their places, and there are `length` of them.
+fn has_places<A: Allocator + Copy>(vector: &LockFreeFrozenVec<u64, A>, length: usize) -> bool {
+    if vector.len() != length || vector.get(length).is_some() {
+        return false;
+    }
+    for place in 0..length {
+        if vector.get(place) != Some(place as u64) {
+            return false;
+        }
+    }
+    true
+}
+
+/// Whether the items from place 0 on, `count` of them, were each seen to be their place, in all the turns.
+fn sees_all(vector: &LockFreeFrozenVec<u64>, count: u64) -> bool {
+    let mut place: u64 = 0;
+    for _ in 0..TURNS {
+        if place >= count {
+            return true;
+        }
+        match vector.get(place as usize) {
+            Some(item) if item == place => place = place.wrapping_add(1),
+            Some(_) => return false,
+            None => thread::yield_now(),
+        }
+    }
+    false
+}
+
+/// Makes clones, and says whether each has its places for items and is no shorter than the one before.
+fn clones_all<A: Allocator + Copy>(vector: &LockFreeFrozenVec<u64, A>, clones: u64) -> bool {
+    let mut longest = 0;
+    for _ in 0..clones {
+        let Ok(copy) = vector.clone() else {
+            return false;
+        };
+        let length = copy.len();
+        if length < longest || !has_places(&copy, length) {
+            return false;
+        }
+        longest = length;
+    }
+    true
+}
+
+/// Whether a pass that met one sees what two passes pushed.
+fn passes_meet<R: Wait>(rt: &R, vector: &LockFreeFrozenVec<u64>) -> bool {
+    let mut p = vector.pass();
+    let mut q = vector.pass();
+    let mut r = vector.pass();
+    let places = [
+        vector.push_as(rt, &mut p, 10),
+        vector.push_as(rt, &mut q, 20),
+    ];
+    r.meet(&mut q);
+    let seen = [
+        vector.get_as(&mut r, 0),
+        vector.get_as(&mut r, 1),
+        vector.get_as(&mut r, 2),
+    ];
+    let length = vector.len_as(&mut r);
+    places == [Ok(0), Ok(1)] && seen == [Some(10), Some(20), None] && length == 2
+}
+
+#[test]
+fn passes_that_meet(rt: HostRuntime) -> Result<(), Fail> {
+    let vector = LockFreeFrozenVec::<u64>::new(rt.alloc())?;
+    assert!(rt; passes_meet(&rt, &vector));
+    Ok(())
+}
+
+/// Whether a clone has its places for items, `length` of them.
+fn is_cloned(vector: &LockFreeFrozenVec<u64>, length: usize) -> Result<bool, AllocError> {
+    Ok(has_places(&vector.clone()?, length))
+}
+
+/// Whether an empty vector takes a thousand items.
+fn takes_a_thousand<R: Wait>(rt: &R, vector: &LockFreeFrozenVec<u64>) -> bool {
+    vector.is_empty()
+        && push_all(rt, vector, 0, 1000)
+        && vector.len() == 1000
+        && !vector.is_empty()
+        && vector.get(usize::MAX).is_none()
+}
+
+#[test]
+fn a_thousand_items(rt: HostRuntime) -> Result<(), Fail> {
+    let vector = LockFreeFrozenVec::<u64>::new(rt.alloc())?;
+    assert!(rt; takes_a_thousand(&rt, &vector) && is_cloned(&vector, 1000)?);
+    Ok(())
+}
+
+/// How many items a vector takes before the buffer that begins at place 4^10 - 1, and a few more.
+const PAST_A_MILLION: u64 = 1_048_580;
+
+/// Whether each push of an empty vector's first million and a few is told its number as its place.
+fn push_a_million<R: Wait>(rt: &R, vector: &LockFreeFrozenVec<u64>) -> bool {
+    let mut handle = vector.handle();
+    for number in 0..PAST_A_MILLION {
+        if handle.push(rt, number) != Ok(number as usize) {
+            return false;
+        }
+    }
+    true
+}
+
+/// Whether an empty vector takes a number at each place up to and past the buffer that begins there: by each 1021st place, and the last nine.
+fn takes_a_million<R: Wait>(rt: &R, vector: &LockFreeFrozenVec<u64>) -> bool {
+    let pushed = push_a_million(rt, vector);
+    for turn in 0..1027usize {
+        let place = turn.wrapping_mul(1021);
+        if vector.get(place) != Some(place as u64) {
+            return false;
+        }
+    }
+    for place in 1_048_571..1_048_580usize {
+        if vector.get(place) != Some(place as u64) {
+            return false;
+        }
+    }
+    pushed && vector.len() == PAST_A_MILLION as usize && vector.get(1_048_580).is_none()
+}
+
+#[test]
+fn pushes_past_place_1048575(rt: HostRuntime) -> Result<(), Fail> {
+    let vector = LockFreeFrozenVec::<u64>::new(rt.alloc())?;
+    assert!(rt; takes_a_million(&rt, &vector));
+    Ok(())
+}
+
+/// Whether the items are these.
+fn has_items(vector: &LockFreeFrozenVec<u64>, items: &[u64]) -> bool {
+    if vector.len() != items.len() {
+        return false;
+    }
+    for place in 0..items.len() {
+        if vector.get(place) != Some(items[place]) {
+            return false;
+        }
+    }
+    true
+}
+
+/// Whether an empty vector takes 10 and 20.
+fn takes_two<R: Wait>(rt: &R, vector: &LockFreeFrozenVec<u64>) -> bool {
+    vector.push(rt, 10) == Ok(0) && vector.push(rt, 20) == Ok(1)
+}
+
+/// Whether a clone equals its source of two items, and 30 then stands in the clone alone.
+fn is_parted<R: Wait>(rt: &R, vector: &LockFreeFrozenVec<u64>) -> Result<bool, AllocError> {
+    let mut p = vector.pass();
+    let (copy, mut q) = vector.clone_as(&mut p)?;
+    let equal = vector.equals_as(&mut p, &copy, &mut q);
+    let place = copy.push_as(rt, &mut q, 30);
+    let apart = has_items(vector, &[10, 20]) && has_items(&copy, &[10, 20, 30]);
+    Ok(equal && place == Ok(2) && apart && !vector.equals(&copy))
+}
+
+#[test]
+fn a_clone_goes_its_own_way(rt: HostRuntime) -> Result<(), Fail> {
+    let vector = LockFreeFrozenVec::<u64>::new(rt.alloc())?;
+    assert!(rt; takes_two(&rt, &vector) && is_parted(&rt, &vector)?);
+    Ok(())
+}
+
+/// Whether 30, pushed into the source while its clone is there, is in the source alone.
+fn is_left<R: Wait>(rt: &R, vector: &LockFreeFrozenVec<u64>) -> Result<bool, AllocError> {
+    let copy = vector.clone()?;
+    let place = vector.push(rt, 30);
+    Ok(place == Ok(2) && has_items(&copy, &[10, 20]) && has_items(vector, &[10, 20, 30]))
+}
+
+#[test]
+fn a_push_into_the_source_leaves_its_clone(rt: HostRuntime) -> Result<(), Fail> {
+    let vector = LockFreeFrozenVec::<u64>::new(rt.alloc())?;
+    assert!(rt; takes_two(&rt, &vector) && is_left(&rt, &vector)?);
+    Ok(())
+}
+
+/// Whether a distinct vector with one item equals its clone, which is plain, both ways round, until the clone has one more.
+fn equals_its_clone<R: Wait>(
+    rt: &R,
+    vector: &LockFreeFrozenVec<u64, Global, DistinctItems>,
+) -> Result<bool, AllocError> {
+    let mut pass = vector.pass();
+    let pushed = vector.push_at_as(rt, &mut pass, 0, 5);
+    let copy = vector.clone()?;
+    let equal = vector.equals(&copy) && copy.equals(vector);
+    let more = copy.push(rt, 5);
+    Ok(pushed == Ok(Some(0)) && equal && more == Ok(1) && !vector.equals(&copy))
+}
+
+#[test]
+fn a_distinct_vector_is_compared_with_its_clone(rt: HostRuntime) -> Result<(), Fail> {
+    let vector = LockFreeFrozenVec::<u64, _, _>::distinct(rt.alloc())?;
+    assert!(rt; equals_its_clone(&rt, &vector)?);
+    Ok(())
+}
+
+/// Whether an empty vector takes a text.
+fn takes_a_text<R: Wait>(rt: &R, words: &LockFreeFrozenVec<&str>) -> bool {
+    words.get(usize::MAX).is_none()
+        && words.push(rt, "lonely") == Ok(0)
+        && words.get(0) == Some("lonely")
+}
+
+#[test]
+fn texts(rt: HostRuntime) -> Result<(), Fail> {
+    let words = LockFreeFrozenVec::<&str>::new(rt.alloc())?;
+    assert!(rt; takes_a_text(&rt, &words));
+    Ok(())
+}
+
+#[test]
+fn units(rt: HostRuntime) -> Result<(), Fail> {
+    let units = LockFreeFrozenVec::<()>::new(rt.alloc())?;
+    assert_eq!(rt; units.clone()?.get(0), None);
+    Ok(())
+}
+
+/// Whether a push is refused exactly if it opens a buffer, and takes this place once it is allowed.
+fn opens_at<R: Wait>(
+    rt: &R,
+    budget: &Budget<Global>,
+    vector: &LockFreeFrozenVec<u64, &Budget<Global>>,
+    place: usize,
+) -> bool {
+    let opens = place == 0 || place == 3 || place == 15;
+    budget.refuse_next(1);
+    let refused = vector.push(rt, place as u64).is_err();
+    budget.refuse_next(0);
+    refused == opens && (!opens || vector.push(rt, place as u64) == Ok(place))
+}
+
+#[test]
+fn a_refused_push(rt: HostRuntime) -> Result<(), Fail> {
+    let budget = Budget::new(rt.alloc());
+    let vector = LockFreeFrozenVec::<u64, _>::new(&budget)?;
+    for place in 0..16 {
+        assert!(rt; opens_at(&rt, &budget, &vector, place), "at {place}");
+    }
+    assert!(rt; has_places(&vector, 16));
+    Ok(())
+}
+
+/// Whether a push of 5 is refused its buffer, and takes place 0 once it is allowed.
+fn takes_five_later<R: Wait>(
+    rt: &R,
+    budget: &Budget<Global>,
+    vector: &LockFreeFrozenVec<u64, &Budget<Global>>,
+) -> bool {
+    budget.refuse_next(1);
+    let refused = vector.push(rt, 5).is_err();
+    budget.refuse_next(0);
+    refused && vector.push(rt, 5) == Ok(0) && vector.get(0) == Some(5) && vector.len() == 1
+}
+
+#[test]
+fn a_refused_first_push_takes_place_0_later(rt: HostRuntime) -> Result<(), Fail> {
+    let budget = Budget::new(rt.alloc());
+    let vector = LockFreeFrozenVec::<u64, _>::new(&budget)?;
+    assert!(rt; takes_five_later(&rt, &budget, &vector));
+    Ok(())
+}
+
+/// A clone and a push into it, which leave the vector of this length as it is. How many of the two were refused; `None` where
+/// one answered another thing.
+fn clone_once<R: Wait, A: Allocator + Copy>(
+    rt: &R,
+    vector: &LockFreeFrozenVec<u64, A>,
+    length: usize,
+) -> Option<u64> {
+    let Ok(copy) = vector.clone() else {
+        return Some(1);
+    };
+    let answer = copy.push(rt, length as u64);
+    if !has_places(vector, length) {
+        return None;
+    }
+    match answer {
+        Ok(place) if place == length && has_places(&copy, length + 1) => Some(0),
+        Err(_) if has_places(&copy, length) => Some(1),
+        _ => None,
+    }
+}
+
+/// Eighteen pushes of the length, and a clone before each. How many calls were refused; `None` where one answered another thing
+/// or the vector isn't that of the accepted pushes.
+fn script<R: Wait, A: Allocator + Copy>(rt: &R, alloc: A) -> Option<u64> {
+    let Ok(vector) = LockFreeFrozenVec::<u64, A>::new(alloc) else {
+        return Some(1);
+    };
+    let mut refused: u64 = 0;
+    let mut length = 0;
+    for _ in 0..18 {
+        refused = refused.wrapping_add(clone_once(rt, &vector, length)?);
+        match vector.push(rt, length as u64) {
+            Ok(place) if place == length => length = place + 1,
+            Ok(_) => return None,
+            Err(_) => refused = refused.wrapping_add(1),
+        }
+        if !has_places(&vector, length) {
+            return None;
+        }
+    }
+    Some(refused)
+}
+
+#[test]
+fn each_request_refused_in_turn(rt: HostRuntime) -> Result<(), Fail> {
+    let budget = Budget::<Global>::new(rt.alloc());
+    assert_eq!(rt; script(&rt, &budget), Some(0));
+    let requests = budget.asked();
+    assert!(rt; requests > 18);
+    for number in 0..requests {
+        for further in [1, u64::MAX] {
+            let from = budget.asked().wrapping_add(number);
+            budget.refuse(from, from.saturating_add(further));
+            let refused = script(&rt, &budget).unwrap_or(0);
+            assert!(rt;
+                refused > 0 && budget.given() == budget.granted(),
+                "at {number}"
+            );
+        }
+    }
+    Ok(())
+}
+
+#[test]
+fn clones_amid_pushes(rt: HostRuntime) -> Result<(), Fail> {
+    let vector = LockFreeFrozenVec::<u64>::new(rt.alloc())?;
+    let shared = &vector;
+    let (pushed, cloned) = thread::join(
+        &rt,
+        || push_all(&rt, shared, 0, 200),
+        || clones_all(shared, 1000),
+    );
+    assert_eq!(rt; (pushed, cloned), (true, true));
+    Ok(())
+}
+
+/// Whether a vector equals itself and a clone of it.
+fn is_equal(vector: &LockFreeFrozenVec<u64>) -> Result<bool, AllocError> {
+    Ok(vector.equals(&vector.clone()?) && vector.equals(vector))
+}
+
+#[test]
+fn clones_at_rest(rt: HostRuntime) -> Result<(), Fail> {
+    for length in [0, 3, 15, 63] {
+        let vector = LockFreeFrozenVec::<u64>::new(rt.alloc())?;
+        assert!(rt;
+            push_all(&rt, &vector, 0, length)
+                && is_cloned(&vector, length as usize)?
+                && is_equal(&vector)?,
+            "of {length}"
+        );
+    }
+    Ok(())
+}
+
+#[test]
+fn threads_push_at_once(rt: HostRuntime) -> Result<(), Fail> {
+    for (threads, count, length) in [(4, 100_000u64, 400_000), (16, 5000, 80_000)] {
+        let vector = LockFreeFrozenVec::<u64>::new(rt.alloc())?;
+        let shared = &vector;
+        let handle = &rt;
+        let pushed = thread::map_indices(
+            &rt,
+            rt.alloc(),
+            threads,
+            &|i| push_all(handle, shared, count.wrapping_mul(i as u64), count),
+        )?;
+        let mut seen = vec![in rt.alloc(); false; length]?;
+        let whole = vector.len() == length && has_each_once(&vector, &mut seen);
+        assert!(rt;
+            pushed.iter().all(|done| *done) && whole,
+            "{threads} threads"
+        );
+    }
+    Ok(())
+}
+
+#[test]
+fn a_reader_beside_a_pusher(rt: HostRuntime) -> Result<(), Fail> {
+    let vector = LockFreeFrozenVec::<u64>::new(rt.alloc())?;
+    let shared = &vector;
+    let (pushed, seen) = thread::join(
+        &rt,
+        || push_all(&rt, shared, 0, 1000),
+        || sees_all(shared, 1000),
+    );
+    assert_eq!(rt; (pushed, seen), (true, true));
+    Ok(())
+}
+
+/// An item that is no number.
+#[derive(Clone, Copy)]
+struct Moo(u64);
+
+/// Pushes a thousand structs, with the numbers from 0 on. Whether each takes its number for a place.
+fn push_moos<R: Wait>(rt: &R, vector: &LockFreeFrozenVec<Moo>) -> bool {
+    for number in 0..1000u64 {
+        if vector.push(rt, Moo(number)) != Ok(number as usize) {
+            return false;
+        }
+    }
+    true
+}
+
+/// Whether a thousand structs were each seen to have its place for a number, in all the turns.
+fn sees_moos(vector: &LockFreeFrozenVec<Moo>) -> bool {
+    let mut place: u64 = 0;
+    for _ in 0..TURNS {
+        if place >= 1000 {
+            return true;
+        }
+        match vector.get(place as usize) {
+            Some(Moo(number)) if number == place => place = place.wrapping_add(1),
+            Some(_) => return false,
+            None => thread::yield_now(),
+        }
+    }
+    false
+}
+
+#[test]
+fn a_reader_beside_a_pusher_of_structs(rt: HostRuntime) -> Result<(), Fail> {
+    let vector = LockFreeFrozenVec::<Moo>::new(rt.alloc())?;
+    let shared = &vector;
+    let (pushed, seen) = thread::join(&rt, || push_moos(&rt, shared), || sees_moos(shared));
+    assert_eq!(rt; (pushed, seen), (true, true));
+    Ok(())
+}

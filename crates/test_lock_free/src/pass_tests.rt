@@ -1,0 +1,287 @@
+//! What a pass reads of what it has seen, and the calls that return their pass.
+ghost use Rattle.std.specs.Prelude.{◌≡◌, IfOk, Some};
+
+use elsa_lock_free::lock_free::{LockFreeFrozenVec, Pass};
+use std::alloc::{AllocError, Allocator, Global};
+use std::sync::Wait;
+use std::test::*;
+use std::thread;
+use test_alloc::Budget;
+
+/// How often a thread looks for another before it gives up.
+const TURNS: u64 = 10_000_000;
+
+/// Pushes the numbers from `first` up to `end`, each of which is to be its place.
+fn push_to<R: Wait, A: Allocator + Copy>(
+    rt: &R,
+    vector: &LockFreeFrozenVec<u64, A>,
+    first: u64,
+    end: u64,
+) -> bool {
+    for number in first..end {
+        if vector.push(rt, number) != Ok(number as usize) {
+            return false;
+        }
+    }
+    true
+}
+
+/// Whether the pass reads each place below `count` as its number.
+fn reads_below<A: Allocator + Copy>(
+    vector: &LockFreeFrozenVec<u64, A>,
+    pass: &mut Pass<u64, A>,
+    count: u64,
+) -> bool
+    requires { pass.old.vector ≡ vector.now }
+    ensures { pass.new.vector ≡ pass.old.vector }
+{
+    for place in 0..count {
+        if vector.get_as(pass, place as usize) != Some(place) {
+            return false;
+        }
+    }
+    true
+}
+
+/// Whether a walk over what the pass has seen gives the numbers below `count` in order, and says each time how many are left.
+fn walks<A: Allocator + Copy>(
+    vector: &LockFreeFrozenVec<u64, A>,
+    pass: &Pass<u64, A>,
+    count: u64,
+) -> bool
+    requires { pass.now.vector ≡ vector.now }
+{
+    let mut items = vector.iter_as(pass);
+    for number in 0..count {
+        let left = (count - number) as usize;
+        if items.size_hint() != (left, Some(left)) || items.next() != Some(number) {
+            return false;
+        }
+    }
+    items.size_hint() == (0, Some(0)) && items.next().is_none() && items.next().is_none()
+}
+
+/// Whether a walk gives all items of a vector with `count` numbers, and those alone after a further push.
+fn walks_all<R: Wait>(rt: &R, vector: &LockFreeFrozenVec<u64>, count: u64) -> bool {
+    let mut pass = vector.pass();
+    let nothing = walks(vector, &pass, 0);
+    let length = vector.len_as(&mut pass);
+    let all = walks(vector, &pass, count);
+    let pushed = vector.push(rt, count) == Ok(length);
+    nothing && all && pushed && walks(vector, &pass, count)
+}
+
+#[test]
+fn a_walk_gives_what_was_seen(rt: HostRuntime) -> Result<(), Fail> {
+    for count in [0, 1, 2, 3, 4, 14, 15, 16, 63, 64, 1000] {
+        let vector = LockFreeFrozenVec::<u64>::new(rt.alloc())?;
+        assert!(rt;
+            push_to(&rt, &vector, 0, count) && walks_all(&rt, &vector, count),
+            "of {count}"
+        );
+    }
+    Ok(())
+}
+
+/// Whether a pass of a vector with the numbers below `count` reads them all, and nothing at or above.
+fn reads_all(vector: &LockFreeFrozenVec<u64>, count: u64) -> bool {
+    let mut pass = vector.pass();
+    let (end, top) = (vector.len_as(&mut pass), usize::MAX);
+    let above = vector.get_as(&mut pass, end).is_none() && vector.get_as(&mut pass, top).is_none();
+    above && reads_below(vector, &mut pass, count) && vector.get_with_pass(top).0.is_none()
+}
+
+#[test]
+fn a_pass_reads_what_was_seen(rt: HostRuntime) -> Result<(), Fail> {
+    for count in [0, 1, 3, 4, 15, 16, 63, 1000] {
+        let vector = LockFreeFrozenVec::<u64>::new(rt.alloc())?;
+        assert!(rt;
+            push_to(&rt, &vector, 0, count) && reads_all(&vector, count),
+            "of {count}"
+        );
+    }
+    Ok(())
+}
+
+/// Whether a pusher reads its own items and those that others pushed before, and sees no item that was pushed after.
+fn reads_what_it_pushed<R: Wait>(rt: &R, vector: &LockFreeFrozenVec<u64>) -> bool {
+    let mut pass = vector.pass();
+    let own = push_to(rt, vector, 0, 2) && vector.push_as(rt, &mut pass, 2) == Ok(2);
+    let later = vector.push(rt, 3) == Ok(3);
+    own && later && pass.seen_len() == 3 && walks(vector, &pass, 3)
+}
+
+#[test]
+fn a_pusher_has_seen_its_own_items(rt: HostRuntime) -> Result<(), Fail> {
+    let vector = LockFreeFrozenVec::<u64>::new(rt.alloc())?;
+    assert!(rt; reads_what_it_pushed(&rt, &vector));
+    Ok(())
+}
+
+/// Whether a clone's pass has seen the whole clone, and a pass that meets another reads what that one has seen.
+fn clone_and_meet(vector: &LockFreeFrozenVec<u64>, count: u64) -> Result<bool, AllocError> {
+    let mut pass = vector.pass();
+    let (copy, copy_pass) = vector.clone_as(&mut pass)?;
+    let mut other = vector.pass();
+    other.meet(&mut pass);
+    Ok(
+        walks(&copy, &copy_pass, count)
+            && walks(vector, &other, count)
+            && walks(vector, &pass, count),
+    )
+}
+
+#[test]
+fn a_clone_and_a_meeting_hand_out_what_was_seen(rt: HostRuntime) -> Result<(), Fail> {
+    for count in [0, 3, 15, 64] {
+        let vector = LockFreeFrozenVec::<u64>::new(rt.alloc())?;
+        assert!(rt;
+            push_to(&rt, &vector, 0, count) && clone_and_meet(&vector, count)?,
+            "of {count}"
+        );
+    }
+    Ok(())
+}
+
+/// Whether a pass that has seen two of five numbers clones all five.
+fn clones_what_it_had_not_seen<R: Wait>(
+    rt: &R,
+    vector: &LockFreeFrozenVec<u64>,
+) -> Result<bool, AllocError> {
+    let mut pass = vector.pass();
+    let part = push_to(rt, vector, 0, 2) && vector.len_as(&mut pass) == 2;
+    let later = push_to(rt, vector, 2, 5);
+    let (copy, copy_pass) = vector.clone_as(&mut pass)?;
+    Ok(part && later && walks(&copy, &copy_pass, 5))
+}
+
+#[test]
+fn a_clone_has_what_was_pushed_since_its_pass_looked(rt: HostRuntime) -> Result<(), Fail> {
+    let vector = LockFreeFrozenVec::<u64>::new(rt.alloc())?;
+    assert!(rt; clones_what_it_had_not_seen(&rt, &vector)?);
+    Ok(())
+}
+
+/// Pushes, and reads the place by the pass that pushed: by the contracts alone the item stands there.
+fn push_and_read<R: Wait>(
+    rt: &R,
+    vector: &LockFreeFrozenVec<u64>,
+    item: u64,
+) -> Result<Option<u64>, AllocError>
+    ensures { IfOk result (λ read. read ≡ Some item) }
+{
+    let (answer, mut pass) = vector.push_with_pass(rt, item);
+    let place = answer?;
+    Ok(vector.get_as(&mut pass, place))
+}
+
+#[test]
+fn a_push_is_read_by_its_pass(rt: HostRuntime) -> Result<(), Fail> {
+    let vector = LockFreeFrozenVec::<u64>::new(rt.alloc())?;
+    assert!(rt; push_to(&rt, &vector, 0, 3));
+    assert_eq!(rt; push_and_read(&rt, &vector, 70), Ok(Some(70)));
+    Ok(())
+}
+
+/// Whether the calls that return their pass answer as the vector of three numbers is, and their passes have seen it.
+fn answers_with_passes<R: Wait>(rt: &R, vector: &LockFreeFrozenVec<u64>) -> bool {
+    let (place, pushed) = vector.push_with_pass(rt, 3);
+    let (item, got) = vector.get_with_pass(3);
+    let (length, counted) = vector.len_with_pass();
+    place == Ok(3)
+        && item == Some(3)
+        && length == 4
+        && walks(vector, &pushed, 4)
+        && walks(vector, &got, 4)
+        && walks(vector, &counted, 4)
+}
+
+/// Whether a vector of four numbers and a clone of it are equal, by calls that return their passes.
+fn compares_with_passes(vector: &LockFreeFrozenVec<u64>) -> Result<bool, AllocError> {
+    let (copy, pass, copy_pass) = vector.clone_with_passes()?;
+    let (equal, one, other) = vector.equals_with_passes(&copy);
+    let cloned = walks(vector, &pass, 4) && walks(&copy, &copy_pass, 4);
+    Ok(cloned && equal && walks(vector, &one, 4) && walks(&copy, &other, 4))
+}
+
+#[test]
+fn each_answer_with_its_pass(rt: HostRuntime) -> Result<(), Fail> {
+    let vector = LockFreeFrozenVec::<u64>::new(rt.alloc())?;
+    assert!(rt;
+        push_to(&rt, &vector, 0, 3)
+            && answers_with_passes(&rt, &vector)
+            && compares_with_passes(&vector)?
+    );
+    Ok(())
+}
+
+/// Whether, once a request stands still, a pass that has seen three numbers reads them, walks over them, and finds no fourth,
+/// while the request still stands still. It then lets the request go on.
+fn reads_beside_a_halted_push(
+    budget: &Budget<Global>,
+    vector: &LockFreeFrozenVec<u64, &Budget<Global>>,
+) -> bool {
+    let mut pass = vector.pass();
+    if vector.len_as(&mut pass) != 3 {
+        return false;
+    }
+    for _ in 0..TURNS {
+        if budget.is_halted() {
+            break;
+        }
+        thread::yield_now();
+    }
+    let read = reads_below(vector, &mut pass, 3)
+        && walks(vector, &pass, 3)
+        && vector.get_as(&mut pass, 3).is_none();
+    let still = budget.is_halted();
+    budget.go_on();
+    read && still
+}
+
+#[test]
+fn a_reader_beside_a_pusher_that_stands_still(rt: HostRuntime) -> Result<(), Fail> {
+    let budget = Budget::<Global>::new(rt.alloc());
+    let vector = LockFreeFrozenVec::<u64, _>::new(&budget)?;
+    let shared = &vector;
+    assert!(rt; push_to(&rt, shared, 0, 3));
+    budget.halt_next();
+    let (read, pushed) = thread::join(
+        &rt,
+        || reads_beside_a_halted_push(&budget, shared),
+        || shared.push(&rt, 3),
+    );
+    assert_eq!(rt; (read, pushed), (true, Ok(3)));
+    Ok(())
+}
+
+/// Whether a pass reads the numbers below `seen` again and again until the vector has `end` items, which comes.
+fn reads_until(vector: &LockFreeFrozenVec<u64>, pass: Pass<u64>, seen: u64, end: usize) -> bool
+    requires { pass.vector ≡ vector.now }
+{
+    let mut pass = pass;
+    for _turn in 0..TURNS {
+        if !reads_below(vector, &mut pass, seen) {
+            return false;
+        }
+        if vector.len() == end {
+            return pass.seen_len() == seen as usize;
+        }
+    }
+    false
+}
+
+#[test]
+fn a_pass_keeps_reading_in_another_thread(rt: HostRuntime) -> Result<(), Fail> {
+    let vector = LockFreeFrozenVec::<u64>::new(rt.alloc())?;
+    let shared = &vector;
+    assert!(rt; push_to(&rt, shared, 0, 100));
+    let (length, pass) = shared.len_with_pass();
+    let (read, pushed) = thread::join(
+        &rt,
+        move || reads_until(shared, pass, 100, 5000),
+        || push_to(&rt, shared, 100, 5000),
+    );
+    assert_eq!(rt; (length, read, pushed), (100, true, true));
+    Ok(())
+}

@@ -1,0 +1,117 @@
+//! Collections whose table is in `Global` memory, over an arena of other memory: requests of the arena alone are refused.
+use bumpalo::Bump;
+use elsa_index::index_map::FrozenIndexMap;
+use elsa_maps::map::FrozenMap;
+use elsa_vec::stable::Own;
+use elsa_vec::vec::FrozenVec;
+use std::alloc::{AllocError, Global};
+use std::hash::{BuildHasherDefault, FoldHasher};
+use std::test::Fail;
+use test_alloc::Budget;
+
+type Hasher = BuildHasherDefault<FoldHasher>;
+
+// The arena's allocator. It is owned, and so refuses what it was told before the arena was made.
+type Heap = Budget<Global>;
+
+// More values than the arena's first chunk has room for.
+const CALLS: usize = 100;
+
+// How many requests are refused: more than the arena makes for one value.
+const REFUSED: u64 = 64;
+
+// The numbers from 0, each at its place or under itself as a key.
+#[derive(Drop)]
+enum Numbers<'a> {
+    List(FrozenVec<'a, Own<usize>, Global, Heap>),
+    Hashed(FrozenMap<'a, usize, Own<usize>, Hasher, Global, Heap>),
+    Indexed(FrozenIndexMap<'a, usize, Own<usize>, Hasher, Global, Heap>),
+}
+
+impl<'a> Numbers<'a> {
+    fn give(&mut self, number: usize) -> Result<&'a usize, AllocError> {
+        match self {
+            Numbers::List(items) => items.push_get(Own(number)),
+            Numbers::Hashed(map) => map.insert(number, Own(number)),
+            Numbers::Indexed(map) => map.insert(number, Own(number)),
+        }
+    }
+
+    fn at(&self, number: usize) -> Option<&'a usize> {
+        match self {
+            Numbers::List(items) => items.get(number),
+            Numbers::Hashed(map) => map.get(&number),
+            Numbers::Indexed(map) => map.get(&number),
+        }
+    }
+
+    // Whether it has the numbers below this, and no other.
+    fn holds(&self, count: usize) -> bool {
+        for number in 0..count {
+            if self.at(number) != Some(&number) {
+                return false;
+            }
+        }
+        self.at(count).is_none()
+    }
+}
+
+// How often the number was refused until it was given; `None` where a refused call changed something, or an accepted one didn't add it.
+fn given(numbers: &mut Numbers<'_>, number: usize) -> Option<u64> {
+    for failures in 0..=REFUSED {
+        match numbers.give(number) {
+            Ok(kept) => return if *kept == number {
+                Some(failures)
+            } else {
+                None
+            },
+            Err(_) => {
+                if !numbers.holds(number) {
+                    return None;
+                }
+            }
+        }
+    }
+    None
+}
+
+// How many calls were refused until all numbers were there; `None` where one went wrong.
+fn all_given(mut numbers: Numbers<'_>) -> Option<u64> {
+    let mut failures = 0u64;
+    for number in 0..CALLS {
+        failures = failures.saturating_add(given(&mut numbers, number)?);
+    }
+    if numbers.holds(CALLS) {
+        Some(failures)
+    } else {
+        None
+    }
+}
+
+// An arena that is refused its request of this number and those after it, so many.
+fn arena_without(alloc: Global, number: u64) -> Bump<Heap> {
+    let heap = Budget::new(alloc);
+    heap.refuse(number, number.saturating_add(REFUSED));
+    Bump::new(heap)
+}
+
+// Whether calls are refused where the arena's requests from this number on are, and each succeeds once they are granted.
+fn is_told(alloc: Global, number: u64) -> bool {
+    let (one, two, three) = (
+        arena_without(alloc, number),
+        arena_without(alloc, number),
+        arena_without(alloc, number),
+    );
+    let list = all_given(Numbers::List(FrozenVec::new(alloc, &one)));
+    let hashed = all_given(Numbers::Hashed(FrozenMap::new(alloc, &two)));
+    let indexed = all_given(Numbers::Indexed(FrozenIndexMap::new(alloc, &three)));
+    list > Some(0) && hashed > Some(0) && indexed > Some(0)
+}
+
+#[test]
+fn a_request_that_the_arena_is_refused_leaves_the_collection_as_it_was(
+    rt: HostRuntime,
+) -> Result<(), Fail> {
+    assert!(rt; is_told(rt.alloc(), 0) && is_told(rt.alloc(), 1));
+    Ok(())
+}

@@ -1,0 +1,200 @@
+//! A text that no collection was written as is refused by a name.
+use bumpalo::Bump;
+use elsa_index::index_map::FrozenIndexMap;
+use elsa_index::index_set::FrozenIndexSet;
+use elsa_interner::interner::Interner;
+use elsa_maps::map::{FrozenBTreeMap, FrozenMap};
+use elsa_serde::{Entries, Items, Names, ReadFault};
+use elsa_vec::stable::Own;
+use serde::Deserialize;
+use serde_json::Error;
+use serde_json::error::Category;
+use std::alloc::{AllocError, Global};
+use std::test::Fail;
+
+/// The kind of the error with which the text is refused as a `T`, or `None` where it is read.
+fn refusal<'a, T: Deserialize<'a>>(alloc: Global, text: &'a str) -> Option<Category> {
+    serde_json::from_str::<T>(alloc, text)
+        .err()
+        .map(|error| error.classify())
+}
+
+#[test]
+fn a_text_of_a_wrong_type_was_read(rt: HostRuntime) -> Result<(), Fail> {
+    let alloc = rt.alloc();
+    for text in [
+        "{}",
+        "1",
+        "null",
+        "[1]",
+        r#"["a",null]"#,
+        r#"["a",["b"]]"#,
+        r#"[{"a":1}]"#,
+    ] {
+        assert_eq!(rt;
+            refusal::<Names>(alloc, text),
+            Some(Category::Data),
+            "{text}"
+        );
+        assert_eq!(rt;
+            refusal::<Items<String>>(alloc, text),
+            Some(Category::Data),
+            "{text}"
+        );
+    }
+    for text in [
+        "[]",
+        r#"{"a":"1"}"#,
+        r#"{"a":null}"#,
+        r#"{"a":[1]}"#,
+        r#""a""#,
+    ] {
+        let kind = refusal::<Entries<String, Own<u64>>>(alloc, text);
+        assert_eq!(rt; kind, Some(Category::Data), "{text}");
+    }
+    for text in ["[256]", "[-1]", "[1.5]"] {
+        assert_eq!(rt;
+            refusal::<Items<Own<u8>>>(alloc, text),
+            Some(Category::Data),
+            "{text}"
+        );
+    }
+    Ok(())
+}
+
+#[test]
+fn a_truncated_text_was_read(rt: HostRuntime) -> Result<(), Fail> {
+    let alloc = rt.alloc();
+    for text in [
+        "",
+        "[",
+        r#"["fox""#,
+        r#"["fox","#,
+        r#"["fox","do"#,
+        r#"["\u00"#,
+    ] {
+        assert_eq!(rt;
+            refusal::<Names>(alloc, text),
+            Some(Category::Eof),
+            "{text}"
+        );
+        assert_eq!(rt;
+            refusal::<Items<String>>(alloc, text),
+            Some(Category::Eof),
+            "{text}"
+        );
+    }
+    for text in ["", "{", r#"{"a""#, r#"{"a":"#, r#"{"a":1"#, r#"{"a":1,"#] {
+        let kind = refusal::<Entries<String, Own<u64>>>(alloc, text);
+        assert_eq!(rt; kind, Some(Category::Eof), "{text}");
+    }
+    Ok(())
+}
+
+#[test]
+fn a_text_behind_the_collection_was_read(rt: HostRuntime) -> Result<(), Fail> {
+    let alloc = rt.alloc();
+    for text in [r#"["a"]]"#, r#"["a"],"#, r#"["a","b",]"#] {
+        assert_eq!(rt;
+            refusal::<Names>(alloc, text),
+            Some(Category::Syntax),
+            "{text}"
+        );
+    }
+    let kind = refusal::<Entries<String, Own<u64>>>(alloc, r#"{"a":1}}"#);
+    assert_eq!(rt; kind, Some(Category::Syntax));
+    Ok(())
+}
+
+/// What is said of the names in the text, and whether the interner then has the name `left` last.
+fn names_of(alloc: Global, text: &str, left: &str) -> Result<(Result<(), ReadFault>, bool), Error> {
+    let arena = Bump::new(alloc);
+    let mut names: Interner<'_> = Interner::new(alloc, &arena);
+    let said = serde_json::from_str::<Names>(alloc, text)?.put_into(&mut names);
+    let is_left = names.find(left) == names.len().checked_sub(1);
+    Ok((said, is_left))
+}
+
+fn set_of(alloc: Global, text: &str) -> Result<Result<(), ReadFault>, Error> {
+    let arena = Bump::new(alloc);
+    let mut set: FrozenIndexSet<'_, String> = FrozenIndexSet::new(alloc, &arena);
+    Ok(serde_json::from_str::<Items<String>>(alloc, text)?.insert_into(&mut set))
+}
+
+#[test]
+fn a_duplicate_went_in(rt: HostRuntime) -> Result<(), Fail> {
+    let alloc = rt.alloc();
+    for (text, place) in [
+        (r#"["a","a"]"#, 1),
+        (r#"["a","b","a","a"]"#, 2),
+        (r#"["a","b","c","\u0061"]"#, 3),
+    ] {
+        let left = ["", "a", "b", "c"][place];
+        assert_eq!(rt;
+            names_of(alloc, text, left)?,
+            (Err(ReadFault::Duplicate(place)), true),
+            "{text}"
+        );
+        assert_eq!(rt;
+            set_of(alloc, text)?,
+            Err(ReadFault::Duplicate(place)),
+            "{text}"
+        );
+    }
+    Ok(())
+}
+
+type Read = Entries<String, Own<u64>>;
+
+fn hashed_of(alloc: Global, read: Read) -> Result<(), ReadFault> {
+    let arena = Bump::new(alloc);
+    let mut map: FrozenMap<'_, String, Own<u64>> = FrozenMap::new(alloc, &arena);
+    read.insert_into(&mut map)
+}
+
+fn ordered_of(alloc: Global, read: Read) -> Result<(), ReadFault> {
+    let arena = Bump::new(alloc);
+    let mut map: FrozenBTreeMap<'_, String, Own<u64>> = FrozenBTreeMap::new(alloc, &arena);
+    read.insert_into(&mut map)
+}
+
+fn indexed_of(alloc: Global, read: Read) -> Result<(), ReadFault> {
+    let arena = Bump::new(alloc);
+    let mut map: FrozenIndexMap<'_, String, Own<u64>> = FrozenIndexMap::new(alloc, &arena);
+    read.insert_into(&mut map)
+}
+
+#[test]
+fn a_second_value_of_a_key_went_in(rt: HostRuntime) -> Result<(), Fail> {
+    let alloc = rt.alloc();
+    let text = r#"{"a":1,"b":2,"a":1}"#;
+    let told = Err(ReadFault::Duplicate(2));
+    assert_eq!(rt; hashed_of(alloc, serde_json::from_str(alloc, text)?), told);
+    assert_eq!(rt; ordered_of(alloc, serde_json::from_str(alloc, text)?), told);
+    assert_eq!(rt; indexed_of(alloc, serde_json::from_str(alloc, text)?), told);
+    Ok(())
+}
+
+/// The text that a refusal prints.
+fn told(alloc: Global, fault: ReadFault) -> Result<String, AllocError> {
+    format!(in alloc; "{fault}")
+}
+
+#[test]
+fn a_refusal_printed_another_text(rt: HostRuntime) -> Result<(), Fail> {
+    let alloc = rt.alloc();
+    for (fault, text) in [
+        (
+            ReadFault::Duplicate(7),
+            "what was read at place 7 is a duplicate",
+        ),
+        (
+            ReadFault::TooMany,
+            "more names than an interner has numbers for",
+        ),
+        (ReadFault::Memory, "out of memory"),
+    ] {
+        assert_eq!(rt; told(alloc, fault)?.as_str(), text);
+    }
+    Ok(())
+}

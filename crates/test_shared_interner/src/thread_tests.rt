@@ -1,0 +1,163 @@
+//! Threads that put names beside one another. Each waits for the others first, so that they overlap.
+ghost use Rattle.std.specs.Prelude.{◌≡◌};
+
+use elsa_shared_interner::name::Name;
+use elsa_shared_interner::shared::{NamePass, SharedInterner};
+use std::sync::Wait;
+use std::sync::atomic::{AtomicU64, Ordering};
+use std::test::*;
+use std::thread;
+use std::thread::Threads;
+
+/// How many names the threads put.
+const NAMES: u64 = 100;
+
+/// How often a thread looks for another before it gives up.
+const TURNS: u64 = 10_000_000;
+
+/// The name with this number: "n0" to "n99".
+fn numbered(number: u64) -> Option<Name> {
+    let tens = (number / 10 % 10) as u8 + b'0';
+    let ones = (number % 10) as u8 + b'0';
+    let long = [b'n', tens, ones];
+    let short = [b'n', ones];
+    let bytes: &[u8] = if number < 10 { &short } else { &long };
+    Name::new(str::from_utf8(bytes).ok()?).ok()
+}
+
+/// Says that this thread is there, and waits until `count` threads are.
+fn meet_all(there: &AtomicU64, count: u64) -> bool {
+    let _ = there.fetch_add(1, Ordering::SeqCst);
+    for _ in 0..TURNS {
+        if there.load(Ordering::SeqCst) >= count {
+            return true;
+        }
+        thread::yield_now();
+    }
+    false
+}
+
+/// Puts all names from `first` on, going round. Whether each is at the place that was returned.
+fn put_all<R: Wait>(rt: &R, interner: &SharedInterner, names: &mut NamePass, first: u64) -> bool
+    requires { names.old.vector ≡ interner.now }
+    ensures { names.new.vector ≡ names.old.vector }
+{
+    for i in 0..NAMES {
+        let Some(name) = numbered((first.wrapping_add(i)) % NAMES) else {
+            return false;
+        };
+        let Ok(place) = interner.put(rt, names, name) else {
+            return false;
+        };
+        if interner.at(names, place) != Some(name) {
+            return false;
+        }
+    }
+    true
+}
+
+/// The place of each name by its number; 255 where memory was refused.
+fn places<R: Wait>(rt: &R, interner: &SharedInterner, names: &mut NamePass) -> [u8; 100]
+    requires { names.old.vector ≡ interner.now }
+    ensures { names.new.vector ≡ names.old.vector }
+{
+    let mut places = [255; 100];
+    for number in 0..100 {
+        if let Some(name) = numbered(number as u64)
+            && let Ok(place) = interner.put(rt, names, name)
+            && place < 100
+        {
+            places[number] = place as u8;
+        }
+    }
+    places
+}
+
+/// Whether the places are 0 to 99, each once.
+fn each_once(places: &[u8; 100]) -> bool {
+    let mut taken: u128 = 0;
+    for number in 0..100 {
+        let place = places[number];
+        if place >= 100 {
+            return false;
+        }
+        taken |= 1u128 << place;
+    }
+    taken == (1u128 << 100) - 1
+}
+
+/// One thread's part: it waits for the others, puts all names from its start, and returns their places.
+fn part<R: Wait>(rt: &R, interner: &SharedInterner, there: &AtomicU64, first: u64) -> [u8; 100] {
+    let mut names = interner.pass();
+    let met = meet_all(there, 4);
+    if met && put_all(rt, interner, &mut names, first) {
+        places(rt, interner, &mut names)
+    } else {
+        [255; 100]
+    }
+}
+
+/// Whether four threads have one place for each name.
+fn four_threads<R: Threads + Wait + Sync>(rt: &R, interner: &SharedInterner) -> bool {
+    let there = AtomicU64::new(0);
+    let met = &there;
+    let ((a, b), (c, d)) = thread::join(
+        rt,
+        || thread::join(
+            rt,
+            || part(rt, interner, met, 0),
+            || part(rt, interner, met, 25),
+        ),
+        || thread::join(
+            rt,
+            || part(rt, interner, met, 50),
+            || part(rt, interner, met, 75),
+        ),
+    );
+    each_once(&a) && a == b && a == c && a == d
+}
+
+#[test]
+fn four_threads_give_a_hundred_names_a_hundred_places(rt: HostRuntime) -> Result<(), Fail> {
+    let interner = SharedInterner::<Name>::new(rt.alloc())?;
+    assert!(rt; four_threads(&rt, &interner));
+    Ok(())
+}
+
+/// Puts a name, and then reads on until the other is there.
+fn sees_other<R: Wait>(rt: &R, interner: &SharedInterner, mine: u64, other: u64) -> bool {
+    let mut names = interner.pass();
+    let (Some(mine), Some(other)) = (numbered(mine), numbered(other)) else {
+        return false;
+    };
+    if interner.put(rt, &mut names, mine).is_err() {
+        return false;
+    }
+    waits_for(interner, &mut names, other)
+}
+
+/// Whether the name comes to be at place 0 or 1.
+fn waits_for(interner: &SharedInterner, names: &mut NamePass, other: Name) -> bool
+    requires { names.old.vector ≡ interner.now }
+{
+    for turn in 0..TURNS {
+        if interner.at(names, (turn % 2) as usize) == Some(other) {
+            return true;
+        }
+        thread::yield_now();
+    }
+    false
+}
+
+#[test]
+fn two_threads_see_each_others_names(rt: HostRuntime) -> Result<(), Fail> {
+    let interner = SharedInterner::<Name>::new(rt.alloc())?;
+    let shared = &interner;
+    let (one, two) = thread::join(
+        &rt,
+        || sees_other(&rt, shared, 1, 2),
+        || sees_other(&rt, shared, 2, 1),
+    );
+    assert!(rt; one && two);
+    Ok(())
+}

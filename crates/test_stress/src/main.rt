@@ -1,0 +1,134 @@
+//! Random scripts of many threads over each form that threads share, with memory refused at random; `tools/stress` runs it.
+//!
+//! `test_stress SEED SECONDS PAIRS CALLS` makes runs with the seeds from SEED on until so many seconds are over, and one at least. In a run each form is
+//! called by PAIRS pairs of threads, with CALLS calls by each of the first two and of the two that go on with their passes. It prints `ok` and the
+//! number of runs, or the form that broke and the run's seed.
+#![tactic(auto)]
+
+mod form;
+mod lists;
+mod maps;
+mod names;
+mod recorded;
+mod script;
+
+use crate::lists::{FreeList, LockedList};
+use crate::maps::{FreeMap, HashedMap, OrderedMap};
+use crate::names::Names;
+use crate::script::Script;
+use elsa::interner::SharedInterner;
+use elsa::sync::{FrozenBTreeMap, FrozenMap, FrozenVec, LockFreeFrozenMap, LockFreeFrozenVec};
+use std::alloc::{AllocError, Global};
+use std::sync::Wait;
+use std::thread::Threads;
+use std::time::Instant;
+use std::{env, io};
+use test_alloc::Budget;
+
+const USAGE: &str = "usage: test_stress SEED SECONDS PAIRS CALLS";
+
+/// The forms.
+const FORMS: [&str; 7] = [
+    "LockFreeFrozenVec",
+    "LockFreeFrozenMap",
+    "FrozenVec",
+    "FrozenMap",
+    "FrozenBTreeMap",
+    "SharedInterner",
+    "Recorder",
+];
+
+/// Whether one run over the form went well.
+fn of_form<R: Threads + Wait + Sync>(
+    rt: &R,
+    alloc: Global,
+    heap: &Budget<Global>,
+    name: &str,
+    script: Script,
+) -> Result<bool, AllocError> {
+    match name {
+        "LockFreeFrozenVec" => {
+            let vector = LockFreeFrozenVec::new(heap)?;
+            form::runs_well(rt, alloc, heap, &FreeList { vector }, script)
+        }
+        "LockFreeFrozenMap" => {
+            let map = LockFreeFrozenMap::new(heap)?;
+            form::runs_well(rt, alloc, heap, &FreeMap { map }, script)
+        }
+        "FrozenVec" => {
+            let vector = FrozenVec::new(heap);
+            form::runs_well(rt, alloc, heap, &LockedList { vector }, script)
+        }
+        "FrozenMap" => {
+            let map = FrozenMap::new(heap);
+            form::runs_well(rt, alloc, heap, &HashedMap { map }, script)
+        }
+        "FrozenBTreeMap" => {
+            let map = FrozenBTreeMap::new(heap);
+            form::runs_well(rt, alloc, heap, &OrderedMap { map }, script)
+        }
+        "SharedInterner" => {
+            let names = SharedInterner::new(alloc)?;
+            form::runs_well(rt, alloc, heap, &Names { names }, script)
+        }
+        _ => recorded::runs_well(rt, alloc, heap, heap, script),
+    }
+}
+
+/// Whether one run over the form went well, and all its memory came back.
+fn is_well<R: Threads + Wait + Sync>(
+    rt: &R,
+    alloc: Global,
+    name: &str,
+    script: Script,
+) -> Result<bool, AllocError> {
+    let heap = Budget::new(alloc);
+    let well = of_form(rt, alloc, &heap, name, script)?;
+    Ok(well && heap.given() == heap.granted())
+}
+
+fn number_of(words: &[String], place: usize) -> u64 {
+    match words.get(place) {
+        Some(word) => word.as_str().parse::<u64>().unwrap_or(0),
+        None => 0,
+    }
+}
+
+/// The first form that broke, if one did.
+fn broken<R: Threads + Wait + Sync>(
+    rt: &R,
+    alloc: Global,
+    script: Script,
+) -> Result<Option<&'static str>, AllocError> {
+    for name in &FORMS {
+        if !is_well(rt, alloc, name, script)? {
+            return Ok(Some(*name));
+        }
+    }
+    Ok(None)
+}
+
+fn main(rt: HostRuntime) -> io::Result<()> {
+    let words: Vec<String> = env::args(&rt)?.skip(1).collect(rt.alloc())?;
+    if words.len() != 4 {
+        return rt.println(USAGE);
+    }
+    let pairs = number_of(&words, 2).min(64) as usize;
+    let calls = number_of(&words, 3).min(1_000_000);
+    let first = number_of(&words, 0);
+    let seconds = number_of(&words, 1);
+    let start = Instant::now(&rt)?;
+    let mut runs = 0u64;
+    for run in 0..u64::MAX {
+        if run > 0 && start.elapsed(&rt)?.as_secs() >= seconds {
+            break;
+        }
+        let seed = first.wrapping_add(run);
+        let script = Script { seed, pairs, calls };
+        if let Some(name) = broken(&rt, rt.alloc(), script)? {
+            return println!(rt; "{name} broke at the seed {seed}");
+        }
+        runs = run.saturating_add(1);
+    }
+    println!(rt; "ok {runs}")
+}

@@ -1,0 +1,29 @@
+//! Tests of `elsa_vec`, `elsa_maps` and `elsa_sets` as a stranger calls them: worked cases, tables of probes, odd keys, and memory refused.
+#![tactic(auto)]
+
+#[cfg(test)]
+mod any_arena;
+#[cfg(test)]
+mod by_closure;
+#[cfg(test)]
+mod law_tests;
+#[cfg(test)]
+mod map_tests;
+#[cfg(test)]
+mod moved;
+#[cfg(test)]
+mod printed;
+#[cfg(test)]
+mod refusals;
+#[cfg(test)]
+mod search_tests;
+#[cfg(test)]
+mod sets;
+#[cfg(test)]
+mod shelf;
+#[cfg(test)]
+mod text_keys;
+#[cfg(test)]
+mod vec_tests;
+#[cfg(test)]
+mod walks;

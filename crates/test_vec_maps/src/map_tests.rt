@@ -1,0 +1,282 @@
+//! What no clause says of the maps: worked rows, upstream's cases, keys with an odd hash or no hash.
+ghost use Rattle.std.specs.Prelude.{◌≡◌, ℕ, [], List, IfOk, IsSome, Some, refl};
+ghost use Rattle.std.specs.Borrow.{Bor};
+ghost use Rattle.std.specs.Map.{lookup};
+ghost use Rattle.std.specs.Ordering.{eq_by_cmp};
+
+use bumpalo::Bump;
+use elsa_maps::map::laws::inserted_apart;
+use elsa_maps::map::{FrozenBTreeMap, FrozenMap};
+use elsa_vec::stable::Own;
+use std::alloc::{AllocError, Global};
+use std::collections::BTreeMap;
+use std::hash::{BuildHasherDefault, Hash, Hasher, RandomState};
+use std::test::Fail;
+
+// A key whose hash is that of every other.
+#[derive(Clone, Copy, Drop, PartialEq, Eq)]
+struct SameHash(u32);
+
+impl Hash for SameHash {
+    ghost hash_input = { λ _. [] };
+
+    ghost respects_eq = { λ x y h. refl };
+
+    fn hash<H: Hasher>(&self, _state: &mut H) {}
+}
+
+// A key that is ordered and has no hash.
+#[derive(Clone, Copy, Drop, PartialEq, Eq, PartialOrd, Ord)]
+struct NoHash(u32);
+
+// ---- collecting
+
+// The pairs of an ordered map of these texts, as a list.
+fn ordered_pairs<'a>(
+    alloc: Global,
+    arena: &'a Bump,
+    pairs: [(u32, &'a str); 3],
+) -> Result<Vec<(u32, &'a str)>, AllocError> {
+    let mut map: FrozenBTreeMap<'_, u32, &str> = FrozenBTreeMap::new(alloc, arena);
+    for (key, value) in pairs {
+        map.insert(key, value)?;
+    }
+    map.into_tuple_vec()
+}
+
+#[test]
+fn ordered_pairs_ascend(rt: HostRuntime) -> Result<(), Fail> {
+    let arena = Bump::new(rt.alloc());
+    let pairs = ordered_pairs(rt.alloc(), &arena, [(2, "b"), (1, "a"), (3, "c")])?;
+    assert!(rt; pairs.as_slice() == [(1, "a"), (2, "b"), (3, "c")].as_slice());
+    Ok(())
+}
+
+// The values at 1 and 2 in a hashed map of these pairs, and their number.
+fn hashed_of<'a>(
+    alloc: Global,
+    arena: &'a Bump,
+    pairs: [(u32, &'a str); 2],
+) -> Result<([Option<&'a str>; 2], usize), AllocError> {
+    let map: FrozenMap<'_, u32, &str> = FrozenMap::from_iter(
+        alloc,
+        arena,
+        BuildHasherDefault::new(),
+        pairs,
+    )?;
+    Ok(([map.get(&1), map.get(&2)], map.len()))
+}
+
+// The same in an ordered map.
+fn ordered_of<'a>(
+    alloc: Global,
+    arena: &'a Bump,
+    pairs: [(u32, &'a str); 2],
+) -> Result<([Option<&'a str>; 2], usize), AllocError> {
+    let map: FrozenBTreeMap<'_, u32, &str> = FrozenBTreeMap::from_iter(alloc, arena, pairs)?;
+    Ok(([map.get(&1), map.get(&2)], map.len()))
+}
+
+#[test]
+fn collecting_keeps_the_last_value(rt: HostRuntime) -> Result<(), Fail> {
+    let alloc = rt.alloc();
+    let arena = Bump::new(alloc);
+    let hashed = hashed_of(alloc, &arena, [(1, "a"), (1, "b")])?;
+    let ordered = ordered_of(alloc, &arena, [(1, "a"), (1, "b")])?;
+    let want = ([Some("b"), None], 1);
+    assert!(rt; hashed == want && ordered == want);
+    Ok(())
+}
+
+// ---- looking up
+
+type Keyed<'a, 'k> = FrozenMap<'a, &'k str, String>;
+
+fn pair<'a, 'k>(map: &Keyed<'a, 'k>, key: &'k str) -> Option<(&'k str, &'a str)> {
+    map.get_key_value(&key)
+}
+
+fn length_at<'k>(map: &Keyed<'_, 'k>, key: &'k str) -> Option<usize> {
+    map.map_get(&key, |value| value.len())
+}
+
+// How often the function of a look-up is called.
+fn calls_at<'k>(map: &Keyed<'_, 'k>, key: &'k str) -> usize {
+    let mut calls = 0usize;
+    let _answer = map.map_get(&key, |_| calls = 1);
+    calls
+}
+
+#[test]
+fn an_absent_key_calls_nothing(rt: HostRuntime) -> Result<(), Fail> {
+    let arena = Bump::new(rt.alloc());
+    let mut map: Keyed<'_, '_> = FrozenMap::new(rt.alloc(), &arena);
+    let text = String::from_str(rt.alloc(), "a")?;
+    map.insert("1", text)?;
+    let there = pair(&map, "1");
+    assert!(rt; there == Some(("1", "a")) && pair(&map, "2").is_none());
+    assert!(rt; length_at(&map, "1") == Some(1) && length_at(&map, "2").is_none());
+    assert!(rt; calls_at(&map, "1") == 1 && calls_at(&map, "2") == 0);
+    Ok(())
+}
+
+// ---- equality, clones, inner maps
+
+fn without_hash(
+    alloc: Global,
+    arena: &Bump,
+    pairs: [(NoHash, Own<u32>); 2],
+) -> Result<FrozenBTreeMap<'_, NoHash, Own<u32>>, AllocError> {
+    FrozenBTreeMap::from_iter(alloc, arena, pairs)
+}
+
+#[test]
+fn equality_asks_for_no_hash_and_no_order(rt: HostRuntime) -> Result<(), Fail> {
+    let alloc = rt.alloc();
+    let arena = Bump::new(alloc);
+    let up = [(NoHash(1), Own(10)), (NoHash(2), Own(20))];
+    let down = [(NoHash(2), Own(20)), (NoHash(1), Own(10))];
+    let mut first = without_hash(alloc, &arena, up)?;
+    let second = without_hash(alloc, &arena, down)?;
+    let equal = first == second;
+    first.insert(NoHash(3), Own(30))?;
+    assert!(rt; equal && first != second);
+    Ok(())
+}
+
+// Whether each key below 200 has itself as its value.
+fn has_all(map: &FrozenMap<'_, SameHash, Own<u32>>) -> bool {
+    for number in 0..200 {
+        if map.get(&SameHash(number)).copied() != Some(number) {
+            return false;
+        }
+    }
+    map.len() == 200
+}
+
+#[test]
+fn keys_that_hash_alike_are_told_apart(rt: HostRuntime) -> Result<(), Fail> {
+    let arena = Bump::new(rt.alloc());
+    let mut map: FrozenMap<'_, SameHash, Own<u32>> = FrozenMap::new(rt.alloc(), &arena);
+    for number in 0..200 {
+        map.insert(SameHash(number), Own(number))?;
+    }
+    assert!(rt; has_all(&map));
+    Ok(())
+}
+
+type Seeded<'a> = FrozenMap<'a, u32, &'a str, RandomState>;
+
+// A map of one pair and a clone of it with one more, which was taken apart and made again, and whether all went so.
+fn parted<'a>(
+    alloc: Global,
+    arena: &'a Bump,
+    hasher: RandomState,
+) -> Result<(Seeded<'a>, Seeded<'a>, bool), AllocError> {
+    let mut map: Seeded<'a> = FrozenMap::with_hasher(alloc, arena, hasher);
+    map.insert(1, "a")?;
+    let copy = map.clone()?;
+    let equal = map == copy;
+    let copy = inserted_apart(&mut map, copy, (1, "c"), (2, "b"))?;
+    let inner = copy.into_map();
+    let between = inner.get(&2).copied();
+    Ok((
+        map,
+        FrozenMap::from_map(alloc, arena, inner),
+        equal && between == Some("b"),
+    ))
+}
+
+// The value at a key by `[]`, if the key is there.
+fn by_key<'a>(map: &Seeded<'a>, key: u32) -> Option<&'a str> {
+    if map.get(&key).is_none() {
+        return None;
+    }
+    Some(map[&key])
+}
+
+type Named<'a> = FrozenBTreeMap<'a, String, &'a str>;
+
+// A clone with one more key.
+fn with_key<'a>(map: &Named<'a>, key: String, value: &'a str) -> Result<Named<'a>, AllocError>
+    ensures there { IfOk result (λ copy.
+        IsSome (lookup (eq_by_cmp ⟦<String as Ord>⟧.cmp key) copy)) }
+    ensures kept { (there : Bor (List ℕ)) →
+        lookup (eq_by_cmp ⟦<String as Ord>⟧.cmp key) map.now ≡ Some there →
+        IfOk result (λ copy.
+        lookup (eq_by_cmp ⟦<String as Ord>⟧.cmp key) copy ≡ Some there) }
+{
+    let mut copy = map.clone()?;
+    copy.insert(key, value)?;
+    Ok(copy)
+}
+
+// The value at a text that went into a clone alone, in a clone of that.
+fn in_a_clone<'a>(
+    alloc: Global,
+    arena: &'a Bump,
+    key: &str,
+) -> Result<Option<&'a str>, AllocError> {
+    let mut map: Named<'a> = FrozenBTreeMap::new(alloc, arena);
+    let key = String::from_str(alloc, key)?;
+    let first = String::from_str(alloc, "first")?;
+    let copy = map.clone()?;
+    let copy = inserted_apart(&mut map, copy, (first, "b"), (key.clone()?, "a"))?;
+    Ok(with_key(&copy, key.clone()?, "c")?.get(&key))
+}
+
+#[test]
+fn a_clone_and_its_source_part(rt: HostRuntime) -> Result<(), Fail> {
+    let arena = Bump::new(rt.alloc());
+    let hasher = RandomState::new(&rt)?;
+    let (map, copy, equal) = parted(rt.alloc(), &arena, hasher)?;
+    assert!(rt; equal && by_key(&map, 2).is_none() && by_key(&copy, 2) == Some("b"));
+    assert!(rt; by_key(&copy, 1) == Some("a") && in_a_clone(rt.alloc(), &arena, "x")? == Some("a"));
+    Ok(())
+}
+
+type Based<'a> = FrozenBTreeMap<'a, u32, &'a str>;
+
+fn based<'a>(alloc: Global, arena: &'a Bump) -> Result<Based<'a>, AllocError> {
+    let mut base: BTreeMap<u32, &'a str> = BTreeMap::new(alloc);
+    base.insert(1, "base")?;
+    Ok(FrozenBTreeMap::from_map(alloc, arena, base))
+}
+
+// The value at 1 by `[]`, if the key is there.
+fn at_one<'a>(map: &Based<'a>) -> Option<&'a str> {
+    if map.get(&1).is_none() {
+        return None;
+    }
+    Some(map[&1])
+}
+
+// Takes 1 out of the inner map.
+fn remove_one(map: &mut Based<'_>) {
+    map.as_mut().remove(&1);
+}
+
+// The value at 1 in the inner map of a clone, and how many pairs that has.
+fn inner<'a>(
+    alloc: Global,
+    arena: &'a Bump,
+    map: &Based<'a>,
+) -> Result<(Option<&'a str>, usize), AllocError> {
+    let again = map.clone()?.into_map();
+    let value = again.get(&1).copied();
+    let again: Based<'a> = FrozenBTreeMap::from_map(alloc, arena, again);
+    Ok((value, again.len()))
+}
+
+#[test]
+fn an_inner_map_is_a_base(rt: HostRuntime) -> Result<(), Fail> {
+    let arena = Bump::new(rt.alloc());
+    let mut map = based(rt.alloc(), &arena)?;
+    let first = map.insert(1, "a")?;
+    remove_one(&mut map);
+    let second = map.insert(1, "a")?;
+    assert!(rt; first == "base" && second == "a");
+    assert!(rt; inner(rt.alloc(), &arena, &map)? == (Some("a"), 1));
+    assert!(rt; at_one(&map) == Some("a"));
+    Ok(())
+}

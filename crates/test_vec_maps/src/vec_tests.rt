@@ -1,0 +1,405 @@
+//! What no clause says of the vector: worked rows, upstream's cases, and the places at which a search asks.
+ghost use Rattle.std.specs.Prelude.{◌≡◌, ◌<◌, ℕ, IfOk, Some, false, length, ltb, slice_get, true};
+ghost use denote.Ref.{Bor};
+ghost use Rattle.std.specs.List.Sorted.{IsBinarySearchResult, IsPartitionPoint, IsPartitionedBy};
+ghost use Rattle.std.specs.Ordering.{nat_cmp};
+
+use bumpalo::Bump;
+use elsa_vec::stable::Own;
+use elsa_vec::vec::{Cursor, FrozenVec};
+use elsa_vec::vec_laws::{pushed_apart, read_on, walked};
+use std::alloc::{AllocError, Global};
+use std::cmp::Ordering;
+use std::test::Fail;
+
+type Names<'a> = FrozenVec<'a, String>;
+
+// ---- content
+
+#[derive(Clone, Copy, Debug, PartialEq, Eq)]
+struct Moo(i32);
+
+fn cow(cows: &FrozenVec<'_, Own<Moo>>, place: usize) -> Option<i32> {
+    cows.get_copy(place).map(|moo| moo.0)
+}
+
+#[test]
+fn copies_of_what_stands_there(rt: HostRuntime) -> Result<(), Fail> {
+    let arena = Bump::new(rt.alloc());
+    let mut cows: FrozenVec<'_, Own<Moo>> = FrozenVec::new(rt.alloc(), &arena);
+    let absent = cow(&cows, 1);
+    for number in [1, 2, 3] {
+        cows.push(Own(Moo(number)))?;
+    }
+    assert!(rt; absent.is_none() && cow(&cows, 1) == Some(2) && by_place(&cows) == Some((3, 1)));
+    Ok(())
+}
+
+// The last of three by `[]`, and the first by a look without a test.
+fn by_place(cows: &FrozenVec<'_, Own<Moo>>) -> Option<(i32, i32)> {
+    if cows.len() != 3 {
+        return None;
+    }
+    Some((cows[2].0, cows.get_unchecked(0).0))
+}
+
+// The first of 1001 items, read before it is answered, when the vector has ended.
+fn first_of_many(alloc: Global, arena: &Bump) -> Result<(&str, bool), AllocError> {
+    let mut names: Names<'_> = FrozenVec::new(alloc, arena);
+    let first = names.push_get(String::from_str(alloc, "a")?)?;
+    for _ in 0..1000 {
+        names.push(String::from_str(alloc, "b")?)?;
+    }
+    let good = first == "a" && names.len() == 1001;
+    drop(names);
+    Ok((first, good))
+}
+
+#[test]
+fn the_first_borrow_outlives_the_vector(rt: HostRuntime) -> Result<(), Fail> {
+    let arena = Bump::new(rt.alloc());
+    let (first, good) = first_of_many(rt.alloc(), &arena)?;
+    assert!(rt; good && first == "a");
+    Ok(())
+}
+
+#[derive(Clone, Copy)]
+struct Thing<'a> {
+    name: &'a str,
+    friends: &'a [Thing<'a>],
+}
+
+type Things<'a> = FrozenVec<'a, Own<Thing<'a>>>;
+
+// Adds a thing whose friends are all that were added before it.
+fn befriend<'a>(
+    arena: &'a Bump,
+    things: &mut Things<'a>,
+    before: &[Thing<'a>],
+    name: &'a str,
+) -> Result<Thing<'a>, AllocError> {
+    let friends: &'a [Thing<'a>] = arena.try_alloc_slice_copy(before)?;
+    Ok(*things.push_get(Own(Thing { name, friends }))?)
+}
+
+// Whether the things have these names, and each as many friends as stand before it.
+fn are_named(things: &Things<'_>, names: &[&str]) -> bool {
+    let mut place = 0usize;
+    for thing in things {
+        if names.get(place) != Some(&thing.name) || thing.friends.len() != place {
+            return false;
+        }
+        place = place.saturating_add(1);
+    }
+    place == names.len()
+}
+
+// The name of the first friend of the second thing.
+fn a_friend<'a>(things: &Things<'a>) -> Option<&'a str> {
+    if things.len() < 2 {
+        return None;
+    }
+    Some(things[1].friends.first()?.name)
+}
+
+#[test]
+fn things_that_befriend_each_other(rt: HostRuntime) -> Result<(), Fail> {
+    let arena = Bump::new(rt.alloc());
+    let mut things: Things<'_> = FrozenVec::new(rt.alloc(), &arena);
+    let lonely = befriend(&arena, &mut things, &[], "lonely")?;
+    let best = befriend(&arena, &mut things, &[lonely], "best friend")?;
+    befriend(&arena, &mut things, &[lonely, best], "threes a crowd")?;
+    assert!(rt;
+        are_named(&things, &["lonely", "best friend", "threes a crowd"])
+            && a_friend(&things) == Some("lonely")
+    );
+    Ok(())
+}
+
+// ---- making, taking apart, comparing
+
+type Texts<'a> = FrozenVec<'a, &'a str>;
+
+// A vector of these texts and a clone of it, each with one more text of its own.
+fn parted_pair<'a>(
+    alloc: Global,
+    arena: &'a Bump,
+    texts: [&'a str; 4],
+) -> Result<(Texts<'a>, Texts<'a>, bool), AllocError> {
+    let mut one: Texts<'a> = FrozenVec::from_iter(alloc, arena, texts.into_iter())?;
+    let equal = one == one.clone()?;
+    let other = pushed_apart(&mut one, "e", "f")?;
+    Ok((one, other, equal))
+}
+
+// Taken apart and made again, and once more after the inner vector was cleared.
+fn taken_apart<'a>(arena: &'a Bump, texts: Texts<'a>) -> (usize, Option<&'a str>, bool) {
+    let inner = texts.into_vec();
+    let between = inner.get(4).copied();
+    let mut again: Texts<'a> = FrozenVec::from_vec(arena, inner);
+    let (count, is_last) = (again.len(), again.last() == between);
+    again.as_mut().clear();
+    (count, between, is_last && again.is_empty())
+}
+
+#[test]
+fn collected_cloned_and_taken_apart(rt: HostRuntime) -> Result<(), Fail> {
+    let arena = Bump::new(rt.alloc());
+    let (one, other, equal) = parted_pair(rt.alloc(), &arena, ["a", "b", "c", "d"])?;
+    assert!(rt; equal && one != other && other != one);
+    assert!(rt; other.get(4) == Some("f") && taken_apart(&arena, one) == (5, Some("e"), true));
+    Ok(())
+}
+
+// ---- walks
+
+// Whether an iterator gives these texts, collected and counted.
+fn walks(alloc: Global, texts: &Texts<'_>, want: &[&str]) -> Result<bool, AllocError> {
+    let all = walked(alloc, texts)?;
+    Ok(all.as_slice() == want && texts.iter().count() == want.len())
+}
+
+#[test]
+fn a_walk_gives_each_item_once(rt: HostRuntime) -> Result<(), Fail> {
+    let arena = Bump::new(rt.alloc());
+    let texts: Texts<'_> = FrozenVec::from_iter(
+        rt.alloc(),
+        &arena,
+        ["a", "b", "c", "d"].into_iter(),
+    )?;
+    assert!(rt; walks(rt.alloc(), &texts, &["a", "b", "c", "d"])?);
+    Ok(())
+}
+
+#[test]
+fn a_cursor_amid_pushes(rt: HostRuntime) -> Result<(), Fail> {
+    let arena = Bump::new(rt.alloc());
+    let mut names: Texts<'_> = FrozenVec::new(rt.alloc(), &arena);
+    let mut cursor = Cursor::new();
+    let (none, pushed, first) = read_on(&mut names, &mut cursor, "a");
+    let end = cursor.next(&names);
+    names.push("b")?;
+    assert!(rt; none.is_none() && pushed.is_ok() && first == Some("a"));
+    assert!(rt; end.is_none() && cursor.next(&names) == Some("b"));
+    Ok(())
+}
+
+// ---- searches
+
+// Whether each text is found as it stands beside it.
+fn finds<'a>(texts: &Texts<'a>, rows: &[(&'a str, Result<usize, usize>)]) -> bool {
+    for row in rows {
+        if texts.binary_search(row.0) != row.1 {
+            return false;
+        }
+    }
+    true
+}
+
+// The place of a text of this length, or where it would go.
+fn of_length(texts: &Texts<'_>, wanted: usize) -> Result<usize, usize>
+    ensures place { IsBinarySearchResult (λ text. nat_cmp (length text.now) wanted)
+        texts.now result }
+    ensures within { IfOk result (λ place. place < length texts.now) }
+{
+    texts.binary_search_by_key(&wanted, |text| text.len())
+}
+
+// The place of a number whose double is wanted, by a closure that takes numbers below 100 alone.
+fn of_half(items: &FrozenVec<'_, Own<u8>>, wanted: u8) -> Result<usize, usize>
+    requires { (place : ℕ) (item : Bor ℕ) → slice_get items.now place ≡ Some item → item.now < 100 }
+    ensures { IfOk result (λ place. place < length items.now) }
+{
+    items.binary_search_by(
+        |item|
+            requires { item.now < 100 }
+        { (*item + *item).cmp(&wanted) },
+    )
+}
+
+// A search of one number, and the whole vector.
+fn half_of_one(alloc: Global) -> Result<bool, AllocError> {
+    let arena = Bump::new(alloc);
+    let mut items: FrozenVec<'_, Own<u8>> = FrozenVec::new(alloc, &arena);
+    items.push(Own(21))?;
+    let found = of_half(&items, 42) == Ok(0) && of_half(&items, 43) == Err(1);
+    Ok(found && items.as_slice() == [&21].as_slice())
+}
+
+#[test]
+fn a_search_by_a_closure_that_takes_the_items_alone(rt: HostRuntime) -> Result<(), Fail> {
+    assert!(rt; half_of_one(rt.alloc())?);
+    Ok(())
+}
+
+// Whether each length is found as it stands beside it.
+fn finds_by_length(texts: &Texts<'_>, rows: &[(usize, Result<usize, usize>)]) -> bool {
+    for row in rows {
+        if of_length(texts, row.0) != row.1 {
+            return false;
+        }
+    }
+    true
+}
+
+// Where the texts shorter than this end.
+fn shorter(texts: &Texts<'_>, limit: usize) -> usize
+    ensures { IsPartitionedBy (λ text. ltb (length text.now) limit) texts.now →
+        IsPartitionPoint (λ text. ltb (length text.now) limit ≡ true)
+        (λ text. ltb (length text.now) limit ≡ false) texts.now result }
+{
+    texts.partition_point(|text| text.len() < limit)
+}
+
+#[test]
+fn searches_of_sorted_texts(rt: HostRuntime) -> Result<(), Fail> {
+    let arena = Bump::new(rt.alloc());
+    let texts: Texts<'_> = FrozenVec::from_iter(
+        rt.alloc(),
+        &arena,
+        ["ab", "cde", "fghij"].into_iter(),
+    )?;
+    assert!(rt;
+        finds(
+            &texts,
+            &[
+                ("cde", Ok(1)),
+                ("cdf", Err(2)),
+                ("a", Err(0)),
+                ("g", Err(3))
+            ],
+        )
+    );
+    assert!(rt; finds_by_length(&texts, &[(1, Err(0)), (3, Ok(1)), (4, Err(2))]));
+    assert!(rt; [shorter(&texts, 4), shorter(&texts, 0), shorter(&texts, 9)] == [2, 0, 3]);
+    Ok(())
+}
+
+type Numbers<'a> = FrozenVec<'a, Own<usize>>;
+
+// The numbers from 0 up.
+fn numbers(alloc: Global, arena: &Bump, count: usize) -> Result<Numbers<'_>, AllocError> {
+    let mut made = FrozenVec::new(alloc, arena);
+    for number in 0..count {
+        made.push(Own(number))?;
+    }
+    Ok(made)
+}
+
+// No place of a search.
+const NO: usize = usize::MAX;
+
+// Whether the noted places are these, up to the first that is none.
+fn are_noted(places: &Vec<usize>, calls: [usize; 4]) -> bool {
+    for at in 0..4 {
+        if places.get(at).copied().unwrap_or(NO) != calls[at] {
+            return false;
+        }
+    }
+    places.len() <= 4
+}
+
+// A search by a closure that gives these answers in turn, and the last one from then on, and notes where it was called.
+fn searched(
+    items: &Numbers<'_>,
+    answers: [Ordering; 2],
+    places: &mut Vec<usize>,
+) -> Result<usize, usize> {
+    let [mut answer, last] = answers;
+    items.binary_search_by(|place| {
+        let _noted = places.push(*place);
+        let now = answer;
+        answer = last;
+        now
+    })
+}
+
+// Whether a search of so many items with these answers calls at these places and answers this.
+fn calls_at(
+    alloc: Global,
+    count: usize,
+    answers: [Ordering; 2],
+    calls: [usize; 4],
+    answer: Result<usize, usize>,
+) -> Result<bool, AllocError> {
+    let arena = Bump::new(alloc);
+    let items = numbers(alloc, &arena, count)?;
+    let mut places = Vec::new(alloc);
+    Ok(searched(&items, answers, &mut places) == answer && are_noted(&places, calls))
+}
+
+#[test]
+fn the_calls_of_a_search(rt: HostRuntime) -> Result<(), Fail> {
+    use std::cmp::Ordering::{Equal, Greater, Less};
+    for (count, answers, calls, answer) in [
+        (8, [Less, Less], [4, 6, 7, NO], Err(8)),
+        (8, [Greater, Greater], [4, 2, 1, 0], Err(0)),
+        (8, [Equal, Equal], [4, NO, NO, NO], Ok(4)),
+        (3, [Less, Greater], [1, 2, NO, NO], Err(2)),
+        (3, [Greater, Less], [1, 0, NO, NO], Err(1)),
+        (3, [Less, Less], [1, 2, NO, NO], Err(3)),
+        (0, [Less, Less], [NO, NO, NO, NO], Err(0)),
+    ] {
+        assert!(rt;
+            calls_at(rt.alloc(), count, answers, calls, answer)?,
+            "at {count}"
+        );
+    }
+    Ok(())
+}
+
+// The same of a partition, with three answers.
+fn parted(items: &Numbers<'_>, answers: [bool; 3], places: &mut Vec<usize>) -> usize {
+    let [mut answer, mut next, last] = answers;
+    items.partition_point(|place| {
+        let _noted = places.push(*place);
+        let now = answer;
+        answer = next;
+        next = last;
+        now
+    })
+}
+
+fn parts_at(
+    alloc: Global,
+    count: usize,
+    answers: [bool; 3],
+    calls: [usize; 4],
+    answer: usize,
+) -> Result<bool, AllocError> {
+    let arena = Bump::new(alloc);
+    let items = numbers(alloc, &arena, count)?;
+    let mut places = Vec::new(alloc);
+    Ok(parted(&items, answers, &mut places) == answer && are_noted(&places, calls))
+}
+
+#[test]
+fn the_calls_of_a_partition(rt: HostRuntime) -> Result<(), Fail> {
+    for (count, answers, calls, answer) in [
+        (7, [true, true, true], [3, 5, 6, NO], 7),
+        (4, [false, true, true], [2, 1, NO, NO], 2),
+        (5, [true, false, true], [2, 4, 3, NO], 4),
+        (0, [true, true, true], [NO, NO, NO, NO], 0),
+    ] {
+        assert!(rt;
+            parts_at(rt.alloc(), count, answers, calls, answer)?,
+            "at {count}"
+        );
+    }
+    Ok(())
+}
+
+fn finds_one_and_not_three(items: &FrozenVec<'_, Own<u32>>) -> bool {
+    [items.binary_search(&1), items.binary_search(&3)] == [Ok(1), Err(3)]
+}
+
+#[test]
+fn searches_of_unsorted_numbers(rt: HostRuntime) -> Result<(), Fail> {
+    let arena = Bump::new(rt.alloc());
+    let mut items: FrozenVec<'_, Own<u32>> = FrozenVec::new(rt.alloc(), &arena);
+    for number in [3, 1, 2] {
+        items.push(Own(number))?;
+    }
+    assert!(rt; finds_one_and_not_three(&items));
+    Ok(())
+}
