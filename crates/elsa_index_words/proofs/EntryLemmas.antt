@@ -7,17 +7,17 @@ use mathlib.Core.List.{IsPrefix}
 use Rattle.elsa_index_words.specs.declared.row.Event.{Event}
 use Rattle.elsa_index_words.specs.declared.entry.Entry.{Entry}
 use Rattle.elsa_index_words.specs.Entries.{EachIsNew, key_of, keys_of, Indexes, IndexesKeys, IsBehind}
-use Rattle.elsa_index_words.specs.Row.{value_at, count_of, builder_of}
+use Rattle.elsa_index_words.specs.Row.{word_at, count_of, builder_of}
 use Rattle.elsa_index_words.specs.Words.{IsIndexed, IsLater}
 use Rattle.elsa_index_words.proofs.RowLemmas.{later_at, count_prefix, builder_prefix}
 use Rattle.elsa_index_words.proofs.WordLemmas.{later_indexed}
 
 -- what is found by what was seen is found by what is seen later
-pub seen_indexed : {S : Type 0} (xs ys : List (Event S)) (hash place : ℕ) → IsPrefix xs ys → IsIndexed (count_of xs) (λ k. value_at k xs) hash place → IsIndexed (count_of ys) (λ k. value_at k ys) hash place
+pub seen_indexed : {S : Type 0} (xs ys : List (Event S)) (hash place : ℕ) → IsPrefix xs ys → IsIndexed (count_of xs) (λ k. word_at k xs) hash place → IsIndexed (count_of ys) (λ k. word_at k ys) hash place
 seen_indexed xs ys hash place p i =
     let some : 0 < count_of xs = let h = i.within in omega (arith, h) in
-    subst (λ c. IsIndexed c (λ k. value_at k ys) hash place) (sym (count_prefix xs ys p some))
-    (later_indexed (count_of xs) (λ k. value_at k xs) (λ k. value_at k ys) hash place (later_at xs ys p) i)
+    subst (λ c. IsIndexed c (λ k. word_at k ys) hash place) (sym (count_prefix xs ys p some))
+    (later_indexed (count_of xs) (λ k. word_at k xs) (λ k. word_at k ys) hash place (later_at xs ys p) i)
 
 -- all but the last, and the last
 pub take_last : {A : Type 0} (xs : List A) (n : ℕ) (x : A) → length xs ≡ suc n → slice_get xs n ≡ Some x → take n xs ++ x ∷ [] ≡ xs
@@ -52,11 +52,11 @@ module _ {K S : Type 0} (hash : S → K → ℕ) where
 
   -- under the hashes of the builder that a history is known to have
   pub indexed_by : (keys : List K) (log : List (Event S)) (s : S) (count : ℕ) → builder_of log ≡ Some s → count_of log ≡ count → Indexes hash log keys
-      → IndexesKeys (hash s) count (λ k. value_at k log) keys
+      → IndexesKeys (hash s) count (λ k. word_at k log) keys
   indexed_by keys log s count is counted all =
       let both : Some all.builder ≡ Some s = sym all.built ∙ is in
       let same : all.builder ≡ s = cc both in
-      subst (λ c. IndexesKeys (hash s) c (λ k. value_at k log) keys) counted (subst (λ b. IndexesKeys (hash b) (count_of log) (λ k. value_at k log) keys) same all.all)
+      subst (λ c. IndexesKeys (hash s) c (λ k. word_at k log) keys) counted (subst (λ b. IndexesKeys (hash b) (count_of log) (λ k. word_at k log) keys) same all.all)
 
 module _ {K : Type 0} (hash : K → ℕ) where
   -- one more is entered
@@ -118,8 +118,8 @@ module _ {K V S : Type 0} (hash : K → ℕ) where
 
   -- a history at which each key is found, and then one more
   pub grown_by : (es : List (Entry K V S)) (key : K) (count after : ℕ) (f : ℕ → ℕ) (log : List (Event S)) (h n : ℕ) → IndexesKeys hash count f (keys_of es) → after ≡ count → count_of log ≡ after
-      → IsLater f (λ k. value_at k log) → h ≡ hash key → n ≡ length es → IsIndexed after (λ k. value_at k log) h n → IndexesKeys hash (count_of log) (λ k. value_at k log) (keys_of es ++ key ∷ [])
+      → IsLater f (λ k. word_at k log) → h ≡ hash key → n ≡ length es → IsIndexed after (λ k. word_at k log) h n → IndexesKeys hash (count_of log) (λ k. word_at k log) (keys_of es ++ key ∷ [])
   grown_by es key count after f log h n all same is later hashed len last =
       let same_count : count ≡ count_of log = sym (is ∙ same) in
-      indexes_more hash (keys_of es) key (count_of log) f (λ k. value_at k log) h n later (subst (λ c. IndexesKeys hash c f (keys_of es)) same_count all) hashed
-      (len ∙ sym (length-map es key_of)) (subst (λ c. IsIndexed c (λ k. value_at k log) h n) (sym is) last)
+      indexes_more hash (keys_of es) key (count_of log) f (λ k. word_at k log) h n later (subst (λ c. IndexesKeys hash c f (keys_of es)) same_count all) hashed
+      (len ∙ sym (length-map es key_of)) (subst (λ c. IsIndexed c (λ k. word_at k log) h n) (sym is) last)

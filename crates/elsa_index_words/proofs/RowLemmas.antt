@@ -9,7 +9,7 @@ use prog.Atomic.{either}
 use Rattle.logbook.specs.Pages.{Book, Named, Cell, cell, keeps, no_nib, step, Moves, Goes}
 use Rattle.elsa_index_words.specs.declared.row.Event.{Event}
 use Rattle.elsa_index_words.specs.declared.row.Event.TheVariants.{Filled}
-use Rattle.elsa_index_words.specs.Row.{builder_of, first_not_0, filled_by, value_at, count_of, named_from, IsKept, Sees, Tries}
+use Rattle.elsa_index_words.specs.Row.{builder_of, first_not_0, filled_by, word_at, count_of, named_from, IsKept, Sees, Tries}
 use Rattle.elsa_index_words.specs.Words.{IsLater}
 
 first_none : (a : ℕ) → first_not_0 a 0 ≡ a
@@ -25,17 +25,17 @@ first_stays zero b h = absurd (omega (arith, h))
 first_stays (suc a) b h = refl
 
 -- what a longer history leaves
-pub value_append : {S : Type 0} (k : ℕ) (xs ys : List (Event S)) → value_at k (xs ++ ys) ≡ first_not_0 (value_at k xs) (value_at k ys)
+pub value_append : {S : Type 0} (k : ℕ) (xs ys : List (Event S)) → word_at k (xs ++ ys) ≡ first_not_0 (word_at k xs) (word_at k ys)
 value_append k [] ys = refl
-value_append k (x ∷ xs) ys = ap (first_not_0 (filled_by k x)) (value_append k xs ys) ∙ first_assoc (filled_by k x) (value_at k xs) (value_at k ys)
+value_append k (x ∷ xs) ys = ap (first_not_0 (filled_by k x)) (value_append k xs ys) ∙ first_assoc (filled_by k x) (word_at k xs) (word_at k ys)
 
 -- the count of words is in the first event, so that no later one changes it
 pub count_append : {S : Type 0} (x : Event S) (xs ys : List (Event S)) → count_of ((x ∷ xs) ++ ys) ≡ count_of (x ∷ xs)
 count_append x xs ys = refl
 
 -- a history that goes on leaves each word that isn't 0 as it is
-pub later_at : {S : Type 0} (xs ys : List (Event S)) → IsPrefix xs ys → IsLater (λ k. value_at k xs) (λ k. value_at k ys)
-later_at xs ys p k h = ap (value_at k) (sym p.1) ∙ (value_append k xs p.0 ∙ first_stays (value_at k xs) (value_at k p.0) h)
+pub later_at : {S : Type 0} (xs ys : List (Event S)) → IsPrefix xs ys → IsLater (λ k. word_at k xs) (λ k. word_at k ys)
+later_at xs ys p k h = ap (word_at k) (sym p.1) ∙ (value_append k xs p.0 ∙ first_stays (word_at k xs) (word_at k p.0) h)
 
 own_word : (S : Type 0) (k w : ℕ) → filled_by {S = S} k (Filled k w) ≡ w
 own_word S k w = let e : (k == k) ≡ true = grind (arith, nat_tests) in ap (λ (b : Bool). if b then w else 0) e
@@ -54,12 +54,12 @@ builder_prefix [] ys s p e = absurd (cc e)
 builder_prefix (x ∷ xs) ys s p e = ap builder_of (sym p.1) ∙ e
 
 -- a word becomes n, and the history says so
-kept_step : {S : Type 0} (cs : List Cell) (log more : List (Event S)) (k n : ℕ) → IsKept cs log → k < length cs → value_at k (log ++ more) ≡ n
-    → ((j : ℕ) → (j ≡ k → ⊥) → value_at j (log ++ more) ≡ value_at j log) → count_of (log ++ more) ≡ count_of log → IsKept (slice_set cs k (n, true)) (log ++ more)
+kept_step : {S : Type 0} (cs : List Cell) (log more : List (Event S)) (k n : ℕ) → IsKept cs log → k < length cs → word_at k (log ++ more) ≡ n
+    → ((j : ℕ) → (j ≡ k → ⊥) → word_at j (log ++ more) ≡ word_at j log) → count_of (log ++ more) ≡ count_of log → IsKept (slice_set cs k (n, true)) (log ++ more)
 kept_step cs log more k n kept lt here there same = record {
   whole = length-set cs k (n, true) ∙ (kept.whole ∙ sym same);
   words = λ j less. elim (cases_eq j k) [
-    | inl e ↦ ap (λ i. cell (slice_set cs k (n, true)) i) e ∙ (get_or-set_same cs k (n, true) (0, false) lt ∙ ap (λ m. (m, true)) (sym here ∙ ap (λ i. value_at i (log ++ more)) (sym e)))
+    | inl e ↦ ap (λ i. cell (slice_set cs k (n, true)) i) e ∙ (get_or-set_same cs k (n, true) (0, false) lt ∙ ap (λ m. (m, true)) (sym here ∙ ap (λ i. word_at i (log ++ more)) (sym e)))
     | inr ne ↦ get_or-set_other cs k j (n, true) (0, false) ne
         ∙ (kept.words j (subst (λ m. j < m) (length-set cs k (n, true)) less) ∙ ap (λ m. (m, true)) (sym (there j ne)))
   ];
@@ -78,8 +78,8 @@ module _ {S A : Type 0} (moves : List (Event S) → List (Event S) → A → Typ
   read_moves cs log kept pre away =
       let count : count_of log ≡ count_of v = count_prefix v log pre (omega (arith, lt)) in
       let within : k < length cs = let w = kept.whole in omega (arith, w, count, lt) in
-      let is : cell cs k ≡ (value_at k log, true) = kept.words k within in
-      let number : (cell cs k).0 ≡ value_at k log = ap (λ c. c.0) is in
+      let is : cell cs k ≡ (word_at k log, true) = kept.words k within in
+      let number : (cell cs k).0 ≡ word_at k log = ap (λ c. c.0) is in
       let all : log ++ [] ≡ log = append-nil log in (
         within,
         ap (λ c. c.1) is,
@@ -88,9 +88,9 @@ module _ {S A : Type 0} (moves : List (Event S) → List (Event S) → A → Typ
           [],
           s,
           tt,
-          kept_step cs log [] k (cell cs k).0 kept within (ap (value_at k) all ∙ sym number) (λ j ne. ap (value_at j) all) (ap count_of all),
+          kept_step cs log [] k (cell cs k).0 kept within (ap (word_at k) all ∙ sym number) (λ j ne. ap (word_at j) all) (ap count_of all),
           inl (refl, refl),
-          number ∙ ap (value_at k) (sym all),
+          number ∙ ap (word_at k) (sym all),
         ),
       )
 
@@ -99,11 +99,11 @@ module _ {S A : Type 0} (moves : List (Event S) → List (Event S) → A → Typ
     abbrev FillGoes : List Cell → List (Event S) → Type 0
     FillGoes cs log = Goes IsKept shown moves k (v, (no_nib, s)) (λ n. either (n == 0) w n) (Tries (step k 0 w ask) (v, (no_nib, s))) cs log
 
-    fill_goes : (cs : List Cell) (log : List (Event S)) → IsKept cs log → k < length cs → 0 < count_of log → (n : ℕ) → (cell cs k).0 ≡ n → value_at k log ≡ n → FillGoes cs log
+    fill_goes : (cs : List Cell) (log : List (Event S)) → IsKept cs log → k < length cs → 0 < count_of log → (n : ℕ) → (cell cs k).0 ≡ n → word_at k log ≡ n → FillGoes cs log
     fill_goes cs log kept within some zero e is =
         let more : List (Event S) = Filled k w ∷ [] in
-        let own : value_at k more ≡ w = ap (λ n. first_not_0 n 0) (own_word S k w) ∙ first_none w in
-        let now : value_at k (log ++ more) ≡ w = value_append k log more ∙ (ap (λ n. first_not_0 n (value_at k more)) is ∙ own) in
+        let own : word_at k more ≡ w = ap (λ n. first_not_0 n 0) (own_word S k w) ∙ first_none w in
+        let now : word_at k (log ++ more) ≡ w = value_append k log more ∙ (ap (λ n. first_not_0 n (word_at k more)) is ∙ own) in
         let f : either ((cell cs k).0 == 0) w (cell cs k).0 ≡ w = ap (λ n. either (n == 0) w n) e in (
           keeps,
           more,
@@ -111,7 +111,7 @@ module _ {S A : Type 0} (moves : List (Event S) → List (Event S) → A → Typ
           tt,
           subst (λ n. IsKept (slice_set cs k (n, true)) (log ++ more)) (sym f)
               (kept_step cs log more k w kept within now
-              (λ j ne. value_append j log more ∙ (ap (first_not_0 (value_at j log)) (ap (λ n. first_not_0 n 0) (other_word S k j w (λ same. ne (sym same)))) ∙ first_none (value_at j log)))
+              (λ j ne. value_append j log more ∙ (ap (first_not_0 (word_at j log)) (ap (λ n. first_not_0 n 0) (other_word S k j w (λ same. ne (sym same)))) ∙ first_none (word_at j log)))
               (count_more k log more some)),
           inl (refl, refl),
           now ∙ sym (ap (λ n. first_not_0 n w) e),
@@ -125,17 +125,17 @@ module _ {S A : Type 0} (moves : List (Event S) → List (Event S) → A → Typ
           s,
           tt,
           subst (λ n. IsKept (slice_set cs k (n, true)) (log ++ [])) (sym f)
-              (kept_step cs log [] k (suc a) kept within (ap (value_at k) all ∙ is) (λ j ne. ap (value_at j) all) (ap count_of all)),
+              (kept_step cs log [] k (suc a) kept within (ap (word_at k) all ∙ is) (λ j ne. ap (word_at j) all) (ap count_of all)),
           inl (refl, refl),
-          ap (value_at k) all ∙ (is ∙ sym (ap (λ n. first_not_0 n w) e)),
+          ap (word_at k) all ∙ (is ∙ sym (ap (λ n. first_not_0 n w) e)),
         )
 
     pub fill_moves : Moves IsKept shown moves k (v, (no_nib, s)) (λ n. either (n == 0) w n) (Tries (step k 0 w ask) (v, (no_nib, s)))
     fill_moves cs log kept pre away =
         let count : count_of log ≡ count_of v = count_prefix v log pre (omega (arith, lt)) in
         let within : k < length cs = let w = kept.whole in omega (arith, w, count, lt) in
-        let is : cell cs k ≡ (value_at k log, true) = kept.words k within in
-        (within, ap (λ c. c.1) is, fill_goes cs log kept within (omega (arith, count, lt)) (value_at k log) (ap (λ c. c.0) is) refl)
+        let is : cell cs k ≡ (word_at k log, true) = kept.words k within in
+        (within, ap (λ c. c.1) is, fill_goes cs log kept within (omega (arith, count, lt)) (word_at k log) (ap (λ c. c.0) is) refl)
 
 -- the words of a row
 abbrev pub named : Book → ℕ → Named

@@ -3,7 +3,7 @@ use Rattle.std.proofs.Common.{◌≡◌, ℕ, ◌+◌, ◌*◌, ◌/◌, ◌%◌
 use Rattle.std.proofs.lemmas.Bool.{cases_eq, cases_lt}
 use Rattle.std.proofs.lemmas.Nat.{mod_below}
 use Rattle.std.proofs.Math.Nat.{mod-eq_of_lt}
-use Rattle.elsa_index_words.specs.Words.{word_of, walk, IsLater, GoesOn, IsIndexed}
+use Rattle.elsa_index_words.specs.Words.{word_for, walk, IsLater, PassesFilled, IsIndexed}
 
 -- a probe stays among the words
 pub walk_within : (count hash step : ℕ) → step < count → walk count hash step < count
@@ -23,7 +23,7 @@ pub later_later : (f g h : ℕ → ℕ) → IsLater f g → IsLater g h → IsLa
 later_later f g h a b i lt = let e = a i lt in b i (omega (arith, e, lt)) ∙ e
 
 -- what is indexed stays so
-pub later_goes_on : (count : ℕ) (f g : ℕ → ℕ) (hash step : ℕ) → IsLater f g → GoesOn count f hash step → GoesOn count g hash step
+pub later_goes_on : (count : ℕ) (f g : ℕ → ℕ) (hash step : ℕ) → IsLater f g → PassesFilled count f hash step → PassesFilled count g hash step
 later_goes_on count f g hash step later on k lt = let h = on k lt in let e = later (walk count hash k) h in omega (arith, e, h)
 
 -- nor does a later word hide a place
@@ -37,7 +37,7 @@ later_indexed count f g hash place later i = record {
 
 -- of each place with the hash that the first steps of a probe came to, M holds
 abbrev pub Missed : ℕ → (ℕ → ℕ) → ℕ → (ℕ → Type 0) → ℕ → Type 0
-Missed count words hash M step = (k : ℕ) → k < step → (place : ℕ) → words (walk count hash k) ≡ word_of hash place → M place
+Missed count words hash M step = (k : ℕ) → k < step → (place : ℕ) → words (walk count hash k) ≡ word_for hash place → M place
 
 -- A probe that comes to 0 has passed each place that is indexed under its hash
 pub passed_at_zero : (count : ℕ) (words : ℕ → ℕ) (hash place step : ℕ) → words (walk count hash step) ≡ 0 → (i : IsIndexed count words hash place) → i.step < step

@@ -2,7 +2,7 @@
 use Rattle.std.specs.Prelude.{◌≡◌, ℕ, Bool, false, List, [], ◌∷◌, ◌++◌, map, take, slice_get, Some}
 use Rattle.elsa_index_words.specs.declared.entry.Entry.{Entry}
 use Rattle.elsa_index_words.specs.declared.row.Event.{Event}
-use Rattle.elsa_index_words.specs.Row.{value_at, count_of, builder_of}
+use Rattle.elsa_index_words.specs.Row.{word_at, count_of, builder_of}
 use Rattle.elsa_index_words.specs.Words.{IsIndexed}
 
 -- each item is new to those before it
@@ -22,7 +22,7 @@ module _ {K : Type 0} where
   pub record Indexes {S : Type 0} (hash : S → K → ℕ) (log : List (Event S)) (keys : List K) : Type 0 where
     pub builder : S
     pub built : builder_of log ≡ Some builder
-    pub all : IndexesKeys (hash builder) (count_of log) (λ k. value_at k log) keys
+    pub all : IndexesKeys (hash builder) (count_of log) (λ k. word_at k log) keys
 
 module _ {K V S : Type 0} where
   abbrev pub key_of : Entry K V S → K

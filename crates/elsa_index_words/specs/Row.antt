@@ -21,9 +21,9 @@ module _ {S : Type 0} where
   filled_by k (Filled i w) = if i == k then w else 0
 
   -- what a history leaves in the word k: what the first event that filled it put there
-  abbrev pub value_at : ℕ → List (Event S) → ℕ
-  value_at k [] = 0
-  value_at k (e ∷ es) = first_not_0 (filled_by k e) (value_at k es)
+  abbrev pub word_at : ℕ → List (Event S) → ℕ
+  word_at k [] = 0
+  word_at k (e ∷ es) = first_not_0 (filled_by k e) (word_at k es)
 
   -- how many words a history's row has
   abbrev pub opened_by : Event S → ℕ
@@ -46,12 +46,12 @@ module _ {S : Type 0} where
   -- the rule
   pub record IsKept (cells : List Cell) (log : List (Event S)) : Type 0 where
     pub whole : length cells ≡ count_of log
-    pub words : (k : ℕ) → k < length cells → cell cells k ≡ (value_at k log, true)
+    pub words : (k : ℕ) → k < length cells → cell cells k ≡ (word_at k log, true)
 
   -- a read: the word is what the history seen leaves there
   abbrev pub Sees : {A : Type 0} → Step (Event S) → View (Event S) A → ℕ → View (Event S) A → Type 0
-  Sees s v found w = found ≡ value_at s.key w.0
+  Sees s v found w = found ≡ word_at s.key w.0
 
   -- an exchange from 0: the word is what was put there, if it was 0, and else what it was
   abbrev pub Tries : {A : Type 0} → Step (Event S) → View (Event S) A → ℕ → View (Event S) A → Type 0
-  Tries s v found w = value_at s.key w.0 ≡ first_not_0 found s.new
+  Tries s v found w = word_at s.key w.0 ≡ first_not_0 found s.new

@@ -4,8 +4,8 @@
 use Rattle.std.specs.Prelude.{◌≡◌, ℕ, ◌+◌, ◌*◌, ◌/◌, ◌%◌, ◌^◌, ◌<◌}
 
 -- the word of a place under a hash
-abbrev pub word_of : ℕ → ℕ → ℕ
-word_of hash place = hash * 2 ^ 32 + (place + 1)
+abbrev pub word_for : ℕ → ℕ → ℕ
+word_for hash place = hash * 2 ^ 32 + (place + 1)
 
 -- which of `count` words a probe for the hash comes to after so many steps: it begins at the hash's share of them
 unfoldable pub walk : ℕ → ℕ → ℕ → ℕ
@@ -16,12 +16,12 @@ abbrev pub IsLater : (ℕ → ℕ) → (ℕ → ℕ) → Type 0
 IsLater before after = (i : ℕ) → 0 < before i → after i ≡ before i
 
 -- a probe for the hash goes on for so many steps
-abbrev pub GoesOn : ℕ → (ℕ → ℕ) → ℕ → ℕ → Type 0
-GoesOn count words hash step = (k : ℕ) → k < step → 0 < words (walk count hash k)
+abbrev pub PassesFilled : ℕ → (ℕ → ℕ) → ℕ → ℕ → Type 0
+PassesFilled count words hash step = (k : ℕ) → k < step → 0 < words (walk count hash k)
 
 -- a probe for the hash comes to the place
 pub record IsIndexed (count : ℕ) (words : ℕ → ℕ) (hash place : ℕ) : Type 0 where
   pub step : ℕ
   pub within : step < count
-  pub there : words (walk count hash step) ≡ word_of hash place
-  pub goes_on : GoesOn count words hash step
+  pub there : words (walk count hash step) ≡ word_for hash place
+  pub goes_on : PassesFilled count words hash step

@@ -1,7 +1,7 @@
 //! How a place is looked for among words that other threads fill meanwhile, and how it is entered.
 ghost use Rattle.std.specs.Prelude.{◌≡◌, ℕ, ◌+◌, ◌<◌, ◌≤◌, ◌^◌, true, false, IfSome, IfNone, OnOk, MatchBool};
 ghost use Rattle.logbook.specs.Pages.{Book};
-ghost use Rattle.elsa_index_words.specs.Words.{walk, word_of, IsIndexed, IsLater};
+ghost use Rattle.elsa_index_words.specs.Words.{walk, word_for, IsIndexed, IsLater};
 
 use std::alloc::AllocError;
 

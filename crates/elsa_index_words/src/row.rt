@@ -169,13 +169,13 @@ impl<'a, S: Copy + Drop, A: Allocator> RowView<'a, S, A> {
 
 impl<'a, S: Copy + Drop, A: Allocator> Words<S> for RowView<'a, S, A> {
     ghost use Rattle.std.specs.Prelude.{length};
-    ghost use Rattle.elsa_index_words.specs.Row.{value_at};
+    ghost use Rattle.elsa_index_words.specs.Row.{word_at};
 
     ghost whose = { λ v. (v.seen.book, v.row.now.builder) };
 
     ghost count = { λ v. length v.row.now.words.items };
 
-    ghost known = { λ v k. value_at k v.seen.log };
+    ghost known = { λ v k. word_at k v.seen.log };
 
     fn len(&self) -> usize {
         self.row.words.len()

@@ -16,7 +16,7 @@ use Rattle.std.specs.Cmp.Lexicographic.{bytes_decides, nat_list_eq_equiv}
 use Rattle.std.proofs.lemmas.Bool.{cases_lt, false_from_ne_true}
 use Rattle.std.proofs.lemmas.Option.{slice_get-get_or, slice_get-map, slice_get_cases, slice_get_within, get_or_from_slice_get}
 use Rattle.elsa_interner.specs.Names.{Puts, IsOneToOne, IsNumbered}
-use Rattle.elsa_table.specs.Table.{Entries, places, Has, HasSame, Adds}
+use Rattle.elsa_table.specs.Table.{Entries, places, Has, HasSame, AddsPlace}
 
 abbrev shown : List (Bor (List ℕ)) → List (List ℕ)
 shown ks = map (λ b. b.now) ks
@@ -143,7 +143,7 @@ split_last names text i word there =
 
 -- a new name that the table has last
 pub numbered_put : (hash : List ℕ → ℕ) (before after : Entries) (names : List (List ℕ)) (text : List ℕ) (h place : ℕ) → IsNumbered hash before names
-    → h ≡ hash text → place ≡ places before → places after ≡ places before + 1 → Adds before h place after → position (bytes_eq text) names ≡ None
+    → h ≡ hash text → place ≡ places before → places after ≡ places before + 1 → AddsPlace before h place after → position (bytes_eq text) names ≡ None
     → IsNumbered hash after (names ++ text ∷ [])
 numbered_put hash before after names text h place old hashed placed more adds none = record {
   counted = omega (arith, more, old.counted, length-append names (text ∷ []));

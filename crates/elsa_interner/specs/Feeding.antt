@@ -2,7 +2,7 @@
 -- No public contract cites these words; they say what one private function leaves for the next.
 use Rattle.std.specs.Prelude.{◌≡◌, ◌≢◌, ℕ, ◌<◌, Bool, true, false, List, [], ◌++◌, Option, Result, MatchResult, length, All, codes}
 use Rattle.elsa_interner.specs.Devices.{Queues}
-use Rattle.elsa_interner.specs.Lines.{IsCut, Answers, IsAnsweredTo, AnswersLines, AnswersInput}
+use Rattle.elsa_interner.specs.Lines.{IsCut, AnswersLine, IsAnsweredTo, AnswersLines, AnswersInput}
 
 -- no byte is 10
 abbrev pub IsInside : List ℕ → Type 0
@@ -15,7 +15,7 @@ pub record IsSoFar (line : List ℕ) (skips : Bool) (tail : List ℕ) : Type 0 w
 
 -- the answer to a line that has begun and ends so, the names after it, and a line with no byte yet
 pub record IsFinished (names : List (List ℕ)) (line : List ℕ) (skips : Bool) (end answer : List ℕ) (names' : List (List ℕ)) (line' : List ℕ) (skips' : Bool) : Type 0 where
-  pub kept : skips ≡ false → Answers names (line ++ end) answer names'
+  pub kept : skips ≡ false → AnswersLine names (line ++ end) answer names'
   pub skipped : skips ≡ true → (answer ≡ codes "no memory") × (names' ≡ names)
   pub next : IsSoFar line' skips' []
 

@@ -108,8 +108,8 @@ Replies names command answer names' =
     ⊎ ((answer ≡ codes "no memory") × (names' ≡ names))
 
 -- a line has this answer and leaves these names
-abbrev pub Answers : List (List ℕ) → List ℕ → List ℕ → List (List ℕ) → Type 0
-Answers names line answer names' = Replies names (command_of line) answer names'
+abbrev pub AnswersLine : List (List ℕ) → List ℕ → List ℕ → List (List ℕ) → Type 0
+AnswersLine names line answer names' = Replies names (command_of line) answer names'
 
 -- the lines, in turn, have these answers, from some names to others
 abbrev pub AnswersAll : List (List ℕ) → List (List ℕ) → List (List ℕ) → List (List ℕ) → Type 0
@@ -117,7 +117,7 @@ AnswersAll names [] [] names' = names' ≡ names
 AnswersAll names [] (answer ∷ answers) names' = ⊥
 AnswersAll names (line ∷ lines) [] names' = ⊥
 AnswersAll names (line ∷ lines) (answer ∷ answers) names' =
-    (next : List (List ℕ)) × Answers names line answer next × AnswersAll next lines answers names'
+    (next : List (List ℕ)) × AnswersLine names line answer next × AnswersAll next lines answers names'
 
 -- the bytes are answer lines, one for each of the lines, from no names on to these
 abbrev pub IsAnsweredTo : List (List ℕ) → List (List ℕ) → List ℕ → Type 0

@@ -16,6 +16,6 @@ asked Len = len
 asked Bad = bad
 
 -- the text of a reply
-abbrev pub shown : Reply → List ℕ
-shown (Number n) = decimal n
-shown (Text text) = text.now
+abbrev pub reply_text : Reply → List ℕ
+reply_text (Number n) = decimal n
+reply_text (Text text) = text.now

@@ -4,7 +4,7 @@ ghost use Rattle.elsa_interner.specs.Devices.{CountsFault};
 ghost use Rattle.elsa_interner.specs.Engine.{HasRun, CountsRun};
 ghost use Rattle.elsa_interner.specs.Feeding.{IsSoFar, IsFinished, Feeds, Ends};
 ghost use Rattle.elsa_interner.specs.Lines.{LacksNumber, Replies};
-ghost use Rattle.elsa_interner.specs.Replies.{asked, shown};
+ghost use Rattle.elsa_interner.specs.Replies.{asked, reply_text};
 
 use crate::chunk::Chunk;
 use crate::devices::{Failed, Sink, Source};
@@ -48,11 +48,11 @@ fn answer_to<'a, S: BuildHasher, A: Allocator + Copy, P: Allocator>(
     request: Request<'_>,
     guess: usize,
 ) -> Reply<'a>
-    ensures replies { Replies names.old (asked request.entry) (shown result) names.new }
+    ensures replies { Replies names.old (asked request.entry) (reply_text result) names.new }
 
     // Where there are as many names as numbers, it isn't memory that a new one lacks.
     ensures limit { LacksNumber names.old (asked request.entry) →
-        shown result ≡ codes "too many names" }
+        reply_text result ≡ codes "too many names" }
 {
     match request {
         Request::Put(name) => match names.put_guessed(arena, name, guess) {
@@ -118,7 +118,7 @@ impl<'a, S: BuildHasher, A: Allocator + Copy, P: Allocator> Session<'a, S, A, P>
     #[inline(never)]
     fn finish_begun(&mut self, end: &[u8]) -> Reply<'a>
         ensures { IsFinished self.old.names self.old.line.items self.old.skips
-            end.now (shown result) self.new.names self.new.line.items self.new.skips }
+            end.now (reply_text result) self.new.names self.new.line.items self.new.skips }
     {
         if self.skips {
             self.skips = false;

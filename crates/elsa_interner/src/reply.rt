@@ -1,7 +1,7 @@
 //! An answer, and its line.
 ghost use Rattle.std.specs.Prelude.{[], ◌∷◌, ◌++◌};
 ghost use Rattle.elsa_interner.specs.Devices.{Queues, CountsFault};
-ghost use Rattle.elsa_interner.specs.Replies.{shown};
+ghost use Rattle.elsa_interner.specs.Replies.{reply_text};
 
 use crate::devices::{Failed, Sink};
 use crate::pending::Pending;
@@ -23,7 +23,7 @@ pub fn push_reply<W: Sink>(
     reply: Reply<'_>,
 ) -> Result<(), Failed>
     ensures adds { Queues result (W.held writer.old) out.old (W.held writer.new) out.new
-        (shown reply.entry ++ (10 ∷ [])) }
+        (reply_text reply.entry ++ (10 ∷ [])) }
     ensures counts { CountsFault result (W.failures writer.old) (W.failures writer.new) }
 {
     match reply {

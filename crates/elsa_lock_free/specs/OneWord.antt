@@ -40,5 +40,5 @@ module _ {T : Type 0} where
       (word_of w.0 ≡ found)
 
   -- the event was added to the history that was there, if the word was as expected
-  abbrev pub Ends : Step (Event T) → View (Event T) (List (Event T)) → ℕ → View (Event T) (List (Event T)) → Type 0
-  Ends s v found w = (log : List (Event T)) × IsPrefix v.0 log × (word_of log ≡ found) × (w.1.1 ≡ Some log) × MatchBool (found == s.old) (w.0 ≡ log ++ s.ask ∷ []) (w.0 ≡ log)
+  abbrev pub EndsHold : Step (Event T) → View (Event T) (List (Event T)) → ℕ → View (Event T) (List (Event T)) → Type 0
+  EndsHold s v found w = (log : List (Event T)) × IsPrefix v.0 log × (word_of log ≡ found) × (w.1.1 ≡ Some log) × MatchBool (found == s.old) (w.0 ≡ log ++ s.ask ∷ []) (w.0 ≡ log)

@@ -138,7 +138,7 @@ impl<T> Play<Event<T>, Log<T>> for Acquire {
 pub struct EndHold;
 
 impl<T> Play<Event<T>, Log<T>> for EndHold {
-    ghost use Rattle.elsa_lock_free.specs.OneWord.{Ends};
+    ghost use Rattle.elsa_lock_free.specs.OneWord.{EndsHold};
 
-    ghost then = { Ends };
+    ghost then = { EndsHold };
 }

@@ -2,8 +2,8 @@
 //!
 //! Contracts see a table as its slots and the number of its places; `Has` says that it has a place under a hash (`specs/Table.antt`).
 ghost use Rattle.std.specs.Prelude.{◌≡◌, ◌↔◌, ◌+◌, ◌<◌, ◌≤◌, ◌⊎◌, ℕ, [], true, false, IfOk, IfErr, IsTrue, OnOk, OnErr};
-ghost use Rattle.elsa_table.specs.Slots.{load_limit, wider_count, GoesOn};
-ghost use Rattle.elsa_table.specs.Table.{most_places, places, slots, Has, HasRoom, HasSame, IsRoom, IsVacancy, Adds, Grows};
+ghost use Rattle.elsa_table.specs.Slots.{load_limit, wider_count, PassesTaken};
+ghost use Rattle.elsa_table.specs.Table.{most_places, places, slots, Has, HasRoom, HasSame, IsRoom, IsVacancy, AddsPlace, Widens};
 
 use crate::slots::{LEAST, Slot, slots_for, vacant, walk, widened};
 use std::alloc::{AllocError, Allocator};
@@ -74,7 +74,7 @@ impl<A: Allocator + Copy> PlaceTable<A> {
 
         // There is a vacancy, or else each slot that a search for the hash comes to is taken.
         ensures room { IfErr result (λ v. v.slot < slots self.now
-            ⊎ GoesOn self.now.0 hash (slots self.now)) }
+            ⊎ PassesTaken self.now.0 hash (slots self.now)) }
     {
         let slots = self.slots.as_slice();
         let count = slots.len();
@@ -127,7 +127,7 @@ impl<A: Allocator + Copy> PlaceTable<A> {
         ensures below { OnOk result (places self.new < most_places) }
         ensures places { places self.new ≡ places self.old }
         ensures same { HasSame self.old self.new }
-        ensures grows { OnOk result (Grows self.old vacancy self.new) }
+        ensures grows { OnOk result (Widens self.old vacancy self.new) }
         ensures refused { OnErr result (self.new ≡ self.old) }
 
         // It is refused only where the slots have as many places as they are for, or there was no vacancy.
@@ -219,7 +219,7 @@ impl<A: Allocator + Copy> PlaceTable<A> {
         // The next place is there under the hash, and those before it as they were.
         ensures place { result ≡ places self.old }
         ensures places { places self.new ≡ places self.old + 1 }
-        ensures adds { Adds self.old hash result self.new }
+        ensures adds { AddsPlace self.old hash result self.new }
 
         // The slots stay as many, and places have three quarters of them at most.
         ensures slots { slots self.new ≡ slots self.old }

@@ -8,7 +8,7 @@ use Rattle.std.proofs.lemmas.Result.{MatchResult-from_err}
 use Rattle.std.specs.Prelude.{Option, Result, Ok, Err}
 use Rattle.std.specs.Result.{IsErr}
 use Rattle.elsa_interner.specs.Devices.{Queues, AppendsSome, Queued}
-use Rattle.elsa_interner.specs.Lines.{Answers, AnswersAll, AnswersLines, IsAnsweredTo, ended, with_tail}
+use Rattle.elsa_interner.specs.Lines.{AnswersLine, AnswersAll, AnswersLines, IsAnsweredTo, ended, with_tail}
 use Rattle.elsa_interner.specs.Feeding.{IsInside, IsSoFar, IsFinished, IsReached, Comes, Feeds, Ends}
 use Rattle.elsa_interner.proofs.EngineLemmas.KnownBytes.{adds_both, adds_failed}
 
@@ -16,22 +16,22 @@ ended_append : (ls : List (List ℕ)) (l : List ℕ) → ended (ls ++ l ∷ []) 
 ended_append [] l = refl
 ended_append (k ∷ ls) l = ap (λ t. k ++ 10 ∷ t) (ended_append ls l) ∙ sym (append_assoc k (10 ∷ ended ls) (l ++ 10 ∷ []))
 
-answers_append : (names names' names'' ls xs : List (List ℕ)) (l x : List ℕ) → AnswersAll names ls xs names' → Answers names' l x names'' → AnswersAll names (ls ++ l ∷ []) (xs ++ x ∷ []) names''
-answers_append names names' names'' [] [] l x p q = (names'', subst (λ n. Answers n l x names'') p q, refl)
+answers_append : (names names' names'' ls xs : List (List ℕ)) (l x : List ℕ) → AnswersAll names ls xs names' → AnswersLine names' l x names'' → AnswersAll names (ls ++ l ∷ []) (xs ++ x ∷ []) names''
+answers_append names names' names'' [] [] l x p q = (names'', subst (λ n. AnswersLine n l x names'') p q, refl)
 answers_append names names' names'' [] (y ∷ xs) l x p q = absurd p
 answers_append names names' names'' (k ∷ ls) [] l x p q = absurd p
 answers_append names names' names'' (k ∷ ls) (y ∷ xs) l x p q = (p.0, p.1, answers_append p.0 names' names'' ls xs l x p.2 q)
 
 -- one more line and its answer
 answered_more : (lines names names' : List (List ℕ)) (written line answer : List ℕ)
-    → IsAnsweredTo names lines written → Answers names line answer names' → IsAnsweredTo names' (lines ++ line ∷ []) (written ++ (answer ++ 10 ∷ []))
+    → IsAnsweredTo names lines written → AnswersLine names line answer names' → IsAnsweredTo names' (lines ++ line ∷ []) (written ++ (answer ++ 10 ∷ []))
 answered_more lines names names' written line answer a next =
     (a.0 ++ answer ∷ [], answers_append [] names names' lines a.0 line answer a.1 next, ap (λ t. t ++ (answer ++ 10 ∷ [])) a.2 ∙ sym (ended_append a.0 answer))
 
 -- the answer to the line that has begun
 finished_answers : (names names' : List (List ℕ)) (line end answer tail line' : List ℕ) (skips skips' : Bool)
-    → IsFinished names line skips end answer names' line' skips' → IsSoFar line skips tail → Answers names (tail ++ end) answer names'
-finished_answers names names' line end answer tail line' false skips' f s = subst (λ t. Answers names (t ++ end) answer names') (s.kept refl) (f.kept refl)
+    → IsFinished names line skips end answer names' line' skips' → IsSoFar line skips tail → AnswersLine names (tail ++ end) answer names'
+finished_answers names names' line end answer tail line' false skips' f s = subst (λ t. AnswersLine names (t ++ end) answer names') (s.kept refl) (f.kept refl)
 finished_answers names names' line end answer tail line' true skips' f s = inr (f.skipped refl)
 
 -- at the start nothing was cut and nothing answered
@@ -158,7 +158,7 @@ pub ends_line : {T E : Type 0} (r : Result T E) (line line' answer : List ℕ) (
     → IsFinished names line skips [] answer names' line' skips' → ((tail : List ℕ) → IsSoFar line skips tail → 0 < length tail) → Queues r a w b v (answer ++ 10 ∷ []) → Ends r names line skips a w b v
 ends_line r line line' answer names names' skips skips' a b w v f some added = record {
   from = λ bytes written reached.
-      let asks = subst (λ t. Answers names t answer names') (append-nil reached.tail) (finished_answers names names' line [] answer reached.tail line' skips skips' f reached.so_far) in
+      let asks = subst (λ t. AnswersLine names t answer names') (append-nil reached.tail) (finished_answers names names' line [] answer reached.tail line' skips skips' f reached.so_far) in
       let all = answered_more reached.lines names names' written reached.tail answer reached.answered asks in (
         answer ++ 10 ∷ [],
         (reached.lines, reached.tail, names', reached.cut, subst (λ ls. IsAnsweredTo names' ls (written ++ (answer ++ 10 ∷ []))) (sym (tail_counts reached.lines reached.tail (some reached.tail reached.so_far))) all),

@@ -13,7 +13,7 @@ use Rattle.elsa_lock_free.specs.Distinct.{EachIsNew}
 use Rattle.elsa_lock_free.specs.History.{list_of, entries, begins_hold, is_held, shared_by}
 use Rattle.elsa_lock_free.specs.SharedList.{authored, copied, items_of}
 use Rattle.elsa_lock_free.specs.Rights.{IsStep}
-use Rattle.elsa_lock_free.specs.OneWord.{IsKept, Acquires, Ends, word_of}
+use Rattle.elsa_lock_free.specs.OneWord.{IsKept, Acquires, EndsHold, word_of}
 use Rattle.elsa_lock_free.proofs.RuleLemmas.History.{held_snoc, list_prefix, list_snoc, prefix_whole}
 
 -- a bit is at most 1
@@ -139,7 +139,7 @@ module _ (T : Type 0) where
 
   module _ (is_new : List T → T → Type 0) (v : Log) (e : Event T) (held after : ℕ) (ends : begins_hold e ≡ false) (pl : plain e ≡ true) (may : MayFollow e (list_of v)) (low : length (list_of (v ++ e ∷ [])) < 2 ^ 62) (holds : is_held v ≡ true) (was : held ≡ word_of v) (will : after ≡ word_of (v ++ e ∷ [])) (new : EachIsNew is_new (items_of (list_of v)) → EachIsNew is_new (items_of (list_of v ++ entries e))) where
     abbrev EndGoes : List Cell → Log → Type 0
-    EndGoes cs log = Goes (IsKept is_new) shown (IsStep e) 0 (v, (no_nib, None)) (λ n. either (n == held) after n) (Ends (step 0 held after e) (v, (no_nib, None))) cs log
+    EndGoes cs log = Goes (IsKept is_new) shown (IsStep e) 0 (v, (no_nib, None)) (λ n. either (n == held) after n) (EndsHold (step 0 held after e) (v, (no_nib, None))) cs log
 
     end_goes : (log : Log) → length (list_of log) < 2 ^ 62 → EachIsNew is_new (items_of (list_of log)) → IsPrefix v log → (b : Bool) → (word_of log == held) ≡ b → EndGoes ((word_of log, true) ∷ (0, true) ∷ []) log
     end_goes log tiny all_new pre true is =
@@ -174,7 +174,7 @@ module _ (T : Type 0) where
           (log, pre, refl, refl, rw is all),
         )
 
-    pub end_moves : Moves (IsKept is_new) shown (IsStep e) 0 (v, (no_nib, None)) (λ n. either (n == held) after n) (Ends (step 0 held after e) (v, (no_nib, None)))
+    pub end_moves : Moves (IsKept is_new) shown (IsStep e) 0 (v, (no_nib, None)) (λ n. either (n == held) after n) (EndsHold (step 0 held after e) (v, (no_nib, None)))
     end_moves cs log kept pre away = let P : List Cell → Type 0 = λ c. (0 < length c) × ((cell c 0).1 ≡ true) × EndGoes c log in
         subst P (sym kept.words) (omega arith, refl, end_goes log kept.small kept.each_is_new pre (word_of log == held) refl)
 

@@ -1,6 +1,6 @@
 use Rattle.std.proofs.Common.{◌≡◌, ◌-◌, ◌∷◌, ◌++◌, [], Some, length, slice_get, ap, subst, sym, ◌∙◌, arith}
 use Rattle.elsa_index_words.specs.Entries.{keys_of, IndexesKeys}
-use Rattle.elsa_index_words.specs.Row.{value_at, count_of, builder_of}
+use Rattle.elsa_index_words.specs.Row.{word_at, count_of, builder_of}
 use Rattle.elsa_index_words.proofs.EntryLemmas.{indexed_by, last_indexes, later_indexes, grown_by}
 use Rattle.elsa_index_words.proofs.entry.entered.Goals as goal
 
@@ -33,8 +33,8 @@ returns-clause-behind g c =
       indexes = record {
         builder = builder;
         built = ap (λ s. builder_of s.log) c.into_seen.ensures ∙ (after.built ∙ ap Some same);
-        all = subst (λ s. IndexesKeys (g.L.Shelf.hash builder) (count_of s.log) (λ k. value_at k s.log) (keys_of es ++ c.args.key ∷ [])) (sym c.into_seen.ensures)
-            (grown_by (g.L.Shelf.hash builder) es c.args.key (length view.row.now.words.items) (length after.row.now.words.items) (λ k. value_at k view.seen.log) after.seen.log c.hash_of.result n all c.enter.ensures.same.0 after.opened c.enter.ensures.later
+        all = subst (λ s. IndexesKeys (g.L.Shelf.hash builder) (count_of s.log) (λ k. word_at k s.log) (keys_of es ++ c.args.key ∷ [])) (sym c.into_seen.ensures)
+            (grown_by (g.L.Shelf.hash builder) es c.args.key (length view.row.now.words.items) (length after.row.now.words.items) (λ k. word_at k view.seen.log) after.seen.log c.hash_of.result n all c.enter.ensures.same.0 after.opened c.enter.ensures.later
             (c.hash_of.ensures ∙ ap (λ s. g.L.Shelf.hash s c.args.key) c.builder-builder.ensures) len c.in_ok-enter.ensures.entered);
       };
     }

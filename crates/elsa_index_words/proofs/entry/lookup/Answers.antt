@@ -1,6 +1,6 @@
 use Rattle.std.proofs.Common.{length, ◌-◌, ap, ◌∙◌, sym, arith}
 use Rattle.elsa_index_words.specs.Entries.{keys_of}
-use Rattle.elsa_index_words.specs.Row.{value_at}
+use Rattle.elsa_index_words.specs.Row.{word_at}
 use Rattle.elsa_index_words.proofs.EntryLemmas.{absent_by, entry_at, get_within, indexed_by, last_indexes, later_indexes, some_weaker, none_weaker}
 use Rattle.elsa_index_words.proofs.entry.lookup.Goals as goal
 
@@ -24,5 +24,5 @@ returns-clause-absent g c =
     let builder = view.row.now.builder in
     let hashed = c.hash_of-hash.ensures ∙ ap (g.Q.Sought.hash c.args.sought.now) c.builder-builder.ensures in
     none_weaker c.find.result _ _
-    (λ refused. absent_by (g.Q.Sought.stands_for c.args.sought.now) (g.L.Shelf.hash builder) es (length view.row.now.words.items) (λ k. value_at k view.seen.log) c.hash_of-hash.result n (λ y e. hashed ∙ c.requires.lawful builder y e) len all refused (entry_at es))
+    (λ refused. absent_by (g.Q.Sought.stands_for c.args.sought.now) (g.L.Shelf.hash builder) es (length view.row.now.words.items) (λ k. word_at k view.seen.log) c.hash_of-hash.result n (λ y e. hashed ∙ c.requires.lawful builder y e) len all refused (entry_at es))
     c.find.ensures.absent
