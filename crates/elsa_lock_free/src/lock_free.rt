@@ -3,10 +3,9 @@
 //! A [`Pass`] is what a thread has seen of a vector. What it sees is a beginning of the one list that all threads share, so it
 //! only grows, and the places at which it pushed are its own for good. What a pass has seen it reads without an atomic step.
 //!
-//! Many items are pushed under one hold by `extend_as`. Each other call has three forms. `push_as` takes the caller's pass.
-//! `push_with_pass` makes a pass and returns it beside the result: its clauses relate the result to what that pass has seen, and by
-//! [`Pass::meet`] the caller relates it to other results. `push` drops that pass, so its contract keeps only what can be said
-//! without one: limits of places and lengths.
+//! Many items are pushed under one hold by `extend_as`. Each other call has two forms. `push_as` takes the caller's pass: its
+//! clauses relate the result to what that pass has seen, and by [`Pass::meet`] the caller relates it to other results. `push` is by
+//! a pass of its own that is dropped, so its contract keeps only what can be said without one: limits of places and lengths.
 ghost use Rattle.std.specs.Prelude.{◌≡◌, ◌≤◌, ◌<◌, ◌^◌, ◌+◌, [], ◌∷◌, ◌++◌, drop, length, slice_get, IfOk, IfErr, IfSome, IfNone, List, Some, suc, take};
 ghost use mathlib.Core.List.{IsPrefix};
 ghost use Rattle.elsa_lock_free.specs.SharedList.{Appends, BeginsABuffer, BeginsAmong, Continues, IsSamePass, PushedAll, entry, items_of, mine};
@@ -121,33 +120,14 @@ impl<T: Copy + Drop, A: Allocator + Copy> LockFreeFrozenVec<T, A> {
         Ok(place)
     }
 
-    /// [`push_as`](Self::push_as) with a pass of its own, whose only place is the one that is returned.
-    pub fn push_with_pass<R: Wait>(
-        &self,
-        rt: &R,
-        item: T,
-    ) -> (Result<usize, AllocError>, Pass<T, A>)
-        ensures of { result.1.vector ≡ self.now }
-        ensures pushed { IfOk result.0 (λ i.
-            Appends [] result.1.seen i (entry result.1.author item)) }
-        ensures pushed_mine { IfOk result.0 (λ i. mine result.1 ≡ i ∷ []) }
-        ensures limit { IfOk result.0 (λ i. i + 1 < 2 ^ 62) }
-        ensures refused { IfErr result.0 (λ e.
-            BeginsABuffer (length result.1.seen) × (mine result.1 ≡ [])) }
-    {
-        let mut pass = self.pass();
-        self.len_as(&mut pass);
-        let answer = self.push_as(rt, &mut pass, item);
-        (answer, pass)
-    }
-
-    /// The result of [`push_with_pass`](Self::push_with_pass) alone: of a place it is promised that it is below the greatest
-    /// length, `2^62 - 1`. The short form of [`Handle::push`], which promises all.
+    /// Pushes an item and returns its place: [`push_as`](Self::push_as) by a pass that is dropped. Of the place it is promised that
+    /// it is below the greatest length, `2^62 - 1`. The short form of [`Handle::push`], which promises all.
     pub fn push<R: Wait>(&self, rt: &R, item: T) -> Result<usize, AllocError>
         ensures limit { IfOk result (λ i. i + 1 < 2 ^ 62) }
     {
-        let (answer, _pass) = self.push_with_pass(rt, item);
-        answer
+        let mut own = self.pass();
+        self.len_as(&mut own);
+        self.push_as(rt, &mut own, item)
     }
 }
 
@@ -397,49 +377,26 @@ impl<T: Copy + Drop, A: Allocator + Copy, K: ItemRule<T>> LockFreeFrozenVec<T, A
         self.list.items_from(pass.evidence(), len, before)
     }
 
-    /// [`get_as`](Self::get_as) with a pass of its own, by one read of the length.
-    pub fn get_with_pass(&self, place: usize) -> (Option<T>, Pass<T, A, K>)
-        ensures of { (result.1.vector ≡ self.now) × (mine result.1 ≡ []) }
-        ensures item { result.0 ≡ slice_get (items_of result.1.seen) place }
-        ensures limit { IfSome result.0 (λ _. place + 1 < 2 ^ 62) }
-    {
-        let mut pass = self.pass();
-        let answer = self.get_as(&mut pass, place);
-        (answer, pass)
-    }
-
-    /// The result of [`get_with_pass`](Self::get_with_pass) alone. It is promised that at or above the greatest length,
-    /// `2^62 - 1`, it is `None`. The short form of [`Handle::get`], which promises all.
+    /// The item at the place: [`get_as`](Self::get_as) by a pass that is dropped. It is promised that at or above the greatest
+    /// length, `2^62 - 1`, it is `None`. The short form of [`Handle::get`], which promises all.
     pub fn get(&self, place: usize) -> Option<T>
         ensures limit { IfSome result (λ _. place + 1 < 2 ^ 62) }
     {
-        let (answer, _pass) = self.get_with_pass(place);
-        answer
+        let mut own = self.pass();
+        self.get_as(&mut own, place)
     }
 
-    /// [`len_as`](Self::len_as) with a pass of its own.
-    pub fn len_with_pass(&self) -> (usize, Pass<T, A, K>)
-        ensures of { (result.1.vector ≡ self.now) × (mine result.1 ≡ []) }
-        ensures length { result.0 ≡ length result.1.seen }
-        ensures limit { result.0 < 2 ^ 62 }
-    {
-        let mut pass = self.pass();
-        let answer = self.len_as(&mut pass);
-        (answer, pass)
-    }
-
-    /// The length of [`len_with_pass`](Self::len_with_pass) alone. It is promised that it is at most the greatest length,
-    /// `2^62 - 1`. The short form of [`Handle::len`], which promises all.
+    /// How many items there are: [`len_as`](Self::len_as) by a pass that is dropped. It is promised that it is at most the greatest
+    /// length, `2^62 - 1`. The short form of [`Handle::len`], which promises all.
     pub fn len(&self) -> usize
         ensures limit { result < 2 ^ 62 }
     {
-        let (answer, _pass) = self.len_with_pass();
-        answer
+        let mut looker = self.pass();
+        self.len_as(&mut looker)
     }
 
-    /// Whether the vector has no item, by one read of the length, of which nothing is promised: [`len_with_pass`](Self::len_with_pass)
-    /// tells it with its pass. The short form of a test of [`Handle::len`], which promises all. It takes no lock and no memory, and
-    /// never waits. `O(1)`.
+    /// Whether the vector has no item, by one read of the length, of which nothing is promised. The short form of a test of
+    /// [`Handle::len`], which promises all. It takes no lock and no memory, and never waits. `O(1)`.
     pub fn is_empty(&self) -> bool {
         self.len() == 0
     }

@@ -8,7 +8,7 @@
 //! prints the same whatever the schedule.
 #![tactic(auto)]
 
-ghost use Rattle.std.specs.Prelude.{◌≡◌, ◌++◌, ℕ, IfOk, IfSome};
+ghost use Rattle.std.specs.Prelude.{◌≡◌, ◌++◌, IfOk, IfSome};
 ghost use Rattle.elsa_words.specs.Replay.{Replays};
 ghost use Rattle.example_account.specs.Account.{AccountStep};
 

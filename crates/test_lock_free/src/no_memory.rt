@@ -37,10 +37,11 @@ fn reads(numbers: &Numbers<'_>) -> usize {
     }
 }
 
-/// The reads without a pass, and those that return one.
+/// The reads without a pass, and those by a new one.
 fn plain_reads(numbers: &Numbers<'_>) -> bool {
-    let (length, _pass) = numbers.len_with_pass();
-    let (first, _pass) = numbers.get_with_pass(0);
+    let mut pass = numbers.pass();
+    let length = numbers.len_as(&mut pass);
+    let first = numbers.get_as(&mut pass, 0);
     numbers.len() == length && numbers.is_empty() == first.is_none() && numbers.get(0) == first
 }
 

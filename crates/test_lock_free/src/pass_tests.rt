@@ -88,7 +88,7 @@ fn reads_all(vector: &LockFreeFrozenVec<u64>, count: u64) -> bool {
     let mut pass = vector.pass();
     let (end, top) = (vector.len_as(&mut pass), usize::MAX);
     let above = vector.get_as(&mut pass, end).is_none() && vector.get_as(&mut pass, top).is_none();
-    above && reads_below(vector, &mut pass, count) && vector.get_with_pass(top).0.is_none()
+    above && reads_below(vector, &mut pass, count) && vector.get(top).is_none()
 }
 
 #[test]
@@ -170,8 +170,8 @@ fn push_and_read<R: Wait>(
 ) -> Result<Option<u64>, AllocError>
     ensures { IfOk result (λ read. read ≡ Some item) }
 {
-    let (answer, mut pass) = vector.push_with_pass(rt, item);
-    let place = answer?;
+    let mut pass = vector.pass();
+    let place = vector.push_as(rt, &mut pass, item)?;
     Ok(vector.get_as(&mut pass, place))
 }
 
@@ -183,34 +183,37 @@ fn a_push_is_read_by_its_pass(rt: HostRuntime) -> Result<(), Fail> {
     Ok(())
 }
 
-/// Whether the calls that return their pass answer as the vector of three numbers is, and their passes have seen it.
-fn answers_with_passes<R: Wait>(rt: &R, vector: &LockFreeFrozenVec<u64>) -> bool {
-    let (place, pushed) = vector.push_with_pass(rt, 3);
-    let (item, got) = vector.get_with_pass(3);
-    let (length, counted) = vector.len_with_pass();
-    place == Ok(3)
-        && item == Some(3)
-        && length == 4
+/// Whether calls by new passes answer as the vector of three numbers is, and the passes have seen it.
+fn answers_by_new_passes<R: Wait>(rt: &R, vector: &LockFreeFrozenVec<u64>) -> bool {
+    let mut pushed = vector.pass();
+    let mut got = vector.pass();
+    let mut counted = vector.pass();
+    vector.push_as(rt, &mut pushed, 3) == Ok(3)
+        && vector.get_as(&mut got, 3) == Some(3)
+        && vector.len_as(&mut counted) == 4
         && walks(vector, &pushed, 4)
         && walks(vector, &got, 4)
         && walks(vector, &counted, 4)
 }
 
-/// Whether a vector of four numbers and a clone of it are equal, by calls that return their passes.
-fn compares_with_passes(vector: &LockFreeFrozenVec<u64>) -> Result<bool, AllocError> {
-    let (copy, pass, copy_pass) = vector.clone_with_passes()?;
-    let (equal, one, other) = vector.equals_with_passes(&copy);
+/// Whether a vector of four numbers and a clone of it are equal, by new passes, which have then seen all four.
+fn compares_by_new_passes(vector: &LockFreeFrozenVec<u64>) -> Result<bool, AllocError> {
+    let mut pass = vector.pass();
+    let (copy, copy_pass) = vector.clone_as(&mut pass)?;
+    let mut one = vector.pass();
+    let mut other = copy.pass();
+    let equal = vector.equals_as(&mut one, &copy, &mut other);
     let cloned = walks(vector, &pass, 4) && walks(&copy, &copy_pass, 4);
     Ok(cloned && equal && walks(vector, &one, 4) && walks(&copy, &other, 4))
 }
 
 #[test]
-fn each_answer_with_its_pass(rt: HostRuntime) -> Result<(), Fail> {
+fn each_answer_by_a_new_pass(rt: HostRuntime) -> Result<(), Fail> {
     let vector = LockFreeFrozenVec::<u64>::new(rt.alloc())?;
     assert!(rt;
         push_to(&rt, &vector, 0, 3)
-            && answers_with_passes(&rt, &vector)
-            && compares_with_passes(&vector)?
+            && answers_by_new_passes(&rt, &vector)
+            && compares_by_new_passes(&vector)?
     );
     Ok(())
 }
@@ -276,7 +279,8 @@ fn a_pass_keeps_reading_in_another_thread(rt: HostRuntime) -> Result<(), Fail> {
     let vector = LockFreeFrozenVec::<u64>::new(rt.alloc())?;
     let shared = &vector;
     assert!(rt; push_to(&rt, shared, 0, 100));
-    let (length, pass) = shared.len_with_pass();
+    let mut pass = shared.pass();
+    let length = shared.len_as(&mut pass);
     let (read, pushed) = thread::join(
         &rt,
         move || reads_until(shared, pass, 100, 5000),

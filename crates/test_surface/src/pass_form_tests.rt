@@ -65,30 +65,6 @@ fn forms_of_a_pass(rt: HostRuntime) -> Result<(), Fail> {
     Ok(())
 }
 
-/// Whether the calls that return their pass saw the push of 7.
-fn return_their_pass(rt: &impl Wait, vector: &Vector) -> bool {
-    let (place, pushed) = vector.push_with_pass(rt, 7);
-    let (item, got) = vector.get_with_pass(0);
-    let (length, counted) = vector.len_with_pass();
-    let seen = pushed.seen_len() == 1 && got.seen_len() == 1 && counted.seen_len() == 1;
-    seen && place == Ok(0) && item == Some(7) && length == 1
-}
-
-/// Whether a clone and a comparison that return their passes saw one item each.
-fn return_both_passes(vector: &Vector) -> Result<bool, AllocError> {
-    let (copy, pass, copy_pass) = vector.clone_with_passes()?;
-    let (is_equal, one, other) = vector.equals_with_passes(&copy);
-    let cloned = pass.seen_len() == 1 && copy_pass.seen_len() == 1;
-    Ok(cloned && is_equal && one.seen_len() == 1 && other.seen_len() == 1)
-}
-
-#[test]
-fn forms_of_calls_that_return_a_pass(rt: HostRuntime) -> Result<(), Fail> {
-    let vector: Vector = LockFreeFrozenVec::new(rt.alloc())?;
-    assert!(rt; return_their_pass(&rt, &vector) && return_both_passes(&vector)?);
-    Ok(())
-}
-
 /// Whether the calls without a pass see the push of 7.
 fn is_read(rt: &impl Wait, vector: &Vector) -> Result<bool, AllocError> {
     let before = vector.is_empty();

@@ -35,23 +35,11 @@ impl<T: Copy + Drop, A: Allocator + Copy, K: ItemRule<T>> LockFreeFrozenVec<T, A
         Ok((LockFreeFrozenVec { list }, copy_pass))
     }
 
-    /// [`clone_as`](Self::clone_as) with a pass of its own: the clone, the pass that saw what was copied, and the clone's pass.
-    pub fn clone_with_passes(
-        &self,
-    ) -> Result<(LockFreeFrozenVec<T, A>, Pass<T, A, K>, Pass<T, A>), AllocError>
-        ensures of { IfOk result (λ r. (r.1.vector ≡ self.now) × (r.2.vector ≡ r.0)) }
-        ensures items { IfOk result (λ r. r.2.seen ≡ copied (items_of r.1.seen)) }
-        ensures mine { IfOk result (λ r. (mine r.1 ≡ []) × (mine r.2 ≡ [])) }
-    {
-        let mut pass = self.pass();
-        let (copy, copy_pass) = self.clone_as(&mut pass)?;
-        Ok((copy, pass, copy_pass))
-    }
-
-    /// The clone of [`clone_with_passes`](Self::clone_with_passes) alone, of which nothing is promised without its passes. The short
+    /// An independent vector: [`clone_as`](Self::clone_as) by a pass that is dropped, without which nothing is promised of it. The short
     /// form of [`Handle::clone_vector`](super::Handle::clone_vector), which promises all.
     pub fn clone(&self) -> Result<LockFreeFrozenVec<T, A>, AllocError> {
-        let (copy, _pass, _copy_pass) = self.clone_with_passes()?;
+        let mut own = self.pass();
+        let (copy, _copy_pass) = self.clone_as(&mut own)?;
         Ok(copy)
     }
 }
@@ -86,27 +74,12 @@ impl<T: Copy + Drop + PartialEq, A: Allocator + Copy, K: ItemRule<T>> LockFreeFr
         equal
     }
 
-    /// [`equals_as`](Self::equals_as) with passes of its own, which are returned beside the result.
-    pub fn equals_with_passes<L: ItemRule<T>>(
-        &self,
-        other: &LockFreeFrozenVec<T, A, L>,
-    ) -> (bool, Pass<T, A, K>, Pass<T, A, L>)
-        ensures of { (result.1.vector ≡ self.now) × (mine result.1 ≡ []) }
-        ensures other_of { (result.2.vector ≡ other.now) × (mine result.2 ≡ []) }
-        ensures equal { result.0
-            ≡ pointwise T.eq (items_of result.1.seen) (items_of result.2.seen) }
-    {
-        let mut pass = self.pass();
-        let mut other_pass = other.pass();
-        let equal = self.equals_as(&mut pass, other, &mut other_pass);
-        (equal, pass, other_pass)
-    }
-
-    /// The result of [`equals_with_passes`](Self::equals_with_passes) alone, of which nothing is promised without its passes. The
-    /// short form of [`Handle::equals`](super::Handle::equals), which promises all.
+    /// Whether two vectors have equal items: [`equals_as`](Self::equals_as) by passes that are dropped, without which nothing is
+    /// promised of it. The short form of [`Handle::equals`](super::Handle::equals), which promises all.
     pub fn equals<L: ItemRule<T>>(&self, other: &LockFreeFrozenVec<T, A, L>) -> bool {
-        let (equal, _pass, _other_pass) = self.equals_with_passes(other);
-        equal
+        let mut own = self.pass();
+        let mut other_own = other.pass();
+        self.equals_as(&mut own, other, &mut other_own)
     }
 }
 
