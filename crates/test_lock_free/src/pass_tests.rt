@@ -1,4 +1,4 @@
-//! What a pass reads of what it has seen, and the calls that return their pass.
+//! What a pass reads of what it has seen, and calls beside a push that stands still.
 ghost use Rattle.std.specs.Prelude.{◌≡◌, IfOk, Some};
 
 use elsa_lock_free::lock_free::{LockFreeFrozenVec, Pass};
@@ -218,6 +218,17 @@ fn each_answer_by_a_new_pass(rt: HostRuntime) -> Result<(), Fail> {
     Ok(())
 }
 
+/// Whether a request stands still in time.
+fn halts(budget: &Budget<Global>) -> bool {
+    for _ in 0..TURNS {
+        if budget.is_halted() {
+            return true;
+        }
+        thread::yield_now();
+    }
+    false
+}
+
 /// Whether, once a request stands still, a pass that has seen three numbers reads them, walks over them, and finds no fourth,
 /// while the request still stands still. It then lets the request go on.
 fn reads_beside_a_halted_push(
@@ -228,18 +239,13 @@ fn reads_beside_a_halted_push(
     if vector.len_as(&mut pass) != 3 {
         return false;
     }
-    for _ in 0..TURNS {
-        if budget.is_halted() {
-            break;
-        }
-        thread::yield_now();
-    }
+    let stands = halts(budget);
     let read = reads_below(vector, &mut pass, 3)
         && walks(vector, &pass, 3)
         && vector.get_as(&mut pass, 3).is_none();
     let still = budget.is_halted();
     budget.go_on();
-    read && still
+    stands && read && still
 }
 
 #[test]
@@ -255,6 +261,45 @@ fn a_reader_beside_a_pusher_that_stands_still(rt: HostRuntime) -> Result<(), Fai
         || shared.push(&rt, 3),
     );
     assert_eq!(rt; (read, pushed), (true, Ok(3)));
+    Ok(())
+}
+
+/// The part of a thread: the first one's push stands still in its request, the second one pushes meanwhile, and the third
+/// one lets the request go on, long after.
+fn takes_part<R: Wait>(
+    rt: &R,
+    budget: &Budget<Global>,
+    vector: &LockFreeFrozenVec<u64, &Budget<Global>>,
+    part: usize,
+) -> bool {
+    if part == 0 {
+        return vector.push(rt, 3) == Ok(3);
+    }
+    let stands = halts(budget);
+    if part == 1 {
+        return stands && vector.push(rt, 4) == Ok(4);
+    }
+    for _ in 0..100_000u32 {
+        thread::yield_now();
+    }
+    let still = budget.is_halted();
+    budget.go_on();
+    stands && still
+}
+
+#[test]
+fn a_push_that_waits_long_comes_next(rt: HostRuntime) -> Result<(), Fail> {
+    let budget = Budget::<Global>::new(rt.alloc());
+    let vector = LockFreeFrozenVec::<u64, _>::new(&budget)?;
+    let shared = &vector;
+    assert!(rt; push_to(&rt, shared, 0, 3));
+    budget.halt_next();
+    let part = &|part| takes_part(&rt, &budget, shared, part);
+    let did = thread::map_indices(&rt, rt.alloc(), 3, part)?;
+    assert_eq!(rt;
+        (did.as_slice(), shared.len()),
+        ([true, true, true].as_slice(), 5)
+    );
     Ok(())
 }
 
