@@ -5,7 +5,7 @@ ghost use Rattle.elsa_words.specs.Replay.{Replays, IsRecorded};
 use crate::{AtOpening, Core, Start};
 use elsa_words::Call;
 use std::alloc::{AllocError, Allocator, Global};
-use std::marker::Model;
+use std::marker::{Model, PhantomData};
 
 /// Calls of passes, in order: the number of the caller's pass, the command and the reply.
 pub type Entries<C, A = Global> = Vec<(u64, <C as Core>::Command, <C as Core>::Reply), A>;
@@ -13,12 +13,13 @@ pub type Entries<C, A = Global> = Vec<(u64, <C as Core>::Command, <C as Core>::R
 /// A core with all calls that were made on it, in order.
 ///
 /// Contracts see the pair of the core and its entries; an entry is the number of the caller's pass, the command and the
-/// reply. Each such pair is legal: the entries lead from the state `S.start`, which is the opening one of the core's type unless
-/// the history is a later part of another, to the core's state.
+/// reply. Each such pair is legal: the entries lead from the state with which `S` says that they start, the opening one of the
+/// core's type unless the history is a later part of another, to the core's state.
 #[derive(Drop)]
 pub struct History<C: Core, A: Allocator = Global, S: Start<C> = AtOpening> {
     core: C,
     entries: Entries<C, A>,
+    of: PhantomData<S>,
 }
 
 impl<C: Core, A: Allocator, S: Start<C>> Model for History<C, A, S> {
@@ -30,26 +31,28 @@ impl<C: Core, A: Allocator, S: Start<C>> Model for History<C, A, S> {
     ghost view = { λ h. (h.core, h.entries.items) };
 
     ghost invariant = { λ h.
-        Replays C.Command.steps S.start h.entries.items (C.Command.state h.core) };
+        Replays C.Command.steps (S.start C.Command.state C.Command.opening) h.entries.items
+        (C.Command.state h.core) };
 }
 
 impl<C: Core, A: Allocator + Copy, S: Start<C>> History<C, A, S> {
     /// The history of a core that was not called yet. Takes no memory.
     pub(crate) fn new(alloc: A, core: C) -> Self
-        requires { C.Command.state core ≡ S.start }
+        requires { C.Command.state core ≡ S.start C.Command.state C.Command.opening }
         ensures { result ≡ (core, []) }
     {
         History {
             core,
             entries: Vec::new(alloc),
+            of: PhantomData,
         }
     }
 
     /// The core, as it ended.
     pub fn core(&self) -> &C
         ensures core { result.now ≡ self.now.0 }
-        ensures legal { Replays C.Command.steps S.start self.now.1
-            (C.Command.state self.now.0) }
+        ensures legal { Replays C.Command.steps (S.start C.Command.state C.Command.opening)
+            self.now.1 (C.Command.state self.now.0) }
     {
         &self.core
     }
@@ -57,8 +60,8 @@ impl<C: Core, A: Allocator + Copy, S: Start<C>> History<C, A, S> {
     /// The calls, in order: the number of the caller's pass, the command and the reply.
     pub fn entries(&self) -> &[(u64, C::Command, C::Reply)]
         ensures entries { result.now ≡ self.now.1 }
-        ensures legal { Replays C.Command.steps S.start self.now.1
-            (C.Command.state self.now.0) }
+        ensures legal { Replays C.Command.steps (S.start C.Command.state C.Command.opening)
+            self.now.1 (C.Command.state self.now.0) }
     {
         self.entries.as_slice()
     }
@@ -67,9 +70,14 @@ impl<C: Core, A: Allocator + Copy, S: Start<C>> History<C, A, S> {
     pub fn into_parts(self) -> (C, Entries<C, A>)
         ensures core { result.0 ≡ self.0 }
         ensures entries { result.1.items ≡ self.1 }
-        ensures legal { Replays C.Command.steps S.start result.1.items (C.Command.state result.0) }
+        ensures legal { Replays C.Command.steps (S.start C.Command.state C.Command.opening)
+            result.1.items (C.Command.state result.0) }
     {
-        let History { core, entries } = self;
+        let History {
+            core,
+            entries,
+            of: _,
+        } = self;
         (core, entries)
     }
 
@@ -86,7 +94,8 @@ impl<C: Core, A: Allocator + Copy, S: Start<C>> History<C, A, S> {
         ensures place { IfOk result (λ r. r.0 ≡ length self.old.1) }
         ensures stored { IfOk result (λ r. self.new.1 ≡ self.old.1 ++ (number, command, r.1) ∷ []) }
         ensures recorded { IfOk result (λ r.
-            IsRecorded C.Command.steps S.start r.0 (number, command, r.1)) }
+            IsRecorded C.Command.steps (S.start C.Command.state C.Command.opening) r.0
+            (number, command, r.1)) }
         ensures step { IfOk result (λ r.
             C.Command.steps (C.Command.state self.old.0) command r.1 (C.Command.state self.new.0)) }
 

@@ -47,11 +47,12 @@ fn recorded_part<C: Core + Drop, A: Allocator + Copy, R: Wait, S: Start<C>>(
     number: u64,
     command: C::Command,
 ) -> Result<Option<(C, Entries<C, A>)>, AllocError>
-    requires { C.Command.state core ≡ S.start }
+    requires { C.Command.state core ≡ S.start C.Command.state C.Command.opening }
     ensures call { IfOk result (λ closed. IfSome closed (λ part.
         IsOneCall C.Command.eq C.Reply.eq number command part.1.items)) }
     ensures legal { IfOk result (λ closed. IfSome closed (λ part.
-        Replays C.Command.steps S.start part.1.items (C.Command.state part.0))) }
+        Replays C.Command.steps (S.start C.Command.state C.Command.opening) part.1.items
+        (C.Command.state part.0))) }
 {
     let recorder: Recorder<C, A, S> = Recorder::with_start(alloc, core);
     let mut pass = recorder.pass(number);

@@ -33,23 +33,23 @@ pub trait Core: Sized {
     type Reply: Copy + Eq;
 }
 
-/// The state of the core with which a history starts.
+/// The state with which a history starts.
 ///
 /// A history is closed in parts by a function over any `S: Start<C>`, which records one part and is called at `Brand` for each:
 /// the caller's proof picks the state in which the part before it left the core ([`laws::recorded_in_parts`]).
-pub trait Start<C: Core> {
-    /// The state.
-    ghost start: { C.Command.State };
+pub trait Start<C> {
+    /// The state, of what the state of each core is, and of the opening one.
+    ghost start: { {X : Type 0} → (C → X) → X → X };
 }
 
 /// The opening state of the core's type.
 pub struct AtOpening;
 
-impl<C: Core> Start<C> for AtOpening {
-    ghost start = { C.Command.opening };
+impl<C> Start<C> for AtOpening {
+    ghost start = { λ state opening. opening };
 }
 
 // A call at it picks the state.
-impl<C: Core> Start<C> for Brand {
-    ghost start = { C.Command.opening };
+impl<C> Start<C> for Brand {
+    ghost start = { λ state opening. opening };
 }

@@ -61,7 +61,8 @@ impl<C: Core, A: Allocator + Copy> RecordPass<C, A> {
     ) -> Result<C::Reply, AllocError>
         ensures ok { IfOk result (λ reply.
             (place : ℕ) × (self.new ≡ (self.old.0, self.old.1 ++ (place, command, reply) ∷ []))
-            × IsRecorded C.Command.steps S.start place (self.old.0, command, reply)) }
+            × IsRecorded C.Command.steps (S.start C.Command.state C.Command.opening) place
+            (self.old.0, command, reply)) }
         ensures err { OnErr result (self.new ≡ self.old) }
     {
         self.receipts.reserve(1)?;

@@ -44,9 +44,10 @@ impl<C: Core, A: Allocator + Copy> Recorder<C, A> {
 }
 
 impl<C: Core, A: Allocator + Copy, S: Start<C>> Recorder<C, A, S> {
-    /// A recorder of a core in the state `S.start`: it goes on from an earlier part of a history. Takes no memory and no lock.
+    /// A recorder of a core in the state with which `S` says that the history starts, as the core of an earlier part. Takes no memory
+    /// and no lock.
     pub fn with_start(alloc: A, core: C) -> Self
-        requires { C.Command.state core ≡ S.start }
+        requires { C.Command.state core ≡ S.start C.Command.state C.Command.opening }
     {
         Recorder {
             lock: RwLock::new(History::new(alloc, core)),
@@ -78,7 +79,8 @@ impl<C: Core, A: Allocator + Copy, S: Start<C>> Recorder<C, A, S> {
     ) -> Result<C::Reply, AllocError>
         ensures ok { IfOk result (λ reply.
             (place : ℕ) × (pass.new ≡ (pass.old.0, pass.old.1 ++ (place, command, reply) ∷ []))
-            × IsRecorded C.Command.steps S.start place (pass.old.0, command, reply)) }
+            × IsRecorded C.Command.steps (S.start C.Command.state C.Command.opening) place
+            (pass.old.0, command, reply)) }
         ensures err { OnErr result (pass.new ≡ pass.old) }
     {
         pass.call(rt, &self.lock, command)
@@ -97,14 +99,16 @@ impl<C: Core, A: Allocator + Copy, S: Start<C>> Recorder<C, A, S> {
         ensures ok { IfOk result (λ h. AreReceipts C.Command.eq C.Reply.eq passes.items h.1) }
         ensures count { IfOk result (λ h. length h.1 ≡ receipt_count passes.items) }
         ensures legal { IfOk result (λ h.
-            Replays C.Command.steps S.start h.1 (C.Command.state h.0)) }
+            Replays C.Command.steps (S.start C.Command.state C.Command.opening) h.1
+            (C.Command.state h.0)) }
 
         // The history is legal, and the receipts aren't that history: an entry has none, or they aren't even of it.
         ensures fault { IfErr result (λ f.
             (h : C × List (ℕ × C.Command × C.Reply))
             × ((f ≡ CloseFault.Receipts ReceiptsFault.MissingPass h)
             ⊎ (f ≡ CloseFault.Receipts ReceiptsFault.ForeignPass h))
-            × Replays C.Command.steps S.start h.1 (C.Command.state h.0)) }
+            × Replays C.Command.steps (S.start C.Command.state C.Command.opening) h.1
+            (C.Command.state h.0)) }
         ensures missing { IfErr result (λ f.
             (h : C × List (ℕ × C.Command × C.Reply)) →
             f ≡ CloseFault.Receipts ReceiptsFault.MissingPass h →

@@ -58,9 +58,9 @@ fn day<R: Threads + Wait + Sync, S: Start<Account>>(
     alloc: Global,
     account: Account,
 ) -> Result<Option<(Account, Entries<Account>)>, AllocError>
-    requires { account.cents ≡ S.start }
+    requires { account.cents ≡ S.start (λ it. it.cents) 0 }
     ensures { IfOk result (λ closed. IfSome closed (λ day.
-        Replays AccountStep S.start day.1.items day.0.cents)) }
+        Replays AccountStep (S.start (λ it. it.cents) 0) day.1.items day.0.cents)) }
 {
     let recorder: Recorder<Account, Global, S> = Recorder::with_start(alloc, account);
     let shared = &recorder;
