@@ -35,6 +35,7 @@ found_at {X} t xs i e = find_at t xs ∙ ap (slice_get xs) at
 pub found_within : {X : Type 0} (t : X → Bool) (xs : List X) (i : ℕ) → position t xs ≡ Some i → i < length xs
 found_within t xs i e = grind (arith, common_steps, e)
 
+-- where a test finds no place, it finds nothing
 pub found_nowhere : {X : Type 0} (t : X → Bool) (xs : List X) → position t xs ≡ None → find t xs ≡ None
 found_nowhere t xs e = find_at t xs ∙ ap (slice_get xs) (none_found t xs e) ∙ slice_get_past xs (length xs) (omega arith)
 

@@ -20,6 +20,7 @@ ghost use Rattle.elsa_words.specs.Insertions.{place_of, Inserted, InsertedNew, I
 
 use bumpalo::Bump;
 use elsa_maps::map::InsertFault;
+use elsa_tables::{IntoPairs, insert_with};
 use elsa_vec::stable::{KeepsText, StableDeref};
 use elsa_words::for_its_clause;
 use indexmap::IndexMap;
@@ -414,20 +415,18 @@ where
         ensures refused { OnErr result (self.new ≡ self.old) }
         ensures only_new { OnErr result (place_of K.eq self.old key ≡ None) }
     {
-        let Ok(entry) = self.map.entry(key) else {
+        let to = self.arena;
+        let place = |_key: &K| -> Result<V::Borrow, V>
+            requires { F.pre make }
+            ensures { IfOk result (λ b. (v : V) × F.post make v × (V.shown b ≡ V.target v)) }
+        {
+            let value = make();
+            value.place(to)
+        };
+        let Ok(done) = insert_with(&mut self.map, key, place) else {
             return Err(AllocError);
         };
-        let room = match entry {
-            Entry::Occupied(present) => return Ok(*present.get()),
-            Entry::Vacant(room) => room,
-        };
-        let value = make();
-        let Ok(stored) = value.place(self.arena) else {
-            let _key = room.into_key();
-            return Err(AllocError);
-        };
-        room.insert(stored);
-        Ok(stored)
+        Ok(done.0)
     }
 
     /// Adds the pair last, with the value that `make` returns, unless the key is present, and returns the value that the key
@@ -661,7 +660,7 @@ where
         let map = self.into_map();
         for_its_clause(map.len());
         let alloc = *map.allocator();
-        map.into_iter().collect(alloc)
+        map.into_pairs(alloc)
     }
 
     /// Begins anew with another content, as a write through `as_mut` does. It takes no memory.

@@ -95,7 +95,7 @@ fn tell(rt: &impl Print, name: &str, day: &Entries<Account>) -> io::Result<()> {
     let mut refused = 0u64;
     for (_, _, reply) in day {
         if *reply == AccountReply::Refused {
-            refused = refused.wrapping_add(1);
+            refused = refused.saturating_add(1);
         }
     }
     println!(rt;

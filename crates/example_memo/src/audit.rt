@@ -15,9 +15,11 @@ pub fn closed(
 
 /// How many calls a worker made.
 pub fn told_by(history: &History<MapState<u64, u64>>, worker: u64) -> usize {
-    history
-        .entries()
-        .iter()
-        .filter(|entry| entry.0 == worker)
-        .count()
+    let mut calls = 0usize;
+    for (number, _, _) in history.entries() {
+        if *number == worker {
+            calls = calls.saturating_add(1);
+        }
+    }
+    calls
 }
