@@ -53,7 +53,7 @@ fn two_days<R: Threads + Wait + Sync>(
 }
 
 /// The account after a day that it started with so much, and the day's calls. `None` where the receipts aren't the history.
-fn day<R: Threads + Wait + Sync, S: Start<Account>>(
+fn day<R: Threads + Wait + Sync, S: Start<Account> + Send + Sync>(
     rt: &R,
     alloc: Global,
     account: Account,
