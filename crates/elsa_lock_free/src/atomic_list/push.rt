@@ -23,18 +23,13 @@ use logbook::Gained;
 use std::alloc::{AllocError, Allocator};
 use std::hint::spin_loop;
 use std::sync::Wait;
-use std::sync::atomic::AtomicU64;
 use std::thread::yield_now;
-use std::time::Duration;
 
 /// The greatest length: buffer 31, which would come next, is never opened.
 pub(super) const LIMIT: usize = (1 << 62) - 1;
 
-/// How often a pusher that finds the word held waits by the processor's hint before it yields.
-const HINTS: u32 = 64;
-
-/// How often it waits before it sleeps.
-const WAKEFUL: u32 = 128;
+/// How often a pusher reads a word that another thread holds before it yields.
+const TRIES: u32 = 64;
 
 impl<T: Drop, A: Allocator + Copy, K: ItemRule<T>, X: Beside<T> + Drop> AtomicList<T, A, K, X> {
     /// Acquires the word if it is still `found`. Else `found` becomes what it is now.
@@ -104,7 +99,7 @@ impl<T: Drop, A: Allocator + Copy, K: ItemRule<T>, X: Beside<T> + Drop> AtomicLi
                     return (length, right);
                 }
             } else {
-                tries = wait_a_little(rt, tries);
+                tries = wait_a_little(tries);
                 found = self.load(seen);
             }
         }
@@ -138,7 +133,7 @@ impl<T: Drop, A: Allocator + Copy, K: ItemRule<T>, X: Beside<T> + Drop> AtomicLi
                 return Err(length);
             }
             if found % 2 == 1 {
-                tries = wait_a_little(rt, tries);
+                tries = wait_a_little(tries);
                 found = self.load(seen);
             } else if let Some(right) = self.try_acquire(rt, seen, &mut found) {
                 return Ok(right);
@@ -438,17 +433,12 @@ impl<T: Copy + Drop, A: Allocator + Copy, K: ItemRule<T>> AtomicList<T, A, K> {
     }
 }
 
-/// Waits longer each time: by the processor's hint, then by yields, and then asleep, from a microsecond up to a millisecond.
-/// Returns how often it has waited.
-fn wait_a_little<R: Wait>(rt: &R, tries: u32) -> u32 {
-    if tries < HINTS {
+/// Waits by the processor's hint at first, and later yields. Returns how often it has waited.
+fn wait_a_little(tries: u32) -> u32 {
+    if tries < TRIES {
         spin_loop();
-    } else if tries < WAKEFUL {
-        yield_now();
-    } else {
-        // Nobody wakes this word, so the sleep ends by its time.
-        let word = AtomicU64::new(0);
-        word.park_timeout(rt, 0, Duration::from_micros(1 << (tries - WAKEFUL).min(10)));
+        return tries + 1;
     }
-    tries.saturating_add(1)
+    yield_now();
+    tries
 }
