@@ -12,7 +12,9 @@ ghost use Rattle.std.specs.Prelude.{◌≡◌, IfOk};
 
 use crate::count::{Counts, count_words};
 use elsa::interner::{Name, NamePass, SharedInterner};
-use std::alloc::AllocError;
+use std::alloc::{AllocError, Global};
+use std::sync::Wait;
+use std::thread::Threads;
 use std::{io, thread};
 
 /// The first sentences of Jane Austen's "Pride and Prejudice", and those of the first chapter's end.
@@ -46,28 +48,46 @@ fn add_up(
     Ok(all)
 }
 
-fn main(rt: HostRuntime) -> io::Result<()> {
-    let alloc = rt.alloc();
-    let words = SharedInterner::new(alloc)?;
-    let shared = &words;
+/// What a thread hands back: its counts, and the pass that has seen its words.
+type Counted = (Counts, NamePass);
+
+/// Counts each half in a thread of its own.
+fn count_halves<R: Threads + Wait + Sync>(
+    rt: &R,
+    alloc: Global,
+    words: &SharedInterner,
+) -> Result<(Counted, Counted), AllocError>
+    ensures { IfOk result (λ halves. (halves.0.1.vector ≡ words.now)
+        × (halves.1.1.vector ≡ words.now)) }
+{
     let (first, second) = thread::join(
-        &rt,
-        || -> Result<(Counts, NamePass), AllocError>
-            ensures { IfOk result (λ counted. counted.1.vector ≡ shared.entry.now) }
-        { count_words(&rt, alloc, shared, FIRST) },
-        || -> Result<(Counts, NamePass), AllocError>
-            ensures { IfOk result (λ counted. counted.1.vector ≡ shared.entry.now) }
-        { count_words(&rt, alloc, shared, SECOND) },
+        rt,
+        || -> Result<Counted, AllocError>
+            ensures { IfOk result (λ counted. counted.1.vector ≡ words.entry.now) }
+        { count_words(rt, alloc, words, FIRST) },
+        || -> Result<Counted, AllocError>
+            ensures { IfOk result (λ counted. counted.1.vector ≡ words.entry.now) }
+        { count_words(rt, alloc, words, SECOND) },
     );
-    let (first, mut names) = first?;
-    let (second, mut others) = second?;
-    names.meet(&mut others);
-    let mut all = add_up(&words, &mut names, &first, &second)?;
-    all.sort_by(|one, other| other.0.cmp(&one.0).then(one.1.cmp(&other.1)))?;
-    for (count, name) in &all {
+    Ok((first?, second?))
+}
+
+/// Prints the words that are there more than once, the most frequent first, and how many there are.
+fn tell(rt: &impl Print, all: &[(u64, Name)]) -> io::Result<()> {
+    for (count, name) in all {
         if *count > 1 {
             println!(rt; "{count:>2} {}", name.as_str())?;
         }
     }
     println!(rt; "{} words", all.len())
+}
+
+fn main(rt: HostRuntime) -> io::Result<()> {
+    let alloc = rt.alloc();
+    let words = SharedInterner::new(alloc)?;
+    let ((first, mut names), (second, mut others)) = count_halves(&rt, alloc, &words)?;
+    names.meet(&mut others);
+    let mut all = add_up(&words, &mut names, &first, &second)?;
+    all.sort_by(|one, other| other.0.cmp(&one.0).then(one.1.cmp(&other.1)))?;
+    tell(&rt, &all)
 }
