@@ -58,7 +58,7 @@ test_off k n e = grind (arith, nat_tests)
 pub sum_zero : {X : Type 0} (f : X → ℕ) (xs : List X) → All (λ x. f x ≡ 0) xs → sum_by f xs ≡ 0
 sum_zero f xs h = let most = sum_by-le f 0 xs (λ k d lt. let z = h k d lt in omega (arith, z)) in omega (arith, most)
 
--- and then each is 0
+-- where they add up to 0, each is 0
 pub each_zero : {X : Type 0} (f : X → ℕ) (xs : List X) → sum_by f xs ≡ 0 → All (λ x. f x ≡ 0) xs
 each_zero f xs z k d lt = let most = get_or-le-sum_by f xs k d lt in omega (arith, most, z)
 
@@ -201,7 +201,7 @@ of_nil {C} {R} eqc eqr ps h = record {
   rising = λ k d lt. subst Rises (sym (h k d lt)) (λ i j c before within. absurd (omega (arith, within)));
 }
 
--- of no history are only passes without receipts
+-- where the history is empty, no pass has a receipt
 pub none_of_nil : {C R : Type 0} (eqc : C → C → Bool) (eqr : R → R → Bool) (ps : List (ℕ × List (ℕ × C × R))) → AreOf eqc eqr ps [] → All (λ p. p.1 ≡ []) ps
 none_of_nil {C} {R} eqc eqr ps a k d lt = by (get_or ps k d).1 (a.right k d lt)
   where
