@@ -1,46 +1,15 @@
--- What stays of a content that grows, and what one insertion leaves.
-use Rattle.std.proofs.Common.{◌≡◌, ℕ, Bool, true, false, List, [], ◌∷◌, ◌++◌, length, position, refl, sym, ap, ◌∙◌, Option, None, Some, MatchOption, IsPermutation, IsTrue, ◌↔◌}
+-- What stays of a content that grows, and what one insertion into a set leaves.
+use Rattle.std.proofs.Common.{◌≡◌, ℕ, Bool, true, false, List, [], ◌∷◌, ◌++◌, length, position, refl, sym, ap, ◌∙◌, Option, None, Some, IsPermutation, IsTrue, ◌↔◌}
 use Rattle.std.specs.Cmp.{IsEquivalence}
-use Rattle.std.specs.List.{IsDistinct}
-use Rattle.std.specs.Map.{keys_of, lookup}
-use Rattle.std.specs.Option.{option_eq}
-use Rattle.std.proofs.lemmas.List.{length-map, map-append}
 use Rattle.std.proofs.lemmas.List.Sorted.{list_any-IsPermutation}
-use Rattle.indexmap.proofs.MapLemmas.{lookup_permutation}
-use Rattle.elsa_words.specs.FirstWins.{same_values, value_at}
-use Rattle.elsa_words.specs.Insertions.{place_of, Inserted}
-use Rattle.elsa_words.proofs.Entries.{found_last}
-use Rattle.elsa_words.proofs.MapEquality.{same_from_each}
 use Rattle.elsa_index.specs.Equality.{same_set}
 use Rattle.elsa_index.proofs.Equality.{same_set_decides}
-use Rattle.elsa_index.proofs.Content.{no_value, place_of_last}
-
--- after an insertion the key stands at the place that was answered, and has the value that was answered
-pub stands_inserted : {K V T B : Type 0} (eq : K → K → Bool) (laws : IsEquivalence eq) (target : V → T) (shown : B → T) (es : List (K × B)) (k : K) (v : V) (i : ℕ) (b : B) (fs : List (K × B))
-    → Inserted eq target shown es k v i b fs → (place_of eq fs k ≡ Some i) × (value_at eq fs k ≡ Some b)
-stands_inserted eq laws target shown es k v i b fs h = by (place_of eq es k) refl h
-  where
-    by : (o : Option ℕ) → place_of eq es k ≡ o → MatchOption o ((i ≡ length es) × (shown b ≡ target v) × (fs ≡ es ++ (k, b) ∷ [])) (λ j. (i ≡ j) × (value_at eq es k ≡ Some b) × (fs ≡ es)) → (place_of eq fs k ≡ Some i) × (value_at eq fs k ≡ Some b)
-    by None at g = (
-      ap (λ l. place_of eq l k) g.2 ∙ ap (position (eq k)) (map-append (λ p. p.0) es ((k, b) ∷ [])) ∙ place_of_last (eq k) (keys_of es) k at (laws.refl k) ∙ ap Some (length-map es (λ p. p.0) ∙ sym g.0),
-      ap (lookup (eq k)) g.2 ∙ found_last (eq k) es k b (no_value eq es k at) (laws.refl k),
-    )
-    by (Some j) at g = (ap (λ l. place_of eq l k) g.2 ∙ at ∙ ap Some (sym g.0), ap (lookup (eq k)) g.2 ∙ g.1)
+use Rattle.elsa_maps.proofs.Places.{place_of_last}
 
 -- a value that nothing was found for stands last, where it goes last, also behind the making of room
 pub set_place_added : {B V T : Type 0} (eq : B → B → Bool) (laws : IsEquivalence eq) (target : V → T) (shown : B → T) (finds : V → B → Bool) (finds_target : (v : V) (b k : B) → shown b ≡ target v → finds v k ≡ eq b k)
     (bs room : List B) (v : V) (i : ℕ) (b : B) (cs : List B) → room ≡ bs → position (finds v) bs ≡ None → i ≡ length room → shown b ≡ target v → cs ≡ room ++ b ∷ [] → position (finds v) cs ≡ Some i
 set_place_added eq laws target shown finds finds_target bs room v i b cs kept none at is left = ap (position (finds v)) (left ∙ ap (λ l. l ++ b ∷ []) kept) ∙ place_of_last (finds v) bs b none (finds_target v b b is ∙ laws.refl b) ∙ ap Some (sym (at ∙ ap length kept))
-
--- the same pairs in another order are the same map
-pub same_in_any_order : {K B : Type 0} (eq : K → K → Bool) (laws : IsEquivalence eq) (same : B → B → Bool) (alike_itself : (b : B) → same b b ≡ true) (es fs : List (K × B))
-    → IsDistinct eq (keys_of fs) → IsPermutation es fs → same_values eq same es fs ≡ true
-same_in_any_order {B = B} eq laws same alike_itself es fs distinct moved =
-    same_from_each eq same es fs (λ q. ap (option_eq same (lookup (eq q) es)) (lookup_permutation laws es fs moved distinct (eq q) (laws.congr q)) ∙ alike (lookup (eq q) es))
-  where
-    alike : (o : Option B) → option_eq same o o ≡ true
-    alike None = refl
-    alike (Some b) = alike_itself b
 
 -- the same values in another order are the same set
 pub same_set_in_any_order : {B : Type 0} (eq : B → B → Bool) (laws : IsEquivalence eq) (bs cs : List B) → IsPermutation bs cs → same_set eq bs cs ≡ true

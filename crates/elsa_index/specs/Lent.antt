@@ -1,4 +1,4 @@
--- What an index map or set ends as, once its inner one, lent for writing, has ended.
+-- What an index set ends as, once its inner one, lent for writing, has ended.
 use Rattle.std.specs.Prelude.{List}
 use Rattle.std.specs.Borrow.{Fml, RattleType, MutBor, Lends}
 use Rattle.std.specs.HashMap.Lent.{HashMembers}
@@ -6,19 +6,8 @@ use Rattle.std.specs.declared.alloc.Allocator as alloc
 use Rattle.std.specs.declared.hash.Hasher as hasher
 use Rattle.std.specs.declared.hash.BuildHasher as builder
 use Rattle.elsa_vec.specs.declared.stable.HasTarget as target
-use Rattle.indexmap.specs.contracts.map.IndexMap.{the_row as inner_map_row}
 use Rattle.indexmap.specs.contracts.set.IndexSet.{the_row as inner_set_row}
-use Rattle.elsa_index.specs.contracts.index_map.FrozenIndexMapIn.{the_row as map_row}
 use Rattle.elsa_index.specs.contracts.index_set.FrozenIndexSetIn.{the_row as set_row}
-
-module _ (R K V S A B H : RattleType) (key : HashMembers K.Denot) (t : target.Ghosts V.Denot B.Denot) (b : builder.Ghosts S.Denot H.Denot) (h : hasher.Ghosts H.Denot) (heap : alloc.Ghosts A.Denot) where
-  -- the inner map's type, as the logic holds it
-  abbrev pub inner_map : RattleType
-  inner_map = inner_map_row K B S A H (record { eq = key.eq }) (record { hash_input = key.hash_input }) b h heap
-
-  -- the map holds the pairs that are left behind r
-  abbrev pub lends_pairs : MutBor (List (K.Denot × B.Denot)) → MutBor inner_map.Denot → Fml
-  lends_pairs m r = Lends (map_row R K V S A H B (record { eq = key.eq }) (record { hash_input = key.hash_input }) b h heap t) inner_map m r (λ w. w.entries)
 
 module _ (R T S A B H : RattleType) (value : HashMembers B.Denot) (t : target.Ghosts T.Denot B.Denot) (b : builder.Ghosts S.Denot H.Denot) (h : hasher.Ghosts H.Denot) (heap : alloc.Ghosts A.Denot) where
   -- the inner set's type

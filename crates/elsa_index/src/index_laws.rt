@@ -1,11 +1,11 @@
 //! What users may rely on across calls: each law is the contract of a function that makes the calls.
 ghost use Rattle.std.specs.Prelude.{◌≡◌, ◌+◌, ◌↔◌, ℕ, All, List, None, Some, false, true, if◌then◌else◌, length, position, slice_get, IfOk, IsSome, OnErr, IsTrue};
 ghost use Rattle.elsa_words.specs.FirstWins.{value_at};
-ghost use Rattle.elsa_words.specs.Insertions.{place_of, Grows, Inserted, SetInserted, IsCloneOf};
+ghost use Rattle.elsa_words.specs.Insertions.{place_of, Grows, Inserted, IsCloneOf};
 
-use crate::index_map::FrozenIndexMapIn;
 use crate::index_set::FrozenIndexSetIn;
 use crate::look_up::LookUp;
+use elsa_maps::index_map::FrozenIndexMapIn;
 use elsa_vec::stable::StableDeref;
 use std::alloc::{AllocError, Allocator};
 use std::hash::{BuildHasher, Hash};

@@ -171,7 +171,7 @@ where
     /// The stored value that equals the target of `value`, `None` exactly if there is none.
     ///
     /// It takes no memory. `O(1)`: one hash.
-    #[tactic(auto, using(crate::proofs::Content::found_at, crate::proofs::Content::found_nowhere, crate::proofs::Content::found_within))]
+    #[tactic(auto, using(elsa_maps::proofs::Places::found_at, elsa_maps::proofs::Places::found_nowhere, elsa_maps::proofs::Places::found_within))]
     pub fn get<Q: LookUp<T::Borrow>>(&self, value: &Q) -> Option<T::Borrow>
         ensures { result ≡ find (Q.finds value.now) self.now }
     {
@@ -182,7 +182,7 @@ where
     /// The stored value that equals the target of `value`, and its place, `None` exactly if there is none.
     ///
     /// It takes no memory. `O(1)`: one hash.
-    #[tactic(auto, using(crate::proofs::Content::found_within))]
+    #[tactic(auto, using(elsa_maps::proofs::Places::found_within))]
     pub fn get_full<Q: LookUp<T::Borrow>>(&self, value: &Q) -> Option<(usize, T::Borrow)>
         ensures place { option_map (λ r. r.0) result ≡ position (Q.finds value.now) self.now }
         ensures stored { IfSome result (λ r. slice_get self.now r.0 ≡ Some r.1) }
@@ -247,7 +247,7 @@ where
     }
 
     // Adds a borrow last.
-    #[tactic(auto, using(crate::proofs::Content::new_value_goes_last))]
+    #[tactic(auto, using(elsa_maps::proofs::Places::new_value_goes_last))]
     fn add(&mut self, value: T::Borrow) -> Result<usize, AllocError>
         requires new { position (T.Borrow.eq value) self.old ≡ None }
         ensures place { IfOk result (λ i. i ≡ length self.old) }
@@ -315,7 +315,7 @@ where
     /// given one is dropped, no memory is taken and nothing changes. Otherwise the table makes room for one value, and the
     /// value is placed in the arena and goes last, by one more hash. `AllocError` comes only for an absent value and
     /// leaves the set as it was; the table may keep the room.
-    #[tactic(auto, using(crate::proofs::Content::found_at, crate::proofs::Content::found_nowhere, crate::proofs::Content::found_within))]
+    #[tactic(auto, using(elsa_maps::proofs::Places::found_at, elsa_maps::proofs::Places::found_nowhere, elsa_maps::proofs::Places::found_within))]
     pub fn insert_full_new(&mut self, value: T) -> Result<(usize, T::Borrow, bool), AllocError>
         // A present value keeps its place; a new one is the last.
         ensures present { (x : T.Borrow) → find (T.finds value) self.old ≡ Some x →
@@ -369,7 +369,7 @@ where
     /// Adds the value last, unless an equal one is present, and returns the stored value and whether it is new.
     ///
     /// Costs and the refusal are those of `insert_full_new`.
-    #[tactic(auto, using(crate::proofs::Content::found_at))]
+    #[tactic(auto, using(elsa_maps::proofs::Places::found_at))]
     pub fn insert_new(&mut self, value: T) -> Result<(T::Borrow, bool), AllocError>
         ensures present { (x : T.Borrow) → find (T.finds value) self.old ≡ Some x →
             (result ≡ Ok (x, false)) × (self.new ≡ self.old) }
@@ -386,7 +386,7 @@ where
     /// Adds the value last, unless an equal one is present, and returns the stored value.
     ///
     /// Costs and the refusal are those of `insert_full_new`.
-    #[tactic(auto, using(crate::proofs::Content::found_at))]
+    #[tactic(auto, using(elsa_maps::proofs::Places::found_at))]
     pub fn insert(&mut self, value: T) -> Result<T::Borrow, AllocError>
         ensures present { (x : T.Borrow) → find (T.finds value) self.old ≡ Some x →
             (result ≡ Ok x) × (self.new ≡ self.old) }
@@ -489,7 +489,7 @@ impl<'a, S: BuildHasher, A: Allocator + Copy, P: Allocator> FrozenIndexSet<'a, &
     /// Adds the text last, unless one that reads the same is present, and returns the stored text: `set.insert_text("a")`.
     ///
     /// Costs and the refusal are those of `insert_full_text`.
-    #[tactic(auto, using(crate::proofs::Content::found_at))]
+    #[tactic(auto, using(elsa_maps::proofs::Places::found_at))]
     pub fn insert_text(&mut self, text: &str) -> Result<&'a str, AllocError>
         ensures accepted { IfOk result (λ b.
             (i : ℕ) × TextInserted self.old text.now i b self.new) }

@@ -1,2 +1,6 @@
+pub mod Clones
+pub mod Collecting
 pub mod Copied
 mod Contents
+pub mod Pairs
+pub mod Places

@@ -1,5 +1,5 @@
 -- The runs of an index map.
-use Rattle.std.proofs.Common.{◌≡◌, ℕ, Bool, List, Some, append-nil, length}
+use Rattle.std.proofs.Common.{◌≡◌, ℕ, Bool, false, List, Some, append-nil, length, Result, Ok, Err}
 use Rattle.std.specs.Cmp.{IsEquivalence}
 use Rattle.elsa_words.specs.FirstWins.{value_at}
 use Rattle.elsa_words.specs.Insertions.{place_of, InsertedNew}
@@ -9,8 +9,13 @@ use Rattle.elsa_run.specs.IndexRun.{Answers, IndexRunsTo, Step, change}
 use Rattle.elsa_run.specs.declared.run_index.IndexCommand.{IndexCommand}
 use Rattle.elsa_run.specs.declared.run_index.IndexReply.{IndexReply}
 use Rattle.elsa_run.specs.declared.run_index.IndexReply.TheVariants.{NoMemory}
-use Rattle.elsa_index.proofs.Content.{none_passes, some_passes}
+use Rattle.elsa_maps.proofs.Places.{none_passes, some_passes}
 use Rattle.elsa_run.proofs.Runs.{goes_on, insertion_step, ordered_runs}
+
+-- the flag of an accepted insertion
+abbrev pub told : {B E : Type 0} → Result (B × Bool) E → Bool
+told (Ok r) = r.1
+told (Err e) = false
 
 -- an insertion is answered by what is there, and leaves what a run holds after it
 pub inserted : {K V T B : Type 0} (eq : K → K → Bool) (laws : IsEquivalence eq) (target : V → T) (shown : B → T) (es fs : List (K × B)) (k : K) (v : V) (form : ℕ → B → Bool → IndexReply B) (i : ℕ) (b : B) (new : Bool)

@@ -7,7 +7,7 @@ use Rattle.elsa_run.specs.declared.run_map.MapCommand.{MapCommand}
 use Rattle.elsa_run.specs.declared.run_map.MapCommand.TheVariants.{Insert, InsertNew, Get, Len, IsEmpty, Rebase}
 use Rattle.elsa_run.specs.declared.run_map.MapReply.{MapReply}
 use Rattle.elsa_run.specs.declared.run_map.MapReply.TheVariants.{Item, New, Found, Count, NoMemory}
-use Rattle.elsa_words.specs.FirstWins.{Adds, SameAt, value_at}
+use Rattle.elsa_words.specs.FirstWins.{Adds, value_at}
 use Rattle.elsa_words.specs.Replay.{Answered}
 use Rattle.elsa_words.proofs.Entries.{adds_last}
 use Rattle.elsa_run.specs.Runs.{Change, Epoch, changed, epoch_from, held, Kept, Added}

@@ -5,7 +5,7 @@
 ghost use Rattle.std.specs.Prelude.{◌≡◌, IfOk, OnErr, length};
 ghost use Rattle.elsa_run.specs.IndexRun.{IndexRunsTo};
 
-use elsa_index::index_map::FrozenIndexMapIn;
+use elsa_maps::index_map::FrozenIndexMapIn;
 use elsa_vec::stable::StableDeref;
 use elsa_words::{Call, run};
 use indexmap::IndexMap;

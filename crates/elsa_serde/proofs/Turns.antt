@@ -4,7 +4,7 @@ use Rattle.std.specs.Result.{IfErr, IsErrAnd}
 use Rattle.std.proofs.lemmas.List.{length_push}
 use Rattle.std.proofs.lemmas.Result.{err_from_is_err_and}
 use Rattle.elsa_serde.specs.Read.{InTurn}
-use Rattle.elsa_serde.specs.Loaded.{StopsAt, Stops}
+use Rattle.elsa_serde.specs.Loaded.{Stops}
 use Rattle.elsa_serde.specs.declared.fault.ReadFault.{ReadFault}
 use Rattle.elsa_serde.specs.declared.fault.ReadFault.TheVariants.{Duplicate, TooMany, Memory}
 

@@ -90,9 +90,36 @@ fn moved_words(before: &Index<'_>, after: &Index<'_>) -> usize {
     moved
 }
 
+/// Reads the saved index back, and prints how it differs from the one that was saved.
+fn tell_again(rt: &impl Print, alloc: Global, index: &Index<'_>, saved: &Saved) -> io::Result<()> {
+    let arena = Bump::new(alloc);
+    let again = match Index::load(alloc, &arena, saved) {
+        Ok(again) => again,
+        Err(fault) => return println!(rt; "{fault}"),
+    };
+    let (count, moved) = (again.words.len(), moved_words(index, &again));
+    println!(rt; "{count} words are read back, {moved} have another number")?;
+    let (word, line) = (again.words.at(4), again.lines.get_text("lily"));
+    println!(rt; "number 4 is {word:?}, lily is of line {line:?}")
+}
+
+/// Prints why each text that nobody saved is refused.
+fn tell_broken(rt: &impl Print, alloc: Global) -> io::Result<()> {
+    for words in BROKEN {
+        let broken = Saved {
+            words: String::from_str(alloc, words)?,
+            lines: String::from_str(alloc, "{}")?,
+        };
+        if let Err(fault) = Index::load(alloc, &Bump::new(alloc), &broken) {
+            println!(rt; "{words} is {fault}")?;
+        }
+    }
+    Ok(())
+}
+
 fn main(rt: HostRuntime) -> io::Result<()> {
     let alloc = rt.alloc();
-    let (arena, second_arena) = (Bump::new(alloc), Bump::new(alloc));
+    let arena = Bump::new(alloc);
     let mut index = Index::new(alloc, &arena);
     let mut number: u64 = 0;
     for line in BufReader::new(alloc, rt.reader())?.lines(alloc) {
@@ -106,23 +133,6 @@ fn main(rt: HostRuntime) -> io::Result<()> {
         return rt.println("the index can't be written");
     };
     println!(rt; "{}\n{}", saved.words, saved.lines)?;
-    match Index::load(alloc, &second_arena, &saved) {
-        Ok(again) => {
-            let (count, moved) = (again.words.len(), moved_words(&index, &again));
-            println!(rt; "{count} words are read back, {moved} have another number")?;
-            let (word, line) = (again.words.at(4), again.lines.get_text("lily"));
-            println!(rt; "number 4 is {word:?}, lily is of line {line:?}")?;
-        }
-        Err(fault) => println!(rt; "{fault}")?,
-    }
-    for words in BROKEN {
-        let broken = Saved {
-            words: String::from_str(alloc, words)?,
-            lines: String::from_str(alloc, "{}")?,
-        };
-        if let Err(fault) = Index::load(alloc, &Bump::new(alloc), &broken) {
-            println!(rt; "{words} is {fault}")?;
-        }
-    }
-    Ok(())
+    tell_again(&rt, alloc, &index, &saved)?;
+    tell_broken(&rt, alloc)
 }

@@ -1,7 +1,7 @@
 //! Insertions of the index map by a closure: it runs for an absent key alone, its error comes back, and refused memory is told
 //! apart from it.
 use bumpalo::Bump;
-use elsa_index::index_map::FrozenIndexMap;
+use elsa_maps::index_map::FrozenIndexMap;
 use elsa_maps::map::InsertFault;
 use elsa_vec::stable::Own;
 use std::alloc::{AllocError, Global};

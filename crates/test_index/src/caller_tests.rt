@@ -6,9 +6,9 @@ ghost use Rattle.std.specs.Str.{bytes_eq};
 ghost use Rattle.std.specs.String.{string_bytes};
 
 use bumpalo::Bump;
-use elsa_index::index_map::FrozenIndexMap;
 use elsa_index::index_set::FrozenIndexSet;
 use elsa_interner::interner::Interner;
+use elsa_maps::index_map::FrozenIndexMap;
 use std::alloc::AllocError;
 use std::test::Fail;
 

@@ -1,9 +1,9 @@
 //! The seeded hash: its values by `tools/crafted_names --vectors`, tables of each form over it, and a source of secrets that fails.
 use bumpalo::Bump;
 use elsa_hash::seeded::SeededState;
-use elsa_index::index_map::FrozenIndexMap;
 use elsa_index::index_set::FrozenIndexSet;
 use elsa_interner::interner::{Counted, Interner, intern_engine_with_hasher};
+use elsa_maps::index_map::FrozenIndexMap;
 use elsa_maps::map::FrozenMap;
 use elsa_vec::stable::Own;
 use std::alloc::{AllocError, Global};

@@ -4,8 +4,8 @@ use bumpalo::Bump;
 use elsa_index::index_laws::{
     clone_and_part, is_new_once, keeps_earlier_pairs, set_is_new_once, set_keeps_earlier_values,
 };
-use elsa_index::index_map::FrozenIndexMap;
 use elsa_index::index_set::FrozenIndexSet;
+use elsa_maps::index_map::FrozenIndexMap;
 use elsa_maps::map::{FrozenBTreeMap, FrozenMap};
 use elsa_run::run::{run_index, run_set};
 use elsa_run::run_index::{IndexCommand, IndexReply};

@@ -1,8 +1,8 @@
 //! What `{:?}` prints of the index forms and the interner, and a map of strings that is asked by a text.
 use bumpalo::Bump;
-use elsa_index::index_map::FrozenIndexMap;
 use elsa_index::index_set::FrozenIndexSet;
 use elsa_interner::interner::Interner;
+use elsa_maps::index_map::FrozenIndexMap;
 use elsa_vec::stable::Own;
 use std::alloc::{AllocError, Global};
 use std::test::*;

@@ -1,6 +1,6 @@
 //! Runs of the three maps whose replies are known: worked rows, an insertion of each kind, and a new base.
 use bumpalo::Bump;
-use elsa_index::index_map::FrozenIndexMap;
+use elsa_maps::index_map::FrozenIndexMap;
 use elsa_maps::map::{FrozenBTreeMap, FrozenMap};
 use elsa_run::run::run_map;
 use elsa_run::run_map::{MapCommand, MapReply};

@@ -4,7 +4,7 @@ ghost use Rattle.elsa_words.specs.FirstWins.{value_at};
 
 use bumpalo::Bump;
 use elsa_arena::arena::TypedArena;
-use elsa_index::index_map::FrozenIndexMapIn;
+use elsa_maps::index_map::FrozenIndexMapIn;
 use elsa_vec::stable::{Own, Shelf};
 use std::alloc::{AllocError, Global};
 use std::sync::Arc;

@@ -1,7 +1,7 @@
 //! Walks over the index forms, in the order of the first insertions and from the back.
 use bumpalo::Bump;
-use elsa_index::index_map::FrozenIndexMap;
 use elsa_index::index_set::FrozenIndexSet;
+use elsa_maps::index_map::FrozenIndexMap;
 use std::alloc::{AllocError, Global};
 use std::test::*;
 

@@ -1,6 +1,6 @@
 //! Collections whose table is in `Global` memory, over an arena of other memory: requests of the arena alone are refused.
 use bumpalo::Bump;
-use elsa_index::index_map::FrozenIndexMap;
+use elsa_maps::index_map::FrozenIndexMap;
 use elsa_maps::map::FrozenMap;
 use elsa_vec::stable::Own;
 use elsa_vec::vec::FrozenVec;

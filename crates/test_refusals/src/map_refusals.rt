@@ -1,7 +1,7 @@
 //! One script of 32 calls for the three maps, with texts as keys and values: each request for memory, the tables', the owners' and the
 //! arena's, is refused in turn.
 use bumpalo::Bump;
-use elsa_index::index_map::FrozenIndexMap;
+use elsa_maps::index_map::FrozenIndexMap;
 use elsa_maps::map::{FrozenBTreeMap, FrozenMap};
 use std::alloc::{AllocError, Allocator, Global};
 use std::hash::{BuildHasherDefault, FoldHasher};

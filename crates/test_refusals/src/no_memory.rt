@@ -3,9 +3,9 @@
 //! table is full too at some.
 use bumpalo::Bump;
 use elsa_cache::{LoadFault, ResourceCache};
-use elsa_index::index_map::FrozenIndexMap;
 use elsa_index::index_set::FrozenIndexSet;
 use elsa_interner::interner::Interner;
+use elsa_maps::index_map::FrozenIndexMap;
 use elsa_maps::map::{FrozenBTreeMap, FrozenMap, MapForm};
 use elsa_vec::stable::{Own, StableDeref};
 use elsa_vec::vec::{Cursor, FrozenVec};

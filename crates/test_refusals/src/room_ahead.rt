@@ -1,7 +1,7 @@
 //! Room that is made ahead: as many insertions as it was made for ask the tables' memory, which refuses all requests, for nothing.
 use bumpalo::Bump;
-use elsa_index::index_map::FrozenIndexMap;
 use elsa_index::index_set::FrozenIndexSet;
+use elsa_maps::index_map::FrozenIndexMap;
 use elsa_maps::map::FrozenMap;
 use elsa_vec::stable::Own;
 use elsa_vec::vec::FrozenVec;

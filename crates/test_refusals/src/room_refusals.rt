@@ -1,7 +1,7 @@
 //! Growths of a vector, an index set and an index map that are refused: each makes room first, so no copy stays in the arena.
 use bumpalo::Bump;
-use elsa_index::index_map::FrozenIndexMap;
 use elsa_index::index_set::FrozenIndexSet;
+use elsa_maps::index_map::FrozenIndexMap;
 use elsa_vec::stable::Own;
 use elsa_vec::vec::FrozenVec;
 use std::alloc::{Allocator, Global};

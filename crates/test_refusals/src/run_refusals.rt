@@ -1,8 +1,8 @@
 //! Whole runs of 32 commands with each request for memory, and each placing, refused in turn: `NoMemory` answers a push or an insertion of an
 //! absent key alone, every other reply is the model's over the accepted calls, and `Err` means that no command was done.
 use bumpalo::Bump;
-use elsa_index::index_map::FrozenIndexMap;
 use elsa_index::index_set::FrozenIndexSet;
+use elsa_maps::index_map::FrozenIndexMap;
 use elsa_maps::map::{FrozenBTreeMap, FrozenMap};
 use elsa_run::run::{run_index, run_map, run_set, run_vec};
 use elsa_run::run_index::{IndexCommand, IndexReply};

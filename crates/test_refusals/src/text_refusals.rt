@@ -1,6 +1,6 @@
 //! A script of 16 calls by text on an index map with text keys: each request for memory and each placing is refused in turn.
 use bumpalo::Bump;
-use elsa_index::index_map::FrozenIndexMap;
+use elsa_maps::index_map::FrozenIndexMap;
 use std::alloc::{AllocError, Allocator, Global};
 use std::hash::{BuildHasherDefault, FoldHasher};
 use std::test::Fail;

@@ -1,8 +1,8 @@
 //! A text that no collection was written as is refused by a name.
 use bumpalo::Bump;
-use elsa_index::index_map::FrozenIndexMap;
 use elsa_index::index_set::FrozenIndexSet;
 use elsa_interner::interner::Interner;
+use elsa_maps::index_map::FrozenIndexMap;
 use elsa_maps::map::{FrozenBTreeMap, FrozenMap};
 use elsa_serde::{Entries, Items, Names, ReadFault};
 use elsa_vec::stable::Own;

@@ -1,8 +1,8 @@
 //! Each request for memory is refused in turn while what was read goes into a collection: it is told, and what went in before stays.
 use bumpalo::Bump;
-use elsa_index::index_map::FrozenIndexMap;
 use elsa_index::index_set::FrozenIndexSet;
 use elsa_interner::interner::Interner;
+use elsa_maps::index_map::FrozenIndexMap;
 use elsa_serde::{Entries, Items, Names, ReadFault};
 use elsa_vec::vec::FrozenVec;
 use serde_json::Error;

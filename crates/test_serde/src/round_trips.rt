@@ -1,8 +1,8 @@
 //! Each collection has its text, and is the same when it is read back.
 use bumpalo::Bump;
-use elsa_index::index_map::FrozenIndexMap;
 use elsa_index::index_set::FrozenIndexSet;
 use elsa_interner::interner::Interner;
+use elsa_maps::index_map::FrozenIndexMap;
 use elsa_maps::map::{FrozenBTreeMap, FrozenMap};
 use elsa_serde::{Entries, Items, Names, Stored};
 use elsa_vec::stable::Own;

@@ -27,8 +27,8 @@ pub enum InsertFault<E> {
 /// A map in which the first value of a key stays, over any table `T`.
 ///
 /// Each value is placed in the arena to which an `R` refers, and returned as a borrow: the borrow outlasts later insertions and the map
-/// itself. `A` is the allocator of the table. [`FrozenMap`](super::FrozenMap) and [`FrozenBTreeMap`](super::FrozenBTreeMap) are its names
-/// over the toolchain's two maps.
+/// itself. `A` is the allocator of the table. [`FrozenMap`](super::FrozenMap), [`FrozenBTreeMap`](super::FrozenBTreeMap) and
+/// [`FrozenIndexMap`](crate::index_map::FrozenIndexMap) are its names over the toolchain's `HashMap`, `BTreeMap` and `IndexMap`.
 pub struct Frozen<R: Copy, K, V, T, A: Allocator + Copy = Global>
 where
     V: StableDeref<R>,
@@ -269,6 +269,8 @@ where
         ensures added { value_at T.same self.old key ≡ None → IfOk result (λ b.
             (v : V) × F.post make (Ok v)
             × AddsNew T.same V.target V.shown self.old key v b self.new) }
+        ensures new_entry { value_at T.same self.old key ≡ None →
+            IfOk result (λ b. T.extends self.old key b self.new) }
         ensures refused { OnErr result (IsRefused T.same self.old key self.new) }
         ensures cause { IfErr result (λ e. IfCause e (λ c. F.post make (Err c))) }
     {

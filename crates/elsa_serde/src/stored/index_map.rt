@@ -2,7 +2,7 @@
 ghost use Rattle.serde.specs.Event.{WritesMap};
 
 use super::{Stored, write_entry};
-use elsa_index::index_map::FrozenIndexMapIn;
+use elsa_maps::index_map::FrozenIndexMapIn;
 use elsa_vec::stable::StableDeref;
 use serde::{Described, Serialize, Serializer};
 use std::alloc::Allocator;
@@ -11,7 +11,7 @@ use std::hash::{BuildHasher, Hash};
 impl<R: Copy, K, V, H: BuildHasher, A: Allocator + Copy> Described
     for Stored<'_, FrozenIndexMapIn<R, K, V, H, A>>
 where
-    K: Described + Eq + Hash,
+    K: Described + Eq + Hash + Drop,
     V: StableDeref<R>,
     V::Borrow: Described,
 {
@@ -23,7 +23,7 @@ where
 impl<R: Copy, K, V, H: BuildHasher, A: Allocator + Copy> Serialize
     for Stored<'_, FrozenIndexMapIn<R, K, V, H, A>>
 where
-    K: Serialize + Eq + Hash,
+    K: Serialize + Eq + Hash + Drop,
     V: StableDeref<R>,
     V::Borrow: Serialize,
 {

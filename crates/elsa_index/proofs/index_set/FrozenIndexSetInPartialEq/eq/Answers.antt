@@ -1,5 +1,4 @@
-use Rattle.std.proofs.Common.{◌≡◌, ◌∙◌, rules}
-use Rattle.elsa_index.specs.Equality.{same_set}
+use Rattle.std.proofs.Common.{◌∙◌, rules}
 use Rattle.elsa_index.proofs.Equality.{same_set_decides}
 use Rattle.elsa_index.proofs.Laws.{same_set_in_any_order}
 use Rattle.elsa_index.proofs.index_set.FrozenIndexSetInPartialEq.eq.Goals as goal

@@ -1,6 +1,0 @@
-use Rattle.std.proofs.Common.{take}
-use Rattle.elsa_words.specs.Insertions.{IsCloneOf}
-use Rattle.elsa_index.proofs.index_map.FrozenIndexMapIn.clone.Given as goal
-
-abbrev pub invariant-loop-i : goal.invariant-loop-i
-invariant-loop-i g l = IsCloneOf g.K.PartialEq.eq g.K.Clone.is_clone (take l.i l.self) l.map.entries

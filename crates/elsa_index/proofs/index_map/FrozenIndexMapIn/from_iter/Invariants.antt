@@ -1,5 +1,0 @@
-use Rattle.elsa_words.specs.Insertions.{CollectsTargets}
-use Rattle.elsa_index.proofs.index_map.FrozenIndexMapIn.from_iter.Given as goal
-
-abbrev pub invariant-loop-pair : goal.invariant-loop-pair
-invariant-loop-pair g l = CollectsTargets g.K.PartialEq.eq g.V.HasTarget.target g.V.HasTarget.shown l.yielded l.map
