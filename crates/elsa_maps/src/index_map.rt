@@ -408,6 +408,23 @@ where
     }
 }
 
+/// `for (key, value) in &map` gives each pair once, in the order of the first insertions.
+impl<'m, R: Copy, K: Eq + Hash + Drop, V, S: BuildHasher, A: Allocator + Copy> IntoIterator
+    for &'m FrozenIndexMapIn<R, K, V, S, A>
+where
+    V: StableDeref<R>,
+{
+    type Item = (&'m K, &'m V::Borrow);
+
+    type IntoIter = Iter<'m, K, V::Borrow>;
+
+    ghost into_iter_gives = { λ m it. (it ≡ m.now) × ShowsInOrder (deref_pair {K = K} {X = V.Borrow}) };
+
+    fn into_iter(self) -> Iter<'m, K, V::Borrow> {
+        self.iter()
+    }
+}
+
 // Two maps are equal where they have equal values at each key, in any order.
 impl<R: Copy, K: Eq + Hash + Drop, V, S: BuildHasher, A: Allocator + Copy> PartialEq
     for FrozenIndexMapIn<R, K, V, S, A>

@@ -44,6 +44,16 @@ fn value_of<'a>(
     map.insert(key, value)
 }
 
+// The length of the value that a key has in a map afterwards, read by the key.
+fn length_of<'a>(
+    map: &mut FrozenIndexMap<'a, u32, &'a str>,
+    key: u32,
+    value: &'a str,
+) -> Result<usize, AllocError> {
+    map.insert(key, value)?;
+    Ok(map[&key].len())
+}
+
 // The place that a key has in a map afterwards.
 fn place_of<'a>(
     map: &mut FrozenIndexMap<'a, u32, &'a str>,
@@ -89,8 +99,9 @@ fn what_was_put_in_is_found(rt: HostRuntime) -> Result<(), Fail> {
     let mut set: FrozenIndexSet<'_, String> = FrozenIndexSet::new(alloc, &arena);
     let one = numbers(&mut names, "a", "a")? == (0, 0);
     let keyed = value_of(&mut map, 7, "a")? == "a" && place_of(&mut map, 7, "b")? == 0;
+    let read = length_of(&mut map, 7, "bb")? == 1;
     let named = name_of(&mut set, String::from_str(alloc, "a")?)? == "a"
         && name_at(&mut set, String::from_str(alloc, "b")?)? == (1, "b");
-    assert!(rt; one && keyed && named);
+    assert!(rt; one && keyed && read && named);
     Ok(())
 }

@@ -13,10 +13,10 @@ fn map<'a>(alloc: Global, arena: &'a Bump) -> Result<FrozenIndexMap<'a, u64, &'a
     Ok(map)
 }
 
-/// The keys of the map in the order of three walks, as the digits of a number: by entries, from the back, and alone.
+/// The keys of the map in the order of three walks, as the digits of a number: by reference, from the back, and alone.
 fn digits<'a>(map: &FrozenIndexMap<'a, u64, &'a str>) -> (u64, u64, u64) {
     let mut front = 0u64;
-    for (key, _value) in map.iter() {
+    for (key, _value) in map {
         front = front.wrapping_mul(10).wrapping_add(*key);
     }
     let mut back = 0u64;
