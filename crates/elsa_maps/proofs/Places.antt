@@ -1,4 +1,4 @@
--- What an insertion of a new value leaves.
+-- Where a test finds an item of a list, and what an insertion of a new one leaves.
 use Rattle.std.proofs.Common.{◌≡◌, ℕ, ◌<◌, Bool, true, false, true≢false, is_some, is_none, refl, sym, subst, List, [], ◌∷◌, ◌++◌, length, position, find, slice_get, ap, ◌∙◌, arith, Option, None, Some, MatchOption, if◌then◌else◌}
 use Rattle.std.proofs.lemmas.Grind.{common_steps}
 use Rattle.std.proofs.lemmas.List.{length-append}
