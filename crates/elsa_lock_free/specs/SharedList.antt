@@ -71,9 +71,21 @@ module _ {T : Type 0} where
   abbrev pub IsSamePass : View T → View T → Type 0
   IsSamePass before after = (after.vector ≡ before.vector) × (after.author ≡ before.author)
 
+  -- the same pass later, which has seen as much or more
+  abbrev pub IsLaterPass : View T → View T → Type 0
+  IsLaterPass before after = IsSamePass before after × IsPrefix before.seen after.seen
+
   -- the same pass later, which has seen as much or more, and whose own places are as before
   abbrev pub Continues : View T → View T → Type 0
   Continues before after = IsSamePass before after × IsPrefix before.seen after.seen × (mine after ≡ mine before)
+
+  -- the pass has pushed this item: it stands at this place, which is the pass's own, behind all that came before
+  abbrev pub Pushes : View T → View T → ℕ → T → Type 0
+  Pushes before after place item = Appends before.seen after.seen place (entry before.author item) × (mine after ≡ mine before ++ place ∷ [])
+
+  -- the same, behind what the pass had seen, and nothing else came before
+  abbrev pub PushesNext : View T → View T → T → Type 0
+  PushesNext before after item = (after.seen ≡ before.seen ++ entry before.author item ∷ []) × (mine after ≡ mine before ++ length before.seen ∷ [])
 
   -- the same pass later: it has pushed these items, and they stand side by side from this place on, behind all that came before
   pub record PushedAll (before after : View T) (place : ℕ) (items : List T) : Type 0 where
@@ -88,6 +100,13 @@ module _ {T : Type 0} where
 -- the lists have no number in common
 abbrev pub Apart : List ℕ → List ℕ → Type 0
 Apart xs ys = (n : ℕ) → Contains xs n → Contains ys n → ⊥
+
+-- two passes of a vector have met: each is the same, later; both have seen the longer of the two lists; the places of each stay its own,
+-- and none is of both
+abbrev pub Meet : {T : Type 0} → View T → View T → View T → View T → Type 0
+Meet one one_after two two_after =
+    (IsLaterPass one one_after × IsLaterPass two two_after) × ((one_after.seen ≡ longer one.seen two.seen) × (two_after.seen ≡ longer one.seen two.seen))
+    × ((mine one_after ≡ mine one) × (mine two_after ≡ mine two)) × Apart (mine one_after) (mine two_after)
 
 -- at this length a new buffer begins, or the list is full
 abbrev pub BeginsABuffer : ℕ → Type 0

@@ -1,7 +1,6 @@
 //! A vector together with a pass of it. They belong together by the type, so no call but [`Handle::meet`] has a condition.
-ghost use Rattle.std.specs.Prelude.{◌≡◌, ◌<◌, ◌^◌, ◌+◌, [], ◌∷◌, ◌++◌, drop, length, slice_get, IfOk, IfErr, IfSome};
-ghost use mathlib.Core.List.{IsPrefix};
-ghost use Rattle.elsa_lock_free.specs.SharedList.{Apart, Appends, BeginsABuffer, BeginsAmong, Continues, IsSamePass, PushedAll, copied, entry, items_of, longer, mine};
+ghost use Rattle.std.specs.Prelude.{◌≡◌, ◌<◌, ◌^◌, ◌+◌, [], drop, length, slice_get, IfOk, IfErr, IfSome};
+ghost use Rattle.elsa_lock_free.specs.SharedList.{BeginsABuffer, BeginsAmong, Continues, IsLaterPass, Meet, PushedAll, Pushes, copied, items_of, mine};
 ghost use lib.Pointwise.{pointwise};
 
 use crate::lock_free::LockFreeFrozenVec;
@@ -61,19 +60,11 @@ impl<'v, T: Copy + Drop, A: Allocator + Copy> Handle<'v, T, A> {
     /// length is `2^62 - 1`, the greatest; the same push may succeed later. `O(1)`, with a buffer four times as large as the
     /// one before where one begins.
     pub fn push<R: Wait>(&mut self, rt: &R, item: T) -> Result<usize, AllocError>
-        // The pass is the same, later.
-        ensures same { IsSamePass self.old self.new }
-        ensures seen { IsPrefix self.old.seen self.new.seen }
-
-        // On success its item is at the end.
-        ensures pushed { IfOk result (λ i.
-            Appends self.old.seen self.new.seen i (entry self.old.author item)) }
-        ensures pushed_mine { IfOk result (λ i. mine self.new ≡ mine self.old ++ i ∷ []) }
+        ensures later { IsLaterPass self.old self.new }
+        ensures pushed { IfOk result (λ i. Pushes self.old self.new i item) }
         ensures limit { IfOk result (λ i. i + 1 < 2 ^ 62) }
-
-        // On refusal it has pushed nothing, and a buffer begins at the length.
-        ensures refused { IfErr result (λ e. BeginsABuffer (length self.new.seen)) }
-        ensures refused_mine { IfErr result (λ e. mine self.new ≡ mine self.old) }
+        ensures refused { IfErr result (λ e. (mine self.new ≡ mine self.old)
+            × BeginsABuffer (length self.new.seen)) }
     {
         self.vector.push_as(rt, &mut self.pass, item)
     }
@@ -159,17 +150,7 @@ impl<'v, T: Copy + Drop, A: Allocator + Copy> Handle<'v, T, A> {
     /// no memory and no atomic step, and never waits. `O(1)`.
     pub fn meet(&mut self, other: &mut Handle<'_, T, A>)
         requires of { self.old.vector ≡ other.old.vector }
-
-        // Each pass is the same, later.
-        ensures same { IsSamePass self.old self.new × IsSamePass other.old other.new }
-        ensures seen { IsPrefix self.old.seen self.new.seen
-            × IsPrefix other.old.seen other.new.seen }
-
-        // Both have seen the longer list. Their places stay, and none is of both.
-        ensures longer { (self.new.seen ≡ longer self.old.seen other.old.seen)
-            × (other.new.seen ≡ longer self.old.seen other.old.seen) }
-        ensures mine { (mine self.new ≡ mine self.old) × (mine other.new ≡ mine other.old) }
-        ensures apart { Apart (mine self.new) (mine other.new) }
+        ensures { Meet self.old self.new other.old other.new }
     {
         self.pass.meet(&mut other.pass)
     }

@@ -1,6 +1,6 @@
 //! A hold of a vector's word: for a thread that has to know what the list is while it makes the item to push.
-ghost use Rattle.std.specs.Prelude.{◌≡◌, ◌+◌, ◌-◌, ◌*◌, ◌<◌, ◌^◌, [], ◌∷◌, ◌++◌, MatchBool, IfOk, IfErr, Some, length, slice_get};
-ghost use Rattle.elsa_lock_free.specs.SharedList.{BeginsABuffer, Continues, IsSamePass, entry, items_of, mine};
+ghost use Rattle.std.specs.Prelude.{◌≡◌, ◌+◌, ◌-◌, ◌<◌, ◌^◌, [], ◌∷◌, ◌++◌, MatchBool, IfOk, IfErr, Some, length, slice_get};
+ghost use Rattle.elsa_lock_free.specs.SharedList.{BeginsABuffer, Continues, IsSamePass, PushesNext, items_of};
 
 use crate::atomic_list::{SeenHistory, obeys_rule};
 use crate::event::Event;
@@ -101,8 +101,7 @@ impl<T: Drop, A: Allocator + Copy, K: ItemRule<T>, X: Beside<T> + Drop> LockFree
 
         // The item stands behind what was seen, and is the author's.
         ensures same { IsSamePass hold result }
-        ensures pushed { result.seen ≡ hold.seen ++ entry hold.author item ∷ [] }
-        ensures mine { mine result ≡ mine hold ++ length hold.seen ∷ [] }
+        ensures pushed { PushesNext hold result item }
     {
         let Hold {
             seen,
@@ -143,8 +142,7 @@ impl<T: Drop, A: Allocator + Copy, K: ItemRule<T>, X: Beside<T> + Drop> LockFree
 
         // The item stands behind what was seen, and is the author's, or nothing changed.
         ensures same { IfOk result (λ p. IsSamePass hold p) }
-        ensures pushed { IfOk result (λ p. p.seen ≡ hold.seen ++ entry hold.author item ∷ []) }
-        ensures mine { IfOk result (λ p. mine p ≡ mine hold ++ length hold.seen ∷ []) }
+        ensures pushed { IfOk result (λ p. PushesNext hold p item) }
         ensures refused { IfErr result (λ p. p ≡ hold) }
     {
         let Hold {

@@ -6,9 +6,8 @@
 //! Many items are pushed under one hold by `extend_as`. Each other call has two forms. `push_as` takes the caller's pass: its
 //! clauses relate the result to what that pass has seen, and by [`Pass::meet`] the caller relates it to other results. `push` is by
 //! a pass of its own that is dropped, so its contract keeps only what can be said without one: limits of places and lengths.
-ghost use Rattle.std.specs.Prelude.{◌≡◌, ◌≤◌, ◌<◌, ◌^◌, ◌+◌, [], ◌∷◌, ◌++◌, drop, length, slice_get, IfOk, IfErr, IfSome, IfNone, List, Some, suc, take};
-ghost use mathlib.Core.List.{IsPrefix};
-ghost use Rattle.elsa_lock_free.specs.SharedList.{Appends, BeginsABuffer, BeginsAmong, Continues, IsSamePass, PushedAll, entry, items_of, mine};
+ghost use Rattle.std.specs.Prelude.{◌≡◌, ◌≤◌, ◌<◌, ◌^◌, ◌+◌, [], drop, length, slice_get, IfOk, IfErr, IfSome, IfNone, List, Some, take};
+ghost use Rattle.elsa_lock_free.specs.SharedList.{BeginsABuffer, BeginsAmong, Continues, IsLaterPass, PushedAll, Pushes, PushesNext, items_of, mine};
 
 mod whole;
 
@@ -70,20 +69,11 @@ impl<T: Copy + Drop, A: Allocator + Copy> LockFreeFrozenVec<T, A> {
         item: T,
     ) -> Result<usize, AllocError>
         requires of { pass.old.vector ≡ self.now }
-
-        // The pass is the same, later.
-        ensures same { IsSamePass pass.old pass.new }
-        ensures seen { IsPrefix pass.old.seen pass.new.seen }
-
-        // On success its item is at the end.
-        ensures pushed { IfOk result (λ i.
-            Appends pass.old.seen pass.new.seen i (entry pass.old.author item)) }
-        ensures pushed_mine { IfOk result (λ i. mine pass.new ≡ mine pass.old ++ i ∷ []) }
+        ensures later { IsLaterPass pass.old pass.new }
+        ensures pushed { IfOk result (λ i. Pushes pass.old pass.new i item) }
         ensures limit { IfOk result (λ i. i + 1 < 2 ^ 62) }
-
-        // On refusal it has pushed nothing, and a buffer begins at the length.
-        ensures refused { IfErr result (λ e. BeginsABuffer (length pass.new.seen)) }
-        ensures refused_mine { IfErr result (λ e. mine pass.new ≡ mine pass.old) }
+        ensures refused { IfErr result (λ e. (mine pass.new ≡ mine pass.old)
+            × BeginsABuffer (length pass.new.seen)) }
     {
         let before = std::mem::replace(pass, self.pass());
         let (after, answer) = self.push_in(rt, before, item);
@@ -198,9 +188,7 @@ impl<T: Drop, A: Allocator + Copy, K: ItemRule<T>, X: Beside<T> + Drop> LockFree
 
     fn read_length_in(&self, pass: Pass<T, A, K, X>) -> (Pass<T, A, K, X>, usize)
         requires { pass.vector ≡ self.now }
-        ensures same { IsSamePass pass result.0 }
-        ensures seen { IsPrefix pass.seen result.0.seen }
-        ensures mine { mine result.0 ≡ mine pass }
+        ensures continues { Continues pass result.0 }
         ensures length { (result.1 ≡ length result.0.seen) × (result.1 < 2 ^ 62) }
     {
         let (seen, author, _length) = pass.parts();
@@ -234,17 +222,12 @@ impl<T: Copy + Drop, A: Allocator + Copy, K: ItemRule<T>> LockFreeFrozenVec<T, A
         requires of { pass.vector ≡ self.now }
         requires new { (xs : List T) → K.is_new xs item }
 
-        // The pass is the same, later.
-        ensures same { IsSamePass pass result.0 }
-        ensures seen { IsPrefix pass.seen result.0.seen }
-
-        // On success its item is at the end. On refusal it has pushed nothing.
-        ensures pushed { IfOk result.1 (λ i.
-            Appends pass.seen result.0.seen i (entry pass.author item)) }
-        ensures pushed_mine { IfOk result.1 (λ i. mine result.0 ≡ mine pass ++ i ∷ []) }
+        // The pass is the same, later: its item is at the end, or it has pushed nothing and a buffer begins at the length.
+        ensures later { IsLaterPass pass result.0 }
+        ensures pushed { IfOk result.1 (λ i. Pushes pass result.0 i item) }
         ensures limit { IfOk result.1 (λ i. i + 1 < 2 ^ 62) }
-        ensures refused { IfErr result.1 (λ e. BeginsABuffer (length result.0.seen)) }
-        ensures refused_mine { IfErr result.1 (λ e. mine result.0 ≡ mine pass) }
+        ensures refused { IfErr result.1 (λ e. (mine result.0 ≡ mine pass)
+            × BeginsABuffer (length result.0.seen)) }
     {
         let (seen, author, length) = pass.parts();
         let (seen, author, length, answer) = self.list.push(rt, seen, author, length, item);
@@ -262,22 +245,14 @@ impl<T: Copy + Drop, A: Allocator + Copy, K: ItemRule<T>> LockFreeFrozenVec<T, A
         requires at { n ≤ length pass.seen }
         requires new { K.is_new (take n (items_of pass.seen)) item }
 
-        // The pass is the same, later.
-        ensures same { IsSamePass pass result.0 }
-        ensures seen { IsPrefix pass.seen result.0.seen }
-
-        // On success its item is at the end of what it had seen.
+        // The pass is the same, later: its item is at the end of what it had seen, or it has pushed nothing.
+        ensures later { IsLaterPass pass result.0 }
         ensures pushed { IfOk result.1 (λ a. IfSome a (λ i.
-            (i ≡ n) × (length pass.seen ≡ n)
-            × (result.0.seen ≡ pass.seen ++ entry pass.author item ∷ []))) }
-        ensures pushed_mine { IfOk result.1 (λ a. IfSome a (λ i.
-            mine result.0 ≡ mine pass ++ i ∷ [])) }
-
-        // Else it has pushed nothing: the list was longer, or a buffer begins at this place.
+            (i ≡ n) × (length pass.seen ≡ n) × PushesNext pass result.0 item)) }
         ensures longer { IfOk result.1 (λ a. IfNone a
             ((n < length result.0.seen) × (mine result.0 ≡ mine pass))) }
-        ensures refused { IfErr result.1 (λ e. (length result.0.seen ≡ n) × BeginsABuffer n) }
-        ensures refused_mine { IfErr result.1 (λ e. mine result.0 ≡ mine pass) }
+        ensures refused { IfErr result.1 (λ e. (mine result.0 ≡ mine pass)
+            × (length result.0.seen ≡ n) × BeginsABuffer n) }
     {
         let (seen, author, _length) = pass.parts();
         let (seen, author, length, answer) = self.list.push_at(rt, seen, author, n, item);
@@ -301,22 +276,15 @@ impl<T: Copy + Drop, A: Allocator + Copy, K: ItemRule<T>> LockFreeFrozenVec<T, A
         requires at { n ≤ length pass.old.seen }
         requires new { K.is_new (take n (items_of pass.old.seen)) item }
 
-        // The pass is the same, later.
-        ensures same { IsSamePass pass.old pass.new }
-        ensures seen { IsPrefix pass.old.seen pass.new.seen }
-
-        // On success its item is at the end of what it had seen.
+        // The pass is the same, later: its item is at the end of what it had seen, or it has pushed nothing, where the list was
+        // longer, or a buffer begins at this place.
+        ensures later { IsLaterPass pass.old pass.new }
         ensures pushed { IfOk result (λ a. IfSome a (λ i.
-            (i ≡ n) × (length pass.old.seen ≡ n)
-            × (pass.new.seen ≡ pass.old.seen ++ entry pass.old.author item ∷ []))) }
-        ensures pushed_mine { IfOk result (λ a. IfSome a (λ i.
-            mine pass.new ≡ mine pass.old ++ i ∷ [])) }
-
-        // Else it has pushed nothing: the list was longer, or a buffer begins at this place.
+            (i ≡ n) × (length pass.old.seen ≡ n) × PushesNext pass.old pass.new item)) }
         ensures longer { IfOk result (λ a. IfNone a
             ((n < length pass.new.seen) × (mine pass.new ≡ mine pass.old))) }
-        ensures refused { IfErr result (λ e. (length pass.new.seen ≡ n) × BeginsABuffer n) }
-        ensures refused_mine { IfErr result (λ e. mine pass.new ≡ mine pass.old) }
+        ensures refused { IfErr result (λ e. (mine pass.new ≡ mine pass.old)
+            × (length pass.new.seen ≡ n) × BeginsABuffer n) }
     {
         let before = std::mem::replace(pass, self.pass());
         let (after, answer) = self.push_at_in(rt, before, n, item);

@@ -2,7 +2,7 @@
 //! were written, and the right to push under a name of its own.
 ghost use Rattle.std.specs.Prelude.{◌≡◌, ◌≢◌, ◌≤◌, ◌<◌, ◌^◌, [], length, suc};
 ghost use mathlib.Core.List.{IsPrefix};
-ghost use Rattle.elsa_lock_free.specs.SharedList.{Apart, IsSamePass, count, items_of, longer, mine};
+ghost use Rattle.elsa_lock_free.specs.SharedList.{Apart, IsSamePass, Meet, count, items_of, longer, mine};
 ghost use Rattle.elsa_lock_free.specs.Distinct.{AgreeOnPlaces, EachIsNew, IsOneToOne};
 ghost use Rattle.elsa_lock_free.specs.History.{list_of};
 ghost use Rattle.elsa_lock_free.specs.Rights.{buffer_slots_of};
@@ -23,7 +23,7 @@ pub struct Pass<T, A: Allocator = Global, K: ItemRule<T> = AnyItems, X: Beside<T
 }
 
 impl<T, A: Allocator, K: ItemRule<T>, X: Beside<T>> Model for Pass<T, A, K, X> {
-    ghost use Rattle.std.specs.Prelude.{◌≡◌, ◌≢◌, ◌≤◌, ◌<◌, ◌^◌, length, suc};
+    ghost use Rattle.std.specs.Prelude.{◌≡◌, ◌<◌, ◌^◌, length, suc};
     ghost use Rattle.elsa_lock_free.specs.SharedList.{View, count};
     ghost use Rattle.elsa_lock_free.specs.History.{list_of};
 
@@ -165,17 +165,7 @@ impl<T, A: Allocator, K: ItemRule<T>, X: Beside<T>> Pass<T, A, K, X> {
     /// and no atomic step, and never waits. `O(1)`.
     pub fn meet(&mut self, other: &mut Pass<T, A, K, X>)
         requires of { self.old.vector ≡ other.old.vector }
-
-        // Each pass is the same, later.
-        ensures same { IsSamePass self.old self.new × IsSamePass other.old other.new }
-        ensures seen { IsPrefix self.old.seen self.new.seen
-            × IsPrefix other.old.seen other.new.seen }
-
-        // Both have seen the longer list. Their places stay, and none is of both.
-        ensures longer { (self.new.seen ≡ longer self.old.seen other.old.seen)
-            × (other.new.seen ≡ longer self.old.seen other.old.seen) }
-        ensures mine { (mine self.new ≡ mine self.old) × (mine other.new ≡ mine other.old) }
-        ensures apart { Apart (mine self.new) (mine other.new) }
+        ensures { Meet self.old self.new other.old other.new }
     {
         let spare = self.again();
         let one = std::mem::replace(self, spare);

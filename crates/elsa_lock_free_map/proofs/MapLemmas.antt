@@ -1,6 +1,6 @@
 -- What the rule of a map's list says of all that was seen of it.
-use Rattle.std.proofs.Common.{◌≡◌, ℕ, zero, suc, ◌+◌, ◌<◌, ◌≤◌, ◌^◌, Bool, true, List, [], ◌∷◌, ◌++◌, drop, length, take, slice_get, Some, refl, ap, sym, ◌∙◌, subst, arith}
-use Rattle.std.specs.Prelude.{Option, None, IfSome, Result, Ok, Err, OnOk, OnErr}
+use Rattle.std.proofs.Common.{◌≡◌, ℕ, zero, suc, ◌+◌, ◌<◌, ◌≤◌, ◌^◌, Bool, true, false, List, [], ◌∷◌, ◌++◌, drop, length, length-append, take, slice_get, Some, refl, ap, sym, ◌∙◌, subst, arith}
+use Rattle.std.specs.Prelude.{Option, None, IfNone, IfSome, Result, Ok, Err, OnOk, OnErr}
 use Rattle.std.specs.Option.{is_some}
 use Rattle.std.specs.Borrow.{Bor}
 use Rattle.std.specs.Str.{bytes_eq}
@@ -10,10 +10,11 @@ use Rattle.elsa_index_words.specs.declared.entry.Entry.{Entry}
 use Rattle.elsa_index_words.specs.Entries.{EachIsNew, IsAbsent, IsBehind, key_of, keys_of}
 use Rattle.elsa_index_words.proofs.EntryLemmas.{entry_at}
 use Rattle.elsa_lock_free.specs.Distinct.{AgreeOnPlaces, one_answer}
-use Rattle.elsa_lock_free.specs.SharedList.{entry, item_of, items_of}
+use Rattle.elsa_lock_free.specs.SharedList.{Continues, View, entry, item_of, items_of}
 use Rattle.elsa_lock_free.specs.declared.event.Entry.{Entry as Listed}
 use Rattle.elsa_lock_free.proofs.RuleLemmas.EachNew.{agree_on_places, one_to_one}
-use Rattle.elsa_lock_free_map.specs.Entries.{HasAt, Lacks, MayFollow, is_text, pairs_of}
+use Rattle.elsa_lock_free_map.specs.declared.map.Inserted.{Inserted}
+use Rattle.elsa_lock_free_map.specs.Entries.{Came, HasAt, InsertsOnce, Lacks, MayFollow, PushesPair, is_text, pairs_of}
 
 last_at : {A : Type 0} (x : A) (xs : List A) → (y : A) × (slice_get (x ∷ xs) (length xs) ≡ Some y)
 last_at x [] = (x, refl)
@@ -114,11 +115,23 @@ get_pushed {A} xs ys author i x at is =
     ∙ (ap (λ (k : ℕ). slice_get (items_of xs ++ x ∷ []) k) (sym at ∙ sym (length-map xs item_of)) ∙ last (items_of xs) x))
 
 -- the entry that was pushed behind a list is at the place of its length
-pub pushed_at : {K V S : Type 0} (equal : K → K → Bool) (refl_key : (k : K) → equal k k ≡ true) (before after : List (Listed (Entry K V S))) (author i : ℕ) (key : K) (value : V)
-    → ((e : Entry K V S) × (e.key ≡ key) × (e.value ≡ value) × (i ≡ length before) × (after ≡ before ++ entry author e ∷ [])) → HasAt equal (items_of after) i key value
-pushed_at equal refl_key before after author i key value new =
-    let e = new.0 in
-    (e, get_pushed before after author i e (sym new.3) new.4, subst (λ k. equal key k ≡ true) (sym new.1) (refl_key key), new.2)
+pub pushed_at : {K V S : Type 0} (equal : K → K → Bool) (refl_key : (k : K) → equal k k ≡ true) (before after : View (Entry K V S)) (i : ℕ) (key : K) (value : V)
+    → (i ≡ length before.seen) × PushesPair before after key value → HasAt equal (items_of after.seen) i key value
+pushed_at equal refl_key before after i key value (at, (e, is_key, is_value, pushed)) =
+    (e, get_pushed before.seen after.seen before.author i e (sym at) pushed.0, subst (λ k. equal key k ≡ true) (sym is_key) (refl_key key), is_value)
+
+within : {A : Type 0} (xs ys : List A) → IsPrefix xs ys → length xs ≤ length ys
+within xs ys p = omega (arith, length-append xs p.0, ap length p.1)
+
+-- what came to a pass that goes on came to it as it was before
+pub came_since : {T : Type 0} (a b c : View T) → Continues a b → (is_new : Bool) (i : ℕ) → Came is_new b c i → Came is_new a c i
+came_since a b c on true i came = (let w = within a.seen b.seen on.1 in let l = came.0 in omega (arith, w, l), came.1 ∙ ap (λ l. l ++ i ∷ []) on.2)
+came_since a b c on false i came = came ∙ on.2
+
+-- what an insertion left by a pass that lacked the key and has gone on since
+pub inserts_since : {Q K V S : Type 0} (equal : Q → K → Bool) (a b c : View (Entry K V S)) (key : Q) (r : Inserted V) → Continues a b → Lacks equal (items_of a.seen) key
+    → HasAt equal (items_of c.seen) r.place key r.value → Came r.is_new b c r.place → InsertsOnce equal a c key r
+inserts_since equal a b c key r on lacks here came = (here, came_since a b c on r.is_new r.place came, λ j v h. absurd (not_lacking equal (items_of a.seen) key j h.0 lacks h.1 h.2))
 
 -- what a result tells
 pub on_ok : {A E : Type 0} (r : Result A E) (x : A) (P : Type 0) → r ≡ Ok x → OnOk r P → P
@@ -139,6 +152,11 @@ some_has (Some x) P h e = (x, h)
 pub some_at : {A : Type 0} (o : Option A) (x : A) (P : A → Type 0) → o ≡ Some x → IfSome o P → P x
 some_at None x P e h = absurd (cc e)
 some_at (Some y) x P e h = let same : y ≡ x = cc e in subst P same h
+
+-- what holds where there is no item, where there is none
+pub none_at : {A : Type 0} (o : Option A) (P : Type 0) → o ≡ None → IfNone o P → P
+none_at None P e h = h
+none_at (Some y) P e h = absurd (cc e)
 
 -- a borrow of a text is asked for as the text is
 module _ {V S : Type 0} (es : List (Entry (Bor (List ℕ)) V S)) (text : List ℕ) (key : Bor (List ℕ)) (same : key.now ≡ text) where

@@ -4,7 +4,8 @@ use Rattle.std.specs.Borrow.{Bor}
 use Rattle.std.specs.Str.{bytes_eq}
 use Rattle.elsa_index_words.specs.declared.entry.Entry.{Entry}
 use Rattle.elsa_index_words.specs.Entries.{IsAbsent, IsBehind, keys_of}
-use Rattle.elsa_lock_free.specs.SharedList.{View, mine}
+use Rattle.elsa_lock_free.specs.SharedList.{PushesNext, View, items_of, mine}
+use Rattle.elsa_lock_free_map.specs.declared.map.Inserted.{Inserted}
 
 -- 32 bits of a hash, of which each depends on all 64
 abbrev pub short : ℕ → ℕ
@@ -41,7 +42,18 @@ module _ {K V S : Type 0} where
 abbrev pub is_text : List ℕ → Bor (List ℕ) → Bool
 is_text text key = bytes_eq text key.now
 
+-- the pass has pushed an entry of this key and value, behind what it had seen, and nothing else came before
+abbrev pub PushesPair : {K V S : Type 0} → View (Entry K V S) → View (Entry K V S) → K → V → Type 0
+PushesPair {K} {V} {S} before after key value = (e : Entry K V S) × (e.key ≡ key) × (e.value ≡ value) × PushesNext before after e
+
 -- a key was entered at the place: pushed by the pass, behind all that it had seen, or there already
 abbrev pub Came : {T : Type 0} → Bool → View T → View T → ℕ → Type 0
 Came true before after i = (length before.seen ≤ i) × (mine after ≡ mine before ++ i ∷ [])
 Came false before after i = mine after ≡ mine before
+
+-- what an insertion that ended well left: the value that stands for the key is at the place, pushed by the pass or there already; and
+-- what the pass had seen of the key stays
+abbrev pub InsertsOnce : {Q K V S : Type 0} → (Q → K → Bool) → View (Entry K V S) → View (Entry K V S) → Q → Inserted V → Type 0
+InsertsOnce {V = V} equal before after key r =
+    HasAt equal (items_of after.seen) r.place key r.value × Came r.is_new before after r.place
+    × ((j : ℕ) (v : V) → HasAt equal (items_of before.seen) j key v → (r.place ≡ j) × (r.is_new ≡ false))

@@ -1,11 +1,10 @@
 //! A map together with a pass of it. They belong together by the type, so no call but [`MapHandle::meet`] has a condition.
-ghost use Rattle.std.specs.Prelude.{◌≡◌, ◌≤◌, true, false, ℕ, IfOk, IfErr, IfSome, IfNone, Some, length, slice_get};
-ghost use mathlib.Core.List.{IsPrefix};
-ghost use Rattle.elsa_lock_free.specs.SharedList.{Apart, Continues, IsSamePass, items_of, longer, mine};
+ghost use Rattle.std.specs.Prelude.{◌≡◌, ◌≤◌, true, false, IfOk, IfErr, IfSome, IfNone, Some, length, slice_get};
+ghost use Rattle.elsa_lock_free.specs.SharedList.{Continues, IsLaterPass, Meet, items_of, mine};
 ghost use Rattle.elsa_lock_free.specs.Distinct.{AgreeOnPlaces, IsOneToOne};
 ghost use Rattle.elsa_index_words.specs.declared.entry.Entry.{Entry};
 ghost use Rattle.elsa_index_words.specs.Entries.{keys_of};
-ghost use Rattle.elsa_lock_free_map.specs.Entries.{Came, Has, HasAt, Lacks, pairs_of};
+ghost use Rattle.elsa_lock_free_map.specs.Entries.{Has, InsertsOnce, Lacks, pairs_of};
 
 use crate::iter::MapIter;
 use crate::map::{Inserted, LockFreeFrozenMap, MapPass};
@@ -94,17 +93,9 @@ impl<
     /// not seen the key. `Err`: an allocation failed, or the map is full; nothing is inserted, and the same insertion may
     /// succeed later: [`insert_as`](LockFreeFrozenMap::insert_as).
     pub fn insert<R: Wait>(&mut self, rt: &R, key: K, value: V) -> Result<Inserted<V>, AllocError>
-        // The pass is the same, later. The value that stands is at the place: the pass's own, or there already.
-        ensures same { IsSamePass self.old self.new }
-        ensures seen { IsPrefix self.old.seen self.new.seen }
-        ensures stands { IfOk result (λ r. HasAt K.eq (items_of self.new.seen) r.place key r.value) }
-        ensures came { IfOk result (λ r. Came r.is_new self.old self.new r.place) }
+        ensures later { IsLaterPass self.old self.new }
+        ensures inserted { IfOk result (λ r. InsertsOnce K.eq self.old self.new key r) }
         ensures own { IfOk result (λ r. r.is_new ≡ true → r.value ≡ value) }
-
-        // What the handle had seen of the key stays, and nothing is pushed.
-        ensures known { IfOk result (λ r. (j : ℕ) (v : V) →
-            HasAt K.eq (items_of self.old.seen) j key v →
-            (r.place ≡ j) × (r.is_new ≡ false)) }
         ensures refused { IfErr result (λ e. mine self.new ≡ mine self.old) }
     {
         self.map.insert_as(rt, &mut self.pass, key, value)
@@ -122,18 +113,9 @@ impl<
         make: F,
     ) -> Result<Inserted<V>, AllocError>
         requires callable { Lacks K.eq (items_of self.old.seen) key → F.pre make }
-
-        // The pass is the same, later. The value that stands is at the place: what `make` returned, or there already.
-        ensures same { IsSamePass self.old self.new }
-        ensures seen { IsPrefix self.old.seen self.new.seen }
-        ensures stands { IfOk result (λ r. HasAt K.eq (items_of self.new.seen) r.place key r.value) }
-        ensures came { IfOk result (λ r. Came r.is_new self.old self.new r.place) }
+        ensures later { IsLaterPass self.old self.new }
+        ensures inserted { IfOk result (λ r. InsertsOnce K.eq self.old self.new key r) }
         ensures made { IfOk result (λ r. r.is_new ≡ true → F.post make r.value) }
-
-        // What the handle had seen of the key stays, and nothing is pushed.
-        ensures known { IfOk result (λ r. (j : ℕ) (v : V) →
-            HasAt K.eq (items_of self.old.seen) j key v →
-            (r.place ≡ j) × (r.is_new ≡ false)) }
         ensures refused { IfErr result (λ e. mine self.new ≡ mine self.old) }
     {
         self.map
@@ -189,17 +171,7 @@ impl<
     /// memory and no atomic step, and never waits. `O(1)`.
     pub fn meet(&mut self, other: &mut MapHandle<'_, K, V, S, A>)
         requires of { self.old.vector ≡ other.old.vector }
-
-        // Each pass is the same, later.
-        ensures same { IsSamePass self.old self.new × IsSamePass other.old other.new }
-        ensures seen { IsPrefix self.old.seen self.new.seen
-            × IsPrefix other.old.seen other.new.seen }
-
-        // Both have seen the longer list. Their places stay, and none is of both.
-        ensures longer { (self.new.seen ≡ longer self.old.seen other.old.seen)
-            × (other.new.seen ≡ longer self.old.seen other.old.seen) }
-        ensures mine { (mine self.new ≡ mine self.old) × (mine other.new ≡ mine other.old) }
-        ensures apart { Apart (mine self.new) (mine other.new) }
+        ensures { Meet self.old self.new other.old other.new }
     {
         self.pass.meet(&mut other.pass)
     }

@@ -4,13 +4,12 @@
 //! row of words, by which a key is found; each word changes once. A thread has a [`MapPass`]: what it has seen of the list, which is a
 //! beginning of the one list that all threads share. A key that a pass has seen is found by the row's words alone; where none of them
 //! has it, the length is read once more, and a key that is then not found is in none of the entries seen.
-ghost use Rattle.std.specs.Prelude.{◌≡◌, ◌+◌, ◌-◌, ◌<◌, ◌≤◌, ◌^◌, [], ◌∷◌, ◌++◌, true, false, IfOk, IfErr, IfSome, IfNone, OnOk, OnErr, ℕ, Some, length, slice_get};
-ghost use mathlib.Core.List.{IsPrefix};
-ghost use Rattle.elsa_lock_free.specs.SharedList.{BeginsABuffer, Continues, IsSamePass, entry, items_of, mine};
+ghost use Rattle.std.specs.Prelude.{◌≡◌, ◌+◌, ◌-◌, ◌<◌, ◌≤◌, ◌^◌, [], true, false, IfOk, IfErr, IfSome, IfNone, OnOk, OnErr, Some, length, slice_get};
+ghost use Rattle.elsa_lock_free.specs.SharedList.{BeginsABuffer, Continues, IsLaterPass, IsSamePass, items_of, mine};
 ghost use Rattle.elsa_lock_free.specs.Distinct.{AgreeOnPlaces, IsOneToOne};
 ghost use Rattle.elsa_index_words.specs.declared.entry.Entry.{Entry};
 ghost use Rattle.elsa_index_words.specs.Entries.{keys_of};
-ghost use Rattle.elsa_lock_free_map.specs.Entries.{Came, Has, HasAt, Lacks, pairs_of};
+ghost use Rattle.elsa_lock_free_map.specs.Entries.{Has, InsertsOnce, Lacks, PushesPair, pairs_of};
 
 use crate::entries::{Entries, EntriesPass, Index, NewKeys, Query, Shown, one_to_one, same_place};
 use crate::handle::MapHandle;
@@ -208,9 +207,7 @@ impl<
 
         // The entry is the last, by the pass that the hold gives back; a refusal leaves all.
         ensures same { IsSamePass hold result.0 }
-        ensures pushed { OnOk result.1 ((e : Entry K V S) × (e.key ≡ key) × (e.value ≡ value)
-            × (result.0.seen ≡ hold.seen ++ entry hold.author e ∷ [])) }
-        ensures mine { OnOk result.1 (mine result.0 ≡ mine hold ++ length hold.seen ∷ []) }
+        ensures pushed { OnOk result.1 (PushesPair hold result.0 key value) }
         ensures refused { OnErr result.1 (result.0 ≡ hold) }
     {
         match entered(shown, key, value) {
@@ -237,9 +234,7 @@ impl<
 
         // The entry is the last, by the pass that the hold gives back; a refusal leaves all.
         ensures same { IsSamePass hold result.0 }
-        ensures pushed { OnOk result.1 ((e : Entry K V S) × (e.key ≡ key) × (e.value ≡ value)
-            × (result.0.seen ≡ hold.seen ++ entry hold.author e ∷ [])) }
-        ensures mine { OnOk result.1 (mine result.0 ≡ mine hold ++ length hold.seen ∷ []) }
+        ensures pushed { OnOk result.1 (PushesPair hold result.0 key value) }
         ensures refused { OnErr result.1 (result.0 ≡ hold) }
     {
         match regrown(shown, self.alloc, 6 * (n + 1), self.builder, key, value) {
@@ -263,15 +258,10 @@ impl<
         requires of { pass.vector ≡ self.now }
         requires absent { Lacks K.eq (items_of pass.seen) key }
 
-        // The pass goes on, and the entry is at the length that it had seen.
-        ensures same { IsSamePass pass result.0 }
-        ensures seen { IsPrefix pass.seen result.0.seen }
-        ensures pushed { IfOk result.1 (λ a. IfSome a (λ i. (e : Entry K V S) × (e.key ≡ key) ×
-            (e.value ≡ value)
-            × (i ≡ length pass.seen) × (result.0.seen ≡ pass.seen ++ entry pass.author e ∷ []))) }
-        ensures mine { IfOk result.1 (λ a. IfSome a (λ i. mine result.0 ≡ mine pass ++ i ∷ [])) }
-
-        // Nothing is pushed where the list is longer, or on a refusal.
+        // The pass is the same, later: the entry is at the length that it had seen, or it has pushed nothing.
+        ensures later { IsLaterPass pass result.0 }
+        ensures pushed { IfOk result.1 (λ a. IfSome a (λ i.
+            (i ≡ length pass.seen) × PushesPair pass result.0 key value)) }
         ensures again { IfOk result.1 (λ a. IfNone a (mine result.0 ≡ mine pass)) }
         ensures refused { IfErr result.1 (λ e. mine result.0 ≡ mine pass) }
     {
@@ -311,16 +301,10 @@ impl<
         requires of { pass.old.vector ≡ self.now }
         requires absent { Lacks K.eq (items_of pass.old.seen) key }
 
-        // The pass goes on, and the entry is at the length that it had seen.
-        ensures same { IsSamePass pass.old pass.new }
-        ensures seen { IsPrefix pass.old.seen pass.new.seen }
-        ensures pushed { IfOk result (λ a. IfSome a (λ i. (e : Entry K V S) × (e.key ≡ key) ×
-            (e.value ≡ value)
-            × (i ≡ length pass.old.seen) ×
-            (pass.new.seen ≡ pass.old.seen ++ entry pass.old.author e ∷ []))) }
-        ensures mine { IfOk result (λ a. IfSome a (λ i. mine pass.new ≡ mine pass.old ++ i ∷ [])) }
-
-        // Nothing is pushed where the list is longer, or on a refusal.
+        // The pass is the same, later: the entry is at the length that it had seen, or it has pushed nothing.
+        ensures later { IsLaterPass pass.old pass.new }
+        ensures pushed { IfOk result (λ a. IfSome a (λ i.
+            (i ≡ length pass.old.seen) × PushesPair pass.old pass.new key value)) }
         ensures again { IfOk result (λ a. IfNone a (mine pass.new ≡ mine pass.old)) }
         ensures refused { IfErr result (λ e. mine pass.new ≡ mine pass.old) }
     {
@@ -341,14 +325,10 @@ impl<
         requires of { pass.old.vector ≡ self.now }
         requires absent { Lacks K.eq (items_of pass.old.seen) key }
 
-        // The pass is the same, later. The value that stands is at the place: the pass's own, or there already.
-        ensures same { IsSamePass pass.old pass.new }
-        ensures seen { IsPrefix pass.old.seen pass.new.seen }
-        ensures stands { IfOk result (λ r. HasAt K.eq (items_of pass.new.seen) r.place key r.value) }
-        ensures came { IfOk result (λ r. Came r.is_new pass.old pass.new r.place) }
+        // The value that stands is at its place: the pass's own, or there already. A refusal pushes nothing.
+        ensures later { IsLaterPass pass.old pass.new }
+        ensures inserted { IfOk result (λ r. InsertsOnce K.eq pass.old pass.new key r) }
         ensures own { IfOk result (λ r. r.is_new ≡ true → r.value ≡ value) }
-
-        // A refusal pushes nothing.
         ensures refused { IfErr result (λ e. mine pass.new ≡ mine pass.old) }
     {
         for _ in rt.forever() {
@@ -385,18 +365,9 @@ impl<
         value: V,
     ) -> Result<Inserted<V>, AllocError>
         requires of { pass.old.vector ≡ self.now }
-
-        // The pass is the same, later. The value that stands is at the place: the pass's own, or there already.
-        ensures same { IsSamePass pass.old pass.new }
-        ensures seen { IsPrefix pass.old.seen pass.new.seen }
-        ensures stands { IfOk result (λ r. HasAt K.eq (items_of pass.new.seen) r.place key r.value) }
-        ensures came { IfOk result (λ r. Came r.is_new pass.old pass.new r.place) }
+        ensures later { IsLaterPass pass.old pass.new }
+        ensures inserted { IfOk result (λ r. InsertsOnce K.eq pass.old pass.new key r) }
         ensures own { IfOk result (λ r. r.is_new ≡ true → r.value ≡ value) }
-
-        // What the pass had seen of the key stays, and nothing is pushed.
-        ensures known { IfOk result (λ r. (j : ℕ) (v : V) →
-            HasAt K.eq (items_of pass.old.seen) j key v →
-            (r.place ≡ j) × (r.is_new ≡ false)) }
         ensures refused { IfErr result (λ e. mine pass.new ≡ mine pass.old) }
     {
         if let Some(place) = self.place_in(pass, key) {
@@ -426,17 +397,10 @@ impl<
         requires of { pass.old.vector ≡ self.now }
         requires callable { Lacks K.eq (items_of pass.old.seen) key → F.pre make }
 
-        // The pass is the same, later. The value that stands is at the place: what `make` returned, or there already.
-        ensures same { IsSamePass pass.old pass.new }
-        ensures seen { IsPrefix pass.old.seen pass.new.seen }
-        ensures stands { IfOk result (λ r. HasAt K.eq (items_of pass.new.seen) r.place key r.value) }
-        ensures came { IfOk result (λ r. Came r.is_new pass.old pass.new r.place) }
+        // The value that stands is at its place: what `make` returned, or there already. A refusal pushes nothing.
+        ensures later { IsLaterPass pass.old pass.new }
+        ensures inserted { IfOk result (λ r. InsertsOnce K.eq pass.old pass.new key r) }
         ensures made { IfOk result (λ r. r.is_new ≡ true → F.post make r.value) }
-
-        // What the pass had seen of the key stays, and nothing is pushed.
-        ensures known { IfOk result (λ r. (j : ℕ) (v : V) →
-            HasAt K.eq (items_of pass.old.seen) j key v →
-            (r.place ≡ j) × (r.is_new ≡ false)) }
         ensures refused { IfErr result (λ e. mine pass.new ≡ mine pass.old) }
     {
         if let Some(place) = self.find_as(pass, key) {

@@ -1,9 +1,7 @@
 //! A map whose keys are borrowed texts, asked by any text, which may be short-lived.
-ghost use Rattle.std.specs.Prelude.{◌≡◌, ◌<◌, true, false, ℕ, IfOk, IfErr, IfSome, IfNone, Some, length, slice_get};
-ghost use mathlib.Core.List.{IsPrefix};
-ghost use Rattle.elsa_lock_free.specs.SharedList.{Continues, IsSamePass, items_of, mine};
-ghost use Rattle.elsa_index_words.specs.declared.entry.Entry.{Entry};
-ghost use Rattle.elsa_lock_free_map.specs.Entries.{Came, Has, HasAt, Lacks, is_text};
+ghost use Rattle.std.specs.Prelude.{◌≡◌, ◌<◌, true, false, IfOk, IfErr, IfSome, IfNone, Some, length};
+ghost use Rattle.elsa_lock_free.specs.SharedList.{Continues, IsLaterPass, items_of, mine};
+ghost use Rattle.elsa_lock_free_map.specs.Entries.{Has, HasAt, InsertsOnce, Lacks, is_text};
 
 use crate::handle::MapHandle;
 use crate::map::{Inserted, LockFreeFrozenMap, MapPass};
@@ -62,19 +60,9 @@ impl<'a, V: Copy + Drop, S: BuildHasher + Copy + Drop, A: Allocator + Copy> Lock
         value: V,
     ) -> Result<Inserted<V>, AllocError>
         requires of { pass.old.vector ≡ self.now }
-
-        // The pass is the same, later. The value that stands is at the place: the pass's own, or there already.
-        ensures same { IsSamePass pass.old pass.new }
-        ensures seen { IsPrefix pass.old.seen pass.new.seen }
-        ensures stands { IfOk result (λ r.
-            HasAt is_text (items_of pass.new.seen) r.place text.now r.value) }
-        ensures came { IfOk result (λ r. Came r.is_new pass.old pass.new r.place) }
+        ensures later { IsLaterPass pass.old pass.new }
+        ensures inserted { IfOk result (λ r. InsertsOnce is_text pass.old pass.new text.now r) }
         ensures own { IfOk result (λ r. r.is_new ≡ true → r.value ≡ value) }
-
-        // What the pass had seen of the text stays, and nothing is pushed.
-        ensures known { IfOk result (λ r. (j : ℕ) (v : V) →
-            HasAt is_text (items_of pass.old.seen) j text.now v →
-            (r.place ≡ j) × (r.is_new ≡ false)) }
         ensures refused { IfErr result (λ e. mine pass.new ≡ mine pass.old) }
     {
         if let Some(place) = self.find_text_as(pass, text) {
@@ -130,18 +118,9 @@ impl<'m, 'a, V: Copy + Drop, S: BuildHasher + Copy + Drop, A: Allocator + Copy> 
         text: &str,
         value: V,
     ) -> Result<Inserted<V>, AllocError>
-        // The pass is the same, later. The value that stands is at the place: the pass's own, or there already.
-        ensures same { IsSamePass self.old self.new }
-        ensures seen { IsPrefix self.old.seen self.new.seen }
-        ensures stands { IfOk result (λ r.
-            HasAt is_text (items_of self.new.seen) r.place text.now r.value) }
-        ensures came { IfOk result (λ r. Came r.is_new self.old self.new r.place) }
+        ensures later { IsLaterPass self.old self.new }
+        ensures inserted { IfOk result (λ r. InsertsOnce is_text self.old self.new text.now r) }
         ensures own { IfOk result (λ r. r.is_new ≡ true → r.value ≡ value) }
-
-        // What the handle had seen of the text stays, and nothing is pushed.
-        ensures known { IfOk result (λ r. (j : ℕ) (v : V) →
-            HasAt is_text (items_of self.old.seen) j text.now v →
-            (r.place ≡ j) × (r.is_new ≡ false)) }
         ensures refused { IfErr result (λ e. mine self.new ≡ mine self.old) }
     {
         self.map

@@ -1,13 +1,13 @@
 -- What a pass of an interner's map is as a pass of names.
 use Rattle.std.proofs.Common.{◌≡◌, ◌∙◌, ◌==◌, ◌||◌, ℕ, zero, suc, Bool, true, false, List, [], ◌∷◌, ◌++◌, inl, inr, length, map, refl, ap, sym, subst, Some, slice_get, if◌then◌else◌, arith}
-use Rattle.std.specs.Prelude.{None, ◌⊎◌, ◌≤◌}
+use Rattle.std.specs.Prelude.{None, ◌⊎◌, ◌≤◌, nat_le}
 use Rattle.std.proofs.lemmas.List.{length-map, map-append}
 use Rattle.std.proofs.lemmas.Slice.Eq.{bytes_eq-Decides}
 use Rattle.std.specs.Borrow.{Bor}
 use Rattle.std.specs.List.{list_any}
 use mathlib.Core.List.{IsPrefix}
 use Rattle.elsa_lock_free.specs.declared.event.Entry.{Entry as Pushed}
-use Rattle.elsa_lock_free.specs.SharedList.{Continues, IsSamePass, View, item_of, items_of, mine, places_from}
+use Rattle.elsa_lock_free.specs.SharedList.{Continues, IsLaterPass, IsSamePass, View, item_of, items_of, longer, mine, places_from}
 use Rattle.elsa_index_words.specs.declared.entry.Entry.{Entry}
 use Rattle.elsa_index_words.specs.Entries.{keys_of}
 use Rattle.elsa_index_words.proofs.EntryLemmas.{entry_at}
@@ -50,6 +50,9 @@ module _ {T V S : Type 0} where
     pub seen_names : IsPrefix a.seen b.seen → IsPrefix old.seen (names_of b).seen
     seen_names p = subst (λ v. IsPrefix v.seen (map name_of b.seen)) is (prefix_names a.seen b.seen p)
 
+    pub later_names : IsLaterPass a b → IsLaterPass old (names_of b)
+    later_names l = (same_names l.0, seen_names l.1)
+
     pub mine_stays : mine b ≡ mine a → mine (names_of b) ≡ mine old
     mine_stays m = mine_names b ∙ (m ∙ (sym (mine_names a) ∙ ap mine is))
 
@@ -63,6 +66,20 @@ module _ {T V S : Type 0} where
     pub known : (is_new : Bool) (i j : ℕ) → Came is_new a b i → (i ≡ j) × (is_new ≡ false) → (i ≡ j) × (mine (names_of b) ≡ mine old)
     known true i j c k = absurd (cc k.1)
     known false i j c k = (k.0, mine_stays c)
+
+  one_mapped : (b : Bool) (xs ys : List (Pushed (Entry T V S))) → map name_of (if b then xs else ys) ≡ (if b then map name_of xs else map name_of ys)
+  one_mapped true xs ys = refl
+  one_mapped false xs ys = refl
+
+  longer_mapped : (xs ys : List (Pushed (Entry T V S))) → map name_of (longer xs ys) ≡ longer (map name_of xs) (map name_of ys)
+  longer_mapped xs ys =
+      let named = map name_of xs in let others = map name_of ys in
+      one_mapped (nat_le (length ys) (length xs)) xs ys ∙ (ap (λ n. if nat_le n (length xs) then named else others) (sym (length-map ys name_of))
+      ∙ ap (λ n. if nat_le (length others) n then named else others) (sym (length-map xs name_of)))
+
+  -- what a pass has seen that met another
+  pub longer_names : (a b after : View (Entry T V S)) (one two : View T) → names_of a ≡ one → names_of b ≡ two → after.seen ≡ longer a.seen b.seen → (names_of after).seen ≡ longer one.seen two.seen
+  longer_names a b after one two is_one is_two seen = ap (map name_of) seen ∙ (longer_mapped a.seen b.seen ∙ (ap (λ v. longer v.seen (map name_of b.seen)) is_one ∙ ap (λ v. longer one.seen v.seen) is_two))
 
   module _ {Q : Type 0} (equal : Q → T → Bool) (pass : View (Entry T V S)) (i : ℕ) (x : Q) where
     -- an entry of the name

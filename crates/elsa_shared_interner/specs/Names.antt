@@ -2,7 +2,7 @@
 use Rattle.std.specs.Prelude.{ℕ, ◌≡◌, ◌≤◌, ◌⊎◌, Bool, true, false, List, [], ◌∷◌, ◌++◌, map, take, length, slice_get, Some}
 use Rattle.std.specs.Borrow.{Bor}
 use Rattle.std.specs.List.{list_any}
-use Rattle.elsa_lock_free.specs.SharedList.{View, mine}
+use Rattle.elsa_lock_free.specs.SharedList.{View, items_of, mine}
 use Rattle.elsa_lock_free.specs.declared.event.Entry.{Entry as Pushed}
 use Rattle.elsa_index_words.specs.declared.entry.Entry.{Entry}
 use Rattle.elsa_shared_interner.specs.declared.name_bytes.Name.{Name}
@@ -32,6 +32,17 @@ HasTextAt xs i text = (y : Bor (List ℕ)) × (slice_get xs i ≡ Some y) × (y.
 abbrev pub Lacks : {T : Type 0} → (T → Bool) → List T → Type 0
 Lacks test xs = list_any test xs ≡ false
 
--- the pass pushed nothing, or one item at this place
-abbrev pub FoundOrPushed : {T : Type 0} → View T → View T → ℕ → Type 0
-FoundOrPushed before after i = (mine after ≡ mine before) ⊎ (mine after ≡ mine before ++ i ∷ [])
+-- what a put that ended well left: an item that passes for the name is at the place, where it was found or is now the pass's own; and one
+-- that the pass had seen is at that place, and nothing was pushed
+abbrev pub PutsBy : {T : Type 0} → (List T → ℕ → Type 0) → View T → View T → ℕ → Type 0
+PutsBy has before after i =
+    has (items_of after.seen) i × ((mine after ≡ mine before) ⊎ (mine after ≡ mine before ++ i ∷ []))
+    × ((j : ℕ) → has (items_of before.seen) j → (i ≡ j) × (mine after ≡ mine before))
+
+-- a name was put
+abbrev pub PutsName : {T : Type 0} → (T → T → Bool) → View T → View T → ℕ → T → Type 0
+PutsName equal before after i name = PutsBy (λ xs j. HasAt equal xs j name) before after i
+
+-- a text was put
+abbrev pub PutsText : View (Bor (List ℕ)) → View (Bor (List ℕ)) → ℕ → List ℕ → Type 0
+PutsText before after i text = PutsBy (λ xs j. HasTextAt xs j text) before after i

@@ -1,11 +1,10 @@
 //! An interner together with a pass of it. They belong together by the type, so no call but [`NameHandle::meet`] and
 //! [`NameHandle::same_name_same_place`] has a condition.
-ghost use Rattle.std.specs.Prelude.{◌≡◌, ℕ, ◌++◌, ◌∷◌, [], ◌⊎◌, IfOk, IfErr, IfSome, IfNone, length, slice_get};
+ghost use Rattle.std.specs.Prelude.{◌≡◌, IfOk, IfErr, IfSome, IfNone, length, slice_get};
 ghost use Rattle.std.specs.Str.{bytes_eq};
-ghost use mathlib.Core.List.{IsPrefix};
-ghost use Rattle.elsa_lock_free.specs.SharedList.{Apart, Continues, IsSamePass, items_of, longer, mine};
+ghost use Rattle.elsa_lock_free.specs.SharedList.{Continues, IsLaterPass, Meet, items_of, mine};
 ghost use Rattle.elsa_lock_free.specs.Distinct.{AgreeOnPlaces, IsOneToOne};
-ghost use Rattle.elsa_shared_interner.specs.Names.{HasAt, HasTextAt, Lacks};
+ghost use Rattle.elsa_shared_interner.specs.Names.{HasAt, HasTextAt, Lacks, PutsName, PutsText};
 
 use crate::name::Name;
 use crate::shared::{NamePass, SharedInterner};
@@ -67,19 +66,9 @@ impl<'i, T: Copy + Drop + Hash, S: BuildHasher + Copy + Drop, A: Allocator + Cop
     /// thread appends, where the handle has not seen the name. `Err`: an allocation failed, or the interner is full; the handle
     /// has put nothing, and the same put may succeed later: [`SharedInterner::put`].
     pub fn put<R: Wait>(&mut self, rt: &R, name: T) -> Result<usize, AllocError>
-        // The pass is the same, later, and a name has one place in what it has seen.
-        ensures same { IsSamePass self.old self.new }
-        ensures seen { IsPrefix self.old.seen self.new.seen }
+        ensures later { IsLaterPass self.old self.new }
         ensures one_to_one { IsOneToOne T.eq (items_of self.new.seen) }
-
-        // The name is at the place, where it was found or is now the handle's own.
-        ensures found { IfOk result (λ i. HasAt T.eq (items_of self.new.seen) i name) }
-        ensures mine { IfOk result (λ i.
-            (mine self.new ≡ mine self.old) ⊎ (mine self.new ≡ mine self.old ++ i ∷ [])) }
-
-        // A name that the handle had seen has the place that it had, and nothing is pushed.
-        ensures known { IfOk result (λ i. (j : ℕ) → HasAt T.eq (items_of self.old.seen) j name →
-            (i ≡ j) × (mine self.new ≡ mine self.old)) }
+        ensures put { IfOk result (λ i. PutsName T.eq self.old self.new i name) }
         ensures refused { IfErr result (λ e. mine self.new ≡ mine self.old) }
     {
         self.interner.put(rt, &mut self.names, name)
@@ -136,17 +125,8 @@ impl<'i, T: Copy + Drop + Hash, S: BuildHasher + Copy + Drop, A: Allocator + Cop
 
     /// Both handles of an interner take the longer of what they have seen. It takes no memory and no atomic step, and never waits. `O(1)`.
     pub fn meet(&mut self, other: &mut NameHandle<'_, T, S, A>)
-        // Both have then seen the longer list.
         requires of { self.old.vector ≡ other.old.vector }
-        ensures same { IsSamePass self.old self.new × IsSamePass other.old other.new }
-        ensures seen { IsPrefix self.old.seen self.new.seen
-            × IsPrefix other.old.seen other.new.seen }
-        ensures longer { (self.new.seen ≡ longer self.old.seen other.old.seen)
-            × (other.new.seen ≡ longer self.old.seen other.old.seen) }
-
-        // What each has put stays its own, and none is of both.
-        ensures mine { (mine self.new ≡ mine self.old) × (mine other.new ≡ mine other.old) }
-        ensures apart { Apart (mine self.new) (mine other.new) }
+        ensures { Meet self.old self.new other.old other.new }
     {
         self.names.meet(&mut other.names);
     }
@@ -172,19 +152,9 @@ impl<'i, 'a, S: BuildHasher + Copy + Drop, A: Allocator + Copy> NameHandle<'i, &
         arena: P,
         text: &str,
     ) -> Result<usize, AllocError>
-        // The pass is the same, later, and a text has one place in what it has seen.
-        ensures same { IsSamePass self.old self.new }
-        ensures seen { IsPrefix self.old.seen self.new.seen }
+        ensures later { IsLaterPass self.old self.new }
         ensures one_to_one { IsOneToOne (λ a b. bytes_eq a.now b.now) (items_of self.new.seen) }
-
-        // The text is at the place, where it was found or is now the handle's own.
-        ensures found { IfOk result (λ i. HasTextAt (items_of self.new.seen) i text.now) }
-        ensures mine { IfOk result (λ i.
-            (mine self.new ≡ mine self.old) ⊎ (mine self.new ≡ mine self.old ++ i ∷ [])) }
-
-        // A text that the handle had seen has the place that it had, and nothing is pushed.
-        ensures known { IfOk result (λ i. (j : ℕ) → HasTextAt (items_of self.old.seen) j text.now →
-            (i ≡ j) × (mine self.new ≡ mine self.old)) }
+        ensures put { IfOk result (λ i. PutsText self.old self.new i text.now) }
         ensures refused { IfErr result (λ e. mine self.new ≡ mine self.old) }
     {
         self.interner.put_text(rt, &mut self.names, arena, text)

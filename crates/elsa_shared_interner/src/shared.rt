@@ -3,12 +3,11 @@
 //! The names are the keys of one [`LockFreeFrozenMap`], which finds a name for every thread, so a thread needs no index of its own. A
 //! thread has a [`NamePass`]: what it has seen of the names, in the order of their places. A [`NameHandle`] is the interner with a
 //! pass of it.
-ghost use Rattle.std.specs.Prelude.{◌≡◌, ℕ, ◌++◌, ◌∷◌, [], ◌⊎◌, IfOk, IfErr, IfSome, IfNone, length, slice_get};
+ghost use Rattle.std.specs.Prelude.{◌≡◌, [], IfOk, IfErr, IfSome, IfNone, length, slice_get};
 ghost use Rattle.std.specs.Str.{bytes_eq};
-ghost use mathlib.Core.List.{IsPrefix};
-ghost use Rattle.elsa_lock_free.specs.SharedList.{Apart, Continues, IsSamePass, items_of, longer, mine};
+ghost use Rattle.elsa_lock_free.specs.SharedList.{Continues, IsLaterPass, Meet, items_of, mine};
 ghost use Rattle.elsa_lock_free.specs.Distinct.{AgreeOnPlaces, IsOneToOne};
-ghost use Rattle.elsa_shared_interner.specs.Names.{HasAt, HasTextAt, Lacks};
+ghost use Rattle.elsa_shared_interner.specs.Names.{HasAt, HasTextAt, Lacks, PutsName, PutsText};
 
 use crate::handle::NameHandle;
 use crate::name::Name;
@@ -46,17 +45,8 @@ impl<T: Copy + Drop + Hash, S: BuildHasher + Copy + Drop, A: Allocator + Copy> N
     /// Both passes take the longer of what they have seen, so that each reads the names of the other with no atomic step. It takes no
     /// memory and no atomic step, and never waits. `O(1)`.
     pub fn meet(&mut self, other: &mut NamePass<T, S, A>)
-        // Both have then seen the longer list.
         requires of { self.old.vector ≡ other.old.vector }
-        ensures same { IsSamePass self.old self.new × IsSamePass other.old other.new }
-        ensures seen { IsPrefix self.old.seen self.new.seen
-            × IsPrefix other.old.seen other.new.seen }
-        ensures longer { (self.new.seen ≡ longer self.old.seen other.old.seen)
-            × (other.new.seen ≡ longer self.old.seen other.old.seen) }
-
-        // What each has put stays its own, and none is of both.
-        ensures mine { (mine self.new ≡ mine self.old) × (mine other.new ≡ mine other.old) }
-        ensures apart { Apart (mine self.new) (mine other.new) }
+        ensures { Meet self.old self.new other.old other.new }
     {
         self.pass.meet(&mut other.pass);
     }
@@ -165,20 +155,9 @@ impl<T: Copy + Drop + Hash, S: BuildHasher + Copy + Drop, A: Allocator + Copy> S
         name: T,
     ) -> Result<usize, AllocError>
         requires of { names.old.vector ≡ self.now }
-
-        // The pass is the same, later, and a name has one place in what it has seen.
-        ensures same { IsSamePass names.old names.new }
-        ensures seen { IsPrefix names.old.seen names.new.seen }
+        ensures later { IsLaterPass names.old names.new }
         ensures one_to_one { IsOneToOne T.eq (items_of names.new.seen) }
-
-        // The name is at the place, where it was found or is now the pass's own.
-        ensures found { IfOk result (λ i. HasAt T.eq (items_of names.new.seen) i name) }
-        ensures mine { IfOk result (λ i.
-            (mine names.new ≡ mine names.old) ⊎ (mine names.new ≡ mine names.old ++ i ∷ [])) }
-
-        // A name that the pass had seen has the place that it had, and nothing is pushed.
-        ensures known { IfOk result (λ i. (j : ℕ) → HasAt T.eq (items_of names.old.seen) j name →
-            (i ≡ j) × (mine names.new ≡ mine names.old)) }
+        ensures put { IfOk result (λ i. PutsName T.eq names.old names.new i name) }
         ensures refused { IfErr result (λ e. mine names.new ≡ mine names.old) }
     {
         let answer = self.names.insert_as(rt, &mut names.pass, name, ());
@@ -257,20 +236,9 @@ impl<'a, S: BuildHasher + Copy + Drop, A: Allocator + Copy> SharedInterner<&'a s
         text: &str,
     ) -> Result<usize, AllocError>
         requires of { names.old.vector ≡ self.now }
-
-        // The pass is the same, later, and a text has one place in what it has seen.
-        ensures same { IsSamePass names.old names.new }
-        ensures seen { IsPrefix names.old.seen names.new.seen }
+        ensures later { IsLaterPass names.old names.new }
         ensures one_to_one { IsOneToOne (λ a b. bytes_eq a.now b.now) (items_of names.new.seen) }
-
-        // The text is at the place, where it was found or is now the pass's own.
-        ensures found { IfOk result (λ i. HasTextAt (items_of names.new.seen) i text.now) }
-        ensures mine { IfOk result (λ i.
-            (mine names.new ≡ mine names.old) ⊎ (mine names.new ≡ mine names.old ++ i ∷ [])) }
-
-        // A text that the pass had seen has the place that it had, and nothing is pushed.
-        ensures known { IfOk result (λ i. (j : ℕ) → HasTextAt (items_of names.old.seen) j text.now →
-            (i ≡ j) × (mine names.new ≡ mine names.old)) }
+        ensures put { IfOk result (λ i. PutsText names.old names.new i text.now) }
         ensures refused { IfErr result (λ e. mine names.new ≡ mine names.old) }
     {
         let answer = self

@@ -6,7 +6,7 @@ ghost use Rattle.elsa_lock_free.specs.SharedList.{Appends, BeginsABuffer, count,
 ghost use Rattle.elsa_lock_free.specs.declared.event.Event.TheVariants.{Acquired};
 ghost use Rattle.elsa_lock_free.specs.History.{is_held, list_of};
 ghost use Rattle.elsa_lock_free.specs.Rights.{buffer_slots_of};
-ghost use Rattle.elsa_lock_free.specs.SeenHistory.{IsHolder, IsOf};
+ghost use Rattle.elsa_lock_free.specs.SeenHistory.{IsHolder, IsLaterHistory, IsOf};
 ghost use Rattle.elsa_lock_free.specs.OneWord.{word_of};
 
 use super::{AtomicList, Pushed, SeenHistory, obeys_rule};
@@ -308,10 +308,7 @@ impl<T: Copy + Drop, A: Allocator + Copy, K: ItemRule<T>> AtomicList<T, A, K> {
 
         // The word is free. What the author has seen grows, and its entries are its own.
         ensures free { is_held result.0.log ≡ false }
-        ensures same { IsOf result.0 seen × (result.1.name ≡ author.name) }
-        ensures seen { IsPrefix (list_of seen.log) (list_of result.0.log) }
-        ensures mine { count (suc author.name) (list_of result.0.log) ≡ result.1.used }
-        ensures length { (result.2 ≡ length (list_of result.0.log)) × (result.2 < 2 ^ 62) }
+        ensures later { IsLaterHistory seen result.0 author result.1 result.2 }
 
         // On success the item is at the end. On refusal the list ends where a buffer begins.
         ensures pushed { IfOk result.3 (λ i.
@@ -364,10 +361,7 @@ impl<T: Copy + Drop, A: Allocator + Copy, K: ItemRule<T>> AtomicList<T, A, K> {
 
         // The word is free. What the author has seen grows, and its entries are its own.
         ensures free { is_held result.0.log ≡ false }
-        ensures same { IsOf result.0 seen × (result.1.name ≡ author.name) }
-        ensures seen { IsPrefix (list_of seen.log) (list_of result.0.log) }
-        ensures mine { count (suc author.name) (list_of result.0.log) ≡ result.1.used }
-        ensures length { (result.2 ≡ length (list_of result.0.log)) × (result.2 < 2 ^ 62) }
+        ensures later { IsLaterHistory seen result.0 author result.1 result.2 }
 
         // On success the item is at the end. On refusal the list ends where a buffer begins.
         ensures pushed { IfOk result.3 (λ i.
@@ -397,10 +391,7 @@ impl<T: Copy + Drop, A: Allocator + Copy, K: ItemRule<T>> AtomicList<T, A, K> {
         requires new { K.is_new (take n (items_of (list_of seen.log))) item }
 
         // What the author has seen grows, and its entries are its own.
-        ensures same { IsOf result.0 seen × (result.1.name ≡ author.name) }
-        ensures seen { IsPrefix (list_of seen.log) (list_of result.0.log) }
-        ensures mine { count (suc author.name) (list_of result.0.log) ≡ result.1.used }
-        ensures length { (result.2 ≡ length (list_of result.0.log)) × (result.2 < 2 ^ 62) }
+        ensures later { IsLaterHistory seen result.0 author result.1 result.2 }
 
         // On success the item is at the end, of the list that was seen. Else the list was longer, or a buffer begins at `n`.
         ensures pushed { IfOk result.3 (λ a. IfSome a (λ i.

@@ -20,14 +20,14 @@ loop-handle-preserved g c =
     let work : IsDone (length done.items) joined = promised_work vector of.vector.now before of.pass.now.seen c.args._count of.count (length done.items) of.worker joined.pass joined.fault promised c.join-next.ensures in
     let added : Done g.row.A.Denot = record { pass = theirs; fault = joined.fault } in
     let items : c.push.new.self.items ≡ done.items ++ added ∷ [] = search rules in
-    let kept : IsDone (length done.items) added = work_stays vector before c.args._count (length done.items) joined.pass theirs joined.fault met.same.1 met.seen.1 met.mine.1 work in
-    let grown : length c.loop-handle.pass.seen ≤ length c.meet.new.self.seen = prefix_within c.loop-handle.pass.seen c.meet.new.self.seen met.seen.0 in
-    let last : length theirs.seen ≤ length c.meet.new.self.seen = let h = ap (λ (es : List (Entry ℕ)). length es) (met.longer.0 ∙ sym met.longer.1) in omega arith in (
+    let kept : IsDone (length done.items) added = work_stays vector before c.args._count (length done.items) joined.pass theirs joined.fault met.0.1.0 met.0.1.1 met.2.1 work in
+    let grown : length c.loop-handle.pass.seen ≤ length c.meet.new.self.seen = prefix_within c.loop-handle.pass.seen c.meet.new.self.seen met.0.0.1 in
+    let last : length theirs.seen ≤ length c.meet.new.self.seen = let h = ap (λ (es : List (Entry ℕ)). length es) (met.1.0 ∙ sym met.1.1) in omega arith in (
       search rules,
       (λ k d below. let h = was.1 (k + 1) d in grind rules),
       subst (Each IsDone) (sym items) (Each-push IsDone done.items added was.2 kept),
       subst (All IsWithin) (sym items) (All-push IsWithin done.items added (λ k d below. let h = was.3 k d below in omega (arith, grown)) last),
-      continues_more c.args.pass.now c.loop-handle.pass c.meet.new.self was.4 (met.same.0, met.seen.0, met.mine.0),
+      continues_more c.args.pass.now c.loop-handle.pass c.meet.new.self was.4 (met.0.0.0, met.0.0.1, met.2.0),
       search rules,
       search rules,
     )

@@ -17,7 +17,7 @@ returns-clause-pushed g c =
     let before : List (Entry ℕ) = c.args.pass.now.seen in let seen : List (Entry ℕ) = c.settle.new.pass.seen in
     let begun : c.begin-longest.new.pass.seen ≡ before = ap (λ (p : View ℕ). p.seen) c.begin-longest.ensures.same in
     let ended : seen ≡ c.meet.new.self.seen = ap (λ (p : View ℕ). p.seen) c.settle.ensures.same in
-    let pre : IsPrefix before seen = subst (λ (es : List (Entry ℕ)). IsPrefix before es) (sym ended) (subst (λ (es : List (Entry ℕ)). IsPrefix es c.meet.new.self.seen) begun c.meet.ensures.seen.0) in
+    let pre : IsPrefix before seen = subst (λ (es : List (Entry ℕ)). IsPrefix before es) (sym ended) (subst (λ (es : List (Entry ℕ)). IsPrefix es c.meet.new.self.seen) begun c.meet.ensures.0.0.1) in
     let worked : HaveWorked count before seen (map (λ (d : Done g.row.A.Denot). d.fault) done) =
     have_worked (λ (d : Done g.row.A.Denot). d.pass.author) seen (λ (d : Done g.row.A.Denot). d.fault) count before done pre
     (λ worker d below. let w = made.2 worker d below in let same = c.settle.ensures.pushed worker d below in

@@ -18,11 +18,11 @@ loop-worker-preserved g c =
     let rest = into_iter_items c.next.new.self in let all = c.args.done.items in
     let IsAll : View ℕ → Done g.row.A.Denot → Type 0 = λ p d. pushed_by d.pass.author p.seen ≡ pushed_by d.pass.author d.pass.seen in
     let within = was.3 0 next in
-    let seen : c.meet.new.self.seen ≡ pass.seen = met.longer.0 ∙ first_is_longer pass.seen next.pass.seen (search rules) in
-    let same : c.meet.new.self ≡ pass = same_view pass c.meet.new.self met.same.0.0 met.same.0.1 seen in
+    let seen : c.meet.new.self.seen ≡ pass.seen = met.1.0 ∙ first_is_longer pass.seen next.pass.seen (search rules) in
+    let same : c.meet.new.self ≡ pass = same_view pass c.meet.new.self met.0.0.0.0 met.0.0.0.1 seen in
     let here : IsAll pass next =
-    ap (λ (es : List (Entry ℕ)). pushed_by next.pass.author es) (sym seen ∙ (met.longer.0 ∙ sym met.longer.1))
-    ∙ (ap (λ (a : ℕ). pushed_by a theirs.seen) (sym met.same.1.1) ∙ pushes_none next.pass theirs met.same.1.1 met.seen.1 met.mine.1) in (
+    ap (λ (es : List (Entry ℕ)). pushed_by next.pass.author es) (sym seen ∙ (met.1.0 ∙ sym met.1.1))
+    ∙ (ap (λ (a : ℕ). pushed_by a theirs.seen) (sym met.0.1.0.1) ∙ pushes_none next.pass theirs met.0.1.0.1 met.0.1.1 met.2.1) in (
       same ∙ was.0,
       grind (rules, common_steps),
       (λ k d below. let h = was.2 (k + 1) d in grind rules),

@@ -11,8 +11,8 @@ returns g c =
     let mine = c.args.pass.now.seen in
     let theirs = c.args.other.now.seen in
     let all = c.meet.new.self.seen in
-    let both = c.meet.ensures.longer.1 ∙ sym c.meet.ensures.longer.0 in
-    let one = subst (λ l. IsPrefix l all) c.again-one.ensures.1 c.meet.ensures.seen.0 in
-    let other = subst (λ l. IsPrefix l all) c.again-two.ensures.1 (subst (λ l. IsPrefix c.again-two.result.seen l) both c.meet.ensures.seen.1) in
+    let both = c.meet.ensures.1.1 ∙ sym c.meet.ensures.1.0 in
+    let one = subst (λ l. IsPrefix l all) c.again-one.ensures.1 c.meet.ensures.0.0.1 in
+    let other = subst (λ l. IsPrefix l all) c.again-two.ensures.1 (subst (λ l. IsPrefix c.again-two.result.seen l) both c.meet.ensures.0.1.1) in
     keys_agree g.K.PartialEq.eq (λ s k. short (g.S.Hasher.Hasher.finish (fold g.S.Hasher.Hasher.write (g.S.BuildHasher.build_hasher s) (g.K.Hash.hash_input k)))) g.met.K.Eq.laws.symm
     (items_of mine) (items_of theirs) (items_of all) (items_prefix mine all one) (items_prefix theirs all other) c.obeys_rule.ensures

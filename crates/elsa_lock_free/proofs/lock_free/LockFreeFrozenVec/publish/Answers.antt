@@ -92,8 +92,8 @@ of-requires-clause-length g c =
     let len : h.at ≡ length c.args.hold.seen = n ∙ ap length seen in
     let l = ap length c.publish-seen.ensures.seen in let m = length-append (list_of v) (entry a c.args.item ∷ []) in (omega (arith, n, l, m), inv.3)
 
-pub returns-clause-mine : goal.returns-clause-mine
-returns-clause-mine g c =
+pub returns-clause-pushed : goal.returns-clause-pushed
+returns-clause-pushed g c =
     let h = c.hold.inside in let v = h.seen.log in let r = h.right in let inv = c.hold.invariant in let a = suc h.author.name in
     let n : h.at ≡ length (list_of v) = inv.2 ∙ sym (ap length (acquired_list r.answer v inv.1)) in
     let seen : list_of v ≡ c.args.hold.seen = ap (λ w. w.seen) c.hold.view_is in
@@ -101,4 +101,4 @@ returns-clause-mine g c =
     let log = c.publish-seen.result.0.log in let up = c.publish-seen.ensures in
     let used : count a (list_of log) ≡ suc h.author.used = ap (λ (l : List (Entry g.row.T.Denot)). count a l) up.seen ∙ (published_count a (list_of v) (entry a c.args.item) refl ∙ ap suc inv.4) in
     let more = push_places a h.author.used (length (list_of v)) (list_of v) (list_of log) (entry a c.args.item) (list_of v, ([], append-nil (list_of v)), refl, up.seen) refl inv.4 used in
-    rw (sym c.hold.view_is, c.of.ensures, up.same.1) more
+    rw (sym c.hold.view_is, c.of.ensures, up.same.1) (up.seen, more)

@@ -1,4 +1,7 @@
+use Rattle.std.proofs.Common.{sym}
 use Rattle.elsa_lock_free.proofs.pass.Pass.meet.Goals as goal
 
-pub returns-clause-apart : goal.returns-clause-apart
-returns-clause-apart g c = rw (c.replace.ensures.after, c.replace-2.ensures.after) c.met-one.ensures.apart
+pub returns : goal.returns
+returns g c = let m = c.met-one.ensures in
+    rw (sym c.replace-one.ensures.value, sym c.replace-two.ensures.value, c.replace.ensures.after, c.replace-2.ensures.after)
+    (((m.same.0, m.seen.0), (m.same.1, m.seen.1)), m.longer, m.mine, m.apart)

@@ -22,11 +22,6 @@ release-seen-requires-clause-n g c =
     let r = c.requires.right in let log = c.args.seen.log in let answer = c.args.right.answer in let a = suc c.args.author.name in
     (c.requires.length.0 ∙ sym (ap length (acquired_list answer log r.1)), c.requires.length.1)
 
-pub returns-then-n-eq-LIMIT-clause-mine : goal.returns-then-n-eq-LIMIT-clause-mine
-returns-then-n-eq-LIMIT-clause-mine g c =
-    let r = c.requires.right in let log = c.args.seen.log in let answer = c.args.right.answer in let a = suc c.args.author.name in
-    let m = c.release-seen.ensures.mine in ap (λ (l : List (Entry g.row.T.Denot)). count a l) c.release-seen.ensures.seen ∙ (m ∙ sym c.release-seen.ensures.same.2)
-
 pub returns-then-n-eq-LIMIT-clause-refused : goal.returns-then-n-eq-LIMIT-clause-refused
 returns-then-n-eq-LIMIT-clause-refused g c =
     let r = c.requires.right in let log = c.args.seen.log in let answer = c.args.right.answer in let a = suc c.args.author.name in
@@ -54,11 +49,6 @@ pub publish-seen-requires-clause-n : goal.publish-seen-requires-clause-n
 publish-seen-requires-clause-n g c =
     let r = c.requires.right in let log = c.args.seen.log in let answer = c.args.right.answer in let a = suc c.args.author.name in
     (c.requires.length.0 ∙ sym (ap length (acquired_list answer log r.1)), (let h = c.requires.length.1 in let no = c.if-n-eq-LIMIT.false in omega (arith, h, no)))
-
-pub returns-then-slot-ne0-clause-mine : goal.returns-then-slot-ne0-clause-mine
-returns-then-slot-ne0-clause-mine g c =
-    let r = c.requires.right in let log = c.args.seen.log in let answer = c.args.right.answer in let a = suc c.args.author.name in
-    ap (λ (l : List (Entry g.row.T.Denot)). count a l) c.publish-seen.ensures.seen ∙ (published_count a (list_of log) (entry a c.args.item) refl ∙ (ap suc c.publish-seen.ensures.mine ∙ sym c.publish-seen.ensures.same.2))
 
 pub returns-then-slot-ne0-clause-pushed : goal.returns-then-slot-ne0-clause-pushed
 returns-then-slot-ne0-clause-pushed g c =
@@ -103,54 +93,42 @@ release-seen-requires-in_default-clause-n g c =
     let r = c.requires.right in let log = c.args.seen.log in let answer = c.args.right.answer in let a = suc c.args.author.name in
     (c.requires.length.0 ∙ sym (ap length (acquired_list answer log r.1)), c.requires.length.1)
 
-pub returns-clause-mine : goal.returns-clause-mine
-returns-clause-mine g c =
-    let r = c.requires.right in let log = c.args.seen.log in let answer = c.args.right.answer in let a = suc c.args.author.name in
-    ap (λ (l : List (Entry g.row.T.Denot)). count a l) c.publish-seen-2.ensures.seen ∙ (published_count a (list_of log) (entry a c.args.item) refl ∙ (ap suc c.publish-seen-2.ensures.mine ∙ sym c.publish-seen-2.ensures.same.2))
-
 pub returns-clause-pushed : goal.returns-clause-pushed
 returns-clause-pushed g c =
     let r = c.requires.right in let log = c.args.seen.log in let answer = c.args.right.answer in let a = suc c.args.author.name in
     (refl, c.publish-seen-2.ensures.same.2, c.publish-seen-2.ensures.seen)
-
-pub returns-in_default-clause-mine : goal.returns-in_default-clause-mine
-returns-in_default-clause-mine g c =
-    let r = c.requires.right in let log = c.args.seen.log in let answer = c.args.right.answer in let a = suc c.args.author.name in
-    let m = c.release-seen-in_default.ensures.mine in ap (λ (l : List (Entry g.row.T.Denot)). count a l) c.release-seen-in_default.ensures.seen ∙ (m ∙ sym c.release-seen-in_default.ensures.same.2)
 
 pub returns-in_default-clause-refused : goal.returns-in_default-clause-refused
 returns-in_default-clause-refused g c =
     let r = c.requires.right in let log = c.args.seen.log in let answer = c.args.right.answer in let a = suc c.args.author.name in
     let n : c.args.n ≡ length (list_of log) = c.requires.length.0 ∙ sym (ap length (acquired_list answer log r.1)) in let l = ap length c.release-seen-in_default.ensures.seen in let p = before_power c.locate-buffer.result.0 in (c.release-seen-in_default.ensures.same.2, c.release-seen-in_default.ensures.seen, (c.locate-buffer.result.0, (let h = c.locate-buffer.ensures.openable in omega (arith, h)), (let at = c.locate-buffer.ensures.at.begins in let z = (let z : c.locate-buffer.result.1 ≡ 0 = let no = c.if-slot-ne0.false in omega (arith, no) in z) in omega (arith, at, z, l, n, p))))
 
-pub returns-then-n-eq-LIMIT-clause-length : goal.returns-then-n-eq-LIMIT-clause-length
-returns-then-n-eq-LIMIT-clause-length g c =
+pub returns-then-n-eq-LIMIT-clause-later : goal.returns-then-n-eq-LIMIT-clause-later
+returns-then-n-eq-LIMIT-clause-later g c =
     let r = c.requires.right in let log = c.args.seen.log in let answer = c.args.right.answer in let a = suc c.args.author.name in
-    (c.requires.length.0 ∙ sym (ap length (acquired_list answer log r.1)) ∙ sym (ap length c.release-seen.ensures.seen), c.requires.length.1)
+    let up = c.release-seen.ensures in
+    let mine : count a (list_of c.release-seen.result.0.log) ≡ c.release-seen.result.1.used = let m = c.release-seen.ensures.mine in ap (λ (l : List (Entry g.row.T.Denot)). count a l) c.release-seen.ensures.seen ∙ (m ∙ sym c.release-seen.ensures.same.2) in
+    (up.same.0, up.same.1, ([], append-nil (list_of c.args.seen.log) ∙ sym c.release-seen.ensures.seen), mine, c.requires.length.0 ∙ sym (ap length (acquired_list answer log r.1)) ∙ sym (ap length c.release-seen.ensures.seen), c.requires.length.1)
 
-pub returns-then-slot-ne0-clause-length : goal.returns-then-slot-ne0-clause-length
-returns-then-slot-ne0-clause-length g c =
+pub returns-then-slot-ne0-clause-later : goal.returns-then-slot-ne0-clause-later
+returns-then-slot-ne0-clause-later g c =
     let r = c.requires.right in let log = c.args.seen.log in let answer = c.args.right.answer in let a = suc c.args.author.name in
-    let n : c.args.n ≡ length (list_of log) = c.requires.length.0 ∙ sym (ap length (acquired_list answer log r.1)) in let l = ap length c.publish-seen.ensures.seen in let m = length-append (list_of log) (entry a c.args.item ∷ []) in let h = c.requires.length.1 in let no = c.if-n-eq-LIMIT.false in (omega (arith, n, l, m), omega (arith, h, no))
+    let up = c.publish-seen.ensures in
+    let mine : count a (list_of c.publish-seen.result.0.log) ≡ c.publish-seen.result.1.used = ap (λ (l : List (Entry g.row.T.Denot)). count a l) c.publish-seen.ensures.seen ∙ (published_count a (list_of log) (entry a c.args.item) refl ∙ (ap suc c.publish-seen.ensures.mine ∙ sym c.publish-seen.ensures.same.2)) in
+    let n : c.args.n ≡ length (list_of log) = c.requires.length.0 ∙ sym (ap length (acquired_list answer log r.1)) in let l = ap length c.publish-seen.ensures.seen in let m = length-append (list_of log) (entry a c.args.item ∷ []) in let h = c.requires.length.1 in let no = c.if-n-eq-LIMIT.false in
+    (up.same.0, up.same.1, (entry (suc c.args.author.name) c.args.item ∷ [], sym c.publish-seen.ensures.seen), mine, omega (arith, n, l, m), omega (arith, h, no))
 
-pub returns-clause-length : goal.returns-clause-length
-returns-clause-length g c =
+pub returns-clause-later : goal.returns-clause-later
+returns-clause-later g c =
     let r = c.requires.right in let log = c.args.seen.log in let answer = c.args.right.answer in let a = suc c.args.author.name in
-    let n : c.args.n ≡ length (list_of log) = c.requires.length.0 ∙ sym (ap length (acquired_list answer log r.1)) in let l = ap length c.publish-seen-2.ensures.seen in let m = length-append (list_of log) (entry a c.args.item ∷ []) in let h = c.requires.length.1 in let no = c.if-n-eq-LIMIT.false in (omega (arith, n, l, m), omega (arith, h, no))
+    let up = c.publish-seen-2.ensures in
+    let mine : count a (list_of c.publish-seen-2.result.0.log) ≡ c.publish-seen-2.result.1.used = ap (λ (l : List (Entry g.row.T.Denot)). count a l) c.publish-seen-2.ensures.seen ∙ (published_count a (list_of log) (entry a c.args.item) refl ∙ (ap suc c.publish-seen-2.ensures.mine ∙ sym c.publish-seen-2.ensures.same.2)) in
+    let n : c.args.n ≡ length (list_of log) = c.requires.length.0 ∙ sym (ap length (acquired_list answer log r.1)) in let l = ap length c.publish-seen-2.ensures.seen in let m = length-append (list_of log) (entry a c.args.item ∷ []) in let h = c.requires.length.1 in let no = c.if-n-eq-LIMIT.false in
+    (up.same.0, up.same.1, (entry (suc c.args.author.name) c.args.item ∷ [], sym c.publish-seen-2.ensures.seen), mine, omega (arith, n, l, m), omega (arith, h, no))
 
-pub returns-in_default-clause-length : goal.returns-in_default-clause-length
-returns-in_default-clause-length g c =
+pub returns-in_default-clause-later : goal.returns-in_default-clause-later
+returns-in_default-clause-later g c =
     let r = c.requires.right in let log = c.args.seen.log in let answer = c.args.right.answer in let a = suc c.args.author.name in
-    (c.requires.length.0 ∙ sym (ap length (acquired_list answer log r.1)) ∙ sym (ap length c.release-seen-in_default.ensures.seen), c.requires.length.1)
-
-pub returns-then-n-eq-LIMIT-clause-seen : goal.returns-then-n-eq-LIMIT-clause-seen
-returns-then-n-eq-LIMIT-clause-seen g c = ([], append-nil (list_of c.args.seen.log) ∙ sym c.release-seen.ensures.seen)
-
-pub returns-then-slot-ne0-clause-seen : goal.returns-then-slot-ne0-clause-seen
-returns-then-slot-ne0-clause-seen g c = (entry (suc c.args.author.name) c.args.item ∷ [], sym c.publish-seen.ensures.seen)
-
-pub returns-clause-seen : goal.returns-clause-seen
-returns-clause-seen g c = (entry (suc c.args.author.name) c.args.item ∷ [], sym c.publish-seen-2.ensures.seen)
-
-pub returns-in_default-clause-seen : goal.returns-in_default-clause-seen
-returns-in_default-clause-seen g c = ([], append-nil (list_of c.args.seen.log) ∙ sym c.release-seen-in_default.ensures.seen)
+    let up = c.release-seen-in_default.ensures in
+    let mine : count a (list_of c.release-seen-in_default.result.0.log) ≡ c.release-seen-in_default.result.1.used = let m = c.release-seen-in_default.ensures.mine in ap (λ (l : List (Entry g.row.T.Denot)). count a l) c.release-seen-in_default.ensures.seen ∙ (m ∙ sym c.release-seen-in_default.ensures.same.2) in
+    (up.same.0, up.same.1, ([], append-nil (list_of c.args.seen.log) ∙ sym c.release-seen-in_default.ensures.seen), mine, c.requires.length.0 ∙ sym (ap length (acquired_list answer log r.1)) ∙ sym (ap length c.release-seen-in_default.ensures.seen), c.requires.length.1)

@@ -10,10 +10,10 @@ pub append-requires-clause-mine : goal.append-requires-clause-mine
 append-requires-clause-mine g c =
     let more = count_prefix (suc c.args.author.name) c.args.seen.log c.acquire-n.new.seen.log c.acquire-n.ensures.seen in let mine = c.requires.mine in omega (arith, more, mine)
 
-pub returns-clause-seen : goal.returns-clause-seen
-returns-clause-seen g c =
-    let v = c.args.seen.log in let log = c.acquire-n.new.seen.log in
-    prefix_trans (list_of v) (list_of log) (list_of c.append.result.0.log) (list_prefix v log c.acquire-n.ensures.seen) c.append.ensures.seen
+pub returns-clause-later : goal.returns-clause-later
+returns-clause-later g c =
+    let v = c.args.seen.log in let log = c.acquire-n.new.seen.log in let of = c.acquire-n.ensures.same in let up = c.append.ensures.later in
+    ((up.0.0 ∙ of.0, up.0.1 ∙ of.1), up.1, prefix_trans (list_of v) (list_of log) (list_of c.append.result.0.log) (list_prefix v log c.acquire-n.ensures.seen) up.2, up.3, up.4, up.5)
 
 pub returns-clause-pushed : goal.returns-clause-pushed
 returns-clause-pushed g c =
