@@ -1,6 +1,6 @@
 //! Files that stay loaded: each path's text is loaded once, and what is made of it is kept.
 //!
-//! Both caches stand on the contract of `FrozenMap` alone: the first value of a key stays.
+//! `ParsedCache` stands on the contract of `FrozenMap` alone: the first value of a key stays. `ResourceCache` is a `ParsedCache` of first characters.
 #![tactic(auto)]
 
 mod parsed_cache;

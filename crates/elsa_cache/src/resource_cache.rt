@@ -4,10 +4,10 @@ ghost use Rattle.std.specs.Borrow.{Bor};
 ghost use Rattle.std.specs.Fn.{FnOnceTakesAt};
 ghost use Rattle.elsa_cache.specs.Cached.{BeginsText, Cached, FailsToLoad, GainsText, IsLoadCause, KeepsOthers, LoadsText, first_character, resource_at, text_at};
 
+use super::parsed_cache::{CacheFault, ParsedCache};
 use bumpalo::Bump;
-use elsa_maps::map::FrozenMap;
-use elsa_vec::stable::Own;
 use std::alloc::{Allocator, Global};
+use std::convert::Infallible;
 use std::hash::{BuildHasher, BuildHasherDefault, FoldHasher};
 use std::marker::Model;
 
@@ -55,8 +55,7 @@ pub struct ResourceCache<
     A: Allocator + Copy = Global,
     S: BuildHasher = BuildHasherDefault<FoldHasher>,
 > {
-    texts: FrozenMap<'a, &'a str, String, S, A>,
-    resources: FrozenMap<'a, &'a str, Own<Resource<'a>>, S, A>,
+    cache: ParsedCache<'a, Resource<'a>, S, A>,
 }
 
 impl<'a, A: Allocator + Copy, S: BuildHasher> Model for ResourceCache<'a, A, S> {
@@ -66,15 +65,12 @@ impl<'a, A: Allocator + Copy, S: BuildHasher> Model for ResourceCache<'a, A, S> 
 
     ghost Value = { Cached (Bor Resource) };
 
-    ghost view = { λ c. record { texts = c.texts; resources = c.resources } };
+    ghost view = { λ c. c.cache };
 }
 
 impl<'a, A: Allocator + Copy, S: BuildHasher + Drop> Drop for ResourceCache<'a, A, S> {
     fn drop(self) {
-        let ResourceCache {
-            texts: _texts,
-            resources: _resources,
-        } = self;
+        let ResourceCache { cache: _cache } = self;
     }
 }
 
@@ -102,43 +98,8 @@ impl<'a, A: Allocator + Copy, S: BuildHasher> ResourceCache<'a, A, S> {
         ensures resources { result.resources ≡ [] }
     {
         ResourceCache {
-            texts: FrozenMap::with_hasher(alloc, arena, texts),
-            resources: FrozenMap::with_hasher(alloc, arena, resources),
+            cache: ParsedCache::with_hashers(alloc, arena, texts, resources),
         }
-    }
-
-    // The text of the path: the one that is there, or else the loader's, which is kept.
-    fn text_of<F: FnOnce(&str) -> Result<String, LoadFault>>(
-        &mut self,
-        path: &'a str,
-        load: F,
-    ) -> Result<&'a str, LoadFault>
-    where
-        F: Drop,
-        requires loader { text_at self.old path ≡ None → FnOnceTakesAt F.FnOnce load path.now }
-
-        // A text that is there is returned, and nothing changes. Else the loader's is, and stays.
-        ensures present { (t : Bor (List ℕ)) → text_at self.old path.entry ≡ Some t →
-            (result ≡ Ok t) × (self.new ≡ self.old) }
-        ensures stays { IfOk result (λ t. text_at self.new path.entry ≡ Some t) }
-        ensures gains { GainsText (LoadsText F.FnOnce load path.entry) self.old self.new path.entry }
-
-        // All else stays, and a refusal changes nothing.
-        ensures others { KeepsOthers self.old self.new path.entry }
-        ensures resources { self.new.resources ≡ self.old.resources }
-        ensures refused { OnErr result (self.new ≡ self.old) }
-        ensures fault { IfErr result (λ f.
-            IsLoadCause (FailsToLoad F.FnOnce load path.entry) (LoadsText F.FnOnce load path.entry)
-            self.old self.new path.entry f) }
-    {
-        if let Some(text) = self.texts.get(&path) {
-            return Ok(text);
-        }
-        let loaded = load(path)?;
-        let Ok(text) = self.texts.insert(path, loaded) else {
-            return Err(LoadFault::Memory);
-        };
-        Ok(text)
     }
 
     /// The resource of the path.
@@ -175,13 +136,14 @@ impl<'a, A: Allocator + Copy, S: BuildHasher> ResourceCache<'a, A, S> {
             IsLoadCause (FailsToLoad F.FnOnce load path.entry) (LoadsText F.FnOnce load path.entry)
             self.old self.new path.entry f) }
     {
-        if let Some(resource) = self.resources.get(&path) {
-            return Ok(resource);
+        let made: Result<&Resource<'a>, CacheFault<LoadFault, Infallible>> = self
+            .cache
+            .get_or_parse_placed(path, load, |text| Ok(Resource::new(text)));
+        match made {
+            Ok(resource) => Ok(resource),
+            Err(CacheFault::Load(fault)) => Err(fault),
+            Err(CacheFault::Parse(never)) => match never {},
+            Err(CacheFault::Memory) => Err(LoadFault::Memory),
         }
-        let text = self.text_of(path, load)?;
-        let Ok(resource) = self.resources.insert(path, Own(Resource::new(text))) else {
-            return Err(LoadFault::Memory);
-        };
-        Ok(resource)
     }
 }

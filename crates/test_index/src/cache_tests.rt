@@ -1,8 +1,10 @@
-//! What no clause says of the cache: texts loaded by hand, and how often the loader is called.
+//! What no clause says of the cache: texts loaded by hand, how often the loader is called, and that a placed path isn't copied.
 use bumpalo::Bump;
-use elsa_cache::{LoadFault, ResourceCache};
+use elsa_cache::{CacheFault, LoadFault, ParsedCache, ResourceCache};
 use std::alloc::Global;
+use std::convert::Infallible;
 use std::test::Fail;
+use test_script::leave_room;
 
 fn text(alloc: Global, text: &str) -> Result<String, LoadFault> {
     match String::from_str(alloc, text) {
@@ -57,5 +59,47 @@ fn a_failed_load_is_asked_again_and_a_done_one_is_not(rt: HostRuntime) -> Result
         good = good && first_at(alloc, &mut cache, "a", "file for a", &mut calls) == Ok("f");
     }
     assert!(rt; good && missing == Some(LoadFault::NotFound) && calls == 1);
+    Ok(())
+}
+
+// The text at a placed path without the spaces at its ends; the calls of the loader and of the parser are counted.
+fn trimmed_at<'a>(
+    alloc: Global,
+    cache: &mut ParsedCache<'a, &'a str>,
+    path: &'a str,
+    loaded: &str,
+    loads: &mut u32,
+    parses: &mut u32,
+) -> Result<&'a str, CacheFault<LoadFault, Infallible>> {
+    let trimmed = cache.get_or_parse_placed(
+        path,
+        |_| {
+            *loads = loads.saturating_add(1);
+            text(alloc, loaded)
+        },
+        |text| {
+            *parses = parses.saturating_add(1);
+            Ok(text.trim())
+        },
+    )?;
+    Ok(*trimmed)
+}
+
+// The text takes 7 bytes and the value 16: room for four words of 8 bytes has both, and no copy of a path of 49.
+#[test]
+fn a_placed_path_is_not_copied_and_is_loaded_and_parsed_once(rt: HostRuntime) -> Result<(), Fail> {
+    let alloc = rt.alloc();
+    let arena = Bump::new(alloc);
+    let mut cache: ParsedCache<'_, &str> = ParsedCache::new(alloc, &arena);
+    leave_room(&arena, 4);
+    let path = "a/path/that/has/more/bytes/than/there/is/room.ftl";
+    let mut loads = 0;
+    let mut parses = 0;
+    let mut good = true;
+    for loaded in [" left  ", " other "] {
+        let trimmed = trimmed_at(alloc, &mut cache, path, loaded, &mut loads, &mut parses);
+        good = good && trimmed == Ok("left");
+    }
+    assert!(rt; good && loads == 1 && parses == 1 && cache.text(path) == Some(" left  "));
     Ok(())
 }

@@ -6,5 +6,5 @@ returns-clause-gains g c t none there =
     let same : t ≡ c.in-Ok.text = let both = sym there ∙ c.in-Ok.ensures.stands in cc in
     (c.in_ok-loaded.loaded, (c.args.path, c.in_ok-loaded.ensures, refl), ap (λ b. b.now) same ∙ (c.in-Ok.ensures.added (rw (← c.self.view_is) at none)).0)
 
-pub returns-in_default-insert_text-clause-no_room : goal.returns-in_default-insert_text-clause-no_room
-returns-in_default-insert_text-clause-no_room g c _ = (_, (c.in_ok-loaded.loaded, (c.args.path, c.in_ok-loaded.ensures, refl), refl))
+pub returns-in_default-keep-clause-no_room : goal.returns-in_default-keep-clause-no_room
+returns-in_default-keep-clause-no_room g c _ = (_, (c.in_ok-loaded.loaded, (c.args.path, c.in_ok-loaded.ensures, refl), refl))
