@@ -44,8 +44,8 @@ module _ {Made : Type 0} where
   abbrev pub ParsedTo : {R : Type 0} → (Bor (List ℕ) → R → Type 0) → Cached Made → Bor (List ℕ) → R → Type 0
   ParsedTo parses cache path r = (t : Bor (List ℕ)) × (text_at cache path ≡ Some t) × parses t r
 
-  -- why a path has no value. `Load`: the loader's error, the path had no text, and nothing has changed. `Parse`: the parser's, of the path's text. `Memory`:
-  -- there was none for the text where the path has none, else for the value
+  -- why a path has no value. `Load`: the loader's error; the path had no text, and nothing has changed. `Parse`: the parser's error, of the
+  -- path's text. `Memory`: there was none for the text where the path has none, else for the value
   abbrev pub IsCause : {L P T : Type 0} → (L → Type 0) → (List ℕ → Type 0) → (Bor (List ℕ) → Result T P → Type 0) → Cached Made → Cached Made → Bor (List ℕ) → CacheFault L P → Type 0
   IsCause fails loads parses old new path (Load e) = (new ≡ old) × (text_at old path ≡ None) × fails e
   IsCause fails loads parses old new path (Parse e) = ParsedTo parses new path (Err e)

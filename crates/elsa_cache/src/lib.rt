@@ -1,6 +1,7 @@
 //! Files that stay loaded: each path's text is loaded once, and what is made of it is kept.
 //!
-//! `ParsedCache` stands on the contract of `FrozenMap` alone: the first value of a key stays. `ResourceCache` is a `ParsedCache` of first characters.
+//! `ParsedCache` stands on the contract of `FrozenMap` alone: the first value of a key stays. `ResourceCache` is a `ParsedCache` of first
+//! characters.
 #![tactic(auto)]
 
 mod parsed_cache;

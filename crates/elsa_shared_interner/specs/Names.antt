@@ -32,8 +32,8 @@ HasTextAt xs i text = (y : Bor (List ℕ)) × (slice_get xs i ≡ Some y) × (y.
 abbrev pub Lacks : {T : Type 0} → (T → Bool) → List T → Type 0
 Lacks test xs = list_any test xs ≡ false
 
--- what a put that ended well left: an item that passes for the name is at the place, where it was found or is now the pass's own; and one
--- that the pass had seen is at that place, and nothing was pushed
+-- what a put that ended well left, where `has` says that a list has the name at a place: the name is at this place, found there or now the
+-- pass's own; where the pass had seen it, this is the place that it had, and nothing was pushed
 abbrev pub PutsBy : {T : Type 0} → (List T → ℕ → Type 0) → View T → View T → ℕ → Type 0
 PutsBy has before after i =
     has (items_of after.seen) i × ((mine after ≡ mine before) ⊎ (mine after ≡ mine before ++ i ∷ []))
