@@ -1,21 +1,21 @@
 #!/usr/bin/env python3
-"""The answer lines of `elsa intern`, from their definition alone: slow, short, and no kin of the program.
+"""A plain model of `elsa intern`: its replies, computed from their definition only, slowly and without the program.
 
-usage: tools/answer_lines.py < INPUT > ANSWERS
+usage: tools/answer_lines.py < INPUT > OUTPUT
 
-The input's bytes are cut after each byte 10; a last piece without one counts if it has a byte. Names are a list, at
-first empty.
-  put TEXT   the place of TEXT in the list; TEXT is added last if it is absent ('too many names' if it then is and
-  there are 2^32 - 1)
-  find TEXT  the place of TEXT, or 'none'
-  at N       the name at place N, or 'none'; N is one or more ASCII digits, at most 2^64 - 1
-  len        how many names there are
-Any other line, and one that is not UTF-8, is a 'bad line'. TEXT is all behind the one space, and may be empty.
+The input's bytes are cut after each byte 10; a last piece without a byte 10 is a line if it isn't empty. Names are a
+list, which is empty at first.
+  put TEXT   the index of TEXT in the list; TEXT is added at the end if it is absent ('too many names' if it is absent
+             and there are 2^32 - 1)
+  find TEXT  the index of TEXT, or 'none'
+  at N       the name at index N, or 'none'; N is one or more ASCII digits, at most 2^64 - 1
+  len        the number of names
+Any other line, and one that is not UTF-8, is a 'bad line'. TEXT is everything after the one space, and may be empty.
 """
 import sys
 
 
-def answer(line: bytes, places: dict, names: list) -> bytes:
+def reply_to(line: bytes, places: dict, names: list) -> bytes:
     try:
         line.decode("utf-8", "strict")
     except UnicodeDecodeError:
@@ -51,7 +51,7 @@ def answer_lines(data: bytes) -> bytes:
     if pieces[-1] == b"":
         pieces.pop()
     places, names = {}, []
-    return b"".join(answer(piece, places, names) + b"\n" for piece in pieces)
+    return b"".join(reply_to(piece, places, names) + b"\n" for piece in pieces)
 
 
 if __name__ == "__main__":

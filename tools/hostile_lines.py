@@ -1,5 +1,5 @@
-"""Hostile inputs for a program that answers lines as `elsa intern` does: each kind of line, broken UTF-8, lengths
-round the powers of two, mixtures."""
+"""Hostile inputs for a program that replies to lines as `elsa intern` does: each kind of line, broken UTF-8, lengths
+around the powers of two, mixtures."""
 import pathlib, random
 
 root = pathlib.Path(__file__).resolve().parent.parent
@@ -95,7 +95,7 @@ def cases(seed, quick):
     yield "nothing", b""
     yield "one line end", b"\n"
     yield "each kind of line", b"\n".join(lines) + b"\n"
-    yield "each kind of line, no last line end", b"\n".join(lines)
+    yield "each kind of line, without the last line end", b"\n".join(lines)
     yield "each kind of line, CR before each line end", b"\r\n".join(lines) + b"\r\n"
     for last in [b"put a", b"len", b"at 0", b"find a", b"x", b"\xff", b"\r"]:
         yield f"last line {last!r} with no line end", b"put a\n" + last
@@ -122,7 +122,7 @@ def cases(seed, quick):
             else:
                 parts.append(chance.choice(lines))
         yield f"mixture {count}", b"\n".join(parts) + chance.choice([b"", b"\n", b"\n\n"])
-    # so many names that the engine reads the table for several lines at once
+    # enough names for the engine to load the table for several lines ahead
     many = [b"put n%d" % number for number in range(70_000)]
     for _ in range(10_000):
         number = chance.randrange(75_000)
@@ -132,4 +132,4 @@ def cases(seed, quick):
     if not quick:
         long = bytes(chance.choice(b"abcdefghijklmnop") for _ in range(10_000_000))
         yield "lines of 10 MB", b"put " + long + b"\nlen\nput " + long + b"\nat 0\n" + long + b"\nat " + b"0" * 10_000_000 + b"\nput " + long + b"\xc3"
-        yield "a million bytes of chance", bytes(chance.randrange(256) for _ in range(1_000_000))
+        yield "a million random bytes", bytes(chance.randrange(256) for _ in range(1_000_000))

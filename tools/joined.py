@@ -1,11 +1,11 @@
 """Several test crates, or several programs, as one crate of a scratch repository, for one trial of all.
 
-A trial reads std and each library below first, which takes two thirds of its time; so it is done once for all of them.
-Each crate becomes a module of the joined crate with its name: its files are those of the crate, line by line, but for
-`crate::`, behind which that name is written. So does each program of a page (tools/page_programs.py), which is one
-file. A program's `main` is called where the one word of the run is its name; where its files speak of `Wait`, it is
-given the right to wait and to start threads by a type parameter, since the toolchain gives that to the joined crate's
-`main` alone, and its standard input by a second parameter.
+A trial first reads std and each library that it uses, which takes two thirds of its time; a joined crate reads them
+once for all. Each crate becomes a module of the joined crate with its name. Its files are those of the crate, line by
+line, except that the name is added after `crate::`. Each program of a page (tools/page_programs.py), which is one file,
+also becomes a module. The `main` of a program is called if the argument of the run is its name. If its files use
+`Wait`, it gets the permission to block and to start threads by a type parameter, since the toolchain grants it only to
+the `main` of the joined crate, and its standard input by a second parameter.
 """
 import re, shutil, subprocess
 
@@ -29,12 +29,12 @@ ARMS        _ => Ok(ExitCode::FAILURE),
 
 
 def is_shared(texts):
-    """Whether a program of these files asks for the right to wait or to start threads."""
+    """Whether a program of these files needs the permission to block or to start threads."""
     return any(re.search(r"\b(Wait|Threads|thread|sync)\b", it) for it in texts)
 
 
 def arm(name, text, shared):
-    """How the joined `main` calls the program's."""
+    """The arm of the joined `main` that calls the `main` of the program."""
     call = f"{name}::main(rt, rt)" if shared else f"{name}::main(rt)"
     if re.search(r"^fn main\(rt: HostRuntime\) -> io::Result<\(\)>", text, re.M):
         return f'        "{name}" => {{\n            {call}?;\n            Ok(ExitCode::SUCCESS)\n        }}\n'
@@ -49,7 +49,7 @@ def as_module(name, text, shared):
 
 
 def copy(name, source):
-    """Writes the crate's files as those of a module below this folder; returns its arm of the joined `main`, where it
+    """Writes the crate's files as those of a module below this folder; returns its arm of the joined `main`, if it
     is a program."""
     own = root / "crates" / name / "src"
     texts = {it: it.read_text() for it in sorted(own.rglob("*.rt"))}
@@ -72,8 +72,12 @@ def joined(names, folder, tests, pages={}):
     subprocess.run(["git", "init", "-q", "."], cwd=folder, check=True)
     for name in below:
         shutil.copytree(root / "crates" / name / "src", folder / "crates" / name / "src")
-    words = {word for name in names for word in known[name].split(":")[1].split()} | ({"bumpalo", "elsa"} if pages else set())
-    (folder / "crates.txt").write_text("".join(f"{known[it]}\n" for it in below) + f"joined: {' '.join(sorted(words))}\n")
+    words = {word for name in names for word in known[name].split(":")[1].split()} | (
+        {"bumpalo", "elsa"} if pages else set()
+    )
+    (folder / "crates.txt").write_text(
+        "".join(f"{known[it]}\n" for it in below) + f"joined: {' '.join(sorted(words))}\n"
+    )
     shutil.copy(root / "HANDLES", folder)
     source = folder / "crates" / "joined" / "src"
     source.mkdir(parents=True)

@@ -1,9 +1,7 @@
-"""What the scripts of this repository take from the inside of the toolchain's command `rt`, which promises none of it:
-here alone.
+"""All that the scripts of this repository use of the inside of the toolchain's command `rt`, which promises none of it.
 
-`rt` is loaded as a module. These are used: `rtlib.crates_below`, `lock`, `guarded`, `RATTLE`, `PARTS` and `main`; of a
-crate `name`, `folder`,
-`below()`, `words(..)`, `build_rlib(..)` and `out`.
+`rt` is loaded as a module. Used are `rtlib.crates_below`, `lock`, `guarded`, `KIT`, `RATTLE`, `PARTS` and `main`; and of a
+crate `name`, `folder`, `rlib`, `below()`, `stamp()`, `words(..)`, `build_rlib(..)`, `front_end()` and `out`.
 """
 import importlib.machinery
 import importlib.util
@@ -11,19 +9,19 @@ import pathlib
 import subprocess
 import sys
 
-# The kits that this was written for, by what `rt version` prints of them.
+# The kits for which this is written, by a part of what `rt version` prints.
 WRITTEN_FOR = "logic dac8208d650f15bf"
 
 
 def toolchain():
-    """The module of the command `rt`; on another kit one line on standard error says so."""
+    """The module of the command `rt`. Prints a warning on standard error if the kit is another one."""
     try:
-        said = subprocess.run(["rt", "version"], capture_output=True, text=True, check=True).stdout.strip()
+        version = subprocess.run(["rt", "version"], capture_output=True, text=True, check=True).stdout.strip()
         page = subprocess.run(["rt", "doc"], capture_output=True, text=True, check=True).stdout.strip()
     except (OSError, subprocess.CalledProcessError):
-        sys.exit("kit: the toolchain's command rt isn't there: see README.md")
-    if WRITTEN_FOR not in said:
-        print(f"kit: the tools are written for a kit of {WRITTEN_FOR}, and this is {said}", file=sys.stderr)
+        sys.exit("kit: the toolchain's command rt is not on PATH: README.md says where the kit comes from")
+    if WRITTEN_FOR not in version:
+        print(f"kit: the scripts are written for kits with {WRITTEN_FOR}; rt version prints {version}", file=sys.stderr)
     sys.dont_write_bytecode = True
     kit = pathlib.Path(page).parent
     loader = importlib.machinery.SourceFileLoader("rt", str(kit / "bin" / "rt"))

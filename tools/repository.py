@@ -1,13 +1,13 @@
-"""What the scripts of this repository share: its crates, and what each stands on."""
-import os, pathlib, re, signal, subprocess, sys
+"""What the scripts of this repository share: its crates, and the libraries that each depends on."""
+import os, pathlib, signal, subprocess, sys
 
 root = pathlib.Path(__file__).resolve().parent.parent
 
 
 def tell_help(page):
-    """Prints a tool's page and ends it, where it is called with -h or --help."""
+    """Prints a tool's docstring and ends the tool, if its argument is -h or --help."""
     if {"-h", "--help"} & set(sys.argv[1:]):
-        # a reader of it, as `head`, may go before the end
+        # the process that reads the output, as `head`, may end first
         signal.signal(signal.SIGPIPE, signal.SIG_DFL)
         print(page.strip())
         sys.exit(0)
@@ -30,7 +30,7 @@ def libraries(name):
 
 
 def stands_on(*names):
-    """These crates and the repository's own libraries below them, each behind those that it stands on."""
+    """These crates and the repository's own libraries below them, each after those that it depends on."""
     found = []
 
     def add(name):
@@ -44,6 +44,13 @@ def stands_on(*names):
     return found
 
 
+def files_below(folder):
+    """The files in a folder and in those below it that belong to the sources, in the order of their paths."""
+    made = {"out", "must-fail", "definition-faults", "__pycache__"}
+    found = (it for it in folder.rglob("*") if it.is_file())
+    return sorted(it for it in found if not made & set(it.relative_to(folder).parts))
+
+
 def is_program(name):
     return (root / "crates" / name / "src" / "main.rt").is_file()
 
@@ -55,12 +62,12 @@ def source_lines(name):
 
 
 def tests_in(name):
-    """How many tests the crate has."""
+    """The number of the crate's tests."""
     return source_lines(name).count("#[test]")
 
 
 def processors():
-    """How many processors this process may run on."""
+    """The number of processors that this process may run on."""
     return len(os.sched_getaffinity(0))
 
 
@@ -70,5 +77,5 @@ def seconds(count):
 
 
 def program_sources():
-    """What ./elsa keeps beside a proved program: a checksum of the sources that it was built from."""
+    """The checksum that ./elsa keeps with a proved program: that of the sources from which it was built."""
     return subprocess.run([root / "tools" / "program_sources"], capture_output=True, text=True, check=True).stdout
