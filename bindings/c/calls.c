@@ -1,0 +1,175 @@
+/* Random calls against a plain model: texts of 0 to 100,000 bytes, bytes that are not UTF-8, ends out of order, too few
+ * codes, and allocations that fail. Prints the calls of each kind; ends with 1 at the first difference. */
+#include "elsa.h"
+#include <stdio.h>
+#include <stdlib.h>
+#include <string.h>
+
+void *__real_malloc(size_t n);
+void *__real_realloc(void *p, size_t n);
+static long failing = -1, refused = 0;
+
+static bool fails(void) {
+    if (failing < 0 || failing-- != 0) return false;
+    refused++;
+    return true;
+}
+void *__wrap_malloc(size_t n) { return fails() ? NULL : __real_malloc(n); }
+void *__wrap_realloc(void *p, size_t n) { return fails() ? NULL : __real_realloc(p, n); }
+
+#define MUST(fact)                                                                   \
+    do {                                                                             \
+        if (!(fact)) {                                                               \
+            fprintf(stderr, "call %zu, line %d: %s\n", call, __LINE__, #fact);       \
+            exit(1);                                                                 \
+        }                                                                            \
+    } while (0)
+
+static uint64_t state = 88172645463325252u;
+static size_t below(size_t n) {
+    state ^= state << 13;
+    state ^= state >> 7;
+    state ^= state << 17;
+    return (size_t)(state % n);
+}
+
+static bool is_utf8(const uint8_t *p, size_t n) {
+    for (size_t i = 0; i < n;) {
+        uint8_t b = p[i];
+        size_t more = b < 0x80 ? 0 : b >= 0xc2 && b < 0xe0 ? 1 : b >= 0xe0 && b < 0xf0 ? 2 : b >= 0xf0 && b < 0xf5 ? 3 : 9;
+        if (more == 9 || n - i <= more) return false;
+        for (size_t k = 1; k <= more; k++)
+            if ((p[i + k] & 0xc0) != 0x80) return false;
+        if ((b == 0xe0 && p[i + 1] < 0xa0) || (b == 0xed && p[i + 1] > 0x9f)) return false;
+        if ((b == 0xf0 && p[i + 1] < 0x90) || (b == 0xf4 && p[i + 1] > 0x8f)) return false;
+        i += more + 1;
+    }
+    return true;
+}
+
+#define LONGEST 100000
+static uint8_t block[2 * LONGEST];
+
+/* Writes a text, which may be no UTF-8, and returns its length. */
+static size_t random_text(uint8_t *p) {
+    size_t n = below(200) == 0 ? below(LONGEST) : below(7), used = 0;
+    while (used < n) {
+        if (below(5) == 0 && used + 2 <= n) {
+            p[used++] = 0xc3;
+            p[used++] = 0xa9;
+        } else
+            p[used++] = (uint8_t)('a' + below(3));
+    }
+    if (n > 0 && below(20) == 0) p[below(n)] = (uint8_t)(128 + below(128));
+    return n;
+}
+
+typedef struct { uint8_t *p; size_t n; } name;
+static name *names;
+static size_t count;
+
+static size_t place(const uint8_t *p, size_t n) {
+    for (size_t i = 0; i < count; i++)
+        if (names[i].n == n && memcmp(names[i].p, p, n) == 0) return i;
+    return count;
+}
+
+static void add(const uint8_t *p, size_t n) {
+    names[count].p = __real_malloc(n + 1);
+    memcpy(names[count].p, p, n);
+    names[count++].n = n;
+}
+
+int main(int argc, char **argv) {
+    size_t calls = argc > 1 ? (size_t)atol(argv[1]) : 10000, kinds[6] = {0};
+    names = __real_malloc((calls * 30 + 1) * sizeof *names);
+    elsa_dictionary words = ELSA_EMPTY;
+    for (size_t call = 0; call < calls; call++) {
+        size_t kind = below(6), code = 77, n = random_text(block);
+        kinds[kind]++;
+        bool valid = is_utf8(block, n);
+        if (kind == 0) {
+            size_t at = place(block, n);
+            failing = below(3) == 0 ? (long)below(4) : -1;
+            long before = refused;
+            uint32_t fault = elsa_dictionary_put(&words, block, n, &code);
+            failing = -1;
+            if (!valid) MUST(fault == ELSA_NOT_UTF8 && code == 77);
+            else if (refused > before) MUST(fault == ELSA_MEMORY && code == 77 && at == count);
+            else {
+                MUST(fault == ELSA_OK && code == at);
+                if (at == count) add(block, n);
+            }
+        } else if (kind == 1) {
+            bool found = elsa_dictionary_find(&words, block, n, &code);
+            MUST(found == (valid && place(block, n) < count));
+            MUST(code == (found ? place(block, n) : 77));
+        } else if (kind == 2) {
+            const uint8_t *text = block;
+            size_t len = 77, wanted = below(8) == 0 ? below(SIZE_MAX) : below(count + 2);
+            bool found = elsa_dictionary_at(&words, wanted, &text, &len);
+            MUST(found == (wanted < count));
+            if (found) MUST(len == names[wanted].n && (len == 0 || memcmp(text, names[wanted].p, len) == 0));
+            else MUST(len == 77 && text == block);
+        } else {
+            size_t ends[20], codes[20], first[20], texts = below(20), room = below(9) == 0 ? below(20) : 20, done = 77, bytes = 0;
+            for (size_t i = 0; i < texts; i++) {
+                if (bytes < LONGEST) bytes += random_text(block + bytes);
+                ends[i] = below(60) == 0 ? below(bytes + 3) : below(300) == 0 ? SIZE_MAX : bytes;
+            }
+            for (size_t i = 0; i < 20; i++) codes[i] = 77;
+            size_t wanted = texts, start = 0, kept = count, distinct = 0;
+            uint32_t expected = room < texts ? ELSA_TOO_FEW_CODES : ELSA_OK;
+            failing = kind == 3 && below(3) == 0 ? (long)below(8) : -1;
+            long before = refused;
+            uint32_t fault = kind == 3 ? elsa_dictionary_put_many(&words, block, bytes, ends, texts, codes, room, &done)
+                                       : elsa_factorize(block, bytes, ends, texts, codes, room, &done);
+            failing = -1;
+            bool out = refused > before;
+            if (expected == ELSA_TOO_FEW_CODES) wanted = 0;
+            for (size_t i = 0; i < wanted; i++) {
+                if (ends[i] < start || ends[i] > bytes) expected = ELSA_ENDS_OUT_OF_ORDER;
+                else if (!is_utf8(block + start, ends[i] - start)) expected = ELSA_NOT_UTF8;
+                if (expected != ELSA_OK) {
+                    wanted = i;
+                    break;
+                }
+                if (out && i == done) break;
+                if (kind == 3) {
+                    size_t at = place(block + start, ends[i] - start);
+                    if (at == count) add(block + start, ends[i] - start);
+                    MUST(codes[i] == at);
+                } else {
+                    size_t j = 0, begin = 0;
+                    while (j < i && !(ends[j] - begin == ends[i] - start && memcmp(block + begin, block + start, ends[i] - start) == 0))
+                        begin = ends[j++];
+                    MUST(codes[i] == (j < i ? codes[j] : distinct));
+                    if (j == i) first[distinct++] = i;
+                }
+                start = ends[i];
+            }
+            if (out && done < wanted) MUST(fault == ELSA_MEMORY);
+            else if (out) MUST(fault == expected || (fault == ELSA_MEMORY && done == 0));
+            else MUST(fault == expected && done == wanted);
+            for (size_t i = done; i < 20; i++) MUST(codes[i] == 77);
+            if (kind > 3 && fault == ELSA_OK) {
+                size_t found[20], slots = below(3) == 0 ? below(20) : 20, least = slots < distinct ? slots : distinct;
+                MUST(elsa_firsts(codes, done, found, slots) == least);
+                MUST(memcmp(found, first, least * sizeof *found) == 0);
+            }
+            MUST(kind == 3 || count == kept);
+        }
+        MUST(elsa_dictionary_len(&words) == count);
+        if (below(2000) == 0) {
+            elsa_dictionary_free(&words);
+            while (count > 0) free(names[--count].p);
+        }
+    }
+    elsa_dictionary_free(&words);
+    elsa_dictionary_free(&words);
+    while (count > 0) free(names[--count].p);
+    free(names);
+    printf("put %zu, find %zu, at %zu, put_many %zu, factorize %zu; %ld allocations failed\n", kinds[0], kinds[1], kinds[2],
+        kinds[3], kinds[4] + kinds[5], refused);
+    return 0;
+}

@@ -1,0 +1,79 @@
+/* Numbers for texts, and a dictionary that is kept. tools/bindings writes this file from crates/elsa_c.
+ *
+ * Each call is total in its data: any bytes, ends and codes may be passed. The caller owes that each pointer is valid
+ * for the length that is passed with it (also for length 0, where it may be any address but null), that what is written
+ * overlaps nothing else that is passed, and that one dictionary is used by one thread at a time. */
+#ifndef ELSA_H
+#define ELSA_H
+
+#include <stdbool.h>
+#include <stddef.h>
+#include <stdint.h>
+
+#ifdef __cplusplus
+extern "C" {
+#endif
+
+/* Texts that are kept, each with its code. One that is zeroed has none; calls fill it. Never copy one that has texts. */
+typedef struct elsa_dictionary {
+    void *texts;
+    bool kept;
+} elsa_dictionary;
+
+#define ELSA_EMPTY {0, false}
+
+/* What a call returns that may fail. */
+enum {
+    ELSA_OK = 0, /* The call succeeded. */
+    ELSA_MEMORY = 1, /* An allocation failed. */
+    ELSA_NOT_UTF8 = 2, /* A text is not UTF-8. */
+    ELSA_ENDS_OUT_OF_ORDER = 3, /* An end is before the end of the text before it, or past the bytes. */
+    ELSA_FULL = 4, /* There are 2^32 - 1 texts, and this one is new. */
+    ELSA_TOO_FEW_CODES = 5, /* The caller's array of codes has fewer elements than there are texts. */
+};
+
+/* Writes the code of each text of a block to codes: equal texts have equal codes, from 0 on in the order of first
+ * texts. Text i ends before ends[i] and begins where the one before it ends.
+ *
+ * done receives the number of texts that have their codes. The codes after them are unchanged. Returns 0 if all
+ * texts have theirs, and else the number of a fault.
+ *
+ * Cost: O(1) hashed for each text, and a copy of each new one, which is freed at the end. */
+uint32_t elsa_factorize(const uint8_t *bytes, size_t bytes_len, const size_t *ends, size_t ends_len, size_t *codes, size_t codes_len, size_t *done);
+
+/* Writes to firsts the index at which each code occurs first, for codes as elsa_factorize writes them: the text
+ * with code c is text firsts[c].
+ *
+ * Returns the number of codes, or the number of elements of firsts if that is smaller. */
+size_t elsa_firsts(const size_t *codes, size_t codes_len, size_t *firsts, size_t firsts_len);
+
+/* Writes the code of a text to code. A new text is copied, and has the next code.
+ *
+ * Returns 0, or the number of a fault: then nothing has changed. */
+uint32_t elsa_dictionary_put(elsa_dictionary *dictionary, const uint8_t *text, size_t text_len, size_t *code);
+
+/* Writes the code of each text of a block to codes, as elsa_factorize does. New texts are copied, and have the
+ * next codes.
+ *
+ * done receives the number of texts that have their codes. They keep them if the call ends at a fault, and the
+ * codes after them are unchanged. Returns 0 if all texts have theirs, and else the number of the fault. */
+uint32_t elsa_dictionary_put_many(elsa_dictionary *dictionary, const uint8_t *bytes, size_t bytes_len, const size_t *ends, size_t ends_len, size_t *codes, size_t codes_len, size_t *done);
+
+/* Returns whether the dictionary has a text, and writes its code to code if it does. */
+bool elsa_dictionary_find(elsa_dictionary *dictionary, const uint8_t *text, size_t text_len, size_t *code);
+
+/* Returns whether the dictionary has a text with this code, and writes its address and its length to text and len
+ * if it does. The bytes stay there until the dictionary is freed. */
+bool elsa_dictionary_at(elsa_dictionary *dictionary, size_t code, const uint8_t **text, size_t *len);
+
+/* Returns the number of texts. */
+size_t elsa_dictionary_len(elsa_dictionary *dictionary);
+
+/* Frees all texts. The dictionary then has none, and may be used again or freed again. */
+void elsa_dictionary_free(elsa_dictionary *dictionary);
+
+#ifdef __cplusplus
+}
+#endif
+
+#endif

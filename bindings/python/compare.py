@@ -1,0 +1,61 @@
+"""Compares factorize with dict.setdefault, and with pandas.factorize if pandas is installed.
+
+usage: PYTHONPATH=DIR/python python3 compare.py [TEXTS [DISTINCT]]
+"""
+import bisect
+import itertools
+import random
+import sys
+import time
+
+import elsa_proved
+
+try:
+    import pandas
+except ImportError:
+    pandas = None
+
+
+def least(call, texts):
+    """The least processor milliseconds of five runs on new strings, whose hashes are not known yet, and what the last returned."""
+    times = []
+    for _ in range(5):
+        given = [it.encode().decode() for it in texts]
+        begun = time.process_time()
+        made = call(given)
+        times.append(time.process_time() - begun)
+    return min(times) * 1e3, made
+
+
+def with_dict(texts):
+    seen = {}
+    return [seen.setdefault(text, len(seen)) for text in texts]
+
+
+def main(count=1_000_000, distinct=50_000):
+    rng = random.Random(2026)
+    sums = list(itertools.accumulate(1 / rank for rank in range(1, distinct + 1)))
+    names = [f"name_{rank * 0x9E3779B97F4A7C15 % 2**64 >> 34:x}" for rank in range(distinct)]
+    ranks = (min(bisect.bisect(sums, rng.random() * sums[-1]), distinct - 1) for _ in range(count))
+    texts = [names[rank] for rank in ranks]
+    base, expected = least(with_dict, texts)
+    print(f"{count} texts, {len(set(texts))} distinct")
+    print(f"dict.setdefault          {base:8.1f} ms")
+    packed = elsa_proved._block(texts)
+    rows = [
+        ("factorize, with packing", lambda given: elsa_proved.factorize(given)[0]),
+        ("factorize_block", lambda _: elsa_proved.factorize_block(*packed)),
+    ]
+    for name, call in rows:
+        taken, codes = least(call, texts)
+        assert list(codes) == expected
+        print(f"{name:24} {taken:8.1f} ms  {taken / base:.2f}")
+    if pandas is not None:
+        import numpy
+
+        taken, codes = least(lambda given: pandas.factorize(numpy.array(given, dtype=object))[0], texts)
+        assert list(codes) == expected
+        print(f"{'pandas.factorize':24} {taken:8.1f} ms  {taken / base:.2f}")
+
+
+main(*map(int, sys.argv[1:]))
