@@ -1,4 +1,5 @@
-//! Interners: of one thread, whose names lie in an arena and have any length, and shared by threads, whose names are copied or placed.
+//! Interners. [`Interner`], for one thread, stores names of any length in an arena.
+//! [`SharedInterner`], for several threads, copies its names or stores them in an arena.
 pub use elsa_interner::interner::{
     Counted, EngineFault, Failed, Interner, InternerReader, Sink, Source, intern_engine,
     intern_engine_with_hasher,

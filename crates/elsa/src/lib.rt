@@ -1,8 +1,12 @@
-//! Append-only collections whose borrows last as long as the arena that the caller passes in, and the program `elsa`.
+//! Append-only collections. The borrows that their reads return are valid as long as the arena that
+//! the caller passes in.
 //!
-//! The paths are those of Rust's elsa: the collections at the root, each module under its name, and what threads share in [`sync`].
+//! The paths are those of Rust's `elsa`: the single-threaded collections are at the root, each
+//! module is under its name, and the collections that threads share are in [`sync`].
 #![tactic(auto)]
 
+pub use elsa_append as append_map;
+pub use elsa_append::FrozenAppendMap;
 pub use elsa_arena::arena;
 pub use elsa_arena::arena::TypedArena;
 pub use elsa_cache as cache;
@@ -23,10 +27,5 @@ pub use elsa_vec::stable::{Own, StableDeref};
 pub use elsa_vec::vec::FrozenVec;
 pub use elsa_vec::{stable, vec, vec_laws};
 
-pub mod command;
 pub mod interner;
-mod jobs;
-pub mod shared;
 pub mod sync;
-
-pub use jobs::Job;

@@ -1,7 +1,9 @@
 //! The collections that threads share.
 //!
-//! The locked forms take their lock for one call each; a call that may wait takes the right to wait. Reads of a [`LockFreeFrozenVec`] and
-//! look-ups of a [`LockFreeFrozenMap`] wait for nobody. [`history`] has the recorder, [`machine`] every schedule of the concurrent vector.
+//! A locked collection is locked only during a call. A call that can block requires the permission
+//! to block (`Wait`). Reads of a [`LockFreeFrozenVec`] and look-ups of a [`LockFreeFrozenMap`]
+//! never block. [`history`] has the recorder, and [`machine`] the model of every schedule of the
+//! concurrent vector.
 pub use elsa_history as history;
 pub use elsa_lock_free::lock_free::{Handle, LockFreeFrozenVec, Pass};
 pub use elsa_lock_free::{item_rule, lock_free};
@@ -12,4 +14,5 @@ pub use elsa_locks::map::{FrozenBTreeMap, FrozenMap};
 pub use elsa_locks::vec::{FrozenVec, Iter};
 pub use elsa_locks::{map, vec};
 pub use elsa_machine::{geometry, machine};
+pub use elsa_shards::{LockFreeShardedMap, ShardedHandle, ShardedMap, map as sharded};
 pub use elsa_slots::slots;

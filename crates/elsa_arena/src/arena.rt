@@ -1,7 +1,8 @@
-//! [`TypedArena`]: values of one type, placed through `&self`.
+//! [`TypedArena`]: values of one type, stored through `&self`.
 //!
-//! The values lie in rows of 8, 16, 32 .. slots. A slot is written once and stays where it is, so a borrow of its value stays good while others are placed.
-//! In contracts an arena is the list of its rows' slots, and [`Place`] shows which value lies where (`specs/Arena.antt`).
+//! The values are stored in rows of 8, 16, 32, .. slots. A slot is written once and never moves, so
+//! a borrow of its value stays valid while other values are stored. In contracts an arena is the
+//! list of its rows' slots, and [`Place`] shows which value is in which slot (`specs/Arena.antt`).
 ghost use Rattle.std.specs.Prelude.{◌≡◌, ◌-◌, ◌<◌, List, IfErr, IfOk, IfSome, length, ⊤};
 ghost use Rattle.std.specs.Iterator.{at_most};
 ghost use Rattle.boxcar.specs.Slot.{Named, named_coded};
@@ -14,22 +15,23 @@ use std::alloc::{AllocError, Allocator, Global};
 use std::cell::Cell;
 use std::marker::{Model, PhantomData};
 
-/// What an arena asks of each value that is placed in it, and promises of each that it lends.
+/// A property that every value stored in an arena must have, and that every read may rely on.
 ///
-/// A rule is a type with an `impl` of this trait. It is the last parameter of a [`TypedArena`]; left out, it is [`AnyValue`].
+/// A rule is a type with an `impl` of this trait. It is the last parameter of a [`TypedArena`], by
+/// default [`AnyValue`].
 pub trait ValueRule<T> {
-    // Whether a value may be placed.
+    // Whether the arena may store the value.
     ghost holds: { T → Type 0 };
 }
 
-/// Any value may be placed.
+/// The rule that every value has.
 pub struct AnyValue;
 
 impl<T> ValueRule<T> for AnyValue {
     ghost holds = { λ _. ⊤ };
 }
 
-/// The rule of the slots of a row, which take the values that the rule `Q` allows.
+/// The rule of the slots of a row: a slot stores a value that has the rule `Q`.
 pub struct Slots<Q> {
     of: PhantomData<Q>,
 }
@@ -38,28 +40,30 @@ impl<T, Q: ValueRule<T>> SlotRule<T> for Slots<Q> {
     ghost holds = { λ _ value. Q.holds value };
 }
 
-/// The rule of the slots of the table, which take any row.
+/// The rule of the slots of the table of rows: a slot stores any row.
 pub struct Any;
 
 impl<T> SlotRule<T> for Any {
     ghost holds = { λ _ _. ⊤ };
 }
 
-/// How many rows there may be: room for 2^43 values.
+/// The greatest number of rows, which have 2^43 - 8 slots together.
 const ROWS: usize = 40;
 
-/// Values of any type, each placed once, borrowed for as long as the arena is, and dropped with it.
+/// An arena of values of one type: each is stored once, borrowed for as long as the arena is, and
+/// dropped with it.
 ///
-/// A value may own memory, and its `Drop` runs once, when the arena is dropped; a [`Bump`](bumpalo) drops nothing. It may not borrow from its own arena.
-/// A value takes 16 bytes more than its size, in rows that double. Each value keeps the rule `Q`.
+/// A value may own memory, and its `Drop` runs once, when the arena is dropped; a [`Bump`](bumpalo)
+/// drops nothing. A value may not borrow from its own arena. It takes 16 bytes more than its size,
+/// in rows that double. Each value has the rule `Q`.
 pub struct TypedArena<T, A: Allocator = Global, Q: ValueRule<T> = AnyValue> {
     rows: Vec<OnceSlot<Vec<OnceSlot<T, Slots<Q>>, A>, Any>, A>,
-    // How many values were placed. It is tested and never trusted.
+    // The number of stored values. Each use of it is checked, so no proof relies on it.
     used: Cell<usize>,
     alloc: A,
 }
 
-// A clause sees the names of the slots that hold the rows.
+// In a clause, an arena is the list of the slots of its rows, each with its identity.
 impl<T, A: Allocator, Q: ValueRule<T>> Model for TypedArena<T, A, Q> {
     ghost use Rattle.std.specs.Prelude.{List};
     ghost use Rattle.boxcar.specs.Slot.{Named, named_coded};
@@ -82,7 +86,8 @@ impl<T: Drop, A: Allocator, Q: ValueRule<T>> Drop for TypedArena<T, A, Q> {
     }
 }
 
-/// What shows that an arena has a value at this place. It has no lifetime, so it can be kept beside the arena, and in its values.
+/// The evidence that an arena has a value in a certain slot. It has no lifetime, so it can be
+/// stored outside of the arena, and in the arena's values.
 #[derive(Drop)]
 pub struct Place<T, A: Allocator = Global, Q: ValueRule<T> = AnyValue> {
     number: usize,
@@ -93,18 +98,24 @@ pub struct Place<T, A: Allocator = Global, Q: ValueRule<T> = AnyValue> {
 }
 
 impl<T, A: Allocator, Q: ValueRule<T>> Place<T, A, Q> {
-    /// The number of the place: how many values were placed before. `O(1)`.
+    /// Returns the index of the value: the number of values that were stored before it.
+    ///
+    /// # Cost
+    /// `O(1)`.
     pub fn number(&self) -> usize
         ensures { result ≡ self.now.number }
     {
         self.number
     }
 
-    /// The same place once more. `O(1)`.
+    /// Makes another [`Place`] of the same value.
+    ///
+    /// # Cost
+    /// `O(1)`.
     pub fn again(&self) -> Place<T, A, Q>
         ensures value { result.item.value ≡ self.now.item.value }
         ensures number { result.number ≡ self.now.number }
-        ensures of { (arena : List Named) → IsOf arena self.now → IsOf arena result }
+        ensures same_arena { (arena : List Named) → IsOf arena self.now → IsOf arena result }
     {
         Place {
             number: self.number,
@@ -116,14 +127,15 @@ impl<T, A: Allocator, Q: ValueRule<T>> Place<T, A, Q> {
     }
 }
 
-/// The row of the place of that number, and its slot there: row `n` has `8 << n` slots.
+/// Returns the row of the value with index `number`, and its slot there: row `n` has `8 << n`
+/// slots.
 fn located(number: usize) -> Option<(u32, usize)> {
     let skewed = number.checked_add(8)?;
     let top = skewed.checked_ilog2()?;
     Some((top.checked_sub(3)?, skewed ^ 1_usize.wrapping_shl(top)))
 }
 
-/// So many slots with nothing in them.
+/// Makes `count` empty slots.
 fn free_slots<X: Drop, P: SlotRule<X>, A: Allocator>(
     alloc: A,
     count: usize,
@@ -136,12 +148,31 @@ fn free_slots<X: Drop, P: SlotRule<X>, A: Allocator>(
 }
 
 impl<T: Drop, A: Allocator + Copy> TypedArena<T, A> {
-    /// An arena without values. `Err` where memory for the table of its rows is refused. `O(1)`.
+    /// Makes an empty arena.
+    ///
+    /// # Errors
+    /// Fails if an allocation fails.
+    ///
+    /// # Allocates
+    /// The table of its rows.
+    ///
+    /// # Cost
+    /// `O(1)`.
     pub fn new(alloc: A) -> Result<Self, AllocError> {
         TypedArena::with_rule(alloc)
     }
 
-    /// An arena without values, with room for so many: to place them takes no memory. `Err` where memory is refused. `O(n)`.
+    /// Makes an empty arena with capacity for `count` values: storing that many allocates nothing.
+    ///
+    /// # Errors
+    /// Fails if an allocation fails, or if `count` is above the greatest number of values,
+    /// `2^43 - 8`.
+    ///
+    /// # Allocates
+    /// The table of its rows, and the rows for `count` values.
+    ///
+    /// # Cost
+    /// `O(count)`.
     pub fn with_capacity(alloc: A, count: usize) -> Result<Self, AllocError> {
         let arena = TypedArena::new(alloc)?;
         let Some(last) = count.checked_sub(1) else {
@@ -150,7 +181,7 @@ impl<T: Drop, A: Allocator + Copy> TypedArena<T, A> {
         let Some((top, _slot)) = located(last) else {
             return Err(AllocError);
         };
-        // The longest row first: where there is no memory for it, nothing is written.
+        // The longest row is made first: if there is no memory for it, nothing is written.
         for below in 0..=top {
             if arena.opened(top - below).is_none() {
                 return Err(AllocError);
@@ -161,10 +192,17 @@ impl<T: Drop, A: Allocator + Copy> TypedArena<T, A> {
 }
 
 impl<T: Drop, A: Allocator + Copy, Q: ValueRule<T>> TypedArena<T, A, Q> {
-    /// An arena without values, which takes those that keep the rule `Q`: [`new`](Self::new) where the type names a rule, as in
-    /// `TypedArena::<u64, Global, Even>::with_rule(alloc)`.
+    /// Makes an empty arena whose values have the rule `Q`: [`new`](Self::new) for a type that
+    /// names a rule, as in `TypedArena::<u64, Global, Even>::with_rule(alloc)`.
     ///
-    /// `Err` where memory for the table of its rows is refused. `O(1)`.
+    /// # Errors
+    /// Fails if an allocation fails.
+    ///
+    /// # Allocates
+    /// The table of its rows.
+    ///
+    /// # Cost
+    /// `O(1)`.
     pub fn with_rule(alloc: A) -> Result<Self, AllocError> {
         Ok(TypedArena {
             rows: free_slots(alloc, ROWS)?,
@@ -173,7 +211,8 @@ impl<T: Drop, A: Allocator + Copy, Q: ValueRule<T>> TypedArena<T, A, Q> {
         })
     }
 
-    // Makes the slots of the row of that number unless it has them.
+    // Makes the slots of the row with this number, unless the row has them. `None` if there is no
+    // such row, or if an allocation fails.
     fn opened(&self, row: u32) -> Option<Written<Vec<OnceSlot<T, Slots<Q>>, A>>>
         ensures { IfSome result (λ w. (row < length self.now) × (w.of ≡ id_at self.now row)) }
     {
@@ -185,10 +224,17 @@ impl<T: Drop, A: Allocator + Copy, Q: ValueRule<T>> TypedArena<T, A, Q> {
         row_slot.set_written(slots).ok()
     }
 
-    /// Places a value behind those before it, and shows where it is.
+    /// Stores a value after those stored before it, and returns its [`Place`]. It never blocks.
     ///
-    /// `Err` gives the same value back where memory is refused; the arena is as it was, and the next call may succeed. Never waits. `O(1)`, but the call
-    /// that begins a row makes its slots.
+    /// # Errors
+    /// Fails with `value` itself if an allocation fails, or if all `2^43 - 8` slots have a value.
+    /// The arena is unchanged. After a failed allocation, a later call may succeed.
+    ///
+    /// # Allocates
+    /// The slots of a row, if the value is the first of its row.
+    ///
+    /// # Cost
+    /// `O(1)`, plus the new row's slots if a row begins.
     pub fn push(&self, value: T) -> Result<Place<T, A, Q>, T>
         requires keeps { Q.holds value }
         ensures placed { IfOk result (λ p. IsOf self.now p × (p.item.value ≡ value)) }
@@ -217,10 +263,18 @@ impl<T: Drop, A: Allocator + Copy, Q: ValueRule<T>> TypedArena<T, A, Q> {
         })
     }
 
-    /// Places a value behind those before it, and returns its borrow, which is good as long as the arena.
+    /// Stores a value after those stored before it, and returns its borrow, which stays valid as
+    /// long as the arena. It never blocks.
     ///
-    /// `Err` gives the same value back where memory is refused; the arena is as it was, and the next call may succeed. Never waits. `O(1)`, but the call
-    /// that begins a row makes its slots.
+    /// # Errors
+    /// Fails with `value` itself if an allocation fails, or if all `2^43 - 8` slots have a value.
+    /// The arena is unchanged. After a failed allocation, a later call may succeed.
+    ///
+    /// # Allocates
+    /// The slots of a row, if the value is the first of its row.
+    ///
+    /// # Cost
+    /// `O(1)`, plus the new row's slots if a row begins.
     pub fn alloc(&self, value: T) -> Result<&T, T>
         requires keeps { Q.holds value }
         ensures placed { IfOk result (λ r. r.now ≡ value) }
@@ -232,7 +286,10 @@ impl<T: Drop, A: Allocator + Copy, Q: ValueRule<T>> TypedArena<T, A, Q> {
 }
 
 impl<T, A: Allocator, Q: ValueRule<T>> TypedArena<T, A, Q> {
-    /// The value at a place of this arena. Takes no memory. `O(1)`.
+    /// Returns the value at a [`Place`] of this arena. It allocates nothing.
+    ///
+    /// # Cost
+    /// `O(1)`.
     pub fn at<'a>(&'a self, place: &Place<T, A, Q>) -> &'a T
         requires { IsOf self.now place.now }
         ensures { result.now ≡ place.now.item.value }
@@ -240,7 +297,11 @@ impl<T, A: Allocator, Q: ValueRule<T>> TypedArena<T, A, Q> {
         self.rows[place.row].value(&place.open)[place.slot].value(&place.item)
     }
 
-    /// The value of that number, or `None` if the number is at or above [`len`](Self::len). It keeps the rule. Takes no memory. `O(1)`.
+    /// Returns the value at index `number`, or `None` if `number` is at or above
+    /// [`len`](Self::len). The value has the rule. It allocates nothing.
+    ///
+    /// # Cost
+    /// `O(1)`.
     pub fn get(&self, number: usize) -> Option<&T>
         ensures keeps { IfSome result (λ r. Q.holds r.now) }
     {
@@ -248,17 +309,24 @@ impl<T, A: Allocator, Q: ValueRule<T>> TypedArena<T, A, Q> {
         self.rows.get(row as usize)?.get()?.get(slot)?.get()
     }
 
-    /// How many values were placed. `O(1)`.
+    /// Returns the number of stored values.
+    ///
+    /// # Cost
+    /// `O(1)`.
     pub fn len(&self) -> usize {
         self.used.get()
     }
 
-    /// Whether no value was placed. `O(1)`.
+    /// Returns whether the arena has no value.
+    ///
+    /// # Cost
+    /// `O(1)`.
     pub fn is_empty(&self) -> bool {
         self.len() == 0
     }
 
-    /// The values that are there now, in the order in which they were placed. Others may be placed while it walks. Takes no memory.
+    /// Returns an iterator over the values that are stored now, in the order in which they were
+    /// stored. Other values may be stored while it runs. It allocates nothing.
     pub fn iter(&self) -> Iter<'_, T, A, Q> {
         Iter {
             arena: self,
@@ -268,7 +336,8 @@ impl<T, A: Allocator, Q: ValueRule<T>> TypedArena<T, A, Q> {
     }
 }
 
-/// The values of an arena, in the order in which they were placed. Each keeps the arena's rule.
+/// An iterator over the values of an arena, in the order in which they were stored. Each has the
+/// arena's rule.
 #[derive(Drop)]
 pub struct Iter<'a, T, A: Allocator = Global, Q: ValueRule<T> = AnyValue> {
     arena: &'a TypedArena<T, A, Q>,

@@ -1,6 +1,7 @@
-//! Numbers that look like chance, the same as those that the peers draw; places by chance or in order; and numbers by Zipf or all distinct.
+//! Pseudo-random numbers, the same as those of the peers; random or consecutive indices; and
+//! numbers by Zipf's law or all distinct.
 
-/// The draws of one thread.
+/// The random numbers of one thread.
 #[derive(Clone, Copy)]
 pub struct Draws {
     state: u64,
@@ -22,30 +23,31 @@ impl Draws {
         self.state >> 33
     }
 
-    /// A place below the count, where that is at most 2^31.
+    /// Returns a random index below `count`, which is at most 2^31.
     #[inline(always)]
     pub fn below(&mut self, count: usize) -> usize {
         (self.next().wrapping_mul(count as u64) >> 31) as usize
     }
 }
 
-/// The key of a place: no two are equal, and they have no order.
+/// Returns the key of an index. No two keys are equal, and they have no order.
 #[inline(always)]
 pub fn key(place: usize) -> u64 {
     (place as u64).wrapping_mul(0x9e37_79b9_7f4a_7c15)
 }
 
-/// A number below 65,535, each doubling as likely as the others.
+/// Returns a number below 65,535, roughly by Zipf's law: each of the 16 ranges from `2^k - 1` to
+/// `2^(k+1) - 2` is equally likely.
 #[inline(always)]
 pub fn rank(draws: &mut Draws) -> u64 {
     let size = 1u64 << (draws.next() & 15);
     (size - 1).wrapping_add(draws.next() & (size - 1))
 }
 
-/// Which numbers are inserted.
+/// The numbers that are inserted.
 #[derive(Clone, Copy)]
 pub enum Words {
-    /// 65,535 numbers, each doubling of a number's rank as likely as the others.
+    /// 65,535 numbers, roughly by Zipf's law.
     Zipf,
     /// Each number once.
     Distinct,
@@ -81,17 +83,18 @@ impl Numbers {
     }
 }
 
-/// How many places there are to read: a power of two, so that none is drawn by a division.
+/// The number of indices that are read. It is a power of two, so that drawing one takes no
+/// division.
 pub const STOCK: u64 = 1 << 17;
 
-/// Places below `STOCK`, one after the other.
+/// A sequence of indices below `STOCK`.
 pub trait Places: Drop {
     fn new(thread: usize) -> Self;
 
     fn next(&mut self) -> usize;
 }
 
-/// Places by chance.
+/// Random indices.
 #[derive(Clone, Copy)]
 pub struct Random {
     draws: Draws,
@@ -109,7 +112,7 @@ impl Places for Random {
     }
 }
 
-/// Places from the first to the last, again and again.
+/// Consecutive indices, from the first to the last, repeatedly.
 #[derive(Clone, Copy)]
 pub struct InOrder {
     place: u64,

@@ -1,4 +1,5 @@
-//! The map without locks: COUNT insertions in all, and COUNT look-ups in all, at rest or beside a thread that inserts as long as they last.
+//! The lock-free map: COUNT insertions in all, and COUNT look-ups in all, alone or while another
+//! thread inserts.
 ghost use Rattle.std.specs.Prelude.{◌≡◌, ◌<◌};
 
 use crate::draws::{Draws, Numbers, Words, key, rank};
@@ -11,28 +12,28 @@ use std::thread::Threads;
 use std::time::Instant;
 use std::{io, thread};
 
-/// How many numbers there are by Zipf.
+/// The number of keys by Zipf's law.
 const RANKS: usize = 65_535;
 
-/// How many keys there are to look up otherwise.
+/// The number of keys otherwise.
 const KEYS: usize = 1_000_000;
 
-/// The number after the last key that is inserted beside look-ups.
+/// The number at which the insertions during look-ups end.
 const BESIDE: u64 = 100_000_000;
 
-/// Which keys are looked up.
+/// The keys that are looked up.
 #[derive(Clone, Copy)]
 pub enum Sought {
-    /// Those of 65,535 numbers by Zipf, all present.
+    /// 65,535 keys by Zipf's law, all of them present.
     Zipf,
-    /// By chance of 1,000,000 present ones.
+    /// Random keys, of 1,000,000 present ones.
     Present,
-    /// By chance of 1,000,000 others, beside as many that are present.
+    /// Random keys, of 1,000,000 absent ones. 1,000,000 other keys are present.
     Absent,
 }
 
 impl Sought {
-    /// How many keys the map has.
+    /// Returns the number of keys in the map.
     fn keys(self) -> usize {
         match self {
             Sought::Zipf => RANKS,
@@ -50,7 +51,7 @@ impl Sought {
     }
 }
 
-/// The sum of the values that stand for one thread's keys.
+/// Inserts the keys of one thread, and returns the sum of the values that the map has for them.
 fn insert<R: Wait>(
     rt: &R,
     map: &LockFreeFrozenMap<u64, u64>,
@@ -70,7 +71,7 @@ fn insert<R: Wait>(
     sum
 }
 
-/// Inserts new keys until the look-ups are done; none of them is looked up.
+/// Inserts new keys until the look-ups have ended. None of these keys is looked up.
 fn insert_beside<R: Wait>(rt: &R, map: &LockFreeFrozenMap<u64, u64>, done: &AtomicBool) {
     let mut map = map.handle();
     for number in 2 * KEYS as u64..BESIDE {
@@ -80,7 +81,7 @@ fn insert_beside<R: Wait>(rt: &R, map: &LockFreeFrozenMap<u64, u64>, done: &Atom
     }
 }
 
-/// The sum of the values that are found, and one for each key that isn't.
+/// Looks up the keys of one thread, and returns the sum of the values, with 1 for each absent key.
 fn look_up(map: &LockFreeFrozenMap<u64, u64>, sought: Sought, thread: usize, each: usize) -> u64 {
     let mut map = map.handle();
     map.len();
@@ -93,7 +94,10 @@ fn look_up(map: &LockFreeFrozenMap<u64, u64>, sought: Sought, thread: usize, eac
     sum
 }
 
-/// The nanoseconds and the sum of the insertions of all threads.
+/// Returns the nanoseconds that the insertions of all threads took, and their sum.
+///
+/// # Errors
+/// Fails if the clock or an allocation fails, or if a thread can't be started.
 pub fn timed_insertions<R: Wait + Threads + Sync + Clock>(
     rt: &R,
     alloc: Global,
@@ -132,7 +136,11 @@ fn timed<R: Wait + Threads + Sync + Clock>(
     ))
 }
 
-/// The nanoseconds and the sum of the look-ups of all threads, at rest or beside one that inserts.
+/// Returns the nanoseconds that the look-ups of all threads took, and their sum. If `beside` is
+/// true, another thread inserts meanwhile.
+///
+/// # Errors
+/// Fails if the clock or an allocation fails, or if a thread can't be started.
 pub fn timed_look_ups<R: Wait + Threads + Sync + Clock>(
     rt: &R,
     alloc: Global,

@@ -1,4 +1,5 @@
-//! `FrozenVec`: COUNT pushes, COUNT reads of places by chance, and ten walks, clones and collections of COUNT items.
+//! `FrozenVec`: COUNT pushes, COUNT reads at random indices, and ten walks, clones and collections
+//! of COUNT items.
 use crate::draws::Draws;
 use bumpalo::Bump;
 use elsa::{FrozenVec, Own};
@@ -7,7 +8,7 @@ use std::io;
 use std::rt::Clock;
 use std::time::Instant;
 
-/// How often a walk, a clone or a collection is made, so that one is long enough to be timed.
+/// The number of walks, clones or collections, so that they take long enough to be timed.
 const TIMES: usize = 10;
 
 /// What is timed.
@@ -77,7 +78,10 @@ fn collections(alloc: Global, count: u64) -> Result<u64, AllocError> {
     Ok(sum)
 }
 
-/// The nanoseconds and the sum of the calls.
+/// Returns the nanoseconds that the calls took, and their sum.
+///
+/// # Errors
+/// Fails if the clock or an allocation fails.
 pub fn timed<R: Clock>(
     rt: &R,
     alloc: Global,

@@ -10,13 +10,13 @@ use std::thread::Threads;
 use std::time::Instant;
 use std::{io, thread};
 
-/// How many keys there are.
+/// The number of keys.
 pub const KEYS: u64 = 65536;
 
-/// The last key, which is one below a power of two.
+/// The last key. It is one below a power of two.
 pub const LAST: u64 = 65535;
 
-/// The last of so few keys that the first-level cache has all that is read of them; it is one below a power of two too.
+/// The last key of a map that fits in the L1 cache. It is one below a power of two too.
 pub const LAST_OF_FEW: u64 = 255;
 
 fn copies<R: Wait>(
@@ -57,7 +57,11 @@ fn owners<R: Wait>(rt: &R, map: &FrozenMap<u64, u64>, thread: usize, calls: usiz
     sum
 }
 
-/// The nanoseconds and the sum of the calls that copy values, at the keys up to `last`.
+/// Returns the nanoseconds that the calls which copy values took, and their sum. The keys are those
+/// up to `last`.
+///
+/// # Errors
+/// Fails if the clock or an allocation fails, or if a thread can't be started.
 pub fn timed_copies<R: Wait + Threads + Sync + Clock>(
     rt: &R,
     alloc: Global,
@@ -83,7 +87,10 @@ pub fn timed_copies<R: Wait + Threads + Sync + Clock>(
     ))
 }
 
-/// The nanoseconds and the sum of the calls that answer owners.
+/// Returns the nanoseconds that the calls which return an `Arc` took, and their sum.
+///
+/// # Errors
+/// Fails if the clock or an allocation fails, or if a thread can't be started.
 pub fn timed_owners<R: Wait + Threads + Sync + Clock>(
     rt: &R,
     alloc: Global,

@@ -1,18 +1,30 @@
-//! Times the collections that threads share, for `bench/run`, which runs upstream's beside it.
+//! Times the collections, for `bench/run`, which compares them with upstream's.
 //!
-//! `elsa_bench FORM THREADS COUNT` prints the nanoseconds between the start of the threads and the end of the last one, and a sum of what
-//! was read, so that no read is left out. The forms are `copy` and `owner` (the locked map, COUNT calls in all, a tenth of them insertions,
-//! at 65,536 keys), `copy_few` (`copy` at 256 keys), and of LockFreeFrozenVec `push` (COUNT pushes in all; `extend` in batches of 64),
-//! `seen`, `plain` and `growing` (COUNT reads in all; `seen` and `plain` with `_in_order`, all three with `_beside` for a thread that
-//! pushes as long as they last), `walk` (ten walks over COUNT items) and `exchange` (COUNT times two exchanges of one word). `recorded`
-//! makes the calls of `copy` through a recorder. The collections of one thread (THREADS is not read): `vec_push`, `vec_get`, `vec_walk`,
-//! `vec_clone`, `vec_collect`; `map_insert`, `map_get`, `tree_insert`, `tree_get`, `index_map_insert`, `index_map_get`, `index_map_at`, and
-//! the same with `_text` before the call for texts as keys; `map_clone`, `map_collect`. Walks, clones and collections are made ten times.
-//! Interners: `names_zipf` and `names_distinct` put COUNT names in all into the one that threads share, `texts_..` by one thread
-//! short-lived texts into that one, and `alone_..` into the interner of one thread. LockFreeFrozenMap: `free_insert_zipf` and
-//! `free_insert_distinct` make COUNT insertions in all, `free_get_zipf`, `free_get_present` and `free_get_absent` so many look-ups (of
-//! 65,535 keys by Zipf, of a million by chance, and of keys that aren't there), also with `_beside` for a thread that inserts as long as
-//! they last. TypedArena: `arena_alloc`, `arena_walk` (ten times) and `arena_drop`, of COUNT values that own memory.
+//! `elsa_bench FORM THREADS COUNT` prints the nanoseconds from the start of the threads to the end
+//! of the last one, and a sum of what was read, so that no read is optimized away. `FORM` is one of
+//! these:
+//!
+//! - The locked map: `copy` and `owner` (COUNT calls in all, a tenth of them insertions, with
+//!   65,536 keys), `copy_few` (`copy` with 256 keys), `recorded` (the calls of `copy` through a
+//!   recorder).
+//! - `LockFreeFrozenVec`: `push` (COUNT pushes in all), `extend` (the same in batches of 64),
+//!   `seen`, `plain` and `growing` (COUNT reads in all), `walk` (ten walks over COUNT items),
+//!   `exchange` (COUNT times two exchanges of one word). `seen` and `plain` may be followed by
+//!   `_in_order`, and all three reads by `_beside`: another thread then pushes meanwhile.
+//! - The collections of one thread, which ignore THREADS: `vec_push`, `vec_get`, `vec_walk`,
+//!   `vec_clone`, `vec_collect`; `map_insert`, `map_get`, `tree_insert`, `tree_get`,
+//!   `index_map_insert`, `index_map_get`, `index_map_at`; the same with `_text` before the call,
+//!   for texts as keys (except for `index_map_at`); `map_clone`, `map_collect`. Walks, clones and
+//!   collections are made ten times.
+//! - Interners: `names_zipf` and `names_distinct` (COUNT puts of names in all, into a shared
+//!   interner), `texts_zipf` and `texts_distinct` (short-lived texts, put into a shared interner by
+//!   one thread), `alone_zipf` and `alone_distinct` (into the interner of one thread).
+//! - `LockFreeFrozenMap`: `free_insert_zipf` and `free_insert_distinct` (COUNT insertions in all),
+//!   `free_get_zipf`, `free_get_present` and `free_get_absent` (COUNT look-ups in all: of 65,535
+//!   keys by Zipf's law, of a million present keys, of a million absent ones). The look-ups may be
+//!   followed by `_beside`: another thread then inserts meanwhile.
+//! - `TypedArena`: `arena_alloc`, `arena_walk` (ten times) and `arena_drop`, of COUNT values that
+//!   own memory.
 #![tactic(auto)]
 
 ghost use Rattle.std.specs.Prelude.{◌<◌};
@@ -44,7 +56,8 @@ use vector::Reads;
 
 const USAGE: &str = "usage: elsa_bench FORM THREADS COUNT; src/main.rt has the forms";
 
-/// How a form reads the vector, and whether beside a pusher; nothing for another form.
+/// Returns how this form reads the vector, and whether another thread pushes meanwhile. `None` for
+/// any other form.
 fn reads_of(form: &str) -> Option<(Reads, bool)> {
     match form {
         "seen" => Some((Reads::Seen, false)),
@@ -61,7 +74,8 @@ fn reads_of(form: &str) -> Option<(Reads, bool)> {
     }
 }
 
-/// Which keys of the map without locks a form looks up, and whether beside an inserter; nothing for another form.
+/// Returns which keys of the lock-free map this form looks up, and whether another thread inserts
+/// meanwhile. `None` for any other form.
 fn sought_of(form: &str) -> Option<(Sought, bool)> {
     match form {
         "free_get_zipf" => Some((Sought::Zipf, false)),
@@ -74,7 +88,7 @@ fn sought_of(form: &str) -> Option<(Sought, bool)> {
     }
 }
 
-/// What is timed of a `TypedArena`; nothing for another form.
+/// Returns what this form times of a `TypedArena`. `None` for any other form.
 fn owner_call_of(form: &str) -> Option<OwnerCall> {
     match form {
         "arena_alloc" => Some(OwnerCall::Alloc),
@@ -84,7 +98,7 @@ fn owner_call_of(form: &str) -> Option<OwnerCall> {
     }
 }
 
-/// What is timed of a `FrozenVec`; nothing for another form.
+/// Returns what this form times of a `FrozenVec`. `None` for any other form.
 fn item_call_of(form: &str) -> Option<ItemCall> {
     match form {
         "vec_push" => Some(ItemCall::Push),
@@ -96,7 +110,8 @@ fn item_call_of(form: &str) -> Option<ItemCall> {
     }
 }
 
-/// The nanoseconds and the sum of calls on a map of one thread; nothing for another form.
+/// Returns the nanoseconds that the calls on a map of one thread took, and their sum. `None` for
+/// any other form.
 fn timed_map_calls<R: Clock>(
     rt: &R,
     alloc: Global,
@@ -124,7 +139,8 @@ fn timed_map_calls<R: Clock>(
     }))
 }
 
-/// The nanoseconds and the sum of calls on a collection of one thread; nothing for another form.
+/// Returns the nanoseconds that the calls on a collection of one thread took, and their sum. `None`
+/// for any other form.
 fn timed_alone<R: Clock>(
     rt: &R,
     alloc: Global,
@@ -140,7 +156,8 @@ fn timed_alone<R: Clock>(
     }
 }
 
-/// The nanoseconds and the sum of calls on the map without locks; nothing for another form.
+/// Returns the nanoseconds that the calls on the lock-free map took, and their sum. `None` for any
+/// other form.
 fn timed_free_map<R: Wait + Threads + Sync + Clock>(
     rt: &R,
     alloc: Global,

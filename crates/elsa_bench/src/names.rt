@@ -1,4 +1,5 @@
-//! Interners: COUNT puts of names in all, the digits of numbers by Zipf or all distinct, into the one that threads share, and into the one of one thread.
+//! Interners: COUNT puts of names in all, into a shared interner and into that of one thread. The
+//! names are the digits of numbers by Zipf's law or all distinct.
 ghost use Rattle.std.specs.Prelude.{◌≡◌, ◌<◌};
 
 use crate::draws::{Numbers, Words};
@@ -12,7 +13,7 @@ use std::thread::Threads;
 use std::time::Instant;
 use std::{io, thread};
 
-/// The sum of the numbers that one thread's names have.
+/// Puts the names of one thread, and returns the sum of their numbers.
 fn puts<R: Wait>(rt: &R, names: &SharedInterner, words: Words, thread: usize, each: usize) -> u64 {
     let mut names = names.handle();
     let mut numbers = Numbers::new(words, thread, each);
@@ -28,7 +29,10 @@ fn puts<R: Wait>(rt: &R, names: &SharedInterner, words: Words, thread: usize, ea
     sum
 }
 
-/// The nanoseconds and the sum of the puts of all threads into a shared interner.
+/// Returns the nanoseconds that the puts of all threads into a shared interner took, and their sum.
+///
+/// # Errors
+/// Fails if the clock or an allocation fails, or if a thread can't be started.
 pub fn timed_shared<R: Wait + Threads + Sync + Clock>(
     rt: &R,
     alloc: Global,
@@ -50,7 +54,7 @@ pub fn timed_shared<R: Wait + Threads + Sync + Clock>(
     ))
 }
 
-/// The sum of the numbers of texts that are put into a shared interner by one thread.
+/// Puts texts into a shared interner, by one thread, and returns the sum of their numbers.
 fn puts_of_texts<'a, R: Wait>(
     rt: &R,
     names: &SharedInterner<&'a str>,
@@ -70,7 +74,11 @@ fn puts_of_texts<'a, R: Wait>(
     sum
 }
 
-/// The nanoseconds and the sum of the puts of texts by one thread into a shared interner.
+/// Returns the nanoseconds that the puts of texts into a shared interner took, by one thread, and
+/// their sum.
+///
+/// # Errors
+/// Fails if the clock or an allocation fails.
 pub fn timed_texts<R: Wait + Clock>(
     rt: &R,
     alloc: Global,
@@ -84,7 +92,7 @@ pub fn timed_texts<R: Wait + Clock>(
     Ok((start.elapsed(rt)?.as_nanos(), sum))
 }
 
-/// The sum of the numbers of texts that are put into an interner of one thread.
+/// Puts texts into an interner of one thread, and returns the sum of their numbers.
 fn puts_alone(names: &mut Interner<'_>, words: Words, count: usize) -> u64 {
     let mut numbers = Numbers::new(words, 0, count);
     let mut digits = Buffer::new();
@@ -97,7 +105,10 @@ fn puts_alone(names: &mut Interner<'_>, words: Words, count: usize) -> u64 {
     sum
 }
 
-/// The nanoseconds and the sum of the puts into an interner of one thread.
+/// Returns the nanoseconds that the puts into an interner of one thread took, and their sum.
+///
+/// # Errors
+/// Fails if the clock or an allocation fails.
 pub fn timed_alone<R: Clock>(
     rt: &R,
     alloc: Global,

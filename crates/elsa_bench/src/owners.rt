@@ -1,11 +1,12 @@
-//! `TypedArena`: COUNT values that own memory are placed, walked over ten times in their order, and dropped with the arena.
+//! `TypedArena`: COUNT values that own memory are allocated, visited ten times in their order, and
+//! dropped with the arena.
 use elsa::TypedArena;
 use std::alloc::{AllocError, Global};
 use std::io;
 use std::rt::Clock;
 use std::time::Instant;
 
-/// How often a walk is made, so that one is long enough to be timed.
+/// The number of walks, so that they take long enough to be timed.
 const WALKS: usize = 10;
 
 /// What is timed.
@@ -55,7 +56,10 @@ fn walk(arena: &TypedArena<Owner>) -> u64 {
     sum
 }
 
-/// The nanoseconds and the sum of the calls.
+/// Returns the nanoseconds that the calls took, and their sum.
+///
+/// # Errors
+/// Fails if the clock or an allocation fails.
 pub fn timed<R: Clock>(
     rt: &R,
     alloc: Global,

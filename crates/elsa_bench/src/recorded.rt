@@ -1,4 +1,5 @@
-//! A recorder over a map: COUNT calls in all, a tenth of them insertions, as `copy` makes them of the locked map without one.
+//! A recorder over a map: COUNT calls in all, a tenth of them insertions. `copy` makes the same
+//! calls on the locked map without a recorder.
 ghost use Rattle.std.specs.Prelude.{◌<◌};
 
 use crate::draws::Draws;
@@ -12,7 +13,7 @@ use std::thread::Threads;
 use std::time::Instant;
 use std::{io, thread};
 
-/// What a reply tells.
+/// Returns the value in a reply, or 0 if there is none.
 fn shown(reply: MapReply<u64>) -> u64 {
     match reply {
         MapReply::Value(value) => value,
@@ -44,7 +45,10 @@ fn calls<R: Wait>(
     sum
 }
 
-/// The nanoseconds and the sum of the recorded calls.
+/// Returns the nanoseconds that the recorded calls took, and their sum.
+///
+/// # Errors
+/// Fails if the clock or an allocation fails, or if a thread can't be started.
 pub fn timed_recorded<R: Wait + Threads + Sync + Clock>(
     rt: &R,
     alloc: Global,

@@ -1,4 +1,5 @@
-//! The maps of one thread: COUNT insertions of new keys, and COUNT reads of present keys or of places by chance.
+//! The maps of one thread: COUNT insertions of new keys, and COUNT reads of random present keys or
+//! at random indices.
 use crate::draws::{Draws, key};
 use bumpalo::Bump;
 use elsa::{FrozenBTreeMap, FrozenIndexMap, FrozenMap, Own};
@@ -15,15 +16,15 @@ pub enum TableCall {
     At,
 }
 
-/// A map, by the places of its keys.
+/// A map whose keys are made from indices.
 trait Table: Drop {
-    /// Inserts the key of the place, and returns its value.
+    /// Inserts the key of the index, and returns its value.
     fn insert(&mut self, place: usize) -> Result<u64, AllocError>;
 
-    /// The value at the key of the place.
+    /// Returns the value of the key of the index.
     fn get(&self, place: usize) -> Option<u64>;
 
-    /// The value of the entry with that index, of a map that has indices.
+    /// Returns the value of the entry at the index, if the map has indices.
     fn at(&self, place: usize) -> Option<u64>;
 }
 
@@ -102,7 +103,7 @@ impl<'a, 't> Table for Texts<'t, FrozenMap<'a, &'a str, Own<u64>>> {
     #[inline(always)]
     fn get(&self, place: usize) -> Option<u64> {
         let text = self.texts.get(place)?;
-        self.map.get_text(text.as_str()).copied()
+        self.map.get(text.as_str()).copied()
     }
 
     fn at(&self, _place: usize) -> Option<u64> {
@@ -122,7 +123,7 @@ impl<'a, 't> Table for Texts<'t, FrozenBTreeMap<'a, &'a str, Own<u64>>> {
     #[inline(always)]
     fn get(&self, place: usize) -> Option<u64> {
         let text = self.texts.get(place)?;
-        self.map.get_text(text.as_str()).copied()
+        self.map.get(text.as_str()).copied()
     }
 
     fn at(&self, _place: usize) -> Option<u64> {
@@ -142,7 +143,7 @@ impl<'a, 't> Table for Texts<'t, FrozenIndexMap<'a, &'a str, Own<u64>>> {
     #[inline(always)]
     fn get(&self, place: usize) -> Option<u64> {
         let text = self.texts.get(place)?;
-        self.map.get_text(text.as_str()).copied()
+        self.map.get(text.as_str()).copied()
     }
 
     #[inline(always)]
@@ -209,7 +210,10 @@ fn made_texts(alloc: Global, count: usize) -> Result<Vec<String>, AllocError> {
     Ok(texts)
 }
 
-/// The nanoseconds and the sum of the calls on a hashed map.
+/// Returns the nanoseconds that the calls on a hashed map took, and their sum.
+///
+/// # Errors
+/// Fails if the clock or an allocation fails.
 pub fn timed_map<R: Clock>(
     rt: &R,
     alloc: Global,
@@ -221,7 +225,10 @@ pub fn timed_map<R: Clock>(
     timed(rt, Numbers { map }, call, count)
 }
 
-/// The same with texts as keys.
+/// Returns the same for texts as keys.
+///
+/// # Errors
+/// Fails if the clock or an allocation fails.
 pub fn timed_map_text<R: Clock>(
     rt: &R,
     alloc: Global,
@@ -235,7 +242,10 @@ pub fn timed_map_text<R: Clock>(
     timed(rt, Texts { map, texts }, call, count)
 }
 
-/// The nanoseconds and the sum of the calls on an ordered map.
+/// Returns the nanoseconds that the calls on an ordered map took, and their sum.
+///
+/// # Errors
+/// Fails if the clock or an allocation fails.
 pub fn timed_tree<R: Clock>(
     rt: &R,
     alloc: Global,
@@ -247,7 +257,10 @@ pub fn timed_tree<R: Clock>(
     timed(rt, Numbers { map }, call, count)
 }
 
-/// The same with texts as keys.
+/// Returns the same for texts as keys.
+///
+/// # Errors
+/// Fails if the clock or an allocation fails.
 pub fn timed_tree_text<R: Clock>(
     rt: &R,
     alloc: Global,
@@ -261,7 +274,10 @@ pub fn timed_tree_text<R: Clock>(
     timed(rt, Texts { map, texts }, call, count)
 }
 
-/// The nanoseconds and the sum of the calls on an index map.
+/// Returns the nanoseconds that the calls on an index map took, and their sum.
+///
+/// # Errors
+/// Fails if the clock or an allocation fails.
 pub fn timed_index_map<R: Clock>(
     rt: &R,
     alloc: Global,
@@ -273,7 +289,10 @@ pub fn timed_index_map<R: Clock>(
     timed(rt, Numbers { map }, call, count)
 }
 
-/// The same with texts as keys.
+/// Returns the same for texts as keys.
+///
+/// # Errors
+/// Fails if the clock or an allocation fails.
 pub fn timed_index_map_text<R: Clock>(
     rt: &R,
     alloc: Global,

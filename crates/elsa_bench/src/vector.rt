@@ -1,5 +1,5 @@
-//! The concurrent vector: COUNT pushes in all, one by one or in batches, COUNT reads in all at rest or beside a thread that
-//! pushes as long as they last, and walks over COUNT items.
+//! The concurrent vector: COUNT pushes in all, one by one or in batches; COUNT reads in all, alone
+//! or while another thread pushes; and walks over COUNT items.
 ghost use Rattle.std.specs.Prelude.{◌≡◌, ◌<◌};
 
 use crate::draws::{InOrder, Places, Random, STOCK};
@@ -12,27 +12,27 @@ use std::thread::Threads;
 use std::time::Instant;
 use std::{io, thread};
 
-/// The most items that a thread pushes beside readers.
+/// The greatest number of items that a thread pushes during reads.
 const BESIDE: u64 = 100_000_000;
 
-/// How many items a batch has.
+/// The number of items in a batch.
 const BATCH: usize = 64;
 
-/// How often a walk is made, so that one lasts long enough to be timed.
+/// The number of walks, so that they take long enough to be timed.
 const WALKS: usize = 10;
 
-/// How readers read.
+/// How the vector is read.
 #[derive(Clone, Copy)]
 pub enum Reads {
-    /// By a pass that has seen every place that is asked for, places by chance.
+    /// By a view that has observed each index that is read, at random indices.
     Seen,
-    /// The same, one place after the other.
+    /// The same, at consecutive indices.
     SeenInOrder,
-    /// By a pass, each next place as soon as it is there, and from the first again where it isn't.
+    /// By a view, at consecutive indices, and from the first again if the next one has no item yet.
     Growing,
-    /// Without a pass, places by chance.
+    /// Without a view, at random indices.
     Plain,
-    /// The same, one place after the other.
+    /// The same, at consecutive indices.
     PlainInOrder,
 }
 
@@ -59,7 +59,7 @@ fn extend<R: Wait>(rt: &R, vector: &LockFreeFrozenVec<u64>, count: u64) -> u64 {
     sum
 }
 
-/// Pushes until the readers are done.
+/// Pushes until the reads have ended.
 fn push_beside<R: Wait>(rt: &R, vector: &LockFreeFrozenVec<u64>, done: &AtomicBool) {
     let mut pass = vector.pass();
     for item in 0..BESIDE {
@@ -119,7 +119,11 @@ fn read(reads: Reads, vector: &LockFreeFrozenVec<u64>, thread: usize, count: usi
     }
 }
 
-/// The nanoseconds and the sum of the pushes of all threads, in batches or one by one.
+/// Returns the nanoseconds that the pushes of all threads took, in batches or one by one, and their
+/// sum.
+///
+/// # Errors
+/// Fails if the clock or an allocation fails, or if a thread can't be started.
 pub fn timed_pushes<R: Wait + Threads + Sync + Clock>(
     rt: &R,
     alloc: Global,
@@ -165,7 +169,11 @@ fn timed<R: Wait + Threads + Sync + Clock>(
     ))
 }
 
-/// The nanoseconds and the sum of the reads of all threads, at rest or beside one that pushes.
+/// Returns the nanoseconds that the reads of all threads took, and their sum. If `beside` is true,
+/// another thread pushes meanwhile.
+///
+/// # Errors
+/// Fails if the clock or an allocation fails, or if a thread can't be started.
 pub fn timed_reads<R: Wait + Threads + Sync + Clock>(
     rt: &R,
     alloc: Global,
@@ -197,16 +205,19 @@ pub fn timed_reads<R: Wait + Threads + Sync + Clock>(
 }
 
 fn walk(vector: &LockFreeFrozenVec<u64>) -> u64 {
-    let mut pass = vector.pass();
-    vector.len_as(&mut pass);
+    let mut handle = vector.handle();
+    handle.len();
     let mut sum = 0u64;
-    for item in vector.iter_as(&pass) {
+    for item in handle.iter() {
         sum = sum.wrapping_add(item);
     }
     sum
 }
 
-/// The nanoseconds and the sum of ten walks over a vector of `count` items.
+/// Returns the nanoseconds that ten walks over a vector of `count` items took, and their sum.
+///
+/// # Errors
+/// Fails if the clock or an allocation fails.
 pub fn timed_walks<R: Wait + Clock>(
     rt: &R,
     alloc: Global,
@@ -222,7 +233,11 @@ pub fn timed_walks<R: Wait + Clock>(
     Ok((start.elapsed(rt)?.as_nanos(), sum))
 }
 
-/// The nanoseconds of `count` times two exchanges of one word, as a push makes them, by one thread.
+/// Returns the nanoseconds that `count` times two exchanges of one word took, as a push makes them,
+/// by one thread, and the word at the end.
+///
+/// # Errors
+/// Fails if the clock fails.
 pub fn timed_exchanges<R: Clock>(rt: &R, count: usize) -> io::Result<(u128, u64)> {
     let word = AtomicU64::new(0);
     let start = Instant::now(rt)?;

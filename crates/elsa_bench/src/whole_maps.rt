@@ -1,4 +1,4 @@
-//! Ten clones of a hashed map of COUNT entries, and ten collections of so many pairs.
+//! Ten clones of a hashed map of COUNT entries, and ten collections of COUNT pairs.
 use crate::draws::key;
 use bumpalo::Bump;
 use elsa::{FrozenMap, Own};
@@ -8,7 +8,7 @@ use std::io;
 use std::rt::Clock;
 use std::time::Instant;
 
-/// How often a clone or a collection is made.
+/// The number of clones or collections.
 const TIMES: usize = 10;
 
 fn collect<'a>(
@@ -35,7 +35,10 @@ fn clones(map: &FrozenMap<'_, u64, Own<u64>>) -> Result<u64, AllocError> {
     Ok(sum)
 }
 
-/// The nanoseconds and the sum of the collections.
+/// Returns the nanoseconds that the collections took, and their sum.
+///
+/// # Errors
+/// Fails if the clock or an allocation fails.
 pub fn timed_collections<R: Clock>(rt: &R, alloc: Global, count: usize) -> io::Result<(u128, u64)> {
     let start = Instant::now(rt)?;
     let mut sum = 0u64;
@@ -45,7 +48,10 @@ pub fn timed_collections<R: Clock>(rt: &R, alloc: Global, count: usize) -> io::R
     Ok((start.elapsed(rt)?.as_nanos(), sum))
 }
 
-/// The nanoseconds and the sum of the clones.
+/// Returns the nanoseconds that the clones took, and their sum.
+///
+/// # Errors
+/// Fails if the clock or an allocation fails.
 pub fn timed_clones<R: Clock>(rt: &R, alloc: Global, count: usize) -> io::Result<(u128, u64)> {
     let arena = Bump::new(alloc);
     let map = collect(alloc, &arena, count)?;

@@ -1,7 +1,8 @@
-//! Files that stay loaded: each path's text is loaded once, and what is made of it is kept.
+//! Caches of loaded files: the text of each path is loaded once, and the value that is made of it
+//! is kept.
 //!
-//! `ParsedCache` stands on the contract of `FrozenMap` alone: the first value of a key stays. `ResourceCache` is a `ParsedCache` of first
-//! characters.
+//! `ParsedCache` is built on two `FrozenMap`s, in which the first value of a key stays.
+//! `ResourceCache` is a `ParsedCache` whose values are the first characters of the texts.
 #![tactic(auto)]
 
 mod parsed_cache;

@@ -1,4 +1,4 @@
-//! A cache of what a parser makes of loaded texts, which borrows from them.
+//! A cache of the values that a parser makes of loaded texts. The values may borrow from the texts.
 ghost use Rattle.std.specs.Prelude.{◌≡◌, [], List, ℕ, None, Some, Ok, IfErr, IfOk, IfSome, OnErr, length};
 ghost use Rattle.std.specs.Borrow.{Bor};
 ghost use Rattle.std.specs.Fn.{FnOnceTakesAt};
@@ -10,21 +10,36 @@ use bumpalo::Bump;
 use elsa_maps::map::FrozenMap;
 use elsa_vec::stable::{Own, StableDeref};
 use std::alloc::{AllocError, Allocator, Global};
+use std::error::Error;
+use std::fmt;
 use std::hash::{BuildHasher, BuildHasherDefault, FoldHasher};
 use std::marker::Model;
 
-/// Why a path has no value.
+/// The reason why a path has no value.
 #[derive(Clone, Copy, Debug, PartialEq, Eq)]
 pub enum CacheFault<L, P> {
-    /// The loader's error. Nothing changed.
+    /// The loader's error. Nothing has changed.
     Load(L),
-    /// The parser's error. The path has its text now; nothing else changed.
+    /// The parser's error. The path has its text now; nothing else has changed.
     Parse(P),
-    /// Memory was refused. The values are as they were; the texts are, or have this path's text.
+    /// An allocation failed. The values are unchanged, and the path may have gained its text.
     Memory,
 }
 
-/// Texts by path, and what was made of them, which may borrow from its text. Both lie in the arena.
+impl<L: fmt::Display, P: fmt::Display> fmt::Display for CacheFault<L, P> {
+    fn fmt<W: fmt::Write>(&self, f: &mut fmt::Formatter<W>) -> fmt::Result {
+        match self {
+            CacheFault::Load(error) => write!(f, "the path's text could not be loaded: {error}"),
+            CacheFault::Parse(error) => write!(f, "the path's text could not be parsed: {error}"),
+            CacheFault::Memory => f.write_str("out of memory: the path has no value"),
+        }
+    }
+}
+
+impl<L: Error, P: Error> Error for CacheFault<L, P> {}
+
+/// A map from paths to texts and to the values that are made of them. A value may borrow from its
+/// text. The texts and the values are stored in the arena.
 pub struct ParsedCache<
     'a,
     T: Copy + 'a,
@@ -55,9 +70,11 @@ impl<'a, T: Copy + 'a, S: BuildHasher + Drop, A: Allocator + Copy> Drop
 }
 
 impl<'a, T: Copy + 'a, A: Allocator + Copy> ParsedCache<'a, T, BuildHasherDefault<FoldHasher>, A> {
-    /// A cache without paths, over `arena` for the texts and values and `alloc` for the tables. Takes no memory.
+    /// Makes an empty cache, which stores texts and values in `arena`; `alloc` allocates its hash
+    /// tables. It allocates nothing.
     ///
-    /// The paths are hashed without a secret; where strangers choose them, take [`with_hashers`](ParsedCache::with_hashers).
+    /// The default hasher has no secret. If paths come from untrusted input, use
+    /// [`with_hashers`](ParsedCache::with_hashers).
     pub fn new(alloc: A, arena: &'a Bump) -> Self
         ensures texts { result.texts ≡ [] }
         ensures values { result.resources ≡ [] }
@@ -71,8 +88,8 @@ impl<'a, T: Copy + 'a, A: Allocator + Copy> ParsedCache<'a, T, BuildHasherDefaul
     }
 }
 
-// Gives the path the value in a table of the cache, unless it has one, and returns the one that it now has: under `placed`, or where there is
-// none under a copy of the path in the arena.
+// Inserts the value of the path into a map of the cache, unless it has one, and returns the value
+// that it then has. The key is `placed`, or a copy of the path in the arena if `placed` is `None`.
 fn keep<'a, V: StableDeref<&'a Bump>, S: BuildHasher, A: Allocator + Copy>(
     table: &mut FrozenMap<'a, &'a str, V, S, A>,
     path: &str,
@@ -82,7 +99,7 @@ fn keep<'a, V: StableDeref<&'a Bump>, S: BuildHasher, A: Allocator + Copy>(
     requires reads_same { ForSome placed (λ p. p.now ≡ path.now) }
     ensures present { (x : V.Borrow) → value_at same_text table.old path.entry ≡ Some x →
         (result ≡ Ok x) × (table.new ≡ table.old) }
-    ensures stands { IfOk result (λ b. value_at same_text table.new path.entry ≡ Some b) }
+    ensures value_after { IfOk result (λ b. value_at same_text table.new path.entry ≡ Some b) }
     ensures added { value_at same_text table.old path.entry ≡ None → IfOk result (λ b.
         AddsNew same_text V.target V.shown table.old path.entry value b table.new) }
     ensures refused { OnErr result (IsRefused same_text table.old path.entry table.new) }
@@ -94,7 +111,8 @@ fn keep<'a, V: StableDeref<&'a Bump>, S: BuildHasher, A: Allocator + Copy>(
 }
 
 impl<'a, T: Copy + 'a, S: BuildHasher, A: Allocator + Copy> ParsedCache<'a, T, S, A> {
-    /// A cache without paths, whose two tables hash by `texts` and `values`. Takes no memory.
+    /// Makes an empty cache whose two hash tables hash by `texts` and `values`. It allocates
+    /// nothing.
     pub fn with_hashers(alloc: A, arena: &'a Bump, texts: S, values: S) -> Self
         ensures texts { result.texts ≡ [] }
         ensures values { result.resources ≡ [] }
@@ -105,29 +123,35 @@ impl<'a, T: Copy + 'a, S: BuildHasher, A: Allocator + Copy> ParsedCache<'a, T, S
         }
     }
 
-    /// The value of the path, `None` exactly if it has none. Takes no memory; one hash.
+    /// Returns the value of `path`, or `None` if it has none.
+    ///
+    /// # Cost
+    /// One hash and one search.
     pub fn get(&self, path: &str) -> Option<&'a T>
         ensures { result ≡ resource_at self.now path.entry }
     {
-        self.values.get_text(path)
+        self.values.get(path)
     }
 
-    /// The text of the path, `None` exactly if it has none. Takes no memory; one hash.
+    /// Returns the text of `path`, or `None` if it has none.
+    ///
+    /// # Cost
+    /// One hash and one search.
     pub fn text(&self, path: &str) -> Option<&'a str>
         ensures { result ≡ text_at self.now path.entry }
     {
-        self.texts.get_text(path)
+        self.texts.get(path)
     }
 
-    /// The number of paths that have a value.
+    /// Returns the number of paths that have a value.
     pub fn len(&self) -> usize
         ensures { result ≡ length self.now.resources }
     {
         self.values.len()
     }
 
-    // The text of the path: the one that is there, or else the loader's, which is kept, under `placed` or a copy of the path. `None` where
-    // memory was refused.
+    // Returns the text of the path: the one that it has, or else the loader's, which is inserted.
+    // The key is `placed`, or a copy of the path. Returns `None` if an allocation failed.
     fn load<L, F: FnOnce(&str) -> Result<String, L>>(
         &mut self,
         path: &str,
@@ -139,24 +163,24 @@ impl<'a, T: Copy + 'a, S: BuildHasher, A: Allocator + Copy> ParsedCache<'a, T, S
         requires reads_same { ForSome placed (λ p. p.now ≡ path.now) }
         requires loader { text_at self.old path ≡ None → FnOnceTakesAt F.FnOnce load path.now }
 
-        // A text that is there is returned, and nothing changes. Else the loader's is, and stays.
+        // A present text is returned, and nothing changes. Otherwise the loader's is, and stays.
         ensures present { (t : Bor (List ℕ)) → text_at self.old path.entry ≡ Some t →
             (result ≡ Ok (Some t)) × (self.new ≡ self.old) }
         ensures stays { IfOk result (λ o. IfSome o (λ t. text_at self.new path.entry ≡ Some t)) }
         ensures gains { GainsText (LoadsText F.FnOnce load path.entry) self.old self.new path.entry }
 
-        // All else stays.
+        // No other path changes.
         ensures others { KeepsOthers self.old self.new path.entry }
         ensures values { self.new.resources ≡ self.old.resources }
 
-        // No room for the text, or an error of the loader: nothing changes.
+        // If an allocation or the loader fails, nothing changes.
         ensures no_memory { result ≡ Ok None →
             (self.new ≡ self.old) × (text_at self.old path.entry ≡ None) }
         ensures no_room { result ≡ Ok None → (b : List ℕ) × LoadsText F.FnOnce load path.entry b }
         ensures not_loaded { IfErr result (λ e. (self.new ≡ self.old)
             × (text_at self.old path.entry ≡ None) × FailsToLoad F.FnOnce load path.entry e) }
     {
-        if let Some(text) = self.texts.get_text(path) {
+        if let Some(text) = self.texts.get(path) {
             return Ok(Some(text));
         }
         let loaded = load(path)?;
@@ -166,7 +190,8 @@ impl<'a, T: Copy + 'a, S: BuildHasher, A: Allocator + Copy> ParsedCache<'a, T, S
         Ok(Some(text))
     }
 
-    // The value of the path, whose text and value are kept under `placed`, or where there is none under copies of the path.
+    // Returns the value of the path. The keys of its text and its value are `placed`, or copies of
+    // the path.
     fn value_of<L, P, F: FnOnce(&str) -> Result<String, L>, G: FnOnce(&'a str) -> Result<T, P>>(
         &mut self,
         path: &str,
@@ -182,24 +207,24 @@ impl<'a, T: Copy + 'a, S: BuildHasher, A: Allocator + Copy> ParsedCache<'a, T, S
             FnOnceTakesAt F.FnOnce load path.now }
         requires parser { resource_at self.old path ≡ None → G.IsAlwaysCallable parse }
 
-        // A value that is there, or one that is made now: of the text that the path has then.
+        // Returns the value that the path has, or one that is made of the text that it then has.
         ensures present { (v : Bor T) → resource_at self.old path.entry ≡ Some v →
             (result ≡ Ok v) × (self.new ≡ self.old) }
         ensures made { resource_at self.old path.entry ≡ None →
             IfOk result (λ v. ParsedTo (G.post parse) self.new path.entry (Ok v.now)) }
         ensures stays { IfOk result (λ v. resource_at self.new path.entry ≡ Some v) }
 
-        // Whatever the result: a text that the path gains is the loader's, and all else stays.
+        // For every result: a text that the path gains is the loader's, and no other path changes.
         ensures gains { GainsText (LoadsText F.FnOnce load path.entry) self.old self.new path.entry }
         ensures others { KeepsOthers self.old self.new path.entry }
 
-        // A refusal leaves the values.
+        // A failed call leaves the values unchanged.
         ensures refused { OnErr result (self.new.resources ≡ self.old.resources) }
         ensures fault { IfErr result (λ f. IsCause
             (FailsToLoad F.FnOnce load path.entry) (LoadsText F.FnOnce load path.entry) (G.post parse)
             self.old self.new path.entry f) }
     {
-        if let Some(value) = self.values.get_text(path) {
+        if let Some(value) = self.values.get(path) {
             return Ok(value);
         }
         let text = match self.load(path, placed, load) {
@@ -217,15 +242,24 @@ impl<'a, T: Copy + 'a, S: BuildHasher, A: Allocator + Copy> ParsedCache<'a, T, S
         Ok(kept)
     }
 
-    /// The value of the path: the one that it has, or else what `parse` makes of its text, which is the one that it has, or else
-    /// what `load` returns for the path.
+    /// Returns the value of `path`. If it has none, makes one: `load` returns the text, unless the
+    /// path has one, and `parse` makes the value of the text.
     ///
-    /// So neither is called for a path that has a value, and the loader isn't for one that has a text; each is called once at most.
-    /// A path with a value takes no memory and one hash. A new one takes two copies of the path, the text and the value in the
-    /// arena, room in two tables, and six hashes.
+    /// Neither closure is called if the path has a value, and `load` is not called if it has a
+    /// text. Each is called at most once.
     ///
-    /// `CacheFault::Load` has the loader's error, and nothing has changed; `CacheFault::Parse` the parser's, and the path has its text;
-    /// `CacheFault::Memory` leaves the values, and the path may have gained its text.
+    /// # Errors
+    /// Fails with [`CacheFault::Load`] if `load` fails: nothing has changed. Fails with
+    /// [`CacheFault::Parse`] if `parse` fails: the path has its text, and nothing else has changed.
+    /// Fails with [`CacheFault::Memory`] if an allocation fails: the values are unchanged, and the
+    /// path may have gained its text.
+    ///
+    /// # Allocates
+    /// Nothing if the path has a value. Otherwise two copies of the path, the text and the value in
+    /// the arena, and room in two hash tables.
+    ///
+    /// # Cost
+    /// One hash if the path has a value, and six otherwise.
     pub fn get_or_parse<
         L,
         P,
@@ -239,18 +273,18 @@ impl<'a, T: Copy + 'a, S: BuildHasher, A: Allocator + Copy> ParsedCache<'a, T, S
             F.IsAlwaysCallable load }
         requires parser { resource_at self.old path ≡ None → G.IsAlwaysCallable parse }
 
-        // A value that is there, or one that is made now: of the text that the path has then.
+        // Returns the value that the path has, or one that is made of the text that it then has.
         ensures present { (v : Bor T) → resource_at self.old path.entry ≡ Some v →
             (result ≡ Ok v) × (self.new ≡ self.old) }
         ensures made { resource_at self.old path.entry ≡ None →
             IfOk result (λ v. ParsedTo (G.post parse) self.new path.entry (Ok v.now)) }
         ensures stays { IfOk result (λ v. resource_at self.new path.entry ≡ Some v) }
 
-        // Whatever the result: a text that the path gains is the loader's, and all else stays.
+        // For every result: a text that the path gains is the loader's, and no other path changes.
         ensures gains { GainsText (LoadsText F.FnOnce load path.entry) self.old self.new path.entry }
         ensures others { KeepsOthers self.old self.new path.entry }
 
-        // A refusal leaves the values.
+        // A failed call leaves the values unchanged.
         ensures refused { OnErr result (self.new.resources ≡ self.old.resources) }
         ensures fault { IfErr result (λ f. IsCause
             (FailsToLoad F.FnOnce load path.entry) (LoadsText F.FnOnce load path.entry) (G.post parse)
@@ -259,15 +293,22 @@ impl<'a, T: Copy + 'a, S: BuildHasher, A: Allocator + Copy> ParsedCache<'a, T, S
         self.value_of(path, None, load, parse)
     }
 
-    /// The value of the path, as by [`get_or_parse`](ParsedCache::get_or_parse), for a path that lies in the arena already, or outlives
-    /// the cache: that borrow is the key of both tables, and no copy of it is made.
+    /// Returns the value of `path`, like [`get_or_parse`](ParsedCache::get_or_parse), for a path
+    /// that is stored in the arena or outlives the cache. That borrow is the key in both hash
+    /// tables, and the path is not copied.
     ///
-    /// Neither closure is called for a path that has a value, and the loader isn't for one that has a text; each is called once at
-    /// most. A path with a value takes no memory and one hash. A new one takes the text and the value in the arena, room in two
-    /// tables, and four hashes.
+    /// # Errors
+    /// Fails with [`CacheFault::Load`] if `load` fails: nothing has changed. Fails with
+    /// [`CacheFault::Parse`] if `parse` fails: the path has its text, and nothing else has changed.
+    /// Fails with [`CacheFault::Memory`] if an allocation fails: the values are unchanged, and the
+    /// path may have gained its text.
     ///
-    /// `CacheFault::Load` has the loader's error, and nothing has changed; `CacheFault::Parse` the parser's, and the path has its text;
-    /// `CacheFault::Memory` leaves the values, and the path may have gained its text.
+    /// # Allocates
+    /// Nothing if the path has a value. Otherwise the text and the value in the arena, and room in
+    /// two hash tables.
+    ///
+    /// # Cost
+    /// One hash if the path has a value, and four otherwise.
     pub fn get_or_parse_placed<
         L,
         P,
@@ -281,18 +322,18 @@ impl<'a, T: Copy + 'a, S: BuildHasher, A: Allocator + Copy> ParsedCache<'a, T, S
             FnOnceTakesAt F.FnOnce load path.now }
         requires parser { resource_at self.old path ≡ None → G.IsAlwaysCallable parse }
 
-        // A value that is there, or one that is made now: of the text that the path has then.
+        // Returns the value that the path has, or one that is made of the text that it then has.
         ensures present { (v : Bor T) → resource_at self.old path.entry ≡ Some v →
             (result ≡ Ok v) × (self.new ≡ self.old) }
         ensures made { resource_at self.old path.entry ≡ None →
             IfOk result (λ v. ParsedTo (G.post parse) self.new path.entry (Ok v.now)) }
         ensures stays { IfOk result (λ v. resource_at self.new path.entry ≡ Some v) }
 
-        // Whatever the result: a text that the path gains is the loader's, and all else stays.
+        // For every result: a text that the path gains is the loader's, and no other path changes.
         ensures gains { GainsText (LoadsText F.FnOnce load path.entry) self.old self.new path.entry }
         ensures others { KeepsOthers self.old self.new path.entry }
 
-        // A refusal leaves the values.
+        // A failed call leaves the values unchanged.
         ensures refused { OnErr result (self.new.resources ≡ self.old.resources) }
         ensures fault { IfErr result (λ f. IsCause
             (FailsToLoad F.FnOnce load path.entry) (LoadsText F.FnOnce load path.entry) (G.post parse)

@@ -1,4 +1,4 @@
-//! The first characters of texts by path, as of files that are loaded once.
+//! A cache of the first characters of loaded texts, by path.
 ghost use Rattle.std.specs.Prelude.{◌≡◌, [], List, ℕ, None, Some, Ok, IfErr, IfOk, OnErr};
 ghost use Rattle.std.specs.Borrow.{Bor};
 ghost use Rattle.std.specs.Fn.{FnOnceTakesAt};
@@ -8,10 +8,12 @@ use super::parsed_cache::{CacheFault, ParsedCache};
 use bumpalo::Bump;
 use std::alloc::{Allocator, Global};
 use std::convert::Infallible;
+use std::error::Error;
+use std::fmt;
 use std::hash::{BuildHasher, BuildHasherDefault, FoldHasher};
 use std::marker::Model;
 
-/// What is made of a text: its first character as a slice, or the empty text.
+/// The first character of a text as a slice, or the empty text.
 #[derive(Clone, Copy, Debug)]
 pub struct Resource<'a> {
     /// The first character, or the empty text.
@@ -19,7 +21,7 @@ pub struct Resource<'a> {
 }
 
 impl<'a> Resource<'a> {
-    /// The resource of this text. Takes no memory.
+    /// Makes the resource of `text`. It allocates nothing.
     pub fn new(text: &'a str) -> Self
         ensures { result.first.now ≡ first_character text.entry.now }
     {
@@ -32,7 +34,7 @@ impl<'a> Resource<'a> {
         }
     }
 
-    /// The first character of the text that it was made of, or the empty text.
+    /// Returns the first character of the text of which it was made, or the empty text.
     pub fn get(&self) -> &'a str
         ensures { result ≡ self.now.first }
     {
@@ -40,16 +42,28 @@ impl<'a> Resource<'a> {
     }
 }
 
-/// Why a path has no resource.
+/// The reason why a path has no resource.
 #[derive(Clone, Copy, Debug, PartialEq, Eq)]
 pub enum LoadFault {
-    /// The loader's answer. Nothing changed.
+    /// The loader found no text. Nothing has changed.
     NotFound,
-    /// Memory was refused. The resources are as they were; the texts are, or have this path's text.
+    /// An allocation failed. The resources are unchanged, and the path may have gained its text.
     Memory,
 }
 
-/// Texts and resources by path. The caller places the paths in the arena.
+impl fmt::Display for LoadFault {
+    fn fmt<W: fmt::Write>(&self, f: &mut fmt::Formatter<W>) -> fmt::Result {
+        f.pad(match self {
+            LoadFault::NotFound => "the loader found no text at the path",
+            LoadFault::Memory => "out of memory: the path has no resource",
+        })
+    }
+}
+
+impl Error for LoadFault {}
+
+/// A map from paths to texts and to their resources. The paths are stored in the arena or outlive
+/// the cache.
 pub struct ResourceCache<
     'a,
     A: Allocator + Copy = Global,
@@ -75,9 +89,11 @@ impl<'a, A: Allocator + Copy, S: BuildHasher + Drop> Drop for ResourceCache<'a, 
 }
 
 impl<'a, A: Allocator + Copy> ResourceCache<'a, A> {
-    /// A cache without paths, over `arena` for the texts and resources and `alloc` for the tables. Takes no memory.
+    /// Makes an empty cache, which stores texts and resources in `arena`; `alloc` allocates its
+    /// hash tables. It allocates nothing.
     ///
-    /// The paths are hashed without a secret; where strangers choose them, take [`with_hashers`](ResourceCache::with_hashers).
+    /// The default hasher has no secret. If paths come from untrusted input, use
+    /// [`with_hashers`](ResourceCache::with_hashers).
     pub fn new(alloc: A, arena: &'a Bump) -> Self
         ensures texts { result.texts ≡ [] }
         ensures resources { result.resources ≡ [] }
@@ -92,7 +108,8 @@ impl<'a, A: Allocator + Copy> ResourceCache<'a, A> {
 }
 
 impl<'a, A: Allocator + Copy, S: BuildHasher> ResourceCache<'a, A, S> {
-    /// A cache without paths, whose two tables hash by `texts` and `resources`. Takes no memory.
+    /// Makes an empty cache whose two hash tables hash by `texts` and `resources`. It allocates
+    /// nothing.
     pub fn with_hashers(alloc: A, arena: &'a Bump, texts: S, resources: S) -> Self
         ensures texts { result.texts ≡ [] }
         ensures resources { result.resources ≡ [] }
@@ -102,13 +119,22 @@ impl<'a, A: Allocator + Copy, S: BuildHasher> ResourceCache<'a, A, S> {
         }
     }
 
-    /// The resource of the path.
+    /// Returns the resource of `path`. If it has none, makes one of its text, which is the one that
+    /// it has or else the one that `load` returns.
     ///
-    /// A path with a resource is answered by it, without the loader and without memory. One with a text and no resource
-    /// is answered by the resource of that text, without the loader. Else the loader is called once, at the path. What
-    /// was answered once is answered always.
+    /// `load` is called once, unless the path has a text. A path that has a resource keeps it.
     ///
-    /// `LoadFault::NotFound` is the loader's, and nothing has changed. `LoadFault::Memory` leaves the resources; the path may have gained its text.
+    /// # Errors
+    /// Fails with [`LoadFault::NotFound`] if `load` does: nothing has changed. Fails with
+    /// [`LoadFault::Memory`] if `load` does or an allocation fails: the resources are unchanged,
+    /// and the path may have gained its text.
+    ///
+    /// # Allocates
+    /// Nothing if the path has a resource. Otherwise the text and the resource in the arena, and
+    /// room in two hash tables.
+    ///
+    /// # Cost
+    /// One hash if the path has a resource, and four otherwise.
     pub fn get_resource<F: FnOnce(&str) -> Result<String, LoadFault>>(
         &mut self,
         path: &'a str,
@@ -119,18 +145,18 @@ impl<'a, A: Allocator + Copy, S: BuildHasher> ResourceCache<'a, A, S> {
         requires loader { resource_at self.old path ≡ None → text_at self.old path ≡ None →
             FnOnceTakesAt F.FnOnce load path.now }
 
-        // A resource that is there is returned, and nothing changes. Else one is made of the path's text, and stays.
+        // A present resource is returned. Otherwise one is made of the path's text, and stays.
         ensures present { (r : _) → resource_at self.old path.entry ≡ Some r →
             (result ≡ Ok r) × (self.new ≡ self.old) }
         ensures made { resource_at self.old path.entry ≡ None →
             IfOk result (λ r. BeginsText (text_at self.new path.entry) r.now.first.now) }
         ensures stays { IfOk result (λ r. resource_at self.new path.entry ≡ Some r) }
 
-        // Whatever the result: a text that the path gains is the loader's, and all else stays.
+        // For every result: a text that the path gains is the loader's, and no other path changes.
         ensures gains { GainsText (LoadsText F.FnOnce load path.entry) self.old self.new path.entry }
         ensures others { KeepsOthers self.old self.new path.entry }
 
-        // A refusal leaves the resources.
+        // A failed call leaves the resources unchanged.
         ensures refused { OnErr result (self.new.resources ≡ self.old.resources) }
         ensures fault { IfErr result (λ f.
             IsLoadCause (FailsToLoad F.FnOnce load path.entry) (LoadsText F.FnOnce load path.entry)

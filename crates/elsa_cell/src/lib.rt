@@ -1,8 +1,15 @@
-//! Collections that grow through `&self` and own their values: no arena is handed in, and a borrow lasts as long as the collection.
+//! Collections that grow through `&self` and own their values: the caller passes in no arena, and a
+//! borrow lasts as long as the collection.
 #![tactic(auto)]
 
+mod fault;
 pub mod map;
+pub mod observed;
+mod shared;
+mod state;
+pub mod vec;
 
-/// A list that grows through `&self`: `push`, `get`, `at`, `len`, `iter`.
-pub use elsa_arena::arena::{AnyValue, TypedArena as FrozenVec, ValueRule};
-pub use map::{CellFault, FrozenMap, InUse};
+pub use fault::{CellFault, InUse, TryFault};
+pub use map::{FrozenMap, MapHandle, MapHold};
+pub use observed::{Iter, Observed};
+pub use vec::{FrozenVec, Handle, Hold};

@@ -1,1 +1,1 @@
--- Nothing: the program has no contracts of its own.
+-- Empty: the program has no contracts.

@@ -1,22 +1,25 @@
-//! The program `elsa`: `elsa intern` answers each line of standard input on standard output, and `elsa shared W N` lets W threads push N
-//! numbers each into one concurrent vector and prints its length.
+//! The program `elsa`. `elsa intern` writes a reply on standard output for each line of standard
+//! input. `elsa shared W N` pushes `N` numbers from each of `W` threads into one concurrent vector,
+//! and prints the vector's length.
 #![tactic(auto)]
 
 use bumpalo::Bump;
-use elsa::command::job;
+use elsa::SeededState;
 use elsa::interner::{Counted, EngineFault, intern_engine_with_hasher};
-use elsa::shared::{Gate, run_shared};
-use elsa::{Job, SeededState};
+use elsa_program::Job;
+use elsa_program::command::job;
+use elsa_program::shared::{Gate, run_shared};
 use std::process::ExitCode;
 
 const USAGE: &str = "usage: elsa intern | elsa shared W N";
 
-/// Writes a line on standard error; where that fails, there is nobody left to tell.
+/// Writes a line on standard error. If that fails, nothing more can be reported.
 fn complain(rt: &HostRuntime, message: &str) {
     let _ = eprintln!(rt; "{message}");
 }
 
-/// Answers each line of standard input on standard output. Strangers choose the names, so they are hashed with a secret.
+/// Writes a reply on standard output for each line of standard input. The names are untrusted
+/// input, so they are hashed with a secret.
 fn intern(rt: &HostRuntime) -> ExitCode {
     let Ok(secret) = SeededState::new(rt) else {
         complain(rt, "fault");
@@ -38,7 +41,7 @@ fn intern(rt: &HostRuntime) -> ExitCode {
     }
 }
 
-/// A gate that lets each worker go on.
+/// A gate that stops no worker.
 struct Open;
 
 impl Gate for Open {
@@ -47,7 +50,8 @@ impl Gate for Open {
     }
 }
 
-/// Prints the length of a vector that was filled, or that something failed.
+/// Prints the length of the vector on standard output, or `fault` on standard error if there is no
+/// length.
 fn tell(rt: &HostRuntime, length: Option<usize>) -> ExitCode {
     let Some(length) = length else {
         complain(rt, "fault");
@@ -60,7 +64,8 @@ fn tell(rt: &HostRuntime, length: Option<usize>) -> ExitCode {
     ExitCode::SUCCESS
 }
 
-/// The words behind the program's name, where each of them is text.
+/// Returns the words after the program's name. `None` if one of them isn't UTF-8, or if an
+/// allocation fails.
 fn words(rt: &HostRuntime) -> Option<Vec<String>> {
     std::env::args(rt).ok()?.skip(1).collect(rt.alloc()).ok()
 }

@@ -1,4 +1,4 @@
-//! A hash with a secret, for tables whose keys strangers choose.
+//! A hash with a secret, for tables with untrusted keys.
 #![tactic(auto)]
 
 pub mod seeded;

@@ -1,16 +1,21 @@
-//! A fast hash whose factors are all secret, for tables whose keys strangers choose.
+//! A fast hash whose factors are all secret, for tables with untrusted keys.
 //!
-//! The default hash of std's maps, `FoldHasher`, has no secret: 40,000 names can be made that have one hash, and a table of them takes time by
-//! the square of their number. [`SeededState`] has two secret words. A key is multiplied in words of 8 bytes, two at a time, and each factor of
-//! each product has a secret word in it: without the secret nobody can choose a word that makes a factor zero, or a power of two.
+//! The default hash of std's maps, `FoldHasher`, has no secret: 40,000 names can be made that have
+//! one hash, and a table of them takes time proportional to the square of their number.
+//! [`SeededState`] has two secret words. A key is multiplied in words of 8 bytes, two at a time,
+//! and each factor of each product has a secret word in it: without the secret, no one can choose a
+//! word that makes a factor zero, or a power of two.
 //!
-//! **What it is made to resist**: keys crafted beforehand by someone who knows this code and not the seed. No bound on collisions is proved; no
-//! family of keys that we know does worse than random ones, and `tools/crafted_names --judge` tries a dozen.
+//! **What it is made to resist**: keys crafted beforehand by someone who knows this code and not
+//! the seed. No bound on collisions is proved; no family of keys that we know does worse than
+//! random ones, and `tools/crafted_names --judge` tries a dozen.
 //!
-//! **What it doesn't resist**: someone who learns the seed, or learns of it bit by bit, as by timing many look-ups in one run. Where that matters, take
-//! std's `RandomState`: SipHash-1-3, which cryptographers have studied. With it `elsa intern` takes 1.25 to 1.8 times as long.
+//! **What it doesn't resist**: someone who learns the seed, or learns of it bit by bit, as by
+//! timing many look-ups in one run. If that matters, use std's `RandomState`: SipHash-1-3, which
+//! cryptographers have studied. With it `elsa intern` takes 1.25 to 1.8 times as long.
 //!
-//! The hash of a key is the same in one table and in all that have the same [`SeededState`], and another one in the next run.
+//! The hash of a key is the same in all tables that have the same [`SeededState`], and differs in
+//! the next run.
 ghost use Rattle.std.specs.Prelude.{◌≡◌, ◌+◌, ◌≤◌, length};
 ghost use Rattle.std.specs.Hash.FoldHasher.{folded_multiply, read_short, read_u32, read_u64};
 ghost use Rattle.elsa_hash.specs.Seeded as seeded;
@@ -20,7 +25,7 @@ use std::hash::{BuildHasher, Hasher};
 use std::random::RandomSource;
 use std::{fmt, io};
 
-/// Makes the hasher of each key of a table, from two secret words.
+/// The hasher builder of a table, with two secret words.
 #[derive(Clone, Copy)]
 pub struct SeededState {
     start: u64,
@@ -28,16 +33,20 @@ pub struct SeededState {
 }
 
 impl SeededState {
-    /// Secret words from the runtime's random source, of eight bytes each. Take one at the start of a program.
+    /// Makes a state with two secret words from the runtime's random source, of eight bytes each.
+    /// Make one at the start of a program. It allocates nothing.
     ///
-    /// `Err` is the source's own: no secret could be had, and a program that goes on without one can be flooded. Takes no memory.
+    /// # Errors
+    /// Fails with the error of the random source. There is then no secret, and a program that
+    /// continues without one can be flooded with colliding keys.
     pub fn new(rt: &impl RandomSource) -> io::Result<SeededState> {
         let mut bytes = [0; 16];
         rt.fill_bytes(&mut bytes)?;
         Ok(SeededState::of_bytes(bytes))
     }
 
-    /// The words of these bytes: the first eight make one word, the last eight the other, the lowest byte first.
+    /// Makes the state of 16 bytes: the first eight make one word and the last eight make the
+    /// other, each with the lowest byte first.
     fn of_bytes(bytes: [u8; 16]) -> SeededState
         ensures { seeded.first_hasher result ≡ seeded.hasher (read_u64 bytes 0) (read_u64 bytes 8) }
     {
@@ -47,7 +56,8 @@ impl SeededState {
         }
     }
 
-    /// The secret words themselves, for a run that is to be repeated. Whoever knows them can make keys collide; words of few bits hash badly.
+    /// Makes a state with these secret words, for a run that is to be repeated. Someone who knows
+    /// them can make keys that collide; words of few bits hash badly.
     pub fn with_seed(start: u64, factor: u64) -> SeededState
         ensures { seeded.first_hasher result ≡ seeded.hasher start factor }
     {
@@ -75,7 +85,7 @@ impl Debug for SeededState {
     }
 }
 
-/// The hash of one key, so far.
+/// The hash of one key while its bytes are written.
 #[derive(Clone, Copy)]
 pub struct SeededHasher {
     state: u64,
@@ -89,7 +99,7 @@ impl Debug for SeededHasher {
     }
 }
 
-/// The two halves of the product, joined by xor.
+/// Returns the two halves of the product, joined by xor.
 #[inline(always)]
 #[tactic(auto, unfolding(core::specs::Hash::FoldHasher::folded_multiply))]
 fn folded_product(a: u64, b: u64) -> u64
@@ -99,7 +109,7 @@ fn folded_product(a: u64, b: u64) -> u64
     (product & 0xFFFF_FFFF_FFFF_FFFF) as u64 ^ (product >> 64) as u64
 }
 
-/// The four bytes from a place on, the lowest first.
+/// Returns the four bytes from index `at` as a number, the lowest byte first.
 #[inline(always)]
 #[tactic(auto, unfolding(core::specs::Hash::FoldHasher::read_u32))]
 fn half_word(bytes: &[u8], at: usize) -> u64
@@ -109,7 +119,7 @@ fn half_word(bytes: &[u8], at: usize) -> u64
     u32::from_le_bytes([bytes[at], bytes[at + 1], bytes[at + 2], bytes[at + 3]]) as u64
 }
 
-/// The eight bytes from a place on, the lowest first.
+/// Returns the eight bytes from index `at` as a number, the lowest byte first.
 #[inline(always)]
 #[tactic(auto, unfolding(core::specs::Hash::FoldHasher::read_u64))]
 fn word(bytes: &[u8], at: usize) -> u64
@@ -119,7 +129,7 @@ fn word(bytes: &[u8], at: usize) -> u64
     half_word(bytes, at) | half_word(bytes, at + 4) << 32
 }
 
-/// Up to eight bytes as one word, by reads that may overlap.
+/// Returns up to eight bytes as one word, by reads that may overlap.
 #[inline(always)]
 #[tactic(auto, unfolding(core::specs::Hash::FoldHasher::read_short))]
 fn short_word(bytes: &[u8]) -> u64

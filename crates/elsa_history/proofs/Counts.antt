@@ -1,4 +1,4 @@
--- Lemmas on counts: of the keys of a map's entries, and of the receipts of a history.
+-- Lemmas about counts: of the keys of a map's entries, and of the receipts of a history.
 use Rattle.std.proofs.Common.{◌≡◌, ◌∙◌, ◌+◌, ◌<◌, ◌≤◌, ◌==◌, ◌≢◌, ◌⊎◌, ap, inl, inr, ℕ, zero, suc, Bool, cond, All, List, [], ◌∷◌, length, length-append, get_or, slice_get, set, Some, refl, sym, arith}
 use Rattle.std.specs.Map.{keys_of}
 use Rattle.std.proofs.Common.{Ordering}
@@ -11,19 +11,19 @@ use Rattle.std.proofs.lemmas.List.{length-map}
 use Rattle.std.proofs.lemmas.List.Sums.{sum_by-cons, sum_by-set}
 use Rattle.std.proofs.lemmas.Option.{get_or_from_slice_get, slice_get_within}
 use Rattle.std.proofs.lemmas.Bool.{cases_lt}
-use Rattle.elsa_words.specs.FirstWins.{value_at, HasCount}
+use Rattle.elsa_specs.specs.FirstWins.{value_at, HasCount}
 use Rattle.elsa_history.specs.Receipts.{receipts_for, receipts_at, receipt_count, AreReceipts, AreOf, LacksAReceipt, IsTakenFrom}
 use Rattle.elsa_history.proofs.Receipts.{each_below, sum_zero, test_at, test_off}
 
--- a map has as many entries as keys, which are distinct
+-- The number of a map's entries is that of its keys, which are distinct.
 pub has_count : {K V : Type 0} (eq : K → K → Bool) (es : List (K × V)) → IsDistinct eq (keys_of es) → HasCount eq (value_at eq es) (length es)
 has_count eq es d = (keys_of es, (d, λ q. is_some-lookup (eq q) es), length-map es (λ e. e.0))
 
--- keys that ascend are distinct, so the same holds of a map in order
+-- Strictly sorted keys are distinct, so the same is true for an ordered map.
 pub has_count_sorted : {K V : Type 0} (cmp : K → K → Ordering) (es : List (K × V)) → IsStrictlySortedBy cmp (keys_of es) → HasCount (eq_by_cmp cmp) (value_at (eq_by_cmp cmp) es) (length es)
 has_count_sorted cmp es s = has_count (eq_by_cmp cmp) es (IsDistinct-from_sorted cmp (keys_of es) s)
 
--- the sum of f below n
+-- The sum of f below n.
 total : (ℕ → ℕ) → ℕ → ℕ
 total f zero = 0
 total f (suc n) = total f n + f n
@@ -38,7 +38,7 @@ unfolding total
 total_add f g h zero e = refl
 total_add f g h (suc n) e = let a : total h n ≡ total f n + total g n = total_add f g h n e in let b : h n ≡ f n + g n = e n in omega arith
 
--- one place counts once
+-- An index is counted once.
 total_at : (k n : ℕ) → k < n → total (λ i. cond (k == i) 1 0) n ≡ 1
 unfolding total
 total_at k zero l = absurd (omega arith)
@@ -47,7 +47,7 @@ total_at k (suc n) l = elim (cases_lt k n) [
   | inr b ↦ let s : total (λ i. cond (k == i) 1 0) n ≡ 0 = total_zero _ n (λ i m. test_off k i (omega arith)) in let t : ◌≡◌ {A = ℕ} (cond (k == n) 1 0) 1 = test_at k n (omega arith) in omega arith
 ]
 
--- sums over a list, place by place, are the sum of what each item comes to
+-- The sum over the indices of the sums over a list is the sum of each item's total.
 total_sum : {X : Type 0} (f : ℕ → X → ℕ) (g : X → ℕ) (n : ℕ) (xs : List X) → All (λ x. total (λ i. f i x) n ≡ g x) xs → total (λ i. sum_by (f i) xs) n ≡ sum_by g xs
 total_sum f g n [] h = total_zero _ n (λ i l. refl)
 total_sum f g n (x ∷ xs) h =
@@ -65,7 +65,7 @@ passes_total n ps h = total_sum (λ i p. receipts_for i p.1) _ n ps (λ k d lt.
     let rs = (get_or ps k d).1 in
     total_sum (λ i r. cond (r.0 == i) 1 0) (λ r. 1) n rs (λ j c less. total_at (get_or rs j c).0 n (h k d lt j c less)) ∙ ones rs)
 
--- counts of at most 1 add up to n, and each is 1, or to less, and one is 0
+-- For n counts of at most 1: their sum is n and each is 1, or their sum is less and one is 0.
 full_or_gap : (f : ℕ → ℕ) (n : ℕ) → ((i : ℕ) → f i ≤ 1) → ((total f n ≡ n) × ((i : ℕ) → i < n → f i ≡ 1)) ⊎ ((total f n < n) × (i : ℕ) × (i < n) × (f i ≡ 0))
 unfolding total
 full_or_gap f zero most = inl (refl, λ i l. absurd (omega (arith, l)))
@@ -87,28 +87,31 @@ full_or_gap f (suc n) most = by (full_or_gap f n most)
       )
     ]
 
--- passes without receipts have none
+-- The number of receipts of passes without receipts is 0.
 pub count_nil : {C R : Type 0} (ps : List (ℕ × List (ℕ × C × R))) → All (λ p. p.1 ≡ []) ps → receipt_count ps ≡ 0
 count_nil ps h = sum_zero _ ps (λ k d lt. ap (λ rs. length rs) (h k d lt))
 
--- a pass that has one receipt less makes one receipt less
+-- If a receipt is removed from a pass, the number of receipts decreases by 1.
 pub count_set : {C R : Type 0} (ps : List (ℕ × List (ℕ × C × R))) (i : ℕ) (p q : ℕ × List (ℕ × C × R)) (n : ℕ) (r : C × R) → slice_get ps i ≡ Some p → IsTakenFrom n r p q → receipt_count (set ps i q) + 1 ≡ receipt_count ps
 count_set ps i p q n r at taken =
     let moved = sum_by-set (λ pass. length pass.1) ps i q p (slice_get_within ps i p at) in
     let one : length (get_or ps i p).1 ≡ length q.1 + 1 = ap (λ pass. length pass.1) (get_or_from_slice_get ps i p p at) ∙ ap (λ rs. length rs) taken.1 ∙ length-append q.1 ((n, r.0, r.1) ∷ []) in
     omega (arith, moved, one)
 
--- receipts of a history are it where there are as many as entries, and else an entry has none
+-- Receipts that belong to a history are the history if their number is that of its entries;
+-- otherwise an entry has none.
 module _ {C R : Type 0} (eqc : C → C → Bool) (eqr : R → R → Bool) (ps : List (ℕ × List (ℕ × C × R))) (es : List (ℕ × C × R)) (a : AreOf eqc eqr ps es) where
   sums : total (λ i. receipts_at i ps) (length es) ≡ receipt_count ps
   sums = passes_total (length es) ps (each_below eqc eqr es ps a.right)
 
+  -- If the numbers are equal, the receipts are the history.
   pub all_receipts : receipt_count ps ≡ length es → AreReceipts eqc eqr ps es
   all_receipts h = elim (full_or_gap (λ i. receipts_at i ps) (length es) a.once) [
     | inl full ↦ record { once = full.1; right = a.right; rising = a.rising }
     | inr gap ↦ absurd (omega (arith, gap.0, sums, h))
   ]
 
+  -- Otherwise an entry has no receipt.
   pub lacks_one : receipt_count ps ≢ length es → LacksAReceipt ps es
   lacks_one h = elim (full_or_gap (λ i. receipts_at i ps) (length es) a.once) [
     | inl full ↦ absurd (h (sym sums ∙ full.0))

@@ -1,4 +1,4 @@
--- Lemmas on the list that says which pass has the receipt for a place.
+-- Lemmas about the list that records which pass has the receipt for an index.
 use Rattle.std.proofs.Common.{◌≡◌, ◌∙◌, ◌+◌, ◌-◌, ◌<◌, ◌≤◌, ◌==◌, ◌≢◌, ap, ℕ, zero, suc, cond, All, List, [], ◌∷◌, length, get_or, slice_get, set, take, Some, subst, arith}
 use Rattle.std.proofs.lemmas.List.{take_more}
 use Rattle.std.proofs.lemmas.List.Sums.{sum_by-set, sum_by_push}
@@ -6,21 +6,21 @@ use Rattle.std.proofs.lemmas.Option.{get_or_from_slice_get, slice_get-get_or, sl
 use Rattle.elsa_history.specs.Receipts.{receipts_for, receipts_at, EndsElsewhere, IsTakenFrom}
 use Rattle.elsa_history.proofs.Receipts.{each_zero, test_at, test_off}
 
--- what isn't counted is another number
+-- A number that isn't counted is another number.
 other : (k n : ℕ) → ◌≡◌ {A = ℕ} (cond (k == n) 1 0) 0 → k ≢ n
 other k n off same = let on = test_at k n same in absurd (omega (arith, off, on))
 
--- a pass that has no receipt for a place doesn't end at it
+-- A pass that has no receipt for an index doesn't end at it.
 ends_elsewhere : {C R : Type 0} (place : ℕ) (rs : List (ℕ × C × R)) → receipts_for place rs ≡ 0 → EndsElsewhere place rs
 ends_elsewhere place [] none = tt
 ends_elsewhere place (r ∷ rs) none =
     rw (slice_get-get_or (r ∷ rs) (length (r ∷ rs) - 1) r (omega arith)) (other (get_or (r ∷ rs) (length (r ∷ rs) - 1) r).0 place (each_zero (λ s. cond (s.0 == place) 1 0) (r ∷ rs) none (length (r ∷ rs) - 1) r (omega arith)))
 
--- where no pass has a receipt for a place, none ends at it
+-- If no pass has a receipt for an index, none ends at it.
 pub none_ends : {C R : Type 0} (place : ℕ) (ps : List (ℕ × List (ℕ × C × R))) → receipts_at place ps ≡ 0 → All (λ p. EndsElsewhere place p.1) ps
 none_ends place ps none k d lt = ends_elsewhere place (get_or ps k d).1 (each_zero (λ p. receipts_for place p.1) ps none k d lt)
 
--- a pass that has one receipt less makes none more
+-- If a receipt is removed from a pass, no index has more receipts than before.
 pub taken_fewer : {C R : Type 0} (ps : List (ℕ × List (ℕ × C × R))) (i : ℕ) (p q : ℕ × List (ℕ × C × R)) (n : ℕ) (r : C × R) → slice_get ps i ≡ Some p → IsTakenFrom n r p q
     → (other : ℕ) → receipts_at other (set ps i q) ≤ receipts_at other ps
 taken_fewer ps i p q n r at taken other =
@@ -29,7 +29,8 @@ taken_fewer ps i p q n r at taken other =
     ap (λ pass. receipts_for other pass.1) (get_or_from_slice_get ps i p p at) ∙ ap (receipts_for other) taken.1 ∙ sum_by_push (λ s. cond (s.0 == other) 1 0) q.1 (n, r.0, r.1) in
     omega (arith, moved, one)
 
--- where a place still has the number for nobody after an owner was noted, it had it before, and the owner was noted elsewhere
+-- If an index still has the number `nobody` after an owner was recorded, it had that number before,
+-- and the owner was recorded at another index.
 pub noted : (owners : List ℕ) (at owner nobody place : ℕ) → owner < nobody → slice_get (set owners at owner) place ≡ Some nobody → (slice_get owners place ≡ Some nobody) × (at ≢ place)
 noted [] at owner nobody place less h = let none = h in absurd (gone none)
   where
@@ -47,19 +48,19 @@ noted (x ∷ xs) (suc at) owner nobody zero less h = (h, λ e. omega (arith, e))
 noted (x ∷ xs) (suc at) owner nobody (suc place) less h =
     let rest = noted xs at owner nobody place less h in (rest.0, λ e. rest.1 (omega (arith, e)))
 
--- one receipt more, which is for another place
+-- Another receipt, which is for another index.
 pub one_more : {C R : Type 0} (place : ℕ) (rs : List (ℕ × C × R)) (i : ℕ) (r : ℕ × C × R) → i < length rs → r ≡ get_or rs i r → receipts_for place (take i rs) ≡ 0 → r.0 ≢ place → receipts_for place (take (i + 1) rs) ≡ 0
 one_more place rs i r lt is none off =
     let one = ap (receipts_for place) (take_more rs i r lt) ∙ sum_by_push (λ s. cond (s.0 == place) 1 0) (take i rs) (get_or rs i r) in
     let zero = subst (λ s. ◌≡◌ {A = ℕ} (cond (s.0 == place) 1 0) 0) is (test_off r.0 place off) in
     omega (arith, one, none, zero)
 
--- one pass more, which has no receipt for the place
+-- Another pass, which has no receipt for the index.
 pub one_pass_more : {C R : Type 0} (place : ℕ) (ps : List (ℕ × List (ℕ × C × R))) (i : ℕ) (p : ℕ × List (ℕ × C × R)) → slice_get ps i ≡ Some p → receipts_at place (take i ps) ≡ 0 → receipts_for place p.1 ≡ 0 → receipts_at place (take (i + 1) ps) ≡ 0
 one_pass_more place ps i p at none mine =
     ap (receipts_at place) (take_more ps i p (slice_get_within ps i p at)) ∙ sum_by_push (λ pass. receipts_for place pass.1) (take i ps) (get_or ps i p)
     ∙ omega (arith, none, ap (λ pass. receipts_for place pass.1) (get_or_from_slice_get ps i p p at), mine)
 
--- a place that is noted is none past the end
+-- An index at or above the length is not recorded.
 pub past_end : {X : Type 0} (xs : List X) (at place : ℕ) (x : X) → length xs ≤ at → slice_get xs place ≡ Some x → at ≢ place
 past_end xs at place x past h same = let within = slice_get_within xs place x h in absurd (omega (arith, past, within, same))

@@ -1,4 +1,4 @@
--- Lemmas on receipts, for taking them one by one from the last entry to the first.
+-- Lemmas about receipts that are removed one by one, from the last entry to the first.
 use Rattle.std.proofs.Common.{◌≡◌, ◌+◌, ◌-◌, ◌<◌, ◌≤◌, ◌==◌, ◌≢◌, ◌↔◌, inl, inr, ℕ, suc, zero, Bool, cond, All, List, [], ◌∷◌, ◌++◌, length, slice_get, get_or, set, take, take_all, IsSomeAnd, Some, refl, sym, ap, subst, ◌∙◌, arith, length-append}
 use Rattle.std.specs.List.{sum_by}
 use Rattle.std.proofs.lemmas.Bool.{cases_eq, cases_lt}
@@ -16,11 +16,11 @@ use Rattle.elsa_history.specs.Receipts.{receipts_for, receipts_at, Rises, IsCall
 all_front : {X : Type 0} (P : X → Type 0) (xs ys : List X) → All P (xs ++ ys) → All P xs
 all_front P xs ys h k d lt = subst P (get_or-append xs ys d k lt) (h k d (omega (arith, lt, length-append xs ys)))
 
--- what holds of the first so many holds of all, if there are no more
+-- If there are at most n items, a property of each of the first n is one of each item.
 pub all_taken : {X : Type 0} (P : X → Type 0) (xs : List X) (n : ℕ) → length xs ≤ n → All P (take n xs) → All P xs
 all_taken P xs n l h = All-same P xs (take n xs) (sym (take_all n xs l)) h
 
--- a place with an item lies within the list
+-- An index with an item is below the length.
 pub get_within : {X : Type 0} (P : X → Type 0) (xs : List X) (i : ℕ) → IsSomeAnd (slice_get xs i) P → i < length xs
 get_within P [] i h = absurd h
 get_within P (x ∷ xs) zero h = omega arith
@@ -35,30 +35,30 @@ get_last : {X : Type 0} (xs : List X) (x : X) → slice_get (xs ++ x ∷ []) (le
 get_last [] x = refl
 get_last (y ∷ xs) x = get_last xs x
 
--- the item that was read at a place
+-- The item that was read at an index.
 pub here : {X : Type 0} (xs : List X) (i : ℕ) (x : X) → i < length xs → x ≡ get_or xs i x → slice_get xs i ≡ Some x
 here xs i x l e = slice_get-get_or xs i x l ∙ ap Some (sym e)
 
--- one item more than the first
+-- The first k items are the first k - 1 and the next one.
 pub take_front : {X : Type 0} (xs : List X) (k : ℕ) (x : X) → 0 < k → k ≤ length xs → x ≡ get_or xs (k - 1) x → take (k - 1) xs ++ x ∷ [] ≡ take k xs
 take_front xs k x some within is =
     let on : k - 1 + 1 ≡ k = omega (arith, some) in
     ap (λ y. take (k - 1) xs ++ y ∷ []) is ∙ sym (take_more xs (k - 1) x (omega (arith, some, within))) ∙ ap (λ n. take n xs) on
 
 -- ---- counts
--- 1 is counted at the number itself
+-- A number is counted as 1 at itself.
 pub test_at : (k n : ℕ) → k ≡ n → ◌≡◌ {A = ℕ} (cond (k == n) 1 0) 1
 test_at k n e = grind (arith, nat_tests)
 
--- and 0 at others
+-- It is counted as 0 at other numbers.
 pub test_off : (k n : ℕ) → k ≢ n → ◌≡◌ {A = ℕ} (cond (k == n) 1 0) 0
 test_off k n e = grind (arith, nat_tests)
 
--- counts add up to 0 exactly if each is 0
+-- The sum of counts is 0 if each is 0.
 pub sum_zero : {X : Type 0} (f : X → ℕ) (xs : List X) → All (λ x. f x ≡ 0) xs → sum_by f xs ≡ 0
 sum_zero f xs h = let most = sum_by-le f 0 xs (λ k d lt. let z = h k d lt in omega (arith, z)) in omega (arith, most)
 
--- where they add up to 0, each is 0
+-- If the sum is 0, each count is 0.
 pub each_zero : {X : Type 0} (f : X → ℕ) (xs : List X) → sum_by f xs ≡ 0 → All (λ x. f x ≡ 0) xs
 each_zero f xs z k d lt = let most = get_or-le-sum_by f xs k d lt in omega (arith, most, z)
 
@@ -67,7 +67,8 @@ rises_front rs r h i j d before within =
     let less = h i j d before (omega (arith, within, length-append rs (r ∷ []))) in
     omega (arith, less, ap (λ s. s.0) (get_or-append rs (r ∷ []) d i (omega (arith, before, within))), ap (λ s. s.0) (get_or-append rs (r ∷ []) d j within))
 
--- where no pass ends at a place, and none goes beyond it, no receipt is for it
+-- If no pass ends at an index, and none has a receipt for a later index, no receipt is for that
+-- index.
 none_for : {C R : Type 0} (n m : ℕ) (rs : List (ℕ × C × R)) → m ≡ n + 1 → Rises rs → All (λ q. q.0 < m) rs → EndsElsewhere n rs → receipts_for n rs ≡ 0
 none_for n m rs next rises below ends = sum_zero _ rs (λ k d lt.
     let last : (get_or rs (length rs - 1) d).0 ≢ n = rw (slice_get-get_or rs (length rs - 1) d (omega (arith, lt))) at ends in
@@ -77,8 +78,8 @@ none_for n m rs next rises below ends = sum_zero _ rs (λ k d lt.
       | inr end ↦ let same : k ≡ length rs - 1 = omega (arith, end, lt) in subst (λ i. (get_or rs i d).0 ≢ n) (sym same) last
     ]))
 
--- ---- receipts of a history and of one with an entry more
--- they are for places in it
+-- ---- receipts of a history and of one with another entry
+-- They are for indices of the history.
 pub each_below : {C R : Type 0} (eqc : C → C → Bool) (eqr : R → R → Bool) (es : List (ℕ × C × R)) (ps : List (ℕ × List (ℕ × C × R))) → All (λ p. All (IsAtPlace eqc eqr es p.0) p.1) ps → All (λ p. All (λ r. r.0 < length es) p.1) ps
 each_below eqc eqr es ps h k d lt j c less = get_within _ es (get_or (get_or ps k d).1 j c).0 (h k d lt j c less)
 
@@ -94,7 +95,7 @@ module _ {C R : Type 0} (eqc : C → C → Bool) (eqr : R → R → Bool) (es : 
       let n = (get_or ps k d).0 in let r = get_or (get_or ps k d).1 j c in
       subst (λ o. IsSomeAnd o (IsCall eqc eqr n r)) (sym (get_less es (e ∷ []) r.0 (each_below eqc eqr es ps h k d lt j c less))) (h k d lt j c less)
 
-  -- where none is for the entry, they are of the shorter one
+  -- If none is for the last entry, they belong to the shorter history.
   each_less : (ps : List (ℕ × List (ℕ × C × R))) → receipts_at (length es) ps ≡ 0 → All (λ p. All (IsAtPlace eqc eqr longer p.0) p.1) ps → All (λ p. All (IsAtPlace eqc eqr es p.0) p.1) ps
   each_less ps none h k d lt j c less =
       let n = (get_or ps k d).0 in let r = get_or (get_or ps k d).1 j c in
@@ -103,7 +104,8 @@ module _ {C R : Type 0} (eqc : C → C → Bool) (eqr : R → R → Bool) (es : 
       let low : r.0 < length es = grind (arith, nat_tests, inside, one_longer, other) in
       subst (λ o. IsSomeAnd o (IsCall eqc eqr n r)) (get_less es (e ∷ []) r.0 low) (h k d lt j c less)
 
-  -- where no pass ends at the place of the last entry, the receipts are of the history exactly if they are of the shorter one
+  -- If no pass ends at the index of the last entry, the receipts belong to the history exactly if
+  -- they belong to the shorter one.
   pub of_skipped : (ps : List (ℕ × List (ℕ × C × R))) → All (λ p. EndsElsewhere (length es) p.1) ps → AreOf eqc eqr ps es ↔ AreOf eqc eqr ps longer
   of_skipped ps elsewhere = (
     (λ a. record { once = a.once; right = each_more ps a.right; rising = a.rising }),
@@ -113,7 +115,8 @@ module _ {C R : Type 0} (eqc : C → C → Bool) (eqr : R → R → Bool) (es : 
         record { once = a.once; right = each_less ps none a.right; rising = a.rising }),
   )
 
-  -- One pass more: p, which is q with one receipt more, stands at place i of the passes, and q in its place in `left`.
+  -- Another receipt: p, which is q with another receipt, is pass i of the passes, and `left` has q
+  -- at that index.
   module _ (ps : List (ℕ × List (ℕ × C × R))) (i : ℕ) (q : ℕ × List (ℕ × C × R)) (r : C × R) (at : slice_get ps i ≡ Some (q.0, q.1 ++ (length es, r.0, r.1) ∷ [])) where
     abbrev last : ℕ × C × R
     last = (length es, r.0, r.1)
@@ -136,14 +139,14 @@ module _ {C R : Type 0} (eqc : C → C → Bool) (eqr : R → R → Bool) (es : 
         let one : receipts_for k (get_or ps i p).1 ≡ receipts_for k q.1 + cond (length es == k) 1 0 = ap (λ pass. receipts_for k pass.1) (stands p) ∙ sum_by_push (λ s. cond (s.0 == k) 1 0) q.1 last in
         omega (arith, moved, one)
 
-    -- what holds of all that are left, and of p, holds of the passes
+    -- A property of each pass of `left`, and of p, is one of each pass.
     all_back : (P : ℕ × List (ℕ × C × R) → Type 0) → All P left → P p → All P ps
     all_back P h mine k d lt = elim (cases_eq k i) [
       | inl same ↦ subst P (sym (ap (λ j. get_or ps j d) same ∙ stands d)) mine
       | inr other ↦ subst P (get_or-set_other ps i k q d other) (h k d (omega (arith, lt, length-set ps i q)))
     ]
 
-    -- without the receipt they are of the shorter history, and the receipt is the entry's
+    -- Without the receipt the passes belong to the shorter history, and the receipt is the entry's.
     of_less : AreOf eqc eqr ps longer → AreOf eqc eqr left es × IsCall eqc eqr q.0 last e
     of_less a =
         let mine : All (IsAtPlace eqc eqr longer q.0) p.1 = subst (λ pass. All (IsAtPlace eqc eqr longer pass.0) pass.1) (stands p) (a.right i p inside) in
@@ -159,7 +162,7 @@ module _ {C R : Type 0} (eqc : C → C → Bool) (eqr : R → R → Bool) (es : 
           subst (λ o. IsSomeAnd o (IsCall eqc eqr q.0 last)) (get_last es e) (subst (IsAtPlace eqc eqr longer q.0) (get_or-append_seam q.1 last [] last) its),
         )
 
-    -- with the receipt, which is the entry's, they are of the longer one
+    -- With the receipt, if it is the entry's, they belong to the longer history.
     of_more : IsCall eqc eqr q.0 last e → AreOf eqc eqr left es → AreOf eqc eqr ps longer
     of_more call a =
         let within : i < length left = omega (arith, inside, length-set ps i q) in
@@ -179,8 +182,9 @@ module _ {C R : Type 0} (eqc : C → C → Bool) (eqr : R → R → Bool) (es : 
           rising = all_back (λ pass. Rises pass.1) a.rising (all_pairs_push (λ s u. s.0 < u.0) q.1 last rise below);
         }
 
--- Where a pass's last receipt is taken: if it is the entry's, the passes are of the longer history exactly if they are now of the shorter one; if it isn't, they
--- weren't of the longer one.
+-- If a pass's last receipt is removed and it is the entry's, the passes belonged to the longer
+-- history exactly if they now belong to the shorter one; if it isn't, they didn't belong to the
+-- longer one.
 pub taken_last : {C R : Type 0} (eqc : C → C → Bool) (eqr : R → R → Bool) (ps : List (ℕ × List (ℕ × C × R))) (i : ℕ) (p q : ℕ × List (ℕ × C × R)) (n : ℕ) (r : C × R) (e : ℕ × C × R)
     → slice_get ps i ≡ Some p → IsTakenFrom n r p q → (es : List (ℕ × C × R)) → length es ≡ n
     → (IsCall eqc eqr q.0 (n, r.0, r.1) e → AreOf eqc eqr (set ps i q) es ↔ AreOf eqc eqr ps (es ++ e ∷ [])) × ((IsCall eqc eqr q.0 (n, r.0, r.1) e → ⊥) → AreOf eqc eqr ps (es ++ e ∷ []) → ⊥)
@@ -193,7 +197,7 @@ taken_last eqc eqr ps i p q n r e at (number, receipts) es is =
     )
 
 -- ---- no entries
--- passes are of the history without entries exactly if none has a receipt
+-- Passes belong to the history without entries if none has a receipt.
 pub of_nil : {C R : Type 0} (eqc : C → C → Bool) (eqr : R → R → Bool) (ps : List (ℕ × List (ℕ × C × R))) → All (λ p. p.1 ≡ []) ps → AreOf eqc eqr ps []
 of_nil {C} {R} eqc eqr ps h = record {
   once = λ i. let z : receipts_at i ps ≡ 0 = sum_zero _ ps (λ k d lt. ap (receipts_for i) (h k d lt)) in omega (arith, z);
@@ -201,7 +205,7 @@ of_nil {C} {R} eqc eqr ps h = record {
   rising = λ k d lt. subst Rises (sym (h k d lt)) (λ i j c before within. absurd (omega (arith, within)));
 }
 
--- where the history is empty, no pass has a receipt
+-- If the history is empty, no pass has a receipt.
 pub none_of_nil : {C R : Type 0} (eqc : C → C → Bool) (eqr : R → R → Bool) (ps : List (ℕ × List (ℕ × C × R))) → AreOf eqc eqr ps [] → All (λ p. p.1 ≡ []) ps
 none_of_nil {C} {R} eqc eqr ps a k d lt = by (get_or ps k d).1 (a.right k d lt)
   where

@@ -1,20 +1,22 @@
-//! A core with the list of its calls, which is legal by its type.
+//! A sequential object with the list of its calls, which is legal by its type.
 ghost use Rattle.std.specs.Prelude.{◌≡◌, [], ◌∷◌, ◌++◌, length, IfOk, OnErr};
-ghost use Rattle.elsa_words.specs.Replay.{Replays, IsRecorded};
+ghost use Rattle.elsa_specs.specs.Replay.{Replays, IsRecorded};
 
 use crate::{AtOpening, Core, Start};
-use elsa_words::Call;
+use elsa_specs::Call;
 use std::alloc::{AllocError, Allocator, Global};
 use std::marker::{Model, PhantomData};
 
-/// Calls of passes, in order: the number of the caller's pass, the command and the reply.
+/// The calls of a history, in order: the number of the caller's `RecordPass`, the command and the
+/// reply.
 pub type Entries<C, A = Global> = Vec<(u64, <C as Core>::Command, <C as Core>::Reply), A>;
 
-/// A core with all calls that were made on it, in order.
+/// A sequential object with all calls that were made on it, in order.
 ///
-/// Contracts see the pair of the core and its entries; an entry is the number of the caller's pass, the command and the
-/// reply. Each such pair is legal: the entries lead from the state with which `S` says that they start, the opening one of the
-/// core's type unless the history is a later part of another, to the core's state.
+/// Contracts see the pair of the object and its entries; an entry is the number of the caller's
+/// `RecordPass`, the command and the reply. Each such pair is legal: the entries lead from the
+/// start state that `S` defines to the object's state. The start state is the initial state of the
+/// object's type, unless the history is a later part of another one.
 #[derive(Drop)]
 pub struct History<C: Core, A: Allocator = Global, S: Start<C> = AtOpening> {
     core: C,
@@ -24,7 +26,7 @@ pub struct History<C: Core, A: Allocator = Global, S: Start<C> = AtOpening> {
 
 impl<C: Core, A: Allocator, S: Start<C>> Model for History<C, A, S> {
     ghost use Rattle.std.specs.Prelude.{ℕ, List};
-    ghost use Rattle.elsa_words.specs.Replay.{Replays};
+    ghost use Rattle.elsa_specs.specs.Replay.{Replays};
 
     ghost Value = { C × List (ℕ × C.Command × C.Reply) };
 
@@ -36,7 +38,7 @@ impl<C: Core, A: Allocator, S: Start<C>> Model for History<C, A, S> {
 }
 
 impl<C: Core, A: Allocator + Copy, S: Start<C>> History<C, A, S> {
-    /// The history of a core that was not called yet. Takes no memory.
+    /// Makes the history of an object that was not called yet. It allocates nothing.
     pub(crate) fn new(alloc: A, core: C) -> Self
         requires { C.Command.state core ≡ S.start C.Command.state C.Command.opening }
         ensures { result ≡ (core, []) }
@@ -48,7 +50,7 @@ impl<C: Core, A: Allocator + Copy, S: Start<C>> History<C, A, S> {
         }
     }
 
-    /// The core, as it ended.
+    /// Returns the object, in the state after the last call.
     pub fn core(&self) -> &C
         ensures core { result.now ≡ self.now.0 }
         ensures legal { Replays C.Command.steps (S.start C.Command.state C.Command.opening)
@@ -57,7 +59,8 @@ impl<C: Core, A: Allocator + Copy, S: Start<C>> History<C, A, S> {
         &self.core
     }
 
-    /// The calls, in order: the number of the caller's pass, the command and the reply.
+    /// Returns the calls, in order: the number of the caller's `RecordPass`, the command and the
+    /// reply.
     pub fn entries(&self) -> &[(u64, C::Command, C::Reply)]
         ensures entries { result.now ≡ self.now.1 }
         ensures legal { Replays C.Command.steps (S.start C.Command.state C.Command.opening)
@@ -66,7 +69,8 @@ impl<C: Core, A: Allocator + Copy, S: Start<C>> History<C, A, S> {
         self.entries.as_slice()
     }
 
-    /// The core, as it ended, and the calls, in order. Takes no memory.
+    /// Returns the object, in the state after the last call, and the calls, in order. It allocates
+    /// nothing.
     pub fn into_parts(self) -> (C, Entries<C, A>)
         ensures core { result.0 ≡ self.0 }
         ensures entries { result.1.items ≡ self.1 }
@@ -81,16 +85,18 @@ impl<C: Core, A: Allocator + Copy, S: Start<C>> History<C, A, S> {
         (core, entries)
     }
 
-    /// Makes room, does the command and stores its entry; returns the entry's place with the reply.
+    /// Reserves memory, applies the command and appends its entry; returns the entry's index and
+    /// the reply.
     ///
-    /// `Err` leaves the core's state and the entries.
-    #[tactic(auto, using(elsa_words::proofs::Replay::replays_more, elsa_words::proofs::Replay::recorded_last))]
+    /// # Errors
+    /// Fails if an allocation fails. The object's state and the entries are then unchanged.
+    #[tactic(auto, using(elsa_specs::proofs::Replay::replays_more, elsa_specs::proofs::Replay::recorded_last))]
     pub(crate) fn record(
         &mut self,
         number: u64,
         command: C::Command,
     ) -> Result<(usize, C::Reply), AllocError>
-        // The entry goes last, and what it says is what the core did.
+        // The entry is appended, and its command and reply are a step of the object.
         ensures place { IfOk result (λ r. r.0 ≡ length self.old.1) }
         ensures stored { IfOk result (λ r. self.new.1 ≡ self.old.1 ++ (number, command, r.1) ∷ []) }
         ensures recorded { IfOk result (λ r.
@@ -99,7 +105,7 @@ impl<C: Core, A: Allocator + Copy, S: Start<C>> History<C, A, S> {
         ensures step { IfOk result (λ r.
             C.Command.steps (C.Command.state self.old.0) command r.1 (C.Command.state self.new.0)) }
 
-        // A refusal leaves state and entries.
+        // A call that fails leaves the state and the entries unchanged.
         ensures err_state { OnErr result (C.Command.state self.new.0 ≡ C.Command.state self.old.0) }
         ensures err_entries { OnErr result (self.new.1 ≡ self.old.1) }
     {

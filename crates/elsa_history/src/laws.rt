@@ -1,16 +1,20 @@
-//! What callers of a recorder may rely on beyond one call: each law is the contract of a function that only makes public
-//! calls.
+//! Laws of recorders that callers may rely on beyond one call: each is the contract of a function
+//! that makes only public calls.
 ghost use Rattle.std.specs.Prelude.{◌≡◌, ◌++◌, ◌⊎◌, ℕ, List, length, IfErr, IfOk, IfSome};
 ghost use Rattle.elsa_history.specs.Receipts.{IsOneCall};
-ghost use Rattle.elsa_words.specs.Replay.{Replays};
+ghost use Rattle.elsa_specs.specs.Replay.{Replays};
 
 use crate::{AtOpening, CloseFault, Core, Entries, History, ReceiptsFault, Recorder, Start};
 use std::alloc::{AllocError, Allocator};
 use std::marker::Brand;
 use std::sync::Wait;
 
-/// A recording of one command by one caller. Where it closes, the history is that one call, and legal from the opening
-/// content. Where it doesn't, the fault hands out a legal history: no contract knows that nobody else called the recorder.
+/// Records one command of one caller. If the recording closes, the history is that one call, and it
+/// is legal from the initial state. If it doesn't close, the error contains a legal history: no
+/// contract excludes that another thread called the recorder.
+///
+/// # Errors
+/// Fails if an allocation fails.
 pub fn recorded_alone<C: Core + Drop, A: Allocator + Copy, R: Wait>(
     rt: &R,
     alloc: A,
@@ -19,7 +23,7 @@ pub fn recorded_alone<C: Core + Drop, A: Allocator + Copy, R: Wait>(
     command: C::Command,
 ) -> Result<Result<History<C, A>, CloseFault<C, A>>, AllocError>
     requires { C.Command.state core ≡ C.Command.opening }
-    ensures one { IfOk result (λ closed. IfOk closed (λ h. length h.1 ≡ 1)) }
+    ensures one_entry { IfOk result (λ closed. IfOk closed (λ h. length h.1 ≡ 1)) }
     ensures call { IfOk result (λ closed.
         IfOk closed (λ h. IsOneCall C.Command.eq C.Reply.eq number command h.1)) }
     ensures legal { IfOk result (λ closed.
@@ -39,7 +43,8 @@ pub fn recorded_alone<C: Core + Drop, A: Allocator + Copy, R: Wait>(
     Ok(recorder.close(passes))
 }
 
-/// A part of a history, of one command by one caller: how the core ended, and the calls. `None` where it doesn't close.
+/// Records a part of a history, one command of one caller, and returns the object in its last
+/// state, and the calls. `None` if the part doesn't close.
 fn recorded_part<C: Core + Drop, A: Allocator + Copy, R: Wait, S: Start<C>>(
     rt: &R,
     alloc: A,
@@ -65,8 +70,12 @@ fn recorded_part<C: Core + Drop, A: Allocator + Copy, R: Wait, S: Start<C>>(
     Ok(Some(history.into_parts()))
 }
 
-/// A history in two parts, of one command each: the calls of the first part, and those of the second behind how the core
-/// ended. Where both close, the calls side by side are one legal history from the opening content. `None` where one doesn't.
+/// Records a history in two parts, of one command each, and returns the calls of the first part,
+/// the object in its last state, and the calls of the second part. If both parts close, their calls
+/// together are one legal history from the initial state. `None` if a part doesn't close.
+///
+/// # Errors
+/// Fails if an allocation fails.
 #[tactic(auto, using(crate::proofs::Parts::replays_append))]
 pub fn recorded_in_parts<C: Core + Drop, A: Allocator + Copy, R: Wait>(
     rt: &R,
@@ -79,7 +88,7 @@ pub fn recorded_in_parts<C: Core + Drop, A: Allocator + Copy, R: Wait>(
     requires { C.Command.state core ≡ C.Command.opening }
     ensures first { IfOk result (λ closed. IfSome closed (λ parts.
         IsOneCall C.Command.eq C.Reply.eq number first parts.0.items)) }
-    ensures second { IfOk result (λ closed. IfSome closed (λ parts.
+    ensures second_part { IfOk result (λ closed. IfSome closed (λ parts.
         IsOneCall C.Command.eq C.Reply.eq number second parts.1.1.items)) }
     ensures legal { IfOk result (λ closed. IfSome closed (λ parts.
         Replays C.Command.steps C.Command.opening (parts.0.items ++ parts.1.1.items)

@@ -1,12 +1,17 @@
-//! A recorder: any sequential object under a lock, with a history of all calls of all threads that replays.
+//! A recorder: any sequential object under a lock, with the history of all calls of all threads,
+//! which can be replayed.
 //!
-//! The commands of a [`Core`] say what its calls mean as steps from state to state. [`Recorder`] holds one under a lock with the list of
-//! its calls, and the type of what the lock holds says that the list is legal: from the opening state of the core's type
-//! each reply follows from the entries before it, and they leave the core's state. So that holds whenever the lock is
-//! free, whatever the threads did. Each caller has a [`RecordPass`], which gains a receipt with each accepted call.
-//! [`Recorder::close`] ends the recording and says whether the receipts of the passes are the history: if they are, each
-//! caller's calls stand in the order in which it made them, each with the reply that it was given. If they aren't, it says
-//! whether a pass is missing or one of another recorder is among them.
+//! The commands of a [`Core`], a sequential object, define what its calls mean, as steps from state
+//! to state. A [`Recorder`] has one object under a lock, with the list of its calls, and the type
+//! of the locked value states that the list is legal: from the initial state of the object's type,
+//! each reply follows from the entries before it, and the entries lead to the object's state. So
+//! the history is legal whenever the lock is free, in any order of the threads' calls. Each caller
+//! has a [`RecordPass`], which receives a receipt for each call that succeeds.
+//!
+//! [`Recorder::close`] ends the recording and reports whether the receipts are the history. If they
+//! are, each caller's calls are in the history in the order in which the caller made them, each
+//! with the reply that the caller received. If they aren't, the error shows whether a `RecordPass`
+//! is missing or belongs to another recorder.
 #![tactic(auto)]
 
 mod history_state;
@@ -16,7 +21,7 @@ mod record_pass;
 mod recorder;
 mod vec_core;
 
-pub use elsa_words::Call;
+pub use elsa_specs::Call;
 pub use history_state::{Entries, History};
 pub use map_core::{MapCommand, MapReply};
 pub use record_pass::RecordPass;
@@ -24,32 +29,34 @@ pub use recorder::{CloseFault, ReceiptsFault, Recorder};
 use std::marker::Brand;
 pub use vec_core::{VecCommand, VecReply};
 
-/// A sequential object whose calls a recorder writes down.
+/// A sequential object whose calls a recorder records.
 pub trait Core: Sized {
-    /// A call with its arguments; its type says what it means.
+    /// A call as a value: its arguments. Its type defines what it means.
     type Command: Copy + Eq + Call<Self, Self::Reply, ()>;
 
-    /// An answer.
+    /// The reply to a call.
     type Reply: Copy + Eq;
 }
 
 /// The state with which a history starts.
 ///
-/// A history is closed in parts by a function over any `S: Start<C>`, which records one part and is called at `Brand` for each:
-/// the caller's proof picks the state in which the part before it left the core ([`laws::recorded_in_parts`]).
+/// To close a history in parts, write a function over any `S: Start<C>` that records one part, and
+/// call it at `Brand` for each part: the caller's proof chooses the state in which the part before
+/// it left the object ([`laws::recorded_in_parts`]).
 pub trait Start<C> {
-    /// The state, of what the state of each core is, and of the opening one.
+    /// The start state, given the function that returns the state of an object, and the initial
+    /// state.
     ghost start: { {X : Type 0} → (C → X) → X → X };
 }
 
-/// The opening state of the core's type.
+/// The initial state of the object's type.
 pub struct AtOpening;
 
 impl<C> Start<C> for AtOpening {
     ghost start = { λ state opening. opening };
 }
 
-// A call at it picks the state.
+// The caller's proof of a call at `Brand` chooses the state.
 impl<C> Start<C> for Brand {
     ghost start = { λ state opening. opening };
 }

@@ -1,34 +1,34 @@
-//! Maps as cores of a recorder: their calls as commands and replies.
+//! Maps as sequential objects of a recorder: their calls as commands and replies.
 
 use crate::Core;
 use elsa_locks::map::{MapState, TreeState};
-use elsa_words::Call;
+use elsa_specs::Call;
 use std::alloc::{AllocError, Allocator};
 use std::hash::{BuildHasherDefault, FoldHasher, Hash};
 
 /// A call on a map.
-#[derive(Clone, Copy, PartialEq, Eq)]
+#[derive(Clone, Copy, Debug, PartialEq, Eq)]
 pub enum MapCommand<K, V> {
-    /// The key gets the value unless it is present.
+    /// Inserts the value unless the map has the key.
     Insert(K, V),
-    /// The same, asking also whether the key was new.
+    /// Inserts the value unless the map has the key; the reply also has whether the key was new.
     InsertNew(K, V),
-    /// Asks for the value at the key.
+    /// Looks the key up.
     Get(K),
-    /// Asks for the number of entries.
+    /// Reads the number of entries.
     Len,
 }
 
 /// A reply of a map.
-#[derive(Clone, Copy, PartialEq, Eq)]
+#[derive(Clone, Copy, Debug, PartialEq, Eq)]
 pub enum MapReply<V> {
-    /// To `Insert`: the value that the key has afterwards.
+    /// The reply to `Insert`: the value that the key then has.
     Value(V),
-    /// To `InsertNew`: the value that the key has afterwards, and whether the key was new.
+    /// The reply to `InsertNew`: the value that the key then has, and whether the key was new.
     ValueNew(V, bool),
-    /// To `Get`: the value, if the key is present.
+    /// The reply to `Get`: the value, if the map has the key.
     Found(Option<V>),
-    /// To `Len`: the number of entries.
+    /// The reply to `Len`: the number of entries.
     Count(usize),
 }
 
@@ -38,7 +38,7 @@ impl<K: Copy + Eq + Hash, V: Copy + Eq, A: Allocator + Copy> Call<
     (),
 > for MapCommand<K, V> {
     ghost use Rattle.std.specs.Prelude.{None, Option, ⊤};
-    ghost use Rattle.elsa_words.specs.FirstWins.{value_at};
+    ghost use Rattle.elsa_specs.specs.FirstWins.{value_at};
     ghost use Rattle.elsa_history.specs.MapStep.{MapStep};
 
     ghost State = { K → Option V };
@@ -59,11 +59,11 @@ impl<K: Copy + Eq + Hash, V: Copy + Eq, A: Allocator + Copy> Call<
         match self {
             MapCommand::Insert(key, value) => {
                 let there = map.get_copy_or_insert(key, value)?;
-                Ok(MapReply::Value(there))
+                Ok(MapReply::Value(there.value))
             }
             MapCommand::InsertNew(key, value) => {
-                let (there, new) = map.get_copy_or_insert_new(key, value)?;
-                Ok(MapReply::ValueNew(there, new))
+                let done = map.get_copy_or_insert(key, value)?;
+                Ok(MapReply::ValueNew(done.value, done.is_new))
             }
             MapCommand::Get(key) => Ok(MapReply::Found(map.get_copy(&key))),
             MapCommand::Len => Ok(MapReply::Count(map.len())),
@@ -82,7 +82,7 @@ impl<K: Copy + Ord, V: Copy + Eq, A: Allocator + Copy> Call<TreeState<K, V, A>, 
     for MapCommand<K, V> {
     ghost use Rattle.std.specs.Prelude.{None, Option, ⊤};
     ghost use Rattle.std.specs.Ordering.{eq_by_cmp};
-    ghost use Rattle.elsa_words.specs.FirstWins.{value_at};
+    ghost use Rattle.elsa_specs.specs.FirstWins.{value_at};
     ghost use Rattle.elsa_history.specs.MapStep.{MapStep};
 
     ghost State = { K → Option V };
@@ -99,12 +99,12 @@ impl<K: Copy + Ord, V: Copy + Eq, A: Allocator + Copy> Call<TreeState<K, V, A>, 
     fn apply(self, map: &mut TreeState<K, V, A>) -> Result<MapReply<V>, AllocError> {
         match self {
             MapCommand::Insert(key, value) => {
-                let (there, _) = map.get_copy_or_insert_new(key, value)?;
-                Ok(MapReply::Value(there))
+                let found = map.get_copy_or_insert(key, value)?;
+                Ok(MapReply::Value(found.value))
             }
             MapCommand::InsertNew(key, value) => {
-                let (there, new) = map.get_copy_or_insert_new(key, value)?;
-                Ok(MapReply::ValueNew(there, new))
+                let done = map.get_copy_or_insert(key, value)?;
+                Ok(MapReply::ValueNew(done.value, done.is_new))
             }
             MapCommand::Get(key) => Ok(MapReply::Found(map.get_copy(&key))),
             MapCommand::Len => Ok(MapReply::Count(map.len())),

@@ -1,16 +1,18 @@
-//! The replies that a caller got, and whether that is the history.
+//! The receipts of a caller, and whether the receipts of all callers are the history.
 ghost use Rattle.std.specs.Prelude.{◌≡◌, ℕ, List, [], ◌∷◌, ◌++◌, length, ◌+◌, ◌<◌, ◌≤◌, All, IfOk, IfSome, IfNone, IsSomeAnd, OnErr, MatchOption, slice_get, true, false, ◌↔◌};
 ghost use Rattle.elsa_history.specs.Receipts.{AreOf, EndsElsewhere, IsCall, IsTakenFrom, KnowsWhoLacks, receipt_count, receipts_at, receipts_for};
-ghost use Rattle.elsa_words.specs.Replay.{IsRecorded};
+ghost use Rattle.elsa_specs.specs.Replay.{IsRecorded};
 
 use crate::{Core, History, Start};
 use std::alloc::{AllocError, Allocator, Global};
 use std::marker::{Model, PhantomData};
 use std::sync::{RwLock, Wait};
 
-/// The replies that one caller of a recorder got: a receipt for each of its accepted calls, in the order of the calls.
+/// The receipts of one caller of a recorder: one for each call that succeeded, in the order of the
+/// calls.
 ///
-/// Contracts see the pass's number with its receipts; a receipt is the place in the history, the command and the reply.
+/// Contracts see the number of the `RecordPass` and its receipts; a receipt is the index in the
+/// history, the command and the reply.
 #[derive(Drop)]
 pub struct RecordPass<C: Core, A: Allocator = Global> {
     number: u64,
@@ -27,7 +29,7 @@ impl<C: Core, A: Allocator> Model for RecordPass<C, A> {
 }
 
 impl<C: Core, A: Allocator + Copy> RecordPass<C, A> {
-    /// A pass of that number without receipts. Takes no memory.
+    /// Makes a `RecordPass` with this number and no receipts. It allocates nothing.
     pub(crate) fn new(alloc: A, number: u64) -> Self
         ensures { result ≡ (number, []) }
     {
@@ -38,32 +40,33 @@ impl<C: Core, A: Allocator + Copy> RecordPass<C, A> {
         }
     }
 
-    /// The number that the pass was made with.
+    /// Returns the number with which the `RecordPass` was made.
     pub fn number(&self) -> u64
         ensures { result ≡ self.now.0 }
     {
         self.number
     }
 
-    /// The receipts, in the order of the calls: the place in the history, the command and the reply.
+    /// Returns the receipts, in the order of the calls: the index in the history, the command and
+    /// the reply.
     pub fn receipts(&self) -> &[(usize, C::Command, C::Reply)]
         ensures { result.now ≡ self.now.1 }
     {
         self.receipts.as_slice()
     }
 
-    /// Makes room for a receipt, does the command under the lock, and stores the receipt.
+    /// Reserves memory for a receipt, applies the command under the lock, and stores the receipt.
     pub(crate) fn call<R: Wait, S: Start<C>>(
         &mut self,
         rt: &R,
         lock: &RwLock<History<C, A, S>>,
         command: C::Command,
     ) -> Result<C::Reply, AllocError>
-        ensures ok { IfOk result (λ reply.
+        ensures recorded { IfOk result (λ reply.
             (place : ℕ) × (self.new ≡ (self.old.0, self.old.1 ++ (place, command, reply) ∷ []))
             × IsRecorded C.Command.steps (S.start C.Command.state C.Command.opening) place
             (self.old.0, command, reply)) }
-        ensures err { OnErr result (self.new ≡ self.old) }
+        ensures refused { OnErr result (self.new ≡ self.old) }
     {
         self.receipts.reserve(1)?;
         let (place, reply) = lock.write(rt).record(self.number, command)?;
@@ -71,18 +74,18 @@ impl<C: Core, A: Allocator + Copy> RecordPass<C, A> {
         Ok(reply)
     }
 
-    /// Whether the pass has no receipt.
+    /// Returns whether there is no receipt.
     fn is_empty(&self) -> bool
-        ensures yes { result ≡ true → self.now.1 ≡ [] }
-        ensures no { result ≡ false → self.now.1 ≡ [] → ⊥ }
+        ensures when_true { result ≡ true → self.now.1 ≡ [] }
+        ensures when_false { result ≡ false → self.now.1 ≡ [] → ⊥ }
     {
         self.receipts.is_empty()
     }
 
-    /// Whether the pass's last receipt is for the place.
+    /// Returns whether the last receipt is for the index `place`.
     fn ends_at(&self, place: usize) -> bool
-        ensures yes { result ≡ true → EndsElsewhere place self.now.1 → ⊥ }
-        ensures no { result ≡ false → EndsElsewhere place self.now.1 }
+        ensures when_true { result ≡ true → EndsElsewhere place self.now.1 → ⊥ }
+        ensures when_false { result ≡ false → EndsElsewhere place self.now.1 }
     {
         match self.receipts.last() {
             Some(last) => last.0 == place,
@@ -90,7 +93,7 @@ impl<C: Core, A: Allocator + Copy> RecordPass<C, A> {
         }
     }
 
-    /// Takes the last receipt, if it is for the place.
+    /// Removes and returns the last receipt, if it is for the index `place`.
     fn take_last(&mut self, place: usize) -> Option<(C::Command, C::Reply)>
         ensures { MatchOption result ((self.new ≡ self.old) × EndsElsewhere place self.old.1) (
             λ call. IsTakenFrom place call self.old self.new) }
@@ -108,7 +111,7 @@ impl<C: Core, A: Allocator + Copy> RecordPass<C, A> {
     }
 }
 
-/// Whether the call is the one that the entry tells of.
+/// Returns whether the call is that of the entry.
 fn is_call<C: Core>(
     number: u64,
     place: usize,
@@ -129,24 +132,24 @@ fn is_call<C: Core>(
     call.1 == entry.2
 }
 
-/// The owner of a place for which no pass has a receipt.
+/// The owner of an index for which no pass has a receipt.
 const NOBODY: usize = usize::MAX;
 
-/// What was found of the receipt for an entry.
+/// The result of the search for the receipt of an entry.
 #[derive(Drop)]
 enum Found {
-    /// It was taken from its pass.
+    /// It was removed from its pass.
     Taken,
-    /// No pass ends with a receipt for the entry's place.
+    /// No pass ends with a receipt for the entry's index.
     Nowhere,
-    /// A pass ended with a receipt for that place which isn't the entry's.
+    /// A pass ended with a receipt for that index that differs from the entry.
     Wrong,
 }
 
-/// Which pass of the list has the receipt for the place, the last place that is left.
+/// Returns the pass whose last receipt is for the index `place`, the last index that remains.
 ///
-/// The owner that was noted is looked at first. The others are, one by one, only where it doesn't end at the place, or none was noted since
-/// there was no memory for it.
+/// The recorded owner is tried first. The others are tried one by one only if the owner doesn't end
+/// at that index, or if no owners were recorded because an allocation failed.
 fn find_pass<C: Core, A: Allocator + Copy>(
     passes: &Vec<RecordPass<C, A>, A>,
     owner: Option<usize>,
@@ -173,7 +176,8 @@ fn find_pass<C: Core, A: Allocator + Copy>(
     None
 }
 
-/// Takes the receipt of the entry at the place, the last entry that is left, from the pass that has it.
+/// Removes the receipt of the entry at the index `place`, the last entry that remains, from the
+/// pass that has it.
 fn take_receipt<C: Core, A: Allocator + Copy>(
     passes: &mut Vec<RecordPass<C, A>, A>,
     owner: Option<usize>,
@@ -182,7 +186,7 @@ fn take_receipt<C: Core, A: Allocator + Copy>(
 ) -> Found
     requires { owner ≡ Some NOBODY → receipts_at place passes.old.items ≡ 0 }
 
-    // The receipt was taken: the passes lack it alone.
+    // The receipt was removed, and nothing else.
     ensures taken { result ≡ Found.Taken → (before : List (ℕ × C.Command × C.Reply)) →
         length before ≡ place →
         (AreOf C.Command.eq C.Reply.eq passes.new.items before
@@ -190,14 +194,14 @@ fn take_receipt<C: Core, A: Allocator + Copy>(
     ensures count { result ≡ Found.Taken →
         receipt_count passes.new.items + 1 ≡ receipt_count passes.old.items }
 
-    // No pass has one, and they stay.
+    // No pass has a receipt for the entry, and the passes are unchanged.
     ensures nowhere { result ≡ Found.Nowhere → (before : List (ℕ × C.Command × C.Reply)) →
         length before ≡ place →
         (AreOf C.Command.eq C.Reply.eq passes.old.items before
         ↔ AreOf C.Command.eq C.Reply.eq passes.old.items (before ++ entry.now ∷ [])) }
     ensures same { result ≡ Found.Nowhere → passes.new.items ≡ passes.old.items }
 
-    // No other place gains a receipt; one that isn't the entry's is wrong.
+    // No other index gains a receipt; a receipt that differs from the entry is wrong.
     ensures fewer { result ≡ Found.Taken → (other : ℕ) →
         receipts_at other passes.new.items ≤ receipts_at other passes.old.items }
     ensures wrong { result ≡ Found.Wrong → (before : List (ℕ × C.Command × C.Reply)) →
@@ -218,11 +222,11 @@ fn take_receipt<C: Core, A: Allocator + Copy>(
     }
 }
 
-/// Whether no receipt is left.
+/// Returns whether no receipt remains.
 fn are_empty<C: Core, A: Allocator + Copy>(passes: &Vec<RecordPass<C, A>, A>) -> bool
-    ensures yes { result ≡ true → AreOf C.Command.eq C.Reply.eq passes.now.items [] }
+    ensures when_true { result ≡ true → AreOf C.Command.eq C.Reply.eq passes.now.items [] }
     ensures count { result ≡ true → receipt_count passes.now.items ≡ 0 }
-    ensures no { result ≡ false → AreOf C.Command.eq C.Reply.eq passes.now.items [] → ⊥ }
+    ensures when_false { result ≡ false → AreOf C.Command.eq C.Reply.eq passes.now.items [] → ⊥ }
 {
     for i in 0..passes.len() {
         let pass = &passes[i];
@@ -233,7 +237,7 @@ fn are_empty<C: Core, A: Allocator + Copy>(passes: &Vec<RecordPass<C, A>, A>) ->
     true
 }
 
-/// Notes the owner at the place of each of its receipts.
+/// Records the owner at the index of each of its receipts.
 fn note_owner<C, R, A: Allocator>(
     owners: &mut Vec<usize, A>,
     owner: usize,
@@ -252,9 +256,11 @@ fn note_owner<C, R, A: Allocator>(
     }
 }
 
-/// For each place of the history the pass in the list that has a receipt for it, or `NOBODY`.
+/// Returns, for each index of the history, the pass in the list that has a receipt for it, or
+/// `NOBODY`.
 ///
-/// Empty where there are fewer than two passes, or no memory: 8 bytes a place.
+/// The result is empty if there are fewer than two passes, or if the allocation of 8 bytes for each
+/// index fails.
 fn owners_of<C: Core, A: Allocator + Copy>(
     alloc: A,
     passes: &Vec<RecordPass<C, A>, A>,
@@ -274,11 +280,13 @@ fn owners_of<C: Core, A: Allocator + Copy>(
     owners
 }
 
-/// How many receipts the passes have, if they are of the history with these entries.
+/// Returns the number of receipts of the passes, if they are receipts of the history with these
+/// entries.
 ///
-/// It goes from the last entry to the first, and takes each entry's receipt, if it has one, from the end of the pass that
-/// has it. Then no receipt is left exactly if all were of the history. Who has which is noted first, in one pass over the receipts; where
-/// there is no memory for that, the passes are looked at one by one for each entry.
+/// It visits the entries from the last to the first, and removes each entry's receipt, if there is
+/// one, from the end of the pass that has it. At the end no receipt remains exactly if all belong
+/// to the history. The owner of each receipt is recorded before, in one walk over the receipts; if
+/// there is no memory for that, the passes are searched one by one for each entry.
 pub(crate) fn count_receipts<C: Core, A: Allocator + Copy>(
     alloc: A,
     mut passes: Vec<RecordPass<C, A>, A>,

@@ -1,33 +1,68 @@
-//! A core under a lock, with the history of its calls.
+//! A sequential object under a lock, with the history of its calls.
 ghost use Rattle.std.specs.Prelude.{◌≡◌, ℕ, List, [], ◌∷◌, ◌++◌, ◌⊎◌, length, IfOk, IfErr, OnErr};
-ghost use Rattle.elsa_words.specs.Replay.{Replays, IsRecorded};
+ghost use Rattle.elsa_specs.specs.Replay.{Replays, IsRecorded};
 ghost use Rattle.elsa_history.specs.Receipts.{AreOf, AreReceipts, LacksAReceipt, receipt_count};
 
 use crate::record_pass::count_receipts;
 use crate::{AtOpening, Core, History, RecordPass, Start};
 use std::alloc::{AllocError, Allocator, Global};
+use std::error::Error;
+use std::fmt;
 use std::sync::{RwLock, Wait};
 
-/// How the receipts of the passes differ from the history.
-#[derive(Copy, Clone, Drop)]
+/// How the receipts differ from the history.
+#[derive(Copy, Clone, Debug, PartialEq, Eq, Drop)]
 pub enum ReceiptsFault {
-    /// A pass is missing: the receipts are of this history, and an entry has none.
+    /// A `RecordPass` is missing: the receipts belong to this history, and an entry has none.
     MissingPass,
-    /// A pass of another recorder is among them: a receipt isn't the entry at its place and of its pass's number, an entry
-    /// has two, or a pass's places don't rise.
+    /// A `RecordPass` belongs to another recorder: a receipt differs from the entry at its index or
+    /// has another caller's number, an entry has two receipts, or the indices of a `RecordPass`
+    /// don't increase.
     ForeignPass,
 }
 
-/// Why a recorder couldn't be closed with the passes that were given.
+/// The error of [`Recorder::close`]: the given receipts aren't the history.
 #[derive(Drop)]
 pub enum CloseFault<C: Core, A: Allocator = Global, S: Start<C> = AtOpening> {
-    /// The receipts of the passes aren't the history, which is handed out and is legal all the same.
+    /// How the receipts differ, and the history, which is legal nevertheless.
     Receipts(ReceiptsFault, History<C, A, S>),
 }
 
-/// A core that threads share, with the history of all calls on it.
+impl fmt::Display for ReceiptsFault {
+    fn fmt<W: fmt::Write>(&self, f: &mut fmt::Formatter<W>) -> fmt::Result {
+        f.pad(match self {
+            ReceiptsFault::MissingPass =>
+                "a pass is missing: an entry of the history has no receipt",
+            ReceiptsFault::ForeignPass => "a pass of another recorder is among them",
+        })
+    }
+}
+
+impl Error for ReceiptsFault {}
+
+/// Prints no history: it can be long.
+impl<C: Core, A: Allocator, S: Start<C>> fmt::Debug for CloseFault<C, A, S> {
+    fn fmt<W: fmt::Write>(&self, f: &mut fmt::Formatter<W>) -> fmt::Result {
+        f.pad(match self {
+            CloseFault::Receipts(ReceiptsFault::MissingPass, _) => "Receipts(MissingPass, ..)",
+            CloseFault::Receipts(ReceiptsFault::ForeignPass, _) => "Receipts(ForeignPass, ..)",
+        })
+    }
+}
+
+impl<C: Core, A: Allocator, S: Start<C>> fmt::Display for CloseFault<C, A, S> {
+    fn fmt<W: fmt::Write>(&self, f: &mut fmt::Formatter<W>) -> fmt::Result {
+        let CloseFault::Receipts(fault, _) = self;
+        fmt::Display::fmt(fault, f)
+    }
+}
+
+impl<C: Core + Drop, A: Allocator, S: Start<C>> Error for CloseFault<C, A, S> {}
+
+/// A sequential object that threads share, with the history of all calls on it.
 ///
-/// What the lock holds is a [`History`], which is legal by its type: so the history is legal whenever the lock is free.
+/// The locked value is a [`History`], which is legal by its type: so the history is legal whenever
+/// the lock is free.
 #[derive(Drop)]
 pub struct Recorder<C: Core, A: Allocator = Global, S: Start<C> = AtOpening> {
     lock: RwLock<History<C, A, S>>,
@@ -35,7 +70,8 @@ pub struct Recorder<C: Core, A: Allocator = Global, S: Start<C> = AtOpening> {
 }
 
 impl<C: Core, A: Allocator + Copy> Recorder<C, A> {
-    /// A recorder of a core in the opening state of its type. Takes no memory and no lock.
+    /// Makes a recorder of an object in the initial state of its type. It allocates nothing and
+    /// takes no lock.
     pub fn new(alloc: A, core: C) -> Self
         requires { C.Command.state core ≡ C.Command.opening }
     {
@@ -44,8 +80,8 @@ impl<C: Core, A: Allocator + Copy> Recorder<C, A> {
 }
 
 impl<C: Core, A: Allocator + Copy, S: Start<C>> Recorder<C, A, S> {
-    /// A recorder of a core in the state with which `S` says that the history starts, as the core of an earlier part. Takes no memory
-    /// and no lock.
+    /// Makes a recorder of an object in the start state that `S` defines, as the object of an
+    /// earlier part. It allocates nothing and takes no lock.
     pub fn with_start(alloc: A, core: C) -> Self
         requires { C.Command.state core ≡ S.start C.Command.state C.Command.opening }
     {
@@ -55,54 +91,76 @@ impl<C: Core, A: Allocator + Copy, S: Start<C>> Recorder<C, A, S> {
         }
     }
 
-    /// A pass of that number without receipts. Takes no memory and no lock.
+    /// Makes a `RecordPass` with this number and no receipts. It allocates nothing and takes no
+    /// lock.
     ///
-    /// Callers that want to be told apart in the history choose different numbers.
+    /// Callers that are to be distinguished in the history choose different numbers.
     pub fn pass(&self, number: u64) -> RecordPass<C, A>
         ensures { result ≡ (number, []) }
     {
         RecordPass::new(self.alloc, number)
     }
 
-    /// Does the command and returns its reply. The history gains one entry and the pass the receipt for it. May wait.
+    /// Applies the command and returns its reply. The history gains one entry, and `pass` receives
+    /// the receipt for it.
     ///
-    /// What a contract can say of the history: some legal one has this entry at the receipt's place. [`Self::close`] says whether
-    /// it is this recorder's.
+    /// The contract states that some legal history has this entry at the receipt's index. Whether
+    /// it is this recorder's history is the result of [`Self::close`].
     ///
-    /// The order is: make room for the receipt; take the lock; make room in the history; apply; store. `Err` where a room
-    /// or what the command needs couldn't be had; then neither an entry nor a receipt is added.
+    /// The order is: reserve memory for the receipt; take the lock; reserve memory in the history;
+    /// apply; store.
+    ///
+    /// # Errors
+    /// Fails if an allocation fails, of the receipt, of the entry, or of the command. Neither an
+    /// entry nor a receipt is then added.
+    ///
+    /// # Blocks
+    /// While another thread's call has the lock.
     pub fn call<R: Wait>(
         &self,
         rt: &R,
         pass: &mut RecordPass<C, A>,
         command: C::Command,
     ) -> Result<C::Reply, AllocError>
-        ensures ok { IfOk result (λ reply.
+        ensures recorded { IfOk result (λ reply.
             (place : ℕ) × (pass.new ≡ (pass.old.0, pass.old.1 ++ (place, command, reply) ∷ []))
             × IsRecorded C.Command.steps (S.start C.Command.state C.Command.opening) place
             (pass.old.0, command, reply)) }
-        ensures err { OnErr result (pass.new ≡ pass.old) }
+        ensures refused { OnErr result (pass.new ≡ pass.old) }
     {
         pass.call(rt, &self.lock, command)
     }
 
-    /// Ends the recording. `Ok` exactly if the receipts of the passes are the history; `CloseFault` hands it out otherwise,
-    /// and says whether a pass is missing or one of another recorder is among them. Where both is so, it says the latter.
+    /// Ends the recording, and returns the history if the receipts are the history. It takes no
+    /// lock, since the caller owns the recorder.
     ///
-    /// Takes no lock, since the owner has the recorder alone. With two passes or more it asks for 8 bytes an entry, to note who has its
-    /// receipt: entries plus receipts. Where that is refused, or a pass is of another recorder: entries times passes at most.
+    /// # Errors
+    /// Fails exactly if the receipts aren't the history. [`CloseFault`] contains the history, and
+    /// shows whether a `RecordPass` is missing or belongs to another recorder; if both are true, it
+    /// shows the latter.
+    ///
+    /// # Allocates
+    /// 8 bytes for each entry, if there are two `RecordPass` or more, to record which of them has
+    /// the entry's receipt.
+    ///
+    /// # Cost
+    /// The number of entries plus the number of receipts. If that allocation fails, or if a
+    /// `RecordPass` belongs to another recorder: at most the number of entries times the number of
+    /// `RecordPass`.
     pub fn close(
         self,
         passes: Vec<RecordPass<C, A>, A>,
     ) -> Result<History<C, A, S>, CloseFault<C, A, S>>
-        // The receipts are the history, so it has one entry for each accepted call of these passes.
-        ensures ok { IfOk result (λ h. AreReceipts C.Command.eq C.Reply.eq passes.items h.1) }
+        // The receipts are the history, so it has one entry for each call of these passes that
+        // succeeded.
+        ensures recorded { IfOk result (λ h. AreReceipts C.Command.eq C.Reply.eq passes.items h.1) }
         ensures count { IfOk result (λ h. length h.1 ≡ receipt_count passes.items) }
         ensures legal { IfOk result (λ h.
             Replays C.Command.steps (S.start C.Command.state C.Command.opening) h.1
             (C.Command.state h.0)) }
 
-        // The history is legal, and the receipts aren't that history: an entry has none, or they aren't even of it.
+        // The history is legal, and the receipts aren't that history: an entry has none, or a
+        // receipt doesn't belong to it.
         ensures fault { IfErr result (λ f.
             (h : C × List (ℕ × C.Command × C.Reply))
             × ((f ≡ CloseFault.Receipts ReceiptsFault.MissingPass h)

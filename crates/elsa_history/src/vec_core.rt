@@ -1,29 +1,29 @@
-//! The list as a core of a recorder: its calls as commands and replies.
+//! The list as a sequential object of a recorder: its calls as commands and replies.
 
 use crate::Core;
 use elsa_locks::vec::VecState;
-use elsa_words::Call;
+use elsa_specs::Call;
 use std::alloc::{AllocError, Allocator};
 
 /// A call on a list.
-#[derive(Clone, Copy, PartialEq, Eq)]
+#[derive(Clone, Copy, Debug, PartialEq, Eq)]
 pub enum VecCommand<V> {
-    /// Puts the item at the end.
+    /// Appends the item.
     Push(V),
-    /// Asks for the item at the place.
+    /// Looks the item at the index up.
     Get(usize),
-    /// Asks for the number of items.
+    /// Reads the number of items.
     Len,
 }
 
 /// A reply of a list.
-#[derive(Clone, Copy, PartialEq, Eq)]
+#[derive(Clone, Copy, Debug, PartialEq, Eq)]
 pub enum VecReply<V> {
-    /// To `Push`: the place of the item, counted from 0.
+    /// The reply to `Push`: the index of the item.
     Place(usize),
-    /// To `Get`: the item, if there is one at the place.
+    /// The reply to `Get`: the item, if there is one at the index.
     Found(Option<V>),
-    /// To `Len`: the number of items.
+    /// The reply to `Len`: the number of items.
     Count(usize),
 }
 

@@ -1,4 +1,4 @@
--- What an index set holds when one more value was collected.
+-- The content of an index set after another value was collected.
 use Rattle.std.proofs.Common.{Some, None, Option, MatchOption, ℕ, length, position, slice_get, get_or, All, map, ◌≡◌, Bool, true, false, if◌then◌else◌, List, [], ◌∷◌, ◌++◌, refl, sym, ap, subst, ◌∙◌, append-nil}
 use Rattle.std.specs.Cmp.{IsEquivalence}
 use Rattle.std.specs.List.{list_any}
@@ -7,28 +7,28 @@ use Rattle.std.proofs.lemmas.List.Elements.{All-nil, All-push}
 use Rattle.std.proofs.lemmas.List.Folds.{list_any_at}
 use Rattle.std.proofs.lemmas.List.Quantifiers.{position-Some}
 use Rattle.std.proofs.lemmas.Option.{get_or_from_slice_get}
-use Rattle.elsa_words.specs.Insertions.{first_of_each, SetInserted, SetCollects}
+use Rattle.elsa_specs.specs.Insertions.{first_of_each, SetInserted, SetCollects}
 use Rattle.elsa_maps.proofs.Places.{none_passes}
-use Rattle.elsa_words.proofs.FirstOfEach.{first_of_each_push, same_any}
+use Rattle.elsa_specs.proofs.FirstOfEach.{first_of_each_push, same_any}
 
 module _ {B V T : Type 0} (eq : B → B → Bool) (laws : IsEquivalence eq) (target : V → T) (shown : B → T) (finds : V → B → Bool)
     (finds_target : (v : V) (b k : B) → shown b ≡ target v → finds v k ≡ eq b k) where
   abbrev firsts : List (V × B) → List (V × B)
   firsts ps = first_of_each eq (λ p. p.1) [] ps
 
-  -- what is stored has a value exactly if one of the values has found it
+  -- A value is stored exactly if one of the given values found it.
   stored_any : (ps : List (V × B)) (bs : List B) (b : B) → bs ≡ map (λ p. p.1) (firsts ps) → list_any (eq b) (map (λ p. p.1) ps) ≡ list_any (eq b) bs
   stored_any ps bs b is = sym (same_any eq (λ (p : V × B). p.1) laws b [] ps) ∙ ap (list_any (eq b)) (sym is)
 
-  -- one more pair of a value and what it finds
+  -- Another pair of a value and what it finds.
   push_first : (ps : List (V × B)) (x : V) (b : B) (c : Bool) → list_any (eq b) (map (λ p. p.1) ps) ≡ c → firsts (ps ++ (x, b) ∷ []) ≡ firsts ps ++ (if c then [] else (x, b) ∷ [])
   push_first ps x b c e = first_of_each_push eq (λ (p : V × B). p.1) [] ps (x, b) ∙ ap (λ d. firsts ps ++ (if d then [] else (x, b) ∷ [])) e
 
-  -- no value
+  -- No value.
   pub set_collects_none : (bs : List B) → bs ≡ [] → SetCollects eq target shown finds [] bs
   set_collects_none bs none = ([], refl, All-nil _, none, All-nil _)
 
-  -- one more value
+  -- Another value.
   pub set_collects_push : (bs cs : List B) (xs : List V) (x : V) (i : ℕ) (b : B) → SetCollects eq target shown finds xs bs → SetInserted target shown finds bs x i b cs → SetCollects eq target shown finds (xs ++ x ∷ []) cs
   set_collects_push bs cs xs x i b (ps, names, found, is, shows) inserted = by (position (finds x) bs) refl inserted
     where

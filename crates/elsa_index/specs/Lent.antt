@@ -1,4 +1,4 @@
--- What an index set ends as, once its inner one, lent for writing, has ended.
+-- The content of an index set after its inner set, borrowed for writing, has been returned to it.
 use Rattle.std.specs.Prelude.{List}
 use Rattle.std.specs.Borrow.{Fml, RattleType, MutBor, Lends}
 use Rattle.std.specs.HashMap.Lent.{HashMembers}
@@ -10,10 +10,10 @@ use Rattle.indexmap.specs.contracts.set.IndexSet.{the_row as inner_set_row}
 use Rattle.elsa_index.specs.contracts.index_set.FrozenIndexSetIn.{the_row as set_row}
 
 module _ (R T S A B H : RattleType) (value : HashMembers B.Denot) (t : target.Ghosts T.Denot B.Denot) (b : builder.Ghosts S.Denot H.Denot) (h : hasher.Ghosts H.Denot) (heap : alloc.Ghosts A.Denot) where
-  -- the inner set's type
+  -- The type of the inner set.
   abbrev pub inner_set : RattleType
   inner_set = inner_set_row B S A H (record { eq = value.eq }) (record { hash_input = value.hash_input }) b h heap
 
-  -- the set holds the values that are left behind r
+  -- When the borrow r of the inner set ends, the set has the values that the inner set then has.
   abbrev pub lends_values : MutBor (List B.Denot) → MutBor inner_set.Denot → Fml
   lends_values m r = Lends (set_row R T S A H B b h heap t (record { eq = value.eq }) (record { hash_input = value.hash_input })) inner_set m r (λ w. w.keys)

@@ -1,7 +1,9 @@
-//! What users may rely on across calls: each law is the contract of a function that makes the calls.
+//! Laws of index maps and index sets that callers may rely on beyond one call: each is the contract
+//! of a function that makes only public calls.
 ghost use Rattle.std.specs.Prelude.{◌≡◌, ◌+◌, ◌↔◌, ℕ, All, List, None, Some, false, true, if◌then◌else◌, length, position, slice_get, IfOk, IsSome, OnErr, IsTrue};
-ghost use Rattle.elsa_words.specs.FirstWins.{value_at};
-ghost use Rattle.elsa_words.specs.Insertions.{place_of, Grows, Inserted, IsCloneOf};
+ghost use Rattle.elsa_specs.specs.FirstWins.{value_at};
+ghost use Rattle.elsa_specs.specs.Insertions.{place_of, Grows, Inserted, IsCloneOf};
+ghost use Rattle.elsa_tables.specs.Tables.{was_present_at};
 
 use crate::index_set::FrozenIndexSetIn;
 use crate::look_up::LookUp;
@@ -10,8 +12,12 @@ use elsa_vec::stable::StableDeref;
 use std::alloc::{AllocError, Allocator};
 use std::hash::{BuildHasher, Hash};
 
-/// An insertion, accepted or refused, keeps each earlier pair at its place; the key has the returned place and value afterwards, and
-/// the flag is true exactly where the key was new and the map grows by one pair.
+/// Inserts a pair. Whether the insertion succeeds or fails, each earlier pair keeps its index. If
+/// it succeeds, the key then has the returned index and value. The flag is true exactly if the key
+/// was new, and then the length grows by 1.
+///
+/// # Errors
+/// Fails if an allocation fails. The map is then unchanged.
 pub fn keeps_earlier_pairs<
     R: Copy,
     K: Eq + Hash + Drop,
@@ -22,20 +28,24 @@ pub fn keeps_earlier_pairs<
     map: &mut FrozenIndexMapIn<R, K, V, S, A>,
     key: K,
     value: V,
-) -> Result<(usize, V::Borrow, bool), AllocError>
+) -> Result<elsa_tables::Inserted<V::Borrow, usize>, AllocError>
     ensures kept { Grows map.old map.new }
-    ensures there { IfOk result (λ r. value_at K.eq map.new key ≡ Some r.1) }
-    ensures there_at { IfOk result (λ r. place_of K.eq map.new key ≡ Some r.0) }
-    // Whether the key or value was new, and what that adds.
-    ensures flag { IfOk result (λ r. IsTrue r.2 ↔ (place_of K.eq map.old key ≡ None)) }
-    ensures grows { IfOk result (λ r. length map.new ≡ length map.old + (if r.2 then 1 else 0)) }
+    ensures found_after { IfOk result (λ r. value_at K.eq map.new key ≡ Some r.value) }
+    ensures index_after { IfOk result (λ r. place_of K.eq map.new key ≡ Some r.index) }
+    // Whether the key or the value was new, and how the length changes.
+    ensures flag { IfOk result (λ r. IsTrue r.is_new ↔ (place_of K.eq map.old key ≡ None)) }
+    ensures grows { IfOk result (λ r. length map.new ≡ length map.old + (if r.is_new then 1 else 0)) }
     ensures refused { OnErr result (map.new ≡ map.old) }
 {
     map.insert_full_new(key, value)
 }
 
-/// Of two insertions of equal keys the second is told that the key wasn't new, and returns the first one's place and value,
-/// whatever is inserted between them, all of which the map then has: in one epoch a key is new at most once.
+/// Inserts a pair, then other pairs, and then a pair with a key that equals the first one. The last
+/// insertion returns the index and the value of the first one, and `false`: a key is new at most
+/// once. The map then has the keys of all pairs between.
+///
+/// # Errors
+/// Fails if an allocation fails.
 pub fn is_new_once<
     R: Copy,
     K: Eq + Hash + Drop,
@@ -47,13 +57,19 @@ pub fn is_new_once<
     first: (K, V),
     between: Vec<(K, V)>,
     again: (K, V),
-) -> Result<((usize, V::Borrow, bool), (usize, V::Borrow, bool)), AllocError>
+) -> Result<
+    (
+        elsa_tables::Inserted<V::Borrow, usize>,
+        elsa_tables::Inserted<V::Borrow, usize>,
+    ),
+    AllocError,
+>
     requires equal { K.eq first.0 again.0 ≡ true }
-    ensures first { IfOk result (λ r. IsTrue r.0.2 ↔ (place_of K.eq map.old first.0 ≡ None)) }
-    ensures once { IfOk result (λ r. r.1 ≡ (r.0.0, r.0.1, false)) }
-    ensures there { IfOk result (λ r. value_at K.eq map.new first.0 ≡ Some r.0.1) }
-    ensures there_at { IfOk result (λ r. place_of K.eq map.new first.0 ≡ Some r.0.0) }
-    // All else stays.
+    ensures first { IfOk result (λ r. IsTrue r.0.is_new ↔ (place_of K.eq map.old first.0 ≡ None)) }
+    ensures once { IfOk result (λ r. r.1 ≡ was_present_at r.0.index r.0.value) }
+    ensures found_after { IfOk result (λ r. value_at K.eq map.new first.0 ≡ Some r.0.value) }
+    ensures index_after { IfOk result (λ r. place_of K.eq map.new first.0 ≡ Some r.0.index) }
+    // The map has the keys between, and each earlier pair keeps its index.
     ensures between { IfOk result (λ _.
         All (λ pair. IsSome (place_of K.eq map.new pair.0)) between.items) }
     ensures kept { Grows map.old map.new }
@@ -69,7 +85,11 @@ pub fn is_new_once<
     Ok((before, after))
 }
 
-/// A clone with one more pair, made after the source got a pair of its own: neither insertion is seen by the other map.
+/// Clones a map, and inserts a pair into the map and another one into the clone. Neither insertion
+/// changes the other map.
+///
+/// # Errors
+/// Fails if an allocation fails, or if the `clone` of a key or of the hash builder fails.
 pub fn clone_and_part<
     R: Copy,
     K: Eq + Hash + Clone + Drop,
@@ -95,29 +115,40 @@ pub fn clone_and_part<
     Ok(copy)
 }
 
-/// An insertion into a set, accepted or refused, keeps each earlier value at its place; the value has the returned place and
-/// borrow afterwards, and the flag is true exactly where it was new and the set grows by one value.
+/// Inserts a value into a set. Whether the insertion succeeds or fails, each earlier value keeps
+/// its index. If it succeeds, the value then has the returned index and borrow. The flag is true
+/// exactly if the value was new, and then the length grows by 1.
+///
+/// # Errors
+/// Fails if an allocation fails. The set is then unchanged.
 pub fn set_keeps_earlier_values<
     R: Copy,
     T: StableDeref<R> + LookUp<<T as StableDeref<R>>::Borrow>,
     S: BuildHasher,
     A: Allocator + Copy,
->(set: &mut FrozenIndexSetIn<R, T, S, A>, value: T) -> Result<(usize, T::Borrow, bool), AllocError>
+>(
+    set: &mut FrozenIndexSetIn<R, T, S, A>,
+    value: T,
+) -> Result<elsa_tables::Inserted<T::Borrow, usize>, AllocError>
 where
     <T as StableDeref<R>>::Borrow: Eq + Hash,
     ensures kept { Grows set.old set.new }
-    ensures there { IfOk result (λ r. slice_get set.new r.0 ≡ Some r.1) }
-    ensures there_at { IfOk result (λ r. position (T.finds value) set.new ≡ Some r.0) }
-    // Whether the key or value was new, and what that adds.
-    ensures flag { IfOk result (λ r. IsTrue r.2 ↔ (position (T.finds value) set.old ≡ None)) }
-    ensures grows { IfOk result (λ r. length set.new ≡ length set.old + (if r.2 then 1 else 0)) }
+    ensures found_after { IfOk result (λ r. slice_get set.new r.index ≡ Some r.value) }
+    ensures index_after { IfOk result (λ r. position (T.finds value) set.new ≡ Some r.index) }
+    // Whether the key or the value was new, and how the length changes.
+    ensures flag { IfOk result (λ r. IsTrue r.is_new ↔ (position (T.finds value) set.old ≡ None)) }
+    ensures grows { IfOk result (λ r. length set.new ≡ length set.old + (if r.is_new then 1 else 0)) }
     ensures refused { OnErr result (set.new ≡ set.old) }
 {
     set.insert_full_new(value)
 }
 
-/// Of two insertions of equal values into a set the second is told that its value wasn't new, and returns the first one's place and
-/// borrow, whatever is inserted between them, all of which the set then has: in one epoch a value is new at most once.
+/// Inserts a value into a set, then other values, and then a value that equals the first one. The
+/// last insertion returns the index and the borrow of the first one, and `false`: a value is new at
+/// most once. The set then has all values between.
+///
+/// # Errors
+/// Fails if an allocation fails.
 pub fn set_is_new_once<
     R: Copy,
     T: StableDeref<R> + LookUp<<T as StableDeref<R>>::Borrow>,
@@ -128,15 +159,21 @@ pub fn set_is_new_once<
     first: T,
     between: Vec<T>,
     again: T,
-) -> Result<((usize, T::Borrow, bool), (usize, T::Borrow, bool)), AllocError>
+) -> Result<
+    (
+        elsa_tables::Inserted<T::Borrow, usize>,
+        elsa_tables::Inserted<T::Borrow, usize>,
+    ),
+    AllocError,
+>
 where
     <T as StableDeref<R>>::Borrow: Eq + Hash,
     requires equal { (b : T.Borrow) → T.finds again b ≡ T.finds first b }
-    ensures first { IfOk result (λ r. IsTrue r.0.2 ↔ (position (T.finds first) set.old ≡ None)) }
-    ensures once { IfOk result (λ r. r.1 ≡ (r.0.0, r.0.1, false)) }
-    ensures there { IfOk result (λ r. slice_get set.new r.0.0 ≡ Some r.0.1) }
-    ensures there_at { IfOk result (λ r. position (T.finds first) set.new ≡ Some r.0.0) }
-    // All else stays.
+    ensures first { IfOk result (λ r. IsTrue r.0.is_new ↔ (position (T.finds first) set.old ≡ None)) }
+    ensures once { IfOk result (λ r. r.1 ≡ was_present_at r.0.index r.0.value) }
+    ensures found_after { IfOk result (λ r. slice_get set.new r.0.index ≡ Some r.0.value) }
+    ensures index_after { IfOk result (λ r. position (T.finds first) set.new ≡ Some r.0.index) }
+    // The set has the values between, and each earlier value keeps its index.
     ensures between { IfOk result (λ _.
         All (λ value. IsSome (position (T.finds value) set.new)) between.items) }
     ensures kept { Grows set.old set.new }

@@ -6,16 +6,18 @@ ghost use Rattle.std.specs.Iterator.{Drains, IsFinite};
 ghost use Rattle.std.specs.List.{IsDistinct};
 ghost use Rattle.std.specs.Map.Iter.{ShowsInOrder, ShowsInReverse, deref};
 ghost use Rattle.std.specs.Option.{option_map};
-ghost use Rattle.elsa_words.specs.Insertions.{SetInserted, SetInsertedNew, SetCollects};
+ghost use Rattle.elsa_tables.specs.Tables.{was_present_at};
+ghost use Rattle.elsa_specs.specs.Insertions.{SetInserted, SetInsertedNew, SetCollects};
 ghost use Rattle.elsa_index.specs.EqualityLaws.{same_set_equiv};
 ghost use Rattle.elsa_index.specs.Equality.{same_set, HaveSameValues};
 ghost use Rattle.elsa_index.specs.Lent.{lends_values};
 ghost use Rattle.elsa_index.specs.Texts.{reads, TextInserted};
 
-use crate::look_up::LookUp;
+use crate::look_up::{LookUp, SeeksValue};
 use bumpalo::Bump;
+use elsa_specs::for_its_clause;
+use elsa_tables::Inserted;
 use elsa_vec::stable::StableDeref;
-use elsa_words::for_its_clause;
 use indexmap::IndexSet;
 use indexmap::set::Iter;
 use std::alloc::{AllocError, Allocator, Global};
@@ -24,9 +26,10 @@ use std::hash::{BuildHasher, BuildHasherDefault, FoldHasher, Hash};
 use std::marker::{Model, PhantomData};
 use std::ops::Index;
 
-/// A set that only grows, over values placed in the arena to which an `R` refers. `A` is the allocator of its table.
+/// A set that only grows, whose values are stored in the arena to which an `R` refers. `A` is the
+/// allocator of its table.
 ///
-/// [`FrozenIndexSet`] is its name where the arena is a `Bump`.
+/// [`FrozenIndexSet`] is its name if the arena is a `Bump`; code for any arena uses this type.
 pub struct FrozenIndexSetIn<
     R: Copy,
     T,
@@ -42,10 +45,11 @@ where
     of: PhantomData<T>,
 }
 
-/// The set whose values are placed in a `Bump` of lifetime `'a`; `P` is the allocator of the arena.
+/// A set whose values are stored in a `Bump` of lifetime `'a` and of the allocator `P`.
 ///
-/// It is an interner of any value: `insert_full` gives a value its number, and `get_index` gives it back. Take `&[u8]` for bytes, and `Own<T>` for any
-/// `T: Copy + Eq + Hash`.
+/// It is an interner of any type of values: `insert_full` returns the index of a value, and
+/// `get_index` returns the value at an index. Use `&[u8]` for bytes, and `Own<T>` for any `T: Copy
+/// + Eq + Hash`.
 pub type FrozenIndexSet<'a, T, S = BuildHasherDefault<FoldHasher>, A = Global, P = Global> =
     FrozenIndexSetIn<&'a Bump<P>, T, S, A>;
 
@@ -81,17 +85,20 @@ where
     A: Allocator + Copy,
     <T as StableDeref<R>>::Borrow: Eq + Hash,
 {
-    /// An empty set that hashes by the default hasher, which is fast and has a fixed seed: where strangers choose the values,
-    /// take [`with_hasher`](FrozenIndexSetIn::with_hasher). It takes no memory.
+    /// Makes an empty set with the default hasher, which is fast and has a fixed seed. It allocates
+    /// nothing. If the values are untrusted input, use
+    /// [`with_hasher`](FrozenIndexSetIn::with_hasher) with a `SeededState` of `elsa`.
     pub fn new(alloc: A, arena: R) -> Self
         ensures { result ≡ [] }
     {
         FrozenIndexSetIn::with_hasher(alloc, arena, BuildHasherDefault::new())
     }
 
-    /// An empty set by the default hasher with room for so many values, as after [`reserve`](FrozenIndexSetIn::reserve).
+    /// Makes an empty set with the default hasher and with capacity for `count` values, as after
+    /// [`reserve`](FrozenIndexSetIn::reserve). It allocates nothing if `count` is 0.
     ///
-    /// `AllocError` comes where memory is refused; room for none takes none.
+    /// # Errors
+    /// Fails if an allocation fails.
     pub fn with_capacity(alloc: A, arena: R, count: usize) -> Result<Self, AllocError>
         ensures empty { IfOk result (λ m. m ≡ []) }
         ensures none_is_free { count ≡ 0 → IsOk result }
@@ -105,31 +112,38 @@ where
     T: StableDeref<R>,
     <T as StableDeref<R>>::Borrow: Eq + Hash,
 {
-    /// An empty set that hashes by `hash_builder`. It takes no memory.
+    /// Makes an empty set that hashes its values by `hash_builder`. It allocates nothing.
     pub fn with_hasher(alloc: A, arena: R, hash_builder: S) -> Self
         ensures { result ≡ [] }
     {
         FrozenIndexSetIn::from_set(arena, IndexSet::with_hasher(alloc, hash_builder))
     }
 
-    /// The place of the value that equals the target of `value`, `None` exactly if there is none.
+    /// Returns the index of the value that `query` finds, or `None` if the set has no such value.
     ///
-    /// It takes no memory. `O(1)`: one hash.
+    /// A `&str` is a query of a set of texts, and a reference to a value that is `LookUp` is a
+    /// query of its set: [`SeeksValue`] lists them.
+    ///
+    /// # Cost
+    /// One hash and one search.
     #[inline(always)]
-    pub fn get_index_of<Q: LookUp<T::Borrow>>(&self, value: &Q) -> Option<usize>
-        ensures { result ≡ position (Q.finds value.now) self.now }
+    pub fn get_index_of<Q: SeeksValue<T::Borrow>>(&self, query: Q) -> Option<usize>
+        ensures { result ≡ position (Q.finds query) self.now }
     {
-        value.position(&self.set)
+        query.seek_index(&self.set)
     }
 
-    /// Whether the set has the target of `value`. It takes no memory. `O(1)`: one hash.
-    pub fn contains<Q: LookUp<T::Borrow>>(&self, value: &Q) -> bool
-        ensures { result ≡ is_some (position (Q.finds value.now) self.now) }
+    /// Returns whether the set has a value that `query` finds.
+    ///
+    /// # Cost
+    /// That of [`get_index_of`](FrozenIndexSetIn::get_index_of).
+    pub fn contains<Q: SeeksValue<T::Borrow>>(&self, query: Q) -> bool
+        ensures { result ≡ is_some (position (Q.finds query) self.now) }
     {
-        self.get_index_of(value).is_some()
+        self.get_index_of(query).is_some()
     }
 
-    /// How many values there are. It takes no memory.
+    /// Returns the number of values.
     pub fn len(&self) -> usize
         ensures count { result ≡ length self.now }
 
@@ -139,7 +153,7 @@ where
         self.set.len()
     }
 
-    /// Whether there are no values. It takes no memory.
+    /// Returns whether the set has no value.
     #[tactic(auto, using(std::proofs::lemmas::List::nil_from_length))]
     pub fn is_empty(&self) -> bool
         ensures { IsTrue result ↔ (self.now ≡ []) }
@@ -147,10 +161,12 @@ where
         self.len() == 0
     }
 
-    /// Each value's borrow once, in the order of the first insertions; from the back, in reverse. It takes no memory. `O(1)`, and so is
-    /// each value.
+    /// Returns an iterator over the borrows of the values, each once, in the order of the first
+    /// insertions; from the back, in reverse order. No value can be inserted while it exists. It
+    /// allocates nothing.
     ///
-    /// No insertion can be made while it walks.
+    /// # Cost
+    /// `O(1)`, and `O(1)` for each value.
     pub fn iter(&self) -> Iter<'_, T::Borrow>
         ensures rest { result ≡ self.now }
         ensures runs { ShowsInOrder (deref {X = T.Borrow}) }
@@ -159,39 +175,44 @@ where
         self.set.iter()
     }
 
-    /// The value at the place `index`, `None` exactly if there is no such place.
+    /// Returns the value at `index`, or `None` exactly if the index is at or above the length.
     ///
-    /// It takes no memory. `O(1)`, with no hash.
+    /// # Cost
+    /// `O(1)`, without a hash.
     pub fn get_index(&self, index: usize) -> Option<T::Borrow>
         ensures { result ≡ slice_get self.now index }
     {
         self.set.get_index(index).copied()
     }
 
-    /// The stored value that equals the target of `value`, `None` exactly if there is none.
+    /// Returns the stored value that `query` finds, or `None` if the set has no such value.
     ///
-    /// It takes no memory. `O(1)`: one hash.
+    /// # Cost
+    /// That of [`get_index_of`](FrozenIndexSetIn::get_index_of).
     #[tactic(auto, using(elsa_maps::proofs::Places::found_at, elsa_maps::proofs::Places::found_nowhere, elsa_maps::proofs::Places::found_within))]
-    pub fn get<Q: LookUp<T::Borrow>>(&self, value: &Q) -> Option<T::Borrow>
-        ensures { result ≡ find (Q.finds value.now) self.now }
+    pub fn get<Q: SeeksValue<T::Borrow>>(&self, query: Q) -> Option<T::Borrow>
+        ensures { result ≡ find (Q.finds query) self.now }
     {
-        let place = value.position(&self.set)?;
+        let place = query.seek_index(&self.set)?;
         Some(self.set[place])
     }
 
-    /// The stored value that equals the target of `value`, and its place, `None` exactly if there is none.
+    /// Returns the index of the stored value that `query` finds, and the value, or `None` if the
+    /// set has no such value.
     ///
-    /// It takes no memory. `O(1)`: one hash.
+    /// # Cost
+    /// That of [`get_index_of`](FrozenIndexSetIn::get_index_of).
     #[tactic(auto, using(elsa_maps::proofs::Places::found_within))]
-    pub fn get_full<Q: LookUp<T::Borrow>>(&self, value: &Q) -> Option<(usize, T::Borrow)>
-        ensures place { option_map (λ r. r.0) result ≡ position (Q.finds value.now) self.now }
+    pub fn get_full<Q: SeeksValue<T::Borrow>>(&self, query: Q) -> Option<(usize, T::Borrow)>
+        ensures place { option_map (λ r. r.0) result ≡ position (Q.finds query) self.now }
         ensures stored { IfSome result (λ r. slice_get self.now r.0 ≡ Some r.1) }
     {
-        let place = value.position(&self.set)?;
+        let place = query.seek_index(&self.set)?;
         Some((place, self.set[place]))
     }
 
-    /// A set with this content, which goes on in the given arena. It takes no memory.
+    /// Makes a set with the values of `set`. Values inserted later are stored in `arena`. It
+    /// allocates nothing.
     pub fn from_set(arena: R, set: IndexSet<T::Borrow, S, A>) -> Self
         ensures content { result ≡ set.keys }
     {
@@ -202,7 +223,7 @@ where
         }
     }
 
-    /// The values, in the order of their first insertions. It takes no memory.
+    /// Returns the values, in the order of their first insertions. It allocates nothing.
     pub fn into_set(self) -> IndexSet<T::Borrow, S, A>
         ensures content { result.keys ≡ self }
     {
@@ -214,10 +235,14 @@ where
         inner
     }
 
-    /// A set with the same content, in the same arena, under a clone of the hash builder.
+    /// Makes a set with the same content, arena and allocator, and with a clone of the hash
+    /// builder. Later insertions into one of the two don't change the other.
     ///
-    /// The borrows are shared. Later insertions into either leave the other as it is. It makes room once, for all values.
-    /// `O(len)`. `AllocError` comes only where the room or the clone of the builder failed.
+    /// # Errors
+    /// Fails if an allocation fails, or if the hash builder's `clone` fails.
+    ///
+    /// # Cost
+    /// `O(n)`: it copies the borrows, and no target.
     pub fn clone(&self) -> Result<Self, AllocError>
     where
         S: Clone,
@@ -229,16 +254,25 @@ where
         Ok(FrozenIndexSetIn::from_set(self.arena, set))
     }
 
-    /// How many values the set can have before its table asks for memory. `O(1)`.
+    /// Returns the number of values that the set can have before its table allocates.
+    ///
+    /// # Cost
+    /// `O(1)`.
     pub fn capacity(&self) -> usize
         ensures { length self.now ≤ result }
     {
         self.set.capacity()
     }
 
-    /// Makes room for so many more values: as many insertions ask the table's allocator for nothing, and the arena alone may refuse them.
+    /// Reserves capacity for at least `additional` more values: until they are inserted, an
+    /// insertion allocates only in the arena. The content is unchanged. It allocates nothing if the
+    /// set has that capacity.
     ///
-    /// The content stays. `AllocError` comes where memory is refused, and the room stays too; where there is room already, it takes none. `O(n)`.
+    /// # Errors
+    /// Fails if an allocation fails. The capacity is then unchanged.
+    ///
+    /// # Cost
+    /// `O(n)`.
     pub fn reserve(&mut self, additional: usize) -> Result<(), AllocError>
         ensures content { self.new ≡ self.old }
         ensures none_is_free { additional ≡ 0 → IsOk result }
@@ -246,10 +280,10 @@ where
         self.set.reserve(additional)
     }
 
-    // Adds a borrow last.
+    // Appends a borrow.
     #[tactic(auto, using(elsa_maps::proofs::Places::new_value_goes_last))]
     fn add(&mut self, value: T::Borrow) -> Result<usize, AllocError>
-        requires new { position (T.Borrow.eq value) self.old ≡ None }
+        requires absent { position (T.Borrow.eq value) self.old ≡ None }
         ensures place { IfOk result (λ i. i ≡ length self.old) }
         ensures appended { OnOk result (self.new ≡ self.old ++ value ∷ []) }
         ensures refused { OnErr result (self.new ≡ self.old) }
@@ -260,7 +294,8 @@ where
         Ok(place)
     }
 
-    /// The values, to write: a new base begins with what is left in them. It takes no memory.
+    /// Returns the inner set, borrowed for writing. What it contains when the borrow ends is the
+    /// set's content from then on.
     pub fn as_mut(&mut self) -> &mut IndexSet<T::Borrow, S, A>
         ensures* writes_back { sem 𝓛 (lends_values R.row T.row S.row A.row T.Borrow.row
             S.Hasher.row T.Borrow.Hash T.HasTarget S.BuildHasher S.Hasher.Hasher A.Allocator
@@ -270,7 +305,8 @@ where
         &mut self.set
     }
 
-    /// Begins anew with another content, as a write through `as_mut` does. It takes no memory.
+    /// Replaces the content by that of `base`, as a write to the result of `as_mut` does. It
+    /// allocates nothing.
     pub fn rebase(&mut self, base: IndexSet<T::Borrow, S, A>)
     where
         S: Drop,
@@ -285,21 +321,29 @@ where
     T: StableDeref<R> + LookUp<<T as StableDeref<R>>::Borrow>,
     <T as StableDeref<R>>::Borrow: Eq + Hash,
 {
-    /// Adds a value that is absent last, and returns its place and its borrow: the call for one that has looked.
+    /// Stores a value that the set doesn't have in the arena, appends its borrow, and returns its
+    /// index and its borrow.
     ///
-    /// The caller makes sure that no equal value is present, as `get_index_of` tells. The table makes room for one value, and the
-    /// value is placed in the arena, by one hash. `AllocError` leaves the set as it was; the table may keep the room.
+    /// The caller proves that the set has no equal value, for example by the result of
+    /// `get_index_of`.
+    ///
+    /// # Errors
+    /// Fails if an allocation fails. The content is then unchanged, and the value is dropped; the
+    /// set may have more capacity than before.
+    ///
+    /// # Cost
+    /// One hash, plus one copy into the arena.
     pub fn insert_absent(&mut self, value: T) -> Result<(usize, T::Borrow), AllocError>
         requires absent { position (T.finds value) self.old ≡ None }
         ensures place { IfOk result (λ r. r.0 ≡ length self.old) }
         ensures placed { IfOk result (λ r. T.shown r.1 ≡ T.target value) }
         ensures appended { IfOk result (λ r. self.new ≡ self.old ++ r.1 ∷ []) }
 
-        // A refusal changes nothing, and an added value is found.
+        // A call that fails changes nothing. A value that was added is found.
         ensures refused { OnErr result (self.new ≡ self.old) }
         ensures unique { OnOk result (IsDistinct T.Borrow.eq self.new) }
-        ensures stands { IfOk result (λ r. slice_get self.new r.0 ≡ Some r.1) }
-        ensures stands_at { IfOk result (λ r. position (T.finds value) self.new ≡ Some r.0) }
+        ensures value_after { IfOk result (λ r. slice_get self.new r.0 ≡ Some r.1) }
+        ensures index_after { IfOk result (λ r. position (T.finds value) self.new ≡ Some r.0) }
     {
         self.set.reserve(1)?;
         let Ok(borrow) = value.place(self.arena) else {
@@ -309,83 +353,91 @@ where
         Ok((place, borrow))
     }
 
-    /// Adds the value last, unless an equal one is present, and returns its place, the stored value and whether it is new.
+    /// Inserts the value unless the set has an equal one, and returns the index of the stored
+    /// value, the stored value, and whether it is new.
     ///
-    /// It looks first, by one hash: where an equal value is present, that one is returned with its place and `false`, the
-    /// given one is dropped, no memory is taken and nothing changes. Otherwise the table makes room for one value, and the
-    /// value is placed in the arena and goes last, by one more hash. `AllocError` comes only for an absent value and
-    /// leaves the set as it was; the table may keep the room.
+    /// If the set has an equal value, the call drops the given one, allocates nothing and changes
+    /// nothing. Otherwise it stores the value in the arena and appends its borrow.
+    ///
+    /// # Errors
+    /// Fails if the value is new and an allocation fails. The content is then unchanged, and the
+    /// value is dropped; the set may have more capacity than before.
+    ///
+    /// # Cost
+    /// One hash if the set has an equal value; otherwise two, plus one copy into the arena.
     #[tactic(auto, using(elsa_maps::proofs::Places::found_at, elsa_maps::proofs::Places::found_nowhere, elsa_maps::proofs::Places::found_within))]
-    pub fn insert_full_new(&mut self, value: T) -> Result<(usize, T::Borrow, bool), AllocError>
-        // A present value keeps its place; a new one is the last.
+    pub fn insert_full_new(&mut self, value: T) -> Result<Inserted<T::Borrow, usize>, AllocError>
+        // A present value keeps its index; a new one is the last.
         ensures present { (x : T.Borrow) → find (T.finds value) self.old ≡ Some x →
-            (i : ℕ) × (position (T.finds value) self.old ≡ Some i) × (result ≡ Ok (i, x, false))
-            × (self.new ≡ self.old) }
-        ensures accepted { IfOk result (λ r.
-            SetInsertedNew T.target T.shown T.finds self.old value r.0 r.1 r.2 self.new) }
+            (i : ℕ) × (position (T.finds value) self.old ≡ Some i)
+            × (result ≡ Ok (was_present_at i x)) × (self.new ≡ self.old) }
+        ensures accepted { IfOk result (λ r. SetInsertedNew T.target T.shown T.finds self.old value
+            r.index r.value r.is_new self.new) }
 
-        // Only a new value is refused, and then nothing changes.
+        // The call fails only for a new value, and then nothing changes.
         ensures refused { OnErr result (self.new ≡ self.old) }
         ensures only_new { OnErr result (position (T.finds value) self.old ≡ None) }
 
-        // The values are unequal, and what stands for this one is found at its place.
+        // No two values are equal. The returned value is stored at the returned index, and the
+        // given one finds it.
         ensures unique { IsDistinct T.Borrow.eq self.new }
-        ensures stands { IfOk result (λ r. slice_get self.new r.0 ≡ Some r.1) }
-        ensures stands_at { IfOk result (λ r. position (T.finds value) self.new ≡ Some r.0) }
+        ensures value_after { IfOk result (λ r. slice_get self.new r.index ≡ Some r.value) }
+        ensures index_after { IfOk result (λ r. position (T.finds value) self.new ≡ Some r.index) }
     {
-        // The values are unequal.
+        // The contract of `len` has the fact that no two values are equal.
         for_its_clause(self.set.len());
         if let Some(place) = value.position(&self.set) {
-            return Ok((place, self.set[place], false));
+            return Ok(Inserted {
+                value: self.set[place],
+                index: place,
+                is_new: false,
+            });
         }
         let (place, borrow) = self.insert_absent(value)?;
-        Ok((place, borrow, true))
+        Ok(Inserted {
+            value: borrow,
+            index: place,
+            is_new: true,
+        })
     }
 
-    /// Adds the value last, unless an equal one is present, and returns its place and the stored value.
+    /// Inserts the value unless the set has an equal one, and returns the index of the stored
+    /// value, and the stored value.
     ///
-    /// Costs and the refusal are those of `insert_full_new`.
+    /// # Errors
+    /// Fails as [`insert_full_new`](FrozenIndexSetIn::insert_full_new) does.
+    ///
+    /// # Cost
+    /// That of `insert_full_new`.
     pub fn insert_full(&mut self, value: T) -> Result<(usize, T::Borrow), AllocError>
-        // A present value keeps its place; a new one is the last.
+        // A present value keeps its index; a new one is the last.
         ensures present { (x : T.Borrow) → find (T.finds value) self.old ≡ Some x →
             (i : ℕ) × (position (T.finds value) self.old ≡ Some i) × (result ≡ Ok (i, x))
             × (self.new ≡ self.old) }
         ensures accepted { IfOk result (λ r.
             SetInserted T.target T.shown T.finds self.old value r.0 r.1 self.new) }
 
-        // Only a new value is refused, and then nothing changes.
+        // The call fails only for a new value, and then nothing changes.
         ensures refused { OnErr result (self.new ≡ self.old) }
         ensures only_new { OnErr result (position (T.finds value) self.old ≡ None) }
 
-        // The values are unequal, and what stands for this one is found at its place.
+        // No two values are equal. The returned value is stored at the returned index, and the
+        // given one finds it.
         ensures unique { IsDistinct T.Borrow.eq self.new }
-        ensures stands { IfOk result (λ r. slice_get self.new r.0 ≡ Some r.1) }
-        ensures stands_at { IfOk result (λ r. position (T.finds value) self.new ≡ Some r.0) }
+        ensures value_after { IfOk result (λ r. slice_get self.new r.0 ≡ Some r.1) }
+        ensures index_after { IfOk result (λ r. position (T.finds value) self.new ≡ Some r.0) }
     {
-        let (place, borrow, _) = self.insert_full_new(value)?;
-        Ok((place, borrow))
+        let done = self.insert_full_new(value)?;
+        Ok((done.index, done.value))
     }
 
-    /// Adds the value last, unless an equal one is present, and returns the stored value and whether it is new.
+    /// Inserts the value unless the set has an equal one, and returns the stored value.
     ///
-    /// Costs and the refusal are those of `insert_full_new`.
-    #[tactic(auto, using(elsa_maps::proofs::Places::found_at))]
-    pub fn insert_new(&mut self, value: T) -> Result<(T::Borrow, bool), AllocError>
-        ensures present { (x : T.Borrow) → find (T.finds value) self.old ≡ Some x →
-            (result ≡ Ok (x, false)) × (self.new ≡ self.old) }
-        ensures accepted { IfOk result (λ r.
-            (i : ℕ) × SetInsertedNew T.target T.shown T.finds self.old value i r.0 r.1 self.new) }
-        ensures refused { OnErr result (self.new ≡ self.old) }
-        ensures only_new { OnErr result (position (T.finds value) self.old ≡ None) }
-        ensures stands { IfOk result (λ r. find (T.finds value) self.new ≡ Some r.0) }
-    {
-        let (_, borrow, new) = self.insert_full_new(value)?;
-        Ok((borrow, new))
-    }
-
-    /// Adds the value last, unless an equal one is present, and returns the stored value.
+    /// # Errors
+    /// Fails as [`insert_full_new`](FrozenIndexSetIn::insert_full_new) does.
     ///
-    /// Costs and the refusal are those of `insert_full_new`.
+    /// # Cost
+    /// That of `insert_full_new`.
     #[tactic(auto, using(elsa_maps::proofs::Places::found_at))]
     pub fn insert(&mut self, value: T) -> Result<T::Borrow, AllocError>
         ensures present { (x : T.Borrow) → find (T.finds value) self.old ≡ Some x →
@@ -394,16 +446,21 @@ where
             (i : ℕ) × SetInserted T.target T.shown T.finds self.old value i b self.new) }
         ensures refused { OnErr result (self.new ≡ self.old) }
         ensures only_new { OnErr result (position (T.finds value) self.old ≡ None) }
-        ensures stands { IfOk result (λ b. find (T.finds value) self.new ≡ Some b) }
+        ensures value_after { IfOk result (λ b. find (T.finds value) self.new ≡ Some b) }
     {
         let (_, borrow) = self.insert_full(value)?;
         Ok(borrow)
     }
 
-    /// A set of the values, which keeps the first of equal ones.
+    /// Makes a set of the iterator's values, which keeps the first of equal ones and drops the
+    /// others.
     ///
-    /// Each value whose target is absent is placed in the arena; the others are dropped. Two hashes a value at most.
-    /// `AllocError` comes only where the arena or the table got no memory.
+    /// # Errors
+    /// Fails if an allocation fails. The set and the values that were not stored are then dropped;
+    /// the arena keeps those that were stored.
+    ///
+    /// # Cost
+    /// `O(n)`: at most two hashes for each value.
     pub fn from_iter<I: IntoIterator<Item = T>>(
         alloc: A,
         arena: R,
@@ -430,55 +487,27 @@ where
 // ---- texts
 
 impl<'a, S: BuildHasher, A: Allocator + Copy, P: Allocator> FrozenIndexSet<'a, &'a str, S, A, P> {
-    /// The place of the stored text that reads as `text` does, `None` exactly if there is none: `set.get_index_of_text("a")`.
+    /// Inserts the text unless the set has an equal one, and returns the index of the stored text,
+    /// and the stored text: [`insert_full`](FrozenIndexSetIn::insert_full) by a text of any
+    /// lifetime.
     ///
-    /// It takes no memory. `O(1)`: one hash.
-    pub fn get_index_of_text(&self, text: &str) -> Option<usize>
-        ensures { result ≡ position (reads text.now) self.now }
-    {
-        self.get_index_of(&text)
-    }
-
-    /// Whether a stored text reads as `text` does. It takes no memory. `O(1)`: one hash.
-    pub fn contains_text(&self, text: &str) -> bool
-        ensures { result ≡ is_some (position (reads text.now) self.now) }
-    {
-        self.contains(&text)
-    }
-
-    /// The stored text that reads as `text` does, `None` exactly if there is none: `set.get_text("a")`.
+    /// If the set has the text, the call allocates nothing and changes nothing. Otherwise it copies
+    /// the text into the arena and appends the borrow of the copy.
     ///
-    /// It takes no memory. `O(1)`: one hash.
-    pub fn get_text(&self, text: &str) -> Option<&'a str>
-        ensures { result ≡ find (reads text.now) self.now }
-    {
-        self.get(&text)
-    }
-
-    /// The stored text that reads as `text` does, and its place, `None` exactly if there is none.
+    /// # Errors
+    /// Fails if the text is new and an allocation fails. The content is then unchanged; the set may
+    /// have more capacity than before.
     ///
-    /// It takes no memory. `O(1)`: one hash.
-    pub fn get_full_text(&self, text: &str) -> Option<(usize, &'a str)>
-        ensures place { option_map (λ r. r.0) result ≡ position (reads text.now) self.now }
-        ensures stored { IfSome result (λ r. slice_get self.now r.0 ≡ Some r.1) }
-    {
-        self.get_full(&text)
-    }
-
-    /// Adds the text last, unless one that reads the same is present, and returns its place and the stored text:
-    /// [`insert_full`](FrozenIndexSetIn::insert_full) by a text of any lifetime.
-    ///
-    /// It looks first, by one hash: where the text is present, no memory is taken and nothing changes. Otherwise the table makes room for one value,
-    /// and the text is copied into the arena and goes last, by one more hash. `AllocError` comes only for an absent text and leaves the set as it
-    /// was; the table may keep the room.
+    /// # Cost
+    /// One hash if the set has the text; otherwise two, plus one copy into the arena.
     pub fn insert_full_text(&mut self, text: &str) -> Result<(usize, &'a str), AllocError>
         ensures accepted { IfOk result (λ r. TextInserted self.old text.now r.0 r.1 self.new) }
-        ensures stands { IfOk result (λ r. slice_get self.new r.0 ≡ Some r.1) }
-        ensures stands_at { IfOk result (λ r. position (reads text.now) self.new ≡ Some r.0) }
+        ensures value_after { IfOk result (λ r. slice_get self.new r.0 ≡ Some r.1) }
+        ensures index_after { IfOk result (λ r. position (reads text.now) self.new ≡ Some r.0) }
         ensures refused { OnErr result (
             (self.new ≡ self.old) × (position (reads text.now) self.old ≡ None)) }
     {
-        if let Some(found) = self.get_full_text(text) {
+        if let Some(found) = self.get_full(text) {
             return Ok(found);
         }
         self.set.reserve(1)?;
@@ -486,50 +515,24 @@ impl<'a, S: BuildHasher, A: Allocator + Copy, P: Allocator> FrozenIndexSet<'a, &
         self.insert_absent(placed)
     }
 
-    /// Adds the text last, unless one that reads the same is present, and returns the stored text: `set.insert_text("a")`.
+    /// Inserts the text unless the set has an equal one, and returns the stored text:
+    /// `set.insert_text("a")`.
     ///
-    /// Costs and the refusal are those of `insert_full_text`.
+    /// # Errors
+    /// Fails as [`insert_full_text`](FrozenIndexSetIn::insert_full_text) does.
+    ///
+    /// # Cost
+    /// That of `insert_full_text`.
     #[tactic(auto, using(elsa_maps::proofs::Places::found_at))]
     pub fn insert_text(&mut self, text: &str) -> Result<&'a str, AllocError>
         ensures accepted { IfOk result (λ b.
             (i : ℕ) × TextInserted self.old text.now i b self.new) }
-        ensures stands { IfOk result (λ b. find (reads text.now) self.new ≡ Some b) }
+        ensures value_after { IfOk result (λ b. find (reads text.now) self.new ≡ Some b) }
         ensures refused { OnErr result (
             (self.new ≡ self.old) × (position (reads text.now) self.old ≡ None)) }
     {
         let (_, stored) = self.insert_full_text(text)?;
         Ok(stored)
-    }
-}
-
-impl<'a, B: Allocator, S: BuildHasher, A: Allocator + Copy, P: Allocator> FrozenIndexSet<
-    'a,
-    String<B>,
-    S,
-    A,
-    P,
-> {
-    /// The place of the stored text that reads as `text` does: [`get_index_of`](FrozenIndexSetIn::get_index_of) without a `String`.
-    /// It takes no memory. `O(1)`: one hash.
-    pub fn get_index_of_text(&self, text: &str) -> Option<usize>
-        ensures { result ≡ position (reads text.now) self.now }
-    {
-        text.position(&self.set)
-    }
-
-    /// Whether a stored text reads as `text` does: [`contains`](FrozenIndexSetIn::contains) without a `String`. It takes no memory. `O(1)`: one hash.
-    pub fn contains_text(&self, text: &str) -> bool
-        ensures { result ≡ is_some (position (reads text.now) self.now) }
-    {
-        self.get_index_of_text(text).is_some()
-    }
-
-    /// The stored text that reads as `text` does: [`get`](FrozenIndexSetIn::get) without a `String`. It takes no memory. `O(1)`: one hash.
-    pub fn get_text(&self, text: &str) -> Option<&'a str>
-        ensures { result ≡ find (reads text.now) self.now }
-    {
-        let asked = text;
-        self.get(&asked)
     }
 }
 
@@ -544,13 +547,14 @@ where
 
     ghost index_gives = { λ s i b. slice_get s i ≡ Some b };
 
-    // The value at this place. The caller makes sure that the place exists.
+    // The value at this index, which the caller proves to be below the length.
     fn index(&self, index: usize) -> &T::Borrow {
         &self.set[index]
     }
 }
 
-/// `{:?}` writes the values, in the order of their first insertions, as of an `IndexSet`: `{"y", "x"}`.
+/// Writes the values by `{:?}`, in the order of their first insertions, as an `IndexSet` does:
+/// `{"y", "x"}`.
 impl<R: Copy, T: StableDeref<R>, S: BuildHasher, A: Allocator + Copy> Debug
     for FrozenIndexSetIn<R, T, S, A>
 where
@@ -561,7 +565,7 @@ where
     }
 }
 
-// Two sets are equal where they have the same values, in any order.
+// Two sets are equal if they have the same values, in any order.
 impl<R: Copy, T: StableDeref<R>, S: BuildHasher, A: Allocator + Copy> PartialEq
     for FrozenIndexSetIn<R, T, S, A>
 where

@@ -1,7 +1,8 @@
-//! Sets that only grow and number their values by first insertion.
+//! Index sets: sets that only grow, whose values have the indices of their first insertions.
 //!
-//! [`index_set`] holds its values in that order, [`look_up`] finds a value by its target, and [`index_laws`] says what holds
-//! across calls, of index maps too. The layers above use their contracts alone.
+//! [`index_set`] has the set, [`look_up`] the lookup of a value by its target, and [`index_laws`]
+//! the laws across several calls, for index maps too. The layers above use only the contracts of
+//! these modules.
 #![tactic(auto)]
 
 pub mod index_laws;

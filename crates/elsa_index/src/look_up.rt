@@ -1,7 +1,8 @@
-//! Finding a value in an index set by its target.
+//! The lookup of a value in an index set by its target.
 //!
-//! The index set above requires nothing of a value but `LookUp`. Each form here hashes the value once, and never walks over
-//! the set. A reference may have any lifetime, so a text on the stack finds a name in the arena.
+//! An insertion takes a value that is [`LookUp`]; a lookup takes any query that is [`SeeksValue`].
+//! Each hashes once, and neither iterates over the set. A reference may have any lifetime, so a
+//! text on the stack finds a name in the arena.
 ghost use Rattle.std.specs.Prelude.{◌≡◌, Bool};
 ghost use Rattle.std.specs.Cmp.Lexicographic.{pointwise};
 ghost use Rattle.std.specs.Str.{bytes_eq};
@@ -14,21 +15,70 @@ use indexmap::IndexSet;
 use std::alloc::Allocator;
 use std::hash::{BuildHasher, Hash};
 
-/// A value that a set of `B` can be asked for.
+/// A query that looks up a value of an index set of `B`.
 ///
-/// The six forms are `String` and `&str` for a set of `&str`, `Vec<U>` and `&[U]` for one of `&[U]`, `Own<U>` and `&U` for
-/// one of `&U`.
+/// A reference to a value that is [`LookUp`] is such a query. So are a `&str` in a set of `&str`
+/// and a `&[U]` in a set of `&[U]`. A type of the caller becomes a query if it implements this
+/// trait.
+pub trait SeeksValue<B: Eq + Hash>: Copy {
+    // Whether the query finds a stored value.
+    ghost finds: { Self → B → Bool };
+
+    /// Returns the index of the value that the query finds, or `None` if the set has no such value.
+    ///
+    /// # Cost
+    /// One hash and one search.
+    fn seek_index<S: BuildHasher, A: Allocator>(self, set: &IndexSet<B, S, A>) -> Option<usize>
+        ensures { result ≡ index_of_by (finds self) set.now };
+}
+
+impl<'q, B: Eq + Hash, Q: LookUp<B>> SeeksValue<B> for &'q Q {
+    ghost finds = { λ q. Q.finds q.now };
+
+    fn seek_index<S: BuildHasher, A: Allocator>(self, set: &IndexSet<B, S, A>) -> Option<usize> {
+        self.position(set)
+    }
+}
+
+impl<'q, 'a> SeeksValue<&'a str> for &'q str {
+    ghost finds = { λ q k. bytes_eq q.now k.now };
+
+    fn seek_index<S: BuildHasher, A: Allocator>(
+        self,
+        set: &IndexSet<&'a str, S, A>,
+    ) -> Option<usize> {
+        set.get_index_of(self)
+    }
+}
+
+impl<'q, 'a, U: Eq + Hash> SeeksValue<&'a [U]> for &'q [U] {
+    ghost finds = { λ q k. pointwise U.eq q.now k.now };
+
+    fn seek_index<S: BuildHasher, A: Allocator>(
+        self,
+        set: &IndexSet<&'a [U], S, A>,
+    ) -> Option<usize> {
+        LookUp::position(&self, set)
+    }
+}
+
+/// A value that can be inserted into a set of `B`, and that can be looked up there.
+///
+/// The six types are `String` and `&str` for a set of `&str`, `Vec<U>` and `&[U]` for a set of
+/// `&[U]`, and `Own<U>` and `&U` for a set of `&U`.
 pub trait LookUp<B: Eq + Hash>: HasTarget<B> {
     // Whether a stored value equals the target of this one.
     ghost finds: { Self → B → Bool };
 
-    /// The place of the stored value that equals the target of `self`, `None` exactly if there is none.
+    /// Returns the index of the stored value that equals the target of `self`, or `None` if the set
+    /// has no such value. It allocates nothing.
     ///
-    /// It takes no memory. `O(1)`: one hash.
+    /// # Cost
+    /// `O(1)`: one hash and one search.
     fn position<S: BuildHasher, A: Allocator>(&self, set: &IndexSet<B, S, A>) -> Option<usize>
         ensures { result ≡ index_of_by (finds self.now) set.now };
 
-    // A value finds exactly what a borrow of its target equals.
+    // A value finds the stored values that a borrow of its target equals.
     ghost finds_target: { (q : Self) (b k : B) → Self.shown b ≡ Self.target q → finds q k ≡ B.eq b k };
 }
 
@@ -86,7 +136,8 @@ impl<'a, 'b, U: Eq + Hash> LookUp<&'a [U]> for &'b [U] {
     }
 }
 
-// The place at which a set of borrows has a value, where the borrow asked with has a shorter lifetime.
+// Returns the index of a value in a set of borrows. The borrow of the query may have a shorter
+// lifetime.
 fn position_of<'b, U: Eq + Hash, S: BuildHasher, A: Allocator>(
     set: &IndexSet<&'b U, S, A>,
     value: &'b U,

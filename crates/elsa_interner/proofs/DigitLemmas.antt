@@ -1,4 +1,4 @@
--- The text of a number of at most eight digits.
+-- The decimal digits of a number of at most eight digits.
 use Rattle.std.proofs.Common.{bit_or, ◌≡◌, ℕ, zero, suc, ◌+◌, ◌-◌, ◌*◌, ◌/◌, ◌%◌, ◌^◌, ◌<◌, ◌≤◌, Bool, true, false, ◌&&◌, T, eqb, List, [], ◌∷◌, ◌++◌, length, get_or, take, drop, refl, ap, subst, ◌∙◌, sym, inl, inr, arith, eq-zero-or-pos, eqb→eq, length-append}
 use Rattle.std.proofs.lemmas.Fmt.{decimal_digit, decimal_step}
 use Rattle.std.proofs.lemmas.List.{drop-append-le, length-take-le, take-take}
@@ -29,21 +29,21 @@ below (suc n) p t h =
       | inr g ↦ below n p (and_r _ (are_pairs n) t) (omega arith)
     ]
 
--- a pair's two digits stand in the table
+-- The table has the two digits of each number below 100.
 pub PAIRS_at : (p : ℕ) → p < 100 → (get_or PAIRS (p * 2) 0 ≡ 48 + p / 10) × (get_or PAIRS (p * 2 + 1) 0 ≡ 48 + p % 10)
 PAIRS_at p h = below 100 p tt h
 
--- the last k digits of a number, zeros in front
+-- The last k digits of a number, with zeros before shorter numbers.
 abbrev pub padded : ℕ → ℕ → List ℕ
 padded zero n = []
 padded (suc k) n = padded k (n / 10) ++ (48 + n % 10) ∷ []
 
--- there are k of them
+-- Their number is k.
 pub length_padded : (k n : ℕ) → length (padded k n) ≡ k
 length_padded zero n = refl
 length_padded (suc k) n = omega (arith, length-append (padded k (n / 10)) ((48 + n % 10) ∷ []), length_padded k (n / 10))
 
--- behind the zeros in front are the digits
+-- After the leading zeros follow the digits of the number.
 pub behind_zeros : (k n : ℕ) → n < 10 ^ suc k → n < 2 ^ 64 → drop (suc k - length (decimal n)) (padded (suc k) n) ≡ decimal n
 behind_zeros zero n h small = rw (decimal_digit n h) (ap (λ d. (48 + d) ∷ []) (omega arith))
 behind_zeros (suc k) n h small = elim (eq-zero-or-pos (n - 9)) [
@@ -69,7 +69,7 @@ yes k n h = le-leb k n h
 no : (k n : ℕ) → n < k → leb k n ≡ false
 no k n h = false_from_ne_true (leb k n) (λ e. omega (arith, h, leb-true k n e))
 
--- how many digits a number has, by comparisons
+-- For a number below 10000, three comparisons count its digits.
 few_counted : (n : ℕ) → n < 10000 → ((1 + bool_byte (leb 10 n)) + bool_byte (leb 100 n)) + bool_byte (leb 1000 n) ≡ length (decimal n)
 few_counted n h = elim (cases_lt n 10) [
   | inl a ↦ rw (no 10 n a, no 100 n (omega (arith, a)), no 1000 n (omega (arith, a))) (sym (length_one n a))
@@ -90,7 +90,7 @@ shifted k n = elim (cases_lt n (k * 10000)) [
   | inr b ↦ yes (k * 10000) n b ∙ sym (yes k (n / 10000) (omega (arith, b)))
 ]
 
--- seven comparisons count the digits of a number of at most eight
+-- For a number of at most eight digits, seven comparisons count them.
 pub counted : (n : ℕ) → n < 10 ^ 8 → n < 2 ^ 64
     → ((((((1 + bool_byte (leb 10 n)) + bool_byte (leb 100 n)) + bool_byte (leb 1000 n)) + bool_byte (leb 10000 n)) + bool_byte (leb 100000 n)) + bool_byte (leb 1000000 n)) + bool_byte (leb 10000000 n) ≡ length (decimal n)
 counted n h small = elim (cases_lt n 10000) [
@@ -111,7 +111,7 @@ below_snoc [] y all small (suc i) = omega arith
 below_snoc (x ∷ xs) y all small zero = all zero
 below_snoc (x ∷ xs) y all small (suc i) = below_snoc xs y (λ j. all (suc j)) small i
 
--- a digit is a byte
+-- Each digit is a byte.
 pub padded_below : (k n i : ℕ) → get_or (padded k n) i 0 < 256
 padded_below zero n i = omega arith
 padded_below (suc k) n i = below_snoc (padded k (n / 10)) (48 + n % 10) (padded_below k (n / 10)) (omega arith) i
@@ -120,7 +120,7 @@ byte_is : (i n : ℕ) → byte_at i n ≡ n / 256 ^ i % 256
 byte_is zero n = omega arith
 byte_is (suc i) n = refl
 
--- the bytes of a number that was shifted by s bytes are its bytes from s upward
+-- If a number is shifted by s bytes, its byte i is byte s + i of the number before.
 byte_behind : (s i n : ℕ) → byte_at i (n / 256 ^ s) ≡ byte_at (s + i) n
 byte_behind s i n = byte_is i (n / 256 ^ s) ∙ ap (λ m. m % 256) (div-div-eq-div-mul n (256 ^ s) (256 ^ i) ∙ ap (λ p. n / p) (sym (pow-add 256 s i))) ∙ sym (byte_is (s + i) n)
 
@@ -153,11 +153,12 @@ bits_of (suc s) =
     let more : 8 * suc s ≡ 8 + 8 * s = omega arith in
     ap (λ k. 2 ^ k) more ∙ pow-add 2 8 (8 * s) ∙ ap (λ p. 256 * p) (bits_of s) ∙ sym (pow-succ' 256 s)
 
--- two words of four bytes, joined
+-- Two words of four bytes are joined to one of eight.
 pub halves : (low high : ℕ) → low < 2 ^ 32 → high < 2 ^ 32 → bit_or low (high * 2 ^ 32 % 2 ^ 64) ≡ high * 2 ^ 32 + low
 halves low high small fits = or_before_shift low high (2 ^ 32) (2 ^ 64) refl small (omega (arith, fits))
 
--- the digits of a number whose eight digits are the bytes of a word that was shifted
+-- If a word whose bytes are the eight digits of a number is shifted by its leading zeros, its first
+-- bytes are the number's digits.
 pub shifted_digits : (n word count shift : ℕ) → n < 10 ^ 8 → n < 2 ^ 64 → count ≡ length (decimal n) → count ≤ 8 → shift ≡ 8 * (8 - count) → bytes_low_first 0 8 word ≡ padded 8 n
     → take count (bytes_low_first 0 8 (word / 2 ^ shift)) ≡ decimal n
 shifted_digits n word count shift h small counted few by is =
@@ -169,7 +170,8 @@ shifted_digits n word count shift h small counted few by is =
     let back : drop s (bytes_low_first 0 8 word) ≡ bytes_low_first (s + 0) count word = subst (λ k. drop s (bytes_low_first 0 k word) ≡ bytes_low_first (s + 0) count word) turned (drop_bytes s 0 count word) in
     ap (λ p. take count (bytes_low_first 0 8 (word / p))) power ∙ front ∙ bytes_behind s 0 count word ∙ sym back ∙ ap (drop s) is ∙ ap (λ c. drop (8 - c) (padded 8 n)) counted ∙ behind_zeros 7 n h small
 
--- what begins a part that was written behind the first bytes
+-- If a part was written after the first bytes, and the piece is a beginning of that part, the piece
+-- follows the first bytes.
 pub behind_first : (a k m : ℕ) (xs ys piece : List ℕ) → a ≤ length xs → m ≤ length ys → take m ys ≡ piece → take (a + m) (put_mid a k xs ys) ≡ take a xs ++ piece
 behind_first a k m xs ys piece within some begins =
     let e : a + m ≡ length (take a xs) + m = ap (λ i. i + m) (sym (length-take-le a xs within)) in

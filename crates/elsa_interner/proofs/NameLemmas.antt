@@ -1,4 +1,4 @@
--- Names as texts, the borrows behind them, and the table that has their places.
+-- Names as texts, the borrows of names, and the table of their indices.
 use Rattle.std.proofs.Common.{◌≡◌, ℕ, ◌+◌, ◌<◌, ◌⊎◌, false, true≢false, Bool, true, List, [], ◌∷◌, ◌++◌, length, get_or, map, position, slice_get, refl, ap, subst, sym, ◌∙◌, append-nil, arith, Option, Bor, None, Some, IfSome, MatchOption, inl, inr}
 use mathlib.Core.List.{IsPrefix}
 use Rattle.std.proofs.lemmas.Grind.{common_steps}
@@ -16,28 +16,28 @@ use Rattle.std.specs.Cmp.Lexicographic.{bytes_decides, nat_list_eq_equiv}
 use Rattle.std.proofs.lemmas.Bool.{cases_lt, false_from_ne_true}
 use Rattle.std.proofs.lemmas.Option.{slice_get-get_or, slice_get-map, slice_get_cases, slice_get_within, get_or_from_slice_get}
 use Rattle.elsa_interner.specs.Names.{Puts, IsOneToOne, IsNumbered}
-use Rattle.elsa_table.specs.Table.{Entries, places, Has, HasSame, AddsPlace}
+use Rattle.elsa_buckets.specs.Table.{Entries, places, Has, HasSame, AddsPlace}
 
 abbrev shown : List (Bor (List ℕ)) → List (List ℕ)
 shown ks = map (λ b. b.now) ks
 
--- a name that is pushed last
+-- If a borrow is pushed, its text is the last name.
 pub shown_push : (ks ms cs : List (Bor (List ℕ))) (text : List ℕ) (b : Bor (List ℕ)) → ms ≡ ks → cs ≡ ms ++ b ∷ [] → b.now ≡ text → map (λ k. k.now) cs ≡ map (λ k. k.now) ks ++ text ∷ []
 shown_push ks ms cs text b same last copied =
     ap shown last ∙ map-append (λ k. k.now) ms (b ∷ []) ∙ ap (λ l. shown l ++ b.now ∷ []) same ∙ ap (λ t. shown ks ++ t ∷ []) copied
 
--- a new name is put last
+-- A new text is the last name after its `put`.
 pub put_new : (names after : List (List ℕ)) (text : List ℕ) (n : ℕ) → position (bytes_eq text) names ≡ None → n ≡ length names → after ≡ names ++ text ∷ [] → Puts names text n after
 put_new names after text n none number last =
     subst (λ o. MatchOption o ((n ≡ length names) × (after ≡ names ++ text ∷ [])) (λ j. (n ≡ j) × (after ≡ names))) (sym none) (number, last)
 
--- the name at the place where a text is found is that text
+-- The name at the index at which a text is found is that text.
 pub at_place : (names : List (List ℕ)) (text : List ℕ) (n : ℕ) → position (bytes_eq text) names ≡ Some n → slice_get names n ≡ Some text
 at_place names text n found =
     let p = position-Some (bytes_eq text) names n [] found in
     slice_get-get_or names n [] p.0 ∙ ap Some (sym ((bytes_decides text (get_or names n [])).0 p.1))
 
--- and so, if a text is found, the name at the place where it is found is that text
+-- If a text is found, the name at its index is that text.
 pub named_place : (names : List (List ℕ)) (text : List ℕ) → IfSome (position (bytes_eq text) names) (λ n. slice_get names n ≡ Some text)
 named_place names text = by (position (bytes_eq text) names) refl
   where
@@ -45,13 +45,13 @@ named_place names text = by (position (bytes_eq text) names) refl
     by None at = tt
     by (Some n) at = at_place names text n at
 
--- a text that no name equals is found where it goes last
+-- A text that equals no name is found at the next index once it is appended.
 found_last : (names : List (List ℕ)) (text : List ℕ) → position (bytes_eq text) names ≡ None → position (bytes_eq text) (names ++ text ∷ []) ≡ Some (length names)
 found_last names text none =
     let same : bytes_eq text text ≡ true = nat_list_eq_equiv.refl text in
     grind (arith, common_steps, position_or_len_push, prefix_len-le-length, length-append)
 
--- a name that was put stands at its number
+-- A name that was put is found at its number.
 pub stands_put : (names : List (List ℕ)) (text : List ℕ) (n : ℕ) (after : List (List ℕ)) → Puts names text n after → position (bytes_eq text) after ≡ Some n
 stands_put names text n after h = by (position (bytes_eq text) names) refl h
   where
@@ -59,7 +59,7 @@ stands_put names text n after h = by (position (bytes_eq text) names) refl h
     by None at g = ap (position (bytes_eq text)) g.1 ∙ found_last names text at ∙ ap Some (sym g.0)
     by (Some i) at g = ap (position (bytes_eq text)) g.1 ∙ at ∙ ap Some (sym g.0)
 
--- and those before it stay where they are
+-- The earlier names keep their numbers.
 pub kept_put : (names : List (List ℕ)) (text : List ℕ) (n : ℕ) (after : List (List ℕ)) → Puts names text n after → IsPrefix names after
 kept_put names text n after h = by (position (bytes_eq text) names) h
   where
@@ -67,7 +67,7 @@ kept_put names text n after h = by (position (bytes_eq text) names) h
     by None g = (text ∷ [], sym g.1)
     by (Some i) g = ([], append-nil names ∙ sym g.1)
 
--- the only place of a text is the first
+-- If no two names are equal, a text is found at the only index that it has.
 found_alone : (names : List (List ℕ)) (text : List ℕ) (i : ℕ) → IsOneToOne names → slice_get names i ≡ Some text → position (bytes_eq text) names ≡ Some i
 found_alone names text i one_to_one there =
     let within = slice_get_within names i text there in
@@ -84,12 +84,12 @@ found_alone names text i one_to_one there =
         let there_too : slice_get names k ≡ Some text = slice_get-get_or names k [] (omega arith) ∙ ap Some same in
         omega (arith, one_to_one k i text there_too there, lt))
 
--- a put of a text that is a name already: its only place, and the names as they are
+-- A `put` of a text that is a name returns its index, and the names are unchanged.
 pub put_there : (names : List (List ℕ)) (text : List ℕ) (n : ℕ) → IsOneToOne names → slice_get names n ≡ Some text → Puts names text n names
 put_there names text n one_to_one there =
     subst (λ o. MatchOption o ((n ≡ length names) × (names ≡ names ++ text ∷ [])) (λ i. (n ≡ i) × (names ≡ names))) (sym (found_alone names text n one_to_one there)) (refl, refl)
 
--- a text that is at no place is not found
+-- A text that is at no index is not found.
 found_never : (names : List (List ℕ)) (text : List ℕ) → ((i : ℕ) → slice_get names i ≡ Some text → ⊥) → position (bytes_eq text) names ≡ None
 found_never names text never =
     let last : position_or_len (bytes_eq text) names ≡ length names = position_or_len_is (bytes_eq text) names (length names) [] (omega arith) none_passes (λ lt. absurd (omega arith)) in
@@ -98,7 +98,7 @@ found_never names text never =
     none_passes : (k : ℕ) → k < length names → bytes_eq text (get_or names k []) ≡ false
     none_passes k lt = false_from_ne_true _ (λ e. never k (slice_get-get_or names k [] lt ∙ ap Some (sym ((bytes_decides text (get_or names k [])).0 e))))
 
--- and where it is not found, it is at no place
+-- A text that is not found is at no index.
 pub never_there : (names : List (List ℕ)) (text : List ℕ) (i : ℕ) → position (bytes_eq text) names ≡ None → slice_get names i ≡ Some text → ⊥
 never_there names text i none there =
     let within = slice_get_within names i text there in
@@ -106,21 +106,21 @@ never_there names text i none there =
     let fails = fails_before_first (bytes_eq text) names i [] (omega (arith, past, within)) in
     true≢false (sym (ap (bytes_eq text) (get_or_from_slice_get names i text [] there) ∙ nat_list_eq_equiv.refl text) ∙ fails)
 
--- the name behind a borrow that compares equal
+-- The comparison of a borrow with the text is the comparison of its name with the text.
 named_here : (ks : List (Bor (List ℕ))) (text : List ℕ) (i : ℕ) (b : Bool) → i < length ks → ((d : Bor (List ℕ)) → b ≡ bytes_eq text (get_or ks i d).now) → bytes_eq text (get_or (shown ks) i []) ≡ b
 named_here ks text i b lt compared = elim ((slice_get_cases ks i).1) [
   | inl h ↦ ap (bytes_eq text) (get_or_from_slice_get (shown ks) i h.0.now [] (slice_get-map (λ k. k.now) ks i ∙ ap (option_map (λ k. k.now)) h.2)) ∙ ap (λ k. bytes_eq text k.now) (sym h.3) ∙ sym (compared h.0)
   | inr h ↦ absurd (omega (arith, h.0))
 ]
 
--- the place whose name the search accepted is the text's
+-- If the search accepted an index, the text is found there.
 pub found_here : (ks : List (Bor (List ℕ))) (text : List ℕ) (i : ℕ) → IsOneToOne (map (λ k. k.now) ks) → i < length ks
     → ((d : Bor (List ℕ)) → true ≡ bytes_eq text (get_or ks i d).now) → position (bytes_eq text) (map (λ k. k.now) ks) ≡ Some i
 found_here ks text i one_to_one lt compared =
     let same = (bytes_decides text (get_or (shown ks) i [])).0 (named_here ks text i true lt compared) in
     found_alone (shown ks) text i one_to_one (slice_get-get_or (shown ks) i [] (omega (arith, length-map ks (λ k. k.now))) ∙ ap Some (sym same))
 
--- where the search refused each place that the text could have, it has none
+-- If the search rejected each index that the text could have, the text isn't found.
 pub found_nowhere : (ks : List (Bor (List ℕ))) (text : List ℕ)
     → ((i : ℕ) → slice_get (map (λ k. k.now) ks) i ≡ Some text → (d : Bor (List ℕ)) → false ≡ bytes_eq text (get_or ks i d).now) → position (bytes_eq text) (map (λ k. k.now) ks) ≡ None
 found_nowhere ks text refused = found_never (shown ks) text (λ i there.
@@ -128,7 +128,7 @@ found_nowhere ks text refused = found_never (shown ks) text (λ i there.
     let passes = ap (bytes_eq text) (get_or_from_slice_get (shown ks) i text [] there) ∙ nat_list_eq_equiv.refl text in
     true≢false (sym passes ∙ named_here ks text i false lt (refused i there)))
 
--- a name is one of the names before, or the last
+-- A name after an append is one of the earlier names, or the last one.
 split_last : (names : List (List ℕ)) (text : List ℕ) (i : ℕ) (word : List ℕ) → slice_get (names ++ text ∷ []) i ≡ Some word
     → (slice_get names i ≡ Some word) ⊎ ((i ≡ length names) × (text ≡ word))
 split_last names text i word there =
@@ -141,7 +141,7 @@ split_last names text i word there =
           inr (last, sym (get_or-append_seam names text [] []) ∙ ap (λ n. get_or (names ++ text ∷ []) n []) (sym last) ∙ read)
     ]
 
--- a new name that the table has last
+-- A new name whose index was added to the table.
 pub numbered_put : (hash : List ℕ → ℕ) (before after : Entries) (names : List (List ℕ)) (text : List ℕ) (h place : ℕ) → IsNumbered hash before names
     → h ≡ hash text → place ≡ places before → places after ≡ places before + 1 → AddsPlace before h place after → position (bytes_eq text) names ≡ None
     → IsNumbered hash after (names ++ text ∷ [])
@@ -169,7 +169,7 @@ numbered_put hash before after names text h place old hashed placed more adds no
   ];
 }
 
--- a table with the same places numbers the same names
+-- A table with the same indices numbers the same names.
 pub numbered_same : (hash : List ℕ → ℕ) (before after : Entries) (names : List (List ℕ)) → IsNumbered hash before names → places after ≡ places before → HasSame before after
     → IsNumbered hash after names
 numbered_same hash before after names old count same = record {
@@ -179,7 +179,7 @@ numbered_same hash before after names old count same = record {
   one_to_one = old.one_to_one;
 }
 
--- a table without places numbers no names
+-- A table without indices numbers no names.
 pub numbered_none : (hash : List ℕ → ℕ) (table : Entries) → places table ≡ 0 → ((h i : ℕ) → Has table h i → ⊥) → IsNumbered hash table []
 numbered_none hash table none empty = record {
   counted = none;
@@ -188,11 +188,11 @@ numbered_none hash table none empty = record {
   one_to_one = λ i j text at_i at_j. absurd (omega (arith, slice_get_within {A = List ℕ} [] i text at_i));
 }
 
--- what is printed of what a function gives of each item
+-- Printing the results of a function is printing the items through that function.
 printed_items : {X Y : Type 0} (f : X → Y) (text : Y → Option (List ℕ)) (lead : List ℕ) (xs : List X) → debug_items text lead (map f xs) ≡ debug_items (λ x. text (f x)) lead xs
 printed_items f text lead [] = refl
 printed_items f text lead (x ∷ xs) = ap (λ rest. Some lead ++? text (f x) ++? rest) (printed_items f text comma_space xs)
 
--- the names print as the borrows behind them
+-- The names print as their borrows do.
 pub listed_names : (ks : List (Bor (List ℕ))) → debug_list debug_str (map (λ k. k.now) ks) ≡ debug_list (λ (k : Bor (List ℕ)). debug_str k.now) ks
 listed_names ks = ap (λ items. Some (91 ∷ []) ++? items ++? Some (93 ∷ [])) (printed_items (λ (k : Bor (List ℕ)). k.now) debug_str [] ks)

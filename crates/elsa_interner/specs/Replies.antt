@@ -1,4 +1,4 @@
--- What the engine's requests and replies stand for.
+-- The meaning of the engine's requests and replies.
 use Rattle.std.specs.Prelude.{ℕ, List}
 use Rattle.std.specs.Fmt.{decimal}
 use Rattle.elsa_interner.specs.declared.request.Request.{Request}
@@ -7,7 +7,7 @@ use Rattle.elsa_interner.specs.declared.reply.Reply.{Reply}
 use Rattle.elsa_interner.specs.declared.reply.Reply.TheVariants.{Number, Text}
 use Rattle.elsa_interner.specs.Lines.{Command, put, find, at, len, bad}
 
--- what a request asks
+-- The command that a request is.
 abbrev pub asked : Request → Command
 asked (Put name) = put name.now
 asked (Find name) = find name.now
@@ -15,7 +15,7 @@ asked (At n) = at n
 asked Len = len
 asked Bad = bad
 
--- the text of a reply
+-- The text of a reply.
 abbrev pub reply_text : Reply → List ℕ
 reply_text (Number n) = decimal n
 reply_text (Text text) = text.now

@@ -1,4 +1,5 @@
-//! What is read at once, bytes or a text, and the lines that are cut from it. A line of a text is a text, and isn't looked at again.
+//! The bytes or the text that one read returned, and the lines that are cut from it. A line that is
+//! cut from a text is a text, and is not checked for UTF-8 again.
 ghost use Rattle.std.specs.Prelude.{◌≡◌, ◌<◌, ◌≤◌, ◌∷◌, ◌++◌, false, true, ℕ, List, length, slice_index, MatchOption};
 ghost use Rattle.memchr.specs.Find.{IsFirstByte, is_byte};
 ghost use Rattle.elsa_interner.specs.Lines.{command_of};
@@ -9,32 +10,34 @@ use crate::request::{Request, request_of, request_of_text};
 use memchr::memchr;
 use std::simd::prelude::*;
 
-/// Bytes, or a text, from which lines are cut.
+/// Bytes or a text, from which lines are cut.
 pub trait Chunk: Copy {
-    // Its bytes.
+    // The bytes of the chunk.
     ghost bytes: { Self → List ℕ };
 
-    /// A line up to its byte 10, and what follows.
+    /// Returns the first line without its byte 10, and the rest after that byte. `None` if there is
+    /// no byte 10.
     fn cut(self) -> Option<(Self, Self)>
         ensures { MatchOption result (IsInside (bytes self)) (λ p.
             IsInside (bytes p.0) × (bytes self ≡ bytes p.0 ++ (10 ∷ bytes p.1))) };
 
-    /// Its bytes.
+    /// Returns the bytes of the chunk.
     fn as_bytes(&self) -> &[u8]
         ensures { result.now ≡ bytes self.now };
 
-    /// What it asks for as a line.
+    /// Returns the request of the chunk as a line.
     fn request(&self) -> Request<'_>
         ensures { asked result ≡ command_of (bytes self.now) };
 }
 
-/// How many of the first sixteen bytes come before the first byte 10.
+/// Returns the number of bytes before the first byte 10 among the first sixteen bytes, or 16 if
+/// none of them is 10.
 #[inline(always)]
 fn near_end(piece: &[u8]) -> usize
     requires { 16 ≤ length piece.now }
     ensures within { result ≤ 16 }
     ensures before { (k : ℕ) → k < result → is_byte 10 (slice_index piece.now k) ≡ false }
-    ensures there { result < 16 → is_byte 10 (slice_index piece.now result) ≡ true }
+    ensures line_end { result < 16 → is_byte 10 (slice_index piece.now result) ≡ true }
 {
     let ends = u8x16::from_slice(piece)
         .simd_eq(u8x16::splat(10))
@@ -45,13 +48,13 @@ fn near_end(piece: &[u8]) -> usize
     ends.trailing_zeros() as usize
 }
 
-/// The place of the first byte 10, or else how many bytes there are. Most lines are short, so the first sixteen bytes are looked at by themselves, all at
-/// once.
+/// Returns the index of the first byte 10, or the number of bytes if there is none. Most lines are
+/// short, so the first sixteen bytes are compared together first.
 #[inline(always)]
 fn line_end(piece: &[u8]) -> usize
     ensures within { result ≤ length piece.now }
     ensures before { (k : ℕ) → k < result → is_byte 10 (slice_index piece.now k) ≡ false }
-    ensures there { result < length piece.now →
+    ensures line_end { result < length piece.now →
         is_byte 10 (slice_index piece.now result) ≡ true }
 {
     if piece.len() >= 16 {

@@ -1,60 +1,80 @@
-//! Readers and writers as the engine sees them: each may tell its bytes, and counts its failures.
+//! The readers and writers of the engine: each counts its failures, and its bytes may be known.
 //!
-//! The layer above uses [`Source`] and [`Sink`] alone. [`Counted`] makes either of a reader or writer of std.
+//! The layer above uses [`Source`] and [`Sink`] alone. [`Counted`] makes either of them from a
+//! reader or a writer of std.
 
 ghost use Rattle.std.specs.Prelude.{◌≡◌, ◌≢◌, ◌≤◌, ◌<◌, ℕ, List, Option, IfOk, IfErr, OnOk, OnErr, length};
 ghost use Rattle.std.specs.Io.KnownBytes.{ReadConsumes, WriteAppends};
 ghost use Rattle.std.specs.IoError.{error_kind};
 ghost use Rattle.elsa_interner.specs.Devices.{FailedOnce};
 
-use std::io;
+use std::error::Error;
 use std::io::{ErrorKind, Read, Write};
+use std::{fmt, io};
 
-/// How often a call that a signal interrupts is made, at most: 2^64 - 1 times, as in std.
+/// The greatest number of times that a call which a signal interrupts is made: 2^64 - 1, as in std.
 const TRIES: u64 = u64::MAX;
 
-/// Says that a device failed; which way it failed is not told.
+/// The error of a device's call. It doesn't contain the cause.
 #[derive(Clone, Copy, Debug, PartialEq, Eq)]
 pub struct Failed;
 
+impl fmt::Display for Failed {
+    fn fmt<W: fmt::Write>(&self, f: &mut fmt::Formatter<W>) -> fmt::Result {
+        f.pad("a device failed")
+    }
+}
+
+impl Error for Failed {}
+
 /// A reader that counts its failures.
 pub trait Source {
-    // The bytes that reads will give from here on, where they are known.
+    // The bytes that later reads return, if they are known.
     ghost left: { Self → Option (List ℕ) };
 
-    // How often a read failed; the count goes round at 2^64.
+    // The number of reads that failed; it wraps at 2^64.
     ghost failures: { Self → ℕ };
 
-    /// Puts bytes at the front of `buf` and says how many: none only at the input's end, or where `buf` is empty.
+    /// Stores bytes at the beginning of `buf`, and returns their number: 0 only at the end of the
+    /// input or if `buf` is empty.
     ///
-    /// An `Err` gives no byte. May wait for the device.
+    /// # Errors
+    /// Fails with [`Failed`] if the reader fails. It has then returned no byte.
+    ///
+    /// # Blocks
+    /// If the device does.
     fn read(&mut self, buf: &mut [u8]) -> Result<usize, Failed>
         ensures within { IfOk result (λ n. n ≤ length buf.new) }
         ensures bytes { ReadConsumes (left self.old) (left self.new) result buf.new }
-        ensures ok { OnOk result (failures self.new ≡ failures self.old) }
-        ensures err { OnErr result (FailedOnce (failures self.old) (failures self.new)) };
+        ensures succeeded { OnOk result (failures self.new ≡ failures self.old) }
+        ensures failed { OnErr result (FailedOnce (failures self.old) (failures self.new)) };
 }
 
 /// A writer that counts its failures.
 pub trait Sink {
-    // The bytes that the writer holds, where they are known.
+    // The content of the writer, if it is known.
     ghost held: { Self → Option (List ℕ) };
 
-    // How often a write failed; the count goes round at 2^64.
+    // The number of writes that failed; it wraps at 2^64.
     ghost failures: { Self → ℕ };
 
-    /// Takes a beginning of the piece and says how many bytes it took: at least one, if the piece has any.
+    /// Writes a beginning of `piece`, and returns the number of bytes written: at least one, unless
+    /// `piece` is empty.
     ///
-    /// An `Err` took no byte. May wait for the device.
+    /// # Errors
+    /// Fails with [`Failed`] if the writer fails. It has then written no byte.
+    ///
+    /// # Blocks
+    /// If the device does.
     fn write(&mut self, piece: &[u8]) -> Result<usize, Failed>
         ensures within { IfOk result (λ n. n ≤ length piece.now) }
         ensures takes { IfOk result (λ n. 0 < length piece.now → 0 < n) }
         ensures bytes { WriteAppends (held self.old) (held self.new) result piece.now }
-        ensures ok { OnOk result (failures self.new ≡ failures self.old) }
-        ensures err { OnErr result (FailedOnce (failures self.old) (failures self.new)) };
+        ensures succeeded { OnOk result (failures self.new ≡ failures self.old) }
+        ensures failed { OnErr result (FailedOnce (failures self.old) (failures self.new)) };
 }
 
-/// Reads once; a read that a signal interrupts is made again.
+/// Reads once. If a signal interrupts the read, the read is repeated.
 fn read_uninterrupted<R: Read>(reader: &mut R, buf: &mut [u8]) -> io::Result<usize>
     ensures within { IfOk result (λ n. n ≤ length buf.new) }
     ensures bytes { ReadConsumes (R.remaining reader.old) (R.remaining reader.new) result buf.new }
@@ -69,7 +89,7 @@ fn read_uninterrupted<R: Read>(reader: &mut R, buf: &mut [u8]) -> io::Result<usi
     Err(io::Error::from(ErrorKind::TimedOut))
 }
 
-/// Writes once; a write that a signal interrupts is made again.
+/// Writes once. If a signal interrupts the write, the write is repeated.
 fn write_uninterrupted<W: Write>(writer: &mut W, piece: &[u8]) -> io::Result<usize>
     ensures within { IfOk result (λ n. n ≤ length piece.now) }
     ensures bytes { WriteAppends (W.contents writer.old) (W.contents writer.new) result piece.now }
@@ -84,20 +104,21 @@ fn write_uninterrupted<W: Write>(writer: &mut W, piece: &[u8]) -> io::Result<usi
     Err(io::Error::from(ErrorKind::TimedOut))
 }
 
-/// A reader or writer of std, with a count of its failures.
+/// A reader or a writer of std, with the number of its failures.
 ///
-/// A call that a signal interrupts is made again, and is no failure: a failure is any other `Err`, and a write that takes
-/// no byte of a piece that has some. A call that is interrupted 2^64 - 1 times, one after the other, fails too.
+/// A call that a signal interrupts is repeated, and is no failure. A call fails if std returns any
+/// other `Err`, if a write of a piece that isn't empty writes no byte, or if it is interrupted
+/// 2^64 - 1 times in a row.
 #[derive(Drop)]
 pub struct Counted<D> {
-    /// The reader or writer.
+    /// The reader or the writer.
     pub device: D,
-    /// How often it failed; after 2^64 - 1 the count goes on at 0.
+    /// The number of its failures; it wraps at 2^64.
     pub failures: u64,
 }
 
 impl<D> Counted<D> {
-    /// The device, with no failure counted.
+    /// Makes a `Counted` of the device, with no failures.
     pub fn new(device: D) -> Self
         ensures device { result.device ≡ device }
         ensures failures { result.failures ≡ 0 }

@@ -1,11 +1,11 @@
-//! Numbers in decimal digits, with no sign.
+//! Numbers as decimal digits, without a sign.
 ghost use Rattle.std.specs.Prelude.{◌≡◌, ◌<◌, ◌≤◌, ◌+◌, ◌-◌, ◌*◌, ◌/◌, ◌%◌, ◌∷◌, ◌++◌, [], true, false, ℕ, IsTrue, ◌↔◌, slice_index, length, take, drop, MatchOption};
 ghost use Rattle.std.specs.Fmt.{decimal};
 ghost use Rattle.std.specs.Int.{IsInRange};
 ghost use Rattle.std.specs.Str.Parse.{digits_value};
 ghost use Rattle.elsa_interner.specs.Lines.{is_number};
 
-/// Whether each byte is a digit.
+/// Returns whether each byte is an ASCII digit.
 fn all_digits(digits: &[u8]) -> bool
     ensures { IsTrue result
         ↔ ((i : ℕ) → i < length digits.now → IsInRange 48 57 (slice_index digits.now i)) }
@@ -13,9 +13,9 @@ fn all_digits(digits: &[u8]) -> bool
     digits.iter().all(|b| b.is_ascii_digit())
 }
 
-/// The number that one or more ASCII digits write; `None` if the text is anything else or the number is above 2^64 - 1.
-///
-/// Zeros may stand in front, a sign may not. Takes no memory.
+/// Returns the number that the text writes in decimal, with or without leading zeros. `None` unless
+/// the text is one or more ASCII digits, without a sign, and the number is at most 2^64 - 1. It
+/// allocates nothing.
 pub fn number_of(digits: &str) -> Option<u64>
     ensures { MatchOption result (is_number digits.now ≡ false) (λ n.
         (is_number digits.now ≡ true) × (n ≡ digits_value 10 digits.now)) }
@@ -26,22 +26,25 @@ pub fn number_of(digits: &str) -> Option<u64>
     digits.parse().ok()
 }
 
-/// The numbers of two digits, one after the other.
+/// The two digits of each number below 100, in order.
 static PAIRS: [u8; 200] =
     *b"00010203040506070809101112131415161718192021222324252627282930313233343536373839404142434445464748495051525354555657585960616263646566676869707172737475767778798081828384858687888990919293949596979899";
 
-/// The numbers below this one have at most eight digits.
+/// Each number below this one has at most eight digits.
 pub(crate) const SHORT: usize = 100_000_000;
 
-/// How many bytes the line of such a number has, at most: eight digits and byte 10.
+/// The greatest number of bytes in the line of such a number: eight digits and byte 10.
 pub(crate) const LINE: usize = 9;
 
-/// How many digits a number has. No processor could foretell it, so nothing branches: each comparison is a number.
+/// Returns the number of digits of `n`.
+///
+/// It adds the results of comparisons instead of branching on them, since a processor could not
+/// predict such branches.
 #[inline(always)]
 pub(crate) fn digit_count(n: usize) -> usize
     requires { n < SHORT }
     ensures length { result ≡ length (decimal n) }
-    ensures few { (1 ≤ result) × (result ≤ 8) }
+    ensures digits { (1 ≤ result) × (result ≤ 8) }
 {
     let (one, two, three) = (n >= 10, n >= 100, n >= 1_000);
     let (four, five, six, seven) = (n >= 10_000, n >= 100_000, n >= 1_000_000, n >= 10_000_000);
@@ -49,7 +52,7 @@ pub(crate) fn digit_count(n: usize) -> usize
     few + four as usize + five as usize + six as usize + seven as usize
 }
 
-/// The two digits of a number below a hundred.
+/// Returns the two digits of a number below 100.
 #[inline(always)]
 fn pair(number: usize) -> [u8; 2]
     requires { number < 100 }
@@ -59,13 +62,14 @@ fn pair(number: usize) -> [u8; 2]
     [tens, ones]
 }
 
-/// The digits of a number, and behind them what is there to be read and means nothing. They are shifted in a word, so that no byte is read from memory that
-/// was just written there.
+/// Returns the digits of `n` in the first `count` bytes. The other bytes have no meaning.
+///
+/// It shifts the digits within a word, so that no byte is loaded from memory which was just stored.
 #[inline(always)]
 pub(crate) fn digits_of(n: usize, count: usize) -> [u8; 8]
     requires short { n < SHORT }
     requires count { count ≡ length (decimal n) }
-    requires few { (1 ≤ count) × (count ≤ 8) }
+    requires digits { (1 ≤ count) × (count ≤ 8) }
     ensures { take count result ≡ decimal n }
 {
     let (high, low) = (n / 10_000, n % 10_000);

@@ -1,4 +1,5 @@
-//! An answer line for each line of the input.
+//! The engine: it reads lines, each of which is a request about names, and writes one reply line
+//! for each.
 ghost use Rattle.std.specs.Prelude.{◌≡◌, ◌<◌, ◌^◌, ◌-◌, [], ◌∷◌, ◌++◌, ℕ, List, false, true, length, codes, IsTrue, OnOk, OnErr, MatchOption};
 ghost use Rattle.elsa_interner.specs.Devices.{CountsFault};
 ghost use Rattle.elsa_interner.specs.Engine.{HasRun, CountsRun};
@@ -14,32 +15,48 @@ use crate::reply::{Reply, push_reply};
 use crate::request::{Request, request_of};
 use bumpalo::Bump;
 use std::alloc::Allocator;
+use std::error::Error;
+use std::fmt;
 use std::hash::{BuildHasher, BuildHasherDefault, FoldHasher};
 
-/// How many bytes are read at once.
+/// The greatest number of bytes that one read returns.
 const PIECE: usize = 8192;
 
-/// For how many lines the table is read before the first of them is answered.
+/// The number of lines for which the table is read ahead.
 const AHEAD: usize = 16;
 
-/// The table of fewer names fits in the processor's nearest caches, and isn't read ahead.
+/// The number of names from which on the table is read ahead. A smaller table fits in the
+/// processor's nearest caches.
 const MANY: usize = 1 << 16;
 
-/// A guess at no name.
+/// A guess at which there is no name.
 const NO_GUESS: usize = usize::MAX;
 
-/// Why the engine stopped before the input's end.
+/// Why the engine stopped before the end of the input.
 #[derive(Clone, Copy, Debug, PartialEq, Eq)]
 pub enum EngineFault {
-    /// The reader failed in this call.
+    /// The reader failed.
     Read,
-    /// The writer failed in this call.
+    /// The writer failed.
     Write,
-    /// The reader gave bytes in 2^64 - 1 reads.
+    /// 2^64 - 1 reads returned bytes, and the end of the input was not reached.
     Endless,
 }
 
-/// Does what is asked. A name that is put may be at `guess`.
+impl fmt::Display for EngineFault {
+    fn fmt<W: fmt::Write>(&self, f: &mut fmt::Formatter<W>) -> fmt::Result {
+        f.pad(match self {
+            EngineFault::Read => "the input could not be read",
+            EngineFault::Write => "the output could not be written",
+            EngineFault::Endless => "the input did not end within 2^64 - 1 reads",
+        })
+    }
+}
+
+impl Error for EngineFault {}
+
+/// Executes the request and returns its reply. For a name to put, the number `guess` is compared
+/// first.
 #[tactic(auto, using(crate::proofs::ReplyLemmas::put_replies, crate::proofs::ReplyLemmas::full_replies))]
 #[inline(always)]
 fn answer_to<'a, S: BuildHasher, A: Allocator + Copy, P: Allocator>(
@@ -50,7 +67,7 @@ fn answer_to<'a, S: BuildHasher, A: Allocator + Copy, P: Allocator>(
 ) -> Reply<'a>
     ensures replies { Replies names.old (asked request.entry) (reply_text result) names.new }
 
-    // Where there are as many names as numbers, it isn't memory that a new one lacks.
+    // If there are 2^32 - 1 names, the reply to a new one is `too many names`.
     ensures limit { LacksNumber names.old (asked request.entry) →
         reply_text result ≡ codes "too many names" }
 {
@@ -81,18 +98,22 @@ fn answer_to<'a, S: BuildHasher, A: Allocator + Copy, P: Allocator>(
 /// The names so far, and the line that has begun.
 #[derive(Drop)]
 struct Session<'a, S: BuildHasher, A: Allocator + Copy, P: Allocator> {
-    // Where the names lie, and the names.
+    // The arena in which the names are stored, and the names.
     arena: &'a Bump<P>,
     names: InternerReader<'a, S, A>,
-    // What was read of the line that has begun, unless it lies whole in the piece.
+    // The bytes read so far of a line that doesn't end in the piece in which it began.
     line: Vec<u8, A>,
-    // Whether memory for that line was refused; its rest is then skipped.
+    // Whether an allocation for that line failed. The rest of the line is then skipped.
     skips: bool,
 }
 
 impl<'a, S: BuildHasher, A: Allocator + Copy, P: Allocator> Session<'a, S, A, P> {
-    /// For each of the next lines a number that the name that it puts may have. The table is read in a loop of its own, which is short enough that the processor
-    /// begins all sixteen reads before the first one has come from memory. Out of line, so that the loop over the lines of few names stays short.
+    /// Returns a guess for each of the next lines: if the line puts a name, a number that the name
+    /// may have.
+    ///
+    /// It reads the table in a separate loop, which is short enough that the processor starts all
+    /// sixteen loads before the first one ends. It is not inlined, so that the loop over the lines
+    /// stays short if there are few names.
     #[inline(never)]
     fn guesses<C: Chunk>(&self, chunk: C) -> [usize; AHEAD] {
         let mut hashes = [0; AHEAD];
@@ -113,7 +134,8 @@ impl<'a, S: BuildHasher, A: Allocator + Copy, P: Allocator> Session<'a, S, A, P>
         guesses
     }
 
-    /// The answer to the line that has begun in a piece before and ends so, or that is skipped.
+    /// Ends the line that began in an earlier piece, and returns the reply to it. The reply to a
+    /// line that is skipped is `no memory`.
     #[cold]
     #[inline(never)]
     fn finish_begun(&mut self, end: &[u8]) -> Reply<'a>
@@ -135,7 +157,8 @@ impl<'a, S: BuildHasher, A: Allocator + Copy, P: Allocator> Session<'a, S, A, P>
         answer
     }
 
-    /// Keeps a piece of a line that goes on. The rest of a line that was refused memory isn't kept, and takes none.
+    /// Stores a piece of a line that doesn't end in it. If an allocation fails, the rest of the
+    /// line is skipped, and allocates nothing.
     fn keep(&mut self, piece: &[u8])
         ensures line { (tail : List ℕ) → IsSoFar self.old.line.items self.old.skips tail →
             IsSoFar self.new.line.items self.new.skips (tail ++ piece.now) }
@@ -151,7 +174,10 @@ impl<'a, S: BuildHasher, A: Allocator + Copy, P: Allocator> Session<'a, S, A, P>
         }
     }
 
-    /// Answers the lines that end in the chunk, before which no line has begun, and writes the answers. With `is_ahead` the table is read for several of them at once; it is inlined, so that a call without it does none of that.
+    /// Writes the replies to the lines that end in the chunk. No line has begun before it.
+    ///
+    /// If `is_ahead` is true, the table is read for several lines at once. The function is inlined,
+    /// so that a call with `false` has none of that code.
     #[inline(always)]
     fn feed<C: Chunk, W: Sink>(
         &mut self,
@@ -185,9 +211,12 @@ impl<'a, S: BuildHasher, A: Allocator + Copy, P: Allocator> Session<'a, S, A, P>
         out.flush(writer)
     }
 
-    /// Answers the lines that end in the piece, and writes the answers. The first may have begun in a piece before. Where what follows is a text as a whole, none of
-    /// its lines is looked at again. Inlined, so that the loop
-    /// over the lines finds the session and what waits in the frame of the run.
+    /// Writes the replies to the lines that end in the piece. The first line may have begun in an
+    /// earlier piece.
+    ///
+    /// If the rest of the piece is UTF-8 as a whole, its lines are not checked one by one. The
+    /// function is inlined, so that the loop over the lines finds the session and the buffered
+    /// bytes in the stack frame of the run.
     #[inline(always)]
     fn feed_bytes<W: Sink>(
         &mut self,
@@ -219,7 +248,7 @@ impl<'a, S: BuildHasher, A: Allocator + Copy, P: Allocator> Session<'a, S, A, P>
         }
     }
 
-    /// Answers the last line, which has no byte 10.
+    /// Writes the reply to the last line, if it has no byte 10.
     fn end<W: Sink>(&mut self, out: &mut Pending, writer: &mut W) -> Result<(), Failed>
         requires { out.old ≡ [] }
         ensures ends { Ends result self.old.names self.old.line.items self.old.skips
@@ -236,35 +265,47 @@ impl<'a, S: BuildHasher, A: Allocator + Copy, P: Allocator> Session<'a, S, A, P>
     }
 }
 
-/// Answers each line of the input by one line, until the input ends or a device fails.
+/// Writes one reply line for each line of the input, until the input ends or a device fails.
 ///
-/// | Line | Answer |
+/// | Line | Reply |
 /// |---|---|
-/// | `put TEXT` | the number of TEXT, which is kept as a name if it is new |
+/// | `put TEXT` | the number of TEXT, which becomes a name if it is new |
 /// | `find TEXT` | the number of TEXT, or `none` |
 /// | `at N` | the name with the number N, or `none` |
-/// | `len` | how many names there are |
-/// | any other, or one that is no UTF-8 | `bad line` |
+/// | `len` | the number of names |
+/// | any other line, or one that isn't UTF-8 | `bad line` |
 ///
-/// A line ends at byte 10, or at the input's end if it has a byte. TEXT is all that follows the one space,
-/// byte 13 included, and may be empty. N is one or more ASCII digits and at most 2^64 - 1. Where memory for a
-/// line or a name is refused, the answer is `no memory`, the line changes nothing and its rest is skipped. Where
-/// there are 2^32 - 1 names, a new one has no number: the answer is `too many names`, and the line changes nothing.
+/// A line ends with byte 10; the last line may also end with the input. TEXT is everything after
+/// the one space, byte 13 included, and may be empty. N is one or more ASCII digits, at most
+/// 2^64 - 1.
 ///
-/// Names are placed in `arena`; their table and a line longer than a read take memory of `alloc`, and nothing
-/// else takes any. Answers are written before the next read, so nobody waits for one that is known.
+/// Two more replies report that a line changed nothing. `no memory`: an allocation for the line or
+/// for its name failed, and the rest of the line is skipped. `too many names`: there are already
+/// 2^32 - 1 names, and the line would add one.
 ///
-/// The names are hashed without a secret: where strangers choose them, take [`intern_engine_with_hasher`].
+/// Before each read, the replies to all lines that have ended are written.
 ///
-/// After `Read` and `Endless` the answers to all lines whose byte 10 was read are written, after `Write` a
-/// beginning of the answers so far.
+/// The default hash has no secret. If the names are untrusted input, use
+/// [`intern_engine_with_hasher`].
+///
+/// # Errors
+/// Fails with `Read` if the reader fails, and with `Endless` if 2^64 - 1 reads return bytes: the
+/// replies to all lines whose byte 10 was read are then written. Fails with `Write` if the writer
+/// fails: a beginning of the replies is then written.
+///
+/// # Blocks
+/// If the reader or the writer does.
+///
+/// # Allocates
+/// In `arena` the text of each name. With `alloc` the table and the list of the names, and a line
+/// that doesn't end in the piece in which it began.
 pub fn intern_engine<'a, A: Allocator + Copy, P: Allocator, R: Source, W: Sink>(
     alloc: A,
     arena: &'a Bump<P>,
     reader: &mut R,
     writer: &mut W,
 ) -> Result<(), EngineFault>
-    // What was read is answered: all of it, or as far as the run came.
+    // What was written is the replies to what was read, all of them if the result is `Ok`.
     ensures answers { HasRun result (R.left reader.old) (R.left reader.new)
         (W.held writer.old) (W.held writer.new) }
 
@@ -281,7 +322,11 @@ pub fn intern_engine<'a, A: Allocator + Copy, P: Allocator, R: Source, W: Sink>(
     )
 }
 
-/// As [`intern_engine`], with the names hashed by `hash_builder`.
+/// Writes one reply line for each line of the input, as [`intern_engine`] does. `hash_builder`
+/// hashes the names.
+///
+/// # Errors
+/// Fails as [`intern_engine`] does.
 pub fn intern_engine_with_hasher<
     'a,
     S: BuildHasher + Drop,
@@ -296,7 +341,7 @@ pub fn intern_engine_with_hasher<
     reader: &mut R,
     writer: &mut W,
 ) -> Result<(), EngineFault>
-    // What was read is answered: all of it, or as far as the run came.
+    // What was written is the replies to what was read, all of them if the result is `Ok`.
     ensures answers { HasRun result (R.left reader.old) (R.left reader.new)
         (W.held writer.old) (W.held writer.new) }
 

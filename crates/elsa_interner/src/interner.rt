@@ -1,7 +1,9 @@
-//! Names, numbered by their first `put`, and the engine that answers lines about them.
+//! The interner of one thread, and the public names of the crate.
 //!
-//! [`Interner`] finds a name by its hash, in one search of a table of places (`elsa_table`), also where the name is new. [`intern_engine`] runs one over a reader's lines; it is generic over
-//! [`Source`] and [`Sink`], which [`Counted`] makes of any reader and writer of std.
+//! [`Interner`] finds a name by its hash in a table of indices (`elsa_buckets`). One search
+//! suffices, also for a new name. [`intern_engine`] runs an interner over the lines of a reader. It
+//! is generic over [`Source`] and [`Sink`], which [`Counted`] makes from readers and writers of
+//! std.
 ghost use Rattle.std.specs.Prelude.{◌≡◌, ◌↔◌, ℕ, [], List, length, None, Some, slice_get, position, map, is_some, ◌<◌, ◌≤◌, IfOk, IfSome, IsTrue, OnErr, OnOk};
 ghost use Rattle.std.specs.Borrow.{Bor};
 ghost use Rattle.std.specs.Fmt.{debug_list, debug_str};
@@ -23,11 +25,12 @@ use std::marker::Model;
 use std::ops::Index;
 use std::slice::Iter;
 
-/// Names, each with a number: the first new name has 0, the next 1, and so on.
+/// An interner: distinct names, numbered from 0 in the order of their first `put`.
 ///
-/// In contracts an interner is the list of its names, each as its bytes; a name's number is its place there.
-/// The names lie in the arena that the caller lends, so a borrow that [`Interner::at`] answers outlives the
-/// interner. `alloc` gives the memory of the table and of the list of names, and `P` is the allocator of the arena.
+/// Contracts see an interner as the list of its names, each as its bytes; the number of a name is
+/// its index in the list. The names are stored in the arena that the caller passes in, so the
+/// borrow that [`Interner::at`] returns outlives the interner. `alloc` allocates the table and the
+/// list of names. `P` is the allocator of the arena.
 #[derive(Drop)]
 pub struct Interner<
     'a,
@@ -48,9 +51,10 @@ impl<'a, S: BuildHasher, A: Allocator + Copy, P: Allocator> Model for Interner<'
 }
 
 impl<'a, A: Allocator + Copy, P: Allocator> Interner<'a, BuildHasherDefault<FoldHasher>, A, P> {
-    /// An interner with no names, with the default hasher, which is fast and has a fixed seed.
+    /// Makes an empty interner with the default hasher, which is fast and has a fixed seed. It
+    /// allocates nothing.
     ///
-    /// Takes no memory. That hash has no secret: where strangers choose the names, take
+    /// The default hash has no secret. If the names are untrusted input, use
     /// [`Interner::with_hasher`] and a `SeededState` of `elsa`.
     pub fn new(alloc: A, arena: &'a Bump<P>) -> Self
         ensures { result ≡ [] }
@@ -58,9 +62,11 @@ impl<'a, A: Allocator + Copy, P: Allocator> Interner<'a, BuildHasherDefault<Fold
         Interner::with_hasher(alloc, arena, BuildHasherDefault::new())
     }
 
-    /// An interner with no names, with the default hasher and room for so many.
+    /// Makes an empty interner with the default hasher and with capacity for `capacity` names, as
+    /// after [`reserve`](Interner::reserve).
     ///
-    /// `Err` means that memory for them was refused; see [`Interner::reserve`].
+    /// # Errors
+    /// Fails if an allocation fails, or if `capacity` is above 2^32 - 1.
     pub fn with_capacity(alloc: A, arena: &'a Bump<P>, capacity: usize) -> Result<Self, AllocError>
         ensures { IfOk result (λ names. names ≡ []) }
     {
@@ -69,7 +75,7 @@ impl<'a, A: Allocator + Copy, P: Allocator> Interner<'a, BuildHasherDefault<Fold
 }
 
 impl<'a, S: BuildHasher, A: Allocator + Copy, P: Allocator> Interner<'a, S, A, P> {
-    /// An interner with no names, hashed by `hash_builder`. Takes no memory.
+    /// Makes an empty interner. `hash_builder` hashes its names. It allocates nothing.
     pub fn with_hasher(alloc: A, arena: &'a Bump<P>, hash_builder: S) -> Self
         ensures { result ≡ [] }
     {
@@ -79,7 +85,11 @@ impl<'a, S: BuildHasher, A: Allocator + Copy, P: Allocator> Interner<'a, S, A, P
         }
     }
 
-    /// An interner with no names, hashed by `hash_builder`, with room for so many. `Err` means that memory for them was refused.
+    /// Makes an empty interner with capacity for `capacity` names, as after
+    /// [`reserve`](Interner::reserve). `hash_builder` hashes its names.
+    ///
+    /// # Errors
+    /// Fails if an allocation fails, or if `capacity` is above 2^32 - 1.
     pub fn with_capacity_and_hasher(
         alloc: A,
         arena: &'a Bump<P>,
@@ -95,9 +105,10 @@ impl<'a, S: BuildHasher, A: Allocator + Copy, P: Allocator> Interner<'a, S, A, P
         Ok(names)
     }
 
-    /// The number of a name, or `None` if `put` never kept it.
+    /// Returns the number of a name, or `None` if the text isn't a name. It allocates nothing.
     ///
-    /// Takes no memory. `O(1)` hashed.
+    /// # Cost
+    /// `O(1)` if the hashes are well distributed.
     #[inline]
     pub fn find(&self, text: &str) -> Option<usize>
         ensures place { result ≡ position (bytes_eq text.now) self.now }
@@ -106,51 +117,69 @@ impl<'a, S: BuildHasher, A: Allocator + Copy, P: Allocator> Interner<'a, S, A, P
         self.names.find(text)
     }
 
-    /// The name with this number, or `None` if the number is at or above [`Interner::len`].
+    /// Returns the name with this number, or `None` exactly if the number is at or above
+    /// [`Interner::len`]. It allocates nothing.
     ///
-    /// The borrow lives as long as the arena's loan. Takes no memory. `O(1)`.
+    /// The borrow is valid as long as the borrow of the arena.
+    ///
+    /// # Cost
+    /// `O(1)`.
     pub fn at(&self, number: usize) -> Option<&'a str>
         ensures { option_map (λ b. b.now) result ≡ slice_get self.now number }
     {
         self.names.at(number)
     }
 
-    /// How many names there are. The names are one to one with the numbers below it.
+    /// Returns the number of names. The names are one to one with the numbers below it. It
+    /// allocates nothing.
     ///
-    /// Takes no memory. `O(1)`.
+    /// # Cost
+    /// `O(1)`.
     pub fn len(&self) -> usize
-        ensures len { result ≡ length self.now }
+        ensures length { result ≡ length self.now }
         ensures one_to_one { IsOneToOne self.now }
     {
         self.names.len()
     }
 
-    /// Whether there are no names. Takes no memory. `O(1)`.
+    /// Returns whether there is no name. It allocates nothing.
+    ///
+    /// # Cost
+    /// `O(1)`.
     pub fn is_empty(&self) -> bool
         ensures { IsTrue result ↔ (length self.now ≡ 0) }
     {
         self.names.is_empty()
     }
 
-    /// Whether there are as many names as there are numbers for: 2^32 - 1. A `put` of a new name then returns `Err`.
+    /// Returns whether there are 2^32 - 1 names, the greatest number. A `put` of a new name then
+    /// fails. It allocates nothing.
     ///
-    /// Takes no memory. `O(1)`.
+    /// # Cost
+    /// `O(1)`.
     pub fn is_full(&self) -> bool
         ensures { IsTrue result ↔ IsFull self.now }
     {
         self.names.is_full()
     }
 
-    /// Whether `put` kept this name. Takes no memory. `O(1)` hashed.
+    /// Returns whether the text is a name. It allocates nothing.
+    ///
+    /// # Cost
+    /// `O(1)` if the hashes are well distributed.
     pub fn contains(&self, text: &str) -> bool
         ensures { result ≡ is_some (position (bytes_eq text.now) self.now) }
     {
         self.names.contains(text)
     }
 
-    /// Each name once, in the order of the numbers; from the back, in reverse. Takes no memory. `O(1)`, and so is each name.
+    /// Returns an iterator over the names, in the order of their numbers, and from the back in
+    /// reverse. It allocates nothing.
     ///
-    /// No name can be put while it walks; `enumerate` gives the numbers.
+    /// During the walk no name can be put. `enumerate` adds the numbers.
+    ///
+    /// # Cost
+    /// `O(1)`, and `O(1)` for each name.
     pub fn iter(&self) -> Iter<'_, &'a str>
         ensures names { map (λ name. name.now) (iter_rest result) ≡ self.now }
         ensures runs { IterYieldsInOrder (Bor (List ℕ)) }
@@ -159,44 +188,59 @@ impl<'a, S: BuildHasher, A: Allocator + Copy, P: Allocator> Interner<'a, S, A, P
         self.names.iter()
     }
 
-    /// How many names there is room for in the table and the list, with those that are there: at least [`Interner::len`].
+    /// Returns the number of names that the interner can have before the table or the list of names
+    /// allocates. It is at least [`Interner::len`].
     ///
-    /// Takes no memory. `O(1)`.
+    /// # Cost
+    /// `O(1)`.
     pub fn capacity(&self) -> usize
         ensures { length self.now ≤ result }
     {
         self.names.capacity()
     }
 
-    /// Makes room in the table and the list for so many more names: as long as they are no more, a `put` of a new name
-    /// asks the arena alone for memory.
+    /// Reserves capacity for at least `additional` more names: until they are put, a `put`
+    /// allocates only in the arena. The names are unchanged, also if it fails.
     ///
-    /// `Err` means that memory for them was refused, or that there would be more than 2^32 - 1 names; the names stay as they
-    /// were. 16 bytes a name in the list, and 11 to 21 in the table, both of `alloc`. `O(n)` where a table is copied.
+    /// # Errors
+    /// Fails if an allocation fails, or if there would be more than 2^32 - 1 names.
+    ///
+    /// # Allocates
+    /// With `alloc`: 16 bytes for each name in the list, and 11 to 21 bytes in the table.
+    ///
+    /// # Cost
+    /// `O(n)` if the list or the table grows, otherwise `O(1)`.
     pub fn reserve(&mut self, additional: usize) -> Result<(), AllocError>
         ensures { self.new ≡ self.old }
     {
         self.names.reserve(additional)
     }
 
-    /// The number of a name, which is kept if it is new and then has the number that [`Interner::len`] was.
+    /// Returns the number of a name. A new name is stored, and its number is what [`Interner::len`]
+    /// was. A present name allocates nothing.
     ///
-    /// A name that is there takes no memory and never fails. Of a new one a copy goes straight into the arena, once there
-    /// is room for it in the table and the list. `Err` means that memory was refused, or that there are 2^32 - 1 names
-    /// ([`Interner::is_full`]): the names stay as they were, and the arena has no copy. One hash and one search: `O(1)`
-    /// hashed, and the copy.
+    /// It makes room in the list and in the table first, and then copies the text into the arena.
+    ///
+    /// # Errors
+    /// Fails only for a new name: if an allocation fails, or if there are 2^32 - 1 names
+    /// ([`Interner::is_full`]). The names are then unchanged, and the arena has no copy.
+    ///
+    /// # Cost
+    /// One hash and one search, `O(1)` if the hashes are well distributed. For a new name also the
+    /// copy; the growth of the list and the table is amortized.
     #[inline(always)]
     pub fn put(&mut self, text: &str) -> Result<usize, AllocError>
-        // The number that it has, or the next one for a new name; only a new one is refused, and then nothing changes.
-        ensures put { IfOk result (λ n. Puts self.old text.now n self.new) }
+        // The result is the number of the present name, or the next number for a new one. Only a
+        // new name fails, and then nothing changes.
+        ensures numbered { IfOk result (λ n. Puts self.old text.now n self.new) }
         ensures refused { OnErr result (self.new ≡ self.old) }
         ensures only_new { OnErr result (position (bytes_eq text.now) self.old ≡ None) }
         ensures limit { OnOk result (position (bytes_eq text.now) self.old ≡ None →
             ¬ IsFull self.old) }
 
-        // The name stands at its number, and those before it where they were.
-        ensures stands { IfOk result (λ n. slice_get self.new n ≡ Some text.now) }
-        ensures stands_at { IfOk result (λ n. position (bytes_eq text.now) self.new ≡ Some n) }
+        // The name is at its number, and the earlier names have the numbers that they had.
+        ensures value_after { IfOk result (λ n. slice_get self.new n ≡ Some text.now) }
+        ensures index_after { IfOk result (λ n. position (bytes_eq text.now) self.new ≡ Some n) }
         ensures kept { IsPrefix self.old self.new }
         ensures kept_at { (word : List ℕ) (i : ℕ) → position (bytes_eq word) self.old ≡ Some i →
             position (bytes_eq word) self.new ≡ Some i }
@@ -204,20 +248,25 @@ impl<'a, S: BuildHasher, A: Allocator + Copy, P: Allocator> Interner<'a, S, A, P
         self.names.put_in(self.arena, text, None)
     }
 
-    /// As [`Interner::put`], of a text that lives as long as the arena is borrowed: it lies there already, or it is static. A
-    /// new name is that text itself, and no copy: the arena is asked for nothing.
+    /// Returns the number of a name, as [`Interner::put`] does, for a text that lives as long as
+    /// the borrow of the arena: it is in the arena already, or it is static. A new name is that
+    /// text itself, so nothing is copied or allocated in the arena.
+    ///
+    /// # Errors
+    /// Fails as [`Interner::put`] does.
     #[inline]
     pub fn put_placed(&mut self, text: &'a str) -> Result<usize, AllocError>
-        // The number that it has, or the next one for a new name; only a new one is refused, and then nothing changes.
-        ensures put { IfOk result (λ n. Puts self.old text.now n self.new) }
+        // The result is the number of the present name, or the next number for a new one. Only a
+        // new name fails, and then nothing changes.
+        ensures numbered { IfOk result (λ n. Puts self.old text.now n self.new) }
         ensures refused { OnErr result (self.new ≡ self.old) }
         ensures only_new { OnErr result (position (bytes_eq text.now) self.old ≡ None) }
         ensures limit { OnOk result (position (bytes_eq text.now) self.old ≡ None →
             ¬ IsFull self.old) }
 
-        // The name stands at its number, and those before it where they were.
-        ensures stands { IfOk result (λ n. slice_get self.new n ≡ Some text.now) }
-        ensures stands_at { IfOk result (λ n. position (bytes_eq text.now) self.new ≡ Some n) }
+        // The name is at its number, and the earlier names have the numbers that they had.
+        ensures value_after { IfOk result (λ n. slice_get self.new n ≡ Some text.now) }
+        ensures index_after { IfOk result (λ n. position (bytes_eq text.now) self.new ≡ Some n) }
         ensures kept { IsPrefix self.old self.new }
         ensures kept_at { (word : List ℕ) (i : ℕ) → position (bytes_eq word) self.old ≡ Some i →
             position (bytes_eq word) self.new ≡ Some i }
@@ -225,7 +274,11 @@ impl<'a, S: BuildHasher, A: Allocator + Copy, P: Allocator> Interner<'a, S, A, P
         self.names.put_in(self.arena, text, Some(text))
     }
 
-    /// The names and the table, without the arena: for look-ups alone, and also for threads. Takes no memory. `O(1)`.
+    /// Returns the names without the arena, for look-ups only. Threads can share the result if they
+    /// can share `S` and `A`. It allocates nothing.
+    ///
+    /// # Cost
+    /// `O(1)`.
     pub fn into_reader(self) -> InternerReader<'a, S, A>
         ensures { result ≡ self.entry }
     {
@@ -237,7 +290,7 @@ impl<'a, S: BuildHasher, A: Allocator + Copy, P: Allocator> Interner<'a, S, A, P
     }
 }
 
-/// `for name in &names` gives each name once, in the order of the numbers.
+/// `for name in &names` visits each name, in the order of the numbers.
 impl<'n, 'a, S: BuildHasher, A: Allocator + Copy, P: Allocator> IntoIterator
     for &'n Interner<'a, S, A, P> {
     type Item = &'n &'a str;
@@ -252,7 +305,8 @@ impl<'n, 'a, S: BuildHasher, A: Allocator + Copy, P: Allocator> IntoIterator
     }
 }
 
-/// `names[n]` is the name with the number n, which the caller knows to be there.
+/// `names[n]` is the name with the number `n`. The caller proves that `n` is below
+/// [`Interner::len`].
 impl<'a, S: BuildHasher, A: Allocator + Copy, P: Allocator> Index<usize> for Interner<'a, S, A, P> {
     type Output = &'a str;
 
@@ -265,7 +319,7 @@ impl<'a, S: BuildHasher, A: Allocator + Copy, P: Allocator> Index<usize> for Int
     }
 }
 
-/// `{:?}` writes the names, in the order of their numbers, as of a `Vec` of them: `["x", "y"]`.
+/// `{:?}` prints the names in the order of their numbers, as a `Vec` of them prints: `["x", "y"]`.
 impl<'a, S: BuildHasher, A: Allocator + Copy, P: Allocator> Debug for Interner<'a, S, A, P> {
     ghost debug_output = { debug_list debug_str };
 

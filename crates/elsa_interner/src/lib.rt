@@ -1,4 +1,4 @@
-//! Names with numbers, and the engine that answers lines about them.
+//! The interner of one thread, and the engine that replies to lines about names.
 #![tactic(auto)]
 
 mod chunk;

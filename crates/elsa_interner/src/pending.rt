@@ -1,4 +1,4 @@
-//! Answers that wait to be written, in an array of a fixed size: small answers become large writes, and none takes memory.
+//! A buffer of fixed size for replies: small replies become large writes, and none allocates.
 ghost use Rattle.std.specs.Prelude.{◌≡◌, [], ◌∷◌, ◌++◌, ◌≤◌, ◌<◌, ◌+◌, length, OnOk};
 ghost use Rattle.std.specs.Fmt.{decimal};
 ghost use Rattle.elsa_interner.specs.Devices.{Queues, CountsFault};
@@ -8,10 +8,13 @@ use crate::digits::{LINE, SHORT, digit_count, digits_of};
 use itoa::Buffer;
 use std::marker::Model;
 
-/// How many bytes may wait.
+/// The size of the buffer in bytes.
 const ROOM: usize = 8192;
 
-/// Writes the whole piece, in as many writes as the writer wants.
+/// Writes the whole piece, by one write or several.
+///
+/// # Errors
+/// Fails if a write fails. A beginning of the piece is then written.
 fn write_all<W: Sink>(writer: &mut W, piece: &[u8]) -> Result<(), Failed>
     ensures adds { Queues result (W.held writer.old) [] (W.held writer.new) [] piece.now }
     ensures counts { CountsFault result (W.failures writer.old) (W.failures writer.new) }
@@ -23,7 +26,7 @@ fn write_all<W: Sink>(writer: &mut W, piece: &[u8]) -> Result<(), Failed>
     Ok(())
 }
 
-/// Bytes that wait to be written.
+/// The bytes that wait to be written.
 #[derive(Drop)]
 pub struct Pending {
     bytes: [u8; ROOM],
@@ -41,7 +44,7 @@ impl Model for Pending {
 }
 
 impl Pending {
-    /// Nothing waits.
+    /// Makes an empty buffer.
     pub fn new() -> Self
         ensures { result ≡ [] }
     {
@@ -51,7 +54,11 @@ impl Pending {
         }
     }
 
-    /// Writes all that waits; where the writer fails, what is left of it is given up.
+    /// Writes the buffered bytes, and empties the buffer.
+    ///
+    /// # Errors
+    /// Fails if a write fails. A beginning of the bytes is then written, and the others are
+    /// dropped.
     pub fn flush<W: Sink>(&mut self, writer: &mut W) -> Result<(), Failed>
         ensures adds { Queues result (W.held writer.old) self.old (W.held writer.new) self.new [] }
         ensures none { OnOk result (self.new ≡ []) }
@@ -62,7 +69,7 @@ impl Pending {
         write_all(writer, &self.bytes[..len])
     }
 
-    /// Adds a piece that there is room for.
+    /// Appends a piece that fits in the buffer.
     fn add(&mut self, piece: &[u8])
         requires { length self.old + length piece.now ≤ ROOM }
         ensures { self.new ≡ self.old ++ piece.now }
@@ -72,7 +79,10 @@ impl Pending {
         self.len = end;
     }
 
-    /// Adds a piece; where there is no room for it, what waits is written first.
+    /// Appends a piece. If it doesn't fit, the buffered bytes are written first.
+    ///
+    /// # Errors
+    /// Fails if a write fails. A beginning of the buffered bytes and the piece is then written.
     fn push<W: Sink>(&mut self, writer: &mut W, piece: &[u8]) -> Result<(), Failed>
         ensures adds { Queues result (W.held writer.old) self.old (W.held writer.new) self.new
             piece.now }
@@ -90,7 +100,7 @@ impl Pending {
         write_all(writer, piece)
     }
 
-    /// Adds the line of a number.
+    /// Appends the line of a number that has at most eight digits.
     #[inline(always)]
     fn add_number(&mut self, n: usize)
         requires short { n < SHORT }
@@ -104,7 +114,10 @@ impl Pending {
         self.len = end + 1;
     }
 
-    /// Adds a line: a number, and byte 10 behind it.
+    /// Appends a line: the digits of `n`, and byte 10.
+    ///
+    /// # Errors
+    /// Fails if a write fails. A beginning of the buffered bytes and the line is then written.
     #[inline(always)]
     pub fn push_number<W: Sink>(&mut self, writer: &mut W, n: usize) -> Result<(), Failed>
         ensures adds { Queues result (W.held writer.old) self.old (W.held writer.new) self.new
@@ -119,7 +132,10 @@ impl Pending {
         self.push_line(writer, digits.format(n).as_bytes())
     }
 
-    /// Adds a line: a piece, and byte 10 behind it.
+    /// Appends a line: the piece, and byte 10.
+    ///
+    /// # Errors
+    /// Fails if a write fails. A beginning of the buffered bytes and the line is then written.
     #[inline(always)]
     pub fn push_line<W: Sink>(&mut self, writer: &mut W, piece: &[u8]) -> Result<(), Failed>
         ensures adds { Queues result (W.held writer.old) self.old (W.held writer.new) self.new

@@ -1,6 +1,7 @@
-//! [`InternerReader`]: names and the table that finds them, without the arena.
+//! [`InternerReader`]: the names and the table that finds them, without the arena.
 //!
-//! It is what an interner has but for the arena that its names lie in, so threads can share it. [`InternerReader::put_in`] is where a name is kept.
+//! An interner is a reader and an arena. Since the reader has no arena, threads can share it. Each
+//! name is stored by [`InternerReader::put_in`].
 ghost use Rattle.std.specs.Prelude.{◌≡◌, ◌↔◌, ℕ, [], List, length, None, Some, slice_get, position, map, is_some, slice_index_or, ◌<◌, ◌≤◌, IfErr, IfOk, IfSome, IsTrue, OnErr, OnOk};
 ghost use Rattle.std.specs.Borrow.{Bor};
 ghost use Rattle.std.specs.Fmt.{debug_list, debug_str};
@@ -10,10 +11,10 @@ ghost use Rattle.std.specs.Str.{bytes_eq};
 ghost use mathlib.Core.List.{IsPrefix};
 ghost use Rattle.std.specs.Slice.Iter.{iter_rest};
 ghost use Rattle.elsa_interner.specs.Names.{Puts, IsFull, IsOneToOne, text_hash};
-ghost use Rattle.elsa_table.specs.Table.{Has, IsVacancy};
+ghost use Rattle.elsa_buckets.specs.Table.{Has, IsVacancy};
 
 use bumpalo::Bump;
-use elsa_table::table::{PlaceTable, Vacancy};
+use elsa_buckets::table::{PlaceTable, Vacancy};
 use std::alloc::{AllocError, Allocator, Global};
 use std::fmt::{self, Debug, Formatter, Write};
 use std::hash::{BuildHasher, BuildHasherDefault, FoldHasher, Hasher};
@@ -21,8 +22,10 @@ use std::marker::Model;
 use std::ops::Index;
 use std::slice::Iter;
 
-/// The hash of a text, of 32 bits. The hasher is given its bytes alone: std's hash of a text has byte 255 behind them, which parts a text from what follows, and
-/// here nothing does.
+/// Returns the hash of a text, as 32 bits.
+///
+/// The hasher receives only the bytes of the text. std's hash of a text adds a byte 255, which
+/// separates the text from what is hashed after it; here nothing is.
 #[inline(always)]
 fn name_hash<S: BuildHasher>(hash_builder: &S, text: &str) -> u32
     ensures { result ≡ text_hash S.BuildHasher S.Hasher.Hasher hash_builder.now text.now }
@@ -33,7 +36,8 @@ fn name_hash<S: BuildHasher>(hash_builder: &S, text: &str) -> u32
     ((hash ^ (hash >> 32)) & 0xFFFF_FFFF) as u32
 }
 
-/// Whether two texts of more than sixteen bytes are the same. Out of line, so that [`same_text`] stays short.
+/// Returns whether two texts of more than sixteen bytes are equal. It is not inlined, so that
+/// [`same_text`] stays short.
 #[inline(never)]
 fn same_long_text(a: &str, b: &str) -> bool
     ensures { result ≡ bytes_eq a.now b.now }
@@ -41,7 +45,8 @@ fn same_long_text(a: &str, b: &str) -> bool
     a == b
 }
 
-/// Whether two texts are the same. Most names are short, and of up to sixteen bytes the compiler compares two words in place of a call.
+/// Returns whether two texts are equal. Most names are short, and for at most sixteen bytes the
+/// compiler compares two words instead of calling a function.
 #[inline(always)]
 fn same_text(a: &str, b: &str) -> bool
     ensures { result ≡ bytes_eq a.now b.now }
@@ -53,7 +58,7 @@ fn same_text(a: &str, b: &str) -> bool
     }
 }
 
-/// The place of the text in `names`, or else where the table has room for it.
+/// Returns the number of the text, or `Err` with the bucket into which it would be added.
 #[inline(always)]
 fn search<A: Allocator + Copy>(
     names: &[&str],
@@ -61,13 +66,15 @@ fn search<A: Allocator + Copy>(
     hash: u32,
     text: &str,
 ) -> Result<usize, Vacancy>
-    // The table has each place of the text under the hash, and none beyond the names, which are one to one.
+    // The table has each index of the text under the hash, and no index that isn't below the number
+    // of names. No two names are equal.
     requires entered { (i : ℕ) → slice_get (map (λ b. b.now) names.now) i ≡ Some text.now →
         Has table.now hash i }
     requires within { (h i : ℕ) → Has table.now h i → i < length names.now }
     requires one_to_one { IsOneToOne (map (λ b. b.now) names.now) }
 
-    // The text's place, or that it is no name, and where it would go.
+    // The result is the number of the text; or the text isn't a name, and the bucket is a vacancy
+    // for the hash.
     ensures found { IfOk result (λ i.
         position (bytes_eq text.now) (map (λ b. b.now) names.now) ≡ Some i) }
     ensures absent { OnErr result
@@ -82,10 +89,12 @@ fn search<A: Allocator + Copy>(
     table.search(hash, is_it)
 }
 
-/// Names, each with the number that an [`Interner`](crate::interner::Interner) gave it, for look-ups alone.
+/// Distinct names with the numbers that an [`Interner`](crate::interner::Interner) gave them, for
+/// look-ups only.
 ///
-/// Threads can share it, where they can share `S` and `A`: it has the names, which lie in the arena, and not the arena.
-/// In contracts it is the list of its names, each as its bytes; a name's number is its place there.
+/// It has borrows of the names, which are in the arena, but not the arena. So threads can share it
+/// if they can share `S` and `A`. Contracts see it as the list of its names, each as its bytes; the
+/// number of a name is its index in the list.
 #[derive(Drop)]
 pub struct InternerReader<
     'a,
@@ -111,7 +120,7 @@ impl<'a, S: BuildHasher, A: Allocator + Copy> Model for InternerReader<'a, S, A>
 }
 
 impl<'a, S: BuildHasher, A: Allocator + Copy> InternerReader<'a, S, A> {
-    /// No names, hashed by `hash_builder`. Takes no memory.
+    /// Makes a reader without names. `hash_builder` hashes the names. It allocates nothing.
     pub(crate) fn new(alloc: A, hash_builder: S) -> Self
         ensures { result ≡ [] }
     {
@@ -122,9 +131,10 @@ impl<'a, S: BuildHasher, A: Allocator + Copy> InternerReader<'a, S, A> {
         }
     }
 
-    /// The number of a name, or `None` if `put` never kept it.
+    /// Returns the number of a name, or `None` if the text isn't a name. It allocates nothing.
     ///
-    /// Takes no memory. `O(1)` hashed.
+    /// # Cost
+    /// `O(1)` if the hashes are well distributed.
     #[inline]
     pub fn find(&self, text: &str) -> Option<usize>
         ensures place { result ≡ position (bytes_eq text.now) self.now }
@@ -134,51 +144,66 @@ impl<'a, S: BuildHasher, A: Allocator + Copy> InternerReader<'a, S, A> {
         search(self.names.as_slice(), &self.table, hash, text).ok()
     }
 
-    /// The name with this number, or `None` if the number is at or above [`InternerReader::len`].
+    /// Returns the name with this number, or `None` exactly if the number is at or above
+    /// [`InternerReader::len`]. It allocates nothing.
     ///
-    /// The borrow lives as long as the arena's loan. Takes no memory. `O(1)`.
+    /// The borrow is valid as long as the borrow of the arena.
+    ///
+    /// # Cost
+    /// `O(1)`.
     pub fn at(&self, number: usize) -> Option<&'a str>
         ensures { option_map (λ b. b.now) result ≡ slice_get self.now number }
     {
         self.names.get(number).copied()
     }
 
-    /// How many names there are. The names are one to one with the numbers below it.
+    /// Returns the number of names. The names are one to one with the numbers below it. It
+    /// allocates nothing.
     ///
-    /// Takes no memory. `O(1)`.
+    /// # Cost
+    /// `O(1)`.
     pub fn len(&self) -> usize
-        ensures len { result ≡ length self.now }
+        ensures length { result ≡ length self.now }
         ensures one_to_one { IsOneToOne self.now }
     {
         self.names.len()
     }
 
-    /// Whether there are no names. Takes no memory. `O(1)`.
+    /// Returns whether there is no name. It allocates nothing.
+    ///
+    /// # Cost
+    /// `O(1)`.
     pub fn is_empty(&self) -> bool
         ensures { IsTrue result ↔ (length self.now ≡ 0) }
     {
         self.len() == 0
     }
 
-    /// Whether there are as many names as there are numbers for: 2^32 - 1. A `put` of a new name then returns `Err`.
+    /// Returns whether there are 2^32 - 1 names, the greatest number. It allocates nothing.
     ///
-    /// Takes no memory. `O(1)`.
+    /// # Cost
+    /// `O(1)`.
     pub fn is_full(&self) -> bool
         ensures { IsTrue result ↔ IsFull self.now }
     {
         self.table.is_full()
     }
 
-    /// Whether `put` kept this name. Takes no memory. `O(1)` hashed.
+    /// Returns whether the text is a name. It allocates nothing.
+    ///
+    /// # Cost
+    /// `O(1)` if the hashes are well distributed.
     pub fn contains(&self, text: &str) -> bool
         ensures { result ≡ is_some (position (bytes_eq text.now) self.now) }
     {
         self.find(text).is_some()
     }
 
-    /// Each name once, in the order of the numbers; from the back, in reverse. Takes no memory. `O(1)`, and so is each name.
+    /// Returns an iterator over the names, in the order of their numbers, and from the back in
+    /// reverse. It allocates nothing. `enumerate` adds the numbers.
     ///
-    /// No name can be put while it walks; `enumerate` gives the numbers.
+    /// # Cost
+    /// `O(1)`, and `O(1)` for each name.
     pub fn iter(&self) -> Iter<'_, &'a str>
         ensures names { map (λ name. name.now) (iter_rest result) ≡ self.now }
         ensures runs { IterYieldsInOrder (Bor (List ℕ)) }
@@ -187,14 +212,19 @@ impl<'a, S: BuildHasher, A: Allocator + Copy> InternerReader<'a, S, A> {
         self.names.iter()
     }
 
-    /// How many names the table and the list have room for, with those that are there.
+    /// Returns the number of names that there can be before the table or the list of names
+    /// allocates.
     pub(crate) fn capacity(&self) -> usize
         ensures { length self.now ≤ result }
     {
         self.names.capacity().min(self.table.capacity())
     }
 
-    /// Makes room in the list and the table for so many more names.
+    /// Reserves capacity in the list and in the table for `additional` more names. The names are
+    /// unchanged, also if it fails.
+    ///
+    /// # Errors
+    /// Fails if an allocation fails, or if there would be more than 2^32 - 1 names.
     pub(crate) fn reserve(&mut self, additional: usize) -> Result<(), AllocError>
         ensures { self.new ≡ self.old }
     {
@@ -202,7 +232,12 @@ impl<'a, S: BuildHasher, A: Allocator + Copy> InternerReader<'a, S, A> {
         self.table.reserve_places(additional)
     }
 
-    /// The number of a text, which is kept if it is new: as `placed`, or else as a copy in the arena.
+    /// Returns the number of a text. A new text becomes a name: `placed` if it is given, otherwise
+    /// a copy in the arena.
+    ///
+    /// # Errors
+    /// Fails only for a new text: if an allocation fails, or if there are 2^32 - 1 names. The names
+    /// are then unchanged.
     #[inline(always)]
     pub(crate) fn put_in<P: Allocator>(
         &mut self,
@@ -212,16 +247,17 @@ impl<'a, S: BuildHasher, A: Allocator + Copy> InternerReader<'a, S, A> {
     ) -> Result<usize, AllocError>
         requires placed { IfSome placed (λ p. p.now ≡ text.now) }
 
-        // The number that it has, or the next one for a new name; only a new one is refused, and then nothing changes.
-        ensures put { IfOk result (λ n. Puts self.old text.now n self.new) }
+        // The result is the number of the present name, or the next number for a new one. Only a
+        // new name fails, and then nothing changes.
+        ensures numbered { IfOk result (λ n. Puts self.old text.now n self.new) }
         ensures refused { OnErr result (self.new ≡ self.old) }
         ensures only_new { OnErr result (position (bytes_eq text.now) self.old ≡ None) }
         ensures limit { OnOk result (position (bytes_eq text.now) self.old ≡ None →
             ¬ IsFull self.old) }
 
-        // The name stands at its number, and those before it where they were.
-        ensures stands { IfOk result (λ n. slice_get self.new n ≡ Some text.now) }
-        ensures stands_at { IfOk result (λ n. position (bytes_eq text.now) self.new ≡ Some n) }
+        // The name is at its number, and the earlier names have the numbers that they had.
+        ensures value_after { IfOk result (λ n. slice_get self.new n ≡ Some text.now) }
+        ensures index_after { IfOk result (λ n. position (bytes_eq text.now) self.new ≡ Some n) }
         ensures kept { IsPrefix self.old self.new }
         ensures kept_at { (word : List ℕ) (i : ℕ) → position (bytes_eq word) self.old ≡ Some i →
             position (bytes_eq word) self.new ≡ Some i }
@@ -243,19 +279,24 @@ impl<'a, S: BuildHasher, A: Allocator + Copy> InternerReader<'a, S, A> {
         Ok(place)
     }
 
-    /// The hash of a text, for [`InternerReader::guess`]. Takes no memory.
+    /// Returns the hash of a text, for [`InternerReader::guess`]. It allocates nothing.
     #[inline(always)]
     pub(crate) fn hash(&self, text: &str) -> u32 {
         name_hash(&self.hash_builder, text)
     }
 
-    /// A number that a text with this hash may have, or any other. Takes no memory.
+    /// Returns a number that a text with this hash may have, or any other number. It allocates
+    /// nothing.
     #[inline(always)]
     pub(crate) fn guess(&self, hash: u32) -> usize {
         self.table.guess(hash)
     }
 
-    /// As [`InternerReader::put_in`] of a copy; the name at `guess`, any number, is compared before the search.
+    /// Returns the number of a text, as [`InternerReader::put_in`] does with a copy. It compares
+    /// the name at the number `guess`, which may be any, before it searches.
+    ///
+    /// # Errors
+    /// Fails as [`InternerReader::put_in`] does.
     #[inline(always)]
     pub(crate) fn put_guessed<P: Allocator>(
         &mut self,
@@ -263,7 +304,7 @@ impl<'a, S: BuildHasher, A: Allocator + Copy> InternerReader<'a, S, A> {
         text: &str,
         guess: usize,
     ) -> Result<usize, AllocError>
-        ensures put { IfOk result (λ n. Puts self.old text.now n self.new) }
+        ensures numbered { IfOk result (λ n. Puts self.old text.now n self.new) }
         ensures refused { OnErr result (self.new ≡ self.old) }
         ensures only_new { OnErr result (position (bytes_eq text.now) self.old ≡ None) }
         ensures limit { OnOk result (position (bytes_eq text.now) self.old ≡ None →
@@ -278,7 +319,7 @@ impl<'a, S: BuildHasher, A: Allocator + Copy> InternerReader<'a, S, A> {
     }
 }
 
-/// `for name in &names` gives each name once, in the order of the numbers.
+/// `for name in &names` visits each name, in the order of the numbers.
 impl<'n, 'a, S: BuildHasher, A: Allocator + Copy> IntoIterator for &'n InternerReader<'a, S, A> {
     type Item = &'n &'a str;
 
@@ -292,7 +333,8 @@ impl<'n, 'a, S: BuildHasher, A: Allocator + Copy> IntoIterator for &'n InternerR
     }
 }
 
-/// `names[n]` is the name with the number n, which the caller knows to be there.
+/// `names[n]` is the name with the number `n`. The caller proves that `n` is below
+/// [`InternerReader::len`].
 impl<'a, S: BuildHasher, A: Allocator + Copy> Index<usize> for InternerReader<'a, S, A> {
     type Output = &'a str;
 
@@ -305,7 +347,7 @@ impl<'a, S: BuildHasher, A: Allocator + Copy> Index<usize> for InternerReader<'a
     }
 }
 
-/// `{:?}` writes the names, in the order of their numbers, as of a `Vec` of them: `["x", "y"]`.
+/// `{:?}` prints the names in the order of their numbers, as a `Vec` of them prints: `["x", "y"]`.
 impl<'a, S: BuildHasher, A: Allocator + Copy> Debug for InternerReader<'a, S, A> {
     ghost debug_output = { debug_list debug_str };
 

@@ -1,4 +1,4 @@
-//! An answer, and its line.
+//! A reply of the engine, and its line.
 ghost use Rattle.std.specs.Prelude.{[], ◌∷◌, ◌++◌};
 ghost use Rattle.elsa_interner.specs.Devices.{Queues, CountsFault};
 ghost use Rattle.elsa_interner.specs.Replies.{reply_text};
@@ -6,16 +6,20 @@ ghost use Rattle.elsa_interner.specs.Replies.{reply_text};
 use crate::devices::{Failed, Sink};
 use crate::pending::Pending;
 
-/// The answer to a request.
+/// The reply to a request.
 #[derive(Clone, Copy)]
 pub enum Reply<'a> {
-    /// A name's number, or how many names there are.
+    /// The number of a name, or the number of names.
     Number(usize),
-    /// A name, or why there is no other answer.
+    /// A name, or the text of a reply that isn't a number: `none`, `bad line`, `no memory`, `too
+    /// many names`.
     Text(&'a str),
 }
 
-/// Adds a reply as a line to what waits.
+/// Appends the line of a reply to the buffer.
+///
+/// # Errors
+/// Fails if a write fails. A beginning of the buffered bytes and the line is then written.
 #[inline(always)]
 pub fn push_reply<W: Sink>(
     out: &mut Pending,

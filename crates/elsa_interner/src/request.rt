@@ -1,4 +1,4 @@
-//! What a line asks for.
+//! A request of the engine, and how a line is parsed.
 ghost use Rattle.std.specs.Prelude.{◌≡◌, true, false, nat_eq, length, drop, MatchOption};
 ghost use Rattle.std.specs.List.{starts_with};
 ghost use Rattle.elsa_interner.specs.Lines.{command_of};
@@ -6,22 +6,22 @@ ghost use Rattle.elsa_interner.specs.Replies.{asked};
 
 use crate::digits::number_of;
 
-/// What a line asks for.
+/// A request, as a line writes it.
 #[derive(Clone, Copy)]
 pub enum Request<'t> {
-    /// The number of this name, which is kept if it is new.
+    /// The number of this text, which becomes a name if it is new.
     Put(&'t str),
-    /// The number of this name, if there is one.
+    /// The number of this text, if it is a name.
     Find(&'t str),
     /// The name with this number.
     At(u64),
-    /// How many names there are.
+    /// The number of names.
     Len,
-    /// Nothing that is known.
+    /// The line is no request.
     Bad,
 }
 
-/// What follows a word at the front of a text.
+/// Returns the rest of the text after `word`, or `None` if the text doesn't begin with it.
 fn after<'t>(text: &'t str, word: &str) -> Option<&'t str>
     ensures { MatchOption result (starts_with nat_eq text.now word.now ≡ false) (λ r.
         (starts_with nat_eq text.now word.now ≡ true) × (r.now ≡ drop (length word.now) text.now)) }
@@ -29,7 +29,7 @@ fn after<'t>(text: &'t str, word: &str) -> Option<&'t str>
     text.strip_prefix(word)
 }
 
-/// What a line asks for that is known to be a text.
+/// Returns the request of a line that is UTF-8.
 #[tactic(auto, using(crate::proofs::RequestLemmas::command_of_text_is))]
 #[inline(always)]
 pub fn request_of_text(text: &str) -> Request<'_>
@@ -54,7 +54,7 @@ pub fn request_of_text(text: &str) -> Request<'_>
     }
 }
 
-/// What a line asks for.
+/// Returns the request of a line.
 #[inline(always)]
 pub fn request_of(line: &[u8]) -> Request<'_>
     ensures { asked result ≡ command_of line.now }

@@ -1,4 +1,4 @@
--- The words of the logic that the proofs by hand of this crate cite.
+-- The names of the logic that the manual proofs of this crate use.
 pub use base.Fml.{fsep, feq, fhide, ftrue}
 pub use base.Growing.{latest}
 pub use base.Logic.{SProp, emp, via}

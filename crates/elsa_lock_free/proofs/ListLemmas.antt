@@ -1,3 +1,3 @@
--- What holds of lists that are compared, and of options.
-pub mod Options
+-- What holds of lists that are compared.
 pub mod Pointwise
+pub mod Prefix

@@ -44,7 +44,7 @@ module _ {T : Type 0} where
   abbrev pub shared_by : List (Event T) → Shared (Entry T)
   shared_by es = record { length = length (list_of es); held = is_held es; list = list_of es }
 
-  -- how many entries an event adds
+  -- the number of entries that an event adds
   abbrev pub added_by : Event T → ℕ
   added_by Acquired = 0
   added_by (Published x) = 1
@@ -53,13 +53,13 @@ module _ {T : Type 0} where
   added_by Released = 0
   added_by (OfferOf a n) = 0
 
-  -- what the right to end a hold remembers of a history: how many entries each event added. A ghost list must be storable, and a
-  -- list of events is so only where its items are
+  -- the part of a history that the right to release has: for each event the number of its entries. A ghost list must be
+  -- storable, and a list of events is storable only if its items are
   abbrev pub added : List (Event T) → List ℕ
   added [] = []
   added (e ∷ es) = added_by e ∷ added es
 
-  -- An offer is about a pass: its name, how many entries it pushed, and then what it knows of the history
+  -- An offer is about a pass: its author, the number of entries that it pushed, and then its history
   abbrev pub author_of : List (Event T) → ℕ
   author_of [] = 0
   author_of (Acquired ∷ es) = 0
@@ -69,7 +69,7 @@ module _ {T : Type 0} where
   author_of (Released ∷ es) = 0
   author_of (OfferOf a n ∷ es) = a
 
-  -- how many entries it pushed
+  -- the number of entries that it pushed
   abbrev pub used_of : List (Event T) → ℕ
   used_of [] = 0
   used_of (Acquired ∷ es) = 0
@@ -79,7 +79,7 @@ module _ {T : Type 0} where
   used_of (Released ∷ es) = 0
   used_of (OfferOf a n ∷ es) = n
 
-  -- how many entries it pushes, where it says what it pushes before what it knows of the history
+  -- the number of entries that it pushes, for an offer that has them before its history
   abbrev pub pushes_of : List (Event T) → ℕ
   pushes_of [] = 0
   pushes_of (e ∷ es) = added_by e
@@ -89,6 +89,6 @@ module _ {T : Type 0} where
   others [] = []
   others (e ∷ es) = es
 
-  -- of these items, those behind the list that a history leaves
+  -- of these items, those after the list of a history
   abbrev pub behind : List (Event T) → List T → List T
   behind es xs = drop (length (list_of es)) xs

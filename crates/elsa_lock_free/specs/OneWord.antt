@@ -1,5 +1,5 @@
--- The one word of a vector, and what each of its atomic steps tells the thread that makes it.
--- The word is that of the atomic steps: twice the length of the shared list, and one more while a thread holds.
+-- The state word of a vector, and the fact that a thread learns by each atomic step on it.
+-- The state word is twice the length of the shared list, plus 1 while a thread has the lock.
 use Rattle.std.specs.Prelude.{ℕ, ◌≡◌, ◌<◌, ◌^◌, ◌==◌, true, false, List, [], ◌∷◌, ◌++◌, length, MatchBool, Some}
 use mathlib.Core.List.{IsPrefix}
 use Rattle.logbook.specs.Pages.{Cell, Step, View, Book, Named}
@@ -18,8 +18,8 @@ module _ {T : Type 0} where
   abbrev pub word_of : List (Event T) → ℕ
   word_of log = steps.word_of (shared_by log)
 
-  -- the rule: the word says how long the list is and whether a thread holds, and a second word that nobody uses stays 0. Each
-  -- item of the list was new to those before it, by the vector's rule for items
+  -- the rule: the state word has the length of the list and whether a thread has the lock; a second word, which no
+  -- thread uses, stays 0. Each item of the list was new to the items before it, by the vector's rule for items
   pub record IsKept (is_new : List T → T → Type 0) (cells : List Cell) (log : List (Event T)) : Type 0 where
     pub words : cells ≡ (word_of log, true) ∷ (0, true) ∷ []
     pub small : length (list_of log) < 2 ^ 62

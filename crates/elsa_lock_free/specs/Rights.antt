@@ -1,8 +1,8 @@
--- What the rule of a vector owns beside its history, and what a thread gains at each step.
--- The right to end a hold is the rule's while nobody holds; most of it goes to the holder, with the rights to open further
--- buffers and to write the slots from the length on, and comes back at the step that releases. For each place below the
--- length the rule has the evidence that its slot was written with the list's item, and for each entry that has an author
--- a ticket of that author. Nothing else is exchanged.
+-- The permissions that the rule of a vector owns next to its history, and those that a thread gains at each step.
+-- While no thread has the lock, the rule has the right to release it. At an acquire most of it goes to the thread that
+-- locks, with the rights to open further buffers and to write the slots from the length on; the release returns it. For
+-- each index below the length the rule has the evidence that its slot was written with the list's item, and for each
+-- entry that has an author a ticket of that author. Nothing else is exchanged.
 use Rattle.std.specs.Prelude.{ℕ, zero, suc, ◌≡◌, ◌+◌, ◌*◌, ◌^◌, ◌<◌, ◌≤◌, ◌⊎◌, Bool, true, false, List, [], ◌∷◌, ◌++◌, length, drop, slice_index_or}
 use base.Fraction.{full_share}
 use base.Share.{quarter, three_quarters}
@@ -44,7 +44,7 @@ part false = full_share
 abbrev pub fact : Type 0 → Fml
 fact φ = fex φ (λ _. ftrue)
 
--- where the next place is: at the begin of a buffer that nobody has opened, or at a slot of an open one
+-- the slot of the next index: the first of a buffer that no thread has opened, or a slot of an open buffer
 pub data Tail (B : Type 0) : Type 0 where
   at_new_buffer : ℕ → Tail B
   in_buffer : ℕ → ℕ → B → Tail B
@@ -58,7 +58,7 @@ module _ {T : Type 0} where
   abbrev pub at_log : Share → List ℕ → List (Event T) → Fml
   at_log q names log = latest logs q (head names) (added log)
 
-  -- the rule's part: all of it while nobody holds
+  -- the rule's part: all of it while no thread has the lock
   abbrev pub position : List ℕ → List (Event T) → Fml
   position names log = at_log (part (is_held log)) names log
 
@@ -71,7 +71,7 @@ module _ {T : Type 0} where
   one_ticket pre zero = ftrue
   one_ticket pre (suc a) = fex ℕ (λ k. fsep (ticket a k) (fact (count (suc a) pre ≤ k)))
 
-  -- a ticket for each of these entries, behind the entries `pre`
+  -- a ticket for each of these entries, which come after the entries `pre`
   abbrev pub tickets : List (Entry T) → List (Entry T) → Fml
   tickets pre [] = ftrue
   tickets pre (e ∷ es) = fsep (one_ticket pre e.author) (tickets (pre ++ e ∷ []) es)
@@ -87,7 +87,7 @@ module _ {T : Type 0} where
   IsStep Released xs ys r = (r ≡ xs) × ((ys ≡ xs) ⊎ ((ys ≡ xs ++ Released ∷ []) × IsRelease (shared_by xs) (shared_by ys)))
   IsStep (OfferOf a n) xs ys r = (r ≡ xs) × ((ys ≡ xs) × IsLook (length (list_of xs)) (shared_by xs) (shared_by ys))
 
-  -- what the pass of an offer learns of its own entries: it has no more than it pushed
+  -- the pass of an offer learns that the number of its own entries is at most the number that it pushed
   abbrev pub OnlyPushed : List (Event T) → List (Event T) → Type 0
   OnlyPushed about r = count (suc (author_of about)) (list_of r) ≤ used_of about
 
@@ -111,7 +111,7 @@ module _ (T B : RattleType) (slot_names : B.Denot → List ℕ) (fits : B.Denot 
   abbrev pub rights_from : List ℕ → ℕ → Fml
   rights_from buffer_slots n = fex (Tail B.Denot) (tail_owns buffer_slots n)
 
-  -- the rule has the rights to append while nobody holds
+  -- the rule has the rights to append while no thread has the lock
   abbrev pub free_rights : Bool → List ℕ → ℕ → Fml
   free_rights true buffer_slots n = ftrue
   free_rights false buffer_slots n = rights_from buffer_slots n
@@ -137,6 +137,6 @@ module _ (T B : RattleType) (slot_names : B.Denot → List ℕ) (fits : B.Denot 
   abbrev pub publish_gain : List (Event T.Denot) → List (Event T.Denot) → Fml
   publish_gain about r = fsep (author (author_of about) (suc (used_of about))) (fact ((length r ≡ length (others about)) × OnlyPushed about r))
 
-  -- at a publish of many, as many fewer as it pushes: the offer says what it pushes before what it knows of the history
+  -- at a publish of several items, minus one ticket for each: the offer has their number before its history
   abbrev pub extend_gain : List (Event T.Denot) → List (Event T.Denot) → Fml
   extend_gain about r = fsep (author (author_of about) (used_of about + pushes_of (others about))) (fact ((length r ≡ length (others (others about))) × OnlyPushed about r))

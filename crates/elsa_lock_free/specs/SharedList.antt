@@ -93,6 +93,10 @@ module _ {T : Type 0} where
     pub stand : AppendsAll before.seen after.seen place (authored before.author items)
     pub places : mine after ≡ mine before ++ run place (length items)
 
+  -- two of one vector that have seen the same: a hold, and the pass that it is for
+  abbrev pub SeesAlike : View T → View T → Type 0
+  SeesAlike hold pass = (hold.vector ≡ pass.vector) × (hold.seen ≡ pass.seen)
+
   -- the longer of two lists, the first where they are as long
   abbrev pub longer : List (Entry T) → List (Entry T) → List (Entry T)
   longer xs ys = if nat_le (length ys) (length xs) then xs else ys
@@ -102,11 +106,12 @@ abbrev pub Apart : List ℕ → List ℕ → Type 0
 Apart xs ys = (n : ℕ) → Contains xs n → Contains ys n → ⊥
 
 -- two passes of a vector have met: each is the same, later; both have seen the longer of the two lists; the places of each stay its own,
--- and none is of both
+-- and none is of both; each has seen all that the other had
 abbrev pub Meet : {T : Type 0} → View T → View T → View T → View T → Type 0
 Meet one one_after two two_after =
     (IsLaterPass one one_after × IsLaterPass two two_after) × ((one_after.seen ≡ longer one.seen two.seen) × (two_after.seen ≡ longer one.seen two.seen))
     × ((mine one_after ≡ mine one) × (mine two_after ≡ mine two)) × Apart (mine one_after) (mine two_after)
+    × (IsPrefix two.seen one_after.seen × IsPrefix one.seen two_after.seen)
 
 -- at this length a new buffer begins, or the list is full
 abbrev pub BeginsABuffer : ℕ → Type 0

@@ -1,9 +1,10 @@
-//! What the threads of a vector share: its slots and its one word.
+//! The part of a vector that threads share: its slots and its state word.
 //!
-//! The word is twice the length, and one more while a thread holds. A read of the length is one load. A push acquires the
-//! word by one exchange, opens a buffer or not, writes the slot of the length, and publishes by a second exchange, which releases
-//! too: these steps are in `push`, and those of many pushes under one hold in `extend`. How a list begins, with nothing or with a
-//! copy, is in `begin`.
+//! The state word is twice the length, plus 1 while a thread has the lock. A read of the length is
+//! one load. A push acquires the word by one exchange, opens a buffer if the length begins one,
+//! writes the slot of the length, and publishes by a second exchange, which also releases the word.
+//! These steps are in `push`, and those of many pushes under one lock in `extend`. `begin` makes a
+//! list, empty or as a copy.
 ghost use Rattle.std.specs.Prelude.{◌≡◌, ◌^◌, ◌<◌, ◌≤◌, [], ◌∷◌, drop, length, Some, slice_get};
 ghost use lib.Pointwise.{pointwise};
 ghost use mathlib.Core.List.{IsPrefix};
@@ -23,30 +24,22 @@ mod push;
 use crate::event::Event;
 use crate::item_rule::ItemRule;
 use crate::rule::{Log, Nothing, OneWord, PlainRead, ReadGain, ReadLength};
-use crate::tokens::{Author, offer_read};
+use crate::tokens::{Author, evidence, offer_read};
 use crossbeam_utils::CachePadded;
 use elsa_machine::geometry::locate;
 use elsa_slots::iter::{Iter, walk, walk_from};
 use elsa_slots::slots::{Beside, Buffer, Slots, WrittenPrefix};
 use logbook::{Gained, Offer, Seen, Word};
-use std::alloc::{AllocError, Allocator};
+pub(crate) use push::{LIMIT, Ready, wait_a_little};
+use std::alloc::Allocator;
 
 /// What is known of a vector's history.
 pub type SeenHistory<T, A, K, X> = Seen<Event<T>, Log<T>, OneWord<Buffer<T, A, X>, K>>;
 
-/// What a push leaves: what is known of the history, its author, the length after it, and its result.
-pub type Pushed<T, A, K, R> = (
-    SeenHistory<T, A, K, ()>,
-    Author,
-    usize,
-    Result<R, AllocError>,
-);
-
-/// The slots, the word, and what is known of every history of it: that it begins.
+/// The slots and the state word, with the evidence of a prefix of its history.
 ///
-/// The word has cache lines of its own: a pusher changes it all the time, and each read needs the slots. A processor that fetches lines
-/// in pairs takes both of a pair from the readers, so the word is padded twice: 128 bytes lie between it and anything else.
-#[derive(Drop)]
+/// The word has cache lines of its own, since each push changes it and each read needs the slots.
+/// Some processors fetch lines in pairs, so 128 bytes of padding separate the word from other data.
 pub struct AtomicList<T, A: Allocator, K: ItemRule<T>, X: Beside<T> = ()> {
     pub(crate) slots: Slots<T, A, X>,
     word: CachePadded<CachePadded<Word<Event<T>, Log<T>, OneWord<Buffer<T, A, X>, K>>>>,
@@ -57,10 +50,10 @@ pub struct AtomicList<T, A: Allocator, K: ItemRule<T>, X: Beside<T> = ()> {
     ghost empty: { first.log ≡ [] },
 }
 
-/// What holds of a history that was seen: each item of its list was new to those before it, and the list is below the limit. It
-/// does nothing when it runs.
+/// What holds of a history that was seen: each item of its list was new to those before it, and the
+/// list is below the limit. It does nothing when it runs.
 pub fn obeys_rule<T, A: Allocator, K: ItemRule<T>, X: Beside<T>>(seen: &SeenHistory<T, A, K, X>)
-    ensures new { EachIsNew K.is_new (items_of (list_of seen.now.log)) }
+    ensures obeys_rule { EachIsNew K.is_new (items_of (list_of seen.now.log)) }
     ensures limit { length (list_of seen.now.log) < 2 ^ 62 }
 {
     let mut known = seen.again();
@@ -68,7 +61,7 @@ pub fn obeys_rule<T, A: Allocator, K: ItemRule<T>, X: Beside<T>>(seen: &SeenHist
     drop(known);
 }
 
-impl<T: Drop, A: Allocator + Copy, K: ItemRule<T>, X: Beside<T> + Drop> AtomicList<T, A, K, X> {
+impl<T, A: Allocator, K: ItemRule<T>, X: Beside<T>> AtomicList<T, A, K, X> {
     /// The word, by a load that exchanges nothing with the rule.
     fn load(&self, seen: &mut SeenHistory<T, A, K, X>) -> u64
         requires { seen.old.book ≡ self.now.first.book }
@@ -83,7 +76,26 @@ impl<T: Drop, A: Allocator + Copy, K: ItemRule<T>, X: Beside<T> + Drop> AtomicLi
         >(&());
         self.word.load::<PlainRead, Nothing>(seen, &mut offer)
     }
+}
 
+// Drops each item once, in order, and deallocates all memory. No other thread has the list, so one
+// load reads its last length.
+impl<T: Drop, A: Allocator, K: ItemRule<T>, X: Beside<T> + Drop> Drop for AtomicList<T, A, K, X> {
+    fn drop(self) {
+        let mut seen = self.first.again();
+        let len = self.load(&mut seen) as usize / 2;
+        obeys_rule(&seen);
+        let prefix = evidence(&seen);
+        drop(seen);
+        let Self { slots, word, first } = self;
+        slots.end(len, &prefix).discard();
+        prefix.discard();
+        drop(word);
+        drop(first);
+    }
+}
+
+impl<T: Drop, A: Allocator + Copy, K: ItemRule<T>, X: Beside<T> + Drop> AtomicList<T, A, K, X> {
     /// One item of what is known to be written. It takes no atomic step.
     pub fn item<'a>(&'a self, prefix: &WrittenPrefix<T, Buffer<T, A, X>>, place: usize) -> &'a T
         requires prefix { prefix.now.buffer_slots ≡ buffer_slots_of self.now.first.names }
@@ -98,7 +110,8 @@ impl<T: Drop, A: Allocator + Copy, K: ItemRule<T>, X: Beside<T> + Drop> AtomicLi
         answer
     }
 
-    /// What lies beside the slot of a place that is known to be written. It takes no atomic step.
+    /// Returns the value that is stored next to the slots of the buffer of an observed index. It
+    /// takes no atomic step.
     pub fn beside<'a>(&'a self, prefix: &WrittenPrefix<T, Buffer<T, A, X>>, place: usize) -> &'a X
         requires prefix { prefix.now.buffer_slots ≡ buffer_slots_of self.now.first.names }
         requires place { (place < length prefix.now.items) × (length prefix.now.items < 2 ^ 62) }
@@ -143,7 +156,7 @@ impl<T: Copy + Drop, A: Allocator + Copy, K: ItemRule<T>> AtomicList<T, A, K> {
     /// A walk over the items that are known to be written. It takes no atomic step.
     pub fn items<'a>(&'a self, prefix: WrittenPrefix<T, Buffer<T, A>>, len: usize) -> Iter<'a, T, A>
         requires prefix { prefix.buffer_slots ≡ buffer_slots_of self.now.first.names }
-        requires len { (len ≡ length prefix.items) × (len < 2 ^ 62) }
+        requires length { (len ≡ length prefix.items) × (len < 2 ^ 62) }
         ensures { result ≡ prefix.items }
     {
         walk(&self.slots, prefix, len)
@@ -157,7 +170,7 @@ impl<T: Copy + Drop, A: Allocator + Copy, K: ItemRule<T>> AtomicList<T, A, K> {
         place: usize,
     ) -> Iter<'a, T, A>
         requires prefix { prefix.buffer_slots ≡ buffer_slots_of self.now.first.names }
-        requires len { (len ≡ length prefix.items) × (len < 2 ^ 62) }
+        requires length { (len ≡ length prefix.items) × (len < 2 ^ 62) }
         requires place { place ≤ len }
         ensures { result ≡ drop place prefix.items }
     {
@@ -165,8 +178,9 @@ impl<T: Copy + Drop, A: Allocator + Copy, K: ItemRule<T>> AtomicList<T, A, K> {
     }
 }
 
-impl<T: Copy + Drop + PartialEq, A: Allocator + Copy, K: ItemRule<T>> AtomicList<T, A, K> {
-    /// Whether what is known to be written in this vector and in another are `n` equal items each, one by one.
+impl<T: Drop + PartialEq, A: Allocator + Copy, K: ItemRule<T>> AtomicList<T, A, K> {
+    /// Whether what is known to be written in this vector and in another are `n` equal items each,
+    /// one by one.
     pub fn has_items_of<L: ItemRule<T>>(
         &self,
         prefix: &WrittenPrefix<T, Buffer<T, A>>,
@@ -176,7 +190,7 @@ impl<T: Copy + Drop + PartialEq, A: Allocator + Copy, K: ItemRule<T>> AtomicList
     ) -> bool
         requires prefix { (prefix.now.buffer_slots ≡ buffer_slots_of self.now.first.names)
             × (other_prefix.now.buffer_slots ≡ buffer_slots_of other.now.first.names) }
-        requires n { (n ≡ length prefix.now.items) × (n ≡ length other_prefix.now.items)
+        requires length { (n ≡ length prefix.now.items) × (n ≡ length other_prefix.now.items)
             × (n < 2 ^ 62) }
         ensures { result ≡ pointwise T.eq prefix.now.items other_prefix.now.items }
     {

@@ -1,25 +1,38 @@
-//! A vector together with a pass of it. They belong together by the type, so no call but [`Handle::meet`] has a condition.
-ghost use Rattle.std.specs.Prelude.{◌≡◌, ◌<◌, ◌^◌, ◌+◌, [], drop, length, slice_get, IfOk, IfErr, IfSome};
-ghost use Rattle.elsa_lock_free.specs.SharedList.{BeginsABuffer, BeginsAmong, Continues, IsLaterPass, Meet, PushedAll, Pushes, copied, items_of, mine};
+//! A handle: a vector together with a thread's view of it.
+//!
+//! A handle belongs to its vector by its type, so only the calls that take two handles, or a view,
+//! have a condition. Each call of the vector is written here, once, for every rule of the items and
+//! for whatever is stored next to the slots. The calls on the vector itself are short forms.
+ghost use Rattle.std.specs.Prelude.{◌≡◌, ◌≤◌, ◌<◌, ◌^◌, ◌+◌, [], List, drop, length, slice_get, take, IfOk, IfErr, IfSome, IfNone, Some};
+ghost use Rattle.elsa_lock_free.specs.SharedList.{BeginsABuffer, BeginsAmong, Continues, IsLaterPass, Meet, PushedAll, Pushes, PushesNext, copied, items_of, mine};
+ghost use Rattle.elsa_lock_free.specs.Distinct.{AgreeOnPlaces, EachIsNew, IsOneToOne};
 ghost use lib.Pointwise.{pointwise};
 
+use crate::atomic_list::{AtomicList, LIMIT, wait_a_little};
+use crate::item_rule::{AnyItems, DistinctItems, ItemRule};
 use crate::lock_free::LockFreeFrozenVec;
-use crate::pass::Pass;
+use crate::pass::{Pass, PushRight};
+use crate::tokens::{Author, bounded_by_tickets};
 use elsa_slots::iter::Iter;
-use std::alloc::{AllocError, Allocator, Global};
+use elsa_slots::slots::Beside;
+use std::alloc::{AllocError, AllocFailed, Allocator, Global};
 use std::marker::Model;
 use std::sync::Wait;
 
-/// A vector and a thread's pass of it. A clause sees the pass: its vector, its number as an author, and the list that it has seen.
+/// A vector and a thread's view of it, with the right to push. Contracts see the view: its vector,
+/// its number as a writer, and the list that it has observed.
 ///
-/// It has no bytes beside the reference and the pass, and each call does what the vector's call of the same name does by a pass.
+/// A handle has the vector's slots and state word, but not the vector itself, from which handles
+/// are made. So no call of a handle can make another handle and push by it. A handle is as large as
+/// a reference and a view.
 #[derive(Drop)]
-pub struct Handle<'v, T, A: Allocator = Global> {
-    vector: &'v LockFreeFrozenVec<T, A>,
-    pass: Pass<T, A>,
+pub struct Handle<'v, T, A: Allocator = Global, K: ItemRule<T> = AnyItems, X: Beside<T> = ()> {
+    pub(crate) list: &'v AtomicList<T, A, K, X>,
+    pub(crate) pass: Pass<T, A, K, X>,
+    pub(crate) right: PushRight,
 }
 
-impl<'v, T, A: Allocator> Model for Handle<'v, T, A> {
+impl<'v, T, A: Allocator, K: ItemRule<T>, X: Beside<T>> Model for Handle<'v, T, A, K, X> {
     ghost use Rattle.std.specs.Prelude.{◌≡◌};
     ghost use Rattle.elsa_lock_free.specs.SharedList.{View};
 
@@ -27,73 +40,118 @@ impl<'v, T, A: Allocator> Model for Handle<'v, T, A> {
 
     ghost view = { λ h. h.pass };
 
-    ghost invariant = { λ h. h.pass.vector ≡ h.vector.now };
+    ghost invariant = { λ h. (h.pass.vector ≡ (h.list.now.first.book, h.list.now.first.names)) × (h.right ≡ h.pass.author) };
 }
 
-impl<'v, T: Copy + Drop, A: Allocator + Copy> Handle<'v, T, A> {
-    /// The vector with a pass of it.
-    pub fn of(vector: &'v LockFreeFrozenVec<T, A>, pass: Pass<T, A>) -> Self
-        requires of { pass.vector ≡ vector.now }
-        ensures is { result ≡ pass }
+/// What a handle has observed of a vector, for reading: it has no right to push. Contracts see the
+/// items.
+#[derive(Drop)]
+pub struct Observed<'v, T, A: Allocator = Global, K: ItemRule<T> = AnyItems, X: Beside<T> = ()> {
+    list: &'v AtomicList<T, A, K, X>,
+    pass: Pass<T, A, K, X>,
+}
+
+impl<'v, T, A: Allocator, K: ItemRule<T>, X: Beside<T>> Model for Observed<'v, T, A, K, X> {
+    ghost use Rattle.std.specs.Prelude.{◌≡◌, List};
+    ghost use Rattle.elsa_lock_free.specs.SharedList.{items_of};
+
+    ghost Value = { List T };
+
+    ghost view = { λ o. items_of o.pass.seen };
+
+    ghost invariant = { λ o. o.pass.vector ≡ (o.list.now.first.book, o.list.now.first.names) };
+}
+
+impl<'v, T: Drop, A: Allocator + Copy, K: ItemRule<T>, X: Beside<T> + Drop> Observed<
+    'v,
+    T,
+    A,
+    K,
+    X,
+> {
+    /// Returns the number of items.
+    pub fn len(&self) -> usize
+        ensures { result ≡ length self.now }
     {
-        Handle { vector, pass }
+        let pass = &self.pass;
+        pass.seen_len()
     }
 
-    /// The vector, and what its calls that take a pass promise of this pass's list.
-    pub fn vector(&self) -> &'v LockFreeFrozenVec<T, A>
-        ensures is { result.now ≡ self.now.vector }
+    /// Returns a reference to the item at an index.
+    pub fn item(&self, place: usize) -> &'v T
+        requires within { place < length self.now }
+        ensures { slice_get self.now place ≡ Some result.now }
     {
-        self.vector
+        let pass = &self.pass;
+        pass.item(self.list, place)
+    }
+}
+
+impl<'v, T: Drop, A: Allocator + Copy, K: ItemRule<T>, X: Beside<T> + Drop> Handle<'v, T, A, K, X> {
+    /// Makes a handle of a vector and a view of it.
+    pub fn of(vector: &'v LockFreeFrozenVec<T, A, K, X>, pass: Pass<T, A, K, X>) -> Self
+        requires same_vector { pass.vector ≡ vector.now }
+        ensures same_view { result ≡ pass }
+    {
+        let right = PushRight::of(vector, &pass);
+        Handle {
+            list: &vector.list,
+            pass,
+            right,
+        }
     }
 
-    /// The pass: to hand it on to another thread, or to the calls that take one.
-    pub fn into_pass(self) -> Pass<T, A>
-        ensures is { result ≡ self.entry }
+    /// Returns a reference to the view.
+    pub fn pass(&self) -> &Pass<T, A, K, X>
+        ensures same_view { result.now ≡ self.now }
     {
-        let Handle { vector: _, pass } = self;
+        &self.pass
+    }
+
+    /// Returns the view, to store it or to pass it to the calls that take one.
+    pub fn into_pass(self) -> Pass<T, A, K, X>
+        ensures same_view { result ≡ self.entry }
+    {
+        let Handle {
+            list: _,
+            pass,
+            right: _,
+        } = self;
         pass
     }
 
-    /// Pushes an item and returns its place. It waits while another thread pushes.
-    ///
-    /// `Err`: the handle has pushed no more than before. The allocation of the buffer that begins at this length failed, or the
-    /// length is `2^62 - 1`, the greatest; the same push may succeed later. `O(1)`, with a buffer four times as large as the
-    /// one before where one begins.
-    pub fn push<R: Wait>(&mut self, rt: &R, item: T) -> Result<usize, AllocError>
-        ensures later { IsLaterPass self.old self.new }
-        ensures pushed { IfOk result (λ i. Pushes self.old self.new i item) }
-        ensures limit { IfOk result (λ i. i + 1 < 2 ^ 62) }
-        ensures refused { IfErr result (λ e. (mine self.new ≡ mine self.old)
-            × BeginsABuffer (length self.new.seen)) }
+    /// Returns what the handle has observed, for reading while the handle is in use. It allocates
+    /// nothing and takes no atomic step.
+    pub fn observed(&self) -> Observed<'v, T, A, K, X>
+        ensures items { result ≡ items_of self.now.seen }
     {
-        self.vector.push_as(rt, &mut self.pass, item)
+        Observed {
+            list: self.list,
+            pass: self.pass.again(),
+        }
     }
 
-    /// Pushes all items side by side, under one hold of the vector, and returns the place of the first: other threads see all of them
-    /// or none. It waits while another thread pushes.
+    /// Returns the number of items, by one load of the length. It takes no lock, allocates nothing
+    /// and never blocks.
     ///
-    /// `Err`: the handle has pushed no more than before. An allocation failed, of the buffers that begin among these items or of a table
-    /// of them, or the length would be above `2^62 - 1`, the greatest; the same call may succeed later. One exchange to hold the vector
-    /// and one to publish, however many items; `O(n)`, with buffers four times as large as the ones before where they begin.
-    pub fn extend<R: Wait>(&mut self, rt: &R, items: &[T]) -> Result<usize, AllocError>
-        ensures pushed { IfOk result (λ i. PushedAll self.old self.new i items.now) }
-        ensures limit { IfOk result (λ i. i + length items.now < 2 ^ 62) }
-        ensures refused { IfErr result (λ e. Continues self.old self.new
-            × BeginsAmong (length self.new.seen) (length items.now)) }
-    {
-        self.vector.extend_as(rt, &mut self.pass, items)
-    }
-
-    /// How many items the vector has, by one atomic read of the length. It takes no lock and no memory, and never waits. `O(1)`.
+    /// # Cost
+    /// `O(1)`.
     pub fn len(&mut self) -> usize
         ensures continues { Continues self.old self.new }
         ensures length { result ≡ length self.new.seen }
+        ensures fresh { length self.old.seen ≤ result }
         ensures limit { result < 2 ^ 62 }
     {
-        self.vector.len_as(&mut self.pass)
+        let list = self.list;
+        let (pass, n) = self.pass.lend().read_length(list);
+        self.pass = pass;
+        n
     }
 
-    /// How many items the handle has seen, by no atomic step. `O(1)`.
+    /// Returns the number of items that the handle has observed, without an atomic step.
+    ///
+    /// # Cost
+    /// `O(1)`.
     pub fn seen_len(&self) -> usize
         ensures length { result ≡ length self.now.seen }
         ensures limit { result < 2 ^ 62 }
@@ -101,70 +159,371 @@ impl<'v, T: Copy + Drop, A: Allocator + Copy> Handle<'v, T, A> {
         self.pass.seen_len()
     }
 
-    /// The item at a place: `None` exactly if the place is at or above the length of what the handle has then seen.
+    /// Proves what the vector's rule promises of all items that the handle has observed. It does
+    /// nothing at run time.
+    pub fn obeys_rule(&self)
+        ensures { EachIsNew K.is_new (items_of self.now.seen) }
+    {
+        self.pass.obeys_rule();
+    }
+
+    /// Returns a reference to the item at an index that the handle has observed. It takes no atomic
+    /// step and no lock, and allocates nothing.
     ///
-    /// A place that it has seen is read at once, with no atomic step. For a place at or above that it first reads the length, by one
-    /// load. It takes no lock and no memory, and never waits. `O(1)`.
-    pub fn get(&mut self, place: usize) -> Option<T>
+    /// # Cost
+    /// `O(1)`.
+    pub fn item(&self, place: usize) -> &'v T
+        requires seen { place < length self.now.seen }
+        ensures { slice_get (items_of self.now.seen) place ≡ Some result.now }
+    {
+        self.pass.item(self.list, place)
+    }
+
+    /// Returns what is stored next to the slot of an index that the handle has observed. It takes
+    /// no atomic step and no lock, and allocates nothing.
+    ///
+    /// # Cost
+    /// `O(1)`.
+    #[doc(hidden)]
+    pub fn beside(&self, place: usize) -> &'v X
+        requires seen { place < length self.now.seen }
+        ensures { (item : T) → slice_get (items_of self.now.seen) place ≡ Some item →
+            X.fits result.now item }
+    {
+        self.seen_len();
+        let list = self.list;
+        let prefix = self.pass.evidence();
+        let beside = list.beside(&prefix, place);
+        prefix.discard();
+        beside
+    }
+
+    /// Returns a reference to the item at an index, or `None` if the index is not below the length
+    /// that the handle has then observed. The reference lives as long as the vector is borrowed.
+    ///
+    /// An index that the handle has observed is read without an atomic step. For any other, the
+    /// call first reads the length, by one load. It takes no lock, allocates nothing and never
+    /// blocks.
+    ///
+    /// # Cost
+    /// `O(1)`.
+    pub fn get_ref(&mut self, place: usize) -> Option<&'v T>
         ensures continues { Continues self.old self.new }
-        ensures item { result ≡ slice_get (items_of self.new.seen) place }
+        ensures item { IfSome result (λ r. slice_get (items_of self.new.seen) place ≡ Some r.now) }
+        ensures absent { IfNone result (length self.new.seen ≤ place) }
         ensures limit { IfSome result (λ _. place + 1 < 2 ^ 62) }
     {
-        self.vector.get_as(&mut self.pass, place)
+        if place < self.seen_len() {
+            return Some(self.item(place));
+        }
+        if place < self.len() {
+            return Some(self.item(place));
+        }
+        None
     }
 
-    /// The items that the handle has seen, in order and each once. It reads no length: no atomic step, no lock and no memory.
-    /// `O(1)`, and so is each item. Pushes that the handle hasn't seen are not among them; [`len`](Self::len) sees them.
-    pub fn iter(&self) -> Iter<'v, T, A>
-        ensures items { result ≡ items_of self.now.seen }
-    {
-        self.vector.iter_as(&self.pass)
-    }
-
-    /// The items that came since the handle last looked: it reads the length once, and gives those at or above the length that the handle
-    /// had seen, in order and each once. A push of the handle's own is seen by it, so it isn't among the news, and neither are the
-    /// items that came before it.
+    /// Merges what two handles of a vector have observed: afterwards both have observed the longer
+    /// list. The indices at which each has pushed stay its own, and no index belongs to both. It
+    /// takes no atomic step, allocates nothing and never blocks.
     ///
-    /// It takes no lock and no memory, and never waits. `O(1)`, and so is each item, which takes no atomic step.
-    pub fn news(&mut self) -> Iter<'v, T, A>
-        ensures continues { Continues self.old self.new }
-        ensures items { result ≡ drop (length self.old.seen) (items_of self.new.seen) }
-    {
-        self.vector.news_as(&mut self.pass)
-    }
-
-    /// An independent vector with the items seen by one read of the length, which have no author there, and a pass of it, which has
-    /// seen all of it. `Handle::of` makes a handle of the two.
-    ///
-    /// It takes no lock and never waits. `Err`: an allocation failed, and all memory that was taken is given back. `O(n)`.
-    pub fn clone_vector(&mut self) -> Result<(LockFreeFrozenVec<T, A>, Pass<T, A>), AllocError>
-        ensures continues { Continues self.old self.new }
-        ensures clone_of { IfOk result (λ r. r.1.vector ≡ r.0) }
-        ensures clone_items { IfOk result (λ r. r.1.seen ≡ copied (items_of self.new.seen)) }
-        ensures clone_mine { IfOk result (λ r. mine r.1 ≡ []) }
-    {
-        self.vector.clone_as(&mut self.pass)
-    }
-
-    /// Both handles of a vector take the longer of what they have seen. Their own places stay, and no place is of both. It takes
-    /// no memory and no atomic step, and never waits. `O(1)`.
-    pub fn meet(&mut self, other: &mut Handle<'_, T, A>)
-        requires of { self.old.vector ≡ other.old.vector }
+    /// # Cost
+    /// `O(1)`.
+    pub fn meet(&mut self, other: &mut Handle<'_, T, A, K, X>)
+        requires same_vector { self.old.vector ≡ other.old.vector }
         ensures { Meet self.old self.new other.old other.new }
     {
         self.pass.meet(&mut other.pass)
     }
 }
 
-impl<'v, T: Copy + Drop + PartialEq, A: Allocator + Copy> Handle<'v, T, A> {
-    /// Whether the two vectors have equal items in order: it reads the length of this one, then of the other, and
-    /// compares what the two handles have then seen. It takes no lock and no memory, and never waits. `O(n)`.
-    pub fn equals(&mut self, other: &mut Handle<'_, T, A>) -> bool
+impl<'v, T: Drop, A: Allocator + Copy, K: ItemRule<T>> Handle<'v, T, A, K> {
+    /// Pushes an item and returns its index.
+    ///
+    /// # Errors
+    /// Fails if the buffer that begins at this length can't be allocated, or if the length is
+    /// `2^62 - 1`, the greatest. The error has the item; by `?` it becomes an `AllocError`, which
+    /// drops the item. The handle has then pushed no more than before; the same push may succeed
+    /// later.
+    ///
+    /// # Blocks
+    /// While another thread pushes.
+    ///
+    /// # Allocates
+    /// A buffer, four times as large as the one before, at the lengths where one begins.
+    ///
+    /// # Cost
+    /// `O(1)`.
+    pub fn push<R: Wait>(&mut self, rt: &R, item: T) -> Result<usize, AllocFailed<T>>
+        requires obeys_rule { (xs : List T) → K.is_new xs item }
+        ensures later { IsLaterPass self.old self.new }
+        ensures pushed { IfOk result (λ i. Pushes self.old self.new i item) }
+        ensures limit { IfOk result (λ i. i + 1 < 2 ^ 62) }
+        ensures refused { IfErr result (λ e. (e.value ≡ item) × (mine self.new ≡ mine self.old)
+            × BeginsABuffer (length self.new.seen)) }
+    {
+        let Some(hold) = self.hold_now(rt) else {
+            return Err(AllocFailed { value: item });
+        };
+        let place = hold.at();
+        hold.end_with(rt, self, item)?;
+        Ok(place)
+    }
+}
+
+impl<'v, T: Copy + Drop, A: Allocator + Copy, K: ItemRule<T>> Handle<'v, T, A, K> {
+    /// Pushes an item at index `n` only: if the vector has more than `n` items, it pushes nothing
+    /// and returns `None`. So a thread that has compared an item with all items below `n` pushes it
+    /// only if none of them equals it.
+    ///
+    /// # Errors
+    /// Fails if the buffer that begins at `n` can't be allocated, or if `n` is `2^62 - 1`, the
+    /// greatest length. The handle has then pushed nothing; the same call may succeed later.
+    ///
+    /// # Blocks
+    /// While another thread pushes at this length.
+    ///
+    /// # Allocates
+    /// A buffer, four times as large as the one before, if one begins at `n`.
+    ///
+    /// # Cost
+    /// `O(1)`.
+    pub fn push_at<R: Wait>(
+        &mut self,
+        rt: &R,
+        n: usize,
+        item: T,
+    ) -> Result<Option<usize>, AllocError>
+        requires index { n ≤ length self.old.seen }
+        requires obeys_rule { K.is_new (take n (items_of self.old.seen)) item }
+
+        // The pass is the same, later: its item is at the end of what it had seen, or it has pushed
+        // nothing, since the list was longer, or a buffer begins at this place.
+        ensures later { IsLaterPass self.old self.new }
+        ensures pushed { IfOk result (λ a. IfSome a (λ i.
+            (i ≡ n) × (length self.old.seen ≡ n) × PushesNext self.old self.new item)) }
+        ensures longer { IfOk result (λ a. IfNone a
+            ((n < length self.new.seen) × (mine self.new ≡ mine self.old))) }
+        ensures refused { IfErr result (λ e. (mine self.new ≡ mine self.old)
+            × (length self.new.seen ≡ n) × BeginsABuffer n) }
+    {
+        if n < self.seen_len() {
+            self.len();
+            return Ok(None);
+        }
+        if n == LIMIT {
+            return Err(AllocError);
+        }
+        let Some(hold) = self.hold(rt) else {
+            return Ok(None);
+        };
+        hold.end_with(rt, self, item)?;
+        Ok(Some(n))
+    }
+
+    /// Returns the item at an index, or `None` if the index is not below the length that the handle
+    /// has then observed.
+    ///
+    /// An index that the handle has observed is read without an atomic step. For any other, the
+    /// call first reads the length, by one load. It takes no lock, allocates nothing and never
+    /// blocks.
+    ///
+    /// # Cost
+    /// `O(1)`.
+    pub fn get(&mut self, place: usize) -> Option<T>
+        ensures continues { Continues self.old self.new }
+        ensures item { result ≡ slice_get (items_of self.new.seen) place }
+        ensures limit { IfSome result (λ _. place + 1 < 2 ^ 62) }
+    {
+        Some(*self.get_ref(place)?)
+    }
+
+    /// Returns an iterator over the items that the handle has observed, each once and in order. It
+    /// doesn't read the length: it takes no atomic step and no lock, and allocates nothing. It
+    /// doesn't yield pushes that the handle has not observed; [`len`](Self::len) observes them.
+    ///
+    /// # Cost
+    /// `O(1)`, also for each item.
+    pub fn iter(&self) -> Iter<'v, T, A>
+        ensures items { result ≡ items_of self.now.seen }
+    {
+        let list = self.list;
+        list.items(self.pass.evidence(), self.seen_len())
+    }
+
+    /// Reads the length once, and returns an iterator over the items that the handle had not
+    /// observed before, each once and in order. A handle observes its own pushes, so the iterator
+    /// yields neither them nor the items below them.
+    ///
+    /// It takes no lock, allocates nothing and never blocks.
+    ///
+    /// # Cost
+    /// `O(1)`, also for each item, which takes no atomic step.
+    pub fn news(&mut self) -> Iter<'v, T, A>
+        ensures continues { Continues self.old self.new }
+        ensures items { result ≡ drop (length self.old.seen) (items_of self.new.seen) }
+    {
+        let before = self.seen_len();
+        let len = self.len();
+        let list = self.list;
+        list.items_from(self.pass.evidence(), len, before)
+    }
+
+    /// Waits for items that the handle has not observed, and returns an iterator over them, as
+    /// [`news`](Self::news) does. It reads the length at most `tries` times, until there is such an
+    /// item. If none comes, the iterator is empty.
+    ///
+    /// # Blocks
+    /// Between two reads: the first 64 times by the processor's hint for waiting loops, and from
+    /// then on the thread yields its processor.
+    ///
+    /// # Cost
+    /// `O(1)` for each read and for each item.
+    pub fn wait_for_news<R: Wait>(&mut self, rt: &R, tries: usize) -> Iter<'v, T, A>
+        ensures continues { Continues self.old self.new }
+        ensures items { result ≡ drop (length self.old.seen) (items_of self.new.seen) }
+    {
+        let before = self.seen_len();
+        self.wait_for_length(rt, before, tries);
+        let list = self.list;
+        list.items_from(self.pass.evidence(), self.seen_len(), before)
+    }
+
+    /// Reads the length until it is above `before`, at most `tries` times, and waits a little
+    /// between two reads.
+    fn wait_for_length<R: Wait>(&mut self, _rt: &R, before: usize, tries: usize)
+        ensures continues { Continues self.old self.new }
+    {
+        let mut waits = 0;
+        for _ in 0..tries {
+            if self.len() > before {
+                break;
+            }
+            waits = wait_a_little(waits);
+        }
+    }
+
+    /// Makes an independent vector of the items that one load of the length observes, and a view
+    /// that has observed all of them. The items have no writer there. [`Handle::of`] makes a handle
+    /// of the two.
+    ///
+    /// The length is read first, and only the items below it are copied, so other threads may push
+    /// meanwhile. It takes no lock and never blocks.
+    ///
+    /// # Errors
+    /// Fails if an allocation fails. All memory that was allocated is then deallocated.
+    ///
+    /// # Allocates
+    /// The buffers of the new vector, and their directory.
+    ///
+    /// # Cost
+    /// `O(n)`.
+    pub fn clone_vector(&mut self) -> Result<(LockFreeFrozenVec<T, A>, Pass<T, A>), AllocError>
+        ensures continues { Continues self.old self.new }
+        ensures clone_of { IfOk result (λ r. r.1.vector ≡ r.0) }
+        ensures clone_items { IfOk result (λ r. r.1.seen ≡ copied (items_of self.new.seen)) }
+        ensures clone_mine { IfOk result (λ r. mine r.1 ≡ []) }
+    {
+        let n = self.len();
+        let prefix = self.pass.evidence();
+        let list = self.list;
+        let copy = list.copy(n, &prefix);
+        prefix.discard();
+        let (list, seen) = copy?;
+        let author = bounded_by_tickets(&seen, Author::new());
+        let copy_pass = Pass::of(seen, author, n);
+        Ok((LockFreeFrozenVec { list }, copy_pass))
+    }
+}
+
+impl<'v, T: Drop + PartialEq, A: Allocator + Copy, K: ItemRule<T>> Handle<'v, T, A, K> {
+    /// Returns whether two vectors have equal items in the same order, whatever their rules are. It
+    /// reads the length of this vector, then that of the other, and compares what the two handles
+    /// have then observed. It takes no lock, allocates nothing and never blocks.
+    ///
+    /// # Cost
+    /// `O(n)`.
+    pub fn equals<L: ItemRule<T>>(&mut self, other: &mut Handle<'_, T, A, L>) -> bool
         ensures continues { Continues self.old self.new }
         ensures other_continues { Continues other.old other.new }
         ensures equal { result ≡ pointwise T.eq (items_of self.new.seen) (items_of other.new.seen) }
     {
-        self.vector
-            .equals_as(&mut self.pass, other.vector, &mut other.pass)
+        let n = self.len();
+        let other_n = other.len();
+        if n != other_n {
+            return false;
+        }
+        let prefix = self.pass.evidence();
+        let other_prefix = other.pass.evidence();
+        let list = self.list;
+        let equal = list.has_items_of(&prefix, other.list, &other_prefix, n);
+        prefix.discard();
+        other_prefix.discard();
+        equal
     }
+}
+
+impl<'v, T: Copy + Drop, A: Allocator + Copy> Handle<'v, T, A> {
+    /// Pushes all items at consecutive indices, under one lock of the vector, and returns the index
+    /// of the first. Other threads observe all of them or none.
+    ///
+    /// # Errors
+    /// Fails if an allocation fails, or if the length would exceed `2^62 - 1`, the greatest. The
+    /// handle has then pushed nothing; the same call may succeed later.
+    ///
+    /// # Blocks
+    /// While another thread pushes.
+    ///
+    /// # Allocates
+    /// The buffers that begin among these items, each four times as large as the one before, and a
+    /// list of them.
+    ///
+    /// # Cost
+    /// `O(n)`, with two exchanges of the state word for any number of items.
+    pub fn extend<R: Wait>(&mut self, rt: &R, items: &[T]) -> Result<usize, AllocError>
+        ensures pushed { IfOk result (λ i. PushedAll self.old self.new i items.now) }
+        ensures limit { IfOk result (λ i. i + length items.now < 2 ^ 62) }
+        ensures refused { IfErr result (λ e. Continues self.old self.new
+            × BeginsAmong (length self.new.seen) (length items.now)) }
+    {
+        let list = self.list;
+        let (seen, author, length) = self.pass.lend().parts();
+        let right = &self.right;
+        let (seen, author, place, pushed) = list.extend(rt, right, seen, author, length, items);
+        self.pass = Pass::of(seen, author, place + pushed);
+        if pushed < items.len() {
+            return Err(AllocError);
+        }
+        Ok(place)
+    }
+}
+
+impl<'v, T: Copy + Drop + Eq, A: Allocator + Copy> Handle<'v, T, A, DistinctItems> {
+    /// Proves that equal items that the handle has observed are at one index. It does nothing at
+    /// run time.
+    pub fn one_to_one(&self)
+        ensures { IsOneToOne T.eq (items_of self.now.seen) }
+    {
+        self.pass.one_to_one();
+    }
+
+    /// Proves that equal items that two handles of a vector have observed are at one index, whether
+    /// the handles were merged or not. It does nothing at run time.
+    pub fn same_place(&self, other: &Handle<'_, T, A, DistinctItems>)
+        requires same_vector { self.now.vector ≡ other.now.vector }
+        ensures { AgreeOnPlaces T.eq (items_of self.now.seen) (items_of other.now.seen) }
+    {
+        self.pass.same_place(&other.pass);
+    }
+}
+
+/// Makes a handle that works on a pass in its place, until the pass is put back.
+pub(crate) fn by_pass<'v, T: Drop, A: Allocator + Copy, K: ItemRule<T>, X: Beside<T> + Drop>(
+    vector: &'v LockFreeFrozenVec<T, A, K, X>,
+    pass: &mut Pass<T, A, K, X>,
+) -> Handle<'v, T, A, K, X>
+    requires same_vector { pass.old.vector ≡ vector.now }
+    ensures same_view { result ≡ pass.old }
+    ensures rest { pass.new.vector ≡ pass.old.vector }
+{
+    Handle::of(vector, std::mem::replace(pass, vector.pass()))
 }

@@ -1,115 +1,186 @@
-//! A hold of a vector's word: for a thread that has to know what the list is while it makes the item to push.
-ghost use Rattle.std.specs.Prelude.{◌≡◌, ◌+◌, ◌-◌, ◌<◌, ◌^◌, [], ◌∷◌, ◌++◌, MatchBool, IfOk, IfErr, Some, length, slice_get};
-ghost use Rattle.elsa_lock_free.specs.SharedList.{BeginsABuffer, Continues, IsSamePass, PushesNext, items_of};
+//! A lock guard of a vector's state word, for a thread that must know the list while it makes the
+//! item to push.
+ghost use Rattle.std.specs.Prelude.{◌≡◌, ◌+◌, ◌-◌, ◌<◌, ◌^◌, MatchBool, IfOk, IfErr, IfSome, IfNone, Some, length, slice_get, suc};
+ghost use Rattle.elsa_lock_free.specs.SharedList.{BeginsABuffer, Continues, IsLaterPass, IsSamePass, PushesNext, SeesAlike, items_of};
+ghost use Rattle.elsa_lock_free.specs.History.{list_of};
+ghost use Rattle.elsa_lock_free.specs.SeenHistory.{IsAtAcquire, IsOf};
 
-use crate::atomic_list::{SeenHistory, obeys_rule};
+use crate::atomic_list::{AtomicList, LIMIT, Ready, SeenHistory, obeys_rule};
 use crate::event::Event;
+use crate::handle::Handle;
 use crate::item_rule::ItemRule;
-use crate::lock_free::{LockFreeFrozenVec, Pass};
+use crate::pass::Pass;
 use crate::rule::{AcquireGain, Log};
-use crate::tokens::{
-    Author, bounded_by_tickets, evidence, take_acquired_closed, take_acquired_open,
-};
+use crate::tokens::{bounded_by_tickets, evidence, take_acquired_closed, take_acquired_open};
 use elsa_machine::geometry::{buffer_size, locate};
 use elsa_slots::slots::{Beside, Buffer};
 use logbook::Gained;
-use std::alloc::{AllocError, Allocator};
+use std::alloc::{AllocFailed, Allocator};
 use std::marker::Model;
 use std::sync::Wait;
 
-/// What a thread that holds a vector's word has: the pass that it came with. No other thread pushes until it ends, by
-/// [`publish`](LockFreeFrozenVec::publish), [`publish_first`](LockFreeFrozenVec::publish_first) or
-/// [`release`](LockFreeFrozenVec::release), which give the pass back. It can't be dropped.
-pub struct Hold<T, A: Allocator, K: ItemRule<T>, X: Beside<T>> {
+/// A thread's lock on the vector's state word. Contracts see the vector, and the list at which it
+/// is locked; the writer stays with the handle. No other thread pushes until the hold ends, by
+/// [`publish`](Hold::publish), [`publish_first`](Hold::publish_first) or
+/// [`release`](Hold::release), each of which takes the handle. It can't be dropped.
+pub struct Hold<'v, T, A: Allocator, K: ItemRule<T>, X: Beside<T>> {
+    list: &'v AtomicList<T, A, K, X>,
     seen: SeenHistory<T, A, K, X>,
     right: Gained<Event<T>, Log<T>, AcquireGain<Buffer<T, A, X>>>,
-    author: Author,
     at: usize,
+    buffer: usize,
+    slot: usize,
 }
 
-impl<T, A: Allocator, K: ItemRule<T>, X: Beside<T>> Model for Hold<T, A, K, X> {
-    ghost use Rattle.std.specs.Prelude.{◌≡◌, ◌+◌, ◌<◌, ◌^◌, [], ◌∷◌, ◌++◌, length, suc};
-    ghost use Rattle.elsa_lock_free.specs.SharedList.{View, count};
+impl<'v, T, A: Allocator, K: ItemRule<T>, X: Beside<T>> Model for Hold<'v, T, A, K, X> {
+    ghost use Rattle.std.specs.Prelude.{◌≡◌, ◌+◌, ◌<◌, ◌^◌, [], ◌∷◌, ◌++◌, length};
+    ghost use Rattle.elsa_machine.specs.Geometry.{IsAt};
+    ghost use Rattle.elsa_lock_free.specs.SharedList.{View};
     ghost use Rattle.elsa_lock_free.specs.History.{list_of};
     ghost use Rattle.elsa_lock_free.specs.declared.event.Event.TheVariants.{Acquired};
 
     ghost Value = { View T };
 
-    ghost view = { λ h. record { vector = (h.seen.book, h.seen.names); author = suc h.author.name; seen = list_of h.seen.log } };
+    ghost view = { λ h. record { vector = (h.seen.book, h.seen.names); author = 0; seen = list_of h.seen.log } };
 
-    ghost invariant = { λ h. (h.right.names ≡ h.seen.names) × (h.seen.log ≡ h.right.answer ++ Acquired ∷ []) × (h.at ≡ length (list_of h.right.answer)) × (h.at + 1 < 2 ^ 62) × (count (suc h.author.name) (list_of h.seen.log) ≡ h.author.used) };
+    ghost invariant = { λ h. (h.right.names ≡ h.seen.names) × (h.seen.log ≡ h.right.answer ++ Acquired ∷ []) × (h.at ≡ length (list_of h.right.answer)) × (h.at + 1 < 2 ^ 62) × IsAt h.at h.buffer h.slot × (h.buffer < 31) × (h.seen.book ≡ h.list.now.first.book) × (h.seen.names ≡ h.list.now.first.names) };
 }
 
-impl<T, A: Allocator, K: ItemRule<T>, X: Beside<T>> Hold<T, A, K, X> {
-    /// Whether a buffer begins at the length, so that the next item needs its memory.
-    pub fn begins_buffer(&self) -> bool
-        ensures { MatchBool result (BeginsABuffer (length self.now.seen))
-            (BeginsABuffer (length self.now.seen) → ⊥) }
-    {
-        let (_buffer, slot) = locate(self.at);
-        slot == 0
-    }
-}
-
-impl<T: Drop, A: Allocator + Copy, K: ItemRule<T>, X: Beside<T> + Drop> LockFreeFrozenVec<
-    T,
-    A,
-    K,
-    X,
-> {
-    /// Holds the vector at the length that the pass has seen. It waits while another thread holds it at this length. `Err`: the
-    /// list is longer, and nothing is held; the pass has seen all of it. `O(1)`.
+impl<'v, T: Drop, A: Allocator + Copy, K: ItemRule<T>, X: Beside<T> + Drop> Handle<'v, T, A, K, X> {
+    /// Locks the vector at the length that the handle has observed. Returns `None` if the list is
+    /// longer: the vector is then not locked, and the handle has observed all of the list.
+    ///
+    /// # Blocks
+    /// While another thread has the vector locked at this length.
+    ///
+    /// # Cost
+    /// `O(1)`.
     #[doc(hidden)]
-    pub fn hold<R: Wait>(
-        &self,
-        rt: &R,
-        pass: Pass<T, A, K, X>,
-    ) -> Result<Hold<T, A, K, X>, Pass<T, A, K, X>>
-        requires of { pass.vector ≡ self.now }
-        requires room { length pass.seen + 1 < 2 ^ 62 }
-        ensures held { IfOk result (λ h. h ≡ pass) }
-        ensures longer { IfErr result (λ p. Continues pass p × (length pass.seen < length p.seen)) }
+    pub fn hold<R: Wait>(&mut self, rt: &R) -> Option<Hold<'v, T, A, K, X>>
+        requires room { length self.old.seen + 1 < 2 ^ 62 }
+        ensures held { IfSome result (λ h. (self.new ≡ self.old) × SeesAlike h self.old) }
+        ensures longer { IfNone result (Continues self.old self.new
+            × (length self.old.seen < length self.new.seen)) }
     {
-        let (seen, author, n) = pass.parts();
+        let list = self.list;
+        let (seen, author, n) = self.pass.lend().parts();
         let mut seen = seen;
-        match self.list.acquire_at(rt, &mut seen, n) {
-            Ok(right) => Ok(Hold {
-                seen,
-                right,
-                author,
-                at: n,
-            }),
+        match list.acquire_at(rt, &mut seen, n) {
+            Ok(right) => {
+                let author = bounded_by_tickets(&seen, author);
+                self.pass = Pass::of(seen.again(), author, n);
+                Some(Hold::at_length(list, seen, right, n))
+            }
             Err(length) => {
                 obeys_rule(&seen);
                 let author = bounded_by_tickets(&seen, author);
-                Err(Pass::of(seen, author, length))
+                self.pass = Pass::of(seen, author, length);
+                None
             }
         }
     }
 
-    /// Ends the hold, and pushes an item into the open buffer that the length is in. Whatever fits the last item's buffer
-    /// fits this one. Cannot fail. `O(1)`.
-    #[doc(hidden)]
-    pub fn publish<R: Wait>(&self, rt: &R, hold: Hold<T, A, K, X>, item: T) -> Pass<T, A, K, X>
-        // The hold is of this vector, and its buffer takes the item.
-        requires of { hold.vector ≡ self.now }
-        requires later { BeginsABuffer (length hold.seen) → ⊥ }
-        requires new { K.is_new (items_of hold.seen) item }
-        requires fits { (x : X) (last : T) →
-            slice_get (items_of hold.seen) (length hold.seen - 1) ≡ Some last →
-            X.fits x last → X.fits x item }
-
-        // The item stands behind what was seen, and is the author's.
-        ensures same { IsSamePass hold result }
-        ensures pushed { PushesNext hold result item }
+    /// Locks the vector at its present length, and tries the length first that the handle has
+    /// observed. Returns `None`, without a lock, if the list has the greatest length.
+    ///
+    /// # Blocks
+    /// While another thread has the vector locked.
+    ///
+    /// # Cost
+    /// `O(1)`.
+    pub(crate) fn hold_now<R: Wait>(&mut self, rt: &R) -> Option<Hold<'v, T, A, K, X>>
+        ensures continues { Continues self.old self.new }
+        ensures held { IfSome result (λ h. SeesAlike h self.new) }
+        ensures full { IfNone result (BeginsABuffer (length self.new.seen)) }
     {
-        let Hold {
+        let list = self.list;
+        let (seen, author, guess) = self.pass.lend().parts();
+        let mut seen = seen;
+        let (n, right) = list.acquire(rt, &mut seen, guess);
+        let author = bounded_by_tickets(&seen, author);
+        if n == LIMIT {
+            let (seen, author) = list.release(rt, seen, right, author, n);
+            self.pass = Pass::released(seen, author, n);
+            return None;
+        }
+        self.pass = Pass::of(seen.again(), author, n);
+        Some(Hold::at_length(list, seen, right, n))
+    }
+}
+
+impl<'v, T: Drop, A: Allocator + Copy, K: ItemRule<T>, X: Beside<T> + Drop> Hold<'v, T, A, K, X> {
+    /// The hold of a thread that has acquired the word at the length `at`. It finds the slot of
+    /// that length once, for all that ends the hold.
+    fn at_length(
+        list: &'v AtomicList<T, A, K, X>,
+        seen: SeenHistory<T, A, K, X>,
+        right: Gained<Event<T>, Log<T>, AcquireGain<Buffer<T, A, X>>>,
+        at: usize,
+    ) -> Hold<'v, T, A, K, X>
+        requires same_vector { IsOf seen list.now.first }
+        requires right { IsAtAcquire right seen }
+        requires index { (at ≡ length (list_of right.answer)) × (at + 1 < 2 ^ 62) }
+        ensures { result ≡ record {
+          vector = (seen.book, seen.names);
+          author = 0;
+          seen = list_of seen.log;
+        } }
+    {
+        let (buffer, slot) = locate(at);
+        Hold {
+            list,
             seen,
             right,
-            author,
             at,
-        } = hold;
-        let (buffer, slot) = locate(at);
+            buffer,
+            slot,
+        }
+    }
+
+    /// Returns whether a buffer begins at the length, so that the next item needs its memory.
+    pub fn begins_buffer(&self) -> bool
+        ensures { MatchBool result (BeginsABuffer (length self.now.seen))
+            (BeginsABuffer (length self.now.seen) → ⊥) }
+    {
+        self.slot == 0
+    }
+
+    /// Returns the length at which the vector is locked.
+    pub(crate) fn at(&self) -> usize
+        ensures index { result ≡ length self.now.seen }
+        ensures limit { result + 1 < 2 ^ 62 }
+    {
+        self.at
+    }
+
+    /// Ends the hold, and pushes an item into the open buffer that has this length. What fits the
+    /// buffer of the last item fits this one. It can't fail.
+    ///
+    /// # Cost
+    /// `O(1)`.
+    #[doc(hidden)]
+    pub fn publish<R: Wait>(self, rt: &R, handle: &mut Handle<'v, T, A, K, X>, item: T)
+        // The hold's buffer takes the item.
+        requires held { SeesAlike self handle.old }
+        requires later { BeginsABuffer (length self.seen) → ⊥ }
+        requires obeys_rule { K.is_new (items_of self.seen) item }
+        requires fits { (x : X) (last : T) →
+            slice_get (items_of self.seen) (length self.seen - 1) ≡ Some last →
+            X.fits x last → X.fits x item }
+
+        // The item stands behind what was seen, and is the handle's.
+        ensures pushed { IsSamePass handle.old handle.new × PushesNext handle.old handle.new item }
+    {
+        let Hold {
+            list,
+            seen,
+            right,
+            at,
+            buffer,
+            slot,
+        } = self;
+        let (before, author, _length) = handle.pass.lend().parts();
+        drop(before);
         let prefix = evidence(&seen);
         let (source, last) = prefix.at(at - 1, buffer, slot - 1);
         prefix.discard();
@@ -117,80 +188,126 @@ impl<T: Drop, A: Allocator + Copy, K: ItemRule<T>, X: Beside<T> + Drop> LockFree
         let (held, opened, slots, further) = take_acquired_open(right, buffer, slot);
         opened.agrees(&source);
         source.discard();
-        let (seen, author) = self.list.publish(
-            rt, seen, held, opened, slots, further, author, at, buffer, slot, item,
-        );
-        Pass::of(seen, author, at + 1)
+        let ready = Ready {
+            seen,
+            held,
+            author,
+            at,
+            opened,
+            slots,
+            further,
+            buffer,
+            slot,
+        };
+        let (seen, author) = list.publish(rt, &handle.right, ready, item);
+        handle.pass = Pass::released(seen, author, at + 1);
     }
 
-    /// Ends the hold, and pushes an item as the first of a new buffer, with this beside its slots. `Err`: the memory of the
-    /// buffer was refused; nothing is pushed, and the item and what was to lie beside it are dropped. `O(1)`, with a buffer
-    /// four times as large as the one before.
+    /// Ends the hold, and pushes an item as the first of a new buffer, with this beside its slots.
+    /// `O(1)`.
+    ///
+    /// # Errors
+    /// Fails if the buffer, four times as large as the one before, can't be allocated: nothing is
+    /// pushed. The error has the item; what was to be stored next to it is dropped.
     #[doc(hidden)]
     pub fn publish_first<R: Wait>(
-        &self,
+        self,
         rt: &R,
-        hold: Hold<T, A, K, X>,
+        handle: &mut Handle<'v, T, A, K, X>,
         item: T,
         beside: X,
-    ) -> Result<Pass<T, A, K, X>, Pass<T, A, K, X>>
-        // The hold is of this vector, and the item fits the new buffer.
-        requires of { hold.vector ≡ self.now }
-        requires begins { BeginsABuffer (length hold.seen) }
-        requires new { K.is_new (items_of hold.seen) item }
+    ) -> Result<(), AllocFailed<T>>
+        // The item fits the new buffer.
+        requires held { SeesAlike self handle.old }
+        requires begins { BeginsABuffer (length self.seen) }
+        requires obeys_rule { K.is_new (items_of self.seen) item }
         requires fits { X.fits beside item }
 
-        // The item stands behind what was seen, and is the author's, or nothing changed.
-        ensures same { IfOk result (λ p. IsSamePass hold p) }
-        ensures pushed { IfOk result (λ p. PushesNext hold p item) }
-        ensures refused { IfErr result (λ p. p ≡ hold) }
+        // The item stands behind what was seen, and is the handle's, or nothing changed.
+        ensures pushed { IfOk result (λ _. IsSamePass handle.old handle.new
+            × PushesNext handle.old handle.new item) }
+        ensures refused { IfErr result (λ e. (handle.new ≡ handle.old) × (e.value ≡ item)) }
     {
         let Hold {
+            list,
             seen,
             right,
+            at,
+            buffer,
+            slot,
+        } = self;
+        let (before, author, _length) = handle.pass.lend().parts();
+        drop(before);
+        let Ok((fresh, slots)) = list.slots.new_buffer(buffer_size(buffer), beside) else {
+            let (seen, author) = list.release(rt, seen, right, author, at);
+            handle.pass = Pass::released(seen, author, at);
+            return Err(AllocFailed { value: item });
+        };
+        let (held, mut further) = take_acquired_closed(right, buffer);
+        let first = further.take();
+        let opened = list.slots.fill(buffer, fresh, first);
+        let ready = Ready {
+            seen,
+            held,
             author,
             at,
-        } = hold;
-        let (buffer, slot) = locate(at);
-        let (held, mut further) = take_acquired_closed(right, buffer);
-        let Ok((fresh, slots)) = self.list.slots.new_buffer(buffer_size(buffer), beside) else {
-            let (seen, author) = self
-                .list
-                .release(rt, seen, held, further, author, at, buffer);
-            return Err(Pass::of(seen, author, at));
+            opened,
+            slots,
+            further,
+            buffer,
+            slot,
         };
-        let first = further.take();
-        let opened = self.list.slots.fill(buffer, fresh, first);
-        let (seen, author) = self.list.publish(
-            rt, seen, held, opened, slots, further, author, at, buffer, slot, item,
-        );
-        Ok(Pass::of(seen, author, at + 1))
+        let (seen, author) = list.publish(rt, &handle.right, ready, item);
+        handle.pass = Pass::released(seen, author, at + 1);
+        Ok(())
     }
 
-    /// Ends the hold, and pushes nothing. Cannot fail. `O(1)`.
+    /// Ends the hold, and pushes nothing. It can't fail.
+    ///
+    /// # Cost
+    /// `O(1)`.
     #[doc(hidden)]
-    pub fn release<R: Wait>(&self, rt: &R, hold: Hold<T, A, K, X>) -> Pass<T, A, K, X>
-        requires of { hold.vector ≡ self.now }
-        ensures { result ≡ hold }
+    pub fn release<R: Wait>(self, rt: &R, handle: &mut Handle<'v, T, A, K, X>)
+        requires held { SeesAlike self handle.old }
+        ensures { handle.new ≡ handle.old }
     {
         let Hold {
+            list,
             seen,
             right,
-            author,
             at,
-        } = hold;
-        let (buffer, slot) = locate(at);
-        if slot == 0 {
-            let (held, further) = take_acquired_closed(right, buffer);
-            let (seen, author) = self
-                .list
-                .release(rt, seen, held, further, author, at, buffer);
-            return Pass::of(seen, author, at);
+            buffer: _,
+            slot: _,
+        } = self;
+        let (known, author, _length) = handle.pass.lend().parts();
+        drop(known);
+        let (seen, author) = list.release(rt, seen, right, author, at);
+        handle.pass = Pass::released(seen, author, at);
+    }
+}
+
+impl<'v, T: Drop, A: Allocator + Copy, K: ItemRule<T>> Hold<'v, T, A, K, ()> {
+    /// Ends the hold with an item at the end of the list, in a new buffer if one begins there.
+    ///
+    /// # Errors
+    /// Fails if that buffer can't be allocated. The error has the item.
+    pub(crate) fn end_with<R: Wait>(
+        self,
+        rt: &R,
+        handle: &mut Handle<'v, T, A, K>,
+        item: T,
+    ) -> Result<(), AllocFailed<T>>
+        requires held { SeesAlike self handle.old }
+        requires obeys_rule { K.is_new (items_of self.seen) item }
+        ensures pushed { IfOk result (λ _. IsLaterPass handle.old handle.new
+            × PushesNext handle.old handle.new item) }
+        ensures refused { IfErr result (λ e. (handle.new ≡ handle.old) × (e.value ≡ item)
+            × BeginsABuffer (length handle.old.seen)) }
+    {
+        if self.begins_buffer() {
+            return self.publish_first(rt, handle, item, ());
         }
-        let (held, opened, slots, further) = take_acquired_open(right, buffer, slot);
-        let (seen, author) = self.list.release_open(
-            rt, seen, held, opened, slots, further, author, at, buffer, slot,
-        );
-        Pass::of(seen, author, at)
+        self.publish(rt, handle, item);
+        Ok(())
     }
 }

@@ -1,12 +1,13 @@
-//! Which items a vector takes: any, or only those that it doesn't hold yet.
+//! Which items a vector takes: any item, or only items that it doesn't have yet.
 //!
-//! The rule is part of the vector's type. A vector that takes any item has a plain push; one that takes only new items has
-//! [`push_at_as`](crate::lock_free::LockFreeFrozenVec::push_at_as) alone, which requires that the item is new.
+//! The rule is part of the vector's type. A vector that takes any item has `push`. One that takes
+//! only new items has only [`push_at_as`](crate::lock_free::LockFreeFrozenVec::push_at_as) and
+//! [`Handle::push_at`](crate::lock_free::Handle::push_at), which require that the item is new.
 ghost use Rattle.std.specs.Prelude.{◌≡◌, Bool, List, Some, slice_get, true, ℕ};
 
-/// Which items may come behind a list.
+/// A rule that decides which items may be appended to a list.
 pub trait ItemRule<T> {
-    /// Whether an item is new to a list, so that it may come behind it.
+    /// Whether an item is new to a list, so that it may be appended to it.
     ghost is_new: { List T → T → Type 0 };
 
     /// Whether no item can be at two places.
@@ -21,7 +22,7 @@ pub trait ItemRule<T> {
         is_new xs x → slice_get xs i ≡ Some x → ⊥ };
 }
 
-/// Any item may come.
+/// The rule that takes any item.
 pub struct AnyItems;
 
 impl<T> ItemRule<T> for AnyItems {
@@ -39,7 +40,7 @@ impl<T> ItemRule<T> for AnyItems {
     }
 }
 
-/// Only an item that is equal to none of the list may come, so that no item is at two places.
+/// The rule that takes an item only if it equals none in the list, so that no item has two indices.
 pub struct DistinctItems;
 
 impl<T: Eq> ItemRule<T> for DistinctItems {

@@ -1,8 +1,9 @@
-//! An append-only vector that many threads share: the rule of its atomic steps, those steps, and the vector itself. The slots that hold
-//! its items are those of `elsa_slots`.
+//! An append-only vector that many threads share: the rule of its atomic steps, those steps, and
+//! the vector itself. The slots that hold its items are those of `elsa_slots`.
 #![tactic(auto)]
 
-/// Spends ghost tokens, each named with its type: what they own goes where the function's proof says. It does nothing when it runs.
+/// Spends ghost tokens, each named with its type: what they own goes where the function's proof
+/// says. It does nothing when it runs.
 macro_rules! spend {
     ($($token:ident: $kind:ident),+) => {
         $(let $kind { marker: _ } = $token;)+

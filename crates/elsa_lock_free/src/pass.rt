@@ -1,21 +1,56 @@
-//! What a thread has seen of a vector: a beginning of the list that all threads share, with the evidence that its places
-//! were written, and the right to push under a name of its own.
-ghost use Rattle.std.specs.Prelude.{◌≡◌, ◌≢◌, ◌≤◌, ◌<◌, ◌^◌, [], length, suc};
+//! A view: what a thread has observed of a vector, with the evidence that its slots were written,
+//! and the right to push as a writer of its own.
+ghost use Rattle.std.specs.Prelude.{◌≡◌, false, ◌≢◌, ◌≤◌, ◌<◌, ◌^◌, [], Some, length, slice_get, suc};
 ghost use mathlib.Core.List.{IsPrefix};
-ghost use Rattle.elsa_lock_free.specs.SharedList.{Apart, IsSamePass, Meet, count, items_of, longer, mine};
+ghost use Rattle.elsa_lock_free.specs.SharedList.{Apart, Continues, IsSamePass, Meet, count, items_of, longer, mine};
 ghost use Rattle.elsa_lock_free.specs.Distinct.{AgreeOnPlaces, EachIsNew, IsOneToOne};
-ghost use Rattle.elsa_lock_free.specs.History.{list_of};
+ghost use Rattle.elsa_lock_free.specs.History.{is_held, list_of};
 ghost use Rattle.elsa_lock_free.specs.Rights.{buffer_slots_of};
+ghost use Rattle.elsa_lock_free.specs.SeenHistory.{view_of};
 
-use crate::atomic_list::{SeenHistory, obeys_rule};
+use crate::atomic_list::{AtomicList, SeenHistory, obeys_rule};
 use crate::item_rule::{AnyItems, DistinctItems, ItemRule};
-use crate::tokens::{Author, apart, bounded_by_tickets, evidence};
+use crate::lock_free::LockFreeFrozenVec;
+use crate::tokens::{Author, apart, bounded_by_tickets, evidence, take_read};
 use elsa_slots::slots::{Beside, Buffer, WrittenPrefix};
 use std::alloc::{Allocator, Global};
 use std::marker::Model;
+use std::snapshot::Snapshot;
 
-/// What a thread has seen of a vector, and the right to push under its name. A clause sees the vector that it is of, its number
-/// as an author, and the list that it has seen.
+/// The right to push as one writer. A publication requires it of the writer that it is passed. A
+/// handle has it from the vector, and no handle has the vector, so no call of a handle can push as
+/// a writer that it has made up. Contracts see the writer's number. It has no bytes.
+#[derive(Drop)]
+pub struct PushRight {
+    writer: Snapshot<Author>,
+}
+
+impl Model for PushRight {
+    ghost use Rattle.std.specs.Prelude.{ℕ, suc};
+
+    ghost Value = { ℕ };
+
+    ghost view = { λ r. suc r.writer.value.name };
+}
+
+impl PushRight {
+    /// The right to push as the writer of a pass. The vector itself is not read: it is what only a
+    /// maker of handles has.
+    pub(crate) fn of<T: Drop, A: Allocator + Copy, K: ItemRule<T>, X: Beside<T> + Drop>(
+        _vector: &LockFreeFrozenVec<T, A, K, X>,
+        pass: &Pass<T, A, K, X>,
+    ) -> PushRight
+        ensures { result ≡ pass.now.author }
+    {
+        let author = &pass.author;
+        PushRight {
+            writer: Snapshot::of(author),
+        }
+    }
+}
+
+/// What a thread has observed of a vector, and the right to push as its writer. Contracts see the
+/// vector that it belongs to, its number as a writer, and the list that it has observed.
 pub struct Pass<T, A: Allocator = Global, K: ItemRule<T> = AnyItems, X: Beside<T> = ()> {
     seen: SeenHistory<T, A, K, X>,
     author: Author,
@@ -42,11 +77,7 @@ impl<T, A: Allocator, K: ItemRule<T>, X: Beside<T>> Pass<T, A, K, X> {
     ) -> Pass<T, A, K, X>
         requires mine { count (suc author.name) (list_of seen.log) ≡ author.used }
         requires length { (seen_length ≡ length (list_of seen.log)) × (seen_length < 2 ^ 62) }
-        ensures { result ≡ record {
-          vector = (seen.book, seen.names);
-          author = suc author.name;
-          seen = list_of seen.log;
-        } }
+        ensures { result ≡ view_of seen author }
     {
         Pass {
             seen,
@@ -55,8 +86,22 @@ impl<T, A: Allocator, K: ItemRule<T>, X: Beside<T>> Pass<T, A, K, X> {
         }
     }
 
+    /// The pass of a thread that has ended its hold: the word is free.
+    pub(crate) fn released(
+        seen: SeenHistory<T, A, K, X>,
+        author: Author,
+        seen_length: usize,
+    ) -> Pass<T, A, K, X>
+        requires free { is_held seen.log ≡ false }
+        requires mine { count (suc author.name) (list_of seen.log) ≡ author.used }
+        requires length { (seen_length ≡ length (list_of seen.log)) × (seen_length < 2 ^ 62) }
+        ensures { result ≡ view_of seen author }
+    {
+        Pass::of(seen, author, seen_length)
+    }
+
     pub(crate) fn parts(self) -> (SeenHistory<T, A, K, X>, Author, usize)
-        ensures is { self ≡ record {
+        ensures same_view { self ≡ record {
           vector = (result.0.book, result.0.names);
           author = suc result.1.name;
           seen = list_of result.0.log;
@@ -74,7 +119,8 @@ impl<T, A: Allocator, K: ItemRule<T>, X: Beside<T>> Pass<T, A, K, X> {
 }
 
 impl<T, A: Allocator, K: ItemRule<T>, X: Beside<T>> Pass<T, A, K, X> {
-    /// Another pass of the same vector, which has seen as much and has pushed nothing. It takes no memory and no atomic step.
+    /// Makes another view of the same vector, which has observed as much and pushed nothing. It
+    /// allocates nothing and takes no atomic step.
     pub fn again(&self) -> Pass<T, A, K, X>
         ensures { (result.vector ≡ self.now.vector) × (result.seen ≡ self.now.seen)
             × (mine result ≡ []) }
@@ -86,7 +132,20 @@ impl<T, A: Allocator, K: ItemRule<T>, X: Beside<T>> Pass<T, A, K, X> {
         )
     }
 
-    /// How many items the pass has seen, by no atomic step. `O(1)`.
+    /// Takes the pass out, for a step that needs it by value, and leaves one that has observed as
+    /// much and has pushed nothing.
+    pub(crate) fn lend(&mut self) -> Pass<T, A, K, X>
+        ensures same_view { result ≡ self.old }
+        ensures rest { self.new.vector ≡ self.old.vector }
+    {
+        let spare = self.again();
+        std::mem::replace(self, spare)
+    }
+
+    /// Returns the number of items that the view has observed, without an atomic step.
+    ///
+    /// # Cost
+    /// `O(1)`.
     pub fn seen_len(&self) -> usize
         ensures length { result ≡ length self.now.seen }
         ensures limit { result < 2 ^ 62 }
@@ -94,14 +153,16 @@ impl<T, A: Allocator, K: ItemRule<T>, X: Beside<T>> Pass<T, A, K, X> {
         self.seen_length
     }
 
-    /// What the vector's rule for items says of all that the pass has seen. It does nothing when it runs.
+    /// Proves what the vector's rule promises of all items that the view has observed. It does
+    /// nothing at run time.
     pub fn obeys_rule(&self)
         ensures { EachIsNew K.is_new (items_of self.now.seen) }
     {
         obeys_rule(&self.seen);
     }
 
-    /// The evidence for all that the pass has seen. It has no bytes, and takes no atomic step.
+    /// Returns the evidence for all that the view has observed. It has no bytes, and takes no
+    /// atomic step.
     pub(crate) fn evidence(&self) -> WrittenPrefix<T, Buffer<T, A, X>>
         ensures { (result.buffer_slots ≡ buffer_slots_of self.now.vector.1)
             × (result.items ≡ items_of self.now.seen) }
@@ -124,7 +185,7 @@ impl<T, A: Allocator, K: ItemRule<T>, X: Beside<T>> Pass<T, A, K, X> {
 
     /// The pass with what a longer one has seen.
     fn raised(self, longer: &Pass<T, A, K, X>) -> Pass<T, A, K, X>
-        requires of { self.vector ≡ longer.now.vector }
+        requires same_vector { self.vector ≡ longer.now.vector }
         requires shorter { length self.seen ≤ length longer.now.seen }
         ensures same { IsSamePass self result }
         ensures seen { (result.seen ≡ longer.now.seen) × IsPrefix self.seen result.seen }
@@ -161,10 +222,14 @@ impl<T, A: Allocator, K: ItemRule<T>, X: Beside<T>> Pass<T, A, K, X> {
         }
     }
 
-    /// Both passes take the longer of what they have seen. Their own places stay, and no place is of both. It takes no memory
-    /// and no atomic step, and never waits. `O(1)`.
+    /// Merges what two views have observed: afterwards both have observed the longer list. Their
+    /// own indices stay, and no index belongs to both. It allocates nothing, takes no atomic step
+    /// and never blocks.
+    ///
+    /// # Cost
+    /// `O(1)`.
     pub fn meet(&mut self, other: &mut Pass<T, A, K, X>)
-        requires of { self.old.vector ≡ other.old.vector }
+        requires same_vector { self.old.vector ≡ other.old.vector }
         ensures { Meet self.old self.new other.old other.new }
     {
         let spare = self.again();
@@ -177,18 +242,47 @@ impl<T, A: Allocator, K: ItemRule<T>, X: Beside<T>> Pass<T, A, K, X> {
     }
 }
 
+impl<T: Drop, A: Allocator + Copy, K: ItemRule<T>, X: Beside<T> + Drop> Pass<T, A, K, X> {
+    /// Reads the number of items in the vector, by one load.
+    pub(crate) fn read_length(self, list: &AtomicList<T, A, K, X>) -> (Pass<T, A, K, X>, usize)
+        requires { self.vector ≡ (list.now.first.book, list.now.first.names) }
+        ensures continues { Continues self result.0 }
+        ensures length { (result.1 ≡ length result.0.seen) × (result.1 < 2 ^ 62) }
+    {
+        let (seen, author, _length) = self.parts();
+        let (n, seen, gained) = list.read_length(seen, author);
+        let (author, prefix) = take_read(gained);
+        prefix.discard();
+        (Pass::of(seen, author, n), n)
+    }
+
+    /// Returns a reference to the item at an index that the view has observed.
+    pub(crate) fn item<'v>(&self, list: &'v AtomicList<T, A, K, X>, place: usize) -> &'v T
+        requires same_vector { self.now.vector ≡ (list.now.first.book, list.now.first.names) }
+        requires seen { place < length self.now.seen }
+        ensures { slice_get (items_of self.now.seen) place ≡ Some result.now }
+    {
+        self.seen_len();
+        let prefix = self.evidence();
+        let item = list.item(&prefix, place);
+        prefix.discard();
+        item
+    }
+}
+
 impl<T: Eq, A: Allocator> Pass<T, A, DistinctItems> {
-    /// Equal items of what a pass has seen are at one place. It does nothing when it runs.
+    /// Proves that equal items that a view has observed are at one index. It does nothing at run
+    /// time.
     pub fn one_to_one(&self)
         ensures { IsOneToOne T.eq (items_of self.now.seen) }
     {
         obeys_rule(&self.seen);
     }
 
-    /// Equal items of what two passes of a vector have seen are at one place, whether they met or not, since each has seen a
-    /// beginning of one list. It does nothing when it runs.
+    /// Proves that equal items that two views of a vector have observed are at one index, whether
+    /// the views were merged or not. It does nothing at run time.
     pub fn same_place(&self, other: &Pass<T, A, DistinctItems>)
-        requires of { self.now.vector ≡ other.now.vector }
+        requires same_vector { self.now.vector ≡ other.now.vector }
         ensures { AgreeOnPlaces T.eq (items_of self.now.seen) (items_of other.now.seen) }
     {
         let mut both = self.seen.again();

@@ -1,4 +1,5 @@
-//! The rule of a vector, over `logbook`: what holds between any two atomic steps, and what a thread gains at each step.
+//! The rule of a vector, over `logbook`: what holds between any two atomic steps, and what a thread
+//! gains at each step.
 use crate::event::Event;
 use crate::item_rule::ItemRule;
 use elsa_slots::slots::HasSlots;
@@ -78,7 +79,7 @@ impl<T, B: HasSlots<T>> Gain<Event<T>, Log<T>> for PublishGain<B> {
     ghost after = { λ names about answer. publish_gain T.row B.row B.slot_names B.fits about answer };
 }
 
-/// A publish of many gains the same, with as many tickets fewer.
+/// The gain of a publish of several items: the same, minus one ticket for each item.
 pub struct ExtendGain<B> {
     buffers: PhantomData<B>,
 }
@@ -98,7 +99,8 @@ impl<T> Gain<Event<T>, Log<T>> for Nothing {
     ghost after = { λ names about answer. ftrue };
 }
 
-/// A read of the word that exchanges nothing with the rule, by an offer that has its result already.
+/// A read of the word that exchanges nothing with the rule, by an offer that has its result
+/// already.
 pub struct PlainRead;
 
 impl<T> Plain<(), Event<T>, Log<T>> for PlainRead {

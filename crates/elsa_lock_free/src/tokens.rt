@@ -1,6 +1,8 @@
-//! Tokens: what the lock holder and a pass own, and the offers by which they exchange it with the rule. None has bytes.
+//! Tokens: what the lock holder and a pass own, and the offers by which they exchange it with the
+//! rule. None has bytes.
 //!
-//! Each function here has a manual proof: it takes tokens apart and makes others of them, and does nothing when it runs.
+//! Each function here has a manual proof: it takes tokens apart and makes others of them, and does
+//! nothing when it runs.
 ghost use Rattle.std.specs.Prelude.{◌≡◌, ◌≢◌, ◌+◌, ◌*◌, ◌^◌, ◌<◌, ◌≤◌, ◌∷◌, ◌++◌, ℕ, suc, List, [], length, drop, slice_get, slice_index_or, None, Some};
 ghost use mathlib.Core.List.{IsPrefix};
 ghost use base.Stored.{coded_list, coded_ℕ};
@@ -22,7 +24,8 @@ use logbook::{Gained, Offer, Seen, Start};
 use std::marker::{Model, PhantomData};
 use std::sync::Wait;
 
-/// The right to end the hold, at a history whose events added so many entries each. It has no bytes.
+/// The right to release the lock, at a history with these numbers of entries for its events. It has
+/// no bytes.
 pub struct Held {
     pub(crate) marker: PhantomData<()>,
     pub ghost name: { ℕ },
@@ -44,7 +47,8 @@ impl Model for Author {
     ghost also_owns = { λ a. author a.name a.used };
 }
 
-/// A book with an empty list for these buffers, held by its maker. The evidence, of some places or none, names the buffers.
+/// A book with an empty list for these buffers, held by its maker. The evidence, of some places or
+/// none, names the buffers.
 pub fn start<T, B: HasSlots<T>, K: ItemRule<T>>(
     prefix: WrittenPrefix<T, B>,
 ) -> (
@@ -81,7 +85,8 @@ impl Author {
     }
 }
 
-/// An offer to acquire the word. It takes the right to wait, so that no read of the length can make one.
+/// An offer to acquire the word. It takes the right to wait, so that no read of the length can make
+/// one.
 pub fn offer_acquire<R: Wait, T, B: HasSlots<T>, K: ItemRule<T>>(
     _rt: &R,
     seen: &Seen<Event<T>, Log<T>, OneWord<B, K>>,
@@ -103,7 +108,7 @@ fn acquire_offer<T, B: HasSlots<T>, K: ItemRule<T>>(
     }
 }
 
-/// What an acquire gained, if the next place begins a buffer that nobody has opened.
+/// Takes the gain of an acquire, if the next index begins a buffer that no thread has opened.
 pub fn take_acquired_closed<T, B: HasSlots<T>>(
     right: Gained<Event<T>, Log<T>, AcquireGain<B>>,
     _buffer: usize,
@@ -153,51 +158,24 @@ pub fn take_acquired_open<T, B: HasSlots<T>>(
     )
 }
 
-/// An offer to release the word and leave the list.
+/// An offer to release the word and leave the list: all that the acquire gained goes back.
 pub fn offer_release<T, B: HasSlots<T>, K: ItemRule<T>>(
     seen: &Seen<Event<T>, Log<T>, OneWord<B, K>>,
-    held: Held,
-    further: WriteRights,
+    right: Gained<Event<T>, Log<T>, AcquireGain<B>>,
     author: Author,
-    _buffer: usize,
 ) -> Offer<Event<T>, Log<T>, OneWord<B, K>, ReleaseGain<B>>
-    requires { (held.name ≡ head seen.now.names) × (held.added ≡ added seen.now.log)
-        × (further.of ≡ drop _buffer (buffer_slots_of seen.now.names))
-        × (length (list_of seen.now.log) + 1 ≡ 4 ^ _buffer) }
+    requires { (right.names ≡ seen.now.names) × (seen.now.log ≡ right.answer ++ Acquired ∷ []) }
     ensures { (result.names ≡ seen.now.names) × (result.ask ≡ Released)
         × (result.about ≡ OfferOf author.name author.used ∷ seen.now.log) × (result.state ≡ None) }
 {
-    spend!(held: Held, further: WriteRights, author: Author);
+    spend!(right: Gained, author: Author);
     Offer {
         marker: PhantomData,
     }
 }
 
-/// The same, if the next place is in an open buffer: its evidence goes back too, with the rights to its slots.
-pub fn offer_release_open<T, B: HasSlots<T>, K: ItemRule<T>>(
-    seen: &Seen<Event<T>, Log<T>, OneWord<B, K>>,
-    held: Held,
-    opened: Written<B>,
-    slots: WriteRights,
-    further: WriteRights,
-    author: Author,
-    _buffer: usize,
-    _slot: usize,
-) -> Offer<Event<T>, Log<T>, OneWord<B, K>, ReleaseGain<B>>
-    requires { (held.name ≡ head seen.now.names) × (held.added ≡ added seen.now.log)
-        × IsOpenAt (buffer_slots_of seen.now.names) (length (list_of seen.now.log)) _buffer _slot
-        opened.of (B.slot_names opened.value) slots.of further.of × (0 < _slot) }
-    ensures { (result.names ≡ seen.now.names) × (result.ask ≡ Released)
-        × (result.about ≡ OfferOf author.name author.used ∷ seen.now.log) × (result.state ≡ None) }
-{
-    spend!(held: Held, opened: Written);
-    spend!(slots: WriteRights, further: WriteRights, author: Author);
-    Offer {
-        marker: PhantomData,
-    }
-}
-
-/// An offer to publish an item: it was written in the slot of the next place, and `slots` are the rights to those behind it.
+/// Makes an offer to publish an item, which was written in the slot of the next index. `slots` are
+/// the rights to the later slots.
 pub fn offer_publish<T, B: HasSlots<T>, K: ItemRule<T>>(
     seen: &Seen<Event<T>, Log<T>, OneWord<B, K>>,
     held: Held,
@@ -224,8 +202,8 @@ pub fn offer_publish<T, B: HasSlots<T>, K: ItemRule<T>>(
     }
 }
 
-/// An offer to publish many items at once, those of the evidence behind the list that was seen, if the next place begins a buffer
-/// that nobody has opened.
+/// Makes an offer to publish several items at once, those of the evidence after the observed list,
+/// if the next index begins a buffer that no thread has opened.
 pub fn offer_extend_closed<T, B: HasSlots<T>, K: ItemRule<T>>(
     seen: &Seen<Event<T>, Log<T>, OneWord<B, K>>,
     held: Held,
@@ -277,7 +255,8 @@ pub fn offer_extend_open<T, B: HasSlots<T>, K: ItemRule<T>>(
     }
 }
 
-/// An offer to publish the items of a clone, if the next place begins a buffer that nobody has opened.
+/// Makes an offer to publish the items of a clone, if the next index begins a buffer that no thread
+/// has opened.
 pub fn offer_clone_closed<T, B: HasSlots<T>, K: ItemRule<T>>(
     seen: &Seen<Event<T>, Log<T>, OneWord<B, K>>,
     held: Held,
@@ -345,7 +324,7 @@ pub fn take_published<T, B: HasSlots<T>>(gained: Gained<Event<T>, Log<T>, Publis
     }
 }
 
-/// What a publish of many gained: the same, with as many tickets fewer.
+/// Takes the gain of a publish of several items: the author, minus one ticket for each item.
 pub fn take_extended<T, B: HasSlots<T>>(gained: Gained<Event<T>, Log<T>, ExtendGain<B>>) -> Author
     ensures { (result.name ≡ author_of gained.about)
         × (result.used ≡ used_of gained.about + pushes_of (others gained.about))
@@ -372,7 +351,8 @@ pub fn offer_read<T, B: HasSlots<T>, K: ItemRule<T>>(
     }
 }
 
-/// What a read gained: the author, which has no entries beyond those it pushed, and the evidence for the whole list.
+/// What a read gained: the author, which has no entries beyond those it pushed, and the evidence
+/// for the whole list.
 pub fn take_read<T, B: HasSlots<T>>(
     gained: Gained<Event<T>, Log<T>, ReadGain<B>>,
 ) -> (Author, WrittenPrefix<T, B>)
@@ -406,7 +386,8 @@ pub fn bounded_by_tickets<T, B: HasSlots<T>, K: ItemRule<T>>(
     }
 }
 
-/// A history that was seen shows, for good, that each place of its list was written. It takes no atomic step.
+/// A history that was seen shows, for good, that each place of its list was written. It takes no
+/// atomic step.
 pub fn evidence<T, B: HasSlots<T>, K: ItemRule<T>>(
     _seen: &Seen<Event<T>, Log<T>, OneWord<B, K>>,
 ) -> WrittenPrefix<T, B>

@@ -1,16 +1,16 @@
--- What the rule of a map's list says of all that was seen of it.
-use Rattle.std.proofs.Common.{◌≡◌, ℕ, zero, suc, ◌+◌, ◌<◌, ◌≤◌, ◌^◌, Bool, true, false, List, [], ◌∷◌, ◌++◌, drop, length, length-append, take, slice_get, Some, refl, ap, sym, ◌∙◌, subst, arith}
-use Rattle.std.specs.Prelude.{Option, None, IfNone, IfSome, Result, Ok, Err, OnOk, OnErr}
+-- Facts that the rule of a map's list implies for its observed entries.
+use Rattle.std.proofs.Common.{◌≡◌, ℕ, zero, suc, ◌<◌, ◌≤◌, ◌^◌, Bool, true, false, List, [], ◌∷◌, ◌++◌, drop, length, length-append, take, slice_get, Some, refl, ap, sym, ◌∙◌, subst, arith}
+use Rattle.std.specs.Prelude.{Option, None, IfNone, IfSome, Result, Ok, Err, IfOk, IfErr}
 use Rattle.std.specs.Option.{is_some}
 use Rattle.std.specs.Borrow.{Bor}
 use Rattle.std.specs.Str.{bytes_eq}
 use mathlib.Core.List.{IsPrefix}
 use Rattle.std.proofs.lemmas.List.{length-map, map-append}
-use Rattle.elsa_index_words.specs.declared.entry.Entry.{Entry}
-use Rattle.elsa_index_words.specs.Entries.{EachIsNew, IsAbsent, IsBehind, key_of, keys_of}
-use Rattle.elsa_index_words.proofs.EntryLemmas.{entry_at}
+use Rattle.elsa_hash_index.specs.declared.entry.Entry.{Entry}
+use Rattle.elsa_hash_index.specs.Entries.{EachIsNew, IsAbsent, IsBehind, key_of, keys_of}
+use Rattle.elsa_hash_index.proofs.EntryLemmas.{entry_at}
 use Rattle.elsa_lock_free.specs.Distinct.{AgreeOnPlaces, one_answer}
-use Rattle.elsa_lock_free.specs.SharedList.{Continues, View, entry, item_of, items_of}
+use Rattle.elsa_lock_free.specs.SharedList.{BeginsABuffer, Continues, View, entry, item_of, items_of}
 use Rattle.elsa_lock_free.specs.declared.event.Entry.{Entry as Listed}
 use Rattle.elsa_lock_free.proofs.RuleLemmas.EachNew.{agree_on_places, one_to_one}
 use Rattle.elsa_lock_free_map.specs.declared.map.Inserted.{Inserted}
@@ -25,8 +25,13 @@ taken zero xs h = refl
 taken (suc n) [] h = absurd (omega (arith, h))
 taken (suc n) (x ∷ xs) h = ap suc (taken n xs (omega (arith, h)))
 
+-- where no buffer begins there is a place before
+pub some_before : (n : ℕ) → (BeginsABuffer n → ⊥) → 0 < n
+some_before zero later = absurd (later (0, omega arith, refl))
+some_before (suc n) later = omega arith
+
 module _ {K V S : Type 0} (equal : K → K → Bool) (hash : S → K → ℕ) where
-  -- each entry is behind those before it
+  -- each entry follows the entries before it
   pub each_behind : (es : List (Entry K V S)) → EachIsNew (MayFollow equal hash) es → EachIsNew (IsBehind equal hash) es
   each_behind es rule i e at = (rule i e at).0
 
@@ -39,7 +44,7 @@ module _ {K V S : Type 0} (equal : K → K → Bool) (hash : S → K → ℕ) wh
       let l = taken (length es) (e ∷ es) (omega arith) in
       omega (arith, low, l)
 
--- what a beginning of a list is, is not changed by what comes behind
+-- appending to a list does not change its prefixes
 take_keys : {K V S : Type 0} (i : ℕ) (es : List (Entry K V S)) → keys_of (take i es) ≡ take i (keys_of es)
 take_keys zero es = refl
 take_keys (suc i) [] = refl
@@ -71,7 +76,7 @@ kept_at [] ys i x at = absurd (cc at)
 kept_at (y ∷ xs) ys zero x at = at
 kept_at (y ∷ xs) ys (suc i) x at = kept_at xs ys i x at
 
--- what stands at a place stands there in each longer list
+-- an item keeps its index in each longer list
 pub later_at : {A : Type 0} (xs ys : List A) (i : ℕ) (x : A) → IsPrefix xs ys → slice_get xs i ≡ Some x → slice_get ys i ≡ Some x
 later_at {A} xs ys i x p at = subst (λ (l : List A). slice_get l i ≡ Some x) p.1 (kept_at xs p.0 i x at)
 
@@ -114,7 +119,7 @@ get_pushed {A} xs ys author i x at is =
     ap (λ (l : List (Listed A)). slice_get (items_of l) i) is ∙ (ap (λ (l : List A). slice_get l i) (map-append item_of xs (entry author x ∷ []))
     ∙ (ap (λ (k : ℕ). slice_get (items_of xs ++ x ∷ []) k) (sym at ∙ sym (length-map xs item_of)) ∙ last (items_of xs) x))
 
--- the entry that was pushed behind a list is at the place of its length
+-- the index of an entry that was appended to a list is the length of the list before
 pub pushed_at : {K V S : Type 0} (equal : K → K → Bool) (refl_key : (k : K) → equal k k ≡ true) (before after : View (Entry K V S)) (i : ℕ) (key : K) (value : V)
     → (i ≡ length before.seen) × PushesPair before after key value → HasAt equal (items_of after.seen) i key value
 pushed_at equal refl_key before after i key value (at, (e, is_key, is_value, pushed)) =
@@ -123,7 +128,7 @@ pushed_at equal refl_key before after i key value (at, (e, is_key, is_value, pus
 within : {A : Type 0} (xs ys : List A) → IsPrefix xs ys → length xs ≤ length ys
 within xs ys p = omega (arith, length-append xs p.0, ap length p.1)
 
--- what came to a pass that goes on came to it as it was before
+-- an entry that is new to a later view is new to the earlier one
 pub came_since : {T : Type 0} (a b c : View T) → Continues a b → (is_new : Bool) (i : ℕ) → Came is_new b c i → Came is_new a c i
 came_since a b c on true i came = (let w = within a.seen b.seen on.1 in let l = came.0 in omega (arith, w, l), came.1 ∙ ap (λ l. l ++ i ∷ []) on.2)
 came_since a b c on false i came = came ∙ on.2
@@ -132,16 +137,6 @@ came_since a b c on false i came = came ∙ on.2
 pub inserts_since : {Q K V S : Type 0} (equal : Q → K → Bool) (a b c : View (Entry K V S)) (key : Q) (r : Inserted V) → Continues a b → Lacks equal (items_of a.seen) key
     → HasAt equal (items_of c.seen) r.place key r.value → Came r.is_new b c r.place → InsertsOnce equal a c key r
 inserts_since equal a b c key r on lacks here came = (here, came_since a b c on r.is_new r.place came, λ j v h. absurd (not_lacking equal (items_of a.seen) key j h.0 lacks h.1 h.2))
-
--- what a result tells
-pub on_ok : {A E : Type 0} (r : Result A E) (x : A) (P : Type 0) → r ≡ Ok x → OnOk r P → P
-on_ok (Ok y) x P e h = h
-on_ok (Err y) x P e h = absurd (cc e)
-
--- and what a refusal tells
-pub on_err : {A E : Type 0} (r : Result A E) (x : E) (P : Type 0) → r ≡ Err x → OnErr r P → P
-on_err (Ok y) x P e h = absurd (cc e)
-on_err (Err y) x P e h = h
 
 -- what holds of an item if there is one, where there is one
 pub some_has : {A : Type 0} (o : Option A) (P : A → Type 0) → IfSome o P → is_some o ≡ true → (x : A) × P x
@@ -158,7 +153,16 @@ pub none_at : {A : Type 0} (o : Option A) (P : Type 0) → o ≡ None → IfNone
 none_at None P e h = h
 none_at (Some y) P e h = absurd (cc e)
 
--- a borrow of a text is asked for as the text is
+-- what holds of a result's value, where this is its value; and of its error
+pub ok_at : {A E : Type 0} (o : Result A E) (x : A) (P : A → Type 0) → o ≡ Ok x → IfOk o P → P x
+ok_at (Ok y) x P e h = let same : y ≡ x = cc e in subst P same h
+ok_at (Err y) x P e h = absurd (cc e)
+
+pub err_at : {A E : Type 0} (o : Result A E) (x : E) (P : E → Type 0) → o ≡ Err x → IfErr o P → P x
+err_at (Ok y) x P e h = absurd (cc e)
+err_at (Err y) x P e h = let same : y ≡ x = cc e in subst P same h
+
+-- a borrow of a text as a query finds the same keys as the text
 module _ {V S : Type 0} (es : List (Entry (Bor (List ℕ)) V S)) (text : List ℕ) (key : Bor (List ℕ)) (same : key.now ≡ text) where
   pub text_lacks : Lacks is_text es text → Lacks (λ a b. bytes_eq a.now b.now) es key
   text_lacks lacks i y at = ap (λ t. bytes_eq t y.now) same ∙ lacks i y at

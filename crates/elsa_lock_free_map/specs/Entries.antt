@@ -2,8 +2,8 @@
 use Rattle.std.specs.Prelude.{◌≡◌, ℕ, ◌+◌, ◌*◌, ◌/◌, ◌%◌, ◌^◌, ◌<◌, ◌≤◌, Bool, true, false, List, [], ◌∷◌, ◌++◌, length, map, slice_get, Some}
 use Rattle.std.specs.Borrow.{Bor}
 use Rattle.std.specs.Str.{bytes_eq}
-use Rattle.elsa_index_words.specs.declared.entry.Entry.{Entry}
-use Rattle.elsa_index_words.specs.Entries.{IsAbsent, IsBehind, keys_of}
+use Rattle.elsa_hash_index.specs.declared.entry.Entry.{Entry}
+use Rattle.elsa_hash_index.specs.Entries.{IsAbsent, IsBehind, keys_of}
 use Rattle.elsa_lock_free.specs.SharedList.{PushesNext, View, items_of, mine}
 use Rattle.elsa_lock_free_map.specs.declared.map.Inserted.{Inserted}
 
@@ -12,19 +12,20 @@ abbrev pub short : ℕ → ℕ
 short hash = (hash * 11400714819323198485) % 2 ^ 64 / 2 ^ 32
 
 module _ {K V S : Type 0} where
-  -- an entry as a walk gives it: its key and its value
+  -- an entry as an iterator returns it: its key and its value
   abbrev pub pair_of : Entry K V S → K × V
   pair_of e = (e.key, e.value)
 
-  -- entries as a walk gives them
+  -- entries as an iterator returns them
   abbrev pub pairs_of : List (Entry K V S) → List (K × V)
   pairs_of es = map pair_of es
 
-  -- what may come behind a list: an entry whose key is new, and found by its own evidence as all before it are; up to the greatest length
+  -- an entry that may be appended to a list: its key is new, and it is found by its own evidence, like all entries before
+  -- it; up to the greatest length
   abbrev pub MayFollow : (K → K → Bool) → (S → K → ℕ) → List (Entry K V S) → Entry K V S → Type 0
   MayFollow equal hash es e = IsBehind equal hash es e × (length es + 1 < 2 ^ 32)
 
-  -- by a test for equal keys; or of what stands for keys
+  -- by a test for equal keys, or by a query
   module _ {Q : Type 0} (equal : Q → K → Bool) where
     -- an entry of the key, with this value, is at the place
     abbrev pub HasAt : List (Entry K V S) → ℕ → Q → V → Type 0
@@ -38,21 +39,21 @@ module _ {K V S : Type 0} where
     abbrev pub Lacks : List (Entry K V S) → Q → Type 0
     Lacks es key = IsAbsent equal (keys_of es) key
 
--- a text stands for the borrows of it
+-- a text as a query finds the borrows of equal texts
 abbrev pub is_text : List ℕ → Bor (List ℕ) → Bool
 is_text text key = bytes_eq text key.now
 
--- the pass has pushed an entry of this key and value, behind what it had seen, and nothing else came before
+-- the author of the view has pushed an entry with this key and value right after the observed prefix
 abbrev pub PushesPair : {K V S : Type 0} → View (Entry K V S) → View (Entry K V S) → K → V → Type 0
 PushesPair {K} {V} {S} before after key value = (e : Entry K V S) × (e.key ≡ key) × (e.value ≡ value) × PushesNext before after e
 
--- a key was entered at the place: pushed by the pass, behind all that it had seen, or there already
+-- a key has this index: it was pushed by the author of the view after the observed prefix, or was present
 abbrev pub Came : {T : Type 0} → Bool → View T → View T → ℕ → Type 0
 Came true before after i = (length before.seen ≤ i) × (mine after ≡ mine before ++ i ∷ [])
 Came false before after i = mine after ≡ mine before
 
--- what an insertion that ended well left: the value that stands for the key is at the place, pushed by the pass or there already; and
--- what the pass had seen of the key stays
+-- the effect of a successful insertion: the value that the key then has is at the index, pushed by the author of the view
+-- or present before; and an observed entry of the key stays
 abbrev pub InsertsOnce : {Q K V S : Type 0} → (Q → K → Bool) → View (Entry K V S) → View (Entry K V S) → Q → Inserted V → Type 0
 InsertsOnce {V = V} equal before after key r =
     HasAt equal (items_of after.seen) r.place key r.value × Came r.is_new before after r.place

@@ -1,21 +1,23 @@
-//! The list behind a map: its rule, what lies beside the slots of its buffers, and what a pass shows of it.
+//! The list of a map: its rule, what is stored next to the slots of its buffers, and the queries of
+//! a look-up.
 ghost use Rattle.std.specs.Prelude.{◌≡◌, ◌<◌, ◌^◌, fold, length};
 ghost use Rattle.elsa_lock_free.specs.Distinct.{AgreeOnPlaces, IsOneToOne};
 ghost use Rattle.elsa_lock_free.specs.SharedList.{items_of};
-ghost use Rattle.elsa_index_words.specs.Entries.{keys_of};
+ghost use Rattle.elsa_hash_index.specs.Entries.{keys_of};
 ghost use Rattle.elsa_lock_free_map.specs.Entries.{short};
 
-use elsa_index_words::entry::{Entry, Shelf, Sought};
-use elsa_index_words::row::Row;
+use elsa_hash_index::entry::{Entry, Sought};
+use elsa_hash_index::row::Row;
 use elsa_lock_free::item_rule::ItemRule;
-use elsa_lock_free::lock_free::{LockFreeFrozenVec, Pass};
+use elsa_lock_free::lock_free::{Handle, LockFreeFrozenVec, Observed, Pass};
 use elsa_slots::slots::Beside;
 use indexmap::Equivalent;
 use std::alloc::{Allocator, Global};
 use std::hash::{BuildHasher, Hash};
 use std::marker::PhantomData;
 
-/// Only an entry whose key none before it has may come, with evidence of a row that finds all of them.
+/// The rule of the list: an entry is new if no entry before it has its key, and it has evidence of
+/// a row that finds all of them.
 pub struct NewKeys<S> {
     builder: PhantomData<S>,
 }
@@ -37,7 +39,7 @@ impl<K: Hash + Drop, V: Drop, S: BuildHasher + Copy + Drop> ItemRule<Entry<K, V,
     }
 }
 
-/// The row of a buffer: what finds the entries up to the last one in the buffer.
+/// The row next to a buffer, which finds the entries up to the last one in the buffer.
 #[derive(Drop)]
 pub struct Index<S: Copy + Drop, A: Allocator = Global> {
     pub row: Row<S, A>,
@@ -52,30 +54,31 @@ impl<K: Drop, V: Drop, S: Copy + Drop, A: Allocator> Beside<Entry<K, V, S>> for 
 /// The list of a map.
 pub type Entries<K, V, S, A> = LockFreeFrozenVec<Entry<K, V, S>, A, NewKeys<S>, Index<S, A>>;
 
-/// A pass of such a list.
+/// A handle of such a list.
+pub type EntriesHandle<'m, K, V, S, A> = Handle<'m, Entry<K, V, S>, A, NewKeys<S>, Index<S, A>>;
+
+/// What a handle has observed of such a list.
+pub type ObservedEntries<'m, K, V, S, A> = Observed<'m, Entry<K, V, S>, A, NewKeys<S>, Index<S, A>>;
+
+/// A view of such a list.
 pub type EntriesPass<K, V, S, A> = Pass<Entry<K, V, S>, A, NewKeys<S>, Index<S, A>>;
 
-/// Equal keys of what a pass has seen are at one place. It does nothing when it runs.
-pub fn one_to_one<
-    K: Copy + Drop + Hash,
-    V: Copy + Drop,
-    S: BuildHasher + Copy + Drop,
-    A: Allocator + Copy,
->(pass: &EntriesPass<K, V, S, A>)
+/// Proves that equal keys that a view has observed are at one index. It does nothing at run time.
+pub fn one_to_one<K: Drop + Hash, V: Drop, S: BuildHasher + Copy + Drop, A: Allocator + Copy>(
+    pass: &EntriesPass<K, V, S, A>,
+)
     ensures { IsOneToOne K.eq (keys_of (items_of pass.now.seen)) }
 {
     pass.obeys_rule();
 }
 
-/// Equal keys of what two passes of a map have seen are at one place, whether the passes met or not, since each has seen a
-/// beginning of one list. It takes no memory and no atomic step. `O(1)`.
-pub fn same_place<
-    K: Copy + Drop + Hash,
-    V: Copy + Drop,
-    S: BuildHasher + Copy + Drop,
-    A: Allocator + Copy,
->(pass: &EntriesPass<K, V, S, A>, other: &EntriesPass<K, V, S, A>)
-    requires of { pass.now.vector ≡ other.now.vector }
+/// Proves that equal keys that two views of a map have observed are at one index, whether the views
+/// were merged or not. It does nothing at run time.
+pub fn same_place<K: Drop + Hash, V: Drop, S: BuildHasher + Copy + Drop, A: Allocator + Copy>(
+    pass: &EntriesPass<K, V, S, A>,
+    other: &EntriesPass<K, V, S, A>,
+)
+    requires same_vector { pass.now.vector ≡ other.now.vector }
     ensures { AgreeOnPlaces K.eq (keys_of (items_of pass.now.seen))
         (keys_of (items_of other.now.seen)) }
 {
@@ -84,7 +87,7 @@ pub fn same_place<
     one.obeys_rule();
 }
 
-/// 32 bits of the hash of a key, or of what stands for keys.
+/// Returns 32 bits of the hash of a key, or of a query.
 pub fn hash_of<Q: Copy + Drop + Hash, S: BuildHasher>(builder: &S, key: Q) -> u32
     ensures { result ≡ short (S.Hasher.finish (fold S.Hasher.write
         (S.build_hasher builder.now) (Q.hash_input key))) }
@@ -92,7 +95,7 @@ pub fn hash_of<Q: Copy + Drop + Hash, S: BuildHasher>(builder: &S, key: Q) -> u3
     (builder.hash_one(key).wrapping_mul(0x9E37_79B9_7F4A_7C15) / 0x1_0000_0000) as u32
 }
 
-/// What is looked for in a map: a key by reference, or a text where the keys are texts.
+/// A query of a map: a key by reference, or a text if the keys are texts.
 #[derive(Drop)]
 pub struct Query<Q: Copy> {
     pub query: Q,
@@ -112,56 +115,5 @@ impl<K: Hash, S: BuildHasher + Copy + Drop, Q: Equivalent<K>> Sought<K, S> for Q
 
     fn hash_of(&self, builder: S) -> u32 {
         hash_of(&builder, self.query)
-    }
-}
-
-/// What a pass has seen of a map's list, as its rows find it.
-#[derive(Drop)]
-pub struct Shown<
-    'a,
-    K: Copy + Drop + Hash,
-    V: Copy + Drop,
-    S: BuildHasher + Copy + Drop,
-    A: Allocator + Copy,
-> {
-    pub list: &'a Entries<K, V, S, A>,
-    pub pass: &'a EntriesPass<K, V, S, A>,
-    ghost of: { pass.now.vector ≡ list.now },
-}
-
-impl<
-    'a,
-    K: Copy + Drop + Hash,
-    V: Copy + Drop,
-    S: BuildHasher + Copy + Drop,
-    A: Allocator + Copy,
-> Shelf<K, V, S, A> for Shown<'a, K, V, S, A> {
-    ghost use Rattle.std.specs.Prelude.{fold};
-    ghost use Rattle.elsa_lock_free.specs.SharedList.{items_of};
-    ghost use Rattle.elsa_lock_free_map.specs.Entries.{short};
-
-    ghost seen = { λ s. items_of s.pass.now.seen };
-
-    ghost hash = { λ s k. short (S.Hasher.finish (fold S.Hasher.write (S.build_hasher s) (K.hash_input k))) };
-
-    fn seen_len(&self) -> usize {
-        self.pass.obeys_rule();
-        self.pass.seen_len()
-    }
-
-    fn item<'b>(&'b self, place: usize) -> &'b Entry<K, V, S> {
-        self.list.item_as(self.pass, place)
-    }
-
-    fn obeys_rule(&self) {
-        self.pass.obeys_rule();
-    }
-
-    fn row<'b>(&'b self, place: usize) -> &'b Row<S, A> {
-        &self.list.beside_as(self.pass, place).row
-    }
-
-    fn hash_of(&self, builder: S, key: &K) -> u32 {
-        hash_of(&builder, *key)
     }
 }

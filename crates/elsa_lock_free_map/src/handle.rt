@@ -1,49 +1,408 @@
-//! A map together with a pass of it. They belong together by the type, so no call but [`MapHandle::meet`] has a condition.
-ghost use Rattle.std.specs.Prelude.{◌≡◌, ◌≤◌, true, false, IfOk, IfErr, IfSome, IfNone, Some, length, slice_get};
-ghost use Rattle.elsa_lock_free.specs.SharedList.{Continues, IsLaterPass, Meet, items_of, mine};
+//! A handle of a map: the map together with a handle of its list.
+//!
+//! A handle belongs to its map by its type, so only the calls that take two handles, or a view,
+//! have a condition. Each call of the map is written once: here, or for texts in `text`.
+//!
+//! A look-up reads through the handle itself: the entries that it has observed, and the row of
+//! index entries next to each buffer of them.
+ghost use Rattle.std.specs.Prelude.{◌≡◌, ◌+◌, ◌≤◌, ◌<◌, ◌^◌, true, false, IfOk, IfErr, IfSome, IfNone, Some, length, slice_get};
+ghost use Rattle.elsa_lock_free.specs.SharedList.{Continues, IsLaterPass, IsSamePass, Meet, SeesAlike, items_of, mine};
 ghost use Rattle.elsa_lock_free.specs.Distinct.{AgreeOnPlaces, IsOneToOne};
-ghost use Rattle.elsa_index_words.specs.declared.entry.Entry.{Entry};
-ghost use Rattle.elsa_index_words.specs.Entries.{keys_of};
-ghost use Rattle.elsa_lock_free_map.specs.Entries.{Has, InsertsOnce, Lacks, pairs_of};
+ghost use Rattle.elsa_hash_index.specs.declared.entry.Entry.{Entry};
+ghost use Rattle.elsa_hash_index.specs.Entries.{keys_of};
+ghost use Rattle.elsa_lock_free_map.specs.Entries.{Has, InsertsOnce, Lacks, PushesPair, pairs_of};
 
-use crate::iter::MapIter;
-use crate::map::{Inserted, LockFreeFrozenMap, MapPass};
+use crate::entries::{EntriesHandle, Index, NewKeys, Query, hash_of, one_to_one, same_place};
+use crate::iter::{MapIter, walk};
+use crate::map::{Inserted, LockFreeFrozenMap, MapPass, copied};
+use elsa_hash_index::entry::{Entry, Shelf, entered, lookup, regrown};
+use elsa_hash_index::row::Row;
+use elsa_lock_free::hold::Hold;
+use elsa_lock_free::lock_free::Handle;
+use indexmap::Equivalent;
 use std::alloc::{AllocError, Allocator, Global};
 use std::hash::{BuildHasher, BuildHasherDefault, FoldHasher, Hash};
 use std::marker::Model;
 use std::sync::Wait;
 
-/// A map and a thread's pass of it. A clause sees the pass: its map, its number as an author, and the entries that it has seen.
-///
-/// It has no bytes beside the reference and the pass, and each call does what the map's call of the same name does by a pass.
+/// The greatest number of entries: a word has 32 bits for a place and one more.
+const LIMIT: usize = (1 << 32) - 1;
+
+/// A handle of a map's list, with the map's hash builder and allocator. Contracts see the handle's
+/// view: its vector, its number as a writer, and the entries that it has observed. It has no
+/// reference to the map, from which handles are made.
 #[derive(Drop)]
 pub struct MapHandle<
     'm,
-    K: Copy + Drop + Hash,
-    V: Copy + Drop,
+    K: Drop + Hash,
+    V: Drop,
     S: BuildHasher + Copy + Drop = BuildHasherDefault<FoldHasher>,
     A: Allocator + Copy = Global,
 > {
-    pub(crate) map: &'m LockFreeFrozenMap<K, V, S, A>,
-    pub(crate) pass: MapPass<K, V, S, A>,
+    pub(crate) list: EntriesHandle<'m, K, V, S, A>,
+    builder: S,
+    alloc: A,
 }
 
-impl<
-    'm,
-    K: Copy + Drop + Hash,
-    V: Copy + Drop,
-    S: BuildHasher + Copy + Drop,
-    A: Allocator + Copy,
-> Model for MapHandle<'m, K, V, S, A> {
-    ghost use Rattle.std.specs.Prelude.{◌≡◌};
+impl<'m, K: Drop + Hash, V: Drop, S: BuildHasher + Copy + Drop, A: Allocator + Copy> Model
+    for MapHandle<'m, K, V, S, A> {
     ghost use Rattle.elsa_lock_free.specs.SharedList.{View};
-    ghost use Rattle.elsa_index_words.specs.declared.entry.Entry.{Entry};
+    ghost use Rattle.elsa_hash_index.specs.declared.entry.Entry.{Entry};
 
     ghost Value = { View (Entry K V S) };
 
-    ghost view = { λ h. h.pass };
+    ghost view = { λ h. h.list };
+}
 
-    ghost invariant = { λ h. h.pass.vector ≡ h.map.now };
+impl<'m, K: Drop + Hash, V: Drop, S: BuildHasher + Copy + Drop, A: Allocator + Copy> Shelf<
+    K,
+    V,
+    S,
+    A,
+> for MapHandle<'m, K, V, S, A> {
+    ghost use Rattle.std.specs.Prelude.{fold};
+    ghost use Rattle.elsa_lock_free.specs.SharedList.{items_of};
+    ghost use Rattle.elsa_lock_free_map.specs.Entries.{short};
+
+    ghost seen = { λ h. items_of h.seen };
+
+    ghost hash = { λ s k. short (S.Hasher.finish (fold S.Hasher.write (S.build_hasher s) (K.hash_input k))) };
+
+    fn seen_len(&self) -> usize {
+        self.list.obeys_rule();
+        self.list.seen_len()
+    }
+
+    fn item<'b>(&'b self, place: usize) -> &'b Entry<K, V, S> {
+        self.entry(place)
+    }
+
+    fn obeys_rule(&self) {
+        self.list.obeys_rule();
+    }
+
+    fn row<'b>(&'b self, place: usize) -> &'b Row<S, A> {
+        &self.list.beside(place).row
+    }
+
+    fn hash_of(&self, builder: S, key: &K) -> u32 {
+        hash_of(&builder, key)
+    }
+}
+
+impl<'m, K: Drop + Hash, V: Drop, S: BuildHasher + Copy + Drop, A: Allocator + Copy> MapHandle<
+    'm,
+    K,
+    V,
+    S,
+    A,
+> {
+    /// Makes a handle of a map and a view of it.
+    pub fn of(map: &'m LockFreeFrozenMap<K, V, S, A>, pass: MapPass<K, V, S, A>) -> Self
+        requires same_vector { pass.vector ≡ map.now }
+        ensures same_view { result ≡ pass }
+    {
+        MapHandle {
+            list: Handle::of(&map.list, pass),
+            builder: map.builder,
+            alloc: map.alloc,
+        }
+    }
+
+    /// Returns the view, to store it or to move it to another thread.
+    pub fn into_pass(self) -> MapPass<K, V, S, A>
+        ensures same_view { result ≡ self.entry }
+    {
+        let MapHandle {
+            list,
+            builder: _,
+            alloc: _,
+        } = self;
+        list.into_pass()
+    }
+
+    /// Returns a reference to the view.
+    pub fn pass(&self) -> &MapPass<K, V, S, A>
+        ensures same_view { result.now ≡ self.now }
+    {
+        self.list.pass()
+    }
+
+    /// Returns the number of entries that the handle has observed, without an atomic step.
+    ///
+    /// # Cost
+    /// `O(1)`.
+    pub fn seen_len(&self) -> usize
+        ensures length { result ≡ length self.now.seen }
+    {
+        self.list.seen_len()
+    }
+
+    /// Returns the entry at an index that the handle has observed.
+    pub(crate) fn entry(&self, place: usize) -> &'m Entry<K, V, S>
+        requires seen { place < length self.now.seen }
+        ensures { slice_get (items_of self.now.seen) place ≡ Some result.now }
+    {
+        self.list.item(place)
+    }
+
+    /// Returns the index of a key among the entries that the handle has observed, by what stands
+    /// for the key.
+    // As a call of its own it costs a look-up a third more instructions.
+    #[inline]
+    fn place_of<Q: Equivalent<K>>(&self, query: Q) -> Option<usize>
+        ensures found { IfSome result (λ i. (e : Entry K V S) ×
+            (slice_get (items_of self.now.seen) i ≡ Some e)
+            × (Q.equivalent query e.key ≡ true)) }
+        ensures within { IfSome result (λ i. i < length self.now.seen) }
+        ensures absent { IfNone result (Lacks Q.equivalent (items_of self.now.seen) query) }
+    {
+        lookup(self, &Query { query })
+    }
+
+    /// Returns the index of a key in the order of insertion, or `None` if no entry that the handle
+    /// has then observed has the key. A query is a reference to a key, or another value that is
+    /// [`Equivalent`] to keys.
+    ///
+    /// A key that the handle had observed is found without a read of the length. Otherwise the call
+    /// reads the length, by one load, and looks the key up again if there are more entries. It
+    /// takes no lock, allocates nothing and never blocks.
+    ///
+    /// # Cost
+    /// `O(1)` if the hashes differ.
+    pub fn find<Q: Equivalent<K>>(&mut self, query: Q) -> Option<usize>
+        ensures continues { Continues self.old self.new }
+        ensures found { IfSome result (λ i. (e : Entry K V S) ×
+            (slice_get (items_of self.new.seen) i ≡ Some e)
+            × (Q.equivalent query e.key ≡ true)) }
+        ensures within { IfSome result (λ i. i < length self.new.seen) }
+        ensures absent { IfNone result (Lacks Q.equivalent (items_of self.new.seen) query) }
+    {
+        let found = self.place_of(query);
+        if found.is_some() {
+            return found;
+        }
+        let seen = self.list.seen_len();
+        if self.list.len() == seen {
+            return None;
+        }
+        self.place_of(query)
+    }
+
+    /// Returns a reference to the value of a key, or `None` if no entry that the handle has then
+    /// observed has the key. A query is as in [`find`](Self::find): a `&str`, for example, if the
+    /// keys are `String`s. The reference lives as long as the map is borrowed.
+    ///
+    /// # Cost
+    /// That of [`find`](Self::find).
+    pub fn get_ref<Q: Equivalent<K>>(&mut self, query: Q) -> Option<&'m V>
+        ensures continues { Continues self.old self.new }
+        ensures found { IfSome result (λ v. Has Q.equivalent (items_of self.new.seen) query v.now) }
+        ensures absent { IfNone result (Lacks Q.equivalent (items_of self.new.seen) query) }
+    {
+        if let Some(place) = self.find(query) {
+            return Some(&self.entry(place).value);
+        }
+        None
+    }
+
+    /// Returns the number of entries, by one load of the length. It takes no lock, allocates
+    /// nothing and never blocks.
+    ///
+    /// # Cost
+    /// `O(1)`.
+    pub fn len(&mut self) -> usize
+        ensures continues { Continues self.old self.new }
+        ensures length { result ≡ length self.new.seen }
+        ensures fresh { length self.old.seen ≤ result }
+    {
+        self.list.len()
+    }
+
+    /// Ends a hold with an entry at the end, if its memory can be allocated. Where a buffer begins,
+    /// its row is filled with all keys before the entry.
+    fn publish_new<R: Wait>(
+        &mut self,
+        rt: &R,
+        hold: Hold<'m, Entry<K, V, S>, A, NewKeys<S>, Index<S, A>>,
+        key: K,
+        value: V,
+    ) -> Result<(), AllocError>
+        requires held { SeesAlike hold self.old }
+        requires room { length hold.seen + 1 < 2 ^ 32 }
+        requires absent { Lacks K.eq (items_of hold.seen) key }
+
+        // The entry is the last, by this handle; a refusal leaves all.
+        ensures pushed { IfOk result (λ _. IsSamePass self.old self.new
+            × PushesPair self.old self.new key value) }
+        ensures refused { IfErr result (λ _. self.new ≡ self.old) }
+    {
+        if hold.begins_buffer() {
+            let count = 6 * (self.list.seen_len() + 1);
+            return match regrown(self, self.alloc, count, self.builder, key, value) {
+                Ok((row, new)) => {
+                    hold.publish_first(rt, &mut self.list, new, Index { row })?;
+                    Ok(())
+                }
+                Err(_) => {
+                    hold.release(rt, &mut self.list);
+                    Err(AllocError)
+                }
+            };
+        }
+        match entered(self, key, value) {
+            Ok(new) => {
+                hold.publish(rt, &mut self.list, new);
+                Ok(())
+            }
+            Err(_) => {
+                hold.release(rt, &mut self.list);
+                Err(AllocError)
+            }
+        }
+    }
+
+    /// Pushes an entry at the length that the handle has observed, if its key is in none of those
+    /// entries. Returns its index, or the key and the value if the list is longer.
+    fn push_absent<R: Wait>(
+        &mut self,
+        rt: &R,
+        key: K,
+        value: V,
+    ) -> Result<Result<usize, (K, V)>, AllocError>
+        requires absent { Lacks K.eq (items_of self.old.seen) key }
+        ensures later { IsLaterPass self.old self.new }
+        ensures pushed { IfOk result (λ a. IfOk a (λ i.
+            (i ≡ length self.old.seen) × PushesPair self.old self.new key value)) }
+        ensures again { IfOk result (λ a. IfErr a (λ pair. (pair ≡ (key, value))
+            × (mine self.new ≡ mine self.old))) }
+        ensures refused { IfErr result (λ e. mine self.new ≡ mine self.old) }
+    {
+        let n = self.list.seen_len();
+        if n >= LIMIT {
+            return Err(AllocError);
+        }
+        let Some(hold) = self.list.hold(rt) else {
+            return Ok(Err((key, value)));
+        };
+        self.publish_new(rt, hold, key, value)?;
+        Ok(Ok(n))
+    }
+
+    /// Inserts a key that the handle has not observed: the entry is pushed, or another thread has
+    /// inserted the key meanwhile, and key and value are dropped.
+    pub(crate) fn insert_absent<R: Wait>(
+        &mut self,
+        rt: &R,
+        key: K,
+        value: V,
+    ) -> Result<Inserted<&'m V>, AllocError>
+        requires absent { Lacks K.eq (items_of self.old.seen) key }
+        ensures later { IsLaterPass self.old self.new }
+        ensures inserted { IfOk result (λ r. InsertsOnce K.eq self.old self.new key
+            (record { value = r.value.now; place = r.place; is_new = r.is_new })) }
+        ensures own_value { IfOk result (λ r. r.is_new ≡ true → r.value.now ≡ value) }
+        ensures refused { IfErr result (λ e. mine self.new ≡ mine self.old) }
+    {
+        let mut pair = (key, value);
+        for _ in rt.forever() {
+            let (key, value) = pair;
+            match self.push_absent(rt, key, value)? {
+                Ok(place) => {
+                    return Ok(Inserted {
+                        value: &self.entry(place).value,
+                        place,
+                        is_new: true,
+                    });
+                }
+                Err((key, value)) => {
+                    if let Some(place) = self.place_of(&key) {
+                        return Ok(Inserted {
+                            value: &self.entry(place).value,
+                            place,
+                            is_new: false,
+                        });
+                    }
+                    pair = (key, value);
+                }
+            }
+        }
+        unreachable!()
+    }
+
+    /// Inserts a key and its value unless a thread has inserted an equal key: the first insertion
+    /// wins, for every thread. Returns a reference to the value that the key then has, its index in
+    /// the order of insertion, and whether it is new. The reference lives as long as the map is
+    /// borrowed. If the key isn't new, `key` and `value` are dropped.
+    ///
+    /// A key that the handle has observed is found without an atomic step.
+    ///
+    /// # Errors
+    /// Fails if an allocation fails, or if the map has `2^32 - 1` entries. Then nothing is
+    /// inserted, and `key` and `value` are dropped; the same insertion may succeed later.
+    ///
+    /// # Blocks
+    /// While another thread pushes, unless the handle has observed the key.
+    ///
+    /// # Allocates
+    /// A buffer and its row of index entries, four times as large as the ones before, if a buffer
+    /// begins.
+    ///
+    /// # Cost
+    /// `O(1)` if the hashes differ. If a buffer begins, `O(n)`: its row is filled with all keys.
+    pub fn insert_ref<R: Wait>(
+        &mut self,
+        rt: &R,
+        key: K,
+        value: V,
+    ) -> Result<Inserted<&'m V>, AllocError>
+        ensures later { IsLaterPass self.old self.new }
+        ensures inserted { IfOk result (λ r. InsertsOnce K.eq self.old self.new key
+            (record { value = r.value.now; place = r.place; is_new = r.is_new })) }
+        ensures own_value { IfOk result (λ r. r.is_new ≡ true → r.value.now ≡ value) }
+        ensures refused { IfErr result (λ e. mine self.new ≡ mine self.old) }
+    {
+        if let Some(place) = self.place_of(&key) {
+            self.one_to_one();
+            return Ok(Inserted {
+                value: &self.entry(place).value,
+                place,
+                is_new: false,
+            });
+        }
+        self.insert_absent(rt, key, value)
+    }
+
+    /// Proves that equal keys that the handle has observed are at one index. It does nothing at run
+    /// time.
+    pub fn one_to_one(&self)
+        ensures { IsOneToOne K.eq (keys_of (items_of self.now.seen)) }
+    {
+        one_to_one(self.list.pass());
+    }
+
+    /// Proves that equal keys that two handles of a map have observed are at one index, whether the
+    /// handles were merged or not. It does nothing at run time.
+    pub fn same_place(&self, other: &MapHandle<'_, K, V, S, A>)
+        requires same_vector { self.now.vector ≡ other.now.vector }
+        ensures { AgreeOnPlaces K.eq (keys_of (items_of self.now.seen))
+            (keys_of (items_of other.now.seen)) }
+    {
+        same_place(self.list.pass(), other.list.pass());
+    }
+
+    /// Merges what two handles of a map have observed: afterwards both have observed the longer
+    /// list. The indices at which each has inserted stay its own, and no index belongs to both. It
+    /// takes no atomic step, allocates nothing and never blocks.
+    ///
+    /// # Cost
+    /// `O(1)`.
+    pub fn meet(&mut self, other: &mut MapHandle<'_, K, V, S, A>)
+        requires same_vector { self.old.vector ≡ other.old.vector }
+        ensures { Meet self.old self.new other.old other.new }
+    {
+        self.list.meet(&mut other.list)
+    }
 }
 
 impl<
@@ -53,59 +412,62 @@ impl<
     S: BuildHasher + Copy + Drop,
     A: Allocator + Copy,
 > MapHandle<'m, K, V, S, A> {
-    /// The map with a pass of it.
-    pub fn of(map: &'m LockFreeFrozenMap<K, V, S, A>, pass: MapPass<K, V, S, A>) -> Self
-        requires of { pass.vector ≡ map.now }
-        ensures is { result ≡ pass }
-    {
-        MapHandle { map, pass }
-    }
-
-    /// The pass: to hand it on to another thread, or to the calls that take one.
-    pub fn into_pass(self) -> MapPass<K, V, S, A>
-        ensures is { result ≡ self.entry }
-    {
-        let MapHandle { map: _, pass } = self;
-        pass
-    }
-
-    /// The value of a key: `None` only if no entry that the handle has then seen has the key. It takes no lock and no memory, and
-    /// never waits: [`get_as`](LockFreeFrozenMap::get_as).
+    /// Returns the value of a key, or `None` if no entry that the handle has then observed has the
+    /// key.
+    ///
+    /// # Cost
+    /// That of [`find`](Self::find).
     pub fn get(&mut self, key: K) -> Option<V>
         ensures continues { Continues self.old self.new }
         ensures found { IfSome result (λ v. Has K.eq (items_of self.new.seen) key v) }
         ensures absent { IfNone result (Lacks K.eq (items_of self.new.seen) key) }
     {
-        self.map.get_as(&mut self.pass, key)
+        Some(*self.get_ref(&key)?)
     }
 
-    /// Whether an entry has the key: `false` only if no entry that the handle has then seen has it. It takes no lock and no memory, and
-    /// never waits: [`contains_key_as`](LockFreeFrozenMap::contains_key_as).
+    /// Inserts a key with its value, as [`insert_ref`](Self::insert_ref) does, and returns a copy
+    /// of the value that the key has.
+    ///
+    /// # Errors
+    /// Fails if an allocation fails, or if the map has `2^32 - 1` entries. Nothing is inserted; the
+    /// same insertion may succeed later.
+    ///
+    /// # Blocks
+    /// While another thread pushes, unless the handle has observed the key.
+    pub fn insert<R: Wait>(&mut self, rt: &R, key: K, value: V) -> Result<Inserted<V>, AllocError>
+        ensures later { IsLaterPass self.old self.new }
+        ensures inserted { IfOk result (λ r. InsertsOnce K.eq self.old self.new key r) }
+        ensures own_value { IfOk result (λ r. r.is_new ≡ true → r.value ≡ value) }
+        ensures refused { IfErr result (λ e. mine self.new ≡ mine self.old) }
+    {
+        Ok(copied(self.insert_ref(rt, key, value)?))
+    }
+
+    /// Returns whether an entry has the key: `false` if no entry that the handle has then observed
+    /// has it.
+    ///
+    /// # Cost
+    /// That of [`find`](Self::find).
     pub fn contains_key(&mut self, key: K) -> bool
         ensures continues { Continues self.old self.new }
         ensures present { result ≡ true → (v : V) × Has K.eq (items_of self.new.seen) key v }
         ensures absent { result ≡ false → Lacks K.eq (items_of self.new.seen) key }
     {
-        self.map.contains_key_as(&mut self.pass, key)
+        self.get(key).is_some()
     }
 
-    /// Inserts a key with its value, if no thread has inserted an equal key. It waits while another thread pushes, where the handle has
-    /// not seen the key. `Err`: an allocation failed, or the map is full; nothing is inserted, and the same insertion may
-    /// succeed later: [`insert_as`](LockFreeFrozenMap::insert_as).
-    pub fn insert<R: Wait>(&mut self, rt: &R, key: K, value: V) -> Result<Inserted<V>, AllocError>
-        ensures later { IsLaterPass self.old self.new }
-        ensures inserted { IfOk result (λ r. InsertsOnce K.eq self.old self.new key r) }
-        ensures own { IfOk result (λ r. r.is_new ≡ true → r.value ≡ value) }
-        ensures refused { IfErr result (λ e. mine self.new ≡ mine self.old) }
-    {
-        self.map.insert_as(rt, &mut self.pass, key, value)
-    }
-
-    /// Inserts a key with the value that `make` returns, if no thread has inserted an equal key. Where the handle finds the key, its value
-    /// is returned, and `make` is not called. Else `make` runs, under no lock, and may use the map by another handle; its value is
-    /// dropped where another thread was then first with this key. It waits while another thread pushes, where the key was not found.
-    /// `Err`: an allocation failed, or the map is full; nothing is inserted, and the same insertion may succeed later:
-    /// [`get_or_insert_with_as`](LockFreeFrozenMap::get_or_insert_with_as).
+    /// Inserts a key with the value that `make` returns, unless a thread has inserted an equal key.
+    ///
+    /// If the handle finds the key, as [`find`](Self::find) does, the call returns its value and
+    /// doesn't call `make`. Otherwise `make` runs under no lock, and may use the map by another
+    /// handle. If another thread then inserts the key first, the value of `make` is dropped.
+    ///
+    /// # Errors
+    /// Fails if an allocation fails, or if the map has `2^32 - 1` entries. Then nothing is
+    /// inserted; the same insertion may succeed later.
+    ///
+    /// # Blocks
+    /// While another thread pushes, unless the key was found.
     pub fn get_or_insert_with<R: Wait, F: FnOnce() -> V + Drop>(
         &mut self,
         rt: &R,
@@ -118,20 +480,23 @@ impl<
         ensures made { IfOk result (λ r. r.is_new ≡ true → F.post make r.value) }
         ensures refused { IfErr result (λ e. mine self.new ≡ mine self.old) }
     {
-        self.map
-            .get_or_insert_with_as(rt, &mut self.pass, key, make)
+        if let Some(known) = self.find(&key) {
+            self.one_to_one();
+            return Ok(Inserted {
+                value: self.entry(known).value,
+                place: known,
+                is_new: false,
+            });
+        }
+        Ok(copied(self.insert_absent(rt, key, make())?))
     }
 
-    /// How many entries the map has, by one atomic read of the length. It takes no lock and no memory, and never waits. `O(1)`.
-    pub fn len(&mut self) -> usize
-        ensures continues { Continues self.old self.new }
-        ensures length { result ≡ length self.new.seen }
-    {
-        self.map.len_as(&mut self.pass)
-    }
-
-    /// The entry at a place in the order of insertion: `None` exactly if the place is at or above the number of entries that the handle
-    /// has then seen: [`get_by_place_as`](LockFreeFrozenMap::get_by_place_as).
+    /// Returns the key and the value at an index in the order of insertion, or `None` if the index
+    /// is not below the number of entries that the handle has then observed. It takes no lock,
+    /// allocates nothing and never blocks.
+    ///
+    /// # Cost
+    /// `O(1)`.
     pub fn get_by_place(&mut self, place: usize) -> Option<(K, V)>
         ensures continues { Continues self.old self.new }
         ensures found { IfSome result (λ r. (e : Entry K V S) ×
@@ -139,40 +504,27 @@ impl<
             × (r ≡ (e.key, e.value))) }
         ensures absent { IfNone result (length self.new.seen ≤ place) }
     {
-        self.map.get_by_place_as(&mut self.pass, place)
+        if place < self.list.seen_len() {
+            let entry = self.entry(place);
+            return Some((entry.key, entry.value));
+        }
+        if place < self.list.len() {
+            let entry = self.entry(place);
+            return Some((entry.key, entry.value));
+        }
+        None
     }
 
-    /// The entries that the handle has seen, each once, in the order of their insertion. It reads no length: no atomic step, no lock and
-    /// no memory. `O(1)`, and so is each entry. Insertions that the handle hasn't seen are not among them; [`len`](Self::len) sees them.
+    /// Returns an iterator over the entries that the handle has observed, each once, in the order
+    /// of their insertion. It doesn't read the length: it takes no atomic step and no lock, and
+    /// allocates nothing. It doesn't yield insertions that the handle has not observed;
+    /// [`len`](Self::len) observes them.
+    ///
+    /// # Cost
+    /// `O(1)`, also for each entry.
     pub fn iter(&self) -> MapIter<'m, K, V, S, A>
         ensures items { result ≡ pairs_of (items_of self.now.seen) }
     {
-        self.map.iter_as(&self.pass)
-    }
-
-    /// Equal keys of what the handle has seen are at one place. It does nothing when it runs.
-    pub fn one_to_one(&self)
-        ensures { IsOneToOne K.eq (keys_of (items_of self.now.seen)) }
-    {
-        self.map.one_to_one_as(&self.pass);
-    }
-
-    /// Equal keys of what two handles of a map have seen are at one place, whether they met or not, since each has seen a beginning of
-    /// one list. It takes no memory and no atomic step. `O(1)`.
-    pub fn same_place(&self, other: &MapHandle<'_, K, V, S, A>)
-        requires of { self.now.vector ≡ other.now.vector }
-        ensures { AgreeOnPlaces K.eq (keys_of (items_of self.now.seen))
-            (keys_of (items_of other.now.seen)) }
-    {
-        self.map.same_place_as(&self.pass, &other.pass);
-    }
-
-    /// Both handles of a map take the longer of what they have seen. Their own places stay, and no place is of both. It takes no
-    /// memory and no atomic step, and never waits. `O(1)`.
-    pub fn meet(&mut self, other: &mut MapHandle<'_, K, V, S, A>)
-        requires of { self.old.vector ≡ other.old.vector }
-        ensures { Meet self.old self.new other.old other.new }
-    {
-        self.pass.meet(&mut other.pass)
+        walk(&self.list)
     }
 }

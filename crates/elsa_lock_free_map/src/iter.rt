@@ -1,20 +1,22 @@
-//! A walk over the entries of a map that a pass has seen, and what is printed of a map.
+//! An iterator over the entries of a map that a handle has observed, and the printed form of a map.
 ghost use Rattle.std.specs.Prelude.{◌≡◌, IfSome, Some, length};
 ghost use Rattle.std.specs.Iterator.{UpTo, YieldsFirst, item_count};
 ghost use Rattle.std.specs.Iterator.SizeHint.{IsWithinCount};
 ghost use Rattle.elsa_lock_free.specs.SharedList.{items_of};
 ghost use Rattle.elsa_lock_free_map.specs.Entries.{pairs_of};
 
-use crate::entries::{Entries, EntriesPass};
+use crate::entries::{EntriesHandle, ObservedEntries};
 use crate::map::LockFreeFrozenMap;
 use std::alloc::{Allocator, Global};
 use std::fmt::{self, Debug, Formatter, Write};
 use std::hash::{BuildHasher, BuildHasherDefault, FoldHasher, Hash};
 use std::marker::Model;
 
-/// The entries that a pass has seen, each as its key and its value, in the order of their insertion. A clause sees those that are left.
+/// An iterator over the entries that a handle has observed, each as its key and its value, in the
+/// order of their insertion. Contracts see the entries that are left.
 ///
-/// It borrows the map alone: the pass can go on meanwhile. No entry takes an atomic step, a lock or memory.
+/// It borrows only the map, so the handle can be used meanwhile. An entry takes no atomic step, no
+/// lock and no memory.
 #[derive(Drop)]
 pub struct MapIter<
     'm,
@@ -23,8 +25,7 @@ pub struct MapIter<
     S: BuildHasher + Copy + Drop = BuildHasherDefault<FoldHasher>,
     A: Allocator + Copy = Global,
 > {
-    list: &'m Entries<K, V, S, A>,
-    pass: EntriesPass<K, V, S, A>,
+    entries: ObservedEntries<'m, K, V, S, A>,
     place: usize,
 }
 
@@ -35,31 +36,28 @@ impl<
     S: BuildHasher + Copy + Drop,
     A: Allocator + Copy,
 > Model for MapIter<'m, K, V, S, A> {
-    ghost use Rattle.std.specs.Prelude.{◌≡◌, ◌≤◌, List, drop, length};
-    ghost use Rattle.elsa_lock_free.specs.SharedList.{items_of};
+    ghost use Rattle.std.specs.Prelude.{◌≤◌, List, drop, length};
     ghost use Rattle.elsa_lock_free_map.specs.Entries.{pairs_of};
 
     ghost Value = { List (K × V) };
 
-    ghost view = { λ it. drop it.place (pairs_of (items_of it.pass.seen)) };
+    ghost view = { λ it. drop it.place (pairs_of it.entries) };
 
-    ghost invariant = { λ it. (it.pass.vector ≡ it.list.now) × (it.place ≤ length it.pass.seen) };
+    ghost invariant = { λ it. it.place ≤ length it.entries };
 }
 
-/// A walk over the entries that a pass has seen.
+/// An iterator over the entries that a handle of the list has observed.
 pub(crate) fn walk<
     'm,
     K: Copy + Drop + Hash,
     V: Copy + Drop,
     S: BuildHasher + Copy + Drop,
     A: Allocator + Copy,
->(list: &'m Entries<K, V, S, A>, pass: &EntriesPass<K, V, S, A>) -> MapIter<'m, K, V, S, A>
-    requires of { pass.now.vector ≡ list.now }
-    ensures items { result ≡ pairs_of (items_of pass.now.seen) }
+>(list: &EntriesHandle<'m, K, V, S, A>) -> MapIter<'m, K, V, S, A>
+    ensures items { result ≡ pairs_of (items_of list.now.seen) }
 {
     MapIter {
-        list,
-        pass: pass.again(),
+        entries: list.observed(),
         place: 0,
     }
 }
@@ -78,10 +76,10 @@ impl<
     ghost remaining = { item_count (λ left. left) };
 
     fn next(&mut self) -> Option<(K, V)> {
-        if self.place >= self.pass.seen_len() {
+        if self.place >= self.entries.len() {
             return None;
         }
-        let entry = self.list.item_as(&self.pass, self.place);
+        let entry = self.entries.item(self.place);
         self.place += 1;
         Some((entry.key, entry.value))
     }
@@ -91,13 +89,13 @@ impl<
         ensures upper { IfSome result.1 (UpTo (item_count (λ left. left) self.now)) }
         ensures exact { result ≡ (length self.now, Some (length self.now)) }
     {
-        let left = self.pass.seen_len() - self.place;
+        let left = self.entries.len() - self.place;
         (left, Some(left))
     }
 }
 
-/// `{:?}` writes the entries that one read of the length sees, in the order of their insertion, as of std's maps: `{1: 10, 2: 20}`. It
-/// takes no lock and no memory, and never waits.
+/// `{:?}` writes the entries that one read of the length observes, in the order of their insertion,
+/// as of std's maps: `{1: 10, 2: 20}`. It takes no lock, allocates nothing and never blocks.
 impl<
     K: Copy + Drop + Hash + Debug,
     V: Copy + Drop + Debug,
@@ -105,8 +103,8 @@ impl<
     A: Allocator + Copy,
 > Debug for LockFreeFrozenMap<K, V, S, A> {
     fn fmt<W: Write>(&self, f: &mut Formatter<W>) -> fmt::Result {
-        let mut pass = self.pass();
-        self.len_as(&mut pass);
-        f.debug_map().entries(self.iter_as(&pass)).finish()
+        let mut handle = self.handle();
+        handle.len();
+        f.debug_map().entries(handle.iter()).finish()
     }
 }

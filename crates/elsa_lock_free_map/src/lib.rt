@@ -1,4 +1,5 @@
-//! A map that threads share, whose look-ups take no lock: the first insertion of a key wins, for every thread.
+//! A map that threads share, whose look-ups take no lock: the first insertion of a key wins, for
+//! every thread.
 #![tactic(auto)]
 
 pub mod entries;

@@ -19,7 +19,8 @@ impl<'a, P: Allocator> PlaceText<'a> for &'a Bump<P> {
     }
 }
 
-/// Texts side by side in a buffer that the caller lends. It takes no memory, and it moves to a thread, as a `Bump` doesn't.
+/// A buffer of the caller in which texts are stored one after the other. It allocates nothing.
+/// Unlike a `Bump`, it can be moved to another thread.
 #[derive(Drop)]
 pub struct TextBuffer<'a> {
     free: &'a mut [u8],
@@ -34,14 +35,17 @@ impl<'a> Model for TextBuffer<'a> {
 }
 
 impl<'a> TextBuffer<'a> {
-    /// Texts in this buffer, of which none is placed yet: room for as many bytes as it has.
+    /// Makes a buffer without texts; it has room for `buffer.len()` bytes.
     pub fn new(buffer: &'a mut [u8]) -> TextBuffer<'a>
         ensures { result ≡ length buffer.old }
     {
         TextBuffer { free: buffer }
     }
 
-    /// How many bytes of texts there is room for. `O(1)`.
+    /// Returns the number of bytes that can still be stored.
+    ///
+    /// # Cost
+    /// `O(1)`.
     pub fn room(&self) -> usize
         ensures { result ≡ self.now }
     {
@@ -49,7 +53,8 @@ impl<'a> TextBuffer<'a> {
     }
 }
 
-/// Copies the text behind the texts before it. `Err` exactly if it has more bytes than there is room for.
+/// Copies the text after the earlier texts. Fails exactly if the text has more bytes than
+/// [`room`](TextBuffer::room) returns.
 impl<'a> PlaceText<'a> for &mut TextBuffer<'a> {
     fn place_text(self, text: &str) -> Result<&'a str, AllocError>
         ensures text { IfOk result (λ s. s.now ≡ text.now) }

@@ -1,4 +1,4 @@
--- Lemmas on values behind an `Arc`: what a list of owners shows.
+-- Lemmas about values in an `Arc`: what a list of `Arc`s shows.
 use Rattle.std.proofs.Common.{◌≡◌, ◌+◌, ◌∙◌, ap, sym, Bool, List, Option, Some, None, refl, Bor, true, false, if◌then◌else◌}
 use Rattle.std.specs.Option.{option_eq, option_map}
 use Rattle.std.specs.Map.{lookup, keys_of}
@@ -11,15 +11,16 @@ use Rattle.std.proofs.lemmas.Option.{slice_get-map}
 use Rattle.elsa_tables.specs.Tables.{AddsNew}
 use Rattle.elsa_locks.specs.Shared.{shown}
 
--- a look-up in what the owners show shows what the owner found shows
+-- A lookup among the shown values finds the value of the `Arc` that a lookup among the `Arc`s
+-- finds.
 pub lookup_shown : {K V Z : Type 0} (test : K → Bool) (es : List (K × Arc V Z)) → lookup test (shown es) ≡ option_map arc_value (lookup test es)
 lookup_shown test es = lookup-map_values arc_value test es
 
--- the keys are those of the entries
+-- The keys are those of the entries.
 pub keys_shown : {K V Z : Type 0} (es : List (K × Arc V Z)) → keys_of (shown es) ≡ keys_of es
 keys_shown es = keys_of-map_values arc_value es
 
--- what is shown, by what the owners are
+-- What is shown, by the facts about the `Arc`s.
 pub ruleset shows = (lookup_shown, keys_shown, length-map, map-append, slice_get-map, pointwise-map)
 
 option_eq_shown : {V Z : Type 0} (E : V → V → Bool) (a b : Option (Arc V Z)) → option_eq (λ x y. E (arc_value x) (arc_value y)) a b ≡ option_eq E (option_map arc_value a) (option_map arc_value b)
@@ -28,11 +29,11 @@ option_eq_shown E None (Some y) = refl
 option_eq_shown E (Some x) None = refl
 option_eq_shown E (Some x) (Some y) = refl
 
--- owners that are looked up are compared as the values that they show
+-- `Arc`s that are looked up are compared as the values that they show.
 pub compared_shown : {K V Z : Type 0} (E : V → V → Bool) (test : K → Bool) (es fs : List (K × Arc V Z)) → option_eq (λ x y. E (arc_value x) (arc_value y)) (lookup test es) (lookup test fs) ≡ option_eq E (lookup test (shown es)) (lookup test (shown fs))
 compared_shown E test es fs = rw (lookup_shown test es, lookup_shown test fs) (option_eq_shown E (lookup test es) (lookup test fs))
 
--- what a look-up found shows what the owners show at the key
+-- The value of the `Arc` that was found is the value at the key.
 pub found_shown : {K V Z : Type 0} (test : K → Bool) (es : List (K × Arc V Z)) (r : Option (Bor (Arc V Z)))
     → option_map (λ b. b.now) r ≡ lookup test es → option_map (λ a. arc_value a.now) r ≡ lookup test (shown es)
 found_shown test es None h = ap (option_map arc_value) h ∙ sym (lookup_shown test es)
@@ -42,7 +43,7 @@ chosen : {V Z : Type 0} (b : Bool) (a : Arc V Z) (o : Option (Arc V Z)) → opti
 chosen true a o = refl
 chosen false a o = refl
 
--- a new key's owner adds the value that it shows
+-- The `Arc` of a new key adds the value that it shows.
 pub adds_shown : {K V Z : Type 0} (same : K → K → Bool) (es fs : List (K × Arc V Z)) (k : K) (a : Arc V Z) → AddsNew same es fs k a → AddsNew same (shown es) (shown fs) k (arc_value a)
 adds_shown same es fs k a h = (
   lookup_shown (same k) fs ∙ ap (option_map arc_value) h.0,

@@ -1,4 +1,5 @@
--- Lemmas on walks: what the entries that a table's iterator gives show, and the two ends of an ordered table.
+-- Lemmas about iteration: what the entries show that a table's iterator returns, and the two ends
+-- of an ordered table.
 use Rattle.std.proofs.Common.{◌≡◌, ◌∙◌, ◌<◌, ◌↔◌, ℕ, ap, subst, refl, Bool, true, false, cond, List, [], ◌∷◌, length, map, Option, Some, None, IsSome, IfSome, MatchOption, Result, Ok, Err, IfOk, OnErr, slice_get, Bor, arith}
 use Rattle.std.specs.Option.{option_map}
 use Rattle.std.specs.BTreeMap.Range.{entries_between, range_contains}
@@ -15,7 +16,7 @@ use Rattle.std_collections.proofs.SetLists.{Drains-all}
 use Rattle.elsa_locks.specs.Shared.{shown}
 use Rattle.elsa_locks.specs.Walks.{VisitsAll, IsCopyOf}
 
--- what a reference to a key and one to an owner show
+-- What a reference to a key and a reference to an `Arc` show.
 abbrev pub seen : {K V Z : Type 0} → Bor K × Bor (Arc V Z) → K × V
 seen e = (e.0.now, arc_value e.1.now)
 
@@ -23,18 +24,19 @@ seen_shown : {K V Z : Type 0} (given : List (Bor K × Bor (Arc V Z))) → map se
 seen_shown [] = refl
 seen_shown (e ∷ es) = λ i. (e.0.now, arc_value e.1.now) ∷ seen_shown es i
 
--- a closure that was called at each entry that an iterator gave was called at each entry that it had
+-- If a closure was called with each entry that an iterator returned, it was called with each entry
+-- that the iterator had.
 pub walked : {F K V Z : Type 0} (g : Mut F (Bor K × (Bor V × Unit {0})) (Unit {0})) (f : F) (left entries : List (K × Arc V Z)) (given : List (Bor K × Bor (Arc V Z)))
     → left ≡ entries → Drains (TakesFirst deref_pair) left given → VisitsAll g f (map seen given) → VisitsAll g f (shown entries)
 walked g f left entries given same drains visits =
     subst (VisitsAll g f) (seen_shown given ∙ ap shown (Drains-all deref_pair left given drains ∙ same)) visits
 
--- a test of the key chooses the same of both
+-- A test of the key chooses the same entries of both lists.
 chosen : {K V Z : Type 0} (b : Bool) (e : K × Arc V Z) (es : List (K × Arc V Z)) (rest : List (K × V)) → shown es ≡ rest → shown (cond b (e ∷ es) es) ≡ cond b ((e.0, arc_value e.1) ∷ rest) rest
 chosen true e es rest h = λ i. (e.0, arc_value e.1) ∷ h i
 chosen false e es rest h = h
 
--- the entries in a range show what is in the range of what they show
+-- The entries in a range show what is in the range of what all entries show.
 pub between_shown : {K V Z : Type 0} (R : K → K → Ordering) (lo hi : Bound K) (es : List (K × Arc V Z)) → shown (entries_between R lo hi es) ≡ entries_between R lo hi (shown es)
 between_shown R lo hi [] = refl
 between_shown R lo hi (e ∷ es) = chosen (range_contains R lo hi e.0) e (entries_between R lo hi es) (entries_between R lo hi (shown es)) (between_shown R lo hi es)
@@ -47,7 +49,7 @@ found_end : {K V Z : Type 0} (es : List (K × Arc V Z)) (at : ℕ) (r : Option (
 found_end es at None h e is = cc
 found_end es at (Some p) h e is = slice_get-map (λ e. (e.0, arc_value e.1)) es at ∙ ap (option_map (λ e. (e.0, arc_value e.1))) h ∙ is
 
--- a copy of what was found at an end is a copy of what is shown there
+-- A copy of the entry at an end is a copy of what is shown there.
 pub copied_end : {K V Z E : Type 0} (is_clone : K → K → Type 0) (es : List (K × Arc V Z)) (at : ℕ) (r : Option (Bor K × Bor (Arc V Z))) (result : Result (Option (K × Arc V Z)) E)
     → (IsSome r ↔ (0 < length es)) → IfSome r (λ p. slice_get es at ≡ Some (p.0.now, p.1.now))
     → IfOk result (λ a. MatchOption a (r ≡ None) (IsCopyOf is_clone (option_map seen r)))
@@ -56,7 +58,7 @@ copied_end is_clone es at r (Err e) some found h = tt
 copied_end is_clone es at r (Ok None) some found h = none_left _ es r some h
 copied_end is_clone es at r (Ok (Some copy)) some found h = (h.0, found_end es at r found _ h.1, h.2)
 
--- an entry that was found is shown
+-- If an entry was found, an entry is shown.
 pub there : {K V Z E A : Type 0} (es : List (K × Arc V Z)) (r : Option A) (result : Result (Option (K × Arc V Z)) E) → (IsSome r ↔ (0 < length es)) → OnErr result (IsSome r) → OnErr result (0 < length (shown es))
 there es r (Ok a) some h = tt
 there es r (Err e) some h = rw length-map (some.0 h)

@@ -1,15 +1,15 @@
 //! Append-only collections that threads share through a lock.
 //!
-//! Each collection is a *state* with an ordinary interface, whose contracts say in full what a call does, and a
-//! *locked form* over it, whose calls take the lock, make the one call of the state, and release the lock before they
-//! return. Values are held as `Arc<V>`, since a lock gives no borrow that outlasts it: a result that is an owner
-//! shares the stored value.
+//! Each collection has a *state*, whose contracts define the effect of each call, and a *locked
+//! type* over it. A call of a locked type takes the lock, makes the call of the state, and releases
+//! the lock before it returns. Values are stored as `Arc<V>`, because no reference outlives a lock
+//! guard: a call returns an `Arc` that shares the stored value, or a copy of the value.
 //!
-//! - [`map`]: hashed and ordered maps whose first insertion wins.
-//! - [`vec`]: a list that only grows.
+//! - [`map`]: hashed and ordered maps in which the first value of a key stays.
+//! - [`vec`]: a vector that only grows.
 //!
-//! Calls that may wait for the lock take the right to wait, `rt`. A call that may need memory returns a `Result`; at
-//! `Err` the content is as before.
+//! A call that may block takes the permission to block, `rt`. A call that may allocate returns a
+//! `Result`; if it fails, the content is unchanged.
 #![tactic(auto)]
 
 pub mod map;

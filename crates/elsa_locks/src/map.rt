@@ -1,8 +1,8 @@
 //! Maps in which the first value of a key stays.
 //!
-//! A [`State`] is a map over a table; contracts see it as the list of its entries and speak of the value that it has at a key. A [`Locked`] is
-//! the same behind a lock. [`MapState`] and [`FrozenMap`] are the two over a hashed table, [`TreeState`] and [`FrozenBTreeMap`] over an
-//! ordered one.
+//! A [`State`] is a map over a table; contracts see it as the list of its entries. A [`Locked`] is
+//! such a map under a lock. [`MapState`] and [`FrozenMap`] are the two over a hash table,
+//! [`TreeState`] and [`FrozenBTreeMap`] the two over an ordered table.
 
 mod frozen_btree_map;
 mod frozen_map;
@@ -10,7 +10,6 @@ mod hashed_state;
 mod locked;
 mod ordered_state;
 mod state;
-mod str_keys;
 mod text_keys;
 mod walks;
 
@@ -20,4 +19,3 @@ pub use hashed_state::MapState;
 pub use locked::Locked;
 pub use ordered_state::TreeState;
 pub use state::State;
-pub use text_keys::TextTable;

@@ -1,7 +1,7 @@
-//! A list that only grows.
+//! A vector that only grows.
 //!
-//! Contracts see a [`VecState`] as the list of its values. [`FrozenVec`] is the same behind a lock, and [`Iter`] walks
-//! one that may grow meanwhile.
+//! Contracts see a [`VecState`] as the list of its values. [`FrozenVec`] is such a vector under a
+//! lock, and [`Iter`] iterates over one that may grow meanwhile.
 
 mod frozen_vec;
 mod vec_state;

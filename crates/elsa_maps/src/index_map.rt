@@ -1,33 +1,35 @@
-//! The map whose pairs keep the order of their first insertions.
+//! The map whose entries keep the order of their insertion.
 //!
-//! A new key goes last, and a present key keeps its place and its value. [`Frozen`] has the calls that all forms of map share.
-ghost use Rattle.std.specs.Prelude.{◌≡◌, ◌≤◌, ◌↔◌, [], ℕ, List, length, false, None, Ok, Some, slice_get, IfOk, IsOk, IfSome, IsPermutation, IsTrue, OnErr, cond};
+//! A new key is appended, and a present key keeps its index and its value. [`Frozen`] has the calls
+//! that all maps share.
+ghost use Rattle.std.specs.Prelude.{◌≡◌, ◌≤◌, ◌↔◌, [], ℕ, List, length, false, None, Ok, Some, slice_get, position, IfOk, IsOk, IfSome, IsPermutation, IsTrue, OnErr, cond};
 ghost use Rattle.std.specs.Borrow.{Bor};
 ghost use Rattle.std.specs.Iterator.{Drains, IsFinite};
 ghost use Rattle.std.specs.Map.{keys_of, lookup, values_of};
 ghost use Rattle.std.specs.Map.Iter.{ShowsInOrder, ShowsInReverse, deref, deref_pair};
 ghost use Rattle.std.specs.Option.{option_map};
-ghost use Rattle.std.specs.Str.{bytes_eq};
-ghost use Rattle.std.specs.String.{string_bytes};
 ghost use Rattle.indexmap.specs.IndexMap.{insert_entry};
-ghost use Rattle.elsa_words.proofs.MapEquality.{same_values_equivalence, same_values_laws};
-ghost use Rattle.elsa_words.specs.FirstWins.{IsEqualMap, same_values, value_at};
-ghost use Rattle.elsa_words.specs.Insertions.{place_of, Inserted, InsertedNew, IsCloneOf, CollectsTargets};
+ghost use Rattle.elsa_tables.specs.Tables.{was_present_at};
+ghost use Rattle.elsa_specs.proofs.MapEquality.{same_values_equivalence, same_values_laws};
+ghost use Rattle.elsa_specs.specs.FirstWins.{IsEqualMap, same_values, value_at};
+ghost use Rattle.elsa_specs.specs.Insertions.{place_of, Inserted, InsertedNew, IsCloneOf, CollectsTargets};
 
 use crate::map::Frozen;
 use bumpalo::Bump;
+use elsa_specs::for_its_clause;
+use elsa_tables::SeeksIndex;
 use elsa_vec::stable::{KeepsText, StableDeref};
-use elsa_words::for_its_clause;
 use indexmap::IndexMap;
 use indexmap::map::{Entry, Iter, Keys, Values};
 use std::alloc::{AllocError, Allocator, Global};
 use std::hash::{BuildHasher, BuildHasherDefault, FoldHasher, Hash};
 
-/// A map in which the first value of a key stays, and whose pairs keep the order of their first insertions: over the arena to which an `R`
-/// refers.
+/// A map in which the first value of a key stays, and whose entries keep the order of their
+/// insertion. Its values are stored in the arena to which an `R` refers.
 ///
-/// The default hasher is fast and has a fixed seed; where strangers choose the keys, take a `SeededState` of `elsa` by
-/// [`with_hasher`](FrozenIndexMapIn::with_hasher). `A` is the allocator of the table.
+/// The default hasher is fast and has a fixed seed. For keys from untrusted input, pass a
+/// `SeededState` of `elsa` to [`with_hasher`](FrozenIndexMapIn::with_hasher). `A` is the allocator
+/// of the table.
 pub type FrozenIndexMapIn<R, K, V, S = BuildHasherDefault<FoldHasher>, A = Global> = Frozen<
     R,
     K,
@@ -36,7 +38,8 @@ pub type FrozenIndexMapIn<R, K, V, S = BuildHasherDefault<FoldHasher>, A = Globa
     A,
 >;
 
-/// The map whose values are placed in a `Bump` of lifetime `'a`; `P` is the allocator of the arena.
+/// The index map whose values are stored in a `Bump` of lifetime `'a`. `P` is the allocator of the
+/// arena.
 pub type FrozenIndexMap<'a, K, V, S = BuildHasherDefault<FoldHasher>, A = Global, P = Global> =
     FrozenIndexMapIn<&'a Bump<P>, K, V, S, A>;
 
@@ -46,17 +49,18 @@ where
     V: StableDeref<R>,
     A: Allocator + Copy,
 {
-    /// An empty map that hashes by the default hasher, which is fast and has a fixed seed: where strangers choose the keys,
-    /// take [`with_hasher`](FrozenIndexMapIn::with_hasher). It takes no memory.
+    /// Makes an empty map with the default hasher. It allocates nothing.
     pub fn new(alloc: A, arena: R) -> Self
         ensures { result ≡ [] }
     {
         FrozenIndexMapIn::with_hasher(alloc, arena, BuildHasherDefault::new())
     }
 
-    /// An empty map by the default hasher with room for so many pairs, as after [`reserve`](FrozenIndexMapIn::reserve).
+    /// Makes an empty map with the default hasher and capacity for `count` entries, as
+    /// [`reserve`](FrozenIndexMapIn::reserve) does.
     ///
-    /// `AllocError` comes where memory is refused; room for none takes none.
+    /// # Errors
+    /// Fails if an allocation fails. A capacity of 0 allocates nothing.
     pub fn with_capacity(alloc: A, arena: R, count: usize) -> Result<Self, AllocError>
         ensures empty { IfOk result (λ m. m ≡ []) }
         ensures none_is_free { count ≡ 0 → IsOk result }
@@ -70,46 +74,55 @@ where
     V: StableDeref<R>,
     A: Allocator + Copy,
 {
-    /// An empty map that hashes by `hash_builder`. It takes no memory.
+    /// Makes an empty map that hashes its keys by `hash_builder`. It allocates nothing.
     pub fn with_hasher(alloc: A, arena: R, hash_builder: S) -> Self
         ensures { result ≡ [] }
     {
         FrozenIndexMapIn::from_map(arena, IndexMap::with_hasher(alloc, hash_builder))
     }
 
-    /// A map with this content, which goes on in the given arena. It takes no memory.
+    /// Makes a map with the entries of `map`. Values inserted later are stored in `arena`. It
+    /// allocates nothing.
     pub fn from_map(arena: R, map: IndexMap<K, V::Borrow, S, A>) -> Self
         ensures content { result ≡ map.entries }
     {
         Frozen::over(*map.allocator(), arena, map)
     }
 
-    /// The place of the pair with this key, `None` exactly if there is none.
+    /// Returns the index of the pair whose key `query` finds, or `None` if the map has no such key.
     ///
-    /// It takes no memory. `O(1)`: one hash.
-    pub fn get_index_of(&self, key: &K) -> Option<usize>
-        ensures { result ≡ place_of K.eq self.now key.now }
+    /// # Cost
+    /// One hash and one search.
+    pub fn get_index_of<Q>(&self, query: Q) -> Option<usize>
+    where
+        Q: SeeksIndex<K, V::Borrow, IndexMap<K, V::Borrow, S, A>>,
+        ensures { result ≡ position (Q.finds query) (keys_of self.now) }
     {
-        self.table.get_index_of(key)
+        let (index, _, _) = query.seek_full(&self.table)?;
+        Some(index)
     }
 
-    /// The place, the stored key and the value of the pair with this key, `None` exactly if there is none.
+    /// Returns the index, the stored key and the value of the pair whose key `query` finds, or
+    /// `None` if the map has no such key.
     ///
-    /// It takes no memory. `O(1)`: one hash.
-    pub fn get_full(&self, key: &K) -> Option<(usize, K, V::Borrow)>
+    /// # Cost
+    /// One hash and one search.
+    pub fn get_full<Q>(&self, query: Q) -> Option<(usize, K, V::Borrow)>
     where
         K: Copy,
-        ensures place { option_map (λ r. r.0) result ≡ place_of K.eq self.now key.now }
+        Q: SeeksIndex<K, V::Borrow, IndexMap<K, V::Borrow, S, A>>,
+        ensures place { option_map (λ r. r.0) result ≡ position (Q.finds query) (keys_of self.now) }
         ensures pair { IfSome result (λ r. slice_get self.now r.0 ≡ Some (r.1, r.2)) }
-        ensures value { option_map (λ r. r.2) result ≡ value_at K.eq self.now key.now }
+        ensures value { option_map (λ r. r.2) result ≡ lookup (Q.finds query) self.now }
     {
-        let (place, found, value) = self.table.get_full(key)?;
-        Some((place, *found, *value))
+        let (index, found, value) = query.seek_full(&self.table)?;
+        Some((index, *found, *value))
     }
 
-    /// The pair at the place `index`, `None` exactly if there is no such place.
+    /// Returns the entry at `index`, or `None` if `index` is not below the number of entries.
     ///
-    /// It takes no memory. `O(1)`, with no hash.
+    /// # Cost
+    /// `O(1)`, without a hash.
     pub fn get_index(&self, index: usize) -> Option<(K, V::Borrow)>
     where
         K: Copy,
@@ -119,10 +132,11 @@ where
         Some((*key, *value))
     }
 
-    /// Each pair once, as a key and its value's borrow, in the order of the first insertions; from the back, in reverse. It takes no
-    /// memory. `O(1)`, and so is each pair.
+    /// Returns an iterator over the entries, each once, in the order of their insertion. It can be
+    /// used from the back. An insertion while it is used doesn't compile.
     ///
-    /// No insertion can be made while it walks.
+    /// # Cost
+    /// `O(1)`, also for each entry. It allocates nothing.
     pub fn iter(&self) -> Iter<'_, K, V::Borrow>
         ensures rest { result ≡ self.now }
         ensures runs { ShowsInOrder (deref_pair {K = K} {X = V.Borrow}) }
@@ -131,7 +145,11 @@ where
         self.table.iter()
     }
 
-    /// Each key once, in the order of the first insertions; from the back, in reverse. Costs as [`iter`](FrozenIndexMapIn::iter).
+    /// Returns an iterator over the keys, each once, in the order of their insertion. It can be
+    /// used from the back.
+    ///
+    /// # Cost
+    /// That of [`iter`](FrozenIndexMapIn::iter).
     pub fn keys(&self) -> Keys<'_, K, V::Borrow>
         ensures rest { result ≡ keys_of self.now }
         ensures runs { ShowsInOrder (deref {X = K}) }
@@ -140,8 +158,11 @@ where
         self.table.keys()
     }
 
-    /// The value's borrow of each pair, in the order of the first insertions; from the back, in reverse. Costs as
-    /// [`iter`](FrozenIndexMapIn::iter).
+    /// Returns an iterator over the values, in the order of the insertions. It can be used from the
+    /// back.
+    ///
+    /// # Cost
+    /// That of [`iter`](FrozenIndexMapIn::iter).
     pub fn values(&self) -> Values<'_, K, V::Borrow>
         ensures rest { result ≡ values_of self.now }
         ensures runs { ShowsInOrder (deref {X = V.Borrow}) }
@@ -150,16 +171,24 @@ where
         self.table.values()
     }
 
-    /// How many pairs the map can have before its table asks for memory. `O(1)`.
+    /// Returns the number of entries that the map can have before its table grows.
+    ///
+    /// # Cost
+    /// `O(1)`.
     pub fn capacity(&self) -> usize
         ensures { length self.now ≤ result }
     {
         self.table.capacity()
     }
 
-    /// Makes room for so many more pairs: as many insertions ask the table's allocator for nothing, and the arena alone may refuse them.
+    /// Reserves capacity for at least `additional` more entries. Inserting that many allocates
+    /// nothing in the table, only in the arena.
     ///
-    /// The content stays. `AllocError` comes where memory is refused, and the room stays too; where there is room already, it takes none. `O(n)`.
+    /// # Errors
+    /// Fails if an allocation fails. The map is then unchanged.
+    ///
+    /// # Cost
+    /// `O(n)` if the table grows.
     pub fn reserve(&mut self, additional: usize) -> Result<(), AllocError>
         ensures content { self.new ≡ self.old }
         ensures none_is_free { additional ≡ 0 → IsOk result }
@@ -167,39 +196,51 @@ where
         self.table.reserve(additional)
     }
 
-    /// Adds the pair last, unless the key is present, and returns its place, the value that the key now has and whether the
-    /// key is new.
+    /// Appends the entry unless the map has an equal key. Returns the index and the value that the
+    /// key then has, and whether the key was new.
     ///
-    /// It looks first, by the one hash of the call: where the key is present, its place and value are returned with `false`,
-    /// the given key and value are dropped, no memory is taken and nothing changes. Otherwise the table makes room for one
-    /// pair, the value is placed in the arena and the pair goes last. `AllocError` comes only for an absent key and leaves
-    /// the map as it was; the table may keep the room.
+    /// If the map has the key, the given key and value are dropped.
+    ///
+    /// # Errors
+    /// Fails if the key is new and an allocation fails. The map is then unchanged.
+    ///
+    /// # Allocates
+    /// If the key is new: the growth of the table, and then the value in the arena.
+    ///
+    /// # Cost
+    /// One hash and one search.
     #[tactic(auto, using(crate::proofs::Places::no_place))]
     pub fn insert_full_new(
         &mut self,
         key: K,
         value: V,
-    ) -> Result<(usize, V::Borrow, bool), AllocError>
-        // A present key keeps its place and value; a new one is the last entry.
+    ) -> Result<elsa_tables::Inserted<V::Borrow, usize>, AllocError>
+        // A present key keeps its index and value; a new key has the last entry.
         ensures present { (x : V.Borrow) → value_at K.eq self.old key ≡ Some x →
-            (i : ℕ) × (place_of K.eq self.old key ≡ Some i) × (result ≡ Ok (i, x, false))
-            × (self.new ≡ self.old) }
-        ensures accepted { IfOk result (λ r.
-            InsertedNew K.eq V.target V.shown self.old key value r.0 r.1 r.2 self.new) }
+            (i : ℕ) × (place_of K.eq self.old key ≡ Some i)
+            × (result ≡ Ok (was_present_at i x)) × (self.new ≡ self.old) }
+        ensures accepted { IfOk result (λ r. InsertedNew K.eq V.target V.shown self.old key value
+            r.index r.value r.is_new self.new) }
 
-        // Only a new key is refused, and then nothing changes.
+        // Only the insertion of a new key fails, and then nothing changes.
         ensures refused { OnErr result (self.new ≡ self.old) }
         ensures only_new { OnErr result (place_of K.eq self.old key ≡ None) }
 
-        // What the key has then is found at its place.
-        ensures stands { IfOk result (λ r. value_at K.eq self.new key ≡ Some r.1) }
-        ensures stands_at { IfOk result (λ r. place_of K.eq self.new key ≡ Some r.0) }
+        // The key is then found at its index, with its value.
+        ensures value_after { IfOk result (λ r. value_at K.eq self.new key ≡ Some r.value) }
+        ensures index_after { IfOk result (λ r. place_of K.eq self.new key ≡ Some r.index) }
     {
         let Ok(found) = self.table.entry(key) else {
             return Err(AllocError);
         };
         let room = match found {
-            Entry::Occupied(there) => return Ok((there.index(), *there.get(), false)),
+            Entry::Occupied(there) => {
+                return Ok(elsa_tables::Inserted {
+                    value: *there.get(),
+                    index: there.index(),
+                    is_new: false,
+                });
+            }
             Entry::Vacant(room) => room,
         };
         let Ok(borrow) = value.place(self.arena) else {
@@ -208,30 +249,37 @@ where
         };
         let place = room.index();
         room.insert(borrow);
-        Ok((place, borrow, true))
+        Ok(elsa_tables::Inserted {
+            value: borrow,
+            index: place,
+            is_new: true,
+        })
     }
 
-    /// Adds the pair last, unless the key is present, and returns its place and the value that the key now has.
+    /// Appends the entry unless the map has an equal key, and returns the index and the value that
+    /// the key then has.
     ///
-    /// Costs and the refusal are those of `insert_full_new`.
+    /// # Errors
+    /// Fails as [`insert_full_new`](FrozenIndexMapIn::insert_full_new) does, with the same
+    /// allocations and the same cost.
     pub fn insert_full(&mut self, key: K, value: V) -> Result<(usize, V::Borrow), AllocError>
-        // A present key keeps its place and value; a new one is the last entry.
+        // A present key keeps its index and value; a new key has the last entry.
         ensures present { (x : V.Borrow) → value_at K.eq self.old key ≡ Some x →
             (i : ℕ) × (place_of K.eq self.old key ≡ Some i) × (result ≡ Ok (i, x))
             × (self.new ≡ self.old) }
         ensures accepted { IfOk result (λ r.
             Inserted K.eq V.target V.shown self.old key value r.0 r.1 self.new) }
 
-        // Only a new key is refused, and then nothing changes.
+        // Only the insertion of a new key fails, and then nothing changes.
         ensures refused { OnErr result (self.new ≡ self.old) }
         ensures only_new { OnErr result (place_of K.eq self.old key ≡ None) }
 
-        // What the key has then is found at its place.
-        ensures stands { IfOk result (λ r. value_at K.eq self.new key ≡ Some r.1) }
-        ensures stands_at { IfOk result (λ r. place_of K.eq self.new key ≡ Some r.0) }
+        // The key is then found at its index, with its value.
+        ensures value_after { IfOk result (λ r. value_at K.eq self.new key ≡ Some r.1) }
+        ensures index_after { IfOk result (λ r. place_of K.eq self.new key ≡ Some r.0) }
     {
-        let (place, borrow, _) = self.insert_full_new(key, value)?;
-        Ok((place, borrow))
+        let done = self.insert_full_new(key, value)?;
+        Ok((done.index, done.value))
     }
 }
 
@@ -240,17 +288,7 @@ where
     V: StableDeref<R>,
     A: Allocator + Copy,
 {
-    /// The value of the key that reads as `key` does, `None` exactly if there is none.
-    ///
-    /// It takes no memory. `O(1)`: one hash.
-    pub fn get_text(&self, key: &str) -> Option<V::Borrow>
-        ensures { result ≡ value_at ⟦<&'a str as PartialEq>⟧.eq self.now key.entry }
-    {
-        let found = self.table.get(key)?;
-        Some(*found)
-    }
-
-    // The place and the value of the key that reads as `key` does.
+    // The index and the value of the key that is the same text as `key`.
     fn get_full_text(&self, key: &str) -> Option<(usize, V::Borrow)>
         ensures place { option_map (λ r. r.0) result
             ≡ place_of ⟦<&'a str as PartialEq>⟧.eq self.now key.entry }
@@ -261,19 +299,25 @@ where
         Some((place, *found))
     }
 
-    /// Adds the pair last, unless a key of the map reads as `key` does, and returns the place of that text and the value that it
-    /// now has: [`insert_full`](FrozenIndexMapIn::insert_full) by a text of any lifetime.
+    /// Appends an entry with the text as its key unless the map has that key, and returns the index
+    /// and the value that the text then has: [`insert_full`](FrozenIndexMapIn::insert_full) for a
+    /// text of any lifetime.
     ///
-    /// It looks first, by one hash: where the text is present, the given value is dropped, no memory is taken and nothing changes.
-    /// Otherwise the table makes room for one pair, the text is copied into the arena, and the pair inserted by one more hash.
-    /// `AllocError` comes only for an absent text and leaves the map as it was; the table may keep the room, and where the
-    /// arena has room for the text and not for the value, it keeps a text that nobody sees.
+    /// If the map has the text, the given value is dropped and nothing is allocated. Otherwise the
+    /// table grows, and then the text is copied into the arena.
+    ///
+    /// # Errors
+    /// Fails if the text is new and an allocation fails. The map is then unchanged. If the arena
+    /// has room for the text but not for the value, it keeps an unused copy of the text.
+    ///
+    /// # Cost
+    /// One hash and one search for a present text, and two of each for a new one.
     pub fn insert_full_text(
         &mut self,
         key: &str,
         value: V,
     ) -> Result<(usize, V::Borrow), AllocError>
-        // A present key keeps its place and value; a new one is the last entry.
+        // A present key keeps its index and value; a new key has the last entry.
         ensures present { (x : V.Borrow) →
             value_at ⟦<&'a str as PartialEq>⟧.eq self.old key.entry ≡ Some x →
             (i : ℕ) × (place_of ⟦<&'a str as PartialEq>⟧.eq self.old key.entry ≡ Some i)
@@ -283,15 +327,15 @@ where
             × Inserted ⟦<&'a str as PartialEq>⟧.eq V.target V.shown self.old k value r.0 r.1
             self.new) }
 
-        // Only a new key is refused, and then nothing changes.
+        // Only the insertion of a new key fails, and then nothing changes.
         ensures refused { OnErr result (self.new ≡ self.old) }
         ensures only_new { OnErr result (
             place_of ⟦<&'a str as PartialEq>⟧.eq self.old key.entry ≡ None) }
 
-        // What the key has then is found at its place.
-        ensures stands { IfOk result (λ r.
+        // The key is then found at its index, with its value.
+        ensures value_after { IfOk result (λ r.
             value_at ⟦<&'a str as PartialEq>⟧.eq self.new key.entry ≡ Some r.1) }
-        ensures stands_at { IfOk result (λ r.
+        ensures index_after { IfOk result (λ r.
             place_of ⟦<&'a str as PartialEq>⟧.eq self.new key.entry ≡ Some r.0) }
     {
         if let Some(found) = self.get_full_text(key) {
@@ -302,9 +346,12 @@ where
         self.insert_full(placed, value)
     }
 
-    /// Adds the pair last, unless a key of the map reads as `key` does, and returns the value that this text now has.
+    /// Appends an entry with the text as its key unless the map has that key, and returns the value
+    /// that the text then has.
     ///
-    /// Costs and the refusal are those of `insert_full_text`.
+    /// # Errors
+    /// Fails as [`insert_full_text`](FrozenIndexMapIn::insert_full_text) does, with the same
+    /// allocations and the same cost.
     pub fn insert_text(&mut self, key: &str, value: V) -> Result<V::Borrow, AllocError>
         ensures present { (x : V.Borrow) →
             value_at ⟦<&'a str as PartialEq>⟧.eq self.old key.entry ≡ Some x →
@@ -315,28 +362,11 @@ where
         ensures refused { OnErr result (self.new ≡ self.old) }
         ensures only_new { OnErr result (
             place_of ⟦<&'a str as PartialEq>⟧.eq self.old key.entry ≡ None) }
-        ensures stands { IfOk result (λ b.
+        ensures value_after { IfOk result (λ b.
             value_at ⟦<&'a str as PartialEq>⟧.eq self.new key.entry ≡ Some b) }
     {
         let (_, borrow) = self.insert_full_text(key, value)?;
         Ok(borrow)
-    }
-}
-
-impl<R: Copy, B: Allocator, V, S: BuildHasher, A> FrozenIndexMapIn<R, String<B>, V, S, A>
-where
-    V: StableDeref<R>,
-    A: Allocator + Copy,
-{
-    /// The value of the key that reads as `key` does, `None` exactly if there is none: [`get`](FrozenIndexMapIn::get) without a
-    /// `String`.
-    ///
-    /// It takes no memory. `O(1)`: one hash.
-    pub fn get_text(&self, key: &str) -> Option<V::Borrow>
-        ensures { result ≡ lookup (λ k. bytes_eq key.now (string_bytes k)) self.now }
-    {
-        let value = self.table.get(key)?;
-        Some(*value)
     }
 }
 
@@ -346,7 +376,7 @@ where
     S: BuildHasher + Drop,
     A: Allocator + Copy,
 {
-    // Gives a key a value, whether or not it is present.
+    // Sets the value of a key, whether or not it is present.
     fn set(&mut self, key: K, value: V) -> Result<V::Borrow, AllocError>
         ensures placed { IfOk result (λ b. V.shown b ≡ V.target value) }
         ensures entries { IfOk result (λ b. self.new ≡ insert_entry K.eq self.old key b) }
@@ -361,10 +391,14 @@ where
         Ok(placed)
     }
 
-    /// A map of the pairs, in which the last value of a key wins and the key keeps its first place.
+    /// Makes a map of the pairs, in which the last value of a key wins, unlike in insertions, and
+    /// the key keeps its first index.
     ///
-    /// Each value is placed in the arena, by one hash a pair. `AllocError` comes only where the arena or the table was
-    /// refused room.
+    /// # Errors
+    /// Fails if an allocation fails. What was collected is dropped.
+    ///
+    /// # Cost
+    /// `O(n)`, with one hash for each pair.
     pub fn from_iter<I: IntoIterator<Item = (K, V)>>(
         alloc: A,
         arena: R,
@@ -385,11 +419,14 @@ where
         Ok(map)
     }
 
-    /// A map with the same content, in the same arena, under a clone of the hash builder.
+    /// Makes a map with the same entries over the same arena, under a clone of the hash builder. It
+    /// shares the values. Later insertions into one of the two don't change the other.
     ///
-    /// The values' borrows are shared, the keys are cloned. Later insertions into either leave the other as it is. It makes
-    /// room once, for all pairs. `O(len)`. `AllocError` comes only where the room, the clone of a key or that of the builder
-    /// failed.
+    /// # Errors
+    /// Fails if an allocation fails, or if the `clone` of a key or of the hash builder fails.
+    ///
+    /// # Cost
+    /// `O(n)`, with one hash for each entry. The table grows once.
     pub fn clone(&self) -> Result<Self, AllocError>
     where
         K: Clone,
@@ -408,7 +445,7 @@ where
     }
 }
 
-/// `for (key, value) in &map` gives each pair once, in the order of the first insertions.
+/// `for (key, value) in &map` visits each entry once, in the order of their insertion.
 impl<'m, R: Copy, K: Eq + Hash + Drop, V, S: BuildHasher, A: Allocator + Copy> IntoIterator
     for &'m FrozenIndexMapIn<R, K, V, S, A>
 where
@@ -425,7 +462,7 @@ where
     }
 }
 
-// Two maps are equal where they have equal values at each key, in any order.
+// Two maps are equal if each key has equal values in both, or none in either, in any order.
 impl<R: Copy, K: Eq + Hash + Drop, V, S: BuildHasher, A: Allocator + Copy> PartialEq
     for FrozenIndexMapIn<R, K, V, S, A>
 where

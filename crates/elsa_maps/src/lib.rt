@@ -1,4 +1,5 @@
-//! Maps for one thread in which the first value of a key stays, over values placed in an arena that the caller passes in.
+//! Single-threaded maps in which the first value of a key stays. Values are stored in an arena that
+//! the caller passes in.
 #![tactic(auto)]
 
 pub mod index_map;

@@ -1,9 +1,10 @@
--- The runs of an index map.
+-- The replays of an index map.
 use Rattle.std.proofs.Common.{◌≡◌, ℕ, Bool, false, List, Some, append-nil, length, Result, Ok, Err}
 use Rattle.std.specs.Cmp.{IsEquivalence}
-use Rattle.elsa_words.specs.FirstWins.{value_at}
-use Rattle.elsa_words.specs.Insertions.{place_of, InsertedNew}
-use Rattle.elsa_words.specs.Replay.{Answered}
+use Rattle.elsa_tables.specs.declared.put.Inserted.{Inserted}
+use Rattle.elsa_specs.specs.FirstWins.{value_at}
+use Rattle.elsa_specs.specs.Insertions.{place_of, InsertedNew}
+use Rattle.elsa_specs.specs.Replay.{Answered}
 use Rattle.elsa_run.specs.Runs.{InsertionAnswers, changed, epoch_from, held, Added}
 use Rattle.elsa_run.specs.IndexRun.{Answers, IndexRunsTo, Step, change}
 use Rattle.elsa_run.specs.declared.run_index.IndexCommand.{IndexCommand}
@@ -12,12 +13,13 @@ use Rattle.elsa_run.specs.declared.run_index.IndexReply.TheVariants.{NoMemory}
 use Rattle.elsa_maps.proofs.Places.{none_passes, some_passes}
 use Rattle.elsa_run.proofs.Runs.{goes_on, insertion_step, ordered_runs}
 
--- the flag of an accepted insertion
-abbrev pub told : {B E : Type 0} → Result (B × Bool) E → Bool
-told (Ok r) = r.1
+-- The flag of an accepted insertion.
+abbrev pub told : {B E : Type 0} → Result (Inserted B (Unit {0})) E → Bool
+told (Ok r) = r.is_new
 told (Err e) = false
 
--- an insertion is answered by what is there, and leaves what a run holds after it
+-- The reply to an insertion depends on the content, and the insertion leaves the content that a
+-- replay has after it.
 pub inserted : {K V T B : Type 0} (eq : K → K → Bool) (laws : IsEquivalence eq) (target : V → T) (shown : B → T) (es fs : List (K × B)) (k : K) (v : V) (form : ℕ → B → Bool → IndexReply B) (i : ℕ) (b : B) (new : Bool)
     → InsertedNew eq target shown es k v i b new fs
     → InsertionAnswers NoMemory (λ j c. value_at eq es k ≡ Some c) (λ c. shown c ≡ target v) (place_of eq es k) (length es) form (form i b new) × (held eq (λ p. p.0) (changed (epoch_from es) (Added (k, b))) ≡ fs)
@@ -25,7 +27,7 @@ inserted eq laws target shown es fs k v form i b new (h, says) =
     insertion_step eq (λ p. p.0) laws (λ c. (k, c)) NoMemory es fs (place_of eq es k) (λ j c. value_at eq es k ≡ Some c) (λ c. shown c ≡ target v)
     (λ c none shows. none_passes (eq k) _ none) (λ j c at is. some_passes (eq k) _ j at) form i b new says h
 
--- calls that were answered one after the other are a run
+-- Calls that got their replies one after the other are a replay.
 pub index_runs : {K V T B M : Type 0} (eq : K → K → Bool) (laws : IsEquivalence eq) (target : V → T) (shown : B → T) (entries : M → List (K × B))
     (es fs : List (K × B)) (cs : List (IndexCommand K V M)) (rs : List (IndexReply B)) → Answered (Step eq target shown entries) es cs rs fs → IndexRunsTo eq target shown entries es cs rs fs
 index_runs eq laws target shown entries = ordered_runs (held eq (λ p. p.0)) append-nil (goes_on eq (λ p. p.0) laws) (Answers eq target shown entries) (change eq target shown entries)

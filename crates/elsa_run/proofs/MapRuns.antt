@@ -1,4 +1,4 @@
--- One step of a run of a map, from what an epoch holds to what the next epoch holds.
+-- One step of a replay of a map, from the content of an epoch to that of the next epoch.
 use Rattle.std.proofs.Common.{◌≡◌, ◌+◌, inl, inr, Bool, true, false, if◌then◌else◌, List, [], ◌∷◌, ◌++◌, length, Option, None, Some, is_some, refl, sym, ap, subst, ◌∙◌, append-nil}
 use Rattle.std.specs.Cmp.{IsEquivalence}
 use Rattle.std.proofs.lemmas.List.{length-append}
@@ -7,27 +7,27 @@ use Rattle.elsa_run.specs.declared.run_map.MapCommand.{MapCommand}
 use Rattle.elsa_run.specs.declared.run_map.MapCommand.TheVariants.{Insert, InsertNew, Get, Len, IsEmpty, Rebase}
 use Rattle.elsa_run.specs.declared.run_map.MapReply.{MapReply}
 use Rattle.elsa_run.specs.declared.run_map.MapReply.TheVariants.{Item, New, Found, Count, NoMemory}
-use Rattle.elsa_words.specs.FirstWins.{Adds, value_at}
-use Rattle.elsa_words.specs.Replay.{Answered}
-use Rattle.elsa_words.proofs.Entries.{adds_last}
+use Rattle.elsa_specs.specs.FirstWins.{Adds, value_at}
+use Rattle.elsa_specs.specs.Replay.{Answered}
+use Rattle.elsa_specs.proofs.Entries.{adds_last}
 use Rattle.elsa_run.specs.Runs.{Change, Epoch, changed, epoch_from, held, Kept, Added}
 use Rattle.elsa_run.specs.MapRun.{Answers, InsertAnswers, InsertStep, IsSame, MapRunsTo, Step, change}
 use Rattle.elsa_run.proofs.Runs.{held_more, runs_to}
 
 module _ {K B : Type 0} (eq : K → K → Bool) (laws : IsEquivalence eq) (e : Epoch (K × B)) (k : K) (b : B) where
-  -- what the epoch holds, as a list
+  -- The content of the epoch, as a list.
   abbrev kept : List (K × B)
   kept = held eq (λ p. p.0) e
 
-  -- what it holds with an insertion noted
+  -- The content with an added insertion.
   noted : (o : Option B) → value_at eq kept k ≡ o → held eq (λ p. p.0) (changed e (Added (k, b))) ≡ kept ++ (if is_some o then [] else (k, b) ∷ [])
   noted o is = held_more eq (λ p. p.0) laws e (k, b) (is_some o) (sym (is_some-lookup (eq k) kept) ∙ ap is_some is)
 
-  -- an insertion of a key that is there changes nothing
+  -- An insertion of a present key changes nothing.
   same_again : (es : List (K × B)) → IsSame eq kept es → value_at eq es k ≡ Some b → IsSame eq (held eq (λ p. p.0) (changed e (Added (k, b)))) es
   same_again es same is = subst (λ l. IsSame eq l es) (sym (noted (Some b) (sym (same.0 k) ∙ is) ∙ append-nil kept)) same
 
-  -- an insertion of a new key adds it
+  -- An insertion of a new key adds it.
   same_new : (es fs : List (K × B)) → IsSame eq kept es → value_at eq es k ≡ None → Adds eq (value_at eq es) (value_at eq fs) k b → length fs ≡ length es + 1 → IsSame eq (held eq (λ p. p.0) (changed e (Added (k, b)))) fs
   same_new es fs (each, count) none adds long =
       let absent : value_at eq kept k ≡ None = sym (each k) ∙ none in
@@ -44,7 +44,7 @@ module _ {K V T B M : Type 0} (eq : K → K → Bool) (laws : IsEquivalence eq) 
   stays : (es fs gs : List (K × B)) → IsSame eq es fs → gs ≡ fs → IsSame eq es gs
   stays es fs gs same is = subst (IsSame eq es) (sym is) same
 
-  -- an insertion, by the change that its two replies make
+  -- An insertion, by the effect of its two replies.
   insert_keeps : (e : Epoch (K × B)) (es fs : List (K × B)) (k : K) (v : V) (form : B → Bool → MapReply B) (changes : MapReply B → Change (K × B)) (r : MapReply B)
       → ((b : B) (new : Bool) → changes (form b new) ≡ Added (k, b)) → changes NoMemory ≡ Kept → IsSame eq (held eq (λ p. p.0) e) es → InsertStep eq target shown base_entries es k v form r fs
       → InsertAnswers eq target shown base_entries (held eq (λ p. p.0) e) k v form r × IsSame eq (held eq (λ p. p.0) (changed e (changes r))) fs
@@ -61,7 +61,8 @@ module _ {K V T B M : Type 0} (eq : K → K → Bool) (laws : IsEquivalence eq) 
   begun : (es : List (K × B)) → IsSame eq (held eq (λ p. p.0) (epoch_from es)) es
   begun es = (λ q. sym (ap (λ fs. value_at eq fs q) (append-nil es)), sym (ap length (append-nil es)))
 
-  -- a call at what an epoch holds is answered as the epoch says, and leaves what the next one holds
+  -- The reply to a call is possible for the content of the epoch, and the call leaves the content
+  -- of the next epoch.
   step_keeps : (e : Epoch (K × B)) (c : MapCommand K V M) (r : MapReply B) (es fs : List (K × B)) → IsSame eq (held eq (λ p. p.0) e) es → Step eq target shown base_entries es c r fs
       → Answers eq target shown base_entries (held eq (λ p. p.0) e) c r × IsSame eq (held eq (λ p. p.0) (changed e (change eq target shown base_entries c r))) fs
   step_keeps e (Insert k v) r es fs same step = insert_keeps e es fs k v (λ b new. Item b) (change eq target shown base_entries (Insert k v)) r (λ b new. refl) refl same step
@@ -71,6 +72,6 @@ module _ {K V T B M : Type 0} (eq : K → K → Bool) (laws : IsEquivalence eq) 
   step_keeps e IsEmpty r es fs same ((flag, is, empty), left) = ((flag, is, (λ t. sym same.1 ∙ empty.0 t, λ n. empty.1 (same.1 ∙ n))), stays _ es fs same left)
   step_keeps e (Rebase m) r es fs same (is, left) = (is, stays _ (base_entries m) fs (begun (base_entries m)) left)
 
-  -- calls that were answered one after the other are a run
+  -- Calls that got their replies one after the other are a replay.
   pub map_runs : (es fs : List (K × B)) (cs : List (MapCommand K V M)) (rs : List (MapReply B)) → Answered (Step eq target shown base_entries) es cs rs fs → MapRunsTo eq target shown base_entries es cs rs fs
   map_runs = runs_to (held eq (λ p. p.0)) (IsSame eq) (Answers eq target shown base_entries) (change eq target shown base_entries) (Step eq target shown base_entries) step_keeps begun

@@ -1,7 +1,7 @@
--- Which replies the commands of `run_index` may get, and which epoch follows each of them.
+-- The possible replies to the commands of `run_index`, and the effect of each of them.
 use Rattle.std.specs.Prelude.{◌≡◌, ◌↔◌, ℕ, Bool, List, [], length, Some, IsTrue}
-use Rattle.elsa_words.specs.FirstWins.{value_at}
-use Rattle.elsa_words.specs.Insertions.{place_of}
+use Rattle.elsa_specs.specs.FirstWins.{value_at}
+use Rattle.elsa_specs.specs.Insertions.{place_of}
 use Rattle.elsa_run.specs.Runs.{Change, held, InsertionAnswers, RunsTo, StepsTo, Kept, Added, Replaced}
 use Rattle.elsa_run.specs.declared.run_index.IndexCommand.{IndexCommand}
 use Rattle.elsa_run.specs.declared.run_index.IndexCommand.TheVariants.{Insert, InsertFull, InsertNew, InsertFullNew, Get, IndexOf, IsEmpty, Rebase}
@@ -9,11 +9,12 @@ use Rattle.elsa_run.specs.declared.run_index.IndexReply.{IndexReply}
 use Rattle.elsa_run.specs.declared.run_index.IndexReply.TheVariants.{Item, Full, New, FullNew, Found, Place, Flag, Done, NoMemory}
 
 module _ {K V T B M : Type 0} (eq : K → K → Bool) (target : V → T) (shown : B → T) (entries : M → List (K × B)) where
-  -- an insertion where es is held: the key's place and value, or the last place and the given target, or a refusal
+  -- The reply to an insertion if the content is es: the index and the value of the key, or the
+  -- index after the last one and a borrow that shows the given target, or a failure.
   abbrev pub InsertAnswers : List (K × B) → K → V → (ℕ → B → Bool → IndexReply B) → IndexReply B → Type 0
   InsertAnswers es k v = InsertionAnswers NoMemory (λ i b. value_at eq es k ≡ Some b) (λ b. shown b ≡ target v) (place_of eq es k) (length es)
 
-  -- the replies that a command may get where es is held
+  -- The possible replies to a command if the content is es.
   abbrev pub Answers : List (K × B) → IndexCommand K V M → IndexReply B → Type 0
   Answers es (Insert k v) r = InsertAnswers es k v (λ i b new. Item b) r
   Answers es (InsertFull k v) r = InsertAnswers es k v (λ i b new. Full i b) r
@@ -24,7 +25,8 @@ module _ {K V T B M : Type 0} (eq : K → K → Bool) (target : V → T) (shown 
   Answers es IsEmpty r = (flag : Bool) × (r ≡ Flag flag) × (IsTrue flag ↔ (es ≡ []))
   Answers es (Rebase m) r = r ≡ Done
 
-  -- what a command changes by its reply: an accepted insertion is noted, `Rebase` begins a new epoch
+  -- The effect of a command with this reply: an accepted insertion is added, and `Rebase` starts a
+  -- new epoch.
   abbrev pub change : IndexCommand K V M → IndexReply B → Change (K × B)
   change (Insert k v) (Item b) = Added (k, b)
   change (InsertFull k v) (Full i b) = Added (k, b)
@@ -33,10 +35,10 @@ module _ {K V T B M : Type 0} (eq : K → K → Bool) (target : V → T) (shown 
   change (Rebase m) r = Replaced (entries m)
   change c r = Kept
 
-  -- a run of these commands that begins with es held ends with fs held
+  -- A replay of these commands that starts with the content es ends with the content fs.
   abbrev pub IndexRunsTo : List (K × B) → List (IndexCommand K V M) → List (IndexReply B) → List (K × B) → Type 0
   IndexRunsTo = RunsTo (held eq (λ p. p.0)) ◌≡◌ Answers change
 
-  -- a command may take es to fs and get the reply r
+  -- A command may lead from es to fs with the reply r.
   abbrev pub Step : List (K × B) → IndexCommand K V M → IndexReply B → List (K × B) → Type 0
   Step = StepsTo (held eq (λ p. p.0)) ◌≡◌ Answers change

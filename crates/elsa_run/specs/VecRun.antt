@@ -1,5 +1,6 @@
--- Which replies the commands of `run_vec` may get, and which epoch follows each of them. What is held is a list of targets: the base of the
--- epoch, and behind it the items of its accepted pushes, in order.
+-- The possible replies to the commands of `run_vec`, and the effect of each of them. The content is
+-- a list of targets: those at the start of the epoch, and then the items of its accepted pushes, in
+-- order.
 use Rattle.std.specs.Prelude.{◌≡◌, ◌↔◌, ◌⊎◌, ◌-◌, ℕ, Bool, List, [], ◌++◌, length, map, slice_get, Option, IsTrue}
 use Rattle.std.specs.Option.{option_map}
 use Rattle.elsa_run.specs.Runs.{Change, Epoch, RunsTo, StepsTo, Kept, Added, Replaced}
@@ -8,16 +9,17 @@ use Rattle.elsa_run.specs.declared.run_vec.VecCommand.TheVariants.{Push, PushGet
 use Rattle.elsa_run.specs.declared.run_vec.VecReply.{VecReply}
 use Rattle.elsa_run.specs.declared.run_vec.VecReply.TheVariants.{Done, Item, Found, Count, Flag, NoMemory}
 
--- what is held: the base, and the items of the accepted pushes
+-- The content: that at the start, and the items of the accepted pushes.
 abbrev pub pushed_on : {X : Type 0} → Epoch X → List X
 pushed_on e = e.base ++ e.accepted
 
 module _ {T B X M : Type 0} (target : T → X) (shown : B → X) (inner : M → List B) where
-  -- a look answers a borrow that shows what stands at place i, and None exactly if there is no such place
+  -- A read at the index i returns a borrow that shows the item there, or None exactly if there is
+  -- no item.
   abbrev pub FindsAt : List X → ℕ → VecReply B → Type 0
   FindsAt xs i r = (o : Option B) × (r ≡ Found o) × (option_map shown o ≡ slice_get xs i)
 
-  -- the replies that a command may get where xs is held
+  -- The possible replies to a command if the content is xs.
   abbrev pub Answers : List X → VecCommand T M → VecReply B → Type 0
   Answers xs (Push item) r = (r ≡ Done) ⊎ (r ≡ NoMemory)
   Answers xs (PushGet item) r = ((b : B) × (r ≡ Item b) × (shown b ≡ target item)) ⊎ (r ≡ NoMemory)
@@ -28,17 +30,18 @@ module _ {T B X M : Type 0} (target : T → X) (shown : B → X) (inner : M → 
   Answers xs IsEmpty r = (flag : Bool) × (r ≡ Flag flag) × (IsTrue flag ↔ (xs ≡ []))
   Answers xs (Rebase m) r = r ≡ Done
 
-  -- what a command changes by its reply: an accepted push is noted, `Rebase` begins a new epoch
+  -- The effect of a command with this reply: an accepted push is added, and `Rebase` starts a new
+  -- epoch.
   abbrev pub change : VecCommand T M → VecReply B → Change X
   change (Push item) Done = Added (target item)
   change (PushGet item) (Item b) = Added (target item)
   change (Rebase m) r = Replaced (map shown (inner m))
   change c r = Kept
 
-  -- a run of these commands that begins with xs held ends with ys held
+  -- A replay of these commands that starts with the content xs ends with the content ys.
   abbrev pub VecRunsTo : List X → List (VecCommand T M) → List (VecReply B) → List X → Type 0
   VecRunsTo = RunsTo pushed_on ◌≡◌ Answers change
 
-  -- a command may take xs to ys and get the reply r
+  -- A command may lead from xs to ys with the reply r.
   abbrev pub Step : List X → VecCommand T M → VecReply B → List X → Type 0
   Step = StepsTo pushed_on ◌≡◌ Answers change

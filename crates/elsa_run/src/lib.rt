@@ -1,6 +1,8 @@
-//! Whole runs of calls on the collections of one thread, each with one theorem for every list of commands.
+//! Replays of commands on the single-threaded collections, each with one contract for every list of
+//! commands.
 //!
-//! Nothing of the product stands on it: users and tests call [`run`]. It uses the collections' contracts alone.
+//! The collections don't depend on this crate: callers and tests use [`run`]. It depends only on
+//! the collections' contracts.
 #![tactic(auto)]
 
 pub mod run;

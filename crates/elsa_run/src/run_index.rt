@@ -1,58 +1,59 @@
-//! Whole runs of calls on an index map.
+//! Replays of commands on an index map.
 //!
-//! Every list of commands gets the model's reply: what is held is the base with the first accepted value of each
-//! further key.
+//! For every list of commands, the replies are those of a model: the content is that at the start
+//! of the epoch, followed by each other key with the value of its first accepted insertion.
 ghost use Rattle.std.specs.Prelude.{◌≡◌, IfOk, OnErr, length};
 ghost use Rattle.elsa_run.specs.IndexRun.{IndexRunsTo};
 
 use elsa_maps::index_map::FrozenIndexMapIn;
+use elsa_specs::{Call, run};
 use elsa_vec::stable::StableDeref;
-use elsa_words::{Call, run};
 use indexmap::IndexMap;
 use std::alloc::{AllocError, Allocator};
 use std::hash::{BuildHasher, Hash};
 
-/// A call on an index map, where `M` is the inner map.
+/// A call on an index map, as a command. `M` is the type of the inner map.
 #[derive(Drop)]
 pub enum IndexCommand<K, V, M> {
-    /// `insert`, replied to by `Item` or `NoMemory`.
+    /// Calls `insert`. The reply is `Item` or `NoMemory`.
     Insert(K, V),
-    /// `insert_full`, replied to by `Full` or `NoMemory`.
+    /// Calls `insert_full`. The reply is `Full` or `NoMemory`.
     InsertFull(K, V),
-    /// `insert_new`, replied to by `New` or `NoMemory`.
+    /// Calls `insert_new`. The reply is `New` or `NoMemory`.
     InsertNew(K, V),
-    /// `insert_full_new`, replied to by `FullNew` or `NoMemory`.
+    /// Calls `insert_full_new`. The reply is `FullNew` or `NoMemory`.
     InsertFullNew(K, V),
-    /// `get`, replied to by `Found`.
+    /// Calls `get`. The reply is `Found`.
     Get(K),
-    /// `get_index_of`, replied to by `Place`.
+    /// Calls `get_index_of`. The reply is `Place`.
     IndexOf(K),
-    /// `is_empty`, replied to by `Flag`.
+    /// Calls `is_empty`. The reply is `Flag`.
     IsEmpty,
-    /// Another content in place of the present one, as `as_mut` may leave it, replied to by `Done`.
+    /// Replaces the content, as a write to the result of `as_mut` does. The reply is `Done`, and a
+    /// new epoch begins.
     Rebase(M),
 }
 
-/// The reply to a call on an index map.
+/// The reply to a command for an index map.
 #[derive(Clone, Copy, Debug, PartialEq, Eq)]
 pub enum IndexReply<B> {
     /// The value that the key now has.
     Item(B),
-    /// The key's place, and the value that it now has.
+    /// The key's index, and the value that it now has.
     Full(usize, B),
     /// The value that the key now has, and whether the key was new.
     New(B, bool),
-    /// The key's place, the value that it now has, and whether the key was new.
+    /// The key's index, the value that it now has, and whether the key was new.
     FullNew(usize, B, bool),
-    /// The value at the key, if it is present.
+    /// The value of the key, if the map has the key.
     Found(Option<B>),
-    /// The place of the key, if it is present.
+    /// The index of the key, if the map has the key.
     Place(Option<usize>),
-    /// Whether there are no pairs.
+    /// Whether the map has no entry.
     Flag(bool),
-    /// The new content is in place.
+    /// The content was replaced.
     Done,
-    /// An allocation for an absent key failed. The map is as it was.
+    /// An allocation failed. The key is absent, and the map is unchanged.
     NoMemory,
 }
 
@@ -90,12 +91,12 @@ where
                 Ok(IndexReply::Full(place, item))
             }
             IndexCommand::InsertNew(key, value) => {
-                let (item, new) = map.insert_new(key, value)?;
-                Ok(IndexReply::New(item, new))
+                let done = map.insert_new(key, value)?;
+                Ok(IndexReply::New(done.value, done.is_new))
             }
             IndexCommand::InsertFullNew(key, value) => {
-                let (place, item, new) = map.insert_full_new(key, value)?;
-                Ok(IndexReply::FullNew(place, item, new))
+                let done = map.insert_full_new(key, value)?;
+                Ok(IndexReply::FullNew(done.index, done.value, done.is_new))
             }
             IndexCommand::Get(key) => Ok(IndexReply::Found(map.get(&key))),
             IndexCommand::IndexOf(key) => Ok(IndexReply::Place(map.get_index_of(&key))),
@@ -108,10 +109,15 @@ where
     }
 }
 
-/// Makes the calls in order and returns one reply for each command, at the command's place.
+/// Makes the calls in order and returns one reply for each command, at the command's index.
 ///
-/// The room for all replies is made before the first call, by the allocator of the commands, so `AllocError` means that no call was made. A call that is
-/// refused gets the reply `NoMemory`, which comes only for an absent key, and the run goes on.
+/// If the allocation of a call fails, its reply is `NoMemory`, and the run continues.
+///
+/// # Errors
+/// Fails if the memory for the replies can't be allocated. No call is then made.
+///
+/// # Allocates
+/// The list of the replies, with the allocator of the commands, before the first call.
 pub fn run_index<
     R: Copy,
     K: Eq + Hash + Drop,
@@ -122,7 +128,7 @@ pub fn run_index<
     map: &mut FrozenIndexMapIn<R, K, V, S, A>,
     commands: Vec<IndexCommand<K, V, IndexMap<K, V::Borrow, S, A>>, A>,
 ) -> Result<Vec<IndexReply<V::Borrow>, A>, AllocError>
-    ensures run { IfOk result (λ replies.
+    ensures replayed { IfOk result (λ replies.
         IndexRunsTo K.eq V.target V.shown (λ m. m.entries) map.old commands.items replies.items
         map.new) }
     ensures one_each { IfOk result (λ replies. length replies.items ≡ length commands.items) }

@@ -1,48 +1,49 @@
-//! Whole runs of calls on a map, hashed or ordered.
+//! Replays of commands on a map, hashed or ordered.
 //!
-//! Every list of commands gets the model's reply: each key has the base's value, or else the first
-//! accepted one of the epoch.
+//! For every list of commands, the replies are those of a model: a key has its value at the start
+//! of the epoch, or else the value of its first accepted insertion in the epoch.
 ghost use Rattle.std.specs.Prelude.{◌≡◌, IfOk, OnErr, length};
 ghost use Rattle.elsa_run.specs.MapRun.{MapRunsTo};
 
 use elsa_maps::map::MapForm;
+use elsa_specs::{Call, for_its_clause, run};
 use elsa_vec::stable::StableDeref;
-use elsa_words::{Call, for_its_clause, run};
 use std::alloc::{AllocError, Allocator};
 
-/// A call on a map, where `M` is the inner map.
+/// A call on a map, as a command. `M` is the type of the inner map.
 #[derive(Drop)]
 pub enum MapCommand<K, V, M> {
-    /// `insert`, replied to by `Item` or `NoMemory`.
+    /// Calls `insert`. The reply is `Item` or `NoMemory`.
     Insert(K, V),
-    /// `insert_new`, replied to by `New` or `NoMemory`.
+    /// Calls `insert_new`. The reply is `New` or `NoMemory`.
     InsertNew(K, V),
-    /// `get`, replied to by `Found`.
+    /// Calls `get`. The reply is `Found`.
     Get(K),
-    /// `len`, replied to by `Count`.
+    /// Calls `len`. The reply is `Count`.
     Len,
-    /// `is_empty`, replied to by `Flag`.
+    /// Calls `is_empty`. The reply is `Flag`.
     IsEmpty,
-    /// Another content in place of the present one, as `as_mut` may leave it, replied to by `Done`: a new epoch.
+    /// Replaces the content, as a write to the result of `as_mut` does. The reply is `Done`, and a
+    /// new epoch begins.
     Rebase(M),
 }
 
-/// The reply to a call on a map.
+/// The reply to a command for a map.
 #[derive(Clone, Copy, Debug, PartialEq, Eq)]
 pub enum MapReply<B> {
     /// The value that the key now has.
     Item(B),
     /// The value that the key now has, and whether the key was new.
     New(B, bool),
-    /// The value at the key, if it is present.
+    /// The value of the key, if the map has the key.
     Found(Option<B>),
     /// The number of entries.
     Count(usize),
-    /// Whether there are no entries.
+    /// Whether the map has no entry.
     Flag(bool),
-    /// The new content is in place.
+    /// The content was replaced.
     Done,
-    /// An allocation for an absent key failed. The map is as it was.
+    /// An allocation failed. The key is absent, and the map is unchanged.
     NoMemory,
 }
 
@@ -70,8 +71,8 @@ impl<R, M: MapForm<R>> Call<M, MapReply<<M::Value as StableDeref<R>>::Borrow>, R
         match self {
             MapCommand::Insert(key, value) => Ok(MapReply::Item(map.insert(key, value)?)),
             MapCommand::InsertNew(key, value) => {
-                let (item, new) = map.insert_new(key, value)?;
-                Ok(MapReply::New(item, new))
+                let done = map.insert_new(key, value)?;
+                Ok(MapReply::New(done.value, done.is_new))
             }
             MapCommand::Get(key) => Ok(MapReply::Found(map.get(&key))),
             MapCommand::Len => Ok(MapReply::Count(map.len())),
@@ -84,21 +85,26 @@ impl<R, M: MapForm<R>> Call<M, MapReply<<M::Value as StableDeref<R>>::Borrow>, R
     }
 }
 
-/// Makes the calls in order and returns one reply for each: the reply at a place belongs to the command at that place.
+/// Makes the calls in order and returns one reply for each command, at the command's index.
 ///
-/// The room for all replies is made first, by the allocator of the commands, so `Err` means that no call was made. A call whose allocation fails gets the reply
-/// `NoMemory`, and the run goes on.
+/// If the allocation of a call fails, its reply is `NoMemory`, and the run continues.
+///
+/// # Errors
+/// Fails if the memory for the replies can't be allocated. No call is then made.
+///
+/// # Allocates
+/// The list of the replies, with the allocator of the commands, before the first call.
 pub fn run_map<R, M: MapForm<R>, A: Allocator + Copy>(
     map: &mut M,
     commands: Vec<MapCommand<M::Key, M::Value, M::Base>, A>,
 ) -> Result<Vec<MapReply<<M::Value as StableDeref<R>>::Borrow>, A>, AllocError>
-    ensures run { IfOk result (λ replies.
+    ensures replayed { IfOk result (λ replies.
         MapRunsTo M.same M.Value.target M.Value.shown M.base_entries (M.entries map.old)
         commands.items replies.items (M.entries map.new)) }
     ensures one_each { IfOk result (λ replies. length replies.items ≡ length commands.items) }
     ensures refused { OnErr result (M.entries map.new ≡ M.entries map.old) }
 {
-    // The keys' equality is an equivalence.
+    // The contract of `len` has the fact that the equality of the keys is an equivalence.
     for_its_clause(map.len());
     let alloc = *commands.allocator();
     run(alloc, map, commands, MapReply::NoMemory)

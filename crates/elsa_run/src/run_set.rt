@@ -1,57 +1,58 @@
-//! Whole runs of calls on an index set.
+//! Replays of commands on an index set.
 //!
-//! Every list of commands gets the model's reply: what is held is the base with each further value once, in the
-//! order of the first insertions.
+//! For every list of commands, the replies are those of a model: the content is that at the start
+//! of the epoch, followed by each other value once, in the order of the first insertions.
 ghost use Rattle.std.specs.Prelude.{◌≡◌, IfOk, OnErr, length};
 ghost use Rattle.elsa_run.specs.SetRun.{SetRunsTo};
 
 use elsa_index::index_set::FrozenIndexSetIn;
 use elsa_index::look_up::LookUp;
+use elsa_specs::{Call, run};
 use elsa_vec::stable::StableDeref;
-use elsa_words::{Call, run};
 use indexmap::IndexSet;
 use std::alloc::{AllocError, Allocator};
 use std::hash::{BuildHasher, Hash};
 
-/// A call on an index set of `B`, where `M` is the inner set.
+/// A call on an index set of `B`, as a command. `M` is the type of the inner set.
 #[derive(Drop)]
 pub enum SetCommand<T, B, M> {
-    /// `insert`, replied to by `Item` or `NoMemory`.
+    /// Calls `insert`. The reply is `Item` or `NoMemory`.
     Insert(T),
-    /// `insert_full`, replied to by `Full` or `NoMemory`.
+    /// Calls `insert_full`. The reply is `Full` or `NoMemory`.
     InsertFull(T),
-    /// `insert_new`, replied to by `New` or `NoMemory`.
+    /// Calls `insert_new`. The reply is `New` or `NoMemory`.
     InsertNew(T),
-    /// `insert_full_new`, replied to by `FullNew` or `NoMemory`.
+    /// Calls `insert_full_new`. The reply is `FullNew` or `NoMemory`.
     InsertFullNew(T),
-    /// `get`, replied to by `Found`.
+    /// Calls `get`. The reply is `Found`.
     Get(B),
-    /// `get_index_of`, replied to by `Place`.
+    /// Calls `get_index_of`. The reply is `Place`.
     IndexOf(B),
-    /// `get_index`, replied to by `Found`.
+    /// Calls `get_index`. The reply is `Found`.
     At(usize),
-    /// Another content in place of the present one, as `as_mut` may leave it, replied to by `Done`.
+    /// Replaces the content, as a write to the result of `as_mut` does. The reply is `Done`, and a
+    /// new epoch begins.
     Rebase(M),
 }
 
-/// The reply to a call on an index set.
+/// The reply to a command for an index set.
 #[derive(Clone, Copy, Debug, PartialEq, Eq)]
 pub enum SetReply<B> {
     /// The stored value.
     Item(B),
-    /// The value's place, and the stored value.
+    /// The value's index, and the stored value.
     Full(usize, B),
     /// The stored value, and whether it is new.
     New(B, bool),
-    /// The value's place, the stored value, and whether it is new.
+    /// The value's index, the stored value, and whether it is new.
     FullNew(usize, B, bool),
-    /// The stored value, if it is present.
+    /// The stored value, if the set has it.
     Found(Option<B>),
-    /// The place of the value, if it is present.
+    /// The index of the value, if the set has it.
     Place(Option<usize>),
-    /// The new content is in place.
+    /// The content was replaced.
     Done,
-    /// An allocation for an absent value failed. The set is as it was.
+    /// An allocation failed. The value is absent, and the set is unchanged.
     NoMemory,
 }
 
@@ -92,12 +93,12 @@ where
                 Ok(SetReply::Full(place, item))
             }
             SetCommand::InsertNew(value) => {
-                let (item, new) = set.insert_new(value)?;
-                Ok(SetReply::New(item, new))
+                let done = set.insert_full_new(value)?;
+                Ok(SetReply::New(done.value, done.is_new))
             }
             SetCommand::InsertFullNew(value) => {
-                let (place, item, new) = set.insert_full_new(value)?;
-                Ok(SetReply::FullNew(place, item, new))
+                let done = set.insert_full_new(value)?;
+                Ok(SetReply::FullNew(done.index, done.value, done.is_new))
             }
             SetCommand::Get(value) => Ok(SetReply::Found(set.get(&value))),
             SetCommand::IndexOf(value) => Ok(SetReply::Place(set.get_index_of(&value))),
@@ -110,10 +111,15 @@ where
     }
 }
 
-/// Makes the calls in order and returns one reply for each command, at the command's place.
+/// Makes the calls in order and returns one reply for each command, at the command's index.
 ///
-/// The room for all replies is made before the first call, by the allocator of the commands, so `AllocError` means that no call was made. A call that is
-/// refused gets the reply `NoMemory`, which comes only for an absent value, and the run goes on.
+/// If the allocation of a call fails, its reply is `NoMemory`, and the run continues.
+///
+/// # Errors
+/// Fails if the memory for the replies can't be allocated. No call is then made.
+///
+/// # Allocates
+/// The list of the replies, with the allocator of the commands, before the first call.
 pub fn run_set<
     R: Copy,
     T: StableDeref<R> + LookUp<<T as StableDeref<R>>::Borrow>,
@@ -125,7 +131,7 @@ pub fn run_set<
 ) -> Result<Vec<SetReply<T::Borrow>, A>, AllocError>
 where
     <T as StableDeref<R>>::Borrow: Eq + Hash + LookUp<<T as StableDeref<R>>::Borrow>,
-    ensures run { IfOk result (λ replies.
+    ensures replayed { IfOk result (λ replies.
         SetRunsTo T.Borrow.eq T.target T.shown T.finds T.Borrow.finds (λ m. m.keys) set.old
         commands.items replies.items set.new) }
     ensures one_each { IfOk result (λ replies. length replies.items ≡ length commands.items) }

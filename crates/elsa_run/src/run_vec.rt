@@ -1,53 +1,56 @@
-//! Whole runs of calls on a vector.
+//! Replays of commands on a vector.
 //!
-//! Every list of commands gets the model's reply: what is held is the base, and behind it the items of the accepted pushes.
+//! For every list of commands, the replies are those of a model: the content is that at the start
+//! of the epoch, followed by the items of the accepted pushes.
 ghost use Rattle.std.specs.Prelude.{◌≡◌, IfOk, OnErr, length, map};
 ghost use Rattle.elsa_run.specs.VecRun.{VecRunsTo};
 
+use elsa_specs::{Call, run};
 use elsa_vec::stable::StableDeref;
 use elsa_vec::vec::FrozenVecIn;
-use elsa_words::{Call, run};
 use std::alloc::{AllocError, Allocator};
 
-/// A call on a vector, where `M` is the inner vector.
+/// A call on a vector, as a command. `M` is the type of the inner vector.
 #[derive(Drop)]
 pub enum VecCommand<T, M> {
-    /// `push`, replied to by `Done` or `NoMemory`.
+    /// Calls `push`. The reply is `Done` or `NoMemory`.
     Push(T),
-    /// `push_get`, replied to by `Item` or `NoMemory`.
+    /// Calls `push_get`. The reply is `Item` or `NoMemory`.
     PushGet(T),
-    /// `get`, replied to by `Found`.
+    /// Calls `get`. The reply is `Found`.
     Get(usize),
-    /// `first`, replied to by `Found`.
+    /// Calls `first`. The reply is `Found`.
     First,
-    /// `last`, replied to by `Found`.
+    /// Calls `last`. The reply is `Found`.
     Last,
-    /// `len`, replied to by `Count`.
+    /// Calls `len`. The reply is `Count`.
     Len,
-    /// `is_empty`, replied to by `Flag`.
+    /// Calls `is_empty`. The reply is `Flag`.
     IsEmpty,
-    /// Another content in place of the present one, as `as_mut` may leave it, replied to by `Done`.
+    /// Replaces the content, as a write to the result of `as_mut` does. The reply is `Done`, and a
+    /// new epoch begins.
     Rebase(M),
 }
 
-/// The reply to a call on a vector.
+/// The reply to a command for a vector.
 #[derive(Clone, Copy, Debug, PartialEq, Eq)]
 pub enum VecReply<B> {
-    /// The item was put last, or the new content is in place.
+    /// The item was appended, or the content was replaced.
     Done,
-    /// The item was put last, and this is its borrow.
+    /// The item was appended, and this is its borrow.
     Item(B),
-    /// The item at the place, if it is present.
+    /// The item at the index, if there is one.
     Found(Option<B>),
-    /// How many items there are.
+    /// The number of items.
     Count(usize),
-    /// Whether there is no item.
+    /// Whether the vector has no item.
     Flag(bool),
-    /// An allocation for a push failed. The vector is as it was.
+    /// The allocation of a push failed. The vector is unchanged.
     NoMemory,
 }
 
-// What each call means: `Answers` says which reply it may get, `change` what it changes.
+// The meaning of each call: `Answers` defines its possible replies, and `change` defines its
+// effect.
 impl<R: Copy, T: StableDeref<R>, A: Allocator + Copy> Call<
     FrozenVecIn<R, T, A>,
     VecReply<T::Borrow>,
@@ -87,15 +90,20 @@ impl<R: Copy, T: StableDeref<R>, A: Allocator + Copy> Call<
     }
 }
 
-/// Makes the calls in order and returns one reply for each command, at the command's place.
+/// Makes the calls in order and returns one reply for each command, at the command's index.
 ///
-/// The room for all replies is made before the first call, by the allocator of the commands, so `AllocError` means that no call was made. A call whose allocation fails gets the
-/// reply `NoMemory`, which comes only for a push, and the run goes on.
+/// If the allocation of a push fails, its reply is `NoMemory`, and the run continues.
+///
+/// # Errors
+/// Fails if the memory for the replies can't be allocated. No call is then made.
+///
+/// # Allocates
+/// The list of the replies, with the allocator of the commands, before the first call.
 pub fn run_vec<R: Copy, T: StableDeref<R>, A: Allocator + Copy>(
     items: &mut FrozenVecIn<R, T, A>,
     commands: Vec<VecCommand<T, Vec<T::Borrow, A>>, A>,
 ) -> Result<Vec<VecReply<T::Borrow>, A>, AllocError>
-    ensures run { IfOk result (λ replies.
+    ensures replayed { IfOk result (λ replies.
         VecRunsTo T.target T.shown (λ m. m.items) (map T.shown items.old) commands.items
         replies.items (map T.shown items.new)) }
     ensures one_each { IfOk result (λ replies. length replies.items ≡ length commands.items) }

@@ -2,6 +2,6 @@
 use Rattle.std.specs.Prelude.{ℕ, List}
 use Rattle.serde.specs.Event.{Log, Logs, text}
 
--- the text of these bytes, and nothing else
+-- The text of these bytes, and nothing else.
 abbrev pub WritesText : List ℕ → Log → Log → Type 0
 WritesText bytes old new = Logs old new (text bytes)

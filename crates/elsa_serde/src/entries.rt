@@ -1,34 +1,41 @@
-//! Entries as serde reads them, for a map.
-ghost use Rattle.std.specs.Prelude.{◌≡◌, ◌≢◌, ◌≤◌, ◌-◌, ℕ, Err, None, IfErr, OnErr, OnOk, length};
+//! Entries that serde reads, for a map.
+ghost use Rattle.std.specs.Prelude.{◌≡◌, ◌≢◌, ◌≤◌, ◌-◌, ℕ, Err, None, IfErr, IfOk, OnErr, OnOk, length};
 ghost use Rattle.elsa_maps.specs.FirstWins.{value_at};
 ghost use Rattle.elsa_serde.specs.declared.fault.ReadFault.TheVariants.{Duplicate, TooMany};
 ghost use Rattle.elsa_serde.specs.Loaded.{AddsPair, PairsStop};
-ghost use Rattle.elsa_serde.specs.Read.{InTurn};
+ghost use Rattle.elsa_serde.specs.Read.{InTurn, ReadsEvents, map_events};
 
 use crate::ReadFault;
-use crate::items::ReadItem;
+use crate::read_item::{ReadItem, read_entries};
 use elsa_maps::map::MapForm;
 use elsa_vec::stable::StableDeref;
 use serde::{Deserialize, DeserializeOwned, Deserializer, Format};
 use std::alloc::Global;
 
-/// The entries of a map as serde reads them, in order, duplicates and all. [`Entries::insert_into`] puts them into a map.
+/// The entries of a map that serde reads, in order, including duplicates. [`Entries::insert_into`]
+/// inserts them into a map.
 #[derive(Debug, Drop, PartialEq)]
 pub struct Entries<K, V>(pub Vec<(K, V)>);
 
 impl<K: Drop, V: Drop> Entries<K, V> {
-    /// Inserts the entries, in order, each as a new one: into a `FrozenMap`, a `FrozenBTreeMap` or a `FrozenIndexMap`, where they keep their order.
+    /// Inserts the entries, in order, each with a new key: into a `FrozenMap`, a `FrozenBTreeMap`,
+    /// or a `FrozenIndexMap`, which keeps their order.
     ///
-    /// A key that the map has, from before or from an earlier place, is refused as [`ReadFault::Duplicate`] with its place here, counted from
-    /// 0; [`ReadFault::Memory`] says that an allocation failed. The map then keeps the entries before that one, and the rest are dropped.
-    /// Costs as the map's `insert_new`, for each entry.
+    /// # Errors
+    /// Fails with [`ReadFault::Duplicate`] if the map already has a key, from before the call or
+    /// from an earlier entry; the number is the index of the entry here. Fails with
+    /// [`ReadFault::Memory`] if an allocation fails. The map then keeps the entries before that
+    /// one, and the others are dropped.
+    ///
+    /// # Cost
+    /// For each entry, that of the map's `insert_new`.
     pub fn insert_into<R, M: MapForm<R, Key = K, Value = V>>(
         self,
         map: &mut M,
     ) -> Result<(), ReadFault>
     where
         V: StableDeref<R>,
-        ensures all { OnOk result (InTurn (AddsPair M.same V.target V.shown M.extends)
+        ensures inserted { OnOk result (InTurn (AddsPair M.same V.target V.shown M.extends)
             (M.entries map.old) self.0.items (M.entries map.new)) }
         ensures refused { IfErr result (λ fault. PairsStop M.same V.target V.shown M.extends
             (M.entries map.old) self.0.items fault (M.entries map.new)) }
@@ -41,7 +48,8 @@ impl<K: Drop, V: Drop> Entries<K, V> {
     }
 }
 
-// Inserts an entry whose key is to be absent; `before` is how many entries there were before the first.
+// Inserts an entry whose key must be new. `before` is the number of entries before the first
+// insertion.
 fn insert_next<R, M: MapForm<R>>(
     before: usize,
     key: M::Key,
@@ -49,7 +57,7 @@ fn insert_next<R, M: MapForm<R>>(
     map: &mut M,
 ) -> Result<(), ReadFault>
     requires { before ≤ length (M.entries map.old) }
-    ensures new { OnOk result (AddsPair M.same M.Value.target M.Value.shown M.extends
+    ensures added { OnOk result (AddsPair M.same M.Value.target M.Value.shown M.extends
         (M.entries map.old) (key, value) (M.entries map.new)) }
     ensures refused { OnErr result (M.entries map.new ≡ M.entries map.old) }
     ensures duplicate { (place : ℕ) → result ≡ Err (Duplicate place) →
@@ -58,40 +66,34 @@ fn insert_next<R, M: MapForm<R>>(
     ensures fits { result ≢ Err TooMany }
 {
     let place = map.len() - before;
-    let (_, is_new) = map.insert_new(key, value)?;
-    if is_new {
+    let done = map.insert_new(key, value)?;
+    if done.is_new {
         Ok(())
     } else {
         Err(ReadFault::Duplicate(place))
     }
 }
 
-impl<K: DeserializeOwned, V: ReadItem> DeserializeOwned for Entries<K, V> {
+impl<K: ReadItem, V: ReadItem> DeserializeOwned for Entries<K, V> {
     fn deserialize_owned<F: Format>(
         alloc: Global,
         from: &mut Deserializer<'_, '_, F>,
-    ) -> Result<Entries<K, V>, F::Error> {
-        from.begin_map()?;
-        let mut entries = Vec::new(alloc);
-        for _ in 0..u64::MAX {
-            if !from.next_entry()? {
-                return Ok(Entries(entries));
-            }
-            let key = K::deserialize_owned(alloc, from)?;
-            let value = V::read_item(alloc, from)?;
-            if entries.push((key, value)).is_err() {
-                return Err(from.no_memory());
-            }
-        }
-        Err(from.wrong_len())
+    ) -> Result<Entries<K, V>, F::Error>
+        ensures whole { IfOk result (λ read. K.known → V.known → ReadsEvents F.gives F.stays
+            from.old (map_events K.events V.events read.0.items) from.new) }
+    {
+        Ok(Entries(read_entries(alloc, from)?))
     }
 }
 
-impl<'de, K: DeserializeOwned, V: ReadItem> Deserialize<'de> for Entries<K, V> {
+impl<'de, K: ReadItem, V: ReadItem> Deserialize<'de> for Entries<K, V> {
     fn deserialize<F: Format>(
         alloc: Global,
         from: &mut Deserializer<'de, '_, F>,
-    ) -> Result<Entries<K, V>, F::Error> {
+    ) -> Result<Entries<K, V>, F::Error>
+        ensures whole { IfOk result (λ read. K.known → V.known → ReadsEvents F.gives F.stays
+            from.old (map_events K.events V.events read.0.items) from.new) }
+    {
         DeserializeOwned::deserialize_owned(alloc, from)
     }
 }

@@ -1,14 +1,16 @@
-//! Why what was read doesn't go into a collection.
+//! The reasons for which values that were read can't be inserted into a collection.
 use std::alloc::AllocError;
 use std::error::Error;
 use std::fmt;
 
-/// Why what was read didn't go into a collection, which keeps what went in before.
+/// The reason for which a value that was read could not be inserted into a collection. The
+/// collection keeps the values before it.
 #[derive(Clone, Copy, Debug, Drop, PartialEq, Eq)]
 pub enum ReadFault {
-    /// What was read at this place, counted from 0, has a name, a value or a key that the collection already had.
+    /// The collection already had the name, value or key that was read at this index, counted from
+    /// 0.
     Duplicate(usize),
-    /// There are as many names as an interner has numbers for.
+    /// The interner has 2^32 - 1 names, a name for each number.
     TooMany,
     /// An allocation failed.
     Memory,

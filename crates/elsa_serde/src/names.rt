@@ -1,34 +1,43 @@
-//! Names as serde reads them, for an interner.
+//! Names that serde reads, for an interner.
 ghost use Rattle.std.specs.Prelude.{◌≡◌, ◌≢◌, ◌≤◌, ◌-◌, ◌++◌, ℕ, Err, None, IfErr, IfOk, OnErr, OnOk, length, map, position, string_bytes};
 ghost use Rattle.std.specs.Str.{bytes_eq};
 ghost use Rattle.elsa_interner.specs.Names.{IsFull};
 ghost use Rattle.elsa_serde.specs.declared.fault.ReadFault.TheVariants.{Duplicate, TooMany};
-ghost use Rattle.elsa_serde.specs.Read.{ReadsTexts};
+ghost use Rattle.elsa_serde.specs.Read.{ReadsEvents, seq_events, text_events};
 ghost use Rattle.elsa_serde.specs.Loaded.{AddsName, NamesStop};
 
 use crate::ReadFault;
+use crate::read_item::ReadItem;
 use elsa_interner::interner::Interner;
 use serde::{Deserialize, DeserializeOwned, Deserializer, Format};
 use std::alloc::{Allocator, Global};
 use std::hash::BuildHasher;
 
-/// Names as serde reads them: a sequence of texts, each at its number.
+/// A sequence of names that serde reads, in the order of their numbers. [`Names::put_into`] puts
+/// them into an interner.
 ///
-/// In contracts the field is the list of the texts; [`Names::put_into`] puts them into an interner.
+/// Contracts see the field as the list of the texts.
 #[derive(Debug, Drop, PartialEq)]
 pub struct Names(pub Vec<String>);
 
 impl Names {
-    /// Puts each name into the interner, in order: a name at place `i` here gets the number `i`, counted on from the names that were there.
+    /// Puts each name into the interner, in order. If the interner had `n` names, the name at the
+    /// index `i` here gets the number `n + i`.
     ///
-    /// A name that the interner has, from before or from an earlier place, is refused as [`ReadFault::Duplicate`] with its place here, and a
-    /// name past the last number as [`ReadFault::TooMany`]; [`ReadFault::Memory`] says that an allocation failed. The interner then keeps the
-    /// names before that one. One hash and one search a name.
+    /// # Errors
+    /// Fails with [`ReadFault::Duplicate`] if the interner already has a name, from before the call
+    /// or from an earlier index; the number is the index of the name here. Fails with
+    /// [`ReadFault::TooMany`] if the interner has 2^32 - 1 names, and with [`ReadFault::Memory`] if
+    /// an allocation fails. The interner then keeps the names before that one.
+    ///
+    /// # Cost
+    /// One hash and one search for each name.
     pub fn put_into<S: BuildHasher, A: Allocator + Copy, P: Allocator>(
         &self,
         names: &mut Interner<'_, S, A, P>,
     ) -> Result<(), ReadFault>
-        ensures all { OnOk result (names.new ≡ names.old ++ map string_bytes self.now.0.items) }
+        ensures inserted { OnOk result
+            (names.new ≡ names.old ++ map string_bytes self.now.0.items) }
         ensures refused { IfErr result (λ fault.
             NamesStop names.old (map string_bytes self.now.0.items) fault names.new) }
     {
@@ -40,14 +49,14 @@ impl Names {
     }
 }
 
-// Puts a name that is to be new; `before` is how many names there were before the first.
+// Puts a name that must be new. `before` is the number of names before the first one.
 fn put_next<S: BuildHasher, A: Allocator + Copy, P: Allocator>(
     before: usize,
     text: &str,
     names: &mut Interner<'_, S, A, P>,
 ) -> Result<(), ReadFault>
     requires { before ≤ length names.old }
-    ensures new { OnOk result (AddsName names.old text.now names.new) }
+    ensures added { OnOk result (AddsName names.old text.now names.new) }
     ensures refused { OnErr result (names.new ≡ names.old) }
     ensures duplicate { (place : ℕ) → result ≡ Err (Duplicate place) →
         (place ≡ length names.old - before)
@@ -74,21 +83,10 @@ impl DeserializeOwned for Names {
         alloc: Global,
         from: &mut Deserializer<'_, '_, F>,
     ) -> Result<Names, F::Error>
-        ensures { IfOk result (λ names.
-            ReadsTexts F.gives F.stays from.old (map string_bytes names.0.items) from.new) }
+        ensures whole { IfOk result (λ names. ReadsEvents F.gives F.stays from.old
+            (seq_events text_events (map string_bytes names.0.items)) from.new) }
     {
-        from.begin_seq()?;
-        let mut texts = Vec::new(alloc);
-        for _ in 0..u64::MAX {
-            if !from.next_item()? {
-                return Ok(Names(texts));
-            }
-            let text = from.string(alloc)?;
-            if texts.push(text).is_err() {
-                return Err(from.no_memory());
-            }
-        }
-        Err(from.wrong_len())
+        Ok(Names(ReadItem::read_item(alloc, from)?))
     }
 }
 
@@ -97,8 +95,8 @@ impl<'de> Deserialize<'de> for Names {
         alloc: Global,
         from: &mut Deserializer<'de, '_, F>,
     ) -> Result<Names, F::Error>
-        ensures { IfOk result (λ names.
-            ReadsTexts F.gives F.stays from.old (map string_bytes names.0.items) from.new) }
+        ensures whole { IfOk result (λ names. ReadsEvents F.gives F.stays from.old
+            (seq_events text_events (map string_bytes names.0.items)) from.new) }
     {
         DeserializeOwned::deserialize_owned(alloc, from)
     }

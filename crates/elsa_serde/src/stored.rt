@@ -1,11 +1,13 @@
-//! What is written of each collection: a file for each form.
+//! How each collection is written: a file for each collection.
 //!
-//! Each form writes `described` itself: the check makes no proof of an impl here that leaves it to the trait's own body.
+//! Each impl here has its own `described`: the checker makes no proof for an impl that uses the
+//! trait's default.
 ghost use Rattle.std.specs.Prelude.{OnOk};
 ghost use Rattle.serde.specs.Event.{WritesEntry};
 
 use serde::{Serialize, Serializer};
 
+mod append_map;
 mod hashed;
 mod index_map;
 mod index_set;
@@ -13,14 +15,18 @@ mod names;
 mod ordered;
 mod vec;
 
-/// A collection as serde writes it, for any `Serializer`: `Stored(&names)`.
+/// A collection that serde writes, to any `Serializer`: `Stored(&names)`.
 ///
-/// A vector, an index set and an interner are written as a sequence, in order: a name's place in it is its number. A map is written as a map,
-/// in the order of its `iter`. `Err` is the serializer's. Takes no memory of its own; `O(n)`.
+/// A vector, an index set and an interner are written as a sequence, in order: the index of a name
+/// is its number. A map is written as a map, in the order of its `iter`. Writing fails with the
+/// serializer's error. It allocates nothing except what the serializer allocates.
+///
+/// # Cost
+/// `O(n)`.
 #[derive(Clone, Copy)]
 pub struct Stored<'c, C>(pub &'c C);
 
-// A key between its two marks, and then its value.
+// Writes a key between its two marks, and then its value.
 fn write_entry<K: Serialize, B: Serialize, S: Serializer>(
     key: &K,
     value: &B,

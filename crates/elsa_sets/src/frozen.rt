@@ -6,7 +6,7 @@ use std::alloc::AllocError;
 use std::fmt::{self, Debug, Formatter, Write};
 use std::marker::Model;
 
-/// A set that only grows, over any set `T` of std's, and the arena to which an `R` refers.
+/// A set that only grows, over a set `T` of std, and the arena to which an `R` refers.
 ///
 /// [`FrozenSet`](crate::FrozenSet) and [`FrozenBTreeSet`](crate::FrozenBTreeSet) are its names.
 pub struct FrozenKeys<R: Copy, T> {
@@ -30,14 +30,15 @@ impl<R: Copy, T: Drop> Drop for FrozenKeys<R, T> {
 }
 
 impl<R: Copy, T> FrozenKeys<R, T> {
-    /// A set with the content of `set`. Takes no memory.
+    /// Makes a set with the values of `set`. Texts inserted later are stored in `arena`. It
+    /// allocates nothing.
     pub fn over(arena: R, set: T) -> Self
         ensures { result ≡ set }
     {
         FrozenKeys { arena, set }
     }
 
-    /// The inner set. Takes no memory.
+    /// Returns the inner set. It allocates nothing.
     pub fn into_set(self) -> T
         ensures { result ≡ self }
     {
@@ -49,7 +50,11 @@ impl<R: Copy, T> FrozenKeys<R, T> {
     }
 }
 
-/// A set with the same values over the same arena. Later insertions into either leave the other as it is.
+/// Makes a set with the same values, over the same arena. Later insertions into one of the two
+/// don't change the other.
+///
+/// # Errors
+/// Fails if the inner set's `clone` fails.
 impl<R: Copy, T: Clone> Clone for FrozenKeys<R, T> {
     ghost is_clone = { T.is_clone };
 
@@ -58,14 +63,14 @@ impl<R: Copy, T: Clone> Clone for FrozenKeys<R, T> {
     }
 }
 
-/// `{:?}` writes the values, as of the inner set: `{"x", "y"}`.
+/// Writes the values by `{:?}`, as the inner set does: `{"x", "y"}`.
 impl<R: Copy, T: Debug> Debug for FrozenKeys<R, T> {
     fn fmt<W: Write>(&self, f: &mut Formatter<W>) -> fmt::Result {
         self.set.fmt(f)
     }
 }
 
-/// Two sets are equal where the inner ones are.
+/// Two sets are equal if their inner sets are equal.
 impl<R: Copy, T: PartialEq> PartialEq for FrozenKeys<R, T> {
     ghost eq = { T.eq };
 
@@ -80,7 +85,7 @@ impl<R: Copy, T: Eq> Eq for FrozenKeys<R, T> {
     ghost laws = { T.Eq.laws };
 }
 
-/// `for value in &set` gives each value once, in the inner set's order.
+/// `for value in &set` iterates over the values, each once, in the inner set's order.
 impl<'m, R: Copy, T> IntoIterator for &'m FrozenKeys<R, T>
 where
     &'m T: IntoIterator,

@@ -1,11 +1,12 @@
 //! The set that finds a value by its hash.
-ghost use Rattle.std.specs.Prelude.{◌≡◌, ◌+◌, ◌<◌, ◌≤◌, ◌↔◌, List, ℕ, Ok, Some, false, true, not, is_some, IfErr, IfOk, IfSome, IsOk, IsTrue, OnErr, OnOk};
+ghost use Rattle.std.specs.Prelude.{◌≡◌, ◌+◌, ◌<◌, ◌≤◌, ◌↔◌, List, ℕ, Ok, Some, false, true, find, not, is_some, IfErr, IfOk, IfSome, IsOk, IsTrue, OnErr, OnOk};
 ghost use Rattle.std.specs.Borrow.{Bor};
 ghost use Rattle.std.specs.HashSet.{IsEmpty, IsFromIterResult, IsReordered, IsUnchanged, IsUnique, PutsKey, Updates, contains, get, hash_set_len, spare};
 ghost use Rattle.std.specs.Iterator.{Drains, IsFinite};
+ghost use Rattle.std.specs.List.{list_any};
 ghost use Rattle.std.specs.Map.Iter.{ShowsInOrder, deref};
 
-use crate::FrozenKeys;
+use crate::{FrozenKeys, SeeksStored};
 use bumpalo::Bump;
 use elsa_vec::stable::KeepsText;
 use std::alloc::{AllocError, AllocFailed, Allocator, Global};
@@ -13,17 +14,17 @@ use std::collections::HashSet;
 use std::collections::hash_set::Iter;
 use std::hash::{BuildHasher, BuildHasherDefault, FoldHasher, Hash};
 
-/// A set that only grows and finds a value by its hash: over the arena to which an `R` refers. `A` is the allocator
-/// of the table.
+/// A set that only grows and finds a value by its hash, over the arena to which an `R` refers. `A`
+/// is the allocator of its table.
 ///
-/// The default hasher is fast and has a fixed seed; where strangers choose the values, take a `SeededState` of `elsa`
-/// by [`with_hasher`](FrozenSetIn::with_hasher).
+/// The default hasher is fast and has a fixed seed. If the values are untrusted input, use
+/// [`with_hasher`](FrozenSetIn::with_hasher) with a `SeededState` of `elsa`.
 pub type FrozenSetIn<R, K, S = BuildHasherDefault<FoldHasher>, A = Global> = FrozenKeys<
     R,
     HashSet<K, S, A>,
 >;
 
-/// The hashed set whose texts are copied into a `Bump` of lifetime `'a`; `P` is the allocator of the arena.
+/// A hashed set whose texts are copied into a `Bump` of lifetime `'a` and of the allocator `P`.
 pub type FrozenSet<'a, K, S = BuildHasherDefault<FoldHasher>, A = Global, P = Global> = FrozenSetIn<
     &'a Bump<P>,
     K,
@@ -37,14 +38,18 @@ impl<R: Copy, K: Eq + Hash, A: Allocator + Copy> FrozenSetIn<
     BuildHasherDefault<FoldHasher>,
     A,
 > {
-    /// An empty set with the default hasher, over `arena` for its texts and `alloc` for its table. Takes no memory.
+    /// Makes an empty set with the default hasher. `alloc` allocates its table, and texts are
+    /// stored in `arena`. It allocates nothing.
     pub fn new(alloc: A, arena: R) -> Self
         ensures { IsEmpty result }
     {
         FrozenSetIn::with_hasher(alloc, arena, BuildHasherDefault::new())
     }
 
-    /// An empty set with the default hasher and room for so many values. `Err` on an allocation failure.
+    /// Makes an empty set with the default hasher and with capacity for at least `count` values.
+    ///
+    /// # Errors
+    /// Fails if an allocation fails.
     pub fn with_capacity(alloc: A, arena: R, count: usize) -> Result<Self, AllocError>
         ensures { IfOk result (λ s. IsEmpty s × (count ≤ spare s)) }
     {
@@ -53,15 +58,17 @@ impl<R: Copy, K: Eq + Hash, A: Allocator + Copy> FrozenSetIn<
 }
 
 impl<R: Copy, K: Eq + Hash, S: BuildHasher, A: Allocator + Copy> FrozenSetIn<R, K, S, A> {
-    /// An empty set that hashes its values by `hash_builder`. Takes no memory.
+    /// Makes an empty set that hashes its values by `hash_builder`. It allocates nothing.
     pub fn with_hasher(alloc: A, arena: R, hash_builder: S) -> Self
         ensures { IsEmpty result }
     {
         FrozenKeys::over(arena, HashSet::with_hasher(alloc, hash_builder))
     }
 
-    /// A set of the values, of which equal ones are kept once. `Err` on an allocation failure: it drops what was
-    /// collected.
+    /// Makes a set of the iterator's values, each stored once.
+    ///
+    /// # Errors
+    /// Fails if an allocation fails. The values are then dropped.
     pub fn from_iter<I: IntoIterator<Item = K>>(
         alloc: A,
         arena: R,
@@ -82,7 +89,7 @@ impl<R: Copy, K: Eq + Hash, S: BuildHasher, A: Allocator + Copy> FrozenSetIn<R, 
         Ok(FrozenKeys::over(arena, set))
     }
 
-    /// The number of values.
+    /// Returns the number of values.
     pub fn len(&self) -> usize
         ensures count { result ≡ hash_set_len self.now }
         ensures unique { IsUnique K.eq self.now }
@@ -90,24 +97,32 @@ impl<R: Copy, K: Eq + Hash, S: BuildHasher, A: Allocator + Copy> FrozenSetIn<R, 
         self.set.len()
     }
 
-    /// Whether there are no values.
+    /// Returns whether the set has no value.
     pub fn is_empty(&self) -> bool
         ensures { IsTrue result ↔ (hash_set_len self.now ≡ 0) }
     {
         self.set.is_empty()
     }
 
-    /// How many values the set can have before its table asks for memory. `O(1)`.
+    /// Returns the number of values that the set can have before its table allocates.
+    ///
+    /// # Cost
+    /// `O(1)`.
     pub fn capacity(&self) -> usize
         ensures { result ≡ hash_set_len self.now + spare self.now }
     {
         self.set.capacity()
     }
 
-    /// Makes room for so many more values: as many insertions ask the table's allocator for nothing.
+    /// Reserves capacity for at least `additional` more values. Inserting that many does not
+    /// allocate in the table. The values are unchanged; their order may change.
     ///
-    /// The content stays, in an order that may change. `Err` on an allocation failure: the set is as it was. `O(n)`,
-    /// with one hash a value.
+    /// # Errors
+    /// Fails if an allocation fails. The set is then unchanged. It never fails if the set has that
+    /// capacity.
+    ///
+    /// # Cost
+    /// `O(n)`, with one hash for each value.
     pub fn reserve(&mut self, additional: usize) -> Result<(), AllocError>
         ensures values { IsReordered K.eq self.old self.new }
         ensures room { OnOk result (additional ≤ spare self.new) }
@@ -117,24 +132,37 @@ impl<R: Copy, K: Eq + Hash, S: BuildHasher, A: Allocator + Copy> FrozenSetIn<R, 
         self.set.reserve(additional)
     }
 
-    /// Whether a value of the set equals `value`. Takes no memory; one hash and one search.
-    pub fn contains(&self, value: &K) -> bool
-        ensures { result ≡ contains K.eq self.now value.now }
+    /// Returns whether the set has a value that `query` finds.
+    ///
+    /// A reference to a value is a query. So is a `&str` if the values are texts, and a slice if
+    /// the values are slices: [`SeeksStored`] lists them.
+    ///
+    /// # Cost
+    /// One hash and one search.
+    pub fn contains<Q: SeeksStored<K, HashSet<K, S, A>>>(&self, query: Q) -> bool
+        ensures { result ≡ list_any (Q.finds query) self.now.keys }
     {
-        self.set.contains(value)
+        query.seek(&self.set).is_some()
     }
 
-    /// The stored value that equals `value`, `None` exactly if there is none. Costs as
-    /// [`contains`](FrozenSetIn::contains).
-    pub fn get(&self, value: &K) -> Option<K>
+    /// Returns the stored value that `query` finds, or `None` if the set has no such value.
+    ///
+    /// # Cost
+    /// That of [`contains`](FrozenSetIn::contains).
+    pub fn get<Q: SeeksStored<K, HashSet<K, S, A>>>(&self, query: Q) -> Option<K>
     where
         K: Copy,
-        ensures { result ≡ get K.eq self.now value.now }
+        ensures found { result ≡ find (Q.finds query) self.now.keys }
+        ensures present { is_some result ≡ list_any (Q.finds query) self.now.keys }
     {
-        self.set.get(value).copied()
+        query.seek(&self.set).copied()
     }
 
-    /// Each value once, in no specified order. Takes no memory; `O(1)`, and so is each value.
+    /// Returns an iterator over the values, each once, in an unspecified order. It allocates
+    /// nothing.
+    ///
+    /// # Cost
+    /// `O(1)`, and `O(1)` for each value.
     pub fn iter(&self) -> Iter<'_, K>
         ensures rest { result ≡ self.now.keys }
         ensures runs { ShowsInOrder (deref {X = K}) }
@@ -142,14 +170,20 @@ impl<R: Copy, K: Eq + Hash, S: BuildHasher, A: Allocator + Copy> FrozenSetIn<R, 
         self.set.iter()
     }
 
-    /// Adds the value, unless the set has one that equals it, and says whether it was new. One hash and one search.
+    /// Inserts the value unless the set has an equal one, and returns whether it was new.
     ///
-    /// A present value stays: the given one is dropped and no memory is taken. `Err` on an allocation failure, only
-    /// for an absent value: it comes back, and the set is as it was.
+    /// If the set has an equal value, the given one is dropped, and the call allocates nothing.
+    ///
+    /// # Errors
+    /// Fails if the value is new and an allocation fails. The error contains the value, and the set
+    /// is unchanged.
+    ///
+    /// # Cost
+    /// One hash and one search.
     pub fn insert(&mut self, value: K) -> Result<bool, AllocFailed<K>>
     where
         K: Drop,
-        ensures new { IfOk result (λ new. new ≡ not (contains K.eq self.old value)) }
+        ensures is_new { IfOk result (λ new. new ≡ not (contains K.eq self.old value)) }
         ensures values { IfOk result (PutsKey self.old self.new value) }
         ensures others { OnOk result (Updates K.eq self.old self.new value true) }
         ensures refused { IfErr result (λ back. (back.value ≡ value)
@@ -161,29 +195,18 @@ impl<R: Copy, K: Eq + Hash, S: BuildHasher, A: Allocator + Copy> FrozenSetIn<R, 
 }
 
 impl<'a, R: KeepsText<'a>, S: BuildHasher, A: Allocator + Copy> FrozenSetIn<R, &'a str, S, A> {
-    /// Whether a text of the set reads as `text` does. Takes no memory; one hash and one search.
-    pub fn contains_text(&self, text: &str) -> bool
-        ensures { result ≡ contains ⟦<&'a str as PartialEq>⟧.eq self.now text.entry }
-    {
-        self.set.contains(text)
-    }
-
-    /// The stored text that reads as `text` does, `None` exactly if there is none. Costs as
-    /// [`contains_text`](FrozenSetIn::contains_text).
-    pub fn get_text(&self, text: &str) -> Option<&'a str>
-        ensures found { result ≡ get ⟦<&'a str as PartialEq>⟧.eq self.now text.entry }
-        ensures reads { IfSome result (λ kept. kept.now ≡ text.now) }
-        ensures there { is_some result ≡ contains ⟦<&'a str as PartialEq>⟧.eq self.now text.entry }
-    {
-        let kept = self.set.get(text)?;
-        Some(*kept)
-    }
-
-    /// Adds a copy of the text, unless one that reads the same is there, and returns the stored text.
+    /// Inserts a copy of the text unless the set has an equal text, and returns the stored text.
     ///
-    /// A present text takes no memory, by one hash and one search; a new one is copied into the arena, and takes one
-    /// more hash. `Err` on an allocation failure, only for an absent text: the set is as it was, and the arena may
-    /// keep a text that nobody sees.
+    /// If the set has the text, the call allocates nothing. Otherwise it copies the text into the
+    /// arena.
+    ///
+    /// # Errors
+    /// Fails if the text is new and an allocation fails. The set is then unchanged; the arena may
+    /// keep a copy to which nothing refers.
+    ///
+    /// # Cost
+    /// One hash and one search if the set has the text; otherwise two hashes, plus one copy into
+    /// the arena.
     pub fn insert_text(&mut self, text: &str) -> Result<&'a str, AllocError>
         ensures present { (x : Bor (List ℕ)) →
             get ⟦<&'a str as PartialEq>⟧.eq self.old text.entry ≡ Some x →
@@ -194,7 +217,7 @@ impl<'a, R: KeepsText<'a>, S: BuildHasher, A: Allocator + Copy> FrozenSetIn<R, &
         ensures refused { OnErr result (IsUnchanged self.old self.new
             × (contains ⟦<&'a str as PartialEq>⟧.eq self.old text.entry ≡ false)) }
     {
-        if let Some(found) = self.get_text(text) {
+        if let Some(found) = self.get(text) {
             return Ok(found);
         }
         let kept = self.arena.keep_text(text)?;

@@ -1,12 +1,13 @@
 //! The set that keeps its values in order.
-ghost use Rattle.std.specs.Prelude.{◌≡◌, ◌-◌, ◌↔◌, List, ℕ, Ok, Some, false, true, not, is_some, slice_get, IfErr, IfOk, IfSome, IsTrue, OnErr, OnOk};
+ghost use Rattle.std.specs.Prelude.{◌≡◌, ◌-◌, ◌↔◌, List, ℕ, Ok, Some, false, true, find, not, is_some, slice_get, IfErr, IfOk, IfSome, IsTrue, OnErr, OnOk};
 ghost use Rattle.std.specs.Borrow.{Bor};
 ghost use Rattle.std.specs.BTreeMap.Range.{IsLeBy, IsLtBy};
 ghost use Rattle.std.specs.BTreeSet.{IsEmpty, IsFromIterResult, IsOrdered, IsUnchanged, Updates, btree_set_len, contains, get, insert_key, keys_between};
 ghost use Rattle.std.specs.Iterator.{Drains, IsFinite};
+ghost use Rattle.std.specs.List.{list_any};
 ghost use Rattle.std.specs.Map.Iter.{ShowsInOrder, ShowsInReverse, deref};
 
-use crate::FrozenKeys;
+use crate::{FrozenKeys, SeeksStored};
 use bumpalo::Bump;
 use elsa_vec::stable::KeepsText;
 use std::alloc::{AllocError, AllocFailed, Allocator, Global};
@@ -14,25 +15,28 @@ use std::collections::BTreeSet;
 use std::collections::btree_set::{Iter, Range};
 use std::ops::RangeBounds;
 
-/// A set that only grows and keeps its values in order: over the arena to which an `R` refers. `A` is the allocator
-/// of the tree.
+/// A set that only grows and keeps its values in order, over the arena to which an `R` refers. `A`
+/// is the allocator of its tree.
 ///
-/// Values need `Ord`, and two are one where they compare `Equal`.
+/// Values need `Ord`. Two values are equal if they compare as `Equal`.
 pub type FrozenBTreeSetIn<R, K, A = Global> = FrozenKeys<R, BTreeSet<K, A>>;
 
-/// The ordered set whose texts are copied into a `Bump` of lifetime `'a`; `P` is the allocator of the arena.
+/// An ordered set whose texts are copied into a `Bump` of lifetime `'a` and of the allocator `P`.
 pub type FrozenBTreeSet<'a, K, A = Global, P = Global> = FrozenBTreeSetIn<&'a Bump<P>, K, A>;
 
 impl<R: Copy, K: Ord, A: Allocator + Copy> FrozenBTreeSetIn<R, K, A> {
-    /// An empty set, over `arena` for its texts and `alloc` for its tree. Takes no memory.
+    /// Makes an empty set. `alloc` allocates its tree, and texts are stored in `arena`. It
+    /// allocates nothing.
     pub fn new(alloc: A, arena: R) -> Self
         ensures { IsEmpty result }
     {
         FrozenKeys::over(arena, BTreeSet::new(alloc))
     }
 
-    /// A set of the values, of which equal ones are kept once. `Err` on an allocation failure: it drops what was
-    /// collected.
+    /// Makes a set of the iterator's values, each stored once.
+    ///
+    /// # Errors
+    /// Fails if an allocation fails. The values are then dropped.
     pub fn from_iter<I: IntoIterator<Item = K>>(
         alloc: A,
         arena: R,
@@ -49,7 +53,7 @@ impl<R: Copy, K: Ord, A: Allocator + Copy> FrozenBTreeSetIn<R, K, A> {
         Ok(FrozenKeys::over(arena, BTreeSet::from_iter(alloc, values)?))
     }
 
-    /// The number of values.
+    /// Returns the number of values.
     pub fn len(&self) -> usize
         ensures count { result ≡ btree_set_len self.now }
         ensures in_order { IsOrdered K.cmp self.now }
@@ -57,30 +61,43 @@ impl<R: Copy, K: Ord, A: Allocator + Copy> FrozenBTreeSetIn<R, K, A> {
         self.set.len()
     }
 
-    /// Whether there are no values.
+    /// Returns whether the set has no value.
     pub fn is_empty(&self) -> bool
         ensures { IsTrue result ↔ (btree_set_len self.now ≡ 0) }
     {
         self.set.is_empty()
     }
 
-    /// Whether a value of the set equals `value`. Takes no memory; `O(log n)`.
-    pub fn contains(&self, value: &K) -> bool
-        ensures { result ≡ contains K.cmp self.now value.now }
+    /// Returns whether the set has a value that `query` finds.
+    ///
+    /// A reference to a value is a query. So is a `&str` if the values are texts, and a slice if
+    /// the values are slices: [`SeeksStored`] lists them.
+    ///
+    /// # Cost
+    /// One search: `O(log n)`.
+    pub fn contains<Q: SeeksStored<K, BTreeSet<K, A>>>(&self, query: Q) -> bool
+        ensures { result ≡ list_any (Q.finds query) self.now.keys }
     {
-        self.set.contains(value)
+        query.seek(&self.set).is_some()
     }
 
-    /// The stored value that equals `value`, `None` exactly if there is none. Takes no memory; `O(log n)`.
-    pub fn get(&self, value: &K) -> Option<K>
+    /// Returns the stored value that `query` finds, or `None` if the set has no such value.
+    ///
+    /// # Cost
+    /// That of [`contains`](FrozenBTreeSetIn::contains).
+    pub fn get<Q: SeeksStored<K, BTreeSet<K, A>>>(&self, query: Q) -> Option<K>
     where
         K: Copy,
-        ensures { result ≡ get K.cmp self.now value.now }
+        ensures found { result ≡ find (Q.finds query) self.now.keys }
+        ensures present { is_some result ≡ list_any (Q.finds query) self.now.keys }
     {
-        self.set.get(value).copied()
+        query.seek(&self.set).copied()
     }
 
-    /// The least value, `None` exactly if the set is empty. Takes no memory; `O(log n)`.
+    /// Returns the least value, or `None` exactly if the set is empty. It allocates nothing.
+    ///
+    /// # Cost
+    /// `O(log n)`.
     pub fn first(&self) -> Option<K>
     where
         K: Copy,
@@ -89,7 +106,10 @@ impl<R: Copy, K: Ord, A: Allocator + Copy> FrozenBTreeSetIn<R, K, A> {
         self.set.first().copied()
     }
 
-    /// The greatest value, `None` exactly if the set is empty. Takes no memory; `O(log n)`.
+    /// Returns the greatest value, or `None` exactly if the set is empty. It allocates nothing.
+    ///
+    /// # Cost
+    /// `O(log n)`.
     pub fn last(&self) -> Option<K>
     where
         K: Copy,
@@ -98,8 +118,11 @@ impl<R: Copy, K: Ord, A: Allocator + Copy> FrozenBTreeSetIn<R, K, A> {
         self.set.last().copied()
     }
 
-    /// Each value once, ascending; from the back, descending. Takes no memory; `O(log n)`, and each value `O(1)` on
-    /// average.
+    /// Returns an iterator over the values, each once, in ascending order; from the back, in
+    /// descending order. It allocates nothing.
+    ///
+    /// # Cost
+    /// `O(log n)`, and `O(1)` on average for each value.
     pub fn iter(&self) -> Iter<'_, K>
         ensures rest { result ≡ self.now.keys }
         ensures runs { ShowsInOrder (deref {X = K}) }
@@ -108,9 +131,13 @@ impl<R: Copy, K: Ord, A: Allocator + Copy> FrozenBTreeSetIn<R, K, A> {
         self.set.iter()
     }
 
-    /// The values in the range, ascending; from the back, descending. Costs as [`iter`](FrozenBTreeSetIn::iter).
+    /// Returns an iterator over the values in the range, in ascending order; from the back, in
+    /// descending order. It allocates nothing.
     ///
-    /// The range must not begin behind its end, as `5..3` does.
+    /// The range must not begin after its end, as `5..3` does.
+    ///
+    /// # Cost
+    /// That of [`iter`](FrozenBTreeSetIn::iter).
     pub fn range<G: RangeBounds<K> + Drop>(&self, range: G) -> Range<'_, K>
         requires { G.is_forward range (IsLeBy K.cmp) (IsLtBy K.cmp) }
         ensures between { G.has_bounds range →
@@ -121,14 +148,20 @@ impl<R: Copy, K: Ord, A: Allocator + Copy> FrozenBTreeSetIn<R, K, A> {
         self.set.range(range)
     }
 
-    /// Adds the value, unless the set has one that equals it, and says whether it was new. One search.
+    /// Inserts the value unless the set has an equal one, and returns whether it was new.
     ///
-    /// A present value stays: the given one is dropped and no memory is taken. `Err` on an allocation failure, only
-    /// for an absent value: it comes back, and the set is as it was.
+    /// If the set has an equal value, the given one is dropped, and the call allocates nothing.
+    ///
+    /// # Errors
+    /// Fails if the value is new and an allocation fails. The error contains the value, and the set
+    /// is unchanged.
+    ///
+    /// # Cost
+    /// One search: `O(log n)`.
     pub fn insert(&mut self, value: K) -> Result<bool, AllocFailed<K>>
     where
         K: Drop,
-        ensures new { IfOk result (λ new. new ≡ not (contains K.cmp self.old value)) }
+        ensures is_new { IfOk result (λ new. new ≡ not (contains K.cmp self.old value)) }
         ensures values { OnOk result (self.new.keys ≡ insert_key K.cmp self.old.keys value) }
         ensures others { OnOk result (Updates K.cmp self.old self.new value true) }
         ensures refused { IfErr result (λ back. (back.value ≡ value)
@@ -139,28 +172,17 @@ impl<R: Copy, K: Ord, A: Allocator + Copy> FrozenBTreeSetIn<R, K, A> {
 }
 
 impl<'a, R: KeepsText<'a>, A: Allocator + Copy> FrozenBTreeSetIn<R, &'a str, A> {
-    /// Whether a text of the set reads as `text` does. Takes no memory; one search.
-    pub fn contains_text(&self, text: &str) -> bool
-        ensures { result ≡ contains ⟦<&'a str as Ord>⟧.cmp self.now text.entry }
-    {
-        self.set.contains(text)
-    }
-
-    /// The stored text that reads as `text` does, `None` exactly if there is none. Takes no memory; one search.
-    pub fn get_text(&self, text: &str) -> Option<&'a str>
-        ensures found { result ≡ get ⟦<&'a str as Ord>⟧.cmp self.now text.entry }
-        ensures reads { IfSome result (λ kept. kept.now ≡ text.now) }
-        ensures there { is_some result ≡ contains ⟦<&'a str as Ord>⟧.cmp self.now text.entry }
-    {
-        let kept = self.set.get(text)?;
-        Some(*kept)
-    }
-
-    /// Adds a copy of the text, unless one that reads the same is there, and returns the stored text.
+    /// Inserts a copy of the text unless the set has an equal text, and returns the stored text.
     ///
-    /// A present text takes no memory, by one search; a new one is copied into the arena, and takes one more search.
-    /// `Err` on an allocation failure, only for an absent text: the set is as it was, and the arena may keep a text
-    /// that nobody sees.
+    /// If the set has the text, the call allocates nothing. Otherwise it copies the text into the
+    /// arena.
+    ///
+    /// # Errors
+    /// Fails if the text is new and an allocation fails. The set is then unchanged; the arena may
+    /// keep a copy to which nothing refers.
+    ///
+    /// # Cost
+    /// One search if the set has the text; otherwise two, plus one copy into the arena.
     pub fn insert_text(&mut self, text: &str) -> Result<&'a str, AllocError>
         ensures present { (x : Bor (List ℕ)) →
             get ⟦<&'a str as Ord>⟧.cmp self.old text.entry ≡ Some x →
@@ -172,7 +194,7 @@ impl<'a, R: KeepsText<'a>, A: Allocator + Copy> FrozenBTreeSetIn<R, &'a str, A> 
         ensures refused { OnErr result (IsUnchanged self.old self.new
             × (contains ⟦<&'a str as Ord>⟧.cmp self.old text.entry ≡ false)) }
     {
-        if let Some(found) = self.get_text(text) {
+        if let Some(found) = self.get(text) {
             return Ok(found);
         }
         let kept = self.arena.keep_text(text)?;

@@ -8,9 +8,9 @@ use Rattle.std.specs.List.{list_any}
 use mathlib.Core.List.{IsPrefix}
 use Rattle.elsa_lock_free.specs.declared.event.Entry.{Entry as Pushed}
 use Rattle.elsa_lock_free.specs.SharedList.{Continues, IsLaterPass, IsSamePass, View, item_of, items_of, longer, mine, places_from}
-use Rattle.elsa_index_words.specs.declared.entry.Entry.{Entry}
-use Rattle.elsa_index_words.specs.Entries.{keys_of}
-use Rattle.elsa_index_words.proofs.EntryLemmas.{entry_at}
+use Rattle.elsa_hash_index.specs.declared.entry.Entry.{Entry}
+use Rattle.elsa_hash_index.specs.Entries.{keys_of}
+use Rattle.elsa_hash_index.proofs.EntryLemmas.{entry_at}
 use Rattle.elsa_lock_free_map.specs.Entries.{Came, HasAt as MapsAt, is_text}
 use Rattle.elsa_lock_free_map.proofs.MapLemmas.{key_at}
 use Rattle.elsa_shared_interner.specs.Names.{HasAt, HasTextAt, Lacks, name_of, names_of}
@@ -42,7 +42,7 @@ module _ {T V S : Type 0} where
   pub prefix_names : (xs ys : List (Pushed (Entry T V S))) → IsPrefix xs ys → IsPrefix (map name_of xs) (map name_of ys)
   prefix_names xs ys p = (map name_of p.0, sym (map-append name_of xs p.0) ∙ ap (map name_of) p.1)
 
-  -- a pass that goes on, where names were seen before it
+  -- a later view, with names that were observed before
   module _ (a b : View (Entry T V S)) (old : View T) (is : names_of a ≡ old) where
     pub same_names : IsSamePass a b → IsSamePass old (names_of b)
     same_names s = subst (λ v. IsSamePass v (names_of b)) is s

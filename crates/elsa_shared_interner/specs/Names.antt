@@ -1,10 +1,10 @@
 -- What a short name means: its text; what a pass of an interner has seen; and that a list has an item at a place, or lacks it.
-use Rattle.std.specs.Prelude.{ℕ, ◌≡◌, ◌≤◌, ◌⊎◌, Bool, true, false, List, [], ◌∷◌, ◌++◌, map, take, length, slice_get, Some}
+use Rattle.std.specs.Prelude.{ℕ, ◌≡◌, ◌⊎◌, Bool, true, false, List, [], ◌∷◌, ◌++◌, map, take, slice_get, Some}
 use Rattle.std.specs.Borrow.{Bor}
 use Rattle.std.specs.List.{list_any}
 use Rattle.elsa_lock_free.specs.SharedList.{View, items_of, mine}
 use Rattle.elsa_lock_free.specs.declared.event.Entry.{Entry as Pushed}
-use Rattle.elsa_index_words.specs.declared.entry.Entry.{Entry}
+use Rattle.elsa_hash_index.specs.declared.entry.Entry.{Entry}
 use Rattle.elsa_shared_interner.specs.declared.name_bytes.Name.{Name}
 
 -- the bytes of a name's text
@@ -32,8 +32,8 @@ HasTextAt xs i text = (y : Bor (List ℕ)) × (slice_get xs i ≡ Some y) × (y.
 abbrev pub Lacks : {T : Type 0} → (T → Bool) → List T → Type 0
 Lacks test xs = list_any test xs ≡ false
 
--- what a put that ended well left, where `has` says that a list has the name at a place: the name is at this place, found there or now the
--- pass's own; where the pass had seen it, this is the place that it had, and nothing was pushed
+-- the effect of a successful put, for `has`: whether a list has the name at an index. The name has this index; it was found,
+-- or the index is now one of the view's own. If the view had observed the name, this is its index, and nothing was pushed
 abbrev pub PutsBy : {T : Type 0} → (List T → ℕ → Type 0) → View T → View T → ℕ → Type 0
 PutsBy has before after i =
     has (items_of after.seen) i × ((mine after ≡ mine before) ⊎ (mine after ≡ mine before ++ i ∷ []))

@@ -1,6 +1,8 @@
-//! An interner together with a pass of it. They belong together by the type, so no call but [`NameHandle::meet`] and
-//! [`NameHandle::same_name_same_place`] has a condition.
-ghost use Rattle.std.specs.Prelude.{◌≡◌, IfOk, IfErr, IfSome, IfNone, length, slice_get};
+//! A handle of an interner: a handle of the map of its names.
+//!
+//! A handle belongs to its interner by its type, so only the calls that take two handles, or a
+//! view, have a condition. Each call of the interner is written here, once.
+ghost use Rattle.std.specs.Prelude.{◌≡◌, ◌≤◌, IfOk, IfErr, IfSome, IfNone, length, slice_get};
 ghost use Rattle.std.specs.Str.{bytes_eq};
 ghost use Rattle.elsa_lock_free.specs.SharedList.{Continues, IsLaterPass, Meet, items_of, mine};
 ghost use Rattle.elsa_lock_free.specs.Distinct.{AgreeOnPlaces, IsOneToOne};
@@ -8,15 +10,15 @@ ghost use Rattle.elsa_shared_interner.specs.Names.{HasAt, HasTextAt, Lacks, Puts
 
 use crate::name::Name;
 use crate::shared::{NamePass, SharedInterner};
+use elsa_lock_free_map::handle::MapHandle;
 use elsa_lock_free_map::place_text::PlaceText;
 use std::alloc::{AllocError, Allocator, Global};
 use std::hash::{BuildHasher, BuildHasherDefault, FoldHasher, Hash};
 use std::marker::Model;
 use std::sync::Wait;
 
-/// An interner and a thread's pass of it. A clause sees the pass: its interner, its number as an author, and the names that it has seen.
-///
-/// It has no bytes beside the reference and the pass, and each call does what the interner's call of the same name does by a pass.
+/// An interner and a thread's view of it. Contracts see the view: its interner, its number as a
+/// writer, and the names that it has observed.
 #[derive(Drop)]
 pub struct NameHandle<
     'i,
@@ -24,20 +26,17 @@ pub struct NameHandle<
     S: BuildHasher + Copy + Drop = BuildHasherDefault<FoldHasher>,
     A: Allocator + Copy = Global,
 > {
-    interner: &'i SharedInterner<T, S, A>,
-    names: NamePass<T, S, A>,
+    pub(crate) names: MapHandle<'i, T, (), S, A>,
 }
 
 impl<'i, T: Copy + Drop + Hash, S: BuildHasher + Copy + Drop, A: Allocator + Copy> Model
     for NameHandle<'i, T, S, A> {
-    ghost use Rattle.std.specs.Prelude.{◌≡◌};
     ghost use Rattle.elsa_lock_free.specs.SharedList.{View};
+    ghost use Rattle.elsa_shared_interner.specs.Names.{names_of};
 
     ghost Value = { View T };
 
-    ghost view = { λ h. h.names };
-
-    ghost invariant = { λ h. h.names.vector ≡ h.interner.now };
+    ghost view = { λ h. names_of h.names };
 }
 
 impl<'i, T: Copy + Drop + Hash, S: BuildHasher + Copy + Drop, A: Allocator + Copy> NameHandle<
@@ -46,86 +45,142 @@ impl<'i, T: Copy + Drop + Hash, S: BuildHasher + Copy + Drop, A: Allocator + Cop
     S,
     A,
 > {
-    /// The interner with a pass of it.
+    /// Makes a handle of an interner and a view of it.
     pub fn of(interner: &'i SharedInterner<T, S, A>, names: NamePass<T, S, A>) -> Self
-        requires of { names.vector ≡ interner.now }
-        ensures is { result ≡ names }
+        requires same_vector { names.vector ≡ interner.now }
+        ensures same_view { result ≡ names }
     {
-        NameHandle { interner, names }
+        NameHandle {
+            names: interner.map_handle(names),
+        }
     }
 
-    /// The pass: to hand it on to another thread, or to the calls that take one.
+    /// Returns the view, to store it or to move it to another thread.
     pub fn into_pass(self) -> NamePass<T, S, A>
-        ensures is { result ≡ self.entry }
+        ensures same_view { result ≡ self.entry }
     {
-        let NameHandle { interner: _, names } = self;
-        names
+        let NameHandle { names } = self;
+        NamePass {
+            pass: names.into_pass(),
+        }
     }
 
-    /// The place of a name, which is put there if no thread had put it. Every thread gets the same place for it. It waits while another
-    /// thread appends, where the handle has not seen the name. `Err`: an allocation failed, or the interner is full; the handle
-    /// has put nothing, and the same put may succeed later: [`SharedInterner::put`].
+    /// Returns the index of a name, and adds the name if no thread has added it. Every thread gets
+    /// the same index for it.
+    ///
+    /// If the handle has observed the name, the call reads no length and takes no lock. Otherwise
+    /// it appends the name; if other threads have appended since, it looks the name up among theirs
+    /// first.
+    ///
+    /// # Errors
+    /// Fails if an allocation fails, or if there are `2^32 - 1` names, the greatest number. The
+    /// handle has then added nothing; the same call may succeed later.
+    ///
+    /// # Blocks
+    /// While another thread appends, unless the handle has observed the name.
+    ///
+    /// # Allocates
+    /// A buffer and its row of index entries, if a buffer begins at this length.
+    ///
+    /// # Cost
+    /// `O(1)` if the hashes differ. If a buffer begins, each earlier name is also entered in the
+    /// new row.
     pub fn put<R: Wait>(&mut self, rt: &R, name: T) -> Result<usize, AllocError>
         ensures later { IsLaterPass self.old self.new }
         ensures one_to_one { IsOneToOne T.eq (items_of self.new.seen) }
-        ensures put { IfOk result (λ i. PutsName T.eq self.old self.new i name) }
+        ensures numbered { IfOk result (λ i. PutsName T.eq self.old self.new i name) }
         ensures refused { IfErr result (λ e. mine self.new ≡ mine self.old) }
     {
-        self.interner.put(rt, &mut self.names, name)
+        let answer = self.names.insert(rt, name, ());
+        self.one_to_one();
+        let Ok(put) = answer else {
+            return Err(AllocError);
+        };
+        Ok(put.place)
     }
 
-    /// The place of a name, or `None` if none of those that the handle has then seen is equal to it. It takes no lock and no memory, and
-    /// never waits: [`SharedInterner::find`].
+    /// Returns the index of a name, or `None` if no name that the handle has then observed equals
+    /// it.
+    ///
+    /// A name that the handle had observed is found without a read of the length. Otherwise the
+    /// call reads the length, by one load. It takes no lock, allocates nothing and never blocks.
+    ///
+    /// # Cost
+    /// `O(1)` if the hashes differ.
     pub fn find(&mut self, name: T) -> Option<usize>
         ensures continues { Continues self.old self.new }
         ensures found { IfSome result (λ i. HasAt T.eq (items_of self.new.seen) i name) }
         ensures absent { IfNone result (Lacks (T.eq name) (items_of self.new.seen)) }
     {
-        self.interner.find(&mut self.names, name)
+        self.names.find(&name)
     }
 
-    /// The name at a place: `None` exactly if the place is at or above the number of names that the handle has then seen. It takes no
-    /// lock and no memory, and never waits: [`SharedInterner::at`].
+    /// Returns the name at an index, or `None` if the index is not below the number of names that
+    /// the handle has then observed.
+    ///
+    /// An index that the handle has observed is read without an atomic step. For any other, the
+    /// call first reads the number of names, by one load. It takes no lock, allocates nothing and
+    /// never blocks.
+    ///
+    /// # Cost
+    /// `O(1)`.
     pub fn at(&mut self, place: usize) -> Option<T>
         ensures continues { Continues self.old self.new }
         ensures name { result ≡ slice_get (items_of self.new.seen) place }
     {
-        self.interner.at(&mut self.names, place)
+        let Some(entry) = self.names.get_by_place(place) else {
+            return None;
+        };
+        Some(entry.0)
     }
 
-    /// How many names the interner has, by one atomic read of the length. It takes no lock and no memory, and never waits. `O(1)`.
+    /// Returns the number of names, by one load of the length. It takes no lock, allocates nothing
+    /// and never blocks.
+    ///
+    /// # Cost
+    /// `O(1)`.
     pub fn len(&mut self) -> usize
         ensures continues { Continues self.old self.new }
         ensures length { result ≡ length self.new.seen }
+        ensures fresh { length self.old.seen ≤ result }
     {
-        self.interner.len(&mut self.names)
+        self.names.len()
     }
 
-    /// How many names the handle has seen, by no atomic step. `O(1)`.
+    /// Returns the number of names that the handle has observed, without an atomic step.
+    ///
+    /// # Cost
+    /// `O(1)`.
     pub fn seen_len(&self) -> usize
         ensures length { result ≡ length self.now.seen }
     {
         self.names.seen_len()
     }
 
-    /// The names that the handle has seen are one to one with their places. It does nothing when it runs.
+    /// Proves that the names that the handle has observed are one to one with their indices. It
+    /// does nothing at run time.
     pub fn one_to_one(&self)
         ensures { IsOneToOne T.eq (items_of self.now.seen) }
     {
         self.names.one_to_one();
     }
 
-    /// A name has one place for two handles of an interner, whether they met or not. It takes no memory and no atomic step. `O(1)`.
+    /// Proves that a name has one index for two handles of an interner, whether they were merged or
+    /// not. It does nothing at run time.
     pub fn same_name_same_place(&self, other: &NameHandle<'_, T, S, A>)
-        requires of { self.now.vector ≡ other.now.vector }
+        requires same_vector { self.now.vector ≡ other.now.vector }
         ensures { AgreeOnPlaces T.eq (items_of self.now.seen) (items_of other.now.seen) }
     {
-        self.names.same_name_same_place(&other.names);
+        self.names.same_place(&other.names);
     }
 
-    /// Both handles of an interner take the longer of what they have seen. It takes no memory and no atomic step, and never waits. `O(1)`.
+    /// Merges what two handles of an interner have observed, so that each reads the names of the
+    /// other without an atomic step. It allocates nothing and never blocks.
+    ///
+    /// # Cost
+    /// `O(1)`.
     pub fn meet(&mut self, other: &mut NameHandle<'_, T, S, A>)
-        requires of { self.old.vector ≡ other.old.vector }
+        requires same_vector { self.old.vector ≡ other.old.vector }
         ensures { Meet self.old self.new other.old other.new }
     {
         self.names.meet(&mut other.names);
@@ -133,19 +188,28 @@ impl<'i, T: Copy + Drop + Hash, S: BuildHasher + Copy + Drop, A: Allocator + Cop
 }
 
 impl<'i, 'a, S: BuildHasher + Copy + Drop, A: Allocator + Copy> NameHandle<'i, &'a str, S, A> {
-    /// The place of a text, which may be short-lived: as [`find`](Self::find).
+    /// Returns the index of a text of any lifetime, as [`find`](Self::find) does for a name.
     pub fn find_text(&mut self, text: &str) -> Option<usize>
         ensures continues { Continues self.old self.new }
         ensures found { IfSome result (λ i. HasTextAt (items_of self.new.seen) i text.now) }
         ensures absent { IfNone result (Lacks (λ name. bytes_eq text.now name.now)
             (items_of self.new.seen)) }
     {
-        self.interner.find_text(&mut self.names, text)
+        self.names.find_text(text)
     }
 
-    /// The place of a text of any length, which may be short-lived, and of which a copy is placed in `arena` and put if no thread had put
-    /// it. It waits while another thread appends, where the text is not found. `Err`: the arena is full, an allocation failed, or
-    /// the interner is full; the handle has put nothing, and the same put may succeed later: [`SharedInterner::put_text`].
+    /// Returns the index of a text of any lifetime and length. If no thread has added the text, it
+    /// copies the text into `arena` and adds the copy.
+    ///
+    /// If another thread adds the text between the look-up and the append, the copy stays unused in
+    /// the arena, and the index is that of the other thread.
+    ///
+    /// # Errors
+    /// Fails if the arena is full, if an allocation fails, or if there are `2^32 - 1` names, the
+    /// greatest number. The handle has then added nothing; the same call may succeed later.
+    ///
+    /// # Blocks
+    /// While another thread appends, unless the text is found.
     pub fn put_text<R: Wait, P: PlaceText<'a> + Drop>(
         &mut self,
         rt: &R,
@@ -154,9 +218,14 @@ impl<'i, 'a, S: BuildHasher + Copy + Drop, A: Allocator + Copy> NameHandle<'i, &
     ) -> Result<usize, AllocError>
         ensures later { IsLaterPass self.old self.new }
         ensures one_to_one { IsOneToOne (λ a b. bytes_eq a.now b.now) (items_of self.new.seen) }
-        ensures put { IfOk result (λ i. PutsText self.old self.new i text.now) }
+        ensures numbered { IfOk result (λ i. PutsText self.old self.new i text.now) }
         ensures refused { IfErr result (λ e. mine self.new ≡ mine self.old) }
     {
-        self.interner.put_text(rt, &mut self.names, arena, text)
+        let answer = self.names.insert_text(rt, arena, text, ());
+        self.one_to_one();
+        let Ok(put) = answer else {
+            return Err(AllocError);
+        };
+        Ok(put.place)
     }
 }

@@ -1,4 +1,4 @@
-//! A shared interner: every thread gives a name the same number.
+//! A shared interner: a name has the same index in every thread.
 #![tactic(auto)]
 
 pub mod handle;

@@ -11,21 +11,33 @@ ghost use Rattle.elsa_shared_interner.specs.Names.{text_of};
 
 pub use crate::name_bytes::Name;
 use std::cmp::Ordering;
+use std::error::Error;
 use std::fmt::{self, Debug, Formatter, Write};
 use std::hash::{Hash, Hasher};
 
-/// How many bytes a name can have.
+/// The maximum number of bytes of a name.
 pub const NAME_BYTES: usize = 23;
 
-/// Why a text is no name.
+/// The error of a text that is no name.
 #[derive(Clone, Copy, Debug, PartialEq, Eq)]
 pub enum NameFault {
-    /// It has more than 23 bytes.
+    /// The text has more than 23 bytes.
     TooLong = 1,
 }
 
+impl fmt::Display for NameFault {
+    fn fmt<W: Write>(&self, f: &mut Formatter<W>) -> fmt::Result {
+        f.pad("the text has more than 23 bytes")
+    }
+}
+
+impl Error for NameFault {}
+
 impl Name {
-    /// The text as a name, or `TooLong` if it has more than 23 bytes. The empty text is a name. It takes no memory.
+    /// Returns the text as a name. The empty text is a name. It allocates nothing.
+    ///
+    /// # Errors
+    /// Fails with `TooLong` if the text has more than 23 bytes.
     pub fn new(text: &str) -> Result<Name, NameFault>
         ensures name { IfOk result (λ n. text_of n ≡ text.now) }
         ensures short { IsOk result ↔ (length text.now ≤ 23) }
@@ -42,7 +54,7 @@ impl Name {
         })
     }
 
-    /// The name's text.
+    /// Returns the text of the name.
     pub fn as_str(&self) -> &str
         ensures { result.now ≡ text_of self.now }
     {
@@ -98,7 +110,7 @@ impl Hash for Name {
     }
 }
 
-/// `{:?}` writes the text in quotes, as of a `&str`: `"x"`.
+/// Writes the text in quotes by `{:?}`, as a `&str` does: `"x"`.
 impl Debug for Name {
     ghost debug_output = { λ name. debug_str (text_of name) };
 

@@ -2,7 +2,8 @@
 ghost use Rattle.std.specs.Prelude.{◌≡◌, ◌≤◌, ◌-◌, true, drop, take, replicate};
 ghost use Rattle.std.specs.Str.{is_utf8};
 
-/// A text of at most 23 bytes, by value: 24 bytes that can be copied. The bytes behind its text are 0.
+/// A text of at most 23 bytes, by value: 24 bytes that can be copied. The bytes after its text are
+/// 0.
 #[derive(Clone, Copy)]
 pub struct Name {
     pub(crate) bytes: [u8; 23],

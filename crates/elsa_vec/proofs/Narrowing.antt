@@ -1,16 +1,16 @@
--- A search by halves: what is known between two calls, and what a call adds.
+-- A binary search: what is known between two calls, and what a call adds.
 use Rattle.std.proofs.Common.{◌≡◌, ℕ, ◌+◌, ◌-◌, ◌*◌, ◌/◌, ◌<◌, ◌≤◌, ◌^◌, ◌⊎◌, inl, inr, List, [], ◌∷◌, length, get_or, arith, refl, subst, suc}
 use Rattle.std.proofs.Math.Nat.{pow-suc, mul-le-mul_left}
 use Rattle.std.proofs.Math.Pow.{pow_mono}
 use Rattle.std.proofs.lemmas.Option.{slice_get_read}
 use Rattle.elsa_vec.specs.Search.{Call, MadeInTurn, IsUnasked, Answered, IsBetween, IsWithinDigits, SearchedTo}
 
--- each call was made outside the range
+-- Each call was made for an index outside the range.
 abbrev pub AllOutside : {R : Type 0} → ℕ → ℕ → List (Call R) → Type 0
 AllOutside l r [] = Unit {0}
 AllOutside l r (c ∷ cs) = (c.place < l ⊎ r ≤ c.place) × AllOutside l r cs
 
--- the calls about n places leave the range from l to r
+-- After these calls for a list of n items, the range from l to r is left.
 pub record Narrowed {R : Type 0} (low high : R) (n l r : ℕ) (calls : List (Call R)) : Type 0 where
   pub outside : AllOutside l r calls
   pub halved : (r - l) * 2 ^ length calls ≤ n
@@ -19,31 +19,32 @@ pub record Narrowed {R : Type 0} (low high : R) (n l r : ℕ) (calls : List (Cal
   pub ordered : l ≤ r
   pub within : r ≤ n
 
--- a place in the range is unasked
+-- No call was made for an index in the range.
 unasked : {R : Type 0} (l r m : ℕ) (cs : List (Call R)) → l ≤ m → m < r → AllOutside l r cs → IsUnasked m cs
 unasked l r m [] p q o = tt
 unasked l r m (c ∷ cs) p q o =
     ((λ e. elim o.0 [ inl h ↦ omega arith | inr h ↦ omega arith ]), unasked l r m cs p q o.1)
 
--- what is outside a range is outside a narrower one
+-- Calls outside a range are outside a narrower one.
 narrower : {R : Type 0} (l r l' r' : ℕ) (cs : List (Call R)) → l ≤ l' → r' ≤ r → AllOutside l r cs → AllOutside l' r' cs
 narrower l r l' r' [] p q o = tt
 narrower l r l' r' (c ∷ cs) p q o =
     (elim o.0 [ inl h ↦ inl (omega arith) | inr h ↦ inr (omega arith) ], narrower l r l' r' cs p q o.1)
 
--- one call more is within the digits, where the range was not empty
+-- If the range was not empty, another call is within the number of digits.
 one_more : (n k w : ℕ) → 0 < w → w * 2 ^ k ≤ n → IsWithinDigits n (suc k)
 one_more n k w p h d q =
     let more : 2 ^ k * 1 ≤ 2 ^ k * w = mul-le-mul_left (2 ^ k) p in
     let mono : d ≤ k → 2 ^ d ≤ 2 ^ k = pow_mono in
     grind (arith, mono)
 
--- half a range pays for a call
+-- Halving the range allows for another call.
 half : (n k w w' : ℕ) → w' * 2 ≤ w → w * 2 ^ k ≤ n → w' * 2 ^ suc k ≤ n
 half n k w w' p h =
     let more : 2 ^ k * (w' * 2) ≤ 2 ^ k * w = mul-le-mul_left (2 ^ k) p in
     rw pow-suc (omega arith)
 
+-- Before the first call, the range is the whole list.
 pub narrowed_at_start : {F B R : Type 0} (step : F → B → R → F → Type 0) (low high : R) (items : List B) (start : F) → SearchedTo step items start start (Narrowed low high (length items) 0 (length items))
 narrowed_at_start step low high items start = (
   record {
@@ -57,7 +58,7 @@ narrowed_at_start step low high items start = (
   refl,
 )
 
--- a call about the middle of a range that is not empty
+-- A call for the middle of a range that is not empty.
 module _ {F B R : Type 0} (step : F → B → R → F → Type 0) (low high : R) (items : List B) (start now next : F) (l r : ℕ) (item : B)
     (known : SearchedTo step items start now (Narrowed low high (length items) l r)) (open_range : l < r) (read : item ≡ get_or items (l + (r - l) / 2) item) where
   abbrev middle : ℕ
@@ -69,7 +70,7 @@ module _ {F B R : Type 0} (step : F → B → R → F → Type 0) (low high : R)
   so_far : Narrowed low high (length items) l r before
   so_far = known.0.bracket
 
-  -- whatever it answers, it was made in turn
+  -- Whatever it returns, it was made in turn.
   pub after_call : (answer : R) (P : List (Call R) → Type 0) → step now item answer next → P (record { place = middle; answer = answer } ∷ before) → SearchedTo step items start next P
   after_call answer P s p = (
     record {
@@ -83,7 +84,7 @@ module _ {F B R : Type 0} (step : F → B → R → F → Type 0) (low high : R)
     refl,
   )
 
-  -- an answer that takes the range above the middle
+  -- A result after which the range is above the middle.
   pub after_low : step now item low next → SearchedTo step items start next (Narrowed low high (length items) (middle + 1) r)
   after_low s =
       after_call low (Narrowed low high (length items) (middle + 1) r) s
@@ -96,7 +97,7 @@ module _ {F B R : Type 0} (step : F → B → R → F → Type 0) (low high : R)
         within = so_far.within;
       }
 
-  -- an answer that takes the range below the middle
+  -- A result after which the range is below the middle.
   pub after_high : step now item high next → SearchedTo step items start next (Narrowed low high (length items) l middle)
   after_high s =
       after_call high (Narrowed low high (length items) l middle) s
@@ -109,7 +110,7 @@ module _ {F B R : Type 0} (step : F → B → R → F → Type 0) (low high : R)
         within = omega (arith, so_far.within);
       }
 
--- where the range is empty, the search has ended at its place
+-- If the range is empty, the search has ended at its index.
 pub narrowed_to_end : {F B R : Type 0} (step : F → B → R → F → Type 0) (low high : R) (items : List B) (start now : F) (l r : ℕ)
     → SearchedTo step items start now (Narrowed low high (length items) l r) → r ≤ l → SearchedTo step items start now (λ calls. IsBetween (length items) (Answered calls) low high l)
 narrowed_to_end step low high items start now l r (found, ends) empty =

@@ -1,4 +1,5 @@
-//! Placing of values in an arena that the caller passes in, and the append-only vector of one thread over it.
+//! Storing values in an arena that the caller passes in, and the single-threaded append-only
+//! vector.
 #![tactic(auto)]
 
 mod search;

@@ -1,10 +1,11 @@
-//! Searches by halves over a slice, for any closure: what the searches of `FrozenVec` stand on.
+//! Binary searches over a slice, for any closure. The searches of `FrozenVec` call them.
 ghost use Rattle.std.specs.Prelude.{length, true, false};
 ghost use Rattle.elsa_vec.specs.Search.{SearchedTo, Brackets, IsBetween, Answered, CallableAtItems, Compares, ComparesAt};
 
 use std::cmp::Ordering;
 
-/// A place whose item compares as equal with the target, or else one between less and greater.
+/// Returns the index of an item that compares as equal with `target`, or `Err` with an index
+/// between an item that compares as less and one that compares as greater.
 pub(crate) fn binary_search<B: Copy + Ord>(items: &[B], target: &B) -> Result<usize, usize>
     ensures { Brackets (length items.now) (ComparesAt B.cmp target.now items.now) result }
 {
@@ -12,7 +13,9 @@ pub(crate) fn binary_search<B: Copy + Ord>(items: &[B], target: &B) -> Result<us
     binary_search_by(items, &mut order)
 }
 
-/// A place that returned Equal, or else one between Less and Greater. The closure is left as the last call of the search left it.
+/// Returns an index for whose item the closure returned `Equal`, or `Err` with an index between one
+/// that returned `Less` and one that returned `Greater`. The closure has the state in which the
+/// last call of the search left it.
 pub(crate) fn binary_search_by<B: Copy, F: FnMut(B) -> Ordering>(
     items: &[B],
     order: &mut F,
@@ -34,7 +37,8 @@ pub(crate) fn binary_search_by<B: Copy, F: FnMut(B) -> Ordering>(
     Err(left)
 }
 
-/// The same by keys: what the closure returns is compared with the key.
+/// Searches as [`binary_search_by`] does, by keys: the key that the closure returns is compared
+/// with `key`.
 pub(crate) fn binary_search_by_key<B: Copy, K: Ord + Drop, F: FnMut(B) -> K>(
     items: &[B],
     key: &K,
@@ -58,7 +62,8 @@ pub(crate) fn binary_search_by_key<B: Copy, K: Ord + Drop, F: FnMut(B) -> K>(
     Err(left)
 }
 
-/// A place between true and false.
+/// Returns an index between an item for which the closure returned true and one for which it
+/// returned false.
 pub(crate) fn partition_point<B: Copy, F: FnMut(B) -> bool>(items: &[B], belongs: &mut F) -> usize
     requires { CallableAtItems (λ p b r q. F.step p b r q) (λ p b. F.pre p b) items.now belongs.old }
     ensures { SearchedTo (λ p b r q. F.step p b r q) items.now belongs.old belongs.new (λ calls.

@@ -1,10 +1,12 @@
 //! A vector that only grows.
 //!
-//! What is pushed is placed in an arena that the caller passes in, and the vector keeps the borrows. So each borrow that a call returns has the
-//! arena's lifetime: it stays good through every later push, and after the vector's end.
+//! A pushed item is stored in an arena that the caller passes in, and the vector stores its borrow.
+//! So each borrow that a call returns has the arena's lifetime: it stays valid after every later
+//! push, and after the vector's end.
 //!
-//! Contracts see a `FrozenVec` as the list of its borrows; `map T.shown` of that list is its content as targets.
-//! The layers above use that list, the cursor's place, and the bracket of a search (`specs/Search.antt`).
+//! Contracts see a `FrozenVec` as the list of its borrows; `map T.shown` of that list is its
+//! content as targets. The crates built on this one use that list, the index of a cursor, and the
+//! bracket of a search (`specs/Search.antt`).
 ghost use Rattle.std.specs.Prelude.{◌≡◌, ◌<◌, ◌≤◌, ◌-◌, ◌++◌, ◌∷◌, ◌↔◌, [], List, Bool, ℕ, IfOk, IsOk, IsTrue, OnErr, OnOk, Some, length, map, option_map, slice_get, true, false};
 ghost use Rattle.std.specs.List.{list_any};
 ghost use Rattle.std.specs.Cmp.Lexicographic.{lists_equiv, lists_per, pointwise};
@@ -30,9 +32,10 @@ mod walk;
 
 pub use walk::{Cursor, Iter, IterIn};
 
-/// A vector whose items are placed in the arena to which an `R` refers, and stay there. Its own table is of the allocator `A`.
+/// A vector whose items are stored in the arena to which an `R` refers. The list of its borrows is
+/// in memory of the allocator `A`.
 ///
-/// [`FrozenVec`] is its name where the arena is a `Bump`; code over any arena is written over this one.
+/// [`FrozenVec`] is its name if the arena is a `Bump`; code for any arena uses this type.
 pub struct FrozenVecIn<R: Copy, T, A: Allocator + Copy = Global>
 where
     T: StableDeref<R>,
@@ -42,10 +45,10 @@ where
     of: PhantomData<T>,
 }
 
-/// The vector whose items are placed in a `Bump` of lifetime `'a` and of the allocator `P`.
+/// A vector whose items are stored in a `Bump` of lifetime `'a` and of the allocator `P`.
 pub type FrozenVec<'a, T, A = Global, P = Global> = FrozenVecIn<&'a Bump<P>, T, A>;
 
-// A vector is the list of its borrows.
+// In a clause, a vector is the list of its borrows.
 impl<R: Copy, T, A: Allocator + Copy> Model for FrozenVecIn<R, T, A>
 where
     T: StableDeref<R>,
@@ -67,19 +70,21 @@ impl<R: Copy, T: StableDeref<R>, A: Allocator + Copy> Drop for FrozenVecIn<R, T,
     }
 }
 
-// ---- making one, and what it holds
+// ---- construction and content
 
 impl<R: Copy, T: StableDeref<R>, A: Allocator + Copy> FrozenVecIn<R, T, A> {
-    /// An empty vector. Takes no memory.
+    /// Makes an empty vector. It allocates nothing.
     pub fn new(alloc: A, arena: R) -> Self
         ensures { result ≡ [] }
     {
         FrozenVecIn::from_vec(arena, Vec::new(alloc))
     }
 
-    /// An empty vector with room for so many items, as after [`reserve`](Self::reserve).
+    /// Makes an empty vector with capacity for `count` items, as after [`reserve`](Self::reserve).
+    /// It allocates nothing if `count` is 0.
     ///
-    /// `Err` on an allocation failure; room for none takes no memory.
+    /// # Errors
+    /// Fails if an allocation fails.
     pub fn with_capacity(alloc: A, arena: R, count: usize) -> Result<Self, AllocError>
         ensures empty { IfOk result (λ v. v ≡ []) }
         ensures none_is_free { count ≡ 0 → IsOk result }
@@ -87,7 +92,7 @@ impl<R: Copy, T: StableDeref<R>, A: Allocator + Copy> FrozenVecIn<R, T, A> {
         Ok(FrozenVecIn::from_vec(arena, Vec::with_capacity(alloc, count)?))
     }
 
-    /// The vector of these borrows, in their order. Takes no memory.
+    /// Makes a vector of these borrows, in their order. It allocates nothing.
     pub fn from_vec(arena: R, items: Vec<T::Borrow, A>) -> Self
         ensures { result ≡ items.items }
     {
@@ -98,10 +103,17 @@ impl<R: Copy, T: StableDeref<R>, A: Allocator + Copy> FrozenVecIn<R, T, A> {
         }
     }
 
-    /// The vector of the iterator's items, placed in their order.
+    /// Makes a vector of the iterator's items, stored in their order.
     ///
-    /// Makes room for as many items as the iterator says will come at least (its `size_hint`), and grows as it goes on where more come
-    /// or where that much room is refused. `Err` on an allocation failure; the items placed so far and the rest are then dropped. `O(n)`.
+    /// It reserves capacity for the lower bound of the iterator's `size_hint`. If that fails, or if
+    /// more items follow, the vector grows as they are pushed.
+    ///
+    /// # Errors
+    /// Fails if an allocation fails. The vector and the items that were not stored are then
+    /// dropped; the arena keeps those that were stored.
+    ///
+    /// # Cost
+    /// `O(n)`.
     pub fn from_iter<I: IntoIterator<Item = T>>(
         alloc: A,
         arena: R,
@@ -116,7 +128,7 @@ impl<R: Copy, T: StableDeref<R>, A: Allocator + Copy> FrozenVecIn<R, T, A> {
     {
         let items = items.into_iter();
         let mut table = Vec::new(alloc);
-        // Fewer may come than the hint says, so its refusal is left to `push`.
+        // The iterator may return fewer items than its hint, so a failure is left to `push`.
         let _room = table.reserve(items.size_hint().0);
         let mut made = FrozenVecIn::from_vec(arena, table);
         for item in items {
@@ -125,9 +137,14 @@ impl<R: Copy, T: StableDeref<R>, A: Allocator + Copy> FrozenVecIn<R, T, A> {
         Ok(made)
     }
 
-    /// A vector of the same content, over the same arena and allocator. Later pushes into either leave the other.
+    /// Makes a vector with the same content, arena and allocator. Later pushes into one of the two
+    /// don't change the other.
     ///
-    /// Err where memory is refused. `O(n)`: it copies the borrows, and no target.
+    /// # Errors
+    /// Fails if an allocation fails.
+    ///
+    /// # Cost
+    /// `O(n)`: it copies the borrows, and no target.
     pub fn clone(&self) -> Result<Self, AllocError>
         ensures { IfOk result (λ copy. copy ≡ self.now) }
     {
@@ -135,7 +152,7 @@ impl<R: Copy, T: StableDeref<R>, A: Allocator + Copy> FrozenVecIn<R, T, A> {
         Ok(FrozenVecIn::from_vec(self.arena, items))
     }
 
-    /// The borrows, in order. Takes no memory.
+    /// Returns the borrows, in order. It allocates nothing.
     pub fn into_vec(self) -> Vec<T::Borrow, A>
         ensures { result.items ≡ self }
     {
@@ -147,32 +164,42 @@ impl<R: Copy, T: StableDeref<R>, A: Allocator + Copy> FrozenVecIn<R, T, A> {
         items
     }
 
-    /// How many items the vector has.
+    /// Returns the number of items.
     pub fn len(&self) -> usize
         ensures { result ≡ length self.now }
     {
         self.items.len()
     }
 
-    /// Whether the vector has no item.
+    /// Returns whether the vector has no item.
     pub fn is_empty(&self) -> bool
         ensures { IsTrue result ↔ (self.now ≡ []) }
     {
         self.items.is_empty()
     }
 
-    // ---- room
+    // ---- capacity
 
-    /// How many items the vector can have before its table asks for memory. `O(1)`.
+    /// Returns the number of items that the vector can have before the list of its borrows
+    /// allocates.
+    ///
+    /// # Cost
+    /// `O(1)`.
     pub fn capacity(&self) -> usize
         ensures { length self.now ≤ result }
     {
         self.items.capacity()
     }
 
-    /// Makes room for so many more items: as many pushes ask the table's allocator for nothing, and the arena alone may refuse them.
+    /// Reserves capacity for at least `additional` more items: until they are pushed, a push
+    /// allocates only in the arena. The content is unchanged. It allocates nothing if the vector
+    /// has that capacity.
     ///
-    /// The content stays. `Err` on an allocation failure, and the room stays too; where there is room already, it takes no memory. `O(n)`.
+    /// # Errors
+    /// Fails if an allocation fails. The capacity is then unchanged.
+    ///
+    /// # Cost
+    /// `O(n)`.
     pub fn reserve(&mut self, additional: usize) -> Result<(), AllocError>
         ensures content { self.new ≡ self.old }
         ensures none_is_free { additional ≡ 0 → IsOk result }
@@ -182,10 +209,16 @@ impl<R: Copy, T: StableDeref<R>, A: Allocator + Copy> FrozenVecIn<R, T, A> {
 
     // ---- pushing
 
-    /// Places the item and puts it last.
+    /// Stores the item in the arena and appends its borrow.
     ///
-    /// Makes room first, by doubling, so a refused growth leaves no copy in the arena. `Err` on an allocation failure: the content is as
-    /// before, and the item is dropped. `O(1)` beside the one copy into the arena.
+    /// It reserves capacity first, by doubling, so no copy is left in the arena if the growth
+    /// fails.
+    ///
+    /// # Errors
+    /// Fails if an allocation fails. The content is then unchanged, and the item is dropped.
+    ///
+    /// # Cost
+    /// `O(1)`, plus one copy into the arena.
     pub fn push(&mut self, item: T) -> Result<(), AllocError>
         ensures pushed { OnOk result (Gains T.target T.shown self.old item self.new) }
         ensures refused { OnErr result (self.new ≡ self.old) }
@@ -194,10 +227,16 @@ impl<R: Copy, T: StableDeref<R>, A: Allocator + Copy> FrozenVecIn<R, T, A> {
         Ok(())
     }
 
-    /// Places the item, puts it last, and returns the borrow that stands for it.
+    /// Stores the item in the arena, appends its borrow, and returns the borrow.
     ///
-    /// Makes room first, by doubling, so a refused growth leaves no copy in the arena. `Err` on an allocation failure: the content is as
-    /// before, and the item is dropped. `O(1)` beside the one copy into the arena.
+    /// It reserves capacity first, by doubling, so no copy is left in the arena if the growth
+    /// fails.
+    ///
+    /// # Errors
+    /// Fails if an allocation fails. The content is then unchanged, and the item is dropped.
+    ///
+    /// # Cost
+    /// `O(1)`, plus one copy into the arena.
     pub fn push_get(&mut self, item: T) -> Result<T::Borrow, AllocError>
         ensures pushed { IfOk result (λ b. self.new ≡ self.old ++ b ∷ []) }
         ensures target { IfOk result (λ b. T.shown b ≡ T.target item) }
@@ -211,10 +250,14 @@ impl<R: Copy, T: StableDeref<R>, A: Allocator + Copy> FrozenVecIn<R, T, A> {
         Ok(borrow)
     }
 
-    /// Places the iterator's items and puts them last, in their order.
+    /// Stores the iterator's items in the arena and appends their borrows, in their order.
     ///
-    /// `Err` on an allocation failure: the content is as before, and the items are dropped; the arena keeps the copies of those that it has
-    /// placed. `O(1)` for each item, beside its copy into the arena.
+    /// # Errors
+    /// Fails if an allocation fails. The content is then unchanged, and the items that were not
+    /// stored are dropped; the arena keeps those that were stored.
+    ///
+    /// # Cost
+    /// `O(1)` for each item, plus its copy into the arena.
     pub fn extend<I: IntoIterator<Item = T>>(&mut self, items: I) -> Result<(), AllocError>
         requires ends { (s : I.IntoIter) → I.into_iter_gives items s →
             I.IntoIter.can_next s × IsFinite (I.IntoIter.remaining s) }
@@ -234,30 +277,36 @@ impl<R: Copy, T: StableDeref<R>, A: Allocator + Copy> FrozenVecIn<R, T, A> {
         Ok(())
     }
 
-    // ---- looking up by place
+    // ---- looking up by index
 
-    /// The item at a place, counted from 0; None exactly if there is no such place. `O(1)`.
+    /// Returns the item at `index`, or `None` exactly if the index is at or above the length.
+    ///
+    /// # Cost
+    /// `O(1)`.
     pub fn get(&self, index: usize) -> Option<T::Borrow>
         ensures { result ≡ slice_get self.now index }
     {
         self.items.get(index).copied()
     }
 
-    /// The first item; None exactly if the vector is empty.
+    /// Returns the first item, or `None` exactly if the vector is empty.
     pub fn first(&self) -> Option<T::Borrow>
         ensures { result ≡ slice_get self.now 0 }
     {
         self.get(0)
     }
 
-    /// The last item; None exactly if the vector is empty.
+    /// Returns the last item, or `None` exactly if the vector is empty.
     pub fn last(&self) -> Option<T::Borrow>
         ensures { result ≡ slice_get self.now (length self.now - 1) }
     {
         self.items.last().copied()
     }
 
-    /// Whether an item equals this one. `O(n)`: the items are compared from the front, up to the first equal one.
+    /// Returns whether an item equals `item`.
+    ///
+    /// # Cost
+    /// `O(n)`: the items are compared from the front, up to the first equal one.
     pub fn contains(&self, item: T::Borrow) -> bool
     where
         <T as StableDeref<R>>::Borrow: PartialEq,
@@ -266,7 +315,8 @@ impl<R: Copy, T: StableDeref<R>, A: Allocator + Copy> FrozenVecIn<R, T, A> {
         self.items.contains(&item)
     }
 
-    /// The item at a place that the caller knows to exist. No test runs.
+    /// Returns the item at `index`, which the caller proves to be below the length. Nothing is
+    /// checked when it runs.
     pub fn get_unchecked(&self, index: usize) -> T::Borrow
         requires { index < length self.now }
         ensures { slice_get self.now index ≡ Some result }
@@ -279,7 +329,8 @@ impl<'a, R: Copy, U: Copy + 'a, T, A: Allocator + Copy> FrozenVecIn<R, T, A>
 where
     T: StableDeref<R, Borrow = &'a U>,
 {
-    /// A copy of what is at a place; None exactly if there is no such place.
+    /// Returns a copy of the value at `index`, or `None` exactly if the index is at or above the
+    /// length.
     pub fn get_copy(&self, index: usize) -> Option<U>
         ensures { result ≡ option_map (λ b. b.now) (slice_get self.now index) }
     {
@@ -287,7 +338,7 @@ where
     }
 }
 
-// `v[i]` is the item at place i, which the caller knows to be there.
+// `v[i]` is the item at index i, which the caller proves to be below the length.
 impl<R: Copy, T: StableDeref<R>, A: Allocator + Copy> Index<usize> for FrozenVecIn<R, T, A> {
     type Output = T::Borrow;
 
@@ -302,7 +353,7 @@ impl<R: Copy, T: StableDeref<R>, A: Allocator + Copy> Index<usize> for FrozenVec
 
 // ---- equality
 
-// Two vectors are equal if they are as long and have equal items at each place.
+// Two vectors are equal if they have the same length and equal items at each index.
 impl<R: Copy, T: StableDeref<R>, A: Allocator + Copy> PartialEq for FrozenVecIn<R, T, A>
 where
     <T as StableDeref<R>>::Borrow: PartialEq,
@@ -325,7 +376,7 @@ where
 
 // ---- printing
 
-/// `{:?}` writes the items in their order, as of a `Vec` of them: `["x", "y"]`.
+/// Writes the items in order by `{:?}`, as a `Vec` of them does: `["x", "y"]`.
 impl<R: Copy, T: StableDeref<R>, A: Allocator + Copy> Debug for FrozenVecIn<R, T, A>
 where
     <T as StableDeref<R>>::Borrow: Debug,
@@ -340,10 +391,14 @@ where
 // ---- searching
 
 impl<R: Copy, T: StableDeref<R>, A: Allocator + Copy> FrozenVecIn<R, T, A> {
-    /// Looks for an item in a sorted vector, by comparisons with it.
+    /// Searches a sorted vector for an item that compares as equal with `target`.
     ///
-    /// `Ok` has the place of an item that compares as equal. `Err` has a place between an item that compares as less and one that compares as
-    /// greater, or an end: in a sorted vector the place where the item would go. `O(log n)`.
+    /// `Ok` has the index of an item that compares as equal. `Err` has an index between an item
+    /// that compares as less and one that compares as greater, or at an end: in a sorted vector,
+    /// the index at which the item could be inserted.
+    ///
+    /// # Cost
+    /// `O(log n)`.
     pub fn binary_search(&self, target: T::Borrow) -> Result<usize, usize>
     where
         <T as StableDeref<R>>::Borrow: Ord,
@@ -355,11 +410,15 @@ impl<R: Copy, T: StableDeref<R>, A: Allocator + Copy> FrozenVecIn<R, T, A> {
         search::binary_search(self.as_slice(), &target)
     }
 
-    /// Looks for an item of which the closure says Equal, where those of which it says Less come before it and those of Greater after.
+    /// Searches for an item for which the closure returns `Equal`, in a vector in which the items
+    /// with `Less` come before it and those with `Greater` after it.
     ///
-    /// The closure may have a state and may be inconsistent: the result is between what it said. It is called at most as often as the
-    /// length has binary digits, and about no place twice. It need be callable at the vector's items alone, in the states that the calls so
-    /// far lead to.
+    /// `Ok` has the index of an item for which the closure returned `Equal`. `Err` has an index
+    /// between an item for which it returned `Less` and one for which it returned `Greater`, or at
+    /// an end. This also holds for a closure that has a state or is inconsistent. The closure is
+    /// called at most as often as the length has binary digits, and at most once for each index.
+    /// The caller proves that the closure may be called for the vector's items, in the states to
+    /// which the calls so far lead.
     pub fn binary_search_by<F: FnMut(T::Borrow) -> Ordering>(
         &self,
         mut order: F,
@@ -379,7 +438,8 @@ impl<R: Copy, T: StableDeref<R>, A: Allocator + Copy> FrozenVecIn<R, T, A> {
         search::binary_search_by(self.as_slice(), &mut order)
     }
 
-    /// [`binary_search_by`](FrozenVecIn::binary_search_by) by keys: `key_of(item)` is compared with `key`, as in
+    /// Searches as [`binary_search_by`](FrozenVecIn::binary_search_by) does, by keys:
+    /// `key_of(item)` is compared with `key`, as in
     /// `v.binary_search_by_key(&3, |kept| kept.len())`.
     pub fn binary_search_by_key<K: Ord + Drop, F: FnMut(T::Borrow) -> K>(
         &self,
@@ -401,11 +461,14 @@ impl<R: Copy, T: StableDeref<R>, A: Allocator + Copy> FrozenVecIn<R, T, A> {
         search::binary_search_by_key(self.as_slice(), key, &mut key_of)
     }
 
-    /// The place where the items of which the closure says true end, in a vector in which they come before the others.
+    /// Returns the index at which the items for which the closure returns true end, in a vector in
+    /// which they come before the others.
     ///
-    /// The closure may have a state and may be inconsistent: the item before the place got true and the one at it false, where there are
-    /// such. It is called at most as often as the length has binary digits, and about no place twice. It need be callable at the vector's
-    /// items alone, in the states that the calls so far lead to.
+    /// The closure returned true for the item before that index and false for the item at it, if
+    /// these items exist. This also holds for a closure that has a state or is inconsistent. The
+    /// closure is called at most as often as the length has binary digits, and at most once for
+    /// each index. The caller proves that the closure may be called for the vector's items, in the
+    /// states to which the calls so far lead.
     pub fn partition_point<F: FnMut(T::Borrow) -> bool>(&self, mut belongs: F) -> usize
         requires at_items { CallableAtItems (λ p b r q. F.step p b r q) (λ p b. F.pre p b) self.now
             belongs }
@@ -423,15 +486,18 @@ impl<R: Copy, T: StableDeref<R>, A: Allocator + Copy> FrozenVecIn<R, T, A> {
 
     // ---- walking, and writing
 
-    /// The borrows, in order, as a slice. Never waits, takes no memory; `O(1)`.
+    /// Returns the borrows, in order, as a slice. It allocates nothing and never blocks.
+    ///
+    /// # Cost
+    /// `O(1)`.
     pub fn as_slice(&self) -> &[T::Borrow]
         ensures { result.now ≡ self.now }
     {
         self.items.as_slice()
     }
 
-    /// An iterator that gives each item once, in order; from the back, in reverse. No push can be made while it walks: a `Cursor` goes on
-    /// after pushes.
+    /// Returns an iterator over the items, each once and in order; from the back, in reverse order.
+    /// No item can be pushed while it exists: a `Cursor` continues after pushes.
     pub fn iter(&self) -> IterIn<'_, R, T, A>
         ensures start { result ≡ self.now }
         ensures runs { GivesInOrder T.Borrow }
@@ -440,7 +506,8 @@ impl<R: Copy, T: StableDeref<R>, A: Allocator + Copy> FrozenVecIn<R, T, A> {
         IterIn::new(self)
     }
 
-    /// The inner vector, borrowed for writing. What is left there, anything at all, is the vector's content from then on.
+    /// Returns the inner vector, borrowed for writing. What it contains when the borrow ends is the
+    /// vector's content from then on; it may be anything.
     pub fn as_mut(&mut self) -> &mut Vec<T::Borrow, A>
         ensures* writes_back { sem 𝓛 (lends_items R.row T.row A.row T.Borrow.row T.HasTarget
             A.Allocator self.entry result) }

@@ -1,4 +1,5 @@
-//! What callers of `FrozenVec` may rely on beyond one call: each law is the contract of a function that only makes public calls.
+//! Laws of `FrozenVec` that callers may rely on beyond one call: each is the contract of a function
+//! that makes only public calls.
 ghost use Rattle.std.specs.Prelude.{◌≡◌, ◌++◌, ◌∷◌, [], ◌⊎◌, Bool, List, IfOk, IfSome, None, OnErr, OnOk, Some, false, length, slice_get, true};
 ghost use Rattle.std.specs.Fn.{AlwaysReturns};
 ghost use Rattle.std.specs.Iterator.{Drains, IsFinite};
@@ -13,7 +14,8 @@ use std::cmp::Ordering;
 
 // ---- content
 
-/// A push, accepted or refused, keeps the earlier content: it begins as before, and a place that had an item has the same one.
+/// Looks an index up before and after a push. Whether the push succeeds or fails, the vector begins
+/// with its earlier content, and an index that had an item has the same one.
 pub fn looked_up_round_a_push<R: Copy, T: StableDeref<R>, A: Allocator + Copy>(
     items: &mut FrozenVecIn<R, T, A>,
     place: usize,
@@ -30,7 +32,11 @@ pub fn looked_up_round_a_push<R: Copy, T: StableDeref<R>, A: Allocator + Copy>(
     (before, pushed, items.get(place))
 }
 
-/// A borrow stays good after further pushes, which leave it at its place, and after the vector's end, of which the inner one is left.
+/// Returns the borrow of a pushed item and the inner vector after further pushes: the borrow stays
+/// valid, and its index is unchanged.
+///
+/// # Errors
+/// Fails if an allocation fails.
 pub fn outlives_its_vector<
     R: Copy,
     T: StableDeref<R>,
@@ -41,7 +47,7 @@ pub fn outlives_its_vector<
     item: T,
     further: I,
 ) -> Result<(T::Borrow, Vec<T::Borrow, A>), AllocError>
-    requires can { I.can_next further }
+    requires can_next { I.can_next further }
     requires ends { IsFinite (I.remaining further) }
     ensures shows { IfOk result (λ r. T.shown r.0 ≡ T.target item) }
     ensures left { IfOk result (λ r.
@@ -53,7 +59,10 @@ pub fn outlives_its_vector<
     Ok((borrow, items.into_vec()))
 }
 
-/// A clone and its source are independent of each other.
+/// Pushes one item into a vector and another into its clone: neither push changes the other vector.
+///
+/// # Errors
+/// Fails if an allocation fails. The vector is then unchanged, or has `one` at its end.
 pub fn pushed_apart<R: Copy, T: StableDeref<R>, A: Allocator + Copy>(
     items: &mut FrozenVecIn<R, T, A>,
     one: T,
@@ -72,7 +81,10 @@ pub fn pushed_apart<R: Copy, T: StableDeref<R>, A: Allocator + Copy>(
 
 // ---- walks
 
-/// A walk gives each item once, in order, and ends.
+/// Collects the items of an iterator over a vector: each item once, in order.
+///
+/// # Errors
+/// Fails if an allocation fails.
 pub fn walked<R: Copy, T: StableDeref<R>, A: Allocator + Copy, B: Allocator>(
     alloc: B,
     items: &FrozenVecIn<R, T, A>,
@@ -82,7 +94,8 @@ pub fn walked<R: Copy, T: StableDeref<R>, A: Allocator + Copy, B: Allocator>(
     items.iter().collect(alloc)
 }
 
-/// A cursor at the end goes on after a push: it returns None before it, and then what was pushed.
+/// Reads at the end, pushes an item, and reads again: the cursor returns `None` before the push,
+/// and returns the item after the push.
 pub fn read_on<R: Copy, T: StableDeref<R>, A: Allocator + Copy>(
     items: &mut FrozenVecIn<R, T, A>,
     cursor: &mut Cursor,
@@ -92,7 +105,7 @@ pub fn read_on<R: Copy, T: StableDeref<R>, A: Allocator + Copy>(
     ensures before { result.0 ≡ None }
     ensures pushed { OnOk result.1 (Gains T.target T.shown items.old item items.new) }
     ensures refused { OnErr result.1 (items.new ≡ items.old) }
-    // What is read on.
+    // The item that the cursor returns after the push.
     ensures after { result.2 ≡ slice_get items.new (length items.old) }
     ensures shows { IfSome result.2 (λ b. T.shown b ≡ T.target item) }
     ensures at_end { cursor.new ≡ length items.new }
@@ -104,7 +117,8 @@ pub fn read_on<R: Copy, T: StableDeref<R>, A: Allocator + Copy>(
 
 // ---- searches
 
-/// Where the closure's results depend on the item alone, a search returns what a search of a slice does, also where the calls change the closure.
+/// Searches by a closure whose results depend only on the item: the result is that of a search of a
+/// slice, even if the calls change the closure.
 pub fn place_by_order<
     R: Copy,
     T: StableDeref<R>,
@@ -118,7 +132,8 @@ pub fn place_by_order<
     items.binary_search_by(order)
 }
 
-/// The same of a partition.
+/// Partitions by a closure whose results depend only on the item: the result is that of a partition
+/// of a slice, even if the calls change the closure.
 pub fn place_by_test<R: Copy, T: StableDeref<R>, A: Allocator + Copy, F: FnMut(T::Borrow) -> bool>(
     items: &FrozenVecIn<R, T, A>,
     belongs: F,
@@ -131,8 +146,9 @@ pub fn place_by_test<R: Copy, T: StableDeref<R>, A: Allocator + Copy, F: FnMut(T
     items.partition_point(belongs)
 }
 
-/// A search by a closure that stays as it is, which needs no law: in texts sorted by length, the place of one of this length, or where the
-/// shorter ones end.
+/// Searches texts that are sorted by length, and returns the index of one of length `wanted`, or
+/// `Err` with the index where the shorter ones end. The calls don't change the closure, so the
+/// search needs no law.
 pub fn place_by_length<'a, A: Allocator + Copy>(
     texts: &FrozenVec<'a, String, A>,
     wanted: usize,

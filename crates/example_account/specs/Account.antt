@@ -5,7 +5,7 @@ use Rattle.example_account.specs.declared.account.AccountCommand.TheVariants.{De
 use Rattle.example_account.specs.declared.account.AccountReply.{AccountReply}
 use Rattle.example_account.specs.declared.account.AccountReply.TheVariants.{Balance, Refused}
 
--- the command, answered by the reply, takes the balance `old` to the balance `new`
+-- The command, with this reply, changes the balance `old` to the balance `new`.
 abbrev pub AccountStep : ℕ → AccountCommand → AccountReply → ℕ → Type 0
 AccountStep old (Deposit amount) (Balance now) new = (new ≡ old + amount) × (now ≡ new)
 AccountStep old (Withdraw amount) (Balance now) new = (old ≡ new + amount) × (now ≡ new)

@@ -1,24 +1,24 @@
-//! An account as the core of a recorder: its commands, its replies, and what they mean.
+//! An account as the sequential object of a recorder: its commands, its replies, and their meaning.
 ghost use Rattle.std.specs.Prelude.{◌≡◌};
 
 use elsa::sync::history::{Call, Core};
 use std::alloc::AllocError;
 
-/// An account with a balance of cents, which opens empty.
+/// An account with a balance in cents.
 #[derive(Drop)]
 pub struct Account {
     cents: u64,
 }
 
 impl Account {
-    /// An empty account.
+    /// Makes an account whose balance is 0.
     pub fn new() -> Self
         ensures { result.cents ≡ 0 }
     {
         Account { cents: 0 }
     }
 
-    /// The balance in cents.
+    /// Returns the balance in cents.
     pub fn balance(&self) -> u64
         ensures { result ≡ self.now.cents }
     {
@@ -29,18 +29,18 @@ impl Account {
 /// A call on an account.
 #[derive(Clone, Copy, PartialEq, Eq)]
 pub enum AccountCommand {
-    /// So many cents come in.
+    /// Adds this number of cents to the balance.
     Deposit(u64),
-    /// So many cents go out.
+    /// Subtracts this number of cents from the balance.
     Withdraw(u64),
 }
 
 /// A reply of an account.
 #[derive(Clone, Copy, PartialEq, Eq)]
 pub enum AccountReply {
-    /// It was done; this is the balance in cents afterwards.
+    /// The call succeeded; this is the balance in cents after it.
     Balance(u64),
-    /// It was not done: the balance is less than what was to go out, or would be more than a `u64` holds.
+    /// The call changed nothing: the balance would be negative, or greater than a `u64` can be.
     Refused,
 }
 

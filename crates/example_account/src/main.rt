@@ -1,15 +1,18 @@
-//! A recorder over a core of one's own, whose history is closed in parts: an account that two threads use at once, day by day.
+//! A recorder over your own sequential object, whose history is closed in parts: an account that
+//! two threads use at once, day by day.
 //!
-//! What a recorder asks of a core is [`Core`](elsa::sync::history::Core): a type of commands whose
-//! [`Call`](elsa::sync::history::Call) says what each means, and a type of replies ([`account`]). The meaning of the commands stands
-//! in `specs/Account.antt`, four lines. When the threads of a day are done its recorder is closed with their passes, which gives the
-//! day's calls and the account; the next day's recorder starts with that. So no recorder keeps the calls of more than a day,
-//! and the days together are one history, which is proved to be legal from the empty account: it trusts no thread. The program
-//! prints the same whatever the schedule.
+//! A recorder requires a [`Core`](elsa::sync::history::Core): a type of commands whose
+//! [`Call`](elsa::sync::history::Call) defines the meaning of each command, and a type of replies
+//! ([`account`]). The meaning of the commands is in `specs/Account.antt`, in four lines. When the
+//! threads of a day are done, its recorder is closed with their `RecordPass`es. The close returns
+//! the day's calls and the account, and the next day's recorder starts with that account. So no
+//! recorder stores the calls of more than one day. The days together are one history, which is
+//! proved to be legal from the empty account; the proof trusts no thread. The output is the same
+//! for every schedule.
 #![tactic(auto)]
 
 ghost use Rattle.std.specs.Prelude.{◌≡◌, ◌++◌, IfOk, IfSome};
-ghost use Rattle.elsa_words.specs.Replay.{Replays};
+ghost use Rattle.elsa_specs.specs.Replay.{Replays};
 ghost use Rattle.example_account.specs.Account.{AccountStep};
 
 mod account;
@@ -34,7 +37,11 @@ fn main(rt: HostRuntime) -> io::Result<()> {
     println!(rt; "the balance is {}", account.balance())
 }
 
-/// The calls of one day, those of the next, and the account after both. `None` where a day's receipts aren't its history.
+/// Runs two days. Returns the calls of the first, and the account after both with the calls of the
+/// second, or `None` if a day's receipts aren't its history.
+///
+/// # Errors
+/// Fails if an allocation fails.
 #[tactic(auto, using(elsa_history::proofs::Parts::replays_append))]
 fn two_days<R: Threads + Wait + Sync>(
     rt: &R,
@@ -52,7 +59,11 @@ fn two_days<R: Threads + Wait + Sync>(
     Ok(Some((first, rest)))
 }
 
-/// The account after a day that it started with so much, and the day's calls. `None` where the receipts aren't the history.
+/// Runs one day that starts with this account. Returns the account after it with the day's calls,
+/// or `None` if the receipts aren't the history.
+///
+/// # Errors
+/// Fails if an allocation fails.
 fn day<R: Threads + Wait + Sync, S: Start<Account> + Send + Sync>(
     rt: &R,
     alloc: Global,
@@ -75,7 +86,8 @@ fn day<R: Threads + Wait + Sync, S: Start<Account> + Send + Sync>(
     Ok(Some(history.into_parts()))
 }
 
-/// Ten times puts 100 cents in and takes 30 out, and then asks for more than there is.
+/// Makes the calls of one thread: ten times a deposit of 100 cents and a withdrawal of 30, and then
+/// a withdrawal of more than the balance.
 fn work<R: Wait, S: Start<Account>>(
     rt: &R,
     recorder: &Recorder<Account, Global, S>,
@@ -90,7 +102,7 @@ fn work<R: Wait, S: Start<Account>>(
     Ok(pass)
 }
 
-/// Prints how many calls a day had, and how many of them were refused.
+/// Prints the number of calls of a day, and the number of those that changed nothing.
 fn tell(rt: &impl Print, name: &str, day: &Entries<Account>) -> io::Result<()> {
     let mut refused = 0u64;
     for (_, _, reply) in day {

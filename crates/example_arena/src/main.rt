@@ -1,9 +1,11 @@
-//! An arena of things that name their friends.
+//! An arena of animals that refer to their friends.
 //!
-//! Each line of standard input is an animal, and behind a colon its friends, by name: `toad: robin, hedgehog`. An animal holds borrows of its
-//! friends, and they hold borrows of theirs, so the animals are a graph without numbers, counts of owners or unsafe code. That works since a
-//! borrow that [`FrozenVec`](elsa::FrozenVec) answers has the life of the arena and not of the vector: it is good while more animals come, and
-//! it is good after the vector's end, as the last line of the output shows.
+//! Each line of standard input is an animal, followed by a colon and its friends' names:
+//! `toad: robin, hedgehog`. An animal contains borrows of its friends, and they contain borrows of
+//! theirs. So the animals are a graph without indices, reference counts or unsafe code. This works
+//! because a borrow that [`FrozenVec`](elsa::FrozenVec) returns has the lifetime of the arena and
+//! not that of the vector: it is valid while more animals are added, and after the vector's end, as
+//! the last line of the output shows.
 #![tactic(auto)]
 
 mod meadow;
@@ -13,13 +15,13 @@ use bumpalo::Bump;
 use std::alloc::{AllocError, Global};
 use std::io::{self, BufRead, BufReader};
 
-/// What a line asks for can't be done.
+/// The reason why a line adds no animal.
 enum Fault<'t> {
-    /// There is an animal of this name.
+    /// There is an animal of this name already.
     IsHere(&'t str),
-    /// The friend of this name hasn't come yet.
+    /// There is no animal of this friend's name yet.
     Unknown(&'t str),
-    /// Memory was refused.
+    /// An allocation failed.
     Memory,
 }
 
@@ -29,7 +31,11 @@ impl<'t> From<AllocError> for Fault<'t> {
     }
 }
 
-/// Adds the animal of a line, whose friends are there already.
+/// Adds the animal of a line, whose friends must be there already.
+///
+/// # Errors
+/// `IsHere` if there is an animal of this name, `Unknown` if a friend is missing, `Memory` if an
+/// allocation fails.
 fn add<'a, 't>(
     alloc: Global,
     meadow: &mut Meadow<'a>,
@@ -52,7 +58,7 @@ fn add<'a, 't>(
     Ok(meadow.add(alloc, name, friends)?)
 }
 
-/// An animal with its friends, one step from borrow to borrow.
+/// Prints an animal with its friends, one step from borrow to borrow.
 fn describe(rt: &impl Print, animal: &Animal<'_>) -> io::Result<()> {
     if animal.friends.is_empty() {
         return println!(rt; "{} names nobody", animal.name);
@@ -64,7 +70,8 @@ fn describe(rt: &impl Print, animal: &Animal<'_>) -> io::Result<()> {
     println!(rt; "")
 }
 
-/// The friends of an animal's friends, each as often as somebody names it: two steps.
+/// Prints the friends of an animal's friends, which are two steps away. A friend of several friends
+/// is printed several times.
 fn describe_further(rt: &impl Print, animal: &Animal<'_>) -> io::Result<()> {
     print!(rt; "friends of {} name", animal.name)?;
     for friend in animal.friends {

@@ -1,4 +1,4 @@
-//! The animals of a meadow and who is whose friend.
+//! The animals of a meadow and their friends.
 ghost use Rattle.std.specs.Prelude.{◌≡◌, ◌++◌, ◌∷◌, [], IfOk, IfSome, OnErr};
 ghost use Rattle.example_arena.specs.declared.meadow.Animal.{out-Animal};
 
@@ -6,26 +6,26 @@ use bumpalo::Bump;
 use elsa::{FrozenVec, Own};
 use std::alloc::{AllocError, Global};
 
-/// An animal, which names its friends.
+/// An animal, which refers to its friends.
 #[derive(Clone, Copy)]
 pub struct Animal<'a> {
-    /// What it is called.
+    /// Its name.
     pub name: &'a str,
-    /// Its friends, in the order in which they were named. Each was there before.
+    /// Its friends, in the order of its line. Each was added before it.
     pub friends: &'a [&'a Animal<'a>],
 }
 
-/// Animals, whose names and lists of friends stand in the same arena as they do.
+/// Animals. Their names and lists of friends are in the same arena.
 #[derive(Drop)]
 pub struct Meadow<'a> {
-    /// The animals, in the order in which they came.
+    /// The animals, in the order in which they were added.
     pub animals: FrozenVec<'a, Own<Animal<'a>>>,
     names: FrozenVec<'a, String>,
     circles: FrozenVec<'a, Vec<&'a Animal<'a>>>,
 }
 
 impl<'a> Meadow<'a> {
-    /// A meadow without animals. Takes no memory.
+    /// Makes a meadow without animals. It allocates nothing.
     pub fn new(alloc: Global, arena: &'a Bump) -> Self
         ensures { result.animals ≡ [] }
     {
@@ -36,7 +36,10 @@ impl<'a> Meadow<'a> {
         }
     }
 
-    /// The first animal of that name, or `None` if there is none. `O(n)`.
+    /// Returns the first animal of this name, or `None` if there is none.
+    ///
+    /// # Cost
+    /// `O(n)`.
     pub fn find(&self, name: &str) -> Option<&'a Animal<'a>>
         ensures { IfSome result (λ animal. (out-Animal animal.now).name.now ≡ name.now) }
     {
@@ -44,6 +47,9 @@ impl<'a> Meadow<'a> {
     }
 
     /// Adds an animal whose name and friends are in the arena.
+    ///
+    /// # Errors
+    /// Fails if an allocation fails. The animals are then unchanged.
     fn settle(
         &mut self,
         name: &'a str,
@@ -58,9 +64,10 @@ impl<'a> Meadow<'a> {
         self.animals.push_get(Own(Animal { name, friends }))
     }
 
-    /// Adds an animal and answers its borrow, which outlives the meadow.
+    /// Adds an animal and returns its borrow, which outlives the meadow.
     ///
-    /// Err where memory is refused: the animals are as before.
+    /// # Errors
+    /// Fails if an allocation fails. The animals are then unchanged.
     pub fn add(
         &mut self,
         alloc: Global,

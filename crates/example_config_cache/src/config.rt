@@ -1,4 +1,4 @@
-//! A configuration: lines `KEY = VALUE`. Empty lines, and those that begin with `#`, say nothing.
+//! A configuration: lines `KEY = VALUE`. Empty lines, and lines that begin with `#`, are ignored.
 ghost use Rattle.std.specs.Prelude.{◌≡◌, ◌++◌, IfSome, codes, find};
 ghost use Rattle.std.specs.Option.{option_map};
 ghost use Rattle.std.specs.Str.{bytes_eq};
@@ -14,13 +14,14 @@ pub struct Pair<'t> {
     pub value: &'t str,
 }
 
-/// The pairs of a text, in the order of its lines. It is `Copy`, so it can be a value of a collection: it holds borrows alone.
+/// The pairs of a text, in the order of its lines. It has only borrows, so it is `Copy` and can be
+/// a value of a collection.
 #[derive(Clone, Copy)]
 pub struct Config<'t> {
     pub pairs: &'t [Pair<'t>],
 }
 
-/// Why a text isn't a configuration.
+/// The reason why a text isn't a configuration.
 #[derive(Clone, Copy)]
 pub enum ParseFault {
     /// This line, counted from 1, has no `=`.
@@ -35,14 +36,14 @@ impl From<AllocError> for ParseFault {
     }
 }
 
-/// What is before the first `=` of a line, and what is behind it.
+/// Returns the parts of a line before and after its first `=`, or `None` if it has no `=`.
 fn halves(line: &str) -> Option<(&str, &str)>
     ensures { IfSome result (λ half. line.entry.now ≡ half.0.now ++ codes "=" ++ half.1.now) }
 {
     line.split_once("=")
 }
 
-/// Makes configurations of texts. The lists of their pairs lie in the arena.
+/// A parser of configurations. It stores the lists of their pairs in the arena.
 #[derive(Drop)]
 pub struct Parser<'a> {
     alloc: Global,
@@ -50,7 +51,7 @@ pub struct Parser<'a> {
 }
 
 impl<'a> Parser<'a> {
-    /// A parser that has made nothing. Takes no memory.
+    /// Makes a parser. It allocates nothing.
     pub fn new(alloc: Global, arena: &'a Bump) -> Self {
         Parser {
             alloc,
@@ -58,7 +59,10 @@ impl<'a> Parser<'a> {
         }
     }
 
-    /// The pairs of a text, which are slices of it.
+    /// Returns the pairs of a text, which are slices of it.
+    ///
+    /// # Errors
+    /// `BadLine` if a line has no `=`, `Memory` if an allocation fails.
     pub fn parse(&mut self, text: &'a str) -> Result<Config<'a>, ParseFault> {
         let mut pairs = Vec::new(self.alloc);
         for (index, line) in text.lines().enumerate() {
@@ -81,7 +85,7 @@ impl<'a> Parser<'a> {
 }
 
 impl<'t> Config<'t> {
-    /// The value of the first pair with this key, or `None` if no pair has it.
+    /// Returns the value of the first pair with this key, or `None` if no pair has it.
     pub fn value(&self, key: &str) -> Option<&'t str>
         ensures { result ≡ option_map (λ pair. pair.value)
             (find (λ pair. bytes_eq pair.key.now key.now) self.now.pairs.now) }

@@ -12,7 +12,8 @@ use std::alloc::Global;
 use std::rt::Files;
 use std::{fs, io};
 
-/// The texts and the configurations of files, by path. One arena has the texts and the configurations, which borrow from the texts.
+/// The texts and the configurations of files, by path. Both are in one arena, and the
+/// configurations borrow from the texts.
 #[derive(Drop)]
 pub struct Configs<'a> {
     parser: Parser<'a>,
@@ -21,7 +22,7 @@ pub struct Configs<'a> {
 }
 
 impl<'a> Configs<'a> {
-    /// No files; their paths are hashed with this secret. Takes no memory.
+    /// Makes a cache without files, whose paths are hashed with this secret. It allocates nothing.
     pub fn new(alloc: Global, arena: &'a Bump, secret: SeededState) -> Self
         ensures { result.parsed.resources ≡ [] }
     {
@@ -31,9 +32,12 @@ impl<'a> Configs<'a> {
         }
     }
 
-    /// The configuration in a file. The file is read where its text isn't here, and parsed where its configuration isn't.
+    /// Returns the configuration in a file. It reads the file unless its text is stored, and parses
+    /// the text unless its configuration is stored.
     ///
-    /// `Err` leaves the configurations as they were: `Load` if the file can't be read or isn't UTF-8, `Parse` if a line is bad.
+    /// # Errors
+    /// `Load` if the file can't be read or isn't UTF-8, `Parse` if a line is bad, `Memory` if an
+    /// allocation fails. The configurations are then unchanged.
     pub fn config<R: Files + AllocGlobal>(
         &mut self,
         rt: &R,

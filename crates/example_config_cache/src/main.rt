@@ -1,8 +1,10 @@
-//! A cache of configuration files: each is read and parsed once, and its keys and values are slices of its text.
+//! A cache of configuration files. Each file is read and parsed once, and its keys and values are
+//! slices of its text.
 //!
-//! Each line of standard input is `PATH KEY`, and is answered by the key's value in that file. The texts and what was made of them lie in an
-//! arena, so a value stays good while more files are loaded, and after the cache's end, as the last line of the output shows. A file that is
-//! missing, isn't UTF-8 or has a bad line is told with its reason, and the others stay.
+//! Each line of standard input is `PATH KEY`, and the program prints the key's value in that file.
+//! The texts and the configurations are in an arena, so a value stays valid while more files are
+//! loaded, and after the cache's end, as the last line of the output shows. If a file is missing,
+//! isn't UTF-8 or has a bad line, the program prints the reason, and the other files stay.
 #![tactic(auto)]
 
 mod config;
@@ -50,7 +52,7 @@ fn main(rt: HostRuntime) -> io::Result<()> {
     output.flush()
 }
 
-/// Writes why the file at the path has no configuration.
+/// Writes the reason why the file at the path has no configuration.
 fn write_fault(
     output: &mut impl Write,
     path: &str,

@@ -1,14 +1,14 @@
-//! Expressions by number: equal ones have one.
+//! Expressions by number: equal expressions have one number.
 ghost use Rattle.std.specs.Prelude.{◌≡◌, [], OnErr, length};
 
 use bumpalo::Bump;
 use elsa::{FrozenIndexSet, Own};
 use std::alloc::{AllocError, Global};
 
-/// An expression: a number that is given, or an operation on two expressions, by their numbers.
+/// An expression: an input, or an operation on the expressions with two numbers.
 #[derive(Clone, Copy, PartialEq, Eq, Hash)]
 pub enum Node {
-    /// A given value.
+    /// An input with this value.
     Input(u64),
     /// The sum of two expressions.
     Sum(usize, usize),
@@ -16,7 +16,7 @@ pub enum Node {
     Product(usize, usize),
 }
 
-/// Expressions, numbered in the order in which they came, and the value of each, modulo 2^64.
+/// Expressions, numbered in the order of their first insertion, and the value of each, modulo 2^64.
 #[derive(Drop)]
 pub struct Expressions<'a> {
     pub nodes: FrozenIndexSet<'a, Own<Node>>,
@@ -24,7 +24,7 @@ pub struct Expressions<'a> {
 }
 
 impl<'a> Expressions<'a> {
-    /// No expressions. Takes no memory.
+    /// Makes a set without expressions. It allocates nothing.
     pub fn new(alloc: Global, arena: &'a Bump) -> Self
         ensures { result.nodes ≡ [] }
     {
@@ -34,22 +34,26 @@ impl<'a> Expressions<'a> {
         }
     }
 
-    /// The number of an expression: the one that an equal one has, or else the next. `O(1)`, however deep it is.
+    /// Returns the number of an expression: that of an equal one, or else the next.
     ///
-    /// `Err` on an allocation failure: the expressions are as before.
+    /// # Errors
+    /// Fails if an allocation fails. The expressions are then unchanged.
+    ///
+    /// # Cost
+    /// `O(1)`, for an expression of any depth.
     pub fn number(&mut self, node: Node) -> Result<usize, AllocError>
         ensures refused { OnErr result (self.new.nodes ≡ self.old.nodes) }
     {
         self.values.reserve(1)?;
         let value = self.computed(node);
-        let (number, _kept, is_new) = self.nodes.insert_full_new(Own(node))?;
-        if is_new {
+        let done = self.nodes.insert_full_new(Own(node))?;
+        if done.is_new {
             self.values.push(value).unwrap();
         }
-        Ok(number)
+        Ok(done.index)
     }
 
-    /// What an expression comes to. An operand whose number nobody has counts as 0.
+    /// Computes the value of an expression. An operand whose number no expression has counts as 0.
     fn computed(&self, node: Node) -> u64 {
         let of = |number: usize| self.value(number).unwrap_or(0);
         match node {
@@ -59,12 +63,15 @@ impl<'a> Expressions<'a> {
         }
     }
 
-    /// The value of the expression with this number, or `None` if no expression has it. `O(1)`.
+    /// Returns the value of the expression with this number, or `None` if no expression has it.
+    ///
+    /// # Cost
+    /// `O(1)`.
     pub fn value(&self, number: usize) -> Option<u64> {
         self.values.get(number).copied()
     }
 
-    /// How many expressions there are.
+    /// Returns the number of expressions.
     pub fn len(&self) -> usize
         ensures { result ≡ length self.now.nodes }
     {

@@ -1,11 +1,13 @@
-//! Expressions that share their equal parts, as a compiler keeps them (hash-consing).
+//! Expressions that share their equal parts, as in a compiler (hash-consing).
 //!
-//! Each line of standard input names an expression: `area = width * height`. Equal expressions get one number, and a line tells it with the value
-//! that the expression has where each input is the length of its name.
+//! Each line of standard input names an expression: `area = width * height`. Equal expressions have
+//! one number. The program prints it, with the value that the expression has if the value of each
+//! input is the length of its name.
 //!
-//! The key of an expression is its operation with the *numbers* of its operands, in a [`FrozenIndexSet`](elsa::FrozenIndexSet). So a hash reads three
-//! words, however deep the expression is: with borrows of the operands as keys a derived `Hash` would walk all of it, 2^20 sums for the last line
-//! of the sample.
+//! The key of an expression in a [`FrozenIndexSet`](elsa::FrozenIndexSet) is its operation with the
+//! *numbers* of its operands. So a hash reads three words, for an expression of any depth. If the
+//! keys had borrows of the operands, a derived `Hash` would walk over the whole expression: 2^20
+//! sums for the last line of the sample.
 #![tactic(auto)]
 
 mod expressions;
@@ -16,12 +18,12 @@ use elsa::{FrozenMap, Own};
 use std::alloc::AllocError;
 use std::io::{self, BufRead, BufReader};
 
-/// Why a line names no expression.
+/// The reason why a line names no expression.
 #[derive(Debug, Clone, Copy)]
 enum Fault {
     /// It isn't `NAME = NAME + NAME` or `NAME = NAME * NAME`.
     Form,
-    /// The name has an expression.
+    /// The name has an expression already.
     IsNamed,
     /// An allocation failed.
     Memory,
@@ -33,16 +35,16 @@ impl From<AllocError> for Fault {
     }
 }
 
-/// The numbers of the names that have an expression.
+/// The names that have an expression, with its number.
 type Names<'a> = FrozenMap<'a, &'a str, Own<usize>>;
 
-/// The number of a name: that of its expression, or else of an input.
+/// Returns the number of a name: that of its expression, or else that of an input.
 fn number_of<'a>(
     names: &mut Names<'a>,
     expressions: &mut Expressions<'a>,
     name: &str,
 ) -> Result<usize, AllocError> {
-    if let Some(number) = names.get_text(name) {
+    if let Some(number) = names.get(name) {
         return Ok(*number);
     }
     let value = name.len() as u64;
@@ -51,7 +53,7 @@ fn number_of<'a>(
     Ok(number)
 }
 
-/// The expression of a line, by its number.
+/// Adds the expression of a line, and returns its number.
 fn add<'a>(
     names: &mut Names<'a>,
     expressions: &mut Expressions<'a>,
@@ -60,7 +62,7 @@ fn add<'a>(
     let Some((name, text)) = line.split_once(" = ") else {
         return Err(Fault::Form);
     };
-    if names.get_text(name).is_some() {
+    if names.contains_key(name) {
         return Err(Fault::IsNamed);
     }
     let (is_sum, operands) = match text.split_once(" + ") {

@@ -1,10 +1,11 @@
-//! A concurrent vector with a reader that never waits.
+//! An event log: a concurrent vector with a reader that waits for new readings.
 //!
-//! One thread pushes readings while another follows by `news`, which looks once and gives what came since. A push may wait for another
-//! push, so the pusher takes the right to wait; a look takes no lock and no right to wait, so the type of
-//! [`Follower::read_on`](follower::Follower::read_on) says that it never waits. What a [`Handle`](elsa::sync::Handle) has seen is a beginning
-//! of the one list that all threads share, and only grows, whatever the schedule. The program prints the same whatever the schedule: what
-//! the follower missed while the pusher ran it reads afterwards.
+//! One thread pushes readings. Another thread follows by `wait_for_news`, which reads the length
+//! until there is a reading that it has not observed, and yields its processor in between. Both
+//! calls may block, so both take the permission to block. The observed prefix of a
+//! [`Handle`](elsa::sync::Handle) is a prefix of the one list that all threads share, and it only
+//! grows, for every schedule. The output is the same for every schedule: the follower reads the
+//! readings that it missed after the other thread has ended.
 #![tactic(auto)]
 
 mod follower;
@@ -15,18 +16,24 @@ use std::alloc::AllocError;
 use std::sync::Wait;
 use std::{io, thread};
 
-/// How many readings there are.
+/// The number of readings.
 const READINGS: usize = 1000;
 
-/// How often the follower looks, while there may be more.
-const LOOKS: u64 = 20_000;
+/// The number of times that the follower waits while readings may still be pushed.
+const WAITS: u64 = 20_000;
 
-/// The reading at a time: it rises from 0 to 6 and begins anew.
+/// The number of reads of the length for each time that it waits.
+const TRIES: usize = 1000;
+
+/// Returns the reading at this time. The readings repeat 0 to 6.
 fn reading(time: usize) -> u64 {
     (time % 7) as u64
 }
 
 /// Pushes all readings, in order.
+///
+/// # Errors
+/// Fails if an allocation fails.
 fn push_all<R: Wait>(rt: &R, feed: &LockFreeFrozenVec<u64>) -> Result<(), AllocError> {
     let mut feed = feed.handle();
     for time in 0..READINGS {
@@ -35,10 +42,10 @@ fn push_all<R: Wait>(rt: &R, feed: &LockFreeFrozenVec<u64>) -> Result<(), AllocE
     Ok(())
 }
 
-/// Reads on until all readings were seen or it has looked often enough.
-fn follow(follower: &mut Follower<'_>) {
-    for _ in 0..LOOKS {
-        follower.read_on();
+/// Reads until all readings were observed, or it has waited `WAITS` times: a push may have failed.
+fn follow<R: Wait>(rt: &R, follower: &mut Follower<'_>) {
+    for _ in 0..WAITS {
+        follower.read_on(rt, TRIES);
         if follower.count == READINGS {
             break;
         }
@@ -53,12 +60,12 @@ fn main(rt: HostRuntime) -> io::Result<()> {
         &rt,
         || push_all(&rt, shared),
         || {
-            follow(&mut follower);
+            follow(&rt, &mut follower);
             follower
         },
     );
     pushed?;
-    follower.read_on();
+    follower.read_on(&rt, 1);
     println!(rt; "{} readings, {} in all", follower.count, follower.sum)?;
     println!(rt;
         "the last one is {:?}",

@@ -1,13 +1,16 @@
-//! A memo table that worker threads share, with a recorder beside it.
+//! A memo table that worker threads share, with a recorder.
 //!
-//! Four workers compute Fibonacci numbers. What one of them has computed is in a [`LockFreeFrozenMap`](elsa::sync::LockFreeFrozenMap) for
-//! all: the first value of a key stays, and a look-up takes no lock. Which value another thread inserts no contract can say, so a value
-//! carries what it is ([`Term`](term::Term) has a ghost field), and each number that is returned is proved to be the right one.
+//! Four workers compute Fibonacci numbers. The computed numbers are in a
+//! [`LockFreeFrozenMap`](elsa::sync::LockFreeFrozenMap) that all workers use: the first value of a
+//! key stays, and a lookup takes no lock. No contract can state which value another thread inserts.
+//! So each value carries its own proof ([`Term`](term::Term) has a ghost field), and each number
+//! that is returned is proved to be the right one.
 //!
-//! Each worker also tells a [`Recorder`](elsa::sync::history::Recorder) of its results. When the workers are done the recorder is closed with
-//! their passes. That succeeds exactly if the receipts in the passes are the recorder's history, which is proved to be legal: each reply
-//! follows from the calls before it. So the audit at the end reads the history and trusts no worker. The program prints the same whatever the
-//! schedule.
+//! Each worker also records its results in a [`Recorder`](elsa::sync::history::Recorder). When the
+//! workers are done, the recorder is closed with their `RecordPass`es. The close succeeds exactly
+//! if the receipts in them are the recorder's history, which is proved to be legal: each reply
+//! follows from the calls before it. So the audit at the end reads the history and trusts no
+//! worker. The output is the same for every schedule.
 #![tactic(auto)]
 
 mod audit;
@@ -44,7 +47,8 @@ fn main(rt: HostRuntime) -> io::Result<()> {
     tell(&rt, &history)
 }
 
-/// Prints how many calls the history has, how many of them each worker made, and some of the numbers.
+/// Prints the number of calls of the history, the number of calls of each worker, and some of the
+/// numbers.
 fn tell(rt: &impl Print, history: &Told) -> io::Result<()> {
     println!(rt; "{} calls, all of them legal", history.entries().len())?;
     for worker in 0..WORKERS {

@@ -1,4 +1,4 @@
-//! What each thread does.
+//! The work of each thread.
 ghost use Rattle.std.specs.Prelude.{◌≡◌, IfOk, IfSome};
 ghost use Rattle.example_memo.specs.Fibonacci.{fibonacci_at};
 
@@ -9,19 +9,25 @@ use elsa::sync::{LockFreeFrozenMap, MapHandle};
 use std::alloc::AllocError;
 use std::sync::Wait;
 
-/// The table: terms by their places.
+/// The memo table: terms by their indices.
 pub type Memo = LockFreeFrozenMap<u64, Term>;
 
-/// What the recorder records: insertions of numbers at their places.
+/// The recorder, which records insertions of numbers at their indices.
 pub type Tellings = Recorder<MapState<u64, u64>>;
 
-/// What a closed recorder leaves.
+/// The history of a closed recorder.
 pub type Told = History<MapState<u64, u64>>;
 
-/// The greatest place that is asked for.
+/// The greatest index.
 pub const LAST: u64 = 90;
 
-/// The number at a place, from the table or by the rule. `None` where it is 2^64 or more. It waits while another thread inserts.
+/// Returns the number at an index, from the table or by the rule, or `None` if it is 2^64 or more.
+///
+/// # Errors
+/// Fails if an allocation fails.
+///
+/// # Blocks
+/// It waits while another thread inserts.
 fn number<R: Wait>(
     rt: &R,
     memo: &mut MapHandle<'_, u64, Term>,
@@ -48,7 +54,13 @@ fn number<R: Wait>(
     Ok(stands.value.at(place))
 }
 
-/// Computes the numbers at every fourth place from the worker's own, and tells the recorder of each.
+/// Computes the numbers at every fourth index from the worker's own number on, and records each.
+///
+/// # Errors
+/// Fails if an allocation fails.
+///
+/// # Blocks
+/// It waits while another thread inserts or records.
 pub fn work<R: Wait>(
     rt: &R,
     memo: &Memo,

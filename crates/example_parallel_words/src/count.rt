@@ -1,11 +1,11 @@
-//! One thread's part: the words of a text, counted by their numbers.
+//! The work of one thread: it counts the words of a text by their numbers.
 ghost use Rattle.std.specs.Prelude.{◌≡◌, IfOk};
 
 use elsa::interner::{Name, NamePass, SharedInterner};
 use std::alloc::{AllocError, Global};
 use std::sync::Wait;
 
-/// How often each number was counted.
+/// The count of each number.
 #[derive(Drop)]
 pub struct Counts {
     alloc: Global,
@@ -13,7 +13,7 @@ pub struct Counts {
 }
 
 impl Counts {
-    /// No counts.
+    /// Makes a list without counts.
     pub fn new(alloc: Global) -> Counts {
         Counts {
             alloc,
@@ -21,17 +21,17 @@ impl Counts {
         }
     }
 
-    /// The allocator.
+    /// Returns the allocator.
     pub fn alloc(&self) -> Global {
         self.alloc
     }
 
-    /// The number behind the greatest that was counted.
+    /// Returns the greatest counted number plus 1, or 0 if none was counted.
     pub fn len(&self) -> usize {
         self.counts.len()
     }
 
-    /// How often a number was counted.
+    /// Returns the count of a number.
     pub fn of(&self, number: usize) -> u64 {
         match self.counts.get(number) {
             Some(count) => *count,
@@ -39,7 +39,10 @@ impl Counts {
         }
     }
 
-    /// Counts a number once more.
+    /// Increases the count of a number by 1.
+    ///
+    /// # Errors
+    /// Fails if an allocation fails. The counts are then unchanged.
     pub fn add(&mut self, number: usize) -> Result<(), AllocError> {
         if number >= self.counts.len() {
             self.counts.resize(number.saturating_add(1), 0)?;
@@ -51,8 +54,14 @@ impl Counts {
     }
 }
 
-/// Counts the words of a text, and hands its pass back, which has seen each word that it counted. A word that is too long for a name
-/// is left out.
+/// Counts the words of a text, and returns the counts with a view that has observed each counted
+/// word. A word that is too long for a name is left out.
+///
+/// # Errors
+/// Fails if an allocation fails.
+///
+/// # Blocks
+/// It waits while another thread puts a word.
 pub fn count_words<R: Wait>(
     rt: &R,
     alloc: Global,

@@ -1,9 +1,10 @@
-//! Counts the words of a text with two threads, which number them in one shared interner.
+//! Counts the words of a text with two threads, which number the words in one shared interner.
 //!
-//! Each thread cuts its half into words side by side with the other, and counts them by their numbers in a vector of its own. A word
-//! has one number for both, by contract, so in the end the counts of a number are added up. The threads hand their passes back: once these
-//! have met, each has seen the words of both, and a word is read at its number with no atomic step. The numbers depend on which thread is
-//! first; what is printed does not.
+//! Each thread splits its half into words while the other does the same, and counts them by their
+//! numbers in its own vector. A word has the same number in both threads, by contract, so the
+//! counts of a number are added up at the end. The threads return their views. After these are
+//! merged, each has observed the words of both, and a word is read by its number without an atomic
+//! operation. The numbers depend on which thread is first; the output does not.
 #![tactic(auto)]
 
 mod count;
@@ -17,7 +18,8 @@ use std::sync::Wait;
 use std::thread::Threads;
 use std::{io, thread};
 
-/// The first sentences of Jane Austen's "Pride and Prejudice", and those of the first chapter's end.
+/// The first sentences of Jane Austen's "Pride and Prejudice", and those of the first chapter's
+/// end.
 const FIRST: &str =
     "It is a truth universally acknowledged, that a single man in possession of a good fortune, \
 must be in want of a wife. However little known the feelings or views of such a man may be on his first \
@@ -29,7 +31,10 @@ const SECOND: &str =
 discontented, she fancied herself nervous. The business of her life was to get her daughters married; its \
 solace was visiting and news.";
 
-/// Each word with how often it is in both halves, by the word's number.
+/// Returns each word with its count in both halves, in the order of the words' numbers.
+///
+/// # Errors
+/// Fails if an allocation fails.
 fn add_up(
     words: &SharedInterner,
     names: &mut NamePass,
@@ -48,10 +53,13 @@ fn add_up(
     Ok(all)
 }
 
-/// What a thread hands back: its counts, and the pass that has seen its words.
+/// The result of a thread: its counts, and the view that has observed its words.
 type Counted = (Counts, NamePass);
 
-/// Counts each half in a thread of its own.
+/// Counts each half in its own thread.
+///
+/// # Errors
+/// Fails if an allocation fails.
 fn count_halves<R: Threads + Wait + Sync>(
     rt: &R,
     alloc: Global,
@@ -72,7 +80,8 @@ fn count_halves<R: Threads + Wait + Sync>(
     Ok((first?, second?))
 }
 
-/// Prints the words that are there more than once, the most frequent first, and how many there are.
+/// Prints the words with a count greater than 1, the most frequent first, and the number of all
+/// words.
 fn tell(rt: &impl Print, all: &[(u64, Name)]) -> io::Result<()> {
     for (count, name) in all {
         if *count > 1 {

@@ -1,8 +1,10 @@
 //! An index that is saved as JSON and read back: every word keeps its number.
 //!
-//! Standard input is a text. Its words go into an [`Interner`](elsa::interner::Interner), and the lines of their first uses into an index map.
-//! [`Stored`](elsa_serde::Stored) writes both. Reading takes two steps: `serde_json` reads [`Names`](elsa_serde::Names) and
-//! [`Entries`](elsa_serde::Entries), and these go into collections over a new arena. A text that nobody saved is refused, with a printed error.
+//! Standard input is a text. Its words are put into an [`Interner`](elsa::interner::Interner), and
+//! the lines of their first uses into an index map. [`Stored`](elsa_serde::Stored) writes both.
+//! Reading has two steps: `serde_json` reads [`Names`](elsa_serde::Names) and
+//! [`Entries`](elsa_serde::Entries), and these are put into collections over a new arena. If a text
+//! isn't that of a saved index, the program prints the error.
 #![tactic(auto)]
 
 ghost use Rattle.std.specs.Prelude.{◌≡◌, []};
@@ -16,7 +18,8 @@ use std::alloc::{AllocError, Global};
 use std::io::{self, BufRead, BufReader};
 use thiserror::Error;
 
-/// Texts that nobody saved: a word twice, one that is cut short, no list, and a list of no words.
+/// Texts that are not those of a saved index: a word twice, one that is cut short, no list, and a
+/// list of no words.
 const BROKEN: [&str; 4] = [r#"["a","b","a"]"#, r#"["a","b""#, r#"{"a":1}"#, "[1]"];
 
 /// The words of a text by their numbers, and the line of each word's first use.
@@ -26,14 +29,14 @@ struct Index<'a> {
     lines: FrozenIndexMap<'a, String, Own<u64>>,
 }
 
-/// The texts that an index is saved as.
+/// The texts of a saved index.
 #[derive(Drop)]
 struct Saved {
     words: String,
     lines: String,
 }
 
-/// Why a saved index isn't read.
+/// The reason why a saved index can't be read.
 #[derive(Debug, Drop, Error)]
 enum LoadFault {
     #[error("not the text of an index: {0}")]
@@ -53,6 +56,9 @@ impl<'a> Index<'a> {
     }
 
     /// Adds a word that is used in this line, and returns its number.
+    ///
+    /// # Errors
+    /// Fails if an allocation fails.
     fn add(&mut self, alloc: Global, word: &str, line: u64) -> Result<usize, AllocError>
         ensures kept { IsPrefix self.old.words self.new.words }
     {
@@ -68,7 +74,11 @@ impl<'a> Index<'a> {
         })
     }
 
-    /// The saved index, over a new arena.
+    /// Reads the saved index into a new arena.
+    ///
+    /// # Errors
+    /// `Text` if a text isn't JSON of the right type, `Content` if its words or entries can't be
+    /// inserted: a duplicate, too many words, or an allocation failure.
     fn load(alloc: Global, arena: &'a Bump, saved: &Saved) -> Result<Index<'a>, LoadFault> {
         let words: Names = serde_json::from_str(alloc, saved.words.as_str())?;
         let lines: Entries<String, Own<u64>> = serde_json::from_str(alloc, saved.lines.as_str())?;
@@ -79,7 +89,7 @@ impl<'a> Index<'a> {
     }
 }
 
-/// How many words have another number in the two indexes.
+/// Returns the number of words whose numbers differ in the two indexes.
 fn moved_words(before: &Index<'_>, after: &Index<'_>) -> usize {
     let mut moved: usize = 0;
     for word in before.words.iter() {
@@ -99,11 +109,11 @@ fn tell_again(rt: &impl Print, alloc: Global, index: &Index<'_>, saved: &Saved) 
     };
     let (count, moved) = (again.words.len(), moved_words(index, &again));
     println!(rt; "{count} words are read back, {moved} have another number")?;
-    let (word, line) = (again.words.at(4), again.lines.get_text("lily"));
+    let (word, line) = (again.words.at(4), again.lines.get("lily"));
     println!(rt; "number 4 is {word:?}, lily is of line {line:?}")
 }
 
-/// Prints why each text that nobody saved is refused.
+/// Prints the error of each broken text.
 fn tell_broken(rt: &impl Print, alloc: Global) -> io::Result<()> {
     for words in BROKEN {
         let broken = Saved {

@@ -1,10 +1,11 @@
-//! A picture of one schedule of the step machine: a line for each turn, a column for each thread, the list and the word
-//! beside it.
+//! A picture of one schedule of the step machine: a line for each turn, a column for each thread,
+//! then the list and the state word.
 //!
-//! Two threads push and one reads. Both pushers see the length 0; the first pushes, and the second's acquire fails, since the
-//! length that it saw is no longer the list's. Each line is told from the worlds before and after its turn, as
-//! [`run`](elsa_machine::machine::run) answers them; of a pusher that changed nothing the column's own past says whether it
-//! peeked or failed to acquire.
+//! Two threads push and one reads. Both pushers read the length 0. The first pushes; the second's
+//! acquire fails, because the length that it read is no longer that of the list. Each line is
+//! computed from the worlds before and after its turn, which [`run`](elsa_machine::machine::run)
+//! returns. If the turn of a pusher changed nothing, the earlier turns of that column show whether
+//! it was a peek or an acquire that failed.
 #![tactic(auto)]
 
 mod told;
@@ -36,7 +37,7 @@ fn plans(alloc: Global) -> Result<Vec<Plan>, AllocError> {
     Ok(plans)
 }
 
-/// Prints a line: what stands in each thread's column, the list, and the word.
+/// Prints a line: the text in each thread's column, the list, and the state word.
 fn line(rt: &impl Print, turn: &str, cells: [&str; 3], list: &str, word: &str) -> io::Result<()> {
     let [first, second, third] = cells;
     println!(rt; "{turn:>4}  {first:<18}  {second:<18}  {third:<22}  {list:<6}  {word}")

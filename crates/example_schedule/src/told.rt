@@ -1,14 +1,18 @@
-//! What a turn did, in words, told from the worlds before and after it.
+//! The effect of a turn as a text, computed from the worlds before and after it.
 use elsa_machine::machine::{Answer, Event, World};
 use std::alloc::{AllocError, Global};
 
-/// What a pusher's column remembers: the length that it saw at its peek, until it has tried to acquire.
+/// The state of a pusher's column: the length that it read at its peek, until it has tried to
+/// acquire.
 #[derive(Clone, Copy)]
 pub struct Column {
     pub peeked: Option<usize>,
 }
 
-/// The items of the list, as `[7, 9]`.
+/// Returns the items of the list, as `[7, 9]`.
+///
+/// # Errors
+/// Fails if an allocation fails.
 pub fn items_of(alloc: Global, world: &World) -> Result<String, AllocError> {
     let mut items = Vec::new(alloc);
     for event in world.events.as_slice() {
@@ -19,7 +23,7 @@ pub fn items_of(alloc: Global, world: &World) -> Result<String, AllocError> {
     format!(in alloc; "{items:?}")
 }
 
-/// A turn that has told an answer.
+/// Returns the text for a turn that ends a call with this result.
 fn told_answer(alloc: Global, answer: &Answer, length: usize) -> Result<String, AllocError> {
     match answer {
         Answer::Pushed { place, .. } => format!(in alloc; "publishes place {place}"),
@@ -35,7 +39,7 @@ fn told_answer(alloc: Global, answer: &Answer, length: usize) -> Result<String, 
     }
 }
 
-/// A turn that has changed nothing: a peek, an acquire that failed, or a wait.
+/// Returns the text for a turn that changed nothing: a peek, an acquire that failed, or a wait.
 fn told_nothing(alloc: Global, world: &World, column: &mut Column) -> Result<String, AllocError> {
     if let Some(seen) = column.peeked {
         column.peeked = None;
@@ -48,7 +52,10 @@ fn told_nothing(alloc: Global, world: &World, column: &mut Column) -> Result<Str
     format!(in alloc; "peeks: {}", world.length)
 }
 
-/// What the turn between these worlds did.
+/// Returns the text for the turn between these worlds.
+///
+/// # Errors
+/// Fails if an allocation fails.
 pub fn told(
     alloc: Global,
     before: &World,

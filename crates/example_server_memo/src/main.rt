@@ -1,10 +1,14 @@
-//! A server's memo: what one worker has rendered, the others take from a table that all of them share.
+//! A server's memo: the workers take a page that another one has rendered from a table that all of
+//! them share.
 //!
-//! Four workers answer requests that overlap. The pages are in a [`FrozenMap`](elsa::sync::FrozenMap) of `String` keys, which is asked by a `&str`:
-//! a page that is there costs one search under a lock shared with the other readers, and no `String`. A second table counts a page's words
-//! once, by a closure that runs only where the page is new. Strangers choose the paths, so both tables hash with a secret of this run.
+//! Four workers handle requests that overlap. The pages are in a
+//! [`FrozenMap`](elsa::sync::FrozenMap) with `String` keys and lookups by `&str`. If a page is
+//! present, it costs one search under a lock that readers share, and no `String`. A second table
+//! counts a page's words once, by a closure that runs only for a new page. The paths are untrusted
+//! input, so both tables hash with a secret of this run.
 //!
-//! The first page of a path stays, so all workers answer the same, and what is printed doesn't depend on the schedule.
+//! The first page of a path stays, so all workers have the same results, and the output doesn't
+//! depend on the schedule.
 #![tactic(auto)]
 
 ghost use Rattle.std.specs.Prelude.{◌≡◌, ◌++◌, IfOk, codes, string_bytes};
@@ -17,7 +21,8 @@ use std::{io, thread};
 
 const WORKERS: usize = 4;
 
-/// The paths of the requests; a worker answers those from its own number on, so each path is asked for by several.
+/// The paths of the requests. A worker handles those from its own number on, so several workers
+/// request each path.
 const REQUESTS: [&str; 8] = [
     "/",
     "/hours",
@@ -36,14 +41,17 @@ struct Memo {
     words: FrozenMap<String, usize, SeededState>,
 }
 
-/// What a worker has answered: bytes and words of all its pages.
+/// The results of a worker: the numbers of bytes and words of all its pages.
 #[derive(Clone, Copy, Debug)]
 struct Answered {
     bytes: usize,
     words: usize,
 }
 
-/// The page of a path.
+/// Renders the page of a path.
+///
+/// # Errors
+/// Fails if an allocation fails.
 fn render(alloc: Global, path: &str) -> Result<String, AllocError>
     ensures { IfOk result (λ page.
         string_bytes page ≡ codes "<h1>" ++ (path.now ++ codes "</h1>")) }
@@ -62,18 +70,20 @@ impl Memo {
         }
     }
 
-    /// The number of bytes of the path's page, which is rendered where no worker has done so.
+    /// Returns the number of bytes of the path's page, which is rendered unless a worker has
+    /// rendered it before.
     fn page_len(&self, rt: &impl Wait, alloc: Global, path: &str) -> Result<usize, AllocError> {
-        if let Some(page) = self.pages.get_text(rt, path)? {
+        if let Some(page) = self.pages.get(rt, path)? {
             return Ok(page.len());
         }
         let page = self.pages.insert_text(rt, path, render(alloc, path)?)?;
         Ok(page.len())
     }
 
-    /// The number of words of a path, counted where no worker has done so.
+    /// Returns the number of words of a path, which is counted unless a worker has counted it
+    /// before.
     fn word_count(&self, rt: &impl Wait, alloc: Global, path: &str) -> Result<usize, AllocError> {
-        if let Some(count) = self.words.get_copy_text(rt, path) {
+        if let Some(count) = self.words.get_copy(rt, path) {
             return Ok(count);
         }
         let key = String::from_str(alloc, path)?;
@@ -81,7 +91,7 @@ impl Memo {
             .get_copy_or_insert_with(rt, key, || path.split_whitespace().count())
     }
 
-    /// Answers the requests from this number on.
+    /// Handles the requests from this number on.
     fn answer(&self, rt: &impl Wait, alloc: Global, first: usize) -> Result<Answered, AllocError> {
         let mut answered = Answered { bytes: 0, words: 0 };
         for path in REQUESTS.iter().skip(first) {

@@ -1,9 +1,12 @@
-//! The symbols of a source text: each name that it uses, with its number, the line of its first use, and how often it is used.
+//! The symbols of a source text: each name in it, with its number, the line of its first use, and
+//! the number of its uses.
 //!
-//! An [`Interner`](elsa::interner::Interner) gives each name a number, the next one where the name is new, so what is known of a name
-//! is in an ordinary vector at that number. The text of a name is stored once, in the arena, however often it is used.
+//! An [`Interner`](elsa::interner::Interner) numbers the names; a new name gets the next number. So
+//! the data of a name are in an ordinary vector at that number. The text of a name is stored once,
+//! in the arena.
 //!
-//! Strangers may have written the text, so names are hashed with a secret of this run: nobody can choose names of one hash beforehand.
+//! The source text is untrusted input, so names are hashed with a secret of this run: names with
+//! one hash can't be chosen in advance.
 #![tactic(auto)]
 
 mod source;
@@ -14,7 +17,8 @@ use bumpalo::Bump;
 use elsa::SeededState;
 use std::io::{self, BufReader, BufWriter, Write};
 
-/// Reads a source text from standard input, and prints a line for each name: its number, the name, the line of its first use, its uses.
+/// Reads a source text from standard input, and prints a line for each name: its number, the name,
+/// the line of its first use, the number of its uses.
 fn main(rt: HostRuntime) -> io::Result<()> {
     let secret = SeededState::new(&rt)?;
     let alloc = rt.alloc();

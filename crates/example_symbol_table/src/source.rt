@@ -1,4 +1,5 @@
-//! The names in a source text: words of letters, digits and `_` that don't begin with a digit, apart from keywords and comments.
+//! The names in a source text: words of letters, digits and `_` that don't begin with a digit,
+//! apart from keywords and comments.
 ghost use Rattle.std.specs.Prelude.{◌≡◌, ◌++◌, IfSome, codes};
 
 use crate::symbols::Symbols;
@@ -6,6 +7,9 @@ use std::alloc::Global;
 use std::io::{self, BufRead};
 
 /// Counts each use of a name in the text, line by line.
+///
+/// # Errors
+/// Fails if the input can't be read or isn't UTF-8, or if an allocation fails.
 pub fn read(
     alloc: Global,
     input: impl BufRead + Drop,
@@ -25,7 +29,7 @@ pub fn read(
     Ok(())
 }
 
-/// What is before the first `//` of a line, and the comment behind it.
+/// Returns the parts of a line before and after its first `//`, or `None` if it has no `//`.
 fn halves(line: &str) -> Option<(&str, &str)>
     ensures { IfSome result (λ half. line.entry.now ≡ half.0.now ++ codes "//" ++ half.1.now) }
 {
@@ -36,7 +40,8 @@ fn is_separator(c: char) -> bool {
     !c.is_alphanumeric() && c != '_'
 }
 
-/// Whether a word between separators is a name: it is neither empty, nor a number, nor a keyword.
+/// Returns whether a word between separators is a name: it is neither empty, nor a number, nor a
+/// keyword.
 fn is_name(word: &str) -> bool {
     let is_keyword = matches!(
         word,

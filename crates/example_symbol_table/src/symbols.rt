@@ -1,4 +1,4 @@
-//! A symbol table: names to numbers and back, with what is known of each.
+//! A symbol table: names to numbers and back, with the data of each name.
 ghost use Rattle.std.specs.Prelude.{◌≡◌, ◌<◌, ◌+◌, ◌-◌, ◌^◌, ◌++◌, ◌∷◌, ℕ, [], IfOk, IfSome, IfNone, OnOk, OnErr, None, Some, Ok, length, position, slice_get, slice_set, vec_len};
 ghost use Rattle.std.specs.Str.{bytes_eq};
 ghost use mathlib.Core.List.{IsPrefix};
@@ -10,16 +10,17 @@ use elsa::interner::Interner;
 use std::alloc::{AllocError, Global};
 use std::io::{self, Write};
 
-/// What is known of a name.
+/// The data of a name.
 #[derive(Clone, Copy)]
 pub struct Symbol {
     /// The line of its first use, counted from 1.
     pub line: u64,
-    /// How often it is used. It stops at `u64::MAX`.
+    /// The number of its uses, at most `u64::MAX`.
     pub uses: u64,
 }
 
-/// The names of a text, numbered in the order of their first use, and at each number what is known of that name.
+/// The names of a text, numbered in the order of their first use, and the data of each name at its
+/// number.
 #[derive(Drop)]
 pub struct Symbols<'a> {
     pub names: Interner<'a, SeededState>,
@@ -28,7 +29,7 @@ pub struct Symbols<'a> {
 }
 
 impl<'a> Symbols<'a> {
-    /// No names; they are hashed with this secret. Takes no memory.
+    /// Makes a table without names, which are hashed with this secret. It allocates nothing.
     pub fn new(alloc: Global, arena: &'a Bump, secret: SeededState) -> Self
         ensures { result.names ≡ [] }
     {
@@ -38,11 +39,14 @@ impl<'a> Symbols<'a> {
         }
     }
 
-    /// Counts a use of the name in this line, and returns the name's number: the one that it has, or else the next.
+    /// Counts a use of the name in this line, and returns the name's number: the one that it has,
+    /// or else the next.
     ///
-    /// `Err` on an allocation failure, only for a new name: nothing has changed.
+    /// # Errors
+    /// Fails if an allocation fails, which can happen only for a new name. The table is then
+    /// unchanged.
     pub fn add(&mut self, name: &str, line: u64) -> Result<usize, AllocError>
-        // A name that is there keeps its number, and one use more is counted.
+        // A present name keeps its number, and one use is added.
         ensures present { (number : ℕ) → position (bytes_eq name.now) self.old.names ≡ Some number →
             (result ≡ Ok number) × (self.new.names ≡ self.old.names) }
         ensures counted { (number : ℕ) (symbol : Symbol) →
@@ -51,17 +55,17 @@ impl<'a> Symbols<'a> {
             self.new.known.items ≡ slice_set self.old.known.items number
             (record symbol { uses = symbol.uses + 1 }) }
 
-        // A new one has the next number, and is used once.
-        ensures new { position (bytes_eq name.now) self.old.names ≡ None →
+        // A new name has the next number, and one use.
+        ensures numbered { position (bytes_eq name.now) self.old.names ≡ None →
             IfOk result (λ number. number ≡ length self.old.names) }
         ensures first { position (bytes_eq name.now) self.old.names ≡ None → OnOk result
             (self.new.known.items ≡ self.old.known.items ++ record { line = line; uses = 1 } ∷ []) }
 
-        // The name stands at its number, and the others where they were.
+        // The name is at its number, and the other names keep their numbers.
         ensures named { IfOk result (λ number. slice_get self.new.names number ≡ Some name.now) }
         ensures kept { IsPrefix self.old.names self.new.names }
 
-        // A refusal leaves everything.
+        // If the call fails, nothing changes.
         ensures refused { OnErr result ((self.new.names ≡ self.old.names)
             × (self.new.known.items ≡ self.old.known.items)) }
     {
@@ -76,7 +80,7 @@ impl<'a> Symbols<'a> {
         Ok(number)
     }
 
-    /// The name with this number and what is known of it, or `None` if no name has the number.
+    /// Returns the name with this number and its data, or `None` if no name has the number.
     pub fn at(&self, number: usize) -> Option<(&'a str, Symbol)>
         ensures name { IfSome result (λ row. slice_get self.now.names number ≡ Some row.0.now) }
         ensures none { IfNone result (slice_get self.now.names number ≡ None) }
@@ -85,7 +89,11 @@ impl<'a> Symbols<'a> {
         Some((name, self.known[number]))
     }
 
-    /// Writes a line for each name, in the order of the numbers: number, name, line of first use, uses.
+    /// Writes a line for each name, in the order of the numbers: number, name, line of first use,
+    /// number of uses.
+    ///
+    /// # Errors
+    /// Fails if a write fails.
     pub fn write(&self, output: &mut impl Write) -> io::Result<()> {
         for number in 0..self.names.len() {
             if let Some((name, symbol)) = self.at(number) {

@@ -1,8 +1,11 @@
-//! The symbol pass of a compiler: one thread declares the names of a source text, and then four threads count their uses.
+//! The symbol pass of a compiler: one thread declares the names of a source text, and then four
+//! threads count their uses.
 //!
-//! An [`Interner`](elsa::interner::Interner) gives each name the next number, and what is known of a name is in a vector at that number.
-//! `into_reader` then freezes it: threads share the [`InternerReader`](elsa::interner::InternerReader) with no lock, and each counts the uses
-//! in its lines by the names' numbers. `rt run < crates/example_symbols/stdin` prints a line for each name, in the order of declaration.
+//! An [`Interner`](elsa::interner::Interner) numbers the names in order, and the data of a name are
+//! in a vector at that number. `into_reader` then freezes the interner: threads share the
+//! [`InternerReader`](elsa::interner::InternerReader) without a lock, and each counts the uses in
+//! its lines by the names' numbers. `rt run < crates/example_symbols/stdin` prints a line for each
+//! name, in the order of declaration.
 #![tactic(auto)]
 
 ghost use Rattle.std.specs.Prelude.{◌≡◌, ◌↔◌, IfOk, IsTrue, None, OnErr, length, position, vec_len};
@@ -17,7 +20,7 @@ use std::thread::{self, Threads};
 
 const THREADS: usize = 4;
 
-/// What is known of a name.
+/// The data of a name.
 #[derive(Clone, Copy)]
 struct Symbol {
     kind: &'static str,
@@ -25,7 +28,7 @@ struct Symbol {
     line: usize,
 }
 
-/// The declared names, and at each number what is known of that name.
+/// The declared names, and the data of each name at its number.
 #[derive(Drop)]
 struct Symbols<'a> {
     names: Interner<'a>,
@@ -34,9 +37,13 @@ struct Symbols<'a> {
 }
 
 impl Symbols<'_> {
-    /// Declares a name, and returns whether it is new. An old one keeps what is known of it. `Err` on an allocation failure, which changes nothing.
+    /// Declares a name, and returns whether it is new. A name that was declared before keeps its
+    /// data.
+    ///
+    /// # Errors
+    /// Fails if an allocation fails. Nothing changes then.
     fn declare(&mut self, name: &str, symbol: Symbol) -> Result<bool, AllocError>
-        ensures new { IfOk result (λ is_new. IsTrue is_new
+        ensures is_new { IfOk result (λ is_new. IsTrue is_new
             ↔ (position (bytes_eq name.now) self.old.names ≡ None)) }
         ensures kept { IsPrefix self.old.names self.new.names }
         ensures refused { OnErr result ((self.new.names ≡ self.old.names)
@@ -51,7 +58,8 @@ impl Symbols<'_> {
         Ok(true)
     }
 
-    /// Declares the name of a line, if it declares one. Prints which is declared again.
+    /// Declares the name of a line, if it declares one. Prints a message if the name was declared
+    /// before.
     fn read(&mut self, rt: &impl Print, line: &str, number: usize) -> io::Result<()> {
         let Some((kind, name)) = declaration(line) else {
             return Ok(());
@@ -67,7 +75,7 @@ fn is_separator(c: char) -> bool {
     !c.is_alphanumeric() && c != '_'
 }
 
-/// The name that a line declares, and what it is.
+/// Returns the kind and the name that a line declares, or `None` if it declares none.
 fn declaration(line: &str) -> Option<(&'static str, &str)> {
     let mut words = line.trim_start().split(is_separator);
     let kind = match words.next()? {
@@ -79,7 +87,11 @@ fn declaration(line: &str) -> Option<(&'static str, &str)> {
     Some((kind, words.next()?))
 }
 
-/// The uses of each declared name in every fourth line, from the line of this number on: a count for each name.
+/// Counts the uses of each declared name in every fourth line, from the line `first` on. Returns a
+/// count for each name.
+///
+/// # Errors
+/// Fails if an allocation fails.
 fn count_lines(
     alloc: Global,
     names: &InternerReader<'_>,
@@ -99,7 +111,7 @@ fn count_lines(
     Ok(counts)
 }
 
-/// The counts of all threads.
+/// Returns the counts of all threads.
 fn count_all(
     rt: &(impl Threads + Sync),
     alloc: Global,
@@ -114,7 +126,7 @@ fn count_all(
     Ok(parts)
 }
 
-/// The uses that all threads have counted at a number.
+/// Returns the sum of all threads' counts at a number.
 fn uses_at(counts: &[Vec<u64>], number: usize) -> u64 {
     let mut sum: u64 = 0;
     for part in counts {
@@ -123,7 +135,7 @@ fn uses_at(counts: &[Vec<u64>], number: usize) -> u64 {
     sum
 }
 
-/// Prints what is known of each name, and its uses beside the declaration.
+/// Prints the data of each name, and the number of its uses without the declaration.
 fn tell(
     rt: &impl Print,
     names: &InternerReader<'_>,

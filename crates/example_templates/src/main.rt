@@ -1,8 +1,10 @@
-//! Templates that include others: each file is read and expanded once, however many include it.
+//! Templates that include others: each file is read and expanded once, for any number of templates
+//! that include it.
 //!
-//! A line `include PATH` of a template stands for the text of another. So the loader calls itself while it loads, and takes `&self`:
-//! it keeps what it has loaded in a field, a [`FrozenMap`](elsa::cell::FrozenMap) that owns its templates and lends them for as long as the
-//! loader lives. No arena is handed in.
+//! A line `include PATH` of a template is replaced by the text of another template. So the loader
+//! calls itself while it loads, and takes `&self`: it stores the loaded templates in a field, a
+//! [`FrozenMap`](elsa::cell::FrozenMap) that owns them and returns references with the loader's
+//! lifetime. The caller passes no arena.
 //!
 //! Each line of standard input is a path.
 #![tactic(auto)]

@@ -1,10 +1,10 @@
-//! Templates by their paths, each loaded once and kept for as long as the loader lives.
+//! Templates by their paths, each loaded once and stored for the lifetime of the loader.
 use elsa::cell::{CellFault, FrozenMap};
 use std::alloc::{AllocError, Global};
 use std::fs;
 use std::rt::Files;
 
-/// How many templates may include one another, one below the other.
+/// The greatest number of templates that are nested by inclusion.
 const DEEPEST: usize = 32;
 
 /// A template with all that it includes. It owns its text.
@@ -12,16 +12,16 @@ const DEEPEST: usize = 32;
 pub struct Template {
     /// The expanded text.
     pub text: String,
-    /// How many lines it has.
+    /// The number of its lines.
     pub lines: usize,
 }
 
-/// Why a template wasn't loaded.
+/// The reason why a template wasn't loaded.
 #[derive(Clone, Copy, Debug, PartialEq, Eq)]
 pub enum LoadFault {
     /// It includes itself, or is included by one that it includes.
     IncludesItself,
-    /// More than 32 templates include one another.
+    /// More than 32 templates are nested by inclusion.
     TooDeep,
     /// The file, or one that it includes, can't be read or isn't UTF-8.
     Missing,
@@ -42,7 +42,7 @@ struct Including<'p> {
     by: Option<&'p Including<'p>>,
 }
 
-/// Whether a template of this path is being loaded.
+/// Returns whether a template of this path is being loaded.
 fn is_being_loaded(innermost: Option<&Including<'_>>, path: &str) -> bool {
     let mut next = innermost;
     for _ in 0..=DEEPEST {
@@ -57,7 +57,7 @@ fn is_being_loaded(innermost: Option<&Including<'_>>, path: &str) -> bool {
     false
 }
 
-/// Templates by path.
+/// A loader of templates, which stores them by path.
 #[derive(Drop)]
 pub struct Templates {
     alloc: Global,
@@ -65,7 +65,10 @@ pub struct Templates {
 }
 
 impl Templates {
-    /// No templates. `Err` on an allocation failure.
+    /// Makes a loader without templates.
+    ///
+    /// # Errors
+    /// Fails if an allocation fails.
     pub fn new(alloc: Global) -> Result<Self, AllocError> {
         Ok(Templates {
             alloc,
@@ -73,14 +76,18 @@ impl Templates {
         })
     }
 
-    /// How many templates were loaded.
+    /// Returns the number of loaded templates.
     pub fn len(&self) -> usize {
-        self.loaded.len()
+        self.loaded.len().unwrap_or(0)
     }
 
-    /// The template at a path, which is read and expanded where it wasn't yet, after all that it includes.
+    /// Returns the template at a path. If it isn't loaded yet, it is read and expanded, after all
+    /// that it includes.
     ///
-    /// On `Err` it wasn't loaded; templates that it includes may have been.
+    /// # Errors
+    /// `IncludesItself` or `TooDeep` if the inclusions are circular or nested too deeply, `Missing`
+    /// if a file can't be read, `Memory` if an allocation fails. The template is then not loaded;
+    /// templates that it includes may be.
     pub fn load<R: Files + AllocGlobal>(&self, rt: &R, path: &str) -> Result<&Template, LoadFault> {
         self.load_below(rt, path, None, DEEPEST)
     }
@@ -92,7 +99,7 @@ impl Templates {
         by: Option<&Including<'_>>,
         left: usize,
     ) -> Result<&Template, LoadFault> {
-        if let Ok(Some(template)) = self.loaded.get_text(path) {
+        if let Ok(Some(template)) = self.loaded.get(path) {
             return Ok(template);
         }
         if is_being_loaded(by, path) {

@@ -1,38 +1,41 @@
-//! An allocator for tests: it refuses the requests that a test names, counts what it does, and hands the others on.
+//! An allocator for tests. It denies the requests that a test chooses, passes the others on, and
+//! counts all of them.
 //!
-//! A test hands `&Budget` to what it tests, as any other allocator. It runs its script once with nothing refused
-//! and reads `asked`. Then it runs the script anew for each number below that, with `refuse(n, n + 1)`, and once more
-//! with `refuse(n, u64::MAX)`, since some code asks again for less where it was refused once. After the last drop
-//! `given` equals `granted` exactly if each block came back.
+//! A test passes `&Budget` to what it tests, as any other allocator. First it runs its script with
+//! no request denied, and reads `asked`. Then it runs the script again for each number `n` below
+//! that: with `refuse(n, n + 1)`, and with `refuse(n, u64::MAX)`, because some code requests a
+//! smaller block after one failure. After the last drop, `given` equals `granted` exactly if each
+//! block was deallocated.
 //!
-//! To look at a thread in the midst of a call, a test lets its request stand still by `halt_next`, waits until it `is_halted`,
-//! and lets it go on by `go_on`.
+//! To test what happens during a call, a test halts the call's next request by `halt_next`, waits
+//! until `is_halted`, and lets the request continue by `go_on`.
 //!
-//! The counts are atomic words, so threads may share one budget. No contract says what a word holds: what this crate
-//! promises by proof is that it is an allocator, and the numbers are there to be compared in tests.
+//! The counts are atomic words, so threads may share one budget. No contract states a count. It is
+//! proved that a `Budget` is an allocator; the counts are for comparisons in tests.
 #![tactic(auto)]
 
 use std::alloc::{AllocError, Allocator};
 use std::sync::atomic::{AtomicU64, Ordering};
 use std::thread;
 
-/// The states of a budget's halt: requests go on, the next one is to stand still, one stands still.
+/// The states of a budget's halt: requests continue, the next request is to halt, a request is
+/// halted.
 const GOES: u64 = 0;
 
 const HALTS: u64 = 1;
 
 const HALTED: u64 = 2;
 
-/// How often a request that stands still looks whether it may go on, before it goes on by itself.
+/// The number of looks of a halted request, after which it continues by itself.
 const TURNS: u64 = 10_000_000;
 
-/// How many requests were granted.
+/// The number of granted requests.
 #[derive(Drop)]
 struct Count {
     count: AtomicU64,
 }
 
-/// The window of refused requests, and the other counts.
+/// The range of denied requests, and the other counts.
 #[derive(Drop)]
 struct Meter {
     from: AtomicU64,
@@ -43,10 +46,10 @@ struct Meter {
     halt: AtomicU64,
 }
 
-/// An allocator that hands requests on to `B`, but for those of a window, which it refuses.
+/// An allocator that passes requests on to `B`, except for a range of them, which it denies.
 ///
-/// Requests are numbered from 0. A growth or a shrinking of a block is one request; where it is granted, the old block
-/// is given back. The handle that a collection takes is `&Budget<B>`, which is `Copy`.
+/// Requests are numbered from 0. Growing or shrinking a block is one request; if it is granted, the
+/// old block is deallocated. A collection takes `&Budget<B>`, which is `Copy`.
 #[derive(Drop)]
 pub struct Budget<B: Allocator> {
     inner: B,
@@ -55,7 +58,8 @@ pub struct Budget<B: Allocator> {
 }
 
 impl<B: Allocator> Budget<B> {
-    /// A budget over the allocator `inner`, which refuses nothing and has counted nothing. Takes no memory.
+    /// Makes a budget over the allocator `inner`. It denies nothing, its counts are 0, and it
+    /// allocates nothing.
     pub fn new(inner: B) -> Budget<B> {
         Budget {
             inner,
@@ -73,61 +77,63 @@ impl<B: Allocator> Budget<B> {
         }
     }
 
-    /// From now on refuses the requests with a number in `from..to`, and no others. The numbers go on from `asked`.
+    /// Denies the requests with a number in `from..to`, and no others, from now on. The next
+    /// request has the number `asked`.
     pub fn refuse(&self, from: u64, to: u64) {
         self.meter.from.store(u64::MAX, Ordering::SeqCst);
         self.meter.to.store(to, Ordering::SeqCst);
         self.meter.from.store(from, Ordering::SeqCst);
     }
 
-    /// From now on refuses the next `count` requests, and no others. With 0 it refuses nothing.
+    /// Denies the next `count` requests, and no others, from now on. If `count` is 0, it denies
+    /// none.
     pub fn refuse_next(&self, count: u64) {
         let asked = self.asked();
         self.refuse(asked, asked.saturating_add(count));
     }
 
-    /// Whether no request was ever named to be refused.
+    /// Returns whether no range of requests to deny was ever set.
     pub fn is_open(&self) -> bool {
         self.meter.from.load(Ordering::SeqCst) == u64::MAX
     }
 
-    /// Lets the next request stand still until `go_on`, or until it has looked ten million times.
+    /// Halts the next request until `go_on` is called, or until it has looked ten million times.
     pub fn halt_next(&self) {
         self.meter.halt.store(HALTS, Ordering::SeqCst);
     }
 
-    /// Whether a request stands still.
+    /// Returns whether a request is halted.
     pub fn is_halted(&self) -> bool {
         self.meter.halt.load(Ordering::SeqCst) == HALTED
     }
 
-    /// Lets requests go on.
+    /// Lets the halted request continue.
     pub fn go_on(&self) {
         self.meter.halt.store(GOES, Ordering::SeqCst);
     }
 
-    /// The number of requests so far, refused ones among them.
+    /// Returns the number of requests so far, including denied ones.
     pub fn asked(&self) -> u64 {
         self.meter.asked.load(Ordering::SeqCst)
     }
 
-    /// The number of requests that the budget refused.
+    /// Returns the number of requests that the budget denied.
     pub fn refused(&self) -> u64 {
         self.meter.refused.load(Ordering::SeqCst)
     }
 
-    /// The number of requests that `inner` granted.
+    /// Returns the number of requests that `inner` granted.
     pub fn granted(&self) -> u64 {
         self.granted.count.load(Ordering::SeqCst)
     }
 
-    /// The number of blocks that were given back.
+    /// Returns the number of deallocated blocks.
     pub fn given(&self) -> u64 {
         self.meter.given.load(Ordering::SeqCst)
     }
 }
 
-/// Stands still where the budget is told to.
+/// Waits if the budget is to halt this request.
 fn halts(meter: &Meter) {
     if meter.halt.load(Ordering::SeqCst) != HALTS {
         return;
@@ -142,7 +148,7 @@ fn halts(meter: &Meter) {
     meter.halt.store(GOES, Ordering::SeqCst);
 }
 
-/// Counts one more request, and says whether its number lies in the window.
+/// Counts a request, and returns whether its number is in the range of denied requests.
 fn refuses(meter: &Meter) -> bool {
     halts(meter);
     let number = meter.asked.fetch_add(1, Ordering::SeqCst);
@@ -154,12 +160,12 @@ fn refuses(meter: &Meter) -> bool {
     refused
 }
 
-/// Counts one more granted request.
+/// Counts a granted request.
 fn grants(granted: &Count) {
     let _ = granted.count.fetch_add(1, Ordering::SeqCst);
 }
 
-/// Counts one more block that was given back.
+/// Counts a deallocated block.
 fn gives(meter: &Meter) {
     let _ = meter.given.fetch_add(1, Ordering::SeqCst);
 }

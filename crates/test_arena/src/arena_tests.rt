@@ -1,4 +1,4 @@
-//! Values that count their drops, blocks that a budget counts, and requests that it refuses.
+//! Values that count their drops, blocks that a budget counts, and requests that it denies.
 use crate::callers::two_values;
 use elsa_arena::arena::{Place, TypedArena};
 use std::alloc::{AllocError, Allocator, Global};
@@ -19,7 +19,8 @@ impl Drop for Counted<'_> {
     }
 }
 
-/// Whether so many values are placed behind each other, and the borrow of the first one is good after all of them.
+/// Returns whether `count` values are stored one after the other, and the borrow of the first is
+/// valid after all of them.
 fn places<'c, A: Allocator + Copy>(
     arena: &TypedArena<Counted<'c>, A>,
     drops: &'c Cell<usize>,
@@ -49,7 +50,7 @@ fn a_value_is_dropped_once_and_not_before_its_arena(rt: HostRuntime) -> Result<(
     Ok(())
 }
 
-/// Whether a walk gives the numbers below this in their order, and `get` the same.
+/// Returns whether a walk visits the numbers below `count` in order, and `get` returns the same.
 fn walks<A: Allocator>(arena: &TypedArena<usize, A>, count: usize) -> bool {
     let mut next = 0usize;
     for number in arena.iter() {
@@ -61,7 +62,8 @@ fn walks<A: Allocator>(arena: &TypedArena<usize, A>, count: usize) -> bool {
     next == count && arena.get(count).is_none() && arena.is_empty() == (count == 0)
 }
 
-/// Whether a walk gives what was placed, where values are placed by either call.
+/// Returns whether a walk visits the values in order if they are stored alternately by `alloc` and
+/// by `push`.
 fn is_walked(alloc: Global, count: usize) -> Result<bool, AllocError> {
     let arena = TypedArena::new(alloc)?;
     for number in 0..count {
@@ -86,7 +88,7 @@ fn a_walk_gives_the_values_in_the_order_of_their_placing(rt: HostRuntime) -> Res
     Ok(())
 }
 
-/// Whether a walk gives no value that was placed after it began.
+/// Returns whether a walk visits no value that was stored after it began.
 fn walks_to_its_beginnings_end(alloc: Global) -> Result<bool, AllocError> {
     let arena = TypedArena::new(alloc)?;
     let placed = arena.alloc(0usize).is_ok();
@@ -106,7 +108,7 @@ fn a_walk_ends_though_values_are_placed_in_it(rt: HostRuntime) -> Result<(), Fai
     Ok(())
 }
 
-/// The places of the numbers below this.
+/// Returns the places of the numbers below `count`.
 fn places_of(
     alloc: Global,
     arena: &TypedArena<usize>,
@@ -134,7 +136,7 @@ fn a_place_has_the_number_of_its_value(rt: HostRuntime) -> Result<(), Fail> {
     Ok(())
 }
 
-/// Whether three hundred values with memory of their own are placed.
+/// Returns whether three hundred values that own memory are stored.
 fn places_owners(heap: &Budget<Global>) -> Result<bool, AllocError> {
     let arena = TypedArena::new(heap)?;
     for number in 0..300u64 {
@@ -155,7 +157,8 @@ fn an_arena_gives_back_its_memory_and_that_of_its_values(rt: HostRuntime) -> Res
     Ok(())
 }
 
-/// Whether each value that finds no memory comes back, is dropped by its caller, and is placed at the next try.
+/// Returns whether each value that can't be stored is returned, is dropped by its caller, and is
+/// stored at the next try.
 fn comes_back(heap: &Budget<Global>, drops: &Cell<usize>) -> Result<bool, AllocError> {
     let arena = TypedArena::new(heap)?;
     for number in 0..100usize {
@@ -171,7 +174,7 @@ fn comes_back(heap: &Budget<Global>, drops: &Cell<usize>) -> Result<bool, AllocE
             return Ok(false);
         }
     }
-    // Four rows were begun, and each first try to was refused.
+    // Four rows were begun, and the first try of each failed.
     Ok(arena.len() == 100 && drops.get() == 4)
 }
 
@@ -183,7 +186,8 @@ fn a_refused_value_comes_back_and_the_next_try_places_it(rt: HostRuntime) -> Res
     Ok(())
 }
 
-/// How many values an arena of this capacity places where all further requests are refused, at most a hundred.
+/// Returns the number of values, at most a hundred, that an arena of this capacity stores while all
+/// further requests are denied.
 fn placed_without_memory(heap: &Budget<Global>, capacity: usize) -> Result<usize, AllocError> {
     let arena = TypedArena::with_capacity(heap, capacity)?;
     heap.refuse(heap.asked(), u64::MAX);
@@ -227,7 +231,7 @@ fn a_capacity_beyond_all_memory_is_refused(rt: HostRuntime) -> Result<(), Fail> 
 
 #[test]
 fn a_refused_arena_leaves_no_block(rt: HostRuntime) -> Result<(), Fail> {
-    // The table of the rows is the first request, and of the rows the longest comes first.
+    // The first request is for the table of the rows, and the next is for the longest row.
     for number in 0..2 {
         let heap = Budget::new(rt.alloc());
         heap.refuse(number, u64::MAX);

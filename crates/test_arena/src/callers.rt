@@ -1,10 +1,10 @@
-//! What callers promise by the contracts alone.
+//! What callers can ensure by the contracts alone.
 ghost use Rattle.std.specs.Prelude.{◌≡◌, IfSome};
 
 use elsa_arena::arena::TypedArena;
 use std::alloc::Allocator;
 
-/// The values at two places of an arena, each read where it was placed; `None` where memory is refused.
+/// Stores two values, and returns them as read at their places, or `None` if an allocation fails.
 pub fn two_values<A: Allocator + Copy>(
     arena: &TypedArena<u64, A>,
     one: u64,

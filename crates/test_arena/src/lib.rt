@@ -1,4 +1,5 @@
-//! What no contract of `elsa_arena` says: that each value is dropped once, at its arena's end, that no block is left, and which values a walk gives.
+//! Facts that no contract of `elsa_arena` states: each value is dropped once, at its arena's end,
+//! no block is left, and a walk visits the right values.
 #![tactic(auto)]
 
 #[cfg(test)]

@@ -1,4 +1,4 @@
-//! How many words a document has, counted once.
+//! The number of words of a document, counted once.
 ghost use Rattle.std.specs.Prelude.{◌≡◌, IfOk, OnErr, ℕ, List, None, Some, Ok};
 ghost use Rattle.std.specs.Borrow.{Bor};
 ghost use Rattle.std.specs.Map.{lookup};
@@ -6,9 +6,12 @@ ghost use Rattle.std.specs.Map.{lookup};
 use elsa::cache::{CacheFault, ParsedCache};
 use std::convert::Infallible;
 
-/// How many words the document at a path has. It is loaded and counted at the first call alone.
+/// Returns the number of words of the document at a path. The document is loaded and counted only
+/// at the first call.
 ///
-/// `Err` leaves all counts as they were: `Load` with the loader's error, `Memory` on an allocation failure.
+/// # Errors
+/// `Load` with the loader's error if it fails, `Memory` if an allocation fails. All counts are then
+/// unchanged.
 pub fn words_of<'a, E, F: FnOnce(&str) -> Result<String, E> + Drop>(
     counts: &mut ParsedCache<'a, usize>,
     path: &str,

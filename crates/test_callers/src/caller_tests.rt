@@ -10,7 +10,8 @@ use std::alloc::{AllocError, Global};
 use std::convert::Infallible;
 use std::test::*;
 
-/// What a hashed map that has no key 7 gives it, at two insertions, and whether the key is new behind them.
+/// Inserts at the key 7 of a hashed map twice. Returns whether the first value stays, and whether
+/// the key is new after that.
 fn kept_hashed(alloc: Global) -> Result<(bool, bool), AllocError> {
     let arena = Bump::new(alloc);
     let mut map: FrozenMap<'_, u64, &str> = FrozenMap::new(alloc, &arena);
@@ -18,7 +19,7 @@ fn kept_hashed(alloc: Global) -> Result<(bool, bool), AllocError> {
     Ok((kept, is_new_in(&mut map, 7, "c")?))
 }
 
-/// The same of an ordered map.
+/// Does the same with an ordered map.
 fn kept_ordered(alloc: Global) -> Result<(bool, bool), AllocError> {
     let arena = Bump::new(alloc);
     let mut map: FrozenBTreeMap<'_, u64, &str> = FrozenBTreeMap::new(alloc, &arena);
@@ -26,7 +27,7 @@ fn kept_ordered(alloc: Global) -> Result<(bool, bool), AllocError> {
     Ok((kept, is_new_in(&mut map, 7, "c")?))
 }
 
-/// The same of an index map.
+/// Does the same with an index map.
 fn kept_indexed(alloc: Global) -> Result<(bool, bool), AllocError> {
     let arena = Bump::new(alloc);
     let mut map: FrozenIndexMap<'_, u64, &str> = FrozenIndexMap::new(alloc, &arena);
@@ -42,7 +43,7 @@ fn a_key_keeps_its_first_value_in_each_form(rt: HostRuntime) -> Result<(), Fail>
     Ok(())
 }
 
-/// How many words a document has that is loaded as this text.
+/// Returns the number of words of a document that is loaded as this text.
 fn counted<'a>(
     alloc: Global,
     counts: &mut ParsedCache<'a, usize>,
@@ -62,7 +63,7 @@ fn a_document_is_counted_once(rt: HostRuntime) -> Result<(), Fail> {
     Ok(())
 }
 
-/// Whether a run on a map is answered.
+/// Returns whether a run on a map has the expected replies.
 fn is_answered(alloc: Global) -> Result<bool, AllocError> {
     let arena = Bump::new(alloc);
     let mut map: FrozenMap<'_, u64, Own<u64>> = FrozenMap::new(alloc, &arena);

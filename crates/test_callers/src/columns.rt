@@ -1,4 +1,4 @@
-//! The columns of a table in the order in which they were first seen, each measured once.
+//! The columns of a table in the order in which they first occur, each measured once.
 ghost use Rattle.std.specs.Prelude.{◌≡◌, OnErr};
 
 use bumpalo::Bump;
@@ -6,7 +6,10 @@ use elsa::{FrozenIndexMap, Own};
 use std::alloc::{AllocError, Global};
 use std::test::*;
 
-/// The width of a column: the length of its first text. A refusal leaves the columns.
+/// Returns the width of a column, which is the length of its first text.
+///
+/// # Errors
+/// Fails if an allocation fails. The columns are then unchanged.
 fn width<'a>(
     columns: &mut FrozenIndexMap<'a, u64, Own<usize>>,
     column: u64,
@@ -17,7 +20,7 @@ fn width<'a>(
     columns.insert_with(column, || Own(text.len()))
 }
 
-// How many columns there are, and the sum of the widths that three rows were told.
+// Returns the number of columns, and the sum of the widths that three rows get.
 fn told(alloc: Global) -> Result<(usize, usize), AllocError> {
     let arena = Bump::new(alloc);
     let mut columns = FrozenIndexMap::new(alloc, &arena);

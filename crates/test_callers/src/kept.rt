@@ -1,13 +1,16 @@
-//! Whether a key is new, in a map of any form.
+//! Insertions into a map of any type that show whether the key is new.
 ghost use Rattle.std.specs.Prelude.{◌≡◌, ◌+◌, IfOk, OnOk, OnErr, None, Some, Ok, true, false, length};
 ghost use Rattle.std.specs.Map.{lookup};
 
 use elsa::{MapForm, StableDeref};
 use std::alloc::AllocError;
 
-/// Gives a key its value, and returns whether the key was new. A key that was there keeps the value that it had.
+/// Inserts a key with its value, and returns whether the key was new. A present key keeps its
+/// value.
 ///
-/// `Err` on an allocation failure, only for a new key: nothing has changed.
+/// # Errors
+/// Fails if an allocation fails, which can happen only for a new key. The content is then
+/// unchanged.
 pub fn is_new_in<R, M: MapForm<R>>(
     content: &mut M,
     key: M::Key,
@@ -16,19 +19,20 @@ pub fn is_new_in<R, M: MapForm<R>>(
     ensures present { (kept : M.Value.Borrow) →
         lookup (M.same key) (M.entries content.old) ≡ Some kept →
         (result ≡ Ok false) × (M.entries content.new ≡ M.entries content.old) }
-    ensures new { lookup (M.same key) (M.entries content.old) ≡ None →
+    ensures is_new { lookup (M.same key) (M.entries content.old) ≡ None →
         IfOk result (λ is_new. is_new ≡ true) }
     ensures longer { lookup (M.same key) (M.entries content.old) ≡ None →
         OnOk result (length (M.entries content.new) ≡ length (M.entries content.old) + 1) }
     ensures refused { OnErr result (M.entries content.new ≡ M.entries content.old) }
 {
-    let (_kept, is_new) = content.insert_new(key, value)?;
-    Ok(is_new)
+    Ok(content.insert_new(key, value)?.is_new)
 }
 
-/// Gives a key its value, unless it has one, and returns the value that it then has.
+/// Inserts a key with its value unless it has one, and returns the value that it then has.
 ///
-/// `Err` on an allocation failure, only for a new key: nothing has changed.
+/// # Errors
+/// Fails if an allocation fails, which can happen only for a new key. The content is then
+/// unchanged.
 pub fn first_in<R, M: MapForm<R>>(
     content: &mut M,
     key: M::Key,
@@ -37,7 +41,7 @@ pub fn first_in<R, M: MapForm<R>>(
     ensures present { (kept : M.Value.Borrow) →
         lookup (M.same key) (M.entries content.old) ≡ Some kept →
         (result ≡ Ok kept) × (M.entries content.new ≡ M.entries content.old) }
-    ensures new { lookup (M.same key) (M.entries content.old) ≡ None →
+    ensures new_value { lookup (M.same key) (M.entries content.old) ≡ None →
         IfOk result (λ kept. M.Value.shown kept ≡ M.Value.target value) }
     ensures found { IfOk result (λ kept. lookup (M.same key) (M.entries content.new) ≡ Some kept) }
     ensures refused { OnErr result (M.entries content.new ≡ M.entries content.old) }

@@ -1,4 +1,5 @@
-//! Insertion through `&self`: a collection in a `RefCell`. The arena gives the borrows their life, so they outlast each borrow of the cell.
+//! Insertion through `&self`: a collection in a `RefCell`. The borrows have the arena's lifetime,
+//! so they outlive each borrow of the cell.
 ghost use Rattle.std.specs.Prelude.{◌≡◌, IfOk, string_bytes};
 
 use bumpalo::Bump;
@@ -13,17 +14,20 @@ struct Labels<'a> {
     texts: RefCell<FrozenVec<'a, String>>,
 }
 
-/// Why a label wasn't added.
+/// The reason why a label wasn't added.
 #[derive(Drop)]
 enum LabelFault {
-    /// The call came from inside another of these labels' calls.
+    /// The call came from inside another call on these labels.
     InUse,
     /// An allocation failed.
     Memory,
 }
 
 impl<'a> Labels<'a> {
-    /// Adds the label and returns it, as a borrow of the arena.
+    /// Adds the label, and returns it as a borrow of the arena.
+    ///
+    /// # Errors
+    /// `InUse` if the labels are borrowed, `Memory` if an allocation fails.
     fn add(&self, label: String) -> Result<&'a str, LabelFault>
         ensures { IfOk result (λ text. text.now ≡ string_bytes label) }
     {
@@ -37,7 +41,8 @@ impl<'a> Labels<'a> {
     }
 }
 
-/// Two labels that are added through one shared borrow are both readable after the second.
+/// Returns whether two labels that were added through one shared borrow are both readable after the
+/// second.
 fn both_stay(alloc: Global) -> Result<bool, AllocError> {
     let arena = Bump::new(alloc);
     let labels = Labels {
@@ -59,7 +64,7 @@ fn labels_added_through_a_shared_borrow_stay(rt: HostRuntime) -> Result<(), Fail
     Ok(())
 }
 
-/// An addition while the labels are borrowed is refused by name.
+/// Returns whether adding a label while the labels are borrowed fails with `InUse`.
 fn is_in_use(alloc: Global) -> Result<bool, AllocError> {
     let arena = Bump::new(alloc);
     let labels = Labels {

@@ -1,4 +1,5 @@
-//! Callers that were written from docs/guide alone, over code for each form of map, the cache and the runs.
+//! Callers that were written from docs/guide alone: code for any type of map, the cache and the
+//! runs.
 #![tactic(auto)]
 
 #[cfg(test)]
@@ -11,6 +12,8 @@ mod columns;
 mod kept;
 #[cfg(test)]
 mod labels;
+#[cfg(test)]
+mod parts;
 #[cfg(test)]
 mod replayed;
 #[cfg(test)]

@@ -1,13 +1,14 @@
-//! Commands that are run on a map of any form, and on a vector.
+//! Commands that are run on a map of any type, and on a vector.
 ghost use Rattle.std.specs.Prelude.{◌≡◌, OnErr};
 
 use elsa::run::{MapCommand, MapReply, VecCommand, VecReply, run_map, run_vec};
 use elsa::{FrozenVec, MapForm, StableDeref};
 use std::alloc::AllocError;
 
-/// The replies to commands on a map of any form.
+/// Runs commands on a map of any type, and returns the replies.
 ///
-/// `Err` on an allocation failure: nothing was done.
+/// # Errors
+/// Fails if an allocation for the commands or replies fails. The content is then unchanged.
 pub fn replies_of_map<R, M: MapForm<R>>(
     content: &mut M,
     commands: Vec<MapCommand<M::Key, M::Value, M::Base>>,
@@ -17,9 +18,10 @@ pub fn replies_of_map<R, M: MapForm<R>>(
     run_map(content, commands)
 }
 
-/// The replies to commands on a list of texts.
+/// Runs commands on a list of texts, and returns the replies.
 ///
-/// `Err` on an allocation failure: nothing was done.
+/// # Errors
+/// Fails if an allocation for the commands or replies fails. The texts are then unchanged.
 pub fn replies_of_texts<'a>(
     texts: &mut FrozenVec<'a, &'a str>,
     commands: Vec<VecCommand<&'a str, Vec<&'a str>>>,

@@ -1,4 +1,4 @@
-//! Words that are seen once: a set of texts, and the set of their lengths in order.
+//! Words that are stored once: a set of texts, and the ordered set of their lengths.
 ghost use Rattle.std.specs.Prelude.{◌≡◌, IfOk};
 
 use bumpalo::Bump;
@@ -6,14 +6,15 @@ use elsa::{FrozenBTreeSet, FrozenSet};
 use std::alloc::{AllocError, Global};
 use std::test::*;
 
-/// The word as the set keeps it.
+/// Inserts a word, and returns the one in the set.
 fn kept<'a>(seen: &mut FrozenSet<'a, &'a str>, word: &str) -> Result<&'a str, AllocError>
     ensures { IfOk result (λ kept. kept.now ≡ word.now) }
 {
     seen.insert_text(word)
 }
 
-// How many words there are, the shortest and the longest length, and the last word after the set's end.
+// Returns the number of words, the shortest and the greatest length, and the last word after the
+// set's end.
 fn told<'a>(
     alloc: Global,
     arena: &'a Bump,

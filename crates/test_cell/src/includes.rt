@@ -1,17 +1,18 @@
-//! A loader of files that include others, over one map that is filled through `&self`: each file is loaded once, its includes first, and a file that includes
-//! itself is told.
+//! A loader of files that include others, with one map that is filled through `&self`. Each file is
+//! loaded once, its includes first, and a file that includes itself is reported.
 use elsa_cell::{CellFault, FrozenMap};
 use std::alloc::{AllocError, Global};
 use std::test::*;
 
-/// A file: its own words, and how many words it has with all that it includes. It owns its list.
+/// A file: its own words, and the number of words that it has with all its includes. It owns its
+/// list.
 #[derive(Drop)]
 struct File {
     words: Vec<String>,
     total: usize,
 }
 
-/// Why a file wasn't loaded.
+/// The reason why a file wasn't loaded.
 #[derive(Debug, Clone, Copy, PartialEq, Eq)]
 enum LoadFault {
     Memory,
@@ -41,14 +42,15 @@ fn text_of(path: &str) -> Option<&'static str> {
     None
 }
 
-/// The file at a path. `left` is how many files more may include one another: at none left, one includes itself.
+/// Loads the file at a path. At most `left` files may include one another from here on; if `left`
+/// is 0, some file includes itself.
 fn load<'m>(
     alloc: Global,
     files: &'m FrozenMap<String, File>,
     path: &str,
     left: usize,
 ) -> Result<&'m File, LoadFault> {
-    if let Ok(Some(file)) = files.get_text(path) {
+    if let Ok(Some(file)) = files.get(path) {
         return Ok(file);
     }
     if left == 0 {
@@ -79,11 +81,12 @@ fn load<'m>(
     }
 }
 
-/// How many words a file has with its includes, how many of its own, and how many files were loaded for it.
+/// Returns the number of words of a file with its includes, the number of its own words, and the
+/// number of files that were loaded for it.
 fn counts(alloc: Global, path: &str) -> Result<(usize, usize, usize), LoadFault> {
     let files = FrozenMap::new(alloc)?;
     let file = load(alloc, &files, path, FILES.len())?;
-    Ok((file.total, file.words.len(), files.len()))
+    Ok((file.total, file.words.len(), files.len().unwrap_or(0)))
 }
 
 #[test]

@@ -1,9 +1,17 @@
-//! The map that grows through `&self`, as a stranger calls it: values that own memory, a loader of includes, rules, refusals over `test_alloc`.
+//! Tests of the collections that grow through `&self`, used as by any other crate: many keys and
+//! items, values that own memory, calls from inside other calls, loaders, rules, a graph, and
+//! allocation failures over `test_alloc`.
 #![tactic(auto)]
 
 #[cfg(test)]
+mod graph;
+#[cfg(test)]
 mod includes;
+#[cfg(test)]
+mod inside;
 #[cfg(test)]
 mod map_tests;
 #[cfg(test)]
 mod rules;
+#[cfg(test)]
+mod vec_tests;

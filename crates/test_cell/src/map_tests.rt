@@ -1,51 +1,116 @@
-//! First values stay, borrows outlast later insertions, each value is dropped once, and a refused insertion gives its value back.
-use elsa_cell::{CellFault, FrozenMap, FrozenVec};
+//! A map at many sizes: each key has its own value, a present key keeps its first value, values are
+//! dropped once, and an insertion that fails returns its value.
+use elsa_cell::map::first_value_stays;
+use elsa_cell::{CellFault, FrozenMap, MapHandle};
 use std::alloc::{AllocError, Allocator, Global};
+use std::hash::{BuildHasherDefault, FoldHasher};
 use std::sync::Arc;
 use std::test::*;
 use test_alloc::Budget;
 
-/// Whether a present key keeps its first value, and borrows stay good while a hundred more are inserted.
-fn first_values_stay(alloc: Global) -> Result<bool, AllocError> {
-    let map: FrozenMap<u64, String> = FrozenMap::new(alloc)?;
-    let Ok((first, true)) = map.insert_new(7, String::from_str(alloc, "fox")?) else {
-        return Ok(false);
-    };
-    for key in 100..200 {
-        if map.insert(key, String::from_str(alloc, "dog")?).is_err() {
-            return Ok(false);
+/// Inserts each key of `0..count` with `key + 1`. Returns whether each was new, at its index.
+fn inserts_each(map: &mut MapHandle<'_, u64, u64>, count: u64) -> bool {
+    for key in 0..count {
+        let Ok(done) = map.insert_new(key, key + 1) else {
+            return false;
+        };
+        if !done.is_new || *done.value != key + 1 || done.index as u64 != key {
+            return false;
         }
     }
-    let Ok((again, false)) = map.insert_new(7, String::from_str(alloc, "cat")?) else {
-        return Ok(false);
-    };
-    Ok(first.as_str() == "fox" && again.as_str() == "fox" && map.len() == 101)
+    true
 }
 
-/// Whether a look-up finds each key that was inserted, and no other.
-fn keys_are_found(alloc: Global) -> Result<bool, AllocError> {
-    let map: FrozenMap<u64, u64> = FrozenMap::new(alloc)?;
-    let is_empty = map.is_empty() && matches!(map.get(&1), Ok(None));
-    for key in 0..50 {
-        if map.insert(key, key + 1).is_err() {
-            return Ok(false);
+/// Inserts each key again with 0. Returns whether each keeps its first value, at its index.
+fn keeps_each(map: &mut MapHandle<'_, u64, u64>, count: u64) -> bool {
+    for key in 0..count {
+        let Ok(done) = map.insert_new(key, 0) else {
+            return false;
+        };
+        if done.is_new || *done.value != key + 1 || done.index as u64 != key {
+            return false;
         }
     }
-    Ok(is_empty && matches!(map.get(&49), Ok(Some(50))) && matches!(map.get(&50), Ok(None)))
+    true
+}
+
+/// Returns whether each key finds its own value, and others find none.
+fn finds_each(map: &mut MapHandle<'_, u64, u64>, count: u64) -> bool {
+    for key in 0..count {
+        if map.get(&key) != Ok(Some(&(key + 1))) {
+            return false;
+        }
+    }
+    map.get(&count) == Ok(None) && map.get(&u64::MAX) == Ok(None)
+}
+
+/// Returns whether the entries are in the order of insertion, each once.
+fn walks_each(map: &MapHandle<'_, u64, u64>, count: u64) -> bool {
+    let mut next = 0_u64;
+    for entry in map.iter() {
+        next = next.wrapping_add(1);
+        if *entry.value() != next {
+            return false;
+        }
+    }
+    next == count
+}
+
+fn each_key_has_its_value(alloc: Global, count: u64) -> Result<bool, AllocError> {
+    let map: FrozenMap<u64, u64> = FrozenMap::new(alloc)?;
+    let Ok(mut one) = map.handle() else {
+        return Ok(false);
+    };
+    let Ok(mut two) = map.handle() else {
+        return Ok(false);
+    };
+    let inserted = inserts_each(&mut one, count) && keeps_each(&mut two, count);
+    let found = finds_each(&mut one, count) && finds_each(&mut two, count);
+    Ok(inserted && found && walks_each(&one, count) && one.len() == Ok(count as usize))
 }
 
 #[test]
-fn the_first_value_of_a_key_stays(rt: HostRuntime) -> Result<(), Fail> {
-    assert!(rt; first_values_stay(rt.alloc())?);
-    assert!(rt; keys_are_found(rt.alloc())?);
+fn a_key_had_another_value(rt: HostRuntime) -> Result<(), Fail> {
+    for count in [0, 1, 2, 3, 4, 15, 16, 63, 64, 1200, 5000] {
+        assert!(rt; each_key_has_its_value(rt.alloc(), count)?);
+    }
     Ok(())
 }
 
-/// Whether what a map was given is dropped once: each value holds an owner of one `Arc`.
+/// Returns whether a reference to a value that owns memory stays valid while others are inserted,
+/// and a text finds it by the calls of the map itself.
+fn first_values_stay(alloc: Global) -> Result<bool, AllocError> {
+    let map: FrozenMap<String, String> = FrozenMap::new(alloc)?;
+    let seven = String::from_str(alloc, "seven")?;
+    let Ok(first) = map.insert(seven, String::from_str(alloc, "fox")?) else {
+        return Ok(false);
+    };
+    for key in ["eight", "nine", "seven", "ten"] {
+        let Ok(_kept) = map.insert(
+            String::from_str(alloc, key)?,
+            String::from_str(alloc, "dog")?,
+        ) else {
+            return Ok(false);
+        };
+    }
+    let found = matches!(map.get("seven"), Ok(Some(value)) if value.as_str() == "fox");
+    let other = matches!(map.get("nine"), Ok(Some(value)) if value.as_str() == "dog");
+    let absent = matches!(map.get("six"), Ok(None));
+    Ok(first.as_str() == "fox" && found && other && absent && map.len() == Ok(4))
+}
+
+#[test]
+fn the_first_value_of_a_key_was_replaced(rt: HostRuntime) -> Result<(), Fail> {
+    assert!(rt; first_values_stay(rt.alloc())?);
+    Ok(())
+}
+
+/// Returns whether each inserted value is dropped once, and that of a present key at once. Each
+/// value is an owner of one `Arc`.
 fn values_are_dropped(alloc: Global) -> Result<bool, AllocError> {
     let counted = Arc::new(alloc, 0_u64)?;
     let map: FrozenMap<u64, Arc<u64>> = FrozenMap::new(alloc)?;
-    for key in [1, 2, 2, 3] {
+    for key in [1, 2, 2, 3, 1] {
         let Ok(_kept) = map.insert(key, counted.clone()?) else {
             return Ok(false);
         };
@@ -55,20 +120,39 @@ fn values_are_dropped(alloc: Global) -> Result<bool, AllocError> {
     Ok(held == 4 && Arc::strong_count(&counted) == 1)
 }
 
+/// Returns whether each key is dropped once.
+fn keys_are_dropped(alloc: Global) -> Result<bool, AllocError> {
+    let counted = Arc::new(alloc, 7_u64)?;
+    let map: FrozenMap<Arc<u64>, u64> = FrozenMap::new(alloc)?;
+    for value in [1, 2, 3] {
+        let Ok(kept) = map.insert(counted.clone()?, value) else {
+            return Ok(false);
+        };
+        if *kept != 1 {
+            return Ok(false);
+        }
+    }
+    let held = Arc::strong_count(&counted);
+    drop(map);
+    Ok(held == 2 && Arc::strong_count(&counted) == 1)
+}
+
 #[test]
-fn each_value_is_dropped_once(rt: HostRuntime) -> Result<(), Fail> {
+fn a_value_or_a_key_was_not_dropped_once(rt: HostRuntime) -> Result<(), Fail> {
     assert!(rt; values_are_dropped(rt.alloc())?);
+    assert!(rt; keys_are_dropped(rt.alloc())?);
     Ok(())
 }
 
-/// Ten insertions over a budget: how many came back for want of memory, or `None` where one came back changed or the map forgot one.
+type Over<A> = FrozenMap<u64, u64, BuildHasherDefault<FoldHasher>, A>;
+
+/// Makes ten insertions over a budget. Returns the number of those that failed, or `None` if a
+/// returned value was changed or the map lost one.
 fn refusals<A: Allocator + Copy>(alloc: A) -> Option<usize> {
-    let map: FrozenMap<u64, u64, std::hash::BuildHasherDefault<std::hash::FoldHasher>, A> =
-        FrozenMap::new(alloc).ok()?;
+    let map: Over<A> = FrozenMap::new(alloc).ok()?;
     let mut refused = 0_usize;
     for key in 0..10 {
-        let outcome = map.insert(key, key + 100);
-        match outcome {
+        match map.insert(key, key + 100) {
             Ok(kept) => {
                 if *kept != key + 100 {
                     return None;
@@ -76,20 +160,21 @@ fn refusals<A: Allocator + Copy>(alloc: A) -> Option<usize> {
             }
             Err(CellFault::Memory(value)) => {
                 refused = refused.wrapping_add(1_usize);
-                if value != key + 100 || !matches!(map.get(&key), Ok(None)) {
+                if value != key + 100 || map.get(&key) != Ok(None) {
                     return None;
                 }
             }
             Err(CellFault::InUse(_value)) => return None,
         }
     }
-    if map.len().wrapping_add(refused) != 10 {
+    if map.len() != Ok(10_usize.wrapping_sub(refused)) {
         return None;
     }
     Some(refused)
 }
 
-/// Whether each request but those of `new` may be refused, and costs one insertion at most.
+/// Returns whether exactly one insertion fails if one request is denied, for each request except
+/// that of `new`.
 fn each_refusal_gives_back(alloc: Global) -> bool {
     let budget = Budget::new(alloc);
     if refusals(&budget) != Some(0) {
@@ -107,25 +192,13 @@ fn each_refusal_gives_back(alloc: Global) -> bool {
 }
 
 #[test]
-fn a_refused_insertion_gives_its_value_back(rt: HostRuntime) -> Result<(), Fail> {
+fn a_failed_insertion_lost_its_value(rt: HostRuntime) -> Result<(), Fail> {
     assert!(rt; each_refusal_gives_back(rt.alloc()));
     Ok(())
 }
 
-/// Whether a list that owns texts lends them while it grows.
-fn list_lends(alloc: Global) -> Result<bool, AllocError> {
-    let list: FrozenVec<String> = FrozenVec::new(alloc)?;
-    let Ok(first) = list.alloc(String::from_str(alloc, "lonely")?) else {
-        return Ok(false);
-    };
-    let Ok(second) = list.alloc(String::from_str(alloc, "best friend")?) else {
-        return Ok(false);
-    };
-    Ok(first.as_str() == "lonely" && second.as_str() == "best friend" && list.len() == 2)
-}
-
 #[test]
-fn a_list_lends_what_it_owns(rt: HostRuntime) -> Result<(), Fail> {
-    assert!(rt; list_lends(rt.alloc())?);
+fn no_caller_could_cite_that_the_first_value_stays(_rt: HostRuntime) -> Result<(), Fail> {
+    first_value_stays::<u64, u64>();
     Ok(())
 }

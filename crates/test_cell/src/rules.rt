@@ -1,90 +1,76 @@
-//! Callers that prove by a rule of their own: what a collection lends is divided by without a test.
+//! Callers that prove their own property of the values: a value states it by a ghost field, and
+//! each reference that a collection returns has it. They divide by values without a test for zero.
 ghost use Rattle.std.specs.Prelude.{◌<◌};
 
-use elsa_cell::{FrozenMap, FrozenVec, ValueRule};
+use elsa_cell::{FrozenMap, FrozenVec};
 use std::alloc::{AllocError, Global};
-use std::hash::{BuildHasherDefault, FoldHasher};
 use std::test::*;
 
-/// No value is zero.
-struct NotZero;
-
-impl ValueRule<u64> for NotZero {
-    ghost holds = { λ n. 0 < n };
+/// A number above zero.
+#[derive(Drop)]
+struct Divisor {
+    n: u64,
+    ghost above: { 0 < n },
 }
 
-type Divisors<K> = FrozenMap<K, u64, BuildHasherDefault<FoldHasher>, Global, NotZero>;
-
-/// The number divided by the value at a key, if there is one.
-fn divided(divisors: &Divisors<u64>, key: u64, number: u64) -> Option<u64> {
-    match divisors.get(&key) {
-        Ok(Some(divisor)) => Some(number / *divisor),
-        _ => None,
+/// Returns a divisor, with 1 instead of 0.
+fn divisor_of(n: u64) -> Divisor {
+    if n == 0 {
+        Divisor { n: 1 }
+    } else {
+        Divisor { n }
     }
 }
 
-/// The same by a text.
-fn divided_by_text(divisors: &Divisors<String>, key: &str, number: u64) -> Option<u64> {
-    match divisors.get_text(key) {
-        Ok(Some(divisor)) => Some(number / *divisor),
+/// Returns the number divided by the value of a text, or `None` if the key is absent.
+fn divided(divisors: &FrozenMap<String, Divisor>, key: &str, number: u64) -> Option<u64> {
+    match divisors.get(key) {
+        Ok(Some(divisor)) => Some(number / divisor.n),
         _ => None,
-    }
-}
-
-/// The number divided by the value that a key has once it was given this one, zero counting as one.
-fn divided_by_first(divisors: &Divisors<u64>, key: u64, value: u64, number: u64) -> Option<u64> {
-    let value = if value == 0 { 1 } else { value };
-    match divisors.insert(key, value) {
-        Ok(divisor) => Some(number / *divisor),
-        Err(_) => None,
     }
 }
 
 fn divides_by_what_it_finds(alloc: Global) -> Result<bool, AllocError> {
-    let divisors: Divisors<u64> = FrozenMap::with_rule(alloc, BuildHasherDefault::default())?;
-    let first = divided_by_first(&divisors, 7, 3, 12);
-    let second = divided_by_first(&divisors, 7, 2, 12);
-    Ok(first == Some(4) && second == Some(4) && divided(&divisors, 7, 30) == Some(10))
-}
-
-fn divides_by_what_a_text_finds(alloc: Global) -> Result<bool, AllocError> {
-    let divisors: Divisors<String> = FrozenMap::with_rule(alloc, BuildHasherDefault::default())?;
-    let Ok(_five) = divisors.insert(String::from_str(alloc, "five")?, 5) else {
-        return Ok(false);
-    };
+    let divisors: FrozenMap<String, Divisor> = FrozenMap::new(alloc)?;
+    for (key, n) in [("three", 3), ("none", 0), ("three", 5)] {
+        let key = String::from_str(alloc, key)?;
+        let Ok(_kept) = divisors.insert(key, divisor_of(n)) else {
+            return Ok(false);
+        };
+    }
     Ok(
-        divided_by_text(&divisors, "five", 30) == Some(6)
-            && divided_by_text(&divisors, "six", 30).is_none(),
+        divided(&divisors, "three", 30) == Some(10)
+            && divided(&divisors, "none", 30) == Some(30)
+            && divided(&divisors, "six", 30).is_none(),
     )
 }
 
 #[test]
-fn a_map_lends_what_keeps_its_rule(rt: HostRuntime) -> Result<(), Fail> {
+fn a_map_returned_a_value_against_its_rule(rt: HostRuntime) -> Result<(), Fail> {
     assert!(rt; divides_by_what_it_finds(rt.alloc())?);
-    assert!(rt; divides_by_what_a_text_finds(rt.alloc())?);
     Ok(())
 }
 
-/// A number divided by each value of a list in turn, and at last by the value at a place.
-fn divided_by_all(divisors: &FrozenVec<u64, Global, NotZero>, place: usize, number: u64) -> u64 {
+/// Returns a number divided by each value of a list in turn.
+fn divided_by_all(divisors: &FrozenVec<Divisor>, number: u64) -> u64 {
     let mut left = number;
-    for divisor in divisors.iter() {
-        left = left / *divisor;
+    let Ok(items) = divisors.iter() else {
+        return left;
+    };
+    for divisor in items {
+        left = left / divisor.n;
     }
-    match divisors.get(place) {
-        Some(divisor) => left / *divisor,
-        None => left,
-    }
+    left
 }
 
 fn divides_by_a_list(alloc: Global) -> Result<bool, AllocError> {
-    let divisors: FrozenVec<u64, Global, NotZero> = FrozenVec::with_rule(alloc)?;
-    let is_full = divisors.alloc(2).is_ok() && divisors.push(3).is_ok();
-    Ok(is_full && divided_by_all(&divisors, 1, 36) == 2 && divided_by_all(&divisors, 2, 36) == 6)
+    let divisors: FrozenVec<Divisor> = FrozenVec::new(alloc)?;
+    let is_full = divisors.push(divisor_of(2)).is_ok() && divisors.push(divisor_of(3)).is_ok();
+    Ok(is_full && divided_by_all(&divisors, 36) == 6)
 }
 
 #[test]
-fn a_list_lends_what_keeps_its_rule(rt: HostRuntime) -> Result<(), Fail> {
+fn a_list_returned_an_item_against_its_rule(rt: HostRuntime) -> Result<(), Fail> {
     assert!(rt; divides_by_a_list(rt.alloc())?);
     Ok(())
 }

@@ -1,5 +1,5 @@
-//! Insertions of the index map by a closure: it runs for an absent key alone, its error comes back, and refused memory is told
-//! apart from it.
+//! Insertions into the index map by a closure. The closure runs only for an absent key, its error
+//! is returned, and an allocation failure is a different error.
 use bumpalo::Bump;
 use elsa_maps::index_map::FrozenIndexMap;
 use elsa_maps::map::InsertFault;
@@ -8,7 +8,7 @@ use std::alloc::{AllocError, Global};
 use std::test::Fail;
 use test_alloc::Budget;
 
-// What two insertions under one key return, and how often the closures ran.
+// Returns the results of two insertions at one key, and the number of runs of the closures.
 fn made_once(alloc: Global) -> Result<(u64, u64, u32), AllocError> {
     let arena = Bump::new(alloc);
     let mut map: FrozenIndexMap<'_, u64, Own<u64>> = FrozenIndexMap::new(alloc, &arena);
@@ -24,7 +24,7 @@ fn made_once(alloc: Global) -> Result<(u64, u64, u32), AllocError> {
     Ok((first, second, runs))
 }
 
-// What a closure says that fails, or that makes a value.
+// Fails, or makes a value.
 fn five(fails: bool) -> Result<Own<u64>, u8> {
     if fails {
         return Err(3);
@@ -32,7 +32,8 @@ fn five(fails: bool) -> Result<Own<u64>, u8> {
     Ok(Own(5))
 }
 
-// Whether an error of the closure comes back and leaves the map, in which a later value stays.
+// Returns whether an error of the closure is returned and leaves the map unchanged, and a later
+// insertion succeeds.
 fn error_comes_back(alloc: Global) -> bool {
     let arena = Bump::new(alloc);
     let mut map: FrozenIndexMap<'_, u64, Own<u64>> = FrozenIndexMap::new(alloc, &arena);
@@ -46,7 +47,8 @@ fn error_comes_back(alloc: Global) -> bool {
     is_refused && is_left && is_kept && is_unasked
 }
 
-// Whether a table without memory is told apart from the closure's error, and how often the closure ran.
+// Returns whether an allocation failure of the table is reported as such, and the number of runs of
+// the closure.
 fn memory_is_told_apart(alloc: Global) -> (bool, u32) {
     let heap = Budget::new(alloc);
     let arena = Bump::new(alloc);

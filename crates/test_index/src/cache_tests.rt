@@ -1,4 +1,5 @@
-//! What no clause says of the cache: texts loaded by hand, how often the loader is called, and that a placed path isn't copied.
+//! Facts of the cache that no clause states: the first characters of known texts, the number of
+//! calls of the loader, and that a path in the arena isn't copied.
 use bumpalo::Bump;
 use elsa_cache::{CacheFault, LoadFault, ParsedCache, ResourceCache};
 use std::alloc::Global;
@@ -13,7 +14,8 @@ fn text(alloc: Global, text: &str) -> Result<String, LoadFault> {
     }
 }
 
-// The first character of the text at the path, which is loaded as this, and counted, where it isn't there.
+// Returns the first character of the text at the path. If the path is absent, `loaded` is loaded as
+// its text and the call is counted.
 fn first_at<'a>(
     alloc: Global,
     cache: &mut ResourceCache<'a>,
@@ -28,7 +30,7 @@ fn first_at<'a>(
     Ok(resource.get())
 }
 
-// What the cache says where the loader finds nothing.
+// Returns the cache's fault if the loader finds nothing.
 fn fault_at<'a>(cache: &mut ResourceCache<'a>, path: &'a str) -> Option<LoadFault> {
     cache.get_resource(path, |_| Err(LoadFault::NotFound)).err()
 }
@@ -62,7 +64,8 @@ fn a_failed_load_is_asked_again_and_a_done_one_is_not(rt: HostRuntime) -> Result
     Ok(())
 }
 
-// The text at a placed path without the spaces at its ends; the calls of the loader and of the parser are counted.
+// Returns the text, trimmed, at a path that is in the arena already. Counts the calls of the loader
+// and of the parser.
 fn trimmed_at<'a>(
     alloc: Global,
     cache: &mut ParsedCache<'a, &'a str>,
@@ -85,7 +88,8 @@ fn trimmed_at<'a>(
     Ok(*trimmed)
 }
 
-// The text takes 7 bytes and the value 16: room for four words of 8 bytes has both, and no copy of a path of 49.
+// Checks that a path that is in the arena already is not copied. The arena has room for four times
+// 8 bytes: the text of 7 bytes and the value of 16 fit; a copy of the path, of 49 bytes, would not.
 #[test]
 fn a_placed_path_is_not_copied_and_is_loaded_and_parsed_once(rt: HostRuntime) -> Result<(), Fail> {
     let alloc = rt.alloc();

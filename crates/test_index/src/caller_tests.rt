@@ -1,4 +1,4 @@
-//! Callers that look up what they put in: their clauses are proved with no proof file.
+//! Callers that look up what they inserted. Their clauses are proved without a proof file.
 ghost use Rattle.std.specs.Prelude.{◌≡◌, ℕ, List, Ok, Some, IfOk, IsOk, find, position, slice_get};
 ghost use Rattle.std.specs.Borrow.{Bor};
 ghost use Rattle.std.specs.Map.{keys_of, lookup};
@@ -12,13 +12,14 @@ use elsa_maps::index_map::FrozenIndexMap;
 use std::alloc::AllocError;
 use std::test::Fail;
 
-// The numbers of two names. Equal names have one, and others two; both are found afterwards.
+// Returns the numbers of two names. Equal names have one number, different names have two, and both
+// names are found afterwards.
 fn numbers(
     names: &mut Interner<'_>,
     first: &str,
     second: &str,
 ) -> Result<(usize, usize), AllocError>
-    ensures one { IfOk result (λ r. first.now ≡ second.now → r.0 ≡ r.1) }
+    ensures same_number { IfOk result (λ r. first.now ≡ second.now → r.0 ≡ r.1) }
     ensures apart { IfOk result (λ r. r.0 ≡ r.1 → first.now ≡ second.now) }
     ensures kept { (word : List ℕ) (i : ℕ) → position (bytes_eq word) names.old ≡ Some i →
         position (bytes_eq word) names.new ≡ Some i }
@@ -30,7 +31,7 @@ fn numbers(
     Ok((number, next))
 }
 
-// The value that a key has in a map afterwards.
+// Inserts a pair, and returns the value that the key has in the map.
 fn value_of<'a>(
     map: &mut FrozenIndexMap<'a, u32, &'a str>,
     key: u32,
@@ -44,7 +45,7 @@ fn value_of<'a>(
     map.insert(key, value)
 }
 
-// The length of the value that a key has in a map afterwards, read by the key.
+// Inserts a pair, and returns the length of the key's value, which it reads by `[]`.
 fn length_of<'a>(
     map: &mut FrozenIndexMap<'a, u32, &'a str>,
     key: u32,
@@ -54,7 +55,7 @@ fn length_of<'a>(
     Ok(map[&key].len())
 }
 
-// The place that a key has in a map afterwards.
+// Inserts a pair, and returns the index of the key in the map.
 fn place_of<'a>(
     map: &mut FrozenIndexMap<'a, u32, &'a str>,
     key: u32,
@@ -70,7 +71,7 @@ fn place_of<'a>(
     Ok(place)
 }
 
-// The place that a name has in a set afterwards, and the borrow that stands there.
+// Inserts a name, and returns its index in the set and the borrow at that index.
 fn name_at<'a>(
     names: &mut FrozenIndexSet<'a, String>,
     name: String,
@@ -82,7 +83,7 @@ fn name_at<'a>(
     names.insert_full(name)
 }
 
-// The borrow that a name has in a set afterwards.
+// Inserts a name, and returns its borrow in the set.
 fn name_of<'a>(names: &mut FrozenIndexSet<'a, String>, name: String) -> Result<&'a str, AllocError>
     ensures { IfOk result (λ b.
         find (λ kept. bytes_eq (string_bytes name) kept.now) names.new ≡ Some b) }

@@ -1,4 +1,5 @@
-//! The engine over devices of std that are slow, interrupted or fail at one of their calls: which fault comes, and what was written.
+//! The engine with devices of std that are slow, are interrupted, or fail at one of their calls:
+//! the fault that it returns, and what was written.
 ghost use Rattle.std.specs.Prelude.{◌≤◌, IfOk};
 
 use bumpalo::Bump;
@@ -11,10 +12,11 @@ use std::test::Fail;
 const INPUT: &[u8] =
     b"put lonely\nput best friend\nput threes a crowd\nput rando\nput facebook\nput best friend\nat 1\n";
 
-/// The answers to `INPUT`, in 24 bytes.
+/// The output for `INPUT`, 24 bytes.
 const ANSWERS: &[u8] = b"0\n1\n2\n3\n4\n1\nbest friend\n";
 
-/// How a device behaves: the most bytes of a call, the call that fails, counted from 0, and whether a signal comes before each call.
+/// The behaviour of a device: the greatest number of bytes of a call, the number of the call that
+/// fails, counted from 0, and whether a signal interrupts each call once.
 #[derive(Clone, Copy)]
 struct Habits {
     most: usize,
@@ -22,14 +24,14 @@ struct Habits {
     is_interrupted: bool,
 }
 
-/// No call fails, and a call takes all that there is.
+/// The behaviour of a device that doesn't fail and takes or returns all bytes in one call.
 const GOOD: Habits = Habits {
     most: 1000,
     fails_at: 1000,
     is_interrupted: false,
 };
 
-/// What a device has done.
+/// The state of a device.
 #[derive(Drop)]
 struct Device {
     habits: Habits,
@@ -49,7 +51,10 @@ impl Device {
         }
     }
 
-    /// What a call with so many bytes moves.
+    /// Makes a call with `bytes` bytes, and returns the number of bytes that it moves.
+    ///
+    /// # Errors
+    /// Fails if the call is interrupted, or if it is the one that fails.
     fn call(&mut self, bytes: usize) -> io::Result<usize>
         ensures { IfOk result (λ n. n ≤ bytes) }
     {
@@ -68,7 +73,7 @@ impl Device {
     }
 }
 
-/// Gives what is left of a text.
+/// A reader of the rest of a text.
 #[derive(Drop)]
 struct Giver<'t> {
     left: &'t [u8],
@@ -84,7 +89,7 @@ impl<'t> Read for Giver<'t> {
     }
 }
 
-/// Holds what was written.
+/// A writer that stores what was written.
 #[derive(Drop)]
 struct Taker {
     held: Vec<u8>,
@@ -103,7 +108,8 @@ impl Write for Taker {
     }
 }
 
-/// What the engine answered, what was written, and the devices with their failures.
+/// The result of a run of the engine: what it returned, what was written, the failures of the two
+/// devices, and the number of interruptions.
 #[derive(Drop)]
 struct Outcome {
     result: Result<(), EngineFault>,
@@ -113,7 +119,7 @@ struct Outcome {
     interruptions: usize,
 }
 
-/// The engine on `INPUT` over such a reader and such a writer.
+/// Runs the engine on `INPUT` with a reader and a writer of these behaviours.
 fn run(alloc: Global, reader: Habits, writer: Habits) -> Outcome {
     let arena = Bump::new(alloc);
     let mut source = Counted::new(Giver {
@@ -139,7 +145,7 @@ fn run(alloc: Global, reader: Habits, writer: Habits) -> Outcome {
     }
 }
 
-/// How many lines end in the bytes.
+/// Returns the number of lines that end in the bytes.
 fn lines_in(bytes: &[u8]) -> usize {
     let mut lines: usize = 0;
     for byte in bytes {
@@ -150,7 +156,7 @@ fn lines_in(bytes: &[u8]) -> usize {
     lines
 }
 
-/// The beginning of the answers that has so many lines.
+/// Returns the beginning of the output that has this number of lines.
 fn answers_to(lines: usize) -> &'static [u8] {
     for end in 0..ANSWERS.len() {
         if lines_in(&ANSWERS[..end]) == lines {
@@ -160,10 +166,11 @@ fn answers_to(lines: usize) -> &'static [u8] {
     ANSWERS
 }
 
-/// Whether the reader failed, once, and the answers to all lines that it gave whole were written; at none that it failed, all answers.
+/// Returns whether the reader failed once and the output for all lines that were read as a whole
+/// was written. If the failing read wasn't made, the whole output was written.
 fn is_read_fault(outcome: &Outcome, habits: Habits) -> bool {
     let given = habits.most.saturating_mul(habits.fails_at);
-    // The read behind the last byte answers that there is none.
+    // The read after the last byte returns 0.
     if given.saturating_sub(habits.most) >= INPUT.len() {
         return outcome.result.is_ok()
             && outcome.read_failures == 0
@@ -176,7 +183,8 @@ fn is_read_fault(outcome: &Outcome, habits: Habits) -> bool {
         && outcome.held.as_slice() == answers_to(whole)
 }
 
-/// Whether the writer failed, once, and all that it took is a beginning of the answers; at none that it failed, all answers.
+/// Returns whether the writer failed once and what it took is a beginning of the output. If the
+/// failing write wasn't made, the whole output was written.
 fn is_write_fault(outcome: &Outcome, habits: Habits) -> bool {
     let taken = habits.most.saturating_mul(habits.fails_at).min(24);
     let fault = if taken == 24 {
@@ -190,7 +198,8 @@ fn is_write_fault(outcome: &Outcome, habits: Habits) -> bool {
         && outcome.held.as_slice() == &ANSWERS[..taken]
 }
 
-/// Whether a reader of so many bytes a call, whose call `fails_at` fails, loses no answer, interrupted or not.
+/// Returns whether no output is lost with a reader of `most` bytes in a call whose call `fails_at`
+/// fails, interrupted or not.
 fn stands_reads(alloc: Global, most: usize, fails_at: usize) -> bool {
     for is_interrupted in [false, true] {
         let habits = Habits {
@@ -208,7 +217,7 @@ fn stands_reads(alloc: Global, most: usize, fails_at: usize) -> bool {
 #[test]
 fn a_reader_that_fails_at_one_call_loses_no_answer(rt: HostRuntime) -> Result<(), Fail> {
     for most in 1..=INPUT.len() {
-        // A read of a greater number is never made.
+        // A read with a greater number is never made.
         let reads = (INPUT.len() / most).saturating_add(3);
         for fails_at in 0..reads {
             assert!(rt;
@@ -220,7 +229,8 @@ fn a_reader_that_fails_at_one_call_loses_no_answer(rt: HostRuntime) -> Result<()
     Ok(())
 }
 
-/// Whether a writer of so many bytes a call, whose call `fails_at` fails, holds a beginning of the answers, interrupted or not.
+/// Returns whether a writer of `most` bytes in a call, whose call `fails_at` fails, has a beginning
+/// of the output, interrupted or not.
 fn stands_writes(alloc: Global, most: usize, fails_at: usize) -> bool {
     for is_interrupted in [false, true] {
         let habits = Habits {
@@ -250,7 +260,8 @@ fn a_writer_that_fails_at_one_call_holds_a_beginning_of_the_answers(
     Ok(())
 }
 
-/// Whether nothing failed, more than four calls were interrupted, and all answers were written.
+/// Returns whether nothing failed, more than four calls were interrupted, and the whole output was
+/// written.
 fn is_interrupted_alone(outcome: &Outcome) -> bool {
     outcome.result.is_ok()
         && outcome.read_failures == 0

@@ -1,4 +1,5 @@
-//! The engine over slices and vectors, over devices that fail, and over a budget that refuses.
+//! The engine with slices and vectors, with devices that fail, and with a budget that denies
+//! requests.
 use bumpalo::Bump;
 use elsa_interner::interner::{
     Counted, EngineFault, Failed, Interner, Sink, Source, intern_engine,
@@ -6,7 +7,7 @@ use elsa_interner::interner::{
 use std::alloc::{AllocError, Allocator, Global};
 use std::test::Fail;
 
-/// The answer lines to the input, with names and long lines in `table`'s memory.
+/// Returns the output for the input. Names and long lines are in memory of `table`.
 fn answers<A: Allocator + Copy>(alloc: Global, table: A, input: &[u8]) -> Result<String, Fail> {
     let arena = Bump::new(alloc);
     let mut reader = Counted::new(input);
@@ -22,7 +23,7 @@ fn answers<A: Allocator + Copy>(alloc: Global, table: A, input: &[u8]) -> Result
     }
 }
 
-// Whether these are the answer lines to the input.
+// Returns whether the output for the input is `want`.
 fn is_answered<A: Allocator + Copy>(
     alloc: Global,
     table: A,
@@ -34,7 +35,7 @@ fn is_answered<A: Allocator + Copy>(
 }
 
 #[test]
-fn answer_lines(rt: HostRuntime) -> Result<(), Fail> {
+fn the_engine_wrote_other_output_for_the_example_lines(rt: HostRuntime) -> Result<(), Fail> {
     let alloc = rt.alloc();
     for (input, want) in [
         (
@@ -69,14 +70,14 @@ fn answer_lines(rt: HostRuntime) -> Result<(), Fail> {
 }
 
 #[test]
-fn a_line_that_is_no_text(rt: HostRuntime) -> Result<(), Fail> {
+fn a_line_that_is_not_utf_8_was_not_a_bad_line(rt: HostRuntime) -> Result<(), Fail> {
     let alloc = rt.alloc();
     let input = b"\x70\x75\x74\x20\xff\x0alen";
     assert!(rt; is_answered(alloc, alloc, input, "bad line\n0\n")?);
     Ok(())
 }
 
-/// A line of `put` with so many letters, then `at 0`, then `len`.
+/// Makes an input: a line of `put` with this number of letters, then `at 0`, then `len`.
 fn long_line(alloc: Global, letters: usize) -> Result<Vec<u8>, Fail> {
     let mut input = Vec::from_slice(alloc, b"put ")?;
     for _ in 0..letters {
@@ -86,7 +87,7 @@ fn long_line(alloc: Global, letters: usize) -> Result<Vec<u8>, Fail> {
     Ok(input)
 }
 
-// Whether the answers to a long line are its number, its text, and how many there are.
+// Returns whether the output for a long line is its number, its text, and the number of names.
 fn is_long(out: &str, letters: usize) -> bool {
     out.len().checked_sub(5) == Some(letters)
         && out.starts_with("0\naaaaaaaa")
@@ -94,7 +95,7 @@ fn is_long(out: &str, letters: usize) -> bool {
 }
 
 #[test]
-fn a_long_line(rt: HostRuntime) -> Result<(), Fail> {
+fn a_line_longer_than_a_read_was_cut(rt: HostRuntime) -> Result<(), Fail> {
     let alloc = rt.alloc();
     let input = long_line(alloc, 100_000)?;
     let out = answers(alloc, alloc, input.as_slice())?;
@@ -103,7 +104,7 @@ fn a_long_line(rt: HostRuntime) -> Result<(), Fail> {
 }
 
 #[test]
-fn lines_without_memory(rt: HostRuntime) -> Result<(), Fail> {
+fn the_engine_stopped_at_an_allocation_failure(rt: HostRuntime) -> Result<(), Fail> {
     let alloc = rt.alloc();
     let long = long_line(alloc, 100_000)?;
     let budget = Bump::new(alloc);
@@ -114,7 +115,7 @@ fn lines_without_memory(rt: HostRuntime) -> Result<(), Fail> {
     Ok(())
 }
 
-/// Gives a text byte by byte, and fails at one read.
+/// A reader that returns a text byte by byte, and fails at one read.
 #[derive(Drop)]
 struct Dribble<'t> {
     text: &'t [u8],
@@ -144,7 +145,7 @@ impl<'t> Source for Dribble<'t> {
     }
 }
 
-/// Takes one byte at a time, and fails when its room is used up.
+/// A writer that takes one byte in each call, and fails when its room is used up.
 #[derive(Drop)]
 struct Narrow {
     bytes: [u8; 16],
@@ -176,7 +177,8 @@ impl Sink for Narrow {
 
 const TEXT: &[u8] = b"put a\nput b\nat 1\nlen";
 
-/// What the engine answers where the reader fails at this read and the writer has this room.
+/// Runs the engine with a reader that fails at the read `fails_at`, and returns the result with the
+/// number of the reader's failures.
 fn outcome(alloc: Global, fails_at: usize, writer: &mut Narrow) -> (Result<(), EngineFault>, u64) {
     let arena = Bump::new(alloc);
     let mut reader = Dribble {
@@ -198,12 +200,13 @@ fn with_room(room: usize) -> Narrow {
     }
 }
 
-/// Whether the bytes that the writer took are these.
+/// Returns whether the writer took these bytes.
 fn took(writer: &Narrow, want: &[u8]) -> bool {
     writer.bytes.get(..writer.len) == Some(want)
 }
 
-/// Whether a reader that fails at this read is told of, once, and the answers to the lines that were read are written.
+/// Returns whether a reader that fails at this read is reported once, and the output for the lines
+/// before is written.
 fn is_read_to(alloc: Global, fails_at: usize) -> bool {
     let mut writer = with_room(16);
     let failed = outcome(alloc, fails_at, &mut writer) == (Err(EngineFault::Read), 1);
@@ -217,14 +220,15 @@ fn is_read_to(alloc: Global, fails_at: usize) -> bool {
 }
 
 #[test]
-fn a_reader_fails(rt: HostRuntime) -> Result<(), Fail> {
+fn a_failed_read_lost_output_or_was_not_reported(rt: HostRuntime) -> Result<(), Fail> {
     for fails_at in 0..21 {
         assert!(rt; is_read_to(rt.alloc(), fails_at), "at {fails_at}");
     }
     Ok(())
 }
 
-/// Whether a writer with this room is told of where it isn't room for all answers, and took those that it has room for.
+/// Returns whether a writer with this room takes the output that fits, and a fault is reported if
+/// that isn't all.
 fn is_written_to(alloc: Global, room: usize) -> bool {
     let mut writer = with_room(room);
     let (outcome, _) = outcome(alloc, 99, &mut writer);
@@ -233,19 +237,19 @@ fn is_written_to(alloc: Global, room: usize) -> bool {
 }
 
 #[test]
-fn a_writer_fails(rt: HostRuntime) -> Result<(), Fail> {
+fn a_failed_write_lost_output_or_was_not_reported(rt: HostRuntime) -> Result<(), Fail> {
     for room in 0..9 {
         assert!(rt; is_written_to(rt.alloc(), room), "at {room}");
     }
     Ok(())
 }
 
-/// The number of a name by the plain program: a walk from the front.
+/// Returns the number of a name in the plain program, by a walk from the front.
 fn plain_find(plain: &Vec<String>, name: &str) -> Option<usize> {
     plain.iter().position(|kept| kept.as_str() == name)
 }
 
-/// The plain program's `put`: a name that is absent goes last.
+/// Does `put` in the plain program: an absent name is added last.
 fn plain_put(alloc: Global, plain: &mut Vec<String>, name: &str) -> Result<usize, AllocError> {
     if let Some(number) = plain_find(plain, name) {
         return Ok(number);
@@ -256,7 +260,7 @@ fn plain_put(alloc: Global, plain: &mut Vec<String>, name: &str) -> Result<usize
     Ok(number)
 }
 
-/// Whether both find, put and count alike.
+/// Returns whether both have equal results of `find`, `put` and `len`.
 fn are_alike(
     alloc: Global,
     fast: &mut Interner<'_>,
@@ -268,7 +272,7 @@ fn are_alike(
     Ok(found && put && fast.len() == plain.len())
 }
 
-/// Whether both have the same names at the places below 9.
+/// Returns whether both have the same names for the numbers below 9.
 fn name_alike(fast: &Interner<'_>, plain: &Vec<String>) -> bool {
     for number in 0..9 {
         if fast.at(number) != plain.get(number).map(|kept| kept.as_str()) {
@@ -279,7 +283,7 @@ fn name_alike(fast: &Interner<'_>, plain: &Vec<String>) -> bool {
 }
 
 #[test]
-fn as_the_plain_program(rt: HostRuntime) -> Result<(), Fail> {
+fn the_interner_differed_from_the_plain_program(rt: HostRuntime) -> Result<(), Fail> {
     let alloc = rt.alloc();
     let arena = Bump::new(alloc);
     let mut fast = Interner::new(alloc, &arena);

@@ -1,4 +1,5 @@
-//! The seeded hash: its values by `tools/crafted_names --vectors`, tables of each form over it, and a source of secrets that fails.
+//! The seeded hash: its values by `tools/crafted_names --vectors`, each collection with it, and a
+//! source of secrets that fails.
 use bumpalo::Bump;
 use elsa_hash::seeded::SeededState;
 use elsa_index::index_set::FrozenIndexSet;
@@ -13,7 +14,7 @@ use std::io::ErrorKind;
 use std::random::RandomSource;
 use std::test::Fail;
 
-/// Whether a text has this hash under the seed of the tables here.
+/// Returns whether a text has this hash under the seed that these tests use.
 fn hashes_to(text: &str, hash: u64) -> bool {
     SeededState::with_seed(0x0123_4567_89AB_CDEF, 0xFEDC_BA98_7654_3210).hash_one(text) == hash
 }
@@ -66,7 +67,8 @@ fn names_of_one_hash_under_the_default_differ_under_a_seed(rt: HostRuntime) -> R
     Ok(())
 }
 
-/// Answers this byte and those after it for each request, or fails where there is none.
+/// A source that returns this byte and those after it for each request. It fails if there is no
+/// byte.
 struct Source {
     first: Option<u8>,
 }
@@ -121,7 +123,7 @@ fn a_hasher_prints_no_secret(rt: HostRuntime) -> Result<(), Fail> {
     Ok(())
 }
 
-/// Whether a map by text keys finds each of some names, and no other.
+/// Returns whether a map with text keys finds a name that was inserted, and not another.
 fn is_map_by_texts(alloc: Global, state: SeededState) -> Result<bool, AllocError> {
     let arena = Bump::new(alloc);
     let mut map: FrozenMap<&'static str, Own<u64>, SeededState> = FrozenMap::with_hasher(
@@ -135,7 +137,7 @@ fn is_map_by_texts(alloc: Global, state: SeededState) -> Result<bool, AllocError
     Ok(found && map.len() == 3 && map.get(&absent).is_none())
 }
 
-/// Whether an index map by numbers finds each of a thousand.
+/// Returns whether an index map with number keys finds each of a thousand.
 fn is_map_by_numbers(alloc: Global, state: SeededState) -> Result<bool, AllocError> {
     let arena = Bump::new(alloc);
     let mut map: FrozenIndexMap<u64, &str, SeededState> = FrozenIndexMap::with_hasher(
@@ -152,7 +154,7 @@ fn is_map_by_numbers(alloc: Global, state: SeededState) -> Result<bool, AllocErr
     Ok(map.get(&1).is_none())
 }
 
-/// Whether a set of slices finds the place of each.
+/// Returns whether a set of slices finds the index of each.
 fn is_set_of_slices(alloc: Global, state: SeededState) -> Result<bool, AllocError> {
     let arena = Bump::new(alloc);
     let mut set: FrozenIndexSet<&[u32], SeededState> = FrozenIndexSet::with_hasher(
@@ -167,7 +169,7 @@ fn is_set_of_slices(alloc: Global, state: SeededState) -> Result<bool, AllocErro
     Ok(set.get_index_of(&last) == Some(2) && set.get_index_of(&absent).is_none())
 }
 
-/// Whether an interner numbers names that collide under the default.
+/// Returns whether an interner numbers names that collide under the default hasher.
 fn is_interner(alloc: Global, state: SeededState) -> Result<bool, AllocError> {
     let arena = Bump::new(alloc);
     let mut names = Interner::with_hasher(alloc, &arena, state);

@@ -1,4 +1,4 @@
-//! Worked rows of the index forms.
+//! Examples of the index collections, with their expected results.
 use crate::odd_keys::{Fold, SameHash};
 use bumpalo::Bump;
 use elsa_index::index_laws::{
@@ -40,7 +40,7 @@ fn length<'a>(map: &Keyed<'a>, key: &'a str) -> Option<usize> {
     map.map_get(&key, |value: &str| -> usize { value.len() })
 }
 
-// The value at a key, by indexing, if the key is there.
+// Returns the value at a key by `[]`, or `None` if the key is absent.
 fn by_key<'a>(map: &Keyed<'a>, key: &'a str) -> Option<&'a str> {
     if map.get(&key).is_none() {
         return None;
@@ -49,7 +49,7 @@ fn by_key<'a>(map: &Keyed<'a>, key: &'a str) -> Option<&'a str> {
 }
 
 #[test]
-fn look_ups_in_a_map(rt: HostRuntime) -> Result<(), Fail> {
+fn a_lookup_in_an_index_map_found_the_wrong_entry(rt: HostRuntime) -> Result<(), Fail> {
     let arena = Bump::new(rt.alloc());
     let mut map: Keyed<'_> = FrozenIndexMap::new(rt.alloc(), &arena);
     let before = map.get_index(usize::MAX);
@@ -67,7 +67,7 @@ fn look_ups_in_a_map(rt: HostRuntime) -> Result<(), Fail> {
 
 type Texts<'a> = FrozenIndexMap<'a, u32, &'a str>;
 
-// A map of these pairs.
+// Collects a map of these pairs.
 fn collected<'a>(
     alloc: Global,
     arena: &'a Bump,
@@ -90,7 +90,7 @@ fn collecting_keeps_the_first_place_and_the_last_value(rt: HostRuntime) -> Resul
 }
 
 #[test]
-fn order_does_not_count(rt: HostRuntime) -> Result<(), Fail> {
+fn maps_in_different_orders_were_unequal(rt: HostRuntime) -> Result<(), Fail> {
     let arena = Bump::new(rt.alloc());
     let ab = collected(rt.alloc(), &arena, &[(1, "a"), (2, "b")])?;
     let ba = collected(rt.alloc(), &arena, &[(2, "b"), (1, "a")])?;
@@ -100,7 +100,7 @@ fn order_does_not_count(rt: HostRuntime) -> Result<(), Fail> {
     Ok(())
 }
 
-// The pairs at the first three places of a map.
+// Returns the pairs at the first three indices of a map.
 fn pairs_of<'a>(map: &Texts<'a>) -> [Option<(u32, &'a str)>; 3] {
     [map.get_index(0), map.get_index(1), map.get_index(2)]
 }
@@ -126,7 +126,7 @@ type MapCommand<'a> = IndexCommand<
     IndexMap<u32, &'a str, BuildHasherDefault<FoldHasher>>,
 >;
 
-// The first value of a key stays.
+// Makes commands in which a key is inserted several times. Its first value stays.
 fn insertions<'a>(alloc: Global) -> Result<Vec<MapCommand<'a>>, AllocError> {
     Ok(Vec::from_array(
         alloc,
@@ -158,7 +158,7 @@ fn are_insertions(replies: &[IndexReply<&str>]) -> bool {
         .as_slice()
 }
 
-// An insertion says whether the key was new.
+// Makes commands whose replies show whether the key was new.
 fn repeats<'a>(alloc: Global) -> Result<Vec<MapCommand<'a>>, AllocError> {
     Ok(Vec::from_array(
         alloc,
@@ -231,7 +231,7 @@ fn are_rows(alloc: Global, arena: &Bump) -> Result<bool, AllocError> {
 }
 
 #[test]
-fn runs_of_a_map(rt: HostRuntime) -> Result<(), Fail> {
+fn a_run_on_an_index_map_had_other_replies(rt: HostRuntime) -> Result<(), Fail> {
     let arena = Bump::new(rt.alloc());
     assert!(rt; are_rows(rt.alloc(), &arena)?);
     Ok(())
@@ -281,7 +281,7 @@ fn are_of_a_set(replies: &[SetReply<&str>]) -> bool {
 }
 
 #[test]
-fn runs_of_a_set(rt: HostRuntime) -> Result<(), Fail> {
+fn a_run_on_an_index_set_had_other_replies(rt: HostRuntime) -> Result<(), Fail> {
     let alloc = rt.alloc();
     let arena = Bump::new(alloc);
     let mut set: FrozenIndexSet<'_, &str> = FrozenIndexSet::new(alloc, &arena);
@@ -294,7 +294,7 @@ fn runs_of_a_set(rt: HostRuntime) -> Result<(), Fail> {
 
 type Set<'a> = FrozenIndexSet<'a, String>;
 
-// A set of owned copies of these texts.
+// Collects a set of owned copies of these texts.
 fn set_of<'a>(alloc: Global, arena: &'a Bump, texts: &[&str]) -> Result<Set<'a>, AllocError> {
     let mut given: Vec<String> = Vec::new(alloc);
     for of in texts {
@@ -303,7 +303,7 @@ fn set_of<'a>(alloc: Global, arena: &'a Bump, texts: &[&str]) -> Result<Set<'a>,
     FrozenIndexSet::from_iter(alloc, arena, BuildHasherDefault::new(), given)
 }
 
-// The value at a place, by indexing, if the place is there.
+// Returns the value at an index by `[]`, or `None` if there is none.
 fn by_place<'a>(set: &Set<'a>, place: usize) -> Option<&'a str> {
     if set.get_index(place).is_none() {
         return None;
@@ -311,7 +311,7 @@ fn by_place<'a>(set: &Set<'a>, place: usize) -> Option<&'a str> {
     Some(set[place])
 }
 
-// What is found by an owner and by a text, and whether the owner can be inserted anew.
+// Returns what is found by an owner and by a text, and the result of inserting the owner again.
 fn found<'a>(
     set: &mut Set<'a>,
     owner: String,
@@ -325,7 +325,8 @@ fn found<'a>(
 > {
     let by_owner = set.get(&owner);
     let by_text = set.get_full(&owner.as_str());
-    Ok((by_owner, by_text, set.insert_full_new(owner)?))
+    let done = set.insert_full_new(owner)?;
+    Ok((by_owner, by_text, (done.index, done.value, done.is_new)))
 }
 
 #[test]
@@ -343,14 +344,15 @@ fn a_set_finds_by_owner_text_and_place(rt: HostRuntime) -> Result<(), Fail> {
     Ok(())
 }
 
-// A clone with one more value, taken apart and made again: whether it differed, and the value's place.
+// Adds a value to a clone, takes it apart and makes it again. Returns whether the value was new,
+// whether the clone then differed, and the value's index.
 fn made_again<'a>(
     alloc: Global,
     arena: &'a Bump,
     set: &Set<'a>,
 ) -> Result<(bool, bool, Option<usize>), AllocError> {
     let mut copy = set.clone()?;
-    let (_, new) = copy.insert_new(String::from_str(alloc, "c")?)?;
+    let new = copy.insert_full_new(String::from_str(alloc, "c")?)?.is_new;
     let differs = copy != *set;
     let again: Set<'a> = FrozenIndexSet::from_set(arena, copy.into_set());
     Ok((new, differs, again.get_index_of(&"c")))
@@ -369,7 +371,7 @@ fn sets_are_cloned_and_cleared(rt: HostRuntime) -> Result<(), Fail> {
     Ok(())
 }
 
-// A set of numbers finds one by an equal number and none by another.
+// Returns whether a set of numbers finds a number by an equal one, and none by another.
 fn finds_numbers(alloc: Global, arena: &Bump) -> Result<bool, AllocError> {
     let mut numbers: FrozenIndexSet<'_, Own<u32>> = FrozenIndexSet::new(alloc, arena);
     let seven = *numbers.insert(Own(7))?;
@@ -377,7 +379,7 @@ fn finds_numbers(alloc: Global, arena: &Bump) -> Result<bool, AllocError> {
     Ok(seven == 7 && places == [Some(0), None])
 }
 
-// A set of lists finds one by a slice of equal items.
+// Returns whether a set of lists finds a list by a slice of equal items.
 fn finds_lists(alloc: Global, arena: &Bump) -> Result<bool, AllocError> {
     let mut lists: FrozenIndexSet<'_, Vec<u32>> = FrozenIndexSet::new(alloc, arena);
     let (place, _) = lists.insert_full(Vec::from_slice(alloc, &[1, 2])?)?;
@@ -385,13 +387,13 @@ fn finds_lists(alloc: Global, arena: &Bump) -> Result<bool, AllocError> {
 }
 
 #[test]
-fn forms_of_values(rt: HostRuntime) -> Result<(), Fail> {
+fn a_set_of_numbers_or_lists_lost_a_value(rt: HostRuntime) -> Result<(), Fail> {
     let arena = Bump::new(rt.alloc());
     assert!(rt; finds_numbers(rt.alloc(), &arena)? && finds_lists(rt.alloc(), &arena)?);
     Ok(())
 }
 
-// ---- the laws' places and flags
+// ---- the indices and flags of the laws
 
 fn laws_of_a_map(alloc: Global, arena: &Bump) -> Result<bool, AllocError> {
     let mut map: Texts<'_> = FrozenIndexMap::new(alloc, arena);
@@ -405,11 +407,11 @@ fn laws_of_a_map(alloc: Global, arena: &Bump) -> Result<bool, AllocError> {
     )?;
     let last = keeps_earlier_pairs(&mut map, 7, "z")?;
     Ok(
-        five.0 == 0
-            && four.0 == 1
-            && first == (2, "c", true)
-            && again == (2, "c", false)
-            && last == (3, "e", false),
+        five.index == 0
+            && four.index == 1
+            && (first.index, first.value, first.is_new) == (2, "c", true)
+            && (again.index, again.value, again.is_new) == (2, "c", false)
+            && (last.index, last.value, last.is_new) == (3, "e", false),
     )
 }
 
@@ -422,16 +424,18 @@ fn laws_of_a_set(alloc: Global, arena: &Bump) -> Result<bool, AllocError> {
     let (first, again) = set_is_new_once(&mut set, c, between, String::from_str(alloc, "c")?)?;
     let last = set_keeps_earlier_values(&mut set, String::from_str(alloc, "d")?)?;
     Ok(
-        a.0 == 0
-            && b.0 == 1
-            && first == (2, "c", true)
-            && again == (2, "c", false)
-            && last == (3, "d", false),
+        a.index == 0
+            && b.index == 1
+            && (first.index, first.value, first.is_new) == (2, "c", true)
+            && (again.index, again.value, again.is_new) == (2, "c", false)
+            && (last.index, last.value, last.is_new) == (3, "d", false),
     )
 }
 
 #[test]
-fn the_laws_of_index_forms_answer_places_and_flags(rt: HostRuntime) -> Result<(), Fail> {
+fn a_law_of_an_index_collection_returned_a_wrong_index_or_flag(
+    rt: HostRuntime,
+) -> Result<(), Fail> {
     let arena = Bump::new(rt.alloc());
     assert!(rt; laws_of_a_map(rt.alloc(), &arena)? && laws_of_a_set(rt.alloc(), &arena)?);
     Ok(())
@@ -452,7 +456,7 @@ fn map_has_all(map: &AlikeMap<'_>) -> bool {
 }
 
 #[test]
-fn keys_of_a_map_that_hash_alike(rt: HostRuntime) -> Result<(), Fail> {
+fn a_map_confused_keys_with_equal_hashes(rt: HostRuntime) -> Result<(), Fail> {
     let arena = Bump::new(rt.alloc());
     let mut map: AlikeMap<'_> = FrozenIndexMap::new(rt.alloc(), &arena);
     for i in 0..200u32 {
@@ -474,7 +478,7 @@ fn set_has_all(set: &AlikeSet<'_>) -> bool {
 }
 
 #[test]
-fn values_of_a_set_that_hash_alike(rt: HostRuntime) -> Result<(), Fail> {
+fn a_set_confused_values_with_equal_hashes(rt: HostRuntime) -> Result<(), Fail> {
     let arena = Bump::new(rt.alloc());
     let mut set: AlikeSet<'_> = FrozenIndexSet::new(rt.alloc(), &arena);
     for i in 0..200u32 {
@@ -502,7 +506,7 @@ fn an_index_map_shows_the_first_of_equal_keys(rt: HostRuntime) -> Result<(), Fai
 
 type HashedFolds<'a> = FrozenMap<'a, Fold<'a>, &'a str>;
 
-// The key shown and its value.
+// Returns the stored key and its value.
 fn hashed_pair<'a>(map: &HashedFolds<'a>, key: &'a str) -> Option<(&'a str, &'a str)> {
     let (shown, value) = map.get_key_value(&Fold(key))?;
     Some((shown.0, value))
@@ -520,7 +524,7 @@ fn a_hashed_map_shows_the_first_of_equal_keys(rt: HostRuntime) -> Result<(), Fai
 
 type OrderedFolds<'a> = FrozenBTreeMap<'a, Fold<'a>, &'a str>;
 
-// The pairs of a map of these, as the map gives them up.
+// Inserts the pairs into a map, and returns the pairs of the map.
 fn ordered_folds<'a>(
     alloc: Global,
     arena: &'a Bump,
@@ -533,7 +537,7 @@ fn ordered_folds<'a>(
     map.into_tuple_vec()
 }
 
-// Whether these are the pairs, with the keys as they are written.
+// Returns whether these are the pairs, with the keys as they were inserted first.
 fn are_shown(pairs: &[(Fold<'_>, &str)], want: &[(&str, &str)]) -> bool {
     let mut place = 0usize;
     for pair in pairs {

@@ -1,4 +1,5 @@
-//! Tests of the index forms, the runs, the interner and the cache as a stranger calls it: worked cases, odd but lawful keys, hostile lines, and devices that fail.
+//! Tests of the index collections, the runs, the interner and the cache, used as by any other
+//! crate: examples, unusual but lawful keys, malformed lines, and devices that fail.
 #![tactic(auto)]
 
 #[cfg(test)]

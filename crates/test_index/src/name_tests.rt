@@ -1,11 +1,11 @@
-//! Names by the hundred: while the interner's table doubles, and where all names have one hash.
+//! Hundreds of names: while the interner's hash table doubles, and if all names have one hash.
 use bumpalo::Bump;
 use elsa_interner::interner::Interner;
 use std::alloc::{AllocError, Global};
 use std::hash::{BuildHasher, BuildHasherDefault, FoldHasher, Hasher};
 use std::test::*;
 
-/// A hasher that gives each text the same hash.
+/// A hasher that returns the same hash for each text.
 #[derive(Clone, Copy)]
 struct OneHash(u64);
 
@@ -31,7 +31,7 @@ impl BuildHasher for OneHash {
     }
 }
 
-/// Whether a name that is absent gets the number, and keeps it.
+/// Returns whether an absent name gets the number, and keeps it.
 fn is_put<S: BuildHasher>(
     names: &mut Interner<'_, S>,
     text: &str,
@@ -42,7 +42,8 @@ fn is_put<S: BuildHasher>(
     Ok(absent && put && names.put(text)? == number)
 }
 
-/// Whether so many names are numbered in order, and afterwards each is found and stands at its number.
+/// Returns whether `count` names are numbered in order, and each is found by its name and by its
+/// number afterwards.
 fn are_numbered<S: BuildHasher + Drop>(
     alloc: Global,
     hash_builder: S,
@@ -74,7 +75,8 @@ fn names_keep_their_numbers_while_the_table_doubles(rt: HostRuntime) -> Result<(
 
 #[test]
 fn names_of_one_hash_are_told_apart(rt: HostRuntime) -> Result<(), Fail> {
-    // The second hash is that of the last slot, whatever their number, so that each probe goes on at the first.
+    // The second hash is that of the last bucket in a table of any size, so each probe continues at
+    // the first bucket.
     for hash in [0, 0xFFFF_FFFF, 12345] {
         assert!(rt; are_numbered(rt.alloc(), OneHash(hash), 100)?, "{hash}");
     }

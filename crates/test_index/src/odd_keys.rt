@@ -10,7 +10,7 @@ ghost use Rattle.test_index.specs.Folded.{small, small_writes, folded_equiv};
 use std::cmp::Ordering;
 use std::hash::{Hash, Hasher};
 
-/// A number whose hash is that of every other.
+/// A number that has the same hash as every other.
 #[derive(Clone, Copy, Debug, PartialEq, Eq)]
 pub struct SameHash(pub u32);
 
@@ -22,7 +22,7 @@ impl Hash for SameHash {
     fn hash<H: Hasher>(&self, _state: &mut H) {}
 }
 
-/// A text whose ASCII capitals count as small letters.
+/// A text in which ASCII capitals are equal to small letters.
 #[derive(Clone, Copy, Debug)]
 pub struct Fold<'a>(pub &'a str);
 
@@ -64,7 +64,7 @@ impl Ord for Fold<'_> {
     }
 }
 
-// The order of the bytes with small letters in the place of capitals.
+// Returns the order of the bytes, with small letters for ASCII capitals.
 fn folded_order(one: &[u8], other: &[u8]) -> Ordering
     ensures { result ≡ slice_cmp nat_cmp (small one.now) (small other.now) }
 {

@@ -1,23 +1,23 @@
-//! What no clause says of the cache of what a parser makes: which closures are called and how often, what each refusal leaves, and slices that
-//! outlive the cache.
+//! Facts of the cache of parsed texts that no clause states: the number of calls of each closure,
+//! what an allocation failure leaves, and slices that outlive the cache.
 use bumpalo::Bump;
 use elsa_cache::{CacheFault, ParsedCache};
 use std::alloc::{AllocError, Global};
 use std::test::Fail;
 use test_script::leave_room;
 
-/// Why a text wasn't loaded.
+/// The reason why a text wasn't loaded.
 #[derive(Clone, Copy, Debug, PartialEq, Eq)]
 enum Missing {
     File,
     Memory,
 }
 
-/// A text without a space.
+/// The error for a text without a space.
 #[derive(Clone, Copy, Debug, PartialEq, Eq)]
 struct NoSpace;
 
-/// A text up to its first space and behind it.
+/// A text up to its first space, and after it.
 type Halves<'a> = (&'a str, &'a str);
 
 type Cache<'a> = ParsedCache<'a, Halves<'a>>;
@@ -38,7 +38,7 @@ fn halves<'a>(text: &'a str) -> Result<Halves<'a>, NoSpace> {
     }
 }
 
-/// How often each closure was called.
+/// The numbers of calls of the two closures.
 #[derive(Clone, Copy, Debug, PartialEq, Eq)]
 struct Calls {
     loads: u32,
@@ -50,7 +50,8 @@ const NONE: Calls = Calls {
     parses: 0,
 };
 
-// The halves at a path, whose text is loaded as this; no file where it is `None`.
+// Returns the halves of the text at a path. `file` is loaded as that text; if it is `None`, there
+// is no file.
 fn at<'a>(
     alloc: Global,
     cache: &mut Cache<'a>,
@@ -77,7 +78,7 @@ fn at<'a>(
     Ok(*made)
 }
 
-// The path asked for by a text that ends with this call.
+// Returns the halves at a path that is passed as a text which ends with this call.
 fn at_short<'a>(
     alloc: Global,
     cache: &mut Cache<'a>,
@@ -158,7 +159,8 @@ fn a_text_that_cannot_be_parsed_stays_and_is_parsed_again(rt: HostRuntime) -> Re
     Ok(())
 }
 
-// Whether a path whose text or value finds no room is told so, and has its value once there is room.
+// Returns whether an allocation failure is reported for a path whose text or value doesn't fit into
+// the arena, and the path has its value once there is room.
 fn comes_back(alloc: Global, room: usize, loads: u32) -> Result<bool, AllocError> {
     let arena = Bump::new(alloc);
     let mut cache: Cache<'_> = ParsedCache::new(alloc, &arena);
@@ -171,8 +173,9 @@ fn comes_back(alloc: Global, room: usize, loads: u32) -> Result<bool, AllocError
     Ok(is_told && found == Ok(("aardvark", "b")) && calls.loads == loads)
 }
 
-// A path takes 12 bytes and its text 10: with room for two words of 8 bytes the text finds none, with room for three the path of the value
-// doesn't.
+// Checks which allocation failure requires another load. A path has 12 bytes and its text 10. With
+// room for two times 8 bytes the text doesn't fit; with room for three, the text fits, and the copy
+// of the path doesn't.
 #[test]
 fn a_refused_text_is_loaded_again_and_a_refused_value_is_not(rt: HostRuntime) -> Result<(), Fail> {
     let alloc = rt.alloc();

@@ -1,4 +1,5 @@
-//! What `{:?}` prints of the index forms and the interner, and a map of strings that is asked by a text.
+//! The output of `{:?}` of the index collections and the interner, and lookups by text in a map
+//! with `String` keys.
 use bumpalo::Bump;
 use elsa_index::index_set::FrozenIndexSet;
 use elsa_interner::interner::Interner;
@@ -54,7 +55,7 @@ fn an_interner_prints_its_names_in_the_order_of_their_numbers(rt: HostRuntime) -
 fn strings_are_found(alloc: Global, arena: &Bump) -> Result<bool, AllocError> {
     let mut map: FrozenIndexMap<'_, String, Own<u64>> = FrozenIndexMap::new(alloc, arena);
     map.insert(String::from_str(alloc, "a name")?, Own(7))?;
-    Ok(map.get_text("a name") == Some(&7) && map.get_text("a nam").is_none())
+    Ok(map.get("a name") == Some(&7) && map.get("a nam").is_none())
 }
 
 #[test]

@@ -1,4 +1,4 @@
-//! Runs of the three maps whose replies are known: worked rows, an insertion of each kind, and a new base.
+//! Runs of the three maps with known replies: examples, an insertion of each kind, and a new base.
 use bumpalo::Bump;
 use elsa_maps::index_map::FrozenIndexMap;
 use elsa_maps::map::{FrozenBTreeMap, FrozenMap};
@@ -9,7 +9,7 @@ use std::alloc::{AllocError, Global};
 use std::collections::{BTreeMap, HashMap};
 use std::test::Fail;
 
-// A command with a text in the place of an owner.
+// A command with a text instead of an owner.
 #[derive(Clone, Copy)]
 enum Row<'t> {
     Insert(u32, &'t str),
@@ -26,7 +26,7 @@ struct Rows<'t> {
     after: &'t [Row<'t>],
 }
 
-// The first value of a key stays, however it is inserted. Then an empty base.
+// The first value of a key stays, by any kind of insertion. The base between them is empty.
 const STAYS: Rows<'static> = Rows {
     before: &[
         Row::IsEmpty,
@@ -62,7 +62,7 @@ fn are_of_stays(replies: &[MapReply<&str>]) -> bool {
         .as_slice()
 }
 
-// With a base in which only 2 is there.
+// The base between them has only the key 2.
 const FIRST_WINS: Rows<'static> = Rows {
     before: &[Row::Insert(1, "a"), Row::Insert(1, "b"), Row::Len],
     after: &[Row::Get(1), Row::Get(2)],
@@ -81,7 +81,7 @@ fn are_first_wins(replies: &[MapReply<&str>]) -> bool {
         .as_slice()
 }
 
-// Insertions that say whether the key was new, with an empty base before the last.
+// Insertions whose replies show whether the key was new, with an empty base before the last.
 const NEW_ONCE: Rows<'static> = Rows {
     before: &[
         Row::InsertNew(1, "a"),
@@ -169,7 +169,7 @@ fn hashed_is_answered(alloc: Global, arena: &Bump) -> Result<bool, AllocError> {
 }
 
 #[test]
-fn runs_of_the_hashed_map(rt: HostRuntime) -> Result<(), Fail> {
+fn a_run_on_a_hashed_map_had_other_replies(rt: HostRuntime) -> Result<(), Fail> {
     let arena = Bump::new(rt.alloc());
     assert!(rt; hashed_is_answered(rt.alloc(), &arena)?);
     Ok(())
@@ -205,7 +205,7 @@ fn ordered_is_answered(alloc: Global, arena: &Bump) -> Result<bool, AllocError> 
 }
 
 #[test]
-fn runs_of_the_ordered_map(rt: HostRuntime) -> Result<(), Fail> {
+fn a_run_on_an_ordered_map_had_other_replies(rt: HostRuntime) -> Result<(), Fail> {
     let arena = Bump::new(rt.alloc());
     assert!(rt; ordered_is_answered(rt.alloc(), &arena)?);
     Ok(())
@@ -241,7 +241,7 @@ fn index_is_answered(alloc: Global, arena: &Bump) -> Result<bool, AllocError> {
 }
 
 #[test]
-fn runs_of_the_index_map_as_a_form_of_map(rt: HostRuntime) -> Result<(), Fail> {
+fn a_run_on_an_index_map_had_other_replies(rt: HostRuntime) -> Result<(), Fail> {
     let arena = Bump::new(rt.alloc());
     assert!(rt; index_is_answered(rt.alloc(), &arena)?);
     Ok(())

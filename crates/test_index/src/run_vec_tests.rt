@@ -1,4 +1,4 @@
-//! Worked rows of runs on a vector.
+//! Examples of runs on a vector, with their expected replies.
 use bumpalo::Bump;
 use elsa_run::run::run_vec;
 use elsa_run::run_vec::{VecCommand, VecReply};
@@ -40,7 +40,7 @@ fn are_wanted(replies: &[VecReply<&str>]) -> bool {
         .as_slice()
 }
 
-// An empty vector and three pushes.
+// Makes commands on an empty vector and three pushes.
 fn pushes<'a>(alloc: Global) -> Result<Vec<Command<'a>>, AllocError> {
     Ok(Vec::from_array(
         alloc,
@@ -107,7 +107,7 @@ fn are_rows(alloc: Global, arena: &Bump) -> Result<bool, AllocError> {
 }
 
 #[test]
-fn runs_of_a_vector(rt: HostRuntime) -> Result<(), Fail> {
+fn a_run_on_a_vector_had_other_replies(rt: HostRuntime) -> Result<(), Fail> {
     let arena = Bump::new(rt.alloc());
     assert!(rt; are_rows(rt.alloc(), &arena)?);
     Ok(())

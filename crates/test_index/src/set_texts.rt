@@ -1,4 +1,4 @@
-//! Sets of texts that are asked and given texts which end with the call.
+//! Sets of texts, with lookups and insertions of texts that end with the call.
 use bumpalo::Bump;
 use elsa_index::index_set::FrozenIndexSet;
 use std::alloc::{AllocError, Global};
@@ -9,7 +9,7 @@ type Names<'a> = FrozenIndexSet<'a, &'a str>;
 
 type Owned<'a> = FrozenIndexSet<'a, String>;
 
-// The set of these texts, each given by a copy that ends with its call.
+// Makes a set of these texts, each inserted from a copy that ends with its call.
 fn given<'a>(alloc: Global, arena: &'a Bump, texts: [&str; 4]) -> Result<Names<'a>, AllocError> {
     let mut names: Names<'a> = FrozenIndexSet::new(alloc, arena);
     for text in texts {
@@ -19,12 +19,12 @@ fn given<'a>(alloc: Global, arena: &'a Bump, texts: [&str; 4]) -> Result<Names<'
     Ok(names)
 }
 
-// What a set says of a text.
+// Returns the borrow of a text in a set, its index, and whether the set contains it.
 fn found<'a>(names: &Names<'a>, text: &str) -> (Option<&'a str>, Option<usize>, bool) {
     (
-        names.get_text(text),
-        names.get_index_of_text(text),
-        names.contains_text(text),
+        names.get(text),
+        names.get_index_of(text),
+        names.contains(text),
     )
 }
 
@@ -37,22 +37,22 @@ fn a_text_has_the_place_of_its_first_insertion(rt: HostRuntime) -> Result<(), Fa
             found(&names, text) == (Some(text), Some(place), true),
             "{text}"
         );
-        assert!(rt; names.get_full_text(text) == Some((place, text)), "{text}");
+        assert!(rt; names.get_full(text) == Some((place, text)), "{text}");
     }
     assert!(rt; names.len() == 3 && found(&names, "c") == (None, None, false));
     Ok(())
 }
 
-// Whether a set of strings is asked by texts.
+// Returns whether lookups by text find the strings of a set.
 fn strings_are_found(alloc: Global) -> Result<bool, AllocError> {
     let arena = Bump::new(alloc);
     let mut names: Owned<'_> = FrozenIndexSet::new(alloc, &arena);
     for text in ["toad", "lonely"] {
         names.insert(String::from_str(alloc, text)?)?;
     }
-    let is_found = names.get_text("lonely") == Some("lonely") && names.contains_text("toad");
-    let is_absent = names.get_text("lone").is_none() && !names.contains_text("");
-    Ok(is_found && is_absent && names.get_index_of_text("lonely") == Some(1))
+    let is_found = names.get("lonely") == Some("lonely") && names.contains("toad");
+    let is_absent = names.get("lone").is_none() && !names.contains("");
+    Ok(is_found && is_absent && names.get_index_of("lonely") == Some(1))
 }
 
 #[test]
@@ -61,7 +61,8 @@ fn a_set_of_strings_is_asked_by_texts(rt: HostRuntime) -> Result<(), Fail> {
     Ok(())
 }
 
-// Whether a text that is there takes nothing of the arena, and one whose placing is refused leaves the set.
+// Returns whether inserting a present text allocates nothing in the arena, and a text that doesn't
+// fit leaves the set unchanged.
 fn takes_a_text_once(alloc: Global) -> Result<bool, AllocError> {
     let arena = Bump::new(alloc);
     let mut names: Names<'_> = FrozenIndexSet::new(alloc, &arena);
@@ -70,7 +71,7 @@ fn takes_a_text_once(alloc: Global) -> Result<bool, AllocError> {
     let is_kept = names.insert_text("lonely")? == "lonely" && arena.chunk_capacity() == left;
     leave_room(&arena, 0);
     let is_refused = names.insert_text("best friend").is_err();
-    Ok(is_kept && is_refused && names.len() == 1 && !names.contains_text("best friend"))
+    Ok(is_kept && is_refused && names.len() == 1 && !names.contains("best friend"))
 }
 
 #[test]

@@ -1,6 +1,6 @@
 //! An index map whose keys are copied texts and whose values own memory.
 ghost use Rattle.std.specs.Prelude.{◌≡◌, IfOk, Some};
-ghost use Rattle.elsa_words.specs.FirstWins.{value_at};
+ghost use Rattle.elsa_specs.specs.FirstWins.{value_at};
 
 use bumpalo::Bump;
 use elsa_arena::arena::TypedArena;
@@ -10,17 +10,18 @@ use std::alloc::{AllocError, Global};
 use std::sync::Arc;
 use std::test::Fail;
 
-// Names with what owns memory, in the order of their first insertions.
+// A map from names to values that own memory, in the order of their first insertions.
 type Owners<'a> = FrozenIndexMapIn<Shelf<'a, Arc<u64>>, &'a str, Own<Arc<u64>>>;
 
-// The value of a name, which had this one put in its place.
+// Inserts a name with this value, and returns the value that the name has.
 fn kept<'a>(owners: &mut Owners<'a>, name: &str, one: Arc<u64>) -> Result<&'a Arc<u64>, AllocError>
     ensures { IfOk result (λ b. value_at ⟦<&'a str as PartialEq>⟧.eq owners.new name.entry ≡ Some b) }
 {
     owners.insert_text(name, Own(one))
 }
 
-// How many owners of one value there are: with three of four given ones kept, after the map's end, and after the shelf's.
+// Returns the number of owners of one value: with three of four inserted ones stored, after the
+// map's end, and after the shelf's.
 fn counts(alloc: Global) -> Result<(usize, usize, usize), AllocError> {
     let counted = Arc::new(alloc, 7_u64)?;
     let (texts, values) = (Bump::new(alloc), TypedArena::new(alloc)?);
@@ -40,7 +41,8 @@ fn counts(alloc: Global) -> Result<(usize, usize, usize), AllocError> {
     Ok((held, after_map, Arc::strong_count(&counted)))
 }
 
-// Whether names have the places of their first insertions, and a value is read after its map's end.
+// Returns whether names have the indices of their first insertions, and a value is read after its
+// map's end.
 fn places(alloc: Global) -> Result<bool, AllocError> {
     let (texts, values) = (Bump::new(alloc), TypedArena::new(alloc)?);
     let shelf = Shelf {
@@ -51,7 +53,7 @@ fn places(alloc: Global) -> Result<bool, AllocError> {
     let first = kept(&mut owners, "b", Arc::new(alloc, 7)?)?;
     let (place, _) = owners.insert_full_text("a", Own(Arc::new(alloc, 8)?))?;
     let (again, second) = owners.insert_full_text("b", Own(Arc::new(alloc, 9)?))?;
-    let is_found = owners.get_text("b").is_some() && owners.get_text("c").is_none();
+    let is_found = owners.get("b").is_some() && owners.get("c").is_none();
     drop(owners);
     Ok(place == 1 && again == 0 && is_found && **first == 7 && **second == 7)
 }

@@ -1,4 +1,5 @@
-//! Index sets as interners of bytes and of values that are copied: a value has one place, and the place gives it back.
+//! Index sets as interners of bytes and of `Copy` values: a value has one index, and the index has
+//! the value.
 ghost use Rattle.std.specs.Prelude.{◌≡◌, IfOk, Some, slice_get};
 
 use bumpalo::Bump;
@@ -7,7 +8,7 @@ use elsa_vec::stable::Own;
 use std::alloc::{AllocError, Global};
 use std::test::Fail;
 
-/// A name of a place in a source.
+/// A position in a source file.
 #[derive(Clone, Copy, Debug, Drop, PartialEq, Eq, Hash)]
 struct Spot {
     line: u32,
@@ -25,14 +26,14 @@ type Bytes<'a> = FrozenIndexSet<'a, &'a [u8]>;
 
 type Spots<'a> = FrozenIndexSet<'a, Own<Spot>>;
 
-// The number of a value, at which the set has it.
+// Returns the index of a value, and the borrow at that index of the set.
 fn number<'a>(spots: &mut Spots<'a>, spot: Spot) -> Result<(usize, &'a Spot), AllocError>
     ensures { IfOk result (λ r. slice_get spots.new r.0 ≡ Some r.1) }
 {
     spots.insert_full(Own(spot))
 }
 
-// Whether values have these numbers, and the numbers give the values back.
+// Returns whether values have these indices, and the indices have the values.
 fn spots_are_numbered(alloc: Global) -> Result<bool, AllocError> {
     let arena = Bump::new(alloc);
     let mut spots: Spots<'_> = FrozenIndexSet::new(alloc, &arena);
@@ -45,7 +46,7 @@ fn spots_are_numbered(alloc: Global) -> Result<bool, AllocError> {
     Ok(good && is_back && spots.len() == 3 && spots.get_index_of(&Own(SPOTS[3])) == Some(2))
 }
 
-// The same of bytes, of which the caller places each.
+// Returns the same for bytes that the caller stores in the arena.
 fn bytes_are_numbered(alloc: Global) -> Result<bool, AllocError> {
     let arena = Bump::new(alloc);
     let mut names: Bytes<'_> = FrozenIndexSet::new(alloc, &arena);

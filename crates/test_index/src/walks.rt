@@ -1,4 +1,4 @@
-//! Walks over the index forms, in the order of the first insertions and from the back.
+//! Walks over the index collections, in the order of the first insertions and from the back.
 use bumpalo::Bump;
 use elsa_index::index_set::FrozenIndexSet;
 use elsa_maps::index_map::FrozenIndexMap;
@@ -13,7 +13,8 @@ fn map<'a>(alloc: Global, arena: &'a Bump) -> Result<FrozenIndexMap<'a, u64, &'a
     Ok(map)
 }
 
-/// The keys of the map in the order of three walks, as the digits of a number: by reference, from the back, and alone.
+/// Returns the keys of the map in the order of three walks, as the digits of a number: over the map
+/// by reference, from the back, and over the keys.
 fn digits<'a>(map: &FrozenIndexMap<'a, u64, &'a str>) -> (u64, u64, u64) {
     let mut front = 0u64;
     for (key, _value) in map {
@@ -30,7 +31,7 @@ fn digits<'a>(map: &FrozenIndexMap<'a, u64, &'a str>) -> (u64, u64, u64) {
     (front, back, alone)
 }
 
-/// The lengths of the values in the order of the walk, as the digits of a number.
+/// Returns the lengths of the values in the order of the walk, as the digits of a number.
 fn lengths<'a>(map: &FrozenIndexMap<'a, u64, &'a str>) -> u64 {
     let mut lengths = 0u64;
     for value in map.values() {
@@ -64,7 +65,8 @@ fn set<'a>(alloc: Global, arena: &'a Bump) -> Result<FrozenIndexSet<'a, &'a str>
     Ok(set)
 }
 
-/// The lengths of the values in the order of the walk and from the back, as the digits of numbers.
+/// Returns the lengths of the values in the order of the walk and from the back, as the digits of
+/// numbers.
 fn walked<'a>(set: &FrozenIndexSet<'a, &'a str>) -> (u64, u64) {
     let mut front = 0u64;
     for value in set.iter() {

@@ -1,6 +1,7 @@
-//! How often a call hashes, compares and orders keys: what no clause says.
+//! The numbers of hashes and comparisons of keys in a call. No clause states them.
 //!
-//! In a table of a hundred keys a call that walks over all of them, or that hashes a key again, stands out.
+//! The collections have a thousand keys, so the counts show whether a call visits all of them or
+//! hashes a key twice.
 ghost use Rattle.std.specs.Prelude.{◌≡◌, ◌==◌, Some, refl};
 ghost use Rattle.std.specs.Cmp.{nat_cmp_total, nat_eq_equiv, on_equiv, on_po, on_total, partial_equiv_from_equiv, unsigned_po, unsigned_ties};
 ghost use Rattle.std.specs.Hash as fed;
@@ -17,7 +18,7 @@ use std::sync::atomic;
 use std::sync::atomic::AtomicU64;
 use std::test::Fail;
 
-/// How often keys were hashed, compared by `==`, and compared by `cmp`.
+/// The numbers of hashes of keys, of comparisons by `==`, and of comparisons by `cmp`.
 #[derive(Drop)]
 struct Counts {
     hashes: AtomicU64,
@@ -34,7 +35,7 @@ impl Counts {
         }
     }
 
-    /// How often since the last time, in the order of the fields.
+    /// Returns the counts since the last call, in the order of the fields, and sets them to 0.
     fn taken(&self) -> (u64, u64, u64) {
         (
             self.hashes.swap(0, atomic::Ordering::SeqCst),
@@ -44,12 +45,12 @@ impl Counts {
     }
 }
 
-/// Counts one more.
+/// Increases a count by 1.
 fn count(word: &AtomicU64) {
     let _ = word.fetch_add(1, atomic::Ordering::SeqCst);
 }
 
-/// A number that counts what is done with it.
+/// A number that counts how often it is hashed and compared.
 #[derive(Clone, Copy)]
 struct Key<'c> {
     number: u64,
@@ -107,34 +108,38 @@ impl Hash for Key<'_> {
     }
 }
 
-/// A key of this number.
+/// Makes a key of this number.
 fn key_of(counts: &Counts, number: u64) -> Key<'_> {
     Key { number, counts }
 }
 
-/// How many keys a collection has that is searched.
+/// The number of keys of a collection.
 const MANY: u64 = 1000;
 
-/// The most keys that a search by hash compares with: where some have a part of the hash in common.
+/// The greatest number of keys that a search by hash compares with. Some of them have a part of the
+/// hash in common.
 const FEW: u64 = 4;
 
-/// The most keys that a search of an ordered map compares with: four nodes of it, each whole.
+/// The greatest number of keys that a search of an ordered map compares with: those of four nodes
+/// of its tree.
 const NODES: u64 = 48;
 
-/// The most items that a search of a sorted vector compares with: as often as a thousand can be halved, and once more.
+/// The greatest number of items that a search of a sorted vector compares with: the number of times
+/// that a thousand can be halved, plus 1.
 const HALVES: u64 = 11;
 
-/// Whether a call held that hashed one key and compared it with few.
+/// Returns whether a call with a right result (`held`) hashed one key and compared it with few.
 fn is_hashed_once(counts: &Counts, held: bool) -> bool {
     let (hashes, equalities, orders) = counts.taken();
     held && hashes == 1 && equalities <= FEW && orders == 0
 }
 
-// ---- maps and index forms
+// ---- maps and index collections
 
 const HASHED_CALLS: usize = 7;
 
-/// Whether a call of this number about the key, which is there at the number 57, or about one that is absent, answers.
+/// Returns whether the call with this number has the right result for the key, which is 57, or for
+/// an absent one.
 fn hashed_answers<'c>(
     map: &mut FrozenMap<'_, Key<'c>, Own<u64>>,
     call: usize,
@@ -240,7 +245,7 @@ fn a_call_by_key_hashes_once_and_compares_with_few(rt: HostRuntime) -> Result<()
     Ok(())
 }
 
-// ---- what is ordered
+// ---- ordered collections
 
 const ORDERED_CALLS: usize = 6;
 
@@ -308,7 +313,7 @@ fn an_ordered_search_compares_with_few(rt: HostRuntime) -> Result<(), Fail> {
 
 // ---- texts
 
-/// A hasher that gives each text the same hash.
+/// A hasher that returns the same hash for each text.
 #[derive(Clone, Copy)]
 struct Same {
     hash: u64,
@@ -326,7 +331,7 @@ impl Hasher for Same {
     fn write(&mut self, _bytes: &[u8]) {}
 }
 
-/// Counts the hashers that are made.
+/// A `BuildHasher` that counts the hashers it makes.
 #[derive(Clone, Copy)]
 struct Counting<'c> {
     counts: &'c Counts,
@@ -356,7 +361,8 @@ fn names_answer(names: &mut Interner<'_, Counting<'_>>, call: usize) -> Result<b
     })
 }
 
-/// Whether the first eight names, whose table doubles on the way, and each call about a text afterwards take one hash.
+/// Returns whether each of the first nine names, whose hash table doubles meanwhile, and each later
+/// call with a text makes one hash.
 fn names_are_hashed_once(alloc: Global, arena: &Bump, counts: &Counts) -> Result<bool, AllocError> {
     let mut names = Interner::with_hasher(alloc, arena, Counting { counts });
     for name in ["0", "1", "2", "3", "4", "5", "6", "7", "eight"] {
@@ -374,7 +380,7 @@ fn names_are_hashed_once(alloc: Global, arena: &Bump, counts: &Counts) -> Result
     Ok(true)
 }
 
-/// Whether looking a text up, and inserting one that is there, take one hash.
+/// Returns whether a lookup of a text, and an insertion of a present one, makes one hash.
 fn texts_are_hashed_once(alloc: Global, arena: &Bump, counts: &Counts) -> Result<bool, AllocError> {
     let mut map: FrozenMap<'_, &str, Own<u64>, Counting<'_>> = FrozenMap::with_hasher(
         alloc,
@@ -383,8 +389,8 @@ fn texts_are_hashed_once(alloc: Global, arena: &Bump, counts: &Counts) -> Result
     );
     map.insert_text("key", Own(1))?;
     let _ = counts.taken();
-    let found = map.get_text("key") == Some(&1) && counts.taken().0 == 1;
-    let absent = map.get_text("other").is_none() && counts.taken().0 == 1;
+    let found = map.get("key") == Some(&1) && counts.taken().0 == 1;
+    let absent = map.get("other").is_none() && counts.taken().0 == 1;
     Ok(found && absent && map.insert_text("key", Own(2))? == &1 && counts.taken().0 == 1)
 }
 

@@ -1,4 +1,4 @@
-//! The engine over a device that a signal interrupts a thousand times before each call.
+//! The engine with a device that a signal interrupts a thousand times before each call.
 ghost use Rattle.std.specs.Prelude.{◌≤◌, IfOk};
 
 use bumpalo::Bump;
@@ -8,7 +8,7 @@ use std::io;
 use std::io::{ErrorKind, Read};
 use std::test::Fail;
 
-/// Gives what is left of a text, each time after a thousand interruptions.
+/// A reader of the rest of a text. Each read succeeds after a thousand interruptions.
 #[derive(Drop)]
 struct Giver<'t> {
     left: &'t [u8],
@@ -26,7 +26,7 @@ impl<'t> Read for Giver<'t> {
     }
 }
 
-/// Whether the engine answers two lines of such a device.
+/// Returns whether the engine writes the right output for two lines of such a reader.
 fn answers(alloc: Global) -> bool {
     let arena = Bump::new(alloc);
     let mut reader = Counted::new(Giver {

@@ -1,4 +1,5 @@
-//! Collections of thousands and texts of 2,000 bytes: no call is refused for its size.
+//! Collections with thousands of entries and texts of 2,000 bytes: no call fails because of the
+//! size.
 use bumpalo::Bump;
 use elsa::cache::{CacheFault, ParsedCache};
 use elsa::interner::Interner;
@@ -9,7 +10,7 @@ use std::convert::Infallible;
 use std::hash::BuildHasherDefault;
 use std::test::Fail;
 
-/// A text of 2,000 bytes that ends in this one, of at most that many.
+/// Makes a text of 2,000 bytes that ends with `end`, which has at most that length.
 fn long(alloc: Global, end: &str) -> Result<String, AllocError> {
     let mut text = String::new(alloc);
     for _ in end.len()..2000 {
@@ -19,7 +20,7 @@ fn long(alloc: Global, end: &str) -> Result<String, AllocError> {
     Ok(text)
 }
 
-/// Whether a vector takes a thousand items, and a thousand more.
+/// Returns whether a vector collects a thousand items and is extended by another thousand.
 fn vector_holds(alloc: Global, arena: &Bump) -> Result<bool, AllocError> {
     let mut items: FrozenVec<'_, Own<usize>> = FrozenVec::from_iter(
         alloc,
@@ -37,7 +38,7 @@ fn a_vector_takes_thousands_of_items(rt: HostRuntime) -> Result<(), Fail> {
     Ok(())
 }
 
-/// Whether a hashed map collects a thousand pairs and takes a thousand more.
+/// Returns whether a hashed map collects a thousand pairs and accepts another thousand.
 fn hashed_holds(alloc: Global, arena: &Bump) -> Result<bool, AllocError> {
     let pairs = (0..1000).map(|key| (key, Own(key)));
     let mut map: FrozenMap<'_, usize, Own<usize>> = FrozenMap::from_iter(
@@ -52,7 +53,7 @@ fn hashed_holds(alloc: Global, arena: &Bump) -> Result<bool, AllocError> {
     Ok(map.len() == 2000 && map.get(&999) == Some(&999) && map.get(&1999) == Some(&1999))
 }
 
-/// The same of an ordered map.
+/// Returns the same for an ordered map.
 fn ordered_holds(alloc: Global, arena: &Bump) -> Result<bool, AllocError> {
     let pairs = (0..1000).map(|key| (key, Own(key)));
     let mut map: FrozenBTreeMap<'_, usize, Own<usize>> = FrozenBTreeMap::from_iter(
@@ -64,7 +65,7 @@ fn ordered_holds(alloc: Global, arena: &Bump) -> Result<bool, AllocError> {
     Ok(map.len() == 2000 && map.get(&999) == Some(&999) && map.get(&1999) == Some(&1999))
 }
 
-/// The same of an index map.
+/// Returns the same for an index map.
 fn indexed_holds(alloc: Global, arena: &Bump) -> Result<bool, AllocError> {
     let pairs = (0..1000).map(|key| (key, Own(key)));
     let mut map: FrozenIndexMap<'_, usize, Own<usize>> = FrozenIndexMap::from_iter(
@@ -88,7 +89,8 @@ fn maps_take_thousands_of_pairs(rt: HostRuntime) -> Result<(), Fail> {
     Ok(())
 }
 
-/// Whether a set takes two thousand values, each second one by a caller that has looked.
+/// Returns whether a set accepts two thousand values, every second one by `insert_absent` after a
+/// lookup.
 fn set_holds(alloc: Global, arena: &Bump) -> Result<bool, AllocError> {
     let mut set: FrozenIndexSet<'_, Own<usize>> = FrozenIndexSet::new(alloc, arena);
     for value in 0..1000 {
@@ -108,37 +110,28 @@ fn a_set_takes_thousands_of_values(rt: HostRuntime) -> Result<(), Fail> {
     Ok(())
 }
 
-/// Whether a hashed map takes a long text as key and value, and finds it.
+/// Returns whether a hashed map accepts a long text as a key and as a value, and finds it.
 fn hashed_takes_long(alloc: Global, arena: &Bump) -> Result<bool, AllocError> {
     let key = long(alloc, "key")?;
     let mut map: FrozenMap<'_, &str, String> = FrozenMap::new(alloc, arena);
     map.insert_text(key.as_str(), long(alloc, "value")?)?;
-    Ok(
-        map.get_text(key.as_str())
-            .is_some_and(|kept| kept.len() == 2000),
-    )
+    Ok(map.get(key.as_str()).is_some_and(|kept| kept.len() == 2000))
 }
 
-/// The same of an ordered map.
+/// Returns the same for an ordered map.
 fn ordered_takes_long(alloc: Global, arena: &Bump) -> Result<bool, AllocError> {
     let key = long(alloc, "key")?;
     let mut map: FrozenBTreeMap<'_, &str, String> = FrozenBTreeMap::new(alloc, arena);
     map.insert_text(key.as_str(), long(alloc, "value")?)?;
-    Ok(
-        map.get_text(key.as_str())
-            .is_some_and(|kept| kept.len() == 2000),
-    )
+    Ok(map.get(key.as_str()).is_some_and(|kept| kept.len() == 2000))
 }
 
-/// The same of an index map.
+/// Returns the same for an index map.
 fn indexed_takes_long(alloc: Global, arena: &Bump) -> Result<bool, AllocError> {
     let key = long(alloc, "key")?;
     let mut map: FrozenIndexMap<'_, &str, String> = FrozenIndexMap::new(alloc, arena);
     map.insert_text(key.as_str(), long(alloc, "value")?)?;
-    Ok(
-        map.get_text(key.as_str())
-            .is_some_and(|kept| kept.len() == 2000),
-    )
+    Ok(map.get(key.as_str()).is_some_and(|kept| kept.len() == 2000))
 }
 
 #[test]
@@ -150,7 +143,7 @@ fn long_texts_are_keys_and_values(rt: HostRuntime) -> Result<(), Fail> {
     Ok(())
 }
 
-/// Whether a cache loads and parses a long text at a long path.
+/// Returns whether a cache loads and parses a long text at a long path.
 fn cache_takes_long(alloc: Global, arena: &Bump) -> Result<bool, AllocError> {
     let path = long(alloc, "path")?;
     let mut cache: ParsedCache<'_, usize> = ParsedCache::new(alloc, arena);
@@ -169,7 +162,8 @@ fn a_cache_takes_a_long_path_and_a_long_text(rt: HostRuntime) -> Result<(), Fail
     Ok(())
 }
 
-/// Whether a hundred thousand names and more get numbers of their own, also where a name is asked for again.
+/// Returns whether `count` names are numbered in order, and a name that is put again keeps its
+/// number.
 fn names_are_numbered(alloc: Global, arena: &Bump, count: usize) -> Result<bool, AllocError> {
     let mut names = Interner::new(alloc, arena);
     for number in 0..count {
@@ -200,7 +194,7 @@ fn an_interner_numbers_more_than_a_hundred_thousand_names(rt: HostRuntime) -> Re
     Ok(())
 }
 
-/// Whether a name of 300,000 bytes is put, found and answered.
+/// Returns whether a name of 300,000 bytes is put, and found by the name and by its number.
 fn long_name_is_put(alloc: Global, arena: &Bump) -> Result<bool, AllocError> {
     let mut text = String::new(alloc);
     for _ in 0..30_000 {
@@ -218,7 +212,7 @@ fn a_name_may_have_hundreds_of_thousands_of_bytes(rt: HostRuntime) -> Result<(),
     Ok(())
 }
 
-/// Whether a run of a thousand pushes makes each of them.
+/// Returns whether a run of a thousand pushes makes each of them.
 fn vec_runs(alloc: Global, arena: &Bump) -> Result<bool, AllocError> {
     let mut items: FrozenVec<'_, Own<usize>> = FrozenVec::new(alloc, arena);
     let mut commands = Vec::new(alloc);
@@ -229,7 +223,7 @@ fn vec_runs(alloc: Global, arena: &Bump) -> Result<bool, AllocError> {
     Ok(replies.len() == 1000 && items.len() == 1000 && items.last() == Some(&999))
 }
 
-/// The same of insertions into a map.
+/// Returns the same for insertions into a map.
 fn map_runs(alloc: Global, arena: &Bump) -> Result<bool, AllocError> {
     let mut map: FrozenMap<'_, usize, Own<usize>> = FrozenMap::new(alloc, arena);
     let mut commands = Vec::new(alloc);

@@ -1,6 +1,8 @@
-//! Rows above the size of all others, through `elsa` alone: collections of thousands, texts of 2,000 bytes, names by the hundred thousand, devices that are
-//! interrupted a thousand times; what `{:?}` prints of four entries; what is asked of an arena that has room, how many bytes calls take, and how often they
-//! hash and compare; a cache of parsed texts over a budget; interners with room, and their readers on four threads.
+//! Cases that are larger than in the other test crates, by `elsa` alone: collections of thousands,
+//! texts of 2,000 bytes, a hundred thousand names, and devices that are interrupted a thousand
+//! times. Others check the output of `{:?}` for four entries, calls that must not allocate though
+//! there is room, the number of bytes, requests, hashes and comparisons of a call, a cache of
+//! parsed texts over a budget, interners with reserved capacity, and their readers on four threads.
 #![tactic(auto)]
 
 #[cfg(test)]

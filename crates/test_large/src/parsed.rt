@@ -1,4 +1,5 @@
-//! A cache of parsed texts over a budget: each request refused in turn, and every block comes back.
+//! A cache of parsed texts over a budget: each request is denied in turn, and every block is
+//! deallocated.
 use bumpalo::Bump;
 use elsa::cache::{CacheFault, ParsedCache};
 use std::alloc::{AllocError, Global};
@@ -13,7 +14,7 @@ type Length<'a> = Result<&'a usize, CacheFault<AllocError, Infallible>>;
 
 const PATHS: [&str; 12] = ["a", "b", "c", "d", "e", "f", "g", "h", "i", "j", "k", "l"];
 
-/// The length of the text at a path, which is the path twice.
+/// Returns the length of the text at a path. The text is the path twice.
 fn length_at<'a>(alloc: Global, cache: &mut Cache<'a, '_>, path: &str) -> Length<'a> {
     cache.get_or_parse(
         path,
@@ -27,7 +28,8 @@ fn length_at<'a>(alloc: Global, cache: &mut Cache<'a, '_>, path: &str) -> Length
     )
 }
 
-/// How many of the paths were refused memory at the first try; `None` where one was refused again, or what it has is wrong.
+/// Returns the number of paths for which the first try failed, or `None` if the second try failed
+/// or the value is wrong.
 fn goes_through(alloc: Global, heap: &Budget<Global>) -> Option<u64> {
     let arena = Bump::new(alloc);
     let mut cache: Cache<'_, '_> = ParsedCache::new(heap, &arena);
@@ -48,7 +50,8 @@ fn goes_through(alloc: Global, heap: &Budget<Global>) -> Option<u64> {
     }
 }
 
-/// Whether all blocks come back with nothing refused, and with each request refused alone.
+/// Returns whether all blocks are deallocated with no request denied, and with each request denied
+/// alone.
 fn gives_back(alloc: Global) -> bool {
     let open = Budget::new(alloc);
     if goes_through(alloc, &open) != Some(0)
@@ -76,7 +79,8 @@ fn a_parsed_cache_gives_every_block_back(rt: HostRuntime) -> Result<(), Fail> {
     Ok(())
 }
 
-/// Whether a path that has a value is answered without a request, also of an arena that has room.
+/// Returns whether a path that has a value is read without a request, and without room of the
+/// arena.
 fn asks_nothing(alloc: Global, heap: &Budget<Global>, arena: &Bump) -> bool {
     let mut cache: Cache<'_, '_> = ParsedCache::new(heap, arena);
     if length_at(alloc, &mut cache, "path") != Ok(&8) {

@@ -1,4 +1,4 @@
-//! What `{:?}` prints of four entries.
+//! The output of `{:?}` for four entries.
 use bumpalo::Bump;
 use elsa::interner::Interner;
 use elsa::{
@@ -13,7 +13,8 @@ fn vector_prints(alloc: Global, arena: &Bump) -> Result<bool, Fail> {
     Ok(format!(in alloc; "{items:?}")?.as_str() == "[4, 2, 3, 1]")
 }
 
-/// A hashed map prints its four entries in some order: each once, and nothing else.
+/// Returns whether a hashed map prints each of its four entries once, in some order, and nothing
+/// else.
 fn hashed_prints(alloc: Global, arena: &Bump) -> Result<bool, Fail> {
     let mut map: FrozenMap<'_, u64, Own<u64>> = FrozenMap::new(alloc, arena);
     for key in [4, 2, 3, 1] {

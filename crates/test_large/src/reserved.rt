@@ -1,4 +1,5 @@
-//! Interners with room: what is reserved isn't asked for again, what is placed isn't copied, and a reader is what was interned.
+//! Interners with reserved capacity: it isn't allocated again, texts that are in the arena aren't
+//! copied, and a reader has the names that were put.
 use bumpalo::Bump;
 use elsa::interner::{Interner, InternerReader};
 use std::alloc::{AllocError, Allocator, Global};
@@ -8,7 +9,8 @@ use test_alloc::Budget;
 
 type Hasher = BuildHasherDefault<FoldHasher>;
 
-/// Whether names from one number to another are put though nothing is granted, and get these numbers.
+/// Returns whether the names with the numbers from `from` to `to - 1` are put while every request
+/// is denied, and get these numbers.
 fn puts_without_memory(
     heap: &Budget<Global>,
     names: &mut Interner<'_, Hasher, &Budget<Global>>,
@@ -34,7 +36,8 @@ fn puts_without_memory(
     heap.asked() == asked
 }
 
-/// Whether an interner made with room for a thousand, and given room for as many again, asks for nothing in between.
+/// Returns whether an interner with capacity for a thousand names accepts them without a request,
+/// and another thousand after `reserve`.
 fn reserves(heap: &Budget<Global>, arena: &Bump) -> Result<bool, AllocError> {
     let mut names: Interner<'_, Hasher, _> = Interner::with_capacity(heap, arena, 1000)?;
     let has_room = names.capacity() >= 1000 && names.is_empty();
@@ -44,7 +47,8 @@ fn reserves(heap: &Budget<Global>, arena: &Bump) -> Result<bool, AllocError> {
     Ok(has_room && first && second && names.len() == 2000 && names.capacity() >= 2000)
 }
 
-/// Whether a refused room leaves the names, and so does one for more names than there are numbers for.
+/// Returns whether a failed `reserve` leaves the names unchanged, also if the capacity is greater
+/// than the number of possible names.
 fn refuses(heap: &Budget<Global>, arena: &Bump) -> Result<bool, AllocError> {
     let mut names: Interner<'_, Hasher, _> = Interner::new(heap, arena);
     let _ = names.put("name")?;
@@ -67,7 +71,8 @@ fn names_that_have_room_ask_for_nothing(rt: HostRuntime) -> Result<(), Fail> {
     Ok(())
 }
 
-/// Whether texts that are placed already take nothing of the arena, and are found as any other.
+/// Returns whether texts that are in the arena already take no room there, and are found as any
+/// others.
 fn places_nothing(alloc: Global, arena: &Bump) -> Result<bool, AllocError> {
     let mut names = Interner::new(alloc, arena);
     let text = arena.try_alloc_str("left right")?;
@@ -86,7 +91,7 @@ fn places_nothing(alloc: Global, arena: &Bump) -> Result<bool, AllocError> {
     )
 }
 
-/// The first name, by its number in brackets.
+/// Returns the first name, by `[]`.
 fn first<'a>(names: &Interner<'a>) -> Option<&'a str> {
     if names.len() == 0 {
         None
@@ -95,7 +100,7 @@ fn first<'a>(names: &Interner<'a>) -> Option<&'a str> {
     }
 }
 
-/// The same of a reader.
+/// Returns the first name of a reader, by `[]`.
 fn first_read<'a>(names: &InternerReader<'a>) -> Option<&'a str> {
     if names.len() == 0 {
         None
@@ -104,7 +109,7 @@ fn first_read<'a>(names: &InternerReader<'a>) -> Option<&'a str> {
     }
 }
 
-/// Whether a walk over an interner gives the names in the order of their numbers.
+/// Returns whether a walk over an interner visits the names in the order of their numbers.
 fn walks(names: &Interner<'_>) -> bool {
     let mut count = 0usize;
     for name in names {
@@ -116,7 +121,8 @@ fn walks(names: &Interner<'_>) -> bool {
     count == names.len()
 }
 
-/// Whether an interner is read by numbers in brackets and by walks, and its reader finds and prints the same.
+/// Returns whether an interner is read by `[]` and by walks, and its reader finds and prints the
+/// same.
 fn reads_alike(alloc: Global, arena: &Bump) -> Result<bool, Fail> {
     let mut names = Interner::new(alloc, arena);
     for name in ["x", "y", "z"] {

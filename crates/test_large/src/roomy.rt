@@ -1,4 +1,4 @@
-//! What takes no memory, over an arena and tables that have room: neither is asked for anything.
+//! Calls that must not allocate, though the arena and the tables have room.
 use bumpalo::Bump;
 use elsa::interner::Interner;
 use elsa::{FrozenBTreeMap, FrozenIndexMap, FrozenIndexSet, FrozenMap, FrozenVec, Own};
@@ -9,21 +9,21 @@ use test_alloc::Budget;
 
 type Hasher = BuildHasherDefault<FoldHasher>;
 
-/// What was asked of the tables' memory, and what the arena has taken of its room.
+/// Returns the number of requests of the tables, and the room that the arena's chunk has left.
 fn asked(heap: &Budget<Global>, arena: &Bump) -> (u64, usize) {
     (heap.asked(), arena.chunk_capacity())
 }
 
-/// An arena whose chunk has room for hundreds of values.
+/// Allocates a first chunk in the arena, and returns whether it has room for more than 200 bytes.
 fn has_room(arena: &Bump) -> bool {
     arena.try_alloc_str("a first text").is_ok() && arena.chunk_capacity() > 200
 }
 
-/// Whether each call about a key, also an insertion of it by its text, is answered.
+/// Returns whether each call with a key has the right result, also an insertion of it by its text.
 fn hashed_answers<'a, A: Allocator + Copy + Drop>(
     map: &mut FrozenMap<'a, &'a str, Own<u64>, Hasher, A>,
 ) -> Result<bool, AllocError> {
-    let found = map.contains_key(&"key") && map.get_text("key") == Some(&1) && map.len() == 1;
+    let found = map.contains_key(&"key") && map.get("key") == Some(&1) && map.len() == 1;
     let walked = map.iter().next().is_some()
         && map.keys().next().is_some()
         && map.values().next().is_some();
@@ -40,7 +40,7 @@ fn hashed_asks_nothing(heap: &Budget<Global>, arena: &Bump) -> Result<bool, Allo
 fn ordered_answers<'a, A: Allocator + Copy + Drop>(
     map: &mut FrozenBTreeMap<'a, &'a str, Own<u64>, A>,
 ) -> Result<bool, AllocError> {
-    let found = map.contains_key(&"key") && map.get_text("key") == Some(&1) && map.len() == 1;
+    let found = map.contains_key(&"key") && map.get("key") == Some(&1) && map.len() == 1;
     let ends = map.first_key_value().is_some() && map.last_key_value().is_some();
     let walked = map.iter().next().is_some()
         && map.keys().next().is_some()
@@ -59,7 +59,7 @@ fn ordered_asks_nothing(heap: &Budget<Global>, arena: &Bump) -> Result<bool, All
 fn indexed_answers<'a, A: Allocator + Copy + Drop>(
     map: &mut FrozenIndexMap<'a, &'a str, Own<u64>, Hasher, A>,
 ) -> Result<bool, AllocError> {
-    let found = map.contains_key(&"key") && map.get_text("key") == Some(&1) && map.len() == 1;
+    let found = map.contains_key(&"key") && map.get("key") == Some(&1) && map.len() == 1;
     let walked = map.iter().next().is_some()
         && map.keys().next().is_some()
         && map.values().next().is_some();

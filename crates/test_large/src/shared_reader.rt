@@ -1,4 +1,4 @@
-//! One thread interns, and four read what it interned, through one borrow of its reader.
+//! One thread interns names, and four threads read them through one borrow of the reader.
 ghost use Rattle.std.specs.Prelude.{◌≡◌, ℕ, ◌<◌, IfOk, position, slice_index_or, length, None};
 ghost use Rattle.std.specs.Str.{bytes_eq};
 
@@ -9,21 +9,22 @@ use std::test::*;
 use std::thread;
 use std::thread::Threads;
 
-/// The number of a text, as each of four threads finds it: what the reader says it is.
+/// Returns the number of a text, as each of four threads finds it in the reader.
 fn numbers<R: Threads + Sync>(
     rt: &R,
     alloc: Global,
     names: &InternerReader<'_>,
     text: &str,
 ) -> Result<Vec<Option<usize>>, AllocError>
-    ensures len { IfOk result (λ found. length found.items ≡ 4) }
+    ensures length { IfOk result (λ found. length found.items ≡ 4) }
     ensures found { IfOk result (λ found. (i : ℕ) → i < 4 →
         slice_index_or found.items i None ≡ position (bytes_eq text.now) names.now) }
 {
     thread::map_indices(rt, alloc, 4, &|_| names.find(text))
 }
 
-/// How many of the names a thread finds at the number that `put` gave: the name of a number is the number in letters.
+/// Returns the number of names that a thread finds in the order of their numbers, by name and by
+/// number.
 fn found(names: &InternerReader<'_>) -> usize {
     let mut count = 0usize;
     for name in names {

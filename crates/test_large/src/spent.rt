@@ -1,7 +1,8 @@
-//! How many bytes calls take, and how often they ask: no contract sees a request or its size.
+//! The number of bytes and of requests of a call. No contract states a request or its size.
 //!
-//! Bytes are what is gone of an arena that has room for a megabyte, and that the tables take their memory of. Where the last block comes back it is
-//! free again, so what is taken and dropped in one call is told by the count of requests.
+//! The tables use an arena with room for a megabyte as their allocator, and the bytes are those
+//! that this room loses. If the last block is deallocated, its bytes are free again. So memory that
+//! is allocated and dropped in one call is visible only in the number of requests.
 use bumpalo::Bump;
 use elsa::interner::{Counted, Interner, intern_engine};
 use elsa::run::{VecCommand, VecReply, run_vec};
@@ -14,15 +15,16 @@ use test_alloc::Budget;
 
 type Hasher = BuildHasherDefault<FoldHasher>;
 
-/// How many items, pairs, commands or names there are.
+/// The number of items, pairs, commands or names.
 const MANY: usize = 1000;
 
-/// A heap of a megabyte.
+/// Makes a heap of a megabyte.
 fn heap_of_a_megabyte(alloc: Global) -> Result<Bump, AllocError> {
     Bump::try_with_capacity(alloc, 1 << 20)
 }
 
-/// The bytes that are gone since there was room for so many; more than any where that room wasn't enough.
+/// Returns the number of bytes that were allocated since the room was `before`, or `usize::MAX` if
+/// the megabyte was too small.
 fn gone(heap: &Bump, before: usize) -> usize {
     if heap.allocated_bytes() > 2 << 20 || heap.chunk_capacity() > before {
         return usize::MAX;
@@ -32,7 +34,7 @@ fn gone(heap: &Bump, before: usize) -> usize {
 
 // ---- runs
 
-/// A thousand commands, all pushes or none.
+/// Makes a thousand commands, which are all pushes or all not.
 fn commands<'a, A: Allocator + Copy + Drop>(
     heap: A,
     pushes: bool,
@@ -48,7 +50,7 @@ fn commands<'a, A: Allocator + Copy + Drop>(
     Ok(commands)
 }
 
-/// The bytes that a run of a thousand commands takes, none of them a push.
+/// Returns the number of bytes of a run of a thousand commands without a push.
 fn run_takes(heap: &Bump, arena: &Bump) -> Result<usize, AllocError> {
     let mut items: FrozenVec<'_, Own<usize>, _> = FrozenVec::new(heap, arena);
     let asked = commands(heap, false)?;
@@ -62,7 +64,7 @@ fn run_takes(heap: &Bump, arena: &Bump) -> Result<usize, AllocError> {
     })
 }
 
-/// How often a run of a thousand pushes asks.
+/// Returns the number of requests of a run of a thousand pushes.
 fn run_asks(heap: &Budget<Global>, arena: &Bump) -> Result<u64, AllocError> {
     let mut items: FrozenVec<'_, Own<usize>, _> = FrozenVec::new(heap, arena);
     let pushes = commands(heap, true)?;
@@ -83,17 +85,17 @@ fn a_run_takes_a_reply_a_command_and_asks_as_its_table_doubles(
     let heap = heap_of_a_megabyte(rt.alloc())?;
     let budget = Budget::new(rt.alloc());
     let arena = Bump::new(rt.alloc());
-    // What an alignment may leave free is 16 bytes.
+    // An alignment may leave 16 bytes free.
     let replies = MANY.saturating_mul(size_of::<VecReply<&usize>>());
     assert!(rt; run_takes(&heap, &arena)? <= replies.saturating_add(16));
-    // Once for the replies, and once for each doubling of a table up to a thousand.
+    // One request is for the replies, and one for each doubling of the table up to a thousand.
     assert!(rt; run_asks(&budget, &arena)? <= 1 + 10);
     Ok(())
 }
 
 // ---- clones and collections
 
-/// How often a clone of a vector asks.
+/// Returns the number of requests of a clone of a vector.
 fn clone_asks(heap: &Budget<Global>, arena: &Bump) -> Result<u64, AllocError> {
     let mut items: FrozenVec<'_, Own<usize>, _> = FrozenVec::new(heap, arena);
     for number in 0..MANY {
@@ -105,7 +107,8 @@ fn clone_asks(heap: &Budget<Global>, arena: &Bump) -> Result<u64, AllocError> {
     Ok(if copy.len() == MANY { asked } else { u64::MAX })
 }
 
-/// Whether a clone of an index map takes no more bytes than a table with room for its pairs.
+/// Returns whether a clone of an index map has at most the bytes of a table with capacity for its
+/// pairs.
 fn clone_takes_its_room(heap: &Bump, arena: &Bump) -> Result<bool, AllocError> {
     let mut map: FrozenIndexMap<'_, usize, Own<usize>, Hasher, _> = FrozenIndexMap::new(
         heap, arena,
@@ -126,7 +129,8 @@ fn clone_takes_its_room(heap: &Bump, arena: &Bump) -> Result<bool, AllocError> {
     Ok(room.len() == 0 && copy.len() == MANY && taken <= for_room.saturating_add(16))
 }
 
-/// The bytes of tables for the ten items of an iterator that may give a million, and for ten pairs of such a one.
+/// Returns the number of bytes of the tables for ten items of an iterator that may return a hundred
+/// thousand, and for ten pairs of one.
 fn collections_take(heap: &Bump, arena: &Bump) -> Result<usize, AllocError> {
     let before = heap.chunk_capacity();
     let tenths = (0..100_000).filter(|number| number % 10_000 == 0);
@@ -161,7 +165,8 @@ fn a_clone_takes_a_table_and_a_collection_what_came(rt: HostRuntime) -> Result<(
 
 // ---- names
 
-/// The bytes that list and table take for so many names, with what they grew from.
+/// Returns the number of bytes of the list and the hash table for `count` names, with the smaller
+/// blocks that they grew from.
 fn names_take(heap: &Bump, arena: &Bump, count: usize) -> Result<usize, AllocError> {
     let before = heap.chunk_capacity();
     let mut names: Interner<'_, Hasher, _> = Interner::new(heap, arena);
@@ -184,8 +189,10 @@ fn names_take(heap: &Bump, arena: &Bump, count: usize) -> Result<usize, AllocErr
     })
 }
 
-/// A name takes 16 bytes of the list and 11 to 21 of the table. A list that doubled has room for as many again, and what both grew from is as much
-/// again. One name has eight slots of 8 bytes, and room for four in the list.
+/// Checks that a name takes 16 bytes of the list and 11 to 21 of the hash table. A list that has
+/// doubled may have room for the same number of names again, and the blocks that both grew from
+/// have the same size again. For one name, the hash table has eight buckets of 8 bytes and the list
+/// has room for four.
 #[test]
 fn a_name_takes_sixteen_bytes_of_the_list_and_at_most_twenty_one_of_the_table(
     rt: HostRuntime,
@@ -197,7 +204,7 @@ fn a_name_takes_sixteen_bytes_of_the_list_and_at_most_twenty_one_of_the_table(
     Ok(())
 }
 
-/// The bytes that an engine takes for a name in a line that is longer than a read.
+/// Returns the number of bytes of the engine for a name in a line that is longer than one read.
 fn line_takes(alloc: Global, heap: &Bump, arena: &Bump) -> Result<usize, AllocError> {
     let mut line = String::new(alloc);
     line.push_str("put ")?;
@@ -218,7 +225,7 @@ fn line_takes(alloc: Global, heap: &Bump, arena: &Bump) -> Result<usize, AllocEr
     })
 }
 
-/// How often it asks for such a line and its name.
+/// Returns the number of requests of the engine for three short lines with new names.
 fn line_asks(alloc: Global, heap: &Budget<Global>, arena: &Bump) -> u64 {
     let mut text = b"put one\nput two\nput three\n".as_slice();
     let mut reader = Counted::new(&mut text);
@@ -234,7 +241,7 @@ fn a_line_takes_a_few_times_its_length(rt: HostRuntime) -> Result<(), Fail> {
     let budget = Budget::new(rt.alloc());
     let arena = Bump::new(rt.alloc());
     assert!(rt; line_takes(rt.alloc(), &heap, &arena)? <= 40_000);
-    // Three names: a list and a table.
+    // For three names, the engine requests a list and a hash table.
     assert!(rt; line_asks(rt.alloc(), &budget, &arena) == 2);
     Ok(())
 }

@@ -1,4 +1,5 @@
-//! Many pushes under one hold: where the items stand, that a refusal leaves nothing, and what other threads see meanwhile.
+//! Pushes of several items in one call of `extend`: the indices of the items, the unchanged vector
+//! after an allocation failure, and what other threads see meanwhile.
 use elsa_lock_free::lock_free::LockFreeFrozenVec;
 use std::alloc::{AllocError, Allocator, Global};
 use std::sync::Wait;
@@ -6,13 +7,13 @@ use std::test::*;
 use std::thread;
 use test_alloc::Budget;
 
-/// How often a thread looks for another before it gives up.
+/// The greatest number of looks of a thread that waits for another.
 const TURNS: u64 = 10_000_000;
 
-/// How many items each extension of the threads has.
+/// The number of items of each call of `extend` by the threads.
 const BATCH: usize = 7;
 
-/// So many numbers from `first` on, in order.
+/// Makes a list of `count` numbers from `first` on.
 fn numbers<A: Allocator + Copy>(
     alloc: A,
     first: u64,
@@ -25,7 +26,7 @@ fn numbers<A: Allocator + Copy>(
     Ok(all)
 }
 
-/// Whether the items are their places, and there are `length` of them.
+/// Returns whether there are `length` items, each equal to its index.
 fn has_places<A: Allocator + Copy>(vector: &LockFreeFrozenVec<u64, A>, length: usize) -> bool {
     let mut reader = vector.handle();
     if reader.len() != length {
@@ -39,17 +40,18 @@ fn has_places<A: Allocator + Copy>(vector: &LockFreeFrozenVec<u64, A>, length: u
     true
 }
 
-/// Whether a vector of the first numbers is extended by the further ones, and takes a push behind them.
+/// Returns whether a vector is extended by `first` and then by `further`, and a push appends after
+/// them.
 fn takes<R: Wait>(rt: &R, vector: &LockFreeFrozenVec<u64>, first: &[u64], further: &[u64]) -> bool {
     let mut handle = vector.handle();
     let length = first.len() + further.len();
     let whole = handle.extend(rt, first) == Ok(0)
         && handle.extend(rt, further) == Ok(first.len())
         && handle.seen_len() == length;
-    whole && handle.push(rt, length as u64) == Ok(length) && has_places(vector, length + 1)
+    whole && handle.push(rt, length as u64).ok() == Some(length) && has_places(vector, length + 1)
 }
 
-/// Whether a vector of so many numbers takes as many further ones as a whole.
+/// Returns whether a vector of `length` numbers is extended by `count` more in one call.
 fn takes_behind<R: Wait>(
     rt: &R,
     alloc: Global,
@@ -74,7 +76,8 @@ fn an_extension_of_any_size_stands_behind_any_length(rt: HostRuntime) -> Result<
     Ok(())
 }
 
-/// Whether an extension of which so many requests are granted is refused, and leaves the vector as it was.
+/// Returns whether `extend` fails if its request after the next `granted` ones is denied, and
+/// leaves the vector unchanged.
 fn is_refused<R: Wait>(
     rt: &R,
     budget: &Budget<Global>,
@@ -90,7 +93,8 @@ fn is_refused<R: Wait>(
     refused && has_places(vector, length)
 }
 
-/// Whether a vector of so many numbers, refused the further ones at the request of this number, has them as a whole later.
+/// Returns whether `extend` of a vector of `length` numbers fails with that request denied, and
+/// appends all numbers in a later call.
 fn takes_later<R: Wait>(
     rt: &R,
     budget: &Budget<Global>,
@@ -110,7 +114,8 @@ fn takes_later<R: Wait>(
 #[test]
 fn an_extension_is_refused_as_a_whole(rt: HostRuntime) -> Result<(), Fail> {
     let budget = Budget::new(rt.alloc());
-    // One request for a table, and one for each buffer that begins at 0, 3, 15, 63 or 255 among two hundred numbers.
+    // The requests are one for the list of new buffers, and one for each new buffer. Among two
+    // hundred numbers, buffers begin at the indices 0, 3, 15, 63 and 255.
     for (length, requests) in [(0, 5), (1, 4), (3, 4), (14, 3), (15, 3), (16, 2), (63, 3)] {
         for granted in 0..requests {
             assert!(rt;
@@ -123,7 +128,8 @@ fn an_extension_is_refused_as_a_whole(rt: HostRuntime) -> Result<(), Fail> {
     Ok(())
 }
 
-/// How many requests an extension by so many numbers makes, behind so many others.
+/// Returns the number of requests of an `extend` by `count` numbers of a vector of `length`
+/// numbers.
 fn requests_of<R: Wait>(
     rt: &R,
     budget: &Budget<Global>,
@@ -157,8 +163,8 @@ fn an_extension_into_an_open_buffer_asks_for_nothing(rt: HostRuntime) -> Result<
     Ok(())
 }
 
-/// Whether a vector of two numbers shows none of an extension that waits for a buffer, and each of its
-/// numbers once that came.
+/// Returns whether a vector of two numbers shows none of the new items while `extend` waits for a
+/// buffer, and all of them once it has the buffer.
 fn sees_none_and_then_all(
     budget: &Budget<Global>,
     vector: &LockFreeFrozenVec<u64, &Budget<Global>>,
@@ -199,7 +205,8 @@ fn other_threads_see_an_extension_whole(rt: HostRuntime) -> Result<(), Fail> {
     Ok(())
 }
 
-/// Extends by batches of one number each, this many times. Whether each batch began at a place that its size divides.
+/// Extends by batches of one number each, `times` times, and returns whether each batch begins at a
+/// multiple of its size.
 fn extend_often<R: Wait>(rt: &R, vector: &LockFreeFrozenVec<u64>, number: u64, times: u64) -> bool {
     let mut handle = vector.handle();
     let batch = [number; BATCH];
@@ -212,7 +219,8 @@ fn extend_often<R: Wait>(rt: &R, vector: &LockFreeFrozenVec<u64>, number: u64, t
     true
 }
 
-/// How many of the batches are of this number; `None` where one is of two numbers.
+/// Returns the number of batches that consist of this number, or `None` if a batch consists of two
+/// numbers.
 fn batches_of(vector: &LockFreeFrozenVec<u64>, number: u64) -> Option<u64> {
     let mut reader = vector.handle();
     reader.len();

@@ -1,4 +1,4 @@
-//! Worked rows of the geometry: which place lies in which buffer, and when a buffer is opened.
+//! Examples of the geometry: the buffer of an index, and the moment when a buffer is opened.
 use crate::schedule_rows::{PlanRow, plans_of, schedule_of};
 use elsa_machine::geometry::{buffer_index, buffer_size, locate, prior_total_buffer_size};
 use elsa_machine::machine::run;
@@ -10,7 +10,8 @@ fn buffers_open_as_the_list_grows(rt: HostRuntime) -> Result<(), AllocError> {
     let items = [0; 16];
     let plans = plans_of(alloc, &[PlanRow::Pusher(&items)])?;
 
-    // Turns, then the length and the slots in open buffers after them. The fourth is amid the push at length 3.
+    // Each row has a number of turns, and the length and the number of slots in open buffers after
+    // them. The fourth row is during the push at length 3.
     for (turns, length, slots) in [
         (0, 0, 0),
         (5, 1, 3),
@@ -28,16 +29,16 @@ fn buffers_open_as_the_list_grows(rt: HostRuntime) -> Result<(), AllocError> {
     Ok(())
 }
 
-/// The greatest place.
+/// The greatest index.
 const LAST: usize = (1 << 62) - 2;
 
-/// Whether a place lies in this buffer at this slot.
+/// Returns whether an index is in this buffer at this slot.
 fn lies_at(place: usize, buffer: usize, slot: usize) -> bool {
     place <= LAST && buffer_index(place) == buffer && locate(place) == (buffer, slot)
 }
 
 #[test]
-fn places_lie_in_buffers(rt: HostRuntime) {
+fn an_index_was_located_in_the_wrong_buffer_or_slot(rt: HostRuntime) {
     for (place, buffer, slot) in [
         (0, 0, 0),
         (2, 0, 2),

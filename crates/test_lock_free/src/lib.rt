@@ -1,5 +1,5 @@
-//! Tests of `elsa_machine`, `elsa_slots` and `elsa_lock_free` as a stranger calls them: worked cases, memory that is refused, and
-//! threads run to their end.
+//! Tests of `elsa_machine`, `elsa_slots` and `elsa_lock_free`, used as by any other crate:
+//! examples, allocation failures, and threads that run to their end.
 #![tactic(auto)]
 
 #[cfg(test)]
@@ -14,6 +14,8 @@ mod machine_tests;
 mod news_tests;
 #[cfg(test)]
 mod no_memory;
+#[cfg(test)]
+mod owner_tests;
 #[cfg(test)]
 mod pass_tests;
 #[cfg(test)]

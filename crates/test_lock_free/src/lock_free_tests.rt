@@ -8,10 +8,11 @@ use std::test::*;
 use std::thread;
 use test_alloc::Budget;
 
-/// How often a reader asks before it gives up.
+/// The greatest number of reads of a thread that waits for an item.
 const TURNS: u64 = 10_000_000;
 
-/// Pushes `count` numbers from `first` on. Whether the places that it was answered rise, and each holds its number.
+/// Pushes `count` numbers from `first` on, and returns whether the indices of the pushes increase
+/// and each index has its number.
 fn push_all<R: Wait>(rt: &R, vector: &LockFreeFrozenVec<u64>, first: u64, count: u64) -> bool {
     let mut least = 0;
     for i in 0..count {
@@ -27,7 +28,8 @@ fn push_all<R: Wait>(rt: &R, vector: &LockFreeFrozenVec<u64>, first: u64, count:
     true
 }
 
-/// Whether each number below the length is an item at one place. At the start no number was seen.
+/// Returns whether each number below the length is an item at one index. `seen` marks the numbers
+/// that were found; at the start none is.
 fn has_each_once(vector: &LockFreeFrozenVec<u64>, seen: &mut [bool]) -> bool {
     for place in 0..seen.len() {
         let Some(item) = vector.get(place) else {
@@ -41,7 +43,7 @@ fn has_each_once(vector: &LockFreeFrozenVec<u64>, seen: &mut [bool]) -> bool {
     true
 }
 
-/// Whether the items are their places, and there are `length` of them.
+/// Returns whether there are `length` items, each equal to its index.
 fn has_places<A: Allocator + Copy>(vector: &LockFreeFrozenVec<u64, A>, length: usize) -> bool {
     if vector.len() != length || vector.get(length).is_some() {
         return false;
@@ -54,7 +56,7 @@ fn has_places<A: Allocator + Copy>(vector: &LockFreeFrozenVec<u64, A>, length: u
     true
 }
 
-/// Whether the items from place 0 on, `count` of them, were each seen to be their place, in all the turns.
+/// Returns whether the first `count` items are read within `TURNS` reads, each equal to its index.
 fn sees_all(vector: &LockFreeFrozenVec<u64>, count: u64) -> bool {
     let mut place: u64 = 0;
     for _ in 0..TURNS {
@@ -70,7 +72,8 @@ fn sees_all(vector: &LockFreeFrozenVec<u64>, count: u64) -> bool {
     false
 }
 
-/// Makes clones, and says whether each has its places for items and is no shorter than the one before.
+/// Makes clones, and returns whether each has its indices as items and is at least as long as the
+/// clone before.
 fn clones_all<A: Allocator + Copy>(vector: &LockFreeFrozenVec<u64, A>, clones: u64) -> bool {
     let mut longest = 0;
     for _ in 0..clones {
@@ -86,7 +89,7 @@ fn clones_all<A: Allocator + Copy>(vector: &LockFreeFrozenVec<u64, A>, clones: u
     true
 }
 
-/// Whether a pass that met one sees what two passes pushed.
+/// Returns whether a view that was merged with another reads what two views pushed.
 fn passes_meet<R: Wait>(rt: &R, vector: &LockFreeFrozenVec<u64>) -> bool {
     let mut p = vector.pass();
     let mut q = vector.pass();
@@ -106,18 +109,18 @@ fn passes_meet<R: Wait>(rt: &R, vector: &LockFreeFrozenVec<u64>) -> bool {
 }
 
 #[test]
-fn passes_that_meet(rt: HostRuntime) -> Result<(), Fail> {
+fn a_merged_view_lost_an_item(rt: HostRuntime) -> Result<(), Fail> {
     let vector = LockFreeFrozenVec::<u64>::new(rt.alloc())?;
     assert!(rt; passes_meet(&rt, &vector));
     Ok(())
 }
 
-/// Whether a clone has its places for items, `length` of them.
+/// Returns whether a clone has `length` items, each equal to its index.
 fn is_cloned(vector: &LockFreeFrozenVec<u64>, length: usize) -> Result<bool, AllocError> {
     Ok(has_places(&vector.clone()?, length))
 }
 
-/// Whether an empty vector takes a thousand items.
+/// Returns whether a thousand items are pushed into an empty vector.
 fn takes_a_thousand<R: Wait>(rt: &R, vector: &LockFreeFrozenVec<u64>) -> bool {
     vector.is_empty()
         && push_all(rt, vector, 0, 1000)
@@ -127,27 +130,28 @@ fn takes_a_thousand<R: Wait>(rt: &R, vector: &LockFreeFrozenVec<u64>) -> bool {
 }
 
 #[test]
-fn a_thousand_items(rt: HostRuntime) -> Result<(), Fail> {
+fn one_of_a_thousand_items_was_lost(rt: HostRuntime) -> Result<(), Fail> {
     let vector = LockFreeFrozenVec::<u64>::new(rt.alloc())?;
     assert!(rt; takes_a_thousand(&rt, &vector) && is_cloned(&vector, 1000)?);
     Ok(())
 }
 
-/// How many items a vector takes before the buffer that begins at place 4^10 - 1, and a few more.
+/// The number of items before the buffer that begins at the index 4^10 - 1, and a few more.
 const PAST_A_MILLION: u64 = 1_048_580;
 
-/// Whether each push of an empty vector's first million and a few is told its number as its place.
+/// Returns whether each push of the first `PAST_A_MILLION` numbers returns the number as its index.
 fn push_a_million<R: Wait>(rt: &R, vector: &LockFreeFrozenVec<u64>) -> bool {
     let mut handle = vector.handle();
     for number in 0..PAST_A_MILLION {
-        if handle.push(rt, number) != Ok(number as usize) {
+        if handle.push(rt, number).ok() != Some(number as usize) {
             return false;
         }
     }
     true
 }
 
-/// Whether an empty vector takes a number at each place up to and past the buffer that begins there: by each 1021st place, and the last nine.
+/// Returns whether an empty vector stores each number at itself as the index, past the beginning of
+/// that buffer. It reads each 1021st index and the last nine.
 fn takes_a_million<R: Wait>(rt: &R, vector: &LockFreeFrozenVec<u64>) -> bool {
     let pushed = push_a_million(rt, vector);
     for turn in 0..1027usize {
@@ -165,13 +169,13 @@ fn takes_a_million<R: Wait>(rt: &R, vector: &LockFreeFrozenVec<u64>) -> bool {
 }
 
 #[test]
-fn pushes_past_place_1048575(rt: HostRuntime) -> Result<(), Fail> {
+fn an_item_was_lost_past_the_index_1048575(rt: HostRuntime) -> Result<(), Fail> {
     let vector = LockFreeFrozenVec::<u64>::new(rt.alloc())?;
     assert!(rt; takes_a_million(&rt, &vector));
     Ok(())
 }
 
-/// Whether the items are these.
+/// Returns whether these are the items.
 fn has_items(vector: &LockFreeFrozenVec<u64>, items: &[u64]) -> bool {
     if vector.len() != items.len() {
         return false;
@@ -184,12 +188,13 @@ fn has_items(vector: &LockFreeFrozenVec<u64>, items: &[u64]) -> bool {
     true
 }
 
-/// Whether an empty vector takes 10 and 20.
+/// Returns whether an empty vector accepts 10 and 20.
 fn takes_two<R: Wait>(rt: &R, vector: &LockFreeFrozenVec<u64>) -> bool {
     vector.push(rt, 10) == Ok(0) && vector.push(rt, 20) == Ok(1)
 }
 
-/// Whether a clone equals its source of two items, and 30 then stands in the clone alone.
+/// Returns whether a clone equals its source of two items, and 30 is then pushed into the clone
+/// only.
 fn is_parted<R: Wait>(rt: &R, vector: &LockFreeFrozenVec<u64>) -> Result<bool, AllocError> {
     let mut p = vector.pass();
     let (copy, mut q) = vector.clone_as(&mut p)?;
@@ -206,7 +211,7 @@ fn a_clone_goes_its_own_way(rt: HostRuntime) -> Result<(), Fail> {
     Ok(())
 }
 
-/// Whether 30, pushed into the source while its clone is there, is in the source alone.
+/// Returns whether 30, pushed into the source after it was cloned, is in the source only.
 fn is_left<R: Wait>(rt: &R, vector: &LockFreeFrozenVec<u64>) -> Result<bool, AllocError> {
     let copy = vector.clone()?;
     let place = vector.push(rt, 30);
@@ -220,7 +225,8 @@ fn a_push_into_the_source_leaves_its_clone(rt: HostRuntime) -> Result<(), Fail> 
     Ok(())
 }
 
-/// Whether a distinct vector with one item equals its clone, which is plain, both ways round, until the clone has one more.
+/// Returns whether a vector of distinct items and its clone, which may have equal items, are equal
+/// in both directions until another item is pushed into the clone.
 fn equals_its_clone<R: Wait>(
     rt: &R,
     vector: &LockFreeFrozenVec<u64, Global, DistinctItems>,
@@ -240,7 +246,7 @@ fn a_distinct_vector_is_compared_with_its_clone(rt: HostRuntime) -> Result<(), F
     Ok(())
 }
 
-/// Whether an empty vector takes a text.
+/// Returns whether an empty vector accepts a text.
 fn takes_a_text<R: Wait>(rt: &R, words: &LockFreeFrozenVec<&str>) -> bool {
     words.get(usize::MAX).is_none()
         && words.push(rt, "lonely") == Ok(0)
@@ -248,20 +254,21 @@ fn takes_a_text<R: Wait>(rt: &R, words: &LockFreeFrozenVec<&str>) -> bool {
 }
 
 #[test]
-fn texts(rt: HostRuntime) -> Result<(), Fail> {
+fn a_text_was_lost(rt: HostRuntime) -> Result<(), Fail> {
     let words = LockFreeFrozenVec::<&str>::new(rt.alloc())?;
     assert!(rt; takes_a_text(&rt, &words));
     Ok(())
 }
 
 #[test]
-fn units(rt: HostRuntime) -> Result<(), Fail> {
+fn an_empty_vector_of_units_had_an_item(rt: HostRuntime) -> Result<(), Fail> {
     let units = LockFreeFrozenVec::<()>::new(rt.alloc())?;
     assert_eq!(rt; units.clone()?.get(0), None);
     Ok(())
 }
 
-/// Whether a push is refused exactly if it opens a buffer, and takes this place once it is allowed.
+/// Returns whether a push with denied memory fails exactly if it opens a buffer, and succeeds at
+/// this index once memory is granted.
 fn opens_at<R: Wait>(
     rt: &R,
     budget: &Budget<Global>,
@@ -276,7 +283,7 @@ fn opens_at<R: Wait>(
 }
 
 #[test]
-fn a_refused_push(rt: HostRuntime) -> Result<(), Fail> {
+fn a_push_failed_that_opens_no_buffer(rt: HostRuntime) -> Result<(), Fail> {
     let budget = Budget::new(rt.alloc());
     let vector = LockFreeFrozenVec::<u64, _>::new(&budget)?;
     for place in 0..16 {
@@ -286,7 +293,8 @@ fn a_refused_push(rt: HostRuntime) -> Result<(), Fail> {
     Ok(())
 }
 
-/// Whether a push of 5 is refused its buffer, and takes place 0 once it is allowed.
+/// Returns whether a push of 5 fails for its buffer, and succeeds at the index 0 once memory is
+/// granted.
 fn takes_five_later<R: Wait>(
     rt: &R,
     budget: &Budget<Global>,
@@ -306,8 +314,8 @@ fn a_refused_first_push_takes_place_0_later(rt: HostRuntime) -> Result<(), Fail>
     Ok(())
 }
 
-/// A clone and a push into it, which leave the vector of this length as it is. How many of the two were refused; `None` where
-/// one answered another thing.
+/// Clones a vector of this length and pushes into the clone, which leaves the vector unchanged.
+/// Returns the number of these two calls that failed, or `None` if a result was wrong.
 fn clone_once<R: Wait, A: Allocator + Copy>(
     rt: &R,
     vector: &LockFreeFrozenVec<u64, A>,
@@ -327,8 +335,8 @@ fn clone_once<R: Wait, A: Allocator + Copy>(
     }
 }
 
-/// Eighteen pushes of the length, and a clone before each. How many calls were refused; `None` where one answered another thing
-/// or the vector isn't that of the accepted pushes.
+/// Makes eighteen pushes of the length, with a clone before each. Returns the number of calls that
+/// failed, or `None` if a result was wrong or the vector isn't that of the successful pushes.
 fn script<R: Wait, A: Allocator + Copy>(rt: &R, alloc: A) -> Option<u64> {
     let Ok(vector) = LockFreeFrozenVec::<u64, A>::new(alloc) else {
         return Some(1);
@@ -350,7 +358,7 @@ fn script<R: Wait, A: Allocator + Copy>(rt: &R, alloc: A) -> Option<u64> {
 }
 
 #[test]
-fn each_request_refused_in_turn(rt: HostRuntime) -> Result<(), Fail> {
+fn an_allocation_failure_changed_the_vector_or_leaked(rt: HostRuntime) -> Result<(), Fail> {
     let budget = Budget::<Global>::new(rt.alloc());
     assert_eq!(rt; script(&rt, &budget), Some(0));
     let requests = budget.asked();
@@ -370,7 +378,7 @@ fn each_request_refused_in_turn(rt: HostRuntime) -> Result<(), Fail> {
 }
 
 #[test]
-fn clones_amid_pushes(rt: HostRuntime) -> Result<(), Fail> {
+fn a_clone_during_pushes_was_no_prefix(rt: HostRuntime) -> Result<(), Fail> {
     let vector = LockFreeFrozenVec::<u64>::new(rt.alloc())?;
     let shared = &vector;
     let (pushed, cloned) = thread::join(
@@ -382,13 +390,13 @@ fn clones_amid_pushes(rt: HostRuntime) -> Result<(), Fail> {
     Ok(())
 }
 
-/// Whether a vector equals itself and a clone of it.
+/// Returns whether a vector equals itself and a clone of it.
 fn is_equal(vector: &LockFreeFrozenVec<u64>) -> Result<bool, AllocError> {
     Ok(vector.equals(&vector.clone()?) && vector.equals(vector))
 }
 
 #[test]
-fn clones_at_rest(rt: HostRuntime) -> Result<(), Fail> {
+fn a_clone_differed_from_its_vector(rt: HostRuntime) -> Result<(), Fail> {
     for length in [0, 3, 15, 63] {
         let vector = LockFreeFrozenVec::<u64>::new(rt.alloc())?;
         assert!(rt;
@@ -402,7 +410,7 @@ fn clones_at_rest(rt: HostRuntime) -> Result<(), Fail> {
 }
 
 #[test]
-fn threads_push_at_once(rt: HostRuntime) -> Result<(), Fail> {
+fn an_item_was_lost_or_doubled_by_threads_that_push(rt: HostRuntime) -> Result<(), Fail> {
     for (threads, count, length) in [(4, 100_000u64, 400_000), (16, 5000, 80_000)] {
         let vector = LockFreeFrozenVec::<u64>::new(rt.alloc())?;
         let shared = &vector;
@@ -424,7 +432,7 @@ fn threads_push_at_once(rt: HostRuntime) -> Result<(), Fail> {
 }
 
 #[test]
-fn a_reader_beside_a_pusher(rt: HostRuntime) -> Result<(), Fail> {
+fn a_reader_missed_a_pushed_item(rt: HostRuntime) -> Result<(), Fail> {
     let vector = LockFreeFrozenVec::<u64>::new(rt.alloc())?;
     let shared = &vector;
     let (pushed, seen) = thread::join(
@@ -436,11 +444,12 @@ fn a_reader_beside_a_pusher(rt: HostRuntime) -> Result<(), Fail> {
     Ok(())
 }
 
-/// An item that is no number.
+/// An item that is a struct.
 #[derive(Clone, Copy)]
 struct Moo(u64);
 
-/// Pushes a thousand structs, with the numbers from 0 on. Whether each takes its number for a place.
+/// Pushes a thousand structs, with the numbers from 0 on, and returns whether each push returns its
+/// number as the index.
 fn push_moos<R: Wait>(rt: &R, vector: &LockFreeFrozenVec<Moo>) -> bool {
     for number in 0..1000u64 {
         if vector.push(rt, Moo(number)) != Ok(number as usize) {
@@ -450,7 +459,8 @@ fn push_moos<R: Wait>(rt: &R, vector: &LockFreeFrozenVec<Moo>) -> bool {
     true
 }
 
-/// Whether a thousand structs were each seen to have its place for a number, in all the turns.
+/// Returns whether a thousand structs are read within `TURNS` reads, each with its index as its
+/// number.
 fn sees_moos(vector: &LockFreeFrozenVec<Moo>) -> bool {
     let mut place: u64 = 0;
     for _ in 0..TURNS {
@@ -467,7 +477,7 @@ fn sees_moos(vector: &LockFreeFrozenVec<Moo>) -> bool {
 }
 
 #[test]
-fn a_reader_beside_a_pusher_of_structs(rt: HostRuntime) -> Result<(), Fail> {
+fn a_reader_missed_a_pushed_struct(rt: HostRuntime) -> Result<(), Fail> {
     let vector = LockFreeFrozenVec::<Moo>::new(rt.alloc())?;
     let shared = &vector;
     let (pushed, seen) = thread::join(&rt, || push_moos(&rt, shared), || sees_moos(shared));

@@ -1,4 +1,4 @@
-//! Worked rows of the machine, whole worlds against worlds written by hand.
+//! Examples of the step machine: whole worlds, compared with hand-written ones.
 use crate::schedule_rows::{AnswerRow, PlanRow, Row, plans_of, schedule_of, world_of, wrong_row};
 use elsa_machine::machine::{Event, Items, Plan, Turn, run};
 use std::alloc::{AllocError, Allocator, Global};
@@ -285,7 +285,8 @@ fn every_plan_is_done_in_rounds_without_memory(rt: HostRuntime) -> Result<(), Al
     Ok(())
 }
 
-/// Plans whose run makes each of its lists grow: the writes, the events, the answers, and what the cloner copies.
+/// Makes plans whose run lets each of its lists grow: the writes, the events, the results, and what
+/// the cloner copies.
 fn growing_plans<A: Allocator + Copy>(alloc: A) -> Result<Vec<Plan<A>, A>, AllocError> {
     let items = Items::from_vec(vec![in alloc; 1, 2, 3, 4, 5]?);
     let indexes = Items::from_vec(vec![in alloc; 0, 4]?);
@@ -296,7 +297,7 @@ fn growing_plans<A: Allocator + Copy>(alloc: A) -> Result<Vec<Plan<A>, A>, Alloc
     Ok(plans)
 }
 
-/// A run of these plans: whether it ended as it must, `Err` where memory was refused.
+/// Runs these plans, and returns whether the final world is right.
 fn grown<A: Allocator + Copy>(
     alloc: A,
     plans: &[Plan<A>],
@@ -310,7 +311,8 @@ fn grown<A: Allocator + Copy>(
     Ok(world.length == 5 && world.writes.as_slice().len() == 5 && lists == (8, 8))
 }
 
-/// Whether the run is refused with this request refused, and ends as it must with the next attempt.
+/// Returns whether the run fails if the request with this number is denied, and ends in the right
+/// world when it is repeated.
 fn is_refused_once<'a>(
     budget: &'a Budget<Global>,
     plans: &[Plan<&'a Budget<Global>>],
@@ -325,7 +327,7 @@ fn is_refused_once<'a>(
 }
 
 #[test]
-fn each_request_of_a_run_refused_in_turn(rt: HostRuntime) -> Result<(), AllocError> {
+fn a_run_of_the_machine_survived_a_denied_request(rt: HostRuntime) -> Result<(), AllocError> {
     let budget = Budget::<Global>::new(rt.alloc());
     let mut turns = Vec::new(rt.alloc());
     for (thread, count) in [(0, 22), (1, 4), (2, 6)] {

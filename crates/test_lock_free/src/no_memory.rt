@@ -1,5 +1,5 @@
-//! How often calls of the concurrent vector ask for memory. Reads never do: the budget's count of requests stands still, with
-//! every buffer full.
+//! The number of requests of calls on the concurrent vector. Reads make none: the budget's count
+//! doesn't change, also if every buffer is full.
 use elsa_lock_free::lock_free::LockFreeFrozenVec;
 use std::alloc::{AllocError, Global};
 use std::sync::Wait;
@@ -10,7 +10,7 @@ type Heap<'b> = &'b Budget<Global>;
 
 type Numbers<'b> = LockFreeFrozenVec<u64, Heap<'b>>;
 
-/// A vector of so many numbers. Its next push opens a buffer where `count` is 0, 3, 15 or 63.
+/// Makes a vector of `count` numbers. Its next push opens a buffer if `count` is 0, 3, 15 or 63.
 fn filled<'b, R: Wait>(rt: &R, heap: Heap<'b>, count: u64) -> Result<Numbers<'b>, AllocError> {
     let numbers = LockFreeFrozenVec::new(heap)?;
     for number in 0..count {
@@ -19,15 +19,16 @@ fn filled<'b, R: Wait>(rt: &R, heap: Heap<'b>, count: u64) -> Result<Numbers<'b>
     Ok(numbers)
 }
 
-/// The reads by a pass: the length, places, and all that was seen.
+/// Reads by a handle: the length, some indices, and the whole observed prefix. Returns the number
+/// of items, or `usize::MAX` if a result is wrong.
 fn reads(numbers: &Numbers<'_>) -> usize {
-    let mut pass = numbers.pass();
-    let length = numbers.len_as(&mut pass);
-    let first = numbers.get_as(&mut pass, 0);
-    let last = numbers.get_as(&mut pass, length.saturating_sub(1));
-    let none = numbers.get_as(&mut pass, usize::MAX);
+    let mut handle = numbers.handle();
+    let length = handle.len();
+    let first = handle.get(0);
+    let last = handle.get(length.saturating_sub(1));
+    let none = handle.get(usize::MAX);
     let mut walked = 0usize;
-    for _number in numbers.iter_as(&pass) {
+    for _number in handle.iter() {
         walked = walked.wrapping_add(1);
     }
     if first.is_some() == last.is_some() && none.is_none() {
@@ -37,7 +38,7 @@ fn reads(numbers: &Numbers<'_>) -> usize {
     }
 }
 
-/// The reads without a pass, and those by a new one.
+/// Returns whether reads without a view and reads by a new view have the same results.
 fn plain_reads(numbers: &Numbers<'_>) -> bool {
     let mut pass = numbers.pass();
     let length = numbers.len_as(&mut pass);
@@ -45,7 +46,7 @@ fn plain_reads(numbers: &Numbers<'_>) -> bool {
     numbers.len() == length && numbers.is_empty() == first.is_none() && numbers.get(0) == first
 }
 
-/// Whether a vector equals itself, by passes that then meet.
+/// Returns whether a vector equals itself, by views that are then merged.
 fn meets(numbers: &Numbers<'_>) -> bool {
     let mut one = numbers.pass();
     let mut two = numbers.pass();
@@ -54,7 +55,7 @@ fn meets(numbers: &Numbers<'_>) -> bool {
     equal && numbers.equals(numbers)
 }
 
-/// Whether none of these calls takes memory, while every request would be refused.
+/// Returns whether none of these calls requests memory while every request would be denied.
 fn takes_none<R: Wait>(rt: &R, heap: &Budget<Global>, count: u64) -> Result<bool, AllocError> {
     let numbers = filled(rt, heap, count)?;
     let asked = heap.asked();
@@ -72,7 +73,8 @@ fn reads_of_the_concurrent_vector_take_no_memory(rt: HostRuntime) -> Result<(), 
     Ok(())
 }
 
-/// Whether a vector asks for memory once when it is made, and gives that back.
+/// Returns whether making a vector makes one request, and dropping the vector deallocates its
+/// memory.
 fn asks_once(heap: &Budget<Global>) -> Result<bool, AllocError> {
     let numbers = LockFreeFrozenVec::<u64, _>::new(heap)?;
     let asked = heap.asked();

@@ -1,17 +1,18 @@
-//! What a pass reads of what it has seen, and calls beside a push that stands still.
+//! What a view reads of its observed prefix, and calls while a push is halted.
 ghost use Rattle.std.specs.Prelude.{◌≡◌, IfOk, Some};
 
-use elsa_lock_free::lock_free::{LockFreeFrozenVec, Pass};
+use elsa_lock_free::lock_free::{Handle, LockFreeFrozenVec, Pass};
 use std::alloc::{AllocError, Allocator, Global};
 use std::sync::Wait;
 use std::test::*;
 use std::thread;
 use test_alloc::Budget;
 
-/// How often a thread looks for another before it gives up.
+/// The greatest number of looks of a thread that waits for another.
 const TURNS: u64 = 10_000_000;
 
-/// Pushes the numbers from `first` up to `end`, each of which is to be its place.
+/// Pushes the numbers from `first` to `end - 1`, and returns whether each is at itself as the
+/// index.
 fn push_to<R: Wait, A: Allocator + Copy>(
     rt: &R,
     vector: &LockFreeFrozenVec<u64, A>,
@@ -26,7 +27,7 @@ fn push_to<R: Wait, A: Allocator + Copy>(
     true
 }
 
-/// Whether the pass reads each place below `count` as its number.
+/// Returns whether the view reads each index below `count` as its number.
 fn reads_below<A: Allocator + Copy>(
     vector: &LockFreeFrozenVec<u64, A>,
     pass: &mut Pass<u64, A>,
@@ -43,7 +44,8 @@ fn reads_below<A: Allocator + Copy>(
     true
 }
 
-/// Whether a walk over what the pass has seen gives the numbers below `count` in order, and says each time how many are left.
+/// Returns whether a walk over the observed prefix of the view returns the numbers below `count` in
+/// order, with the right `size_hint` each time.
 fn walks<A: Allocator + Copy>(
     vector: &LockFreeFrozenVec<u64, A>,
     pass: &Pass<u64, A>,
@@ -51,7 +53,8 @@ fn walks<A: Allocator + Copy>(
 ) -> bool
     requires { pass.now.vector ≡ vector.now }
 {
-    let mut items = vector.iter_as(pass);
+    let handle = Handle::of(vector, pass.again());
+    let mut items = handle.iter();
     for number in 0..count {
         let left = (count - number) as usize;
         if items.size_hint() != (left, Some(left)) || items.next() != Some(number) {
@@ -61,7 +64,8 @@ fn walks<A: Allocator + Copy>(
     items.size_hint() == (0, Some(0)) && items.next().is_none() && items.next().is_none()
 }
 
-/// Whether a walk gives all items of a vector with `count` numbers, and those alone after a further push.
+/// Returns whether a walk returns all items of a vector with `count` numbers, and only those after
+/// another push.
 fn walks_all<R: Wait>(rt: &R, vector: &LockFreeFrozenVec<u64>, count: u64) -> bool {
     let mut pass = vector.pass();
     let nothing = walks(vector, &pass, 0);
@@ -83,7 +87,8 @@ fn a_walk_gives_what_was_seen(rt: HostRuntime) -> Result<(), Fail> {
     Ok(())
 }
 
-/// Whether a pass of a vector with the numbers below `count` reads them all, and nothing at or above.
+/// Returns whether a view of a vector with the numbers below `count` reads them all, and `None` at
+/// the other indices.
 fn reads_all(vector: &LockFreeFrozenVec<u64>, count: u64) -> bool {
     let mut pass = vector.pass();
     let (end, top) = (vector.len_as(&mut pass), usize::MAX);
@@ -103,7 +108,8 @@ fn a_pass_reads_what_was_seen(rt: HostRuntime) -> Result<(), Fail> {
     Ok(())
 }
 
-/// Whether a pusher reads its own items and those that others pushed before, and sees no item that was pushed after.
+/// Returns whether a view that pushes reads its own item and those that were pushed before, and has
+/// observed none that was pushed after.
 fn reads_what_it_pushed<R: Wait>(rt: &R, vector: &LockFreeFrozenVec<u64>) -> bool {
     let mut pass = vector.pass();
     let own = push_to(rt, vector, 0, 2) && vector.push_as(rt, &mut pass, 2) == Ok(2);
@@ -118,7 +124,8 @@ fn a_pusher_has_seen_its_own_items(rt: HostRuntime) -> Result<(), Fail> {
     Ok(())
 }
 
-/// Whether a clone's pass has seen the whole clone, and a pass that meets another reads what that one has seen.
+/// Returns whether a clone's view has observed the whole clone, and a view reads the observed
+/// prefix of another after a merge.
 fn clone_and_meet(vector: &LockFreeFrozenVec<u64>, count: u64) -> Result<bool, AllocError> {
     let mut pass = vector.pass();
     let (copy, copy_pass) = vector.clone_as(&mut pass)?;
@@ -143,7 +150,7 @@ fn a_clone_and_a_meeting_hand_out_what_was_seen(rt: HostRuntime) -> Result<(), F
     Ok(())
 }
 
-/// Whether a pass that has seen two of five numbers clones all five.
+/// Returns whether a view that has observed two of five numbers clones all five.
 fn clones_what_it_had_not_seen<R: Wait>(
     rt: &R,
     vector: &LockFreeFrozenVec<u64>,
@@ -162,7 +169,8 @@ fn a_clone_has_what_was_pushed_since_its_pass_looked(rt: HostRuntime) -> Result<
     Ok(())
 }
 
-/// Pushes, and reads the place by the pass that pushed: by the contracts alone the item stands there.
+/// Pushes an item, and reads it at its index by the same view. The contracts alone prove that the
+/// item is there.
 fn push_and_read<R: Wait>(
     rt: &R,
     vector: &LockFreeFrozenVec<u64>,
@@ -183,7 +191,8 @@ fn a_push_is_read_by_its_pass(rt: HostRuntime) -> Result<(), Fail> {
     Ok(())
 }
 
-/// Whether calls by new passes answer as the vector of three numbers is, and the passes have seen it.
+/// Returns whether calls with new views have the results of a vector of three numbers, and the
+/// views have then observed it.
 fn answers_by_new_passes<R: Wait>(rt: &R, vector: &LockFreeFrozenVec<u64>) -> bool {
     let mut pushed = vector.pass();
     let mut got = vector.pass();
@@ -196,7 +205,8 @@ fn answers_by_new_passes<R: Wait>(rt: &R, vector: &LockFreeFrozenVec<u64>) -> bo
         && walks(vector, &counted, 4)
 }
 
-/// Whether a vector of four numbers and a clone of it are equal, by new passes, which have then seen all four.
+/// Returns whether a vector of four numbers and a clone of it are equal, by new views that have
+/// then observed all four.
 fn compares_by_new_passes(vector: &LockFreeFrozenVec<u64>) -> Result<bool, AllocError> {
     let mut pass = vector.pass();
     let (copy, copy_pass) = vector.clone_as(&mut pass)?;
@@ -208,7 +218,7 @@ fn compares_by_new_passes(vector: &LockFreeFrozenVec<u64>) -> Result<bool, Alloc
 }
 
 #[test]
-fn each_answer_by_a_new_pass(rt: HostRuntime) -> Result<(), Fail> {
+fn a_call_by_a_new_view_had_a_wrong_result(rt: HostRuntime) -> Result<(), Fail> {
     let vector = LockFreeFrozenVec::<u64>::new(rt.alloc())?;
     assert!(rt;
         push_to(&rt, &vector, 0, 3)
@@ -218,7 +228,7 @@ fn each_answer_by_a_new_pass(rt: HostRuntime) -> Result<(), Fail> {
     Ok(())
 }
 
-/// Whether a request stands still in time.
+/// Returns whether a request is halted within the bound.
 fn halts(budget: &Budget<Global>) -> bool {
     for _ in 0..TURNS {
         if budget.is_halted() {
@@ -229,8 +239,8 @@ fn halts(budget: &Budget<Global>) -> bool {
     false
 }
 
-/// Whether, once a request stands still, a pass that has seen three numbers reads them, walks over them, and finds no fourth,
-/// while the request still stands still. It then lets the request go on.
+/// Returns whether a view that has observed three numbers reads them, walks over them and finds no
+/// fourth while a request is halted. Then it lets the request continue.
 fn reads_beside_a_halted_push(
     budget: &Budget<Global>,
     vector: &LockFreeFrozenVec<u64, &Budget<Global>>,
@@ -249,7 +259,7 @@ fn reads_beside_a_halted_push(
 }
 
 #[test]
-fn a_reader_beside_a_pusher_that_stands_still(rt: HostRuntime) -> Result<(), Fail> {
+fn a_reader_waited_for_a_halted_push(rt: HostRuntime) -> Result<(), Fail> {
     let budget = Budget::<Global>::new(rt.alloc());
     let vector = LockFreeFrozenVec::<u64, _>::new(&budget)?;
     let shared = &vector;
@@ -264,8 +274,8 @@ fn a_reader_beside_a_pusher_that_stands_still(rt: HostRuntime) -> Result<(), Fai
     Ok(())
 }
 
-/// The part of a thread: the first one's push stands still in its request, the second one pushes meanwhile, and the third
-/// one lets the request go on, long after.
+/// Does the work of one thread. The push of the first is halted in its request, the second pushes
+/// meanwhile, and the third lets the request continue a long time after.
 fn takes_part<R: Wait>(
     rt: &R,
     budget: &Budget<Global>,
@@ -303,7 +313,8 @@ fn a_push_that_waits_long_comes_next(rt: HostRuntime) -> Result<(), Fail> {
     Ok(())
 }
 
-/// Whether a pass reads the numbers below `seen` again and again until the vector has `end` items, which comes.
+/// Reads the numbers below `seen` by the view again and again until the vector has `end` items, and
+/// returns whether each read was right.
 fn reads_until(vector: &LockFreeFrozenVec<u64>, pass: Pass<u64>, seen: u64, end: usize) -> bool
     requires { pass.vector ≡ vector.now }
 {

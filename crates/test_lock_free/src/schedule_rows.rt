@@ -1,8 +1,8 @@
-//! Rows of schedules, with the worlds that they leave, written by hand.
+//! Rows of schedules, with the worlds that they leave, which are hand-written.
 use elsa_machine::machine::{Answer, Event, Items, Plan, Turn, World, run};
 use std::alloc::{AllocError, Allocator, Global};
 
-/// A plan of a thread.
+/// The plan of a thread.
 #[derive(Clone, Copy)]
 pub enum PlanRow<'a> {
     Pusher(&'a [u64]),
@@ -10,7 +10,7 @@ pub enum PlanRow<'a> {
     Cloner,
 }
 
-/// An answer: the thread, then its place, index or items.
+/// A result of a thread's call: the thread, then its index or items.
 #[derive(Clone, Copy)]
 pub enum AnswerRow<'a> {
     Pushed(usize, usize),
@@ -20,7 +20,8 @@ pub enum AnswerRow<'a> {
     CloneRefused(usize),
 }
 
-/// A schedule and the world that it leaves. A turn is a thread; the turn at `refused` is without memory.
+/// A schedule and the world that it leaves. A turn is the number of a thread. In the turn at
+/// `refused`, an allocation fails.
 #[derive(Clone, Copy)]
 pub struct Row<'a> {
     pub name: &'a str,
@@ -33,7 +34,10 @@ pub struct Row<'a> {
     pub answers: &'a [AnswerRow<'a>],
 }
 
-/// The plans of these rows.
+/// Makes the plans of these rows.
+///
+/// # Errors
+/// Fails if an allocation fails.
 pub fn plans_of(alloc: Global, rows: &[PlanRow]) -> Result<Vec<Plan>, AllocError> {
     let mut plans = Vec::new(alloc);
     for row in rows {
@@ -48,7 +52,10 @@ pub fn plans_of(alloc: Global, rows: &[PlanRow]) -> Result<Vec<Plan>, AllocError
     Ok(plans)
 }
 
-/// A turn of each of these threads; the one at `refused` is without memory.
+/// Makes a turn of each of these threads. In the turn at `refused`, an allocation fails.
+///
+/// # Errors
+/// Fails if an allocation fails.
 pub fn schedule_of(
     alloc: Global,
     threads: &[usize],
@@ -85,7 +92,7 @@ fn answers_of(alloc: Global, rows: &[AnswerRow]) -> Result<Vec<Answer>, AllocErr
     Ok(answers)
 }
 
-/// Each item with its place.
+/// Makes the writes of these items, each with its index.
 fn writes_of(alloc: Global, items: &[u64]) -> Result<Items<(usize, u64)>, AllocError> {
     let mut writes = Items::new(alloc);
     for place in 0..items.len() {
@@ -98,7 +105,10 @@ fn events_of(alloc: Global, events: &[Event]) -> Result<Items<Event>, AllocError
     Ok(Items::from_vec(Vec::from_slice(alloc, events)?))
 }
 
-/// The world of a row in which nobody holds and each write was published.
+/// Makes the world of a row. No thread has the lock, and each write was published.
+///
+/// # Errors
+/// Fails if an allocation fails.
 pub fn world_of(alloc: Global, row: &Row) -> Result<World, AllocError> {
     let writes = writes_of(alloc, row.items)?;
     let events = events_of(alloc, row.events)?;
@@ -113,7 +123,10 @@ pub fn world_of(alloc: Global, row: &Row) -> Result<World, AllocError> {
     })
 }
 
-/// The name of the first row whose schedule leaves another world than the row's, if there is one.
+/// Returns the name of the first row whose schedule leaves another world than the row's, or `None`.
+///
+/// # Errors
+/// Fails if an allocation fails.
 pub fn wrong_row<'a>(alloc: Global, rows: &[Row<'a>]) -> Result<Option<&'a str>, AllocError> {
     for row in rows {
         let plans = plans_of(alloc, row.plans)?;

@@ -1,4 +1,4 @@
-//! The slots, over an allocator that refuses and counts.
+//! The slots, with an allocator that denies and counts requests.
 ghost use Rattle.std.specs.Prelude.{◌≡◌, length, slice_index_or, IfSome};
 
 use elsa_slots::slots::{Ahead, Buffer, Copied, Slots, WriteRight, WriteRights, WrittenPrefix};
@@ -7,7 +7,7 @@ use std::process::Abort;
 use std::test::*;
 use test_alloc::Budget;
 
-/// The right that came back where the first buffer was refused.
+/// Returns the write right that a failed opening of the first buffer returns.
 fn refused<'a>(slots: &Slots<u64, &'a Budget<Global>>, right: WriteRight) -> Option<WriteRight>
     requires { (right.of ≡ slice_index_or slots.now 0 0) × (length slots.now ≡ 31) }
     ensures { IfSome result (λ r. r.of ≡ right.of) }
@@ -22,7 +22,7 @@ fn refused<'a>(slots: &Slots<u64, &'a Budget<Global>>, right: WriteRight) -> Opt
     }
 }
 
-/// What the first slot holds once its buffer was opened and 7 written to it.
+/// Opens the first buffer, writes 7 into its first slot, and returns what that slot then has.
 fn first_of_opened<'a>(slots: &Slots<u64, &'a Budget<Global>>, right: WriteRight) -> Option<u64>
     requires { (right.of ≡ slice_index_or slots.now 0 0) × (length slots.now ≡ 31) }
 {
@@ -44,7 +44,7 @@ fn first_of_opened<'a>(slots: &Slots<u64, &'a Budget<Global>>, right: WriteRight
 }
 
 #[test]
-fn an_open_that_is_refused_and_the_same_open(rt: HostRuntime) -> Result<(), Fail> {
+fn a_failed_opening_lost_its_write_right(rt: HostRuntime) -> Result<(), Fail> {
     let budget = Budget::new(rt.alloc());
     let (slots, mut further) = Slots::<u64, &Budget<Global>>::new(&budget)?;
     let asked = budget.asked();
@@ -61,7 +61,7 @@ fn an_open_that_is_refused_and_the_same_open(rt: HostRuntime) -> Result<(), Fail
     Ok(())
 }
 
-/// Evidence of two items, 5 and 6, in the first buffer.
+/// Writes two items, 5 and 6, into the first buffer, and returns the evidence of them.
 fn two_items<'a>(
     slots: &Slots<u64, &'a Budget<Global>>,
     further: WriteRights,
@@ -90,7 +90,8 @@ fn two_items<'a>(
     }
 }
 
-/// The second item of a copy of the first two, if the memory was to be had.
+/// Copies the first two items, and returns the second of the copy, or `None` if an allocation
+/// fails.
 fn second_of_a_copy<'a>(
     slots: &Slots<u64, &'a Budget<Global>>,
     prefix: &WrittenPrefix<u64, Buffer<u64, &'a Budget<Global>>>,
@@ -126,7 +127,7 @@ fn second_of_a_copy<'a>(
 }
 
 #[test]
-fn a_copy_with_each_request_refused(rt: HostRuntime) -> Result<(), Fail> {
+fn a_copy_with_a_denied_request_succeeded_or_leaked(rt: HostRuntime) -> Result<(), Fail> {
     let budget = Budget::new(rt.alloc());
     let (slots, further) = Slots::<u64, &Budget<Global>>::new(&budget)?;
     let Some(prefix) = two_items(&slots, further) else {

@@ -1,4 +1,5 @@
-//! A map of thousands of entries, and how often a call on it hashes and compares keys: what no clause says.
+//! A map of thousands of entries, and the numbers of hashes and comparisons of keys in a call on
+//! it. No clause states them.
 ghost use Rattle.std.specs.Prelude.{nat_eq};
 ghost use Rattle.std.specs.Cmp.{nat_eq_equiv, on_equiv, partial_equiv_from_equiv};
 ghost use Rattle.std.specs.Hash as fed;
@@ -11,13 +12,14 @@ use std::sync::Wait;
 use std::sync::atomic::{AtomicU64, Ordering};
 use std::test::*;
 
-/// How many entries there are. The last buffer begins far below.
+/// The number of entries. The last buffer begins far below it.
 const MANY: u64 = 5000;
 
-/// The most keys that a look-up compares with: where some have a part of the hash in common.
+/// The greatest number of keys that a lookup compares with. Some of them have a part of the hash in
+/// common.
 const FEW: u64 = 4;
 
-/// How often keys were hashed, and compared.
+/// The numbers of hashes and of comparisons.
 #[derive(Drop)]
 struct Counts {
     hashes: AtomicU64,
@@ -32,7 +34,7 @@ impl Counts {
         }
     }
 
-    /// How often since the last time, in the order of the fields.
+    /// Returns the counts since the last call, in the order of the fields, and sets them to 0.
     fn taken(&self) -> (u64, u64) {
         (
             self.hashes.swap(0, Ordering::SeqCst),
@@ -41,7 +43,7 @@ impl Counts {
     }
 }
 
-/// A number that counts what is done with it.
+/// A number that counts how often it is hashed and compared.
 #[derive(Clone, Copy)]
 struct Key<'c> {
     number: u64,
@@ -78,7 +80,7 @@ type Map<'c> = LockFreeFrozenMap<Key<'c>, u64>;
 
 type Seen<'m, 'c> = MapHandle<'m, Key<'c>, u64>;
 
-/// Whether the numbers below [`MANY`] are inserted, each at its own place.
+/// Returns whether the numbers below [`MANY`] are inserted, each at its own index.
 fn takes_many<'c, R: Wait>(rt: &R, map: &mut Seen<'_, 'c>, counts: &'c Counts) -> bool {
     for number in 0..MANY {
         let Ok(put) = map.insert(rt, Key { number, counts }, number) else {
@@ -91,7 +93,7 @@ fn takes_many<'c, R: Wait>(rt: &R, map: &mut Seen<'_, 'c>, counts: &'c Counts) -
     true
 }
 
-/// Whether the call of this number about the key of one of the numbers answers.
+/// Returns whether the call with this number has the right result for a key.
 fn answers<'c, R: Wait>(rt: &R, map: &mut Seen<'_, 'c>, call: u64, key: Key<'c>) -> bool {
     match call {
         0 => map.get(key) == Some(key.number),
@@ -100,7 +102,8 @@ fn answers<'c, R: Wait>(rt: &R, map: &mut Seen<'_, 'c>, call: u64, key: Key<'c>)
     }
 }
 
-/// Whether each such call, by a handle that has seen the key, takes one hash and few comparisons.
+/// Returns whether each such call, by a handle that has observed the key, makes one hash and few
+/// comparisons.
 fn looks_up_once<'c, R: Wait>(rt: &R, map: &mut Seen<'_, 'c>, counts: &'c Counts) -> bool {
     for call in 0u64..3 {
         let number = call.wrapping_mul(1201);
@@ -114,7 +117,8 @@ fn looks_up_once<'c, R: Wait>(rt: &R, map: &mut Seen<'_, 'c>, counts: &'c Counts
     true
 }
 
-/// Whether all are inserted, and found by one hash; also by a handle that has seen them by their number alone.
+/// Returns whether all keys are inserted, and found by one hash, also by a handle that has observed
+/// them by `len` alone.
 fn is_quick<'c, R: Wait>(rt: &R, map: &Map<'c>, counts: &'c Counts) -> bool {
     let mut one = map.handle();
     let mut other = map.handle();

@@ -1,10 +1,12 @@
-//! The map that threads look up without a lock, as a stranger calls it.
+//! Tests of the lock-free map, used as by any other crate.
 #![tactic(auto)]
 
 #[cfg(test)]
 mod counted_tests;
 #[cfg(test)]
 mod made_tests;
+#[cfg(test)]
+mod owner_tests;
 #[cfg(test)]
 mod refusal_tests;
 #[cfg(test)]

@@ -7,7 +7,8 @@ use std::test::*;
 
 type Map = LockFreeFrozenMap<u64, u64>;
 
-/// Whether a key that another handle inserted, which this one hasn't seen yet, keeps its value, and no value is made for it.
+/// Returns whether a key that another handle inserted keeps its value, and no value is made for it,
+/// though this handle has not observed it yet.
 fn keeps_what_another_inserted<R: Wait>(rt: &R, map: &Map) -> Result<bool, AllocError> {
     let made = AtomicU64::new(0);
     let mut handle = map.handle();
@@ -16,7 +17,7 @@ fn keeps_what_another_inserted<R: Wait>(rt: &R, map: &Map) -> Result<bool, Alloc
     Ok(!found.is_new && found.value == 9 && made.load(Ordering::SeqCst) == 0)
 }
 
-/// Whether a value is made once for two calls, and stands.
+/// Returns whether two calls make one value, which both return.
 fn makes_once<R: Wait>(rt: &R, map: &Map) -> Result<bool, AllocError> {
     let made = AtomicU64::new(40);
     let mut handle = map.handle();
@@ -34,7 +35,7 @@ fn a_value_is_made_for_an_absent_key_alone(rt: HostRuntime) -> Result<(), Fail> 
     Ok(())
 }
 
-/// Inserts a key beside this call, by another handle, and returns 1 where that succeeded.
+/// Runs in a closure: inserts the key by another handle, and returns 1 if that succeeds.
 fn inserted_beside<R: Wait>(rt: &R, map: &Map, key: u64) -> u64 {
     if map.handle().insert(rt, key, 2).is_ok() {
         1
@@ -43,7 +44,7 @@ fn inserted_beside<R: Wait>(rt: &R, map: &Map, key: u64) -> u64 {
     }
 }
 
-/// What stands where the key was inserted while its value was made.
+/// Returns the value of a key that was inserted while the closure made another value for it.
 fn overtaken<R: Wait>(rt: &R, map: &Map) -> Result<u64, AllocError> {
     let mut handle = map.handle();
     let done = handle.get_or_insert_with(rt, 5, || inserted_beside(rt, map, 5))?;

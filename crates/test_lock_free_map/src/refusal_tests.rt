@@ -1,4 +1,5 @@
-//! Memory that is refused: each request of an insertion in turn, and the calls that ask for none.
+//! Allocation failures, with each request of an insertion denied in turn, and calls that allocate
+//! nothing.
 use elsa_lock_free_map::map::LockFreeFrozenMap;
 use std::alloc::{AllocError, Global};
 use std::hash::{BuildHasherDefault, FoldHasher};
@@ -10,33 +11,35 @@ type Heap<'b> = &'b Budget<Global>;
 
 type Map<'b> = LockFreeFrozenMap<u64, u64, BuildHasherDefault<FoldHasher>, Heap<'b>>;
 
-/// How many keys are inserted: the last of them begins a buffer.
+/// The number of inserted keys. The last of them begins a buffer.
 const KEYS: u64 = 16;
 
-/// Inserts keys until all stand, each once more where it was refused. How often one was refused, or `None` if an answer was wrong.
+/// Inserts the keys, and repeats an insertion that fails. Returns the number of failed insertions,
+/// or `None` if a result was wrong.
 fn insert_stubbornly<R: Wait>(rt: &R, map: &Map<'_>) -> Option<u64> {
-    let mut pass = map.pass();
+    let mut handle = map.handle();
     let mut refused = 0u64;
     for key in 0..KEYS {
-        if map.insert_as(rt, &mut pass, key, key).is_err() {
+        if handle.insert(rt, key, key).is_err() {
             refused = refused.wrapping_add(1);
-            if map.get_as(&mut pass, key).is_some() || map.len_as(&mut pass) != key as usize {
+            if handle.get(key).is_some() || handle.len() != key as usize {
                 return None;
             }
-            if map.insert_as(rt, &mut pass, key, key).is_err() {
+            if handle.insert(rt, key, key).is_err() {
                 return None;
             }
         }
     }
     for key in 0..KEYS {
-        if map.get_as(&mut pass, key) != Some(key) {
+        if handle.get(key) != Some(key) {
             return None;
         }
     }
     Some(refused)
 }
 
-/// Whether all keys stand although the request with this number is refused, and all memory comes back. `None`: there are fewer requests.
+/// Returns whether all keys are inserted and all memory is deallocated if the request with this
+/// number is denied.
 fn stands_without<R: Wait>(rt: &R, heap: &Budget<Global>, number: u64) -> Result<bool, AllocError> {
     let map = Map::new(heap)?;
     let asked = heap.asked();

@@ -1,4 +1,4 @@
-//! Threads that insert beside one another. Each waits for the others first, so that they overlap.
+//! Threads that insert at the same time. Each waits for the others first, so that they overlap.
 use elsa_lock_free_map::map::LockFreeFrozenMap;
 use std::sync::Wait;
 use std::sync::atomic::{AtomicU64, Ordering};
@@ -6,15 +6,15 @@ use std::test::*;
 use std::thread;
 use std::thread::Threads;
 
-/// How many keys the threads insert.
+/// The number of keys that the threads insert.
 const KEYS: u64 = 200;
 
-/// How often a thread looks for another before it gives up.
+/// The greatest number of looks of a thread that waits for another.
 const TURNS: u64 = 10_000_000;
 
 type Map = LockFreeFrozenMap<u64, u64>;
 
-/// Says that this thread is there, and waits until `count` threads are.
+/// Counts this thread, and waits until `count` threads are counted.
 fn meet_all(there: &AtomicU64, count: u64) -> bool {
     let _ = there.fetch_add(1, Ordering::SeqCst);
     for _ in 0..TURNS {
@@ -26,20 +26,21 @@ fn meet_all(there: &AtomicU64, count: u64) -> bool {
     false
 }
 
-/// Inserts each key with the thread's own value, and returns how many of its values stand; the sum of all that stand is added.
+/// Inserts each key with the thread's own number as its value. Returns the number of keys that were
+/// new, and the sum of the values that the keys have.
 fn insert_all<R: Wait>(rt: &R, map: &Map, thread: u64) -> (u64, u64) {
-    let mut pass = map.pass();
+    let mut handle = map.handle();
     let mut own = 0u64;
     let mut sum = 0u64;
     for i in 0..KEYS {
         let key = i.wrapping_add(thread.wrapping_mul(50)) % KEYS;
-        let Ok(done) = map.insert_as(rt, &mut pass, key, thread) else {
+        let Ok(done) = handle.insert(rt, key, thread) else {
             return (u64::MAX, 0);
         };
         if done.is_new {
             own = own.wrapping_add(1);
         }
-        if map.get_as(&mut pass, key) != Some(done.value) {
+        if handle.get(key) != Some(done.value) {
             return (u64::MAX, 0);
         }
         sum = sum.wrapping_add(done.value.wrapping_mul(key.wrapping_add(1)));
@@ -47,7 +48,7 @@ fn insert_all<R: Wait>(rt: &R, map: &Map, thread: u64) -> (u64, u64) {
     (own, sum)
 }
 
-/// One thread's part.
+/// Does the work of one thread.
 fn part<R: Wait>(rt: &R, map: &Map, there: &AtomicU64, thread: u64) -> (u64, u64) {
     if meet_all(there, 4) {
         insert_all(rt, map, thread)
@@ -56,7 +57,8 @@ fn part<R: Wait>(rt: &R, map: &Map, there: &AtomicU64, thread: u64) -> (u64, u64
     }
 }
 
-/// Whether four threads have one value for each key, and each key is new to one of them.
+/// Returns whether four threads find the same value at each key, and each key is new for one of
+/// them.
 fn four_threads<R: Threads + Wait + Sync>(rt: &R, map: &Map) -> bool {
     let there = AtomicU64::new(0);
     let met = &there;
@@ -76,14 +78,14 @@ fn four_threads_have_one_value_for_each_key(rt: HostRuntime) -> Result<(), Fail>
     Ok(())
 }
 
-/// Inserts a key, and then looks until the other is there.
+/// Inserts a key, and then looks the other key up until it is present.
 fn sees_other<R: Wait>(rt: &R, map: &Map, mine: u64, other: u64) -> bool {
-    let mut pass = map.pass();
-    if map.insert_as(rt, &mut pass, mine, mine).is_err() {
+    let mut handle = map.handle();
+    if handle.insert(rt, mine, mine).is_err() {
         return false;
     }
     for _ in 0..TURNS {
-        if map.get_as(&mut pass, other) == Some(other) {
+        if handle.get(other) == Some(other) {
             return true;
         }
         thread::yield_now();

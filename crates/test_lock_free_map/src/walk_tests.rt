@@ -1,4 +1,4 @@
-//! Walks over what was seen of a map, and whether a key is contained.
+//! Walks over the observed prefix of a map, and `contains_key`.
 use elsa_lock_free_map::handle::MapHandle;
 use elsa_lock_free_map::map::LockFreeFrozenMap;
 use std::alloc::AllocError;
@@ -7,7 +7,7 @@ use std::test::*;
 
 type Map = LockFreeFrozenMap<u64, u64>;
 
-/// Inserts the numbers from `first` on, below `end`, each with its double.
+/// Inserts the numbers from `first` to `end - 1`, each with its double.
 fn insert_doubles<R: Wait>(
     rt: &R,
     handle: &mut MapHandle<'_, u64, u64>,
@@ -20,7 +20,8 @@ fn insert_doubles<R: Wait>(
     Ok(())
 }
 
-/// Whether a walk that began at `count` entries gives these alone, in order, though as many came meanwhile.
+/// Returns whether a walk that began with `count` entries visits only these, in order, though
+/// `count` others are inserted meanwhile.
 fn walks_over<R: Wait>(rt: &R, map: &Map, count: u64) -> Result<bool, AllocError> {
     let mut handle = map.handle();
     insert_doubles(rt, &mut handle, 0, count)?;
@@ -46,7 +47,7 @@ fn a_walk_gives_what_was_seen_when_it_began(rt: HostRuntime) -> Result<(), Fail>
     Ok(())
 }
 
-/// Whether a fresh handle contains a key that another inserted, and none that nobody did.
+/// Returns whether a new handle contains a key that another inserted, and no other key.
 fn contains_what_another_inserted<R: Wait>(rt: &R, map: &Map) -> Result<bool, AllocError> {
     let mut fresh = map.handle();
     let before = fresh.contains_key(5);

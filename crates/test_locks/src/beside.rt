@@ -1,5 +1,6 @@
-//! Each locked call beside one of another thread that has the lock: a read goes on beside another read, and waits where an insertion has the
-//! lock alone; no call gives up or answers of what was there before.
+//! Calls on a locked collection while another thread has the lock. A read completes while another
+//! read has the lock, and waits while an insertion has it. No call returns early, and none returns
+//! the content from before the insertion.
 ghost use Rattle.std.specs.Prelude.{nat_eq};
 ghost use Rattle.std.specs.Cmp.{nat_eq_equiv, on_equiv, partial_equiv_from_equiv};
 
@@ -17,7 +18,7 @@ type Hashed = FrozenMap<u64, u64>;
 
 type Ordered = FrozenBTreeMap<u64, u64>;
 
-// What a thread that has the lock and one that makes a call beside it tell each other.
+// The marks by which a thread that has the lock and a thread that makes a call wait for each other.
 #[derive(Drop)]
 struct Talk {
     runs: Mark,
@@ -36,7 +37,7 @@ impl Talk {
         }
     }
 
-    // Under the lock: waits for the other thread's answer, and notes that it came.
+    // Runs under the lock: waits until the other thread's call returns, and raises `saw` if it did.
     fn shares(&self) {
         self.runs.raise(1);
         if self.answered.comes_to(1) {
@@ -44,7 +45,8 @@ impl Talk {
         }
     }
 
-    // Under the lock: waits until the other thread asks, and notes that its answer doesn't come meanwhile.
+    // Runs under the lock: waits until the other thread makes its call, and raises `saw` if that
+    // call doesn't return meanwhile.
     fn shuts_out(&self) {
         self.runs.raise(1);
         if self.asks.comes_to(1) && !self.answered.comes_soon(1) {
@@ -52,32 +54,32 @@ impl Talk {
         }
     }
 
-    // Under the lock, in what makes a 6.
+    // Runs under the lock, in the closure of an insertion. Returns 6.
     fn make(&self) -> u64 {
         self.shuts_out();
         6
     }
 }
 
-// A shared map that has 6 at the key 1, or is to have it.
+// A shared map whose key 1 has the value 6, or gets it during the test.
 trait Shelf {
-    // How many calls there are below.
+    // The number of calls that `answers` can make.
     const CALLS: u64;
 
-    // How many of them, the first ones, only read.
+    // The number of calls that only read. They are the first ones.
     const READS: u64;
 
-    // Makes the call of that number, and says whether it answered of the 6.
+    // Makes the call with the number `call`, and returns whether its result shows the 6.
     fn answers<R: Wait>(&self, rt: &R, alloc: Global, call: u64) -> bool;
 
-    // Holds the lock for reading while the other thread asks.
+    // Keeps the lock for reading until the other thread's call returns.
     fn walks<R: Wait>(&self, rt: &R, talk: &Talk);
 
-    // Puts the 6, and holds the lock alone while the other thread asks.
+    // Inserts the 6, and keeps the lock for writing while the other thread makes its call.
     fn puts<R: Wait>(&self, rt: &R, talk: &Talk) -> bool;
 }
 
-// Whether a map equals one without entries.
+// Returns whether a map equals an empty one.
 fn hashed_is_nothing(rt: &impl Wait, alloc: Global, map: &Hashed) -> bool {
     let none: Hashed = FrozenMap::new(alloc);
     map.equals(rt, &none) == Ok(true) || none.equals(rt, map) == Ok(true)
@@ -88,7 +90,7 @@ fn ordered_is_nothing(rt: &impl Wait, alloc: Global, map: &Ordered) -> bool {
     map.equals(rt, &none) == Ok(true) || none.equals(rt, map) == Ok(true)
 }
 
-// Whether a walk comes to one entry, 6 at 1.
+// Returns whether a walk visits one entry, 6 at 1.
 fn hashed_walks_to_six(rt: &impl Wait, map: &Hashed) -> bool {
     let seen = Mark::new();
     map.for_each(
@@ -117,7 +119,7 @@ fn ordered_ranges_to_six(rt: &impl Wait, map: &Ordered) -> bool {
     seen.is_at(106)
 }
 
-// The calls of both maps that only read one key or none.
+// Makes a call that reads one key, or none. Both maps have these calls.
 fn hashed_reads(rt: &impl Wait, map: &Hashed, call: u64) -> bool {
     match call {
         0 => matches!(map.get(rt, &1), Ok(Some(owner)) if *owner == 6),
@@ -138,11 +140,11 @@ fn ordered_reads(rt: &impl Wait, map: &Ordered, call: u64) -> bool {
     }
 }
 
-// The insertions at the key 1 of both maps, in whose place the 6 stays.
+// Makes an insertion at the key 1 that must leave the 6. Both maps have these calls.
 fn hashed_keeps(rt: &impl Wait, map: &Hashed, call: u64) -> bool {
     match call {
         0 => matches!(map.insert(rt, 1, 7), Ok(owner) if *owner == 6),
-        1 => matches!(map.insert_new(rt, 1, 7), Ok((owner, false)) if *owner == 6),
+        1 => matches!(map.insert_new(rt, 1, 7), Ok(done) if !done.is_new && *done.value == 6),
         2 => matches!(map.insert_with(rt, 1, || 7), Ok(owner) if *owner == 6),
         3 => matches!(map.insert_with_key(rt, 1, |_| 7), Ok(owner) if *owner == 6),
         4 => map.get_copy_or_insert(rt, 1, 7) == Ok(6),
@@ -154,7 +156,7 @@ fn hashed_keeps(rt: &impl Wait, map: &Hashed, call: u64) -> bool {
 fn ordered_keeps(rt: &impl Wait, map: &Ordered, call: u64) -> bool {
     match call {
         0 => matches!(map.insert(rt, 1, 7), Ok(owner) if *owner == 6),
-        1 => matches!(map.insert_new(rt, 1, 7), Ok((owner, false)) if *owner == 6),
+        1 => matches!(map.insert_new(rt, 1, 7), Ok(done) if !done.is_new && *done.value == 6),
         2 => matches!(map.insert_with(rt, 1, || 7), Ok(owner) if *owner == 6),
         3 => matches!(map.insert_with_key(rt, 1, |_| 7), Ok(owner) if *owner == 6),
         4 => map.get_copy_or_insert(rt, 1, 7) == Ok(6),
@@ -188,7 +190,7 @@ impl Shelf for Hashed {
     }
 }
 
-// The calls of the ordered map alone.
+// Makes a call that only the ordered map has.
 fn ordered_ends(rt: &impl Wait, map: &Ordered, call: u64) -> bool {
     match call {
         0 => matches!(map.first_key_value_cloned(rt), Ok(Some((1, owner))) if *owner == 6),
@@ -240,7 +242,7 @@ fn answers_beside<R: Wait, S: Shelf>(
     good
 }
 
-// Whether a walk that waits for the call's answer gets it.
+// Returns whether the call returns while a walk that waits for it has the lock.
 fn shares_the_lock<R: Threads + Wait + Sync, S: Shelf + Sync>(
     rt: &R,
     alloc: Global,
@@ -257,7 +259,7 @@ fn shares_the_lock<R: Threads + Wait + Sync, S: Shelf + Sync>(
     asked && talk.saw.is_at(1)
 }
 
-// Whether the call waits for the insertion, and answers of what was inserted.
+// Returns whether the call waits for the insertion and its result shows what was inserted.
 fn waits_for_the_insertion<R: Threads + Wait + Sync, S: Shelf + Sync>(
     rt: &R,
     alloc: Global,
@@ -274,7 +276,7 @@ fn waits_for_the_insertion<R: Threads + Wait + Sync, S: Shelf + Sync>(
     put && asked && talk.saw.is_at(1)
 }
 
-// The first call that isn't answered beside a walk.
+// Returns the number of the first read that waits for a walk, or `None`.
 fn first_shut_out<R: Threads + Wait + Sync, S: Shelf + Sync>(
     rt: &R,
     alloc: Global,
@@ -283,7 +285,8 @@ fn first_shut_out<R: Threads + Wait + Sync, S: Shelf + Sync>(
     (0..S::READS).find(|call| !shares_the_lock(rt, alloc, shelf, *call))
 }
 
-// A read that takes the lock alone waits for a walk, which waits for it in vain.
+// Checks that each read of a map returns while a walk has the lock. A read that takes the lock for
+// writing would wait for the walk, which waits for the read.
 #[test]
 fn a_read_of_a_map_goes_on_beside_a_walk(rt: HostRuntime) -> Result<(), Fail> {
     let hashed: Hashed = FrozenMap::new(rt.alloc());
@@ -294,7 +297,8 @@ fn a_read_of_a_map_goes_on_beside_a_walk(rt: HostRuntime) -> Result<(), Fail> {
     Ok(())
 }
 
-// A call that gives up where the lock is taken answers of the map before, or with a refusal.
+// Checks that each call on a map waits for an insertion that has the lock. A call that returns
+// early would show the map before the insertion, or fail.
 #[test]
 fn a_call_on_a_map_waits_for_an_insertion(rt: HostRuntime) -> Result<(), Fail> {
     for call in 0..<Hashed as Shelf>::CALLS {
@@ -316,7 +320,7 @@ fn a_call_on_a_map_waits_for_an_insertion(rt: HostRuntime) -> Result<(), Fail> {
 
 // ---- lists
 
-// A number whose `==` waits, under the lock, for another thread's answer.
+// A number whose `==`, under the lock, waits until another thread's call returns.
 #[derive(Clone, Copy)]
 struct Watched<'t> {
     number: u64,
@@ -338,13 +342,13 @@ type Watches<'t> = FrozenVec<Watched<'t>>;
 
 const LIST_READS: u64 = 6;
 
-// Whether a list equals one without items.
+// Returns whether a list equals an empty one.
 fn list_is_nothing(rt: &impl Wait, alloc: Global, list: &Watches<'_>) -> bool {
     let none: Watches<'_> = FrozenVec::new(alloc);
     list.equals(rt, &none) == Ok(true) || none.equals(rt, list) == Ok(true)
 }
 
-// Makes the read of that number on a list that has one item, 6.
+// Makes the read with the number `call` on a list that has one item, 6.
 fn list_reads(rt: &impl Wait, alloc: Global, list: &Watches<'_>, call: u64) -> bool {
     match call {
         0 => matches!(list.get(rt, 0), Ok(Some(owner)) if owner.number == 6),
@@ -363,7 +367,7 @@ fn reads_beside(rt: &impl Wait, alloc: Global, list: &Watches<'_>, call: u64, ta
     good
 }
 
-// Whether a comparison that waits for the read's answer gets it.
+// Returns whether the read returns while a comparison that waits for it has the lock.
 fn list_shares_the_lock<R: Threads + Wait + Sync>(
     rt: &R,
     alloc: Global,
@@ -381,7 +385,8 @@ fn list_shares_the_lock<R: Threads + Wait + Sync>(
     Ok(equal && read && talk.saw.is_at(1))
 }
 
-// A read that takes the lock alone waits for a comparison, which waits for it in vain.
+// Checks that each read of a list returns while a comparison has the lock. A read that takes the
+// lock for writing would wait for the comparison, which waits for the read.
 #[test]
 fn a_read_of_a_list_goes_on_beside_a_comparison(rt: HostRuntime) -> Result<(), Fail> {
     for call in 0..LIST_READS {
@@ -396,7 +401,8 @@ type List<'b> = FrozenVec<u64, Heap<'b>>;
 
 const LIST_CALLS: u64 = 8;
 
-// Makes the call of that number on a list that has one item, 6, once the push of it is answered.
+// Makes the call with the number `call` on a list that has one item, 6, after the push of it
+// returned.
 fn list_answers(rt: &impl Wait, list: &List<'_>, call: u64) -> bool {
     match call {
         0 => matches!(list.get(rt, 0), Ok(Some(owner)) if *owner == 6),
@@ -410,7 +416,7 @@ fn list_answers(rt: &impl Wait, list: &List<'_>, call: u64) -> bool {
     }
 }
 
-// Waits until the push stands still.
+// Waits until the push halts in its allocation, and returns whether it did.
 fn is_halted(heap: Heap<'_>) -> bool {
     for _ in 0..crate::marks::CALLS {
         if heap.is_halted() {
@@ -421,7 +427,7 @@ fn is_halted(heap: Heap<'_>) -> bool {
     false
 }
 
-// Makes the call while a push of another thread stands still with the lock.
+// Makes the call while a push of another thread has the lock and is halted.
 fn asks_beside_a_push(
     rt: &impl Wait,
     heap: Heap<'_>,
@@ -436,13 +442,14 @@ fn asks_beside_a_push(
     halted && good
 }
 
-// Lets the push go on when the other thread has asked, and isn't answered.
+// Lets the push continue after the other thread has made its call, which doesn't return before
+// that.
 fn lets_it_go_on(heap: Heap<'_>, talk: &Talk) {
     talk.shuts_out();
     heap.go_on();
 }
 
-// Whether the call waits for a push that stands still, and answers of what it pushed.
+// Returns whether the call waits for a halted push and its result shows what that push added.
 fn list_waits<R: Threads + Wait + Sync>(rt: &R, alloc: Global, call: u64) -> bool {
     let (own, budget) = (Talk::new(), Budget::new(alloc));
     let (talk, heap) = (&own, &budget);
@@ -462,7 +469,8 @@ fn list_waits<R: Threads + Wait + Sync>(rt: &R, alloc: Global, call: u64) -> boo
     pushed && asked && talk.saw.is_at(1)
 }
 
-// A call that gives up where the lock is taken answers of the list before, or with a refusal.
+// Checks that each call on a list waits for a push that has the lock. A call that returns early
+// would show the list before the push, or fail.
 #[test]
 fn a_call_on_a_list_waits_for_a_push(rt: HostRuntime) -> Result<(), Fail> {
     for call in 0..LIST_CALLS {

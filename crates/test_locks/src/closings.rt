@@ -1,4 +1,5 @@
-//! A recorder with several passes answers alike at its close, with memory for its notes and without.
+//! Closes of a recorder with several passes: the result is the same if the close can allocate its
+//! notes and if it can't.
 use elsa_history::{CloseFault, ReceiptsFault, RecordPass, Recorder, VecCommand};
 use elsa_locks::vec::VecState;
 use std::alloc::{AllocError, Global};
@@ -12,7 +13,7 @@ type List<'b> = VecState<u64, Heap<'b>>;
 
 type Passes<'b> = Vec<RecordPass<List<'b>, Heap<'b>>, Heap<'b>>;
 
-/// Pushes eleven items by three passes, out of turn, and leaves the passes in the list.
+/// Pushes eleven items by three passes, not in turn, and leaves the passes in the list.
 fn record<'b>(
     rt: &impl Wait,
     recorder: &Recorder<List<'b>, Heap<'b>>,
@@ -30,8 +31,9 @@ fn record<'b>(
     Ok(())
 }
 
-/// What the close says: 0 of all passes, 1 where one is missing, 2 where those of another recorder are among them; and how often it asked
-/// for memory.
+/// Closes a recorder and returns the result with the number of requests for memory. The result is 0
+/// if the close has all passes, 1 if one is missing, and 2 if passes of another recorder are among
+/// them.
 fn closed<'b>(
     rt: &impl Wait,
     heap: Heap<'b>,

@@ -1,4 +1,5 @@
-//! Closures that a locked map calls: one that makes a value runs under the lock, one that reads a value doesn't.
+//! Closures that a locked map calls. A closure that makes a value runs under the lock; a closure
+//! that reads a value runs without it.
 use crate::marks::Mark;
 use elsa_locks::map::{FrozenBTreeMap, FrozenMap};
 use std::alloc::Global;
@@ -11,7 +12,7 @@ type Hashed = FrozenMap<u64, u64>;
 
 type Ordered = FrozenBTreeMap<u64, u64>;
 
-// What a closure and a thread that makes a call beside it tell each other.
+// The marks by which a closure and a thread that makes a call meanwhile wait for each other.
 #[derive(Drop)]
 struct Hold {
     runs: Mark,
@@ -30,7 +31,8 @@ impl Hold {
         }
     }
 
-    // In the closure: notes whether the other thread's call stays unanswered while it runs.
+    // Runs in the closure: raises `held` if the other thread's call doesn't return while the
+    // closure runs.
     fn run(&self) {
         self.runs.raise(1);
         if self.asks.comes_to(1) && !self.answered.comes_soon(1) {
@@ -38,23 +40,24 @@ impl Hold {
         }
     }
 
-    // In the closure, which makes a 6.
+    // Runs in the closure. Returns 6.
     fn make(&self) -> u64 {
         self.run();
         6
     }
 }
 
-// A call of a locked map that takes a closure, and a call that must wait for it.
+// A call of a locked map that takes a closure, and a call that must wait for the closure's end.
 trait Holding {
-    // Makes the call with a closure, and says whether it answered 6.
+    // Makes the call with a closure, and returns whether its result is 6.
     fn holds<R: Wait>(&self, rt: &R, hold: &Hold) -> bool;
 
-    // Makes the call beside it.
+    // Makes the call that must wait.
     fn asks<R: Wait>(&self, rt: &R);
 }
 
-// The calls of a hashed map that make a value under the lock, by number; beside them a read.
+// The calls of a hashed map that make a value under the lock, by number. The call that must wait is
+// a read.
 #[derive(Drop)]
 struct Making {
     map: Hashed,
@@ -108,7 +111,7 @@ fn asks_beside<R: Wait, H: Holding>(rt: &R, map: &H, hold: &Hold) -> bool {
     true
 }
 
-// Whether the call beside the closure waited for it.
+// Returns whether the other call waited for the closure's end.
 fn is_held<R: Threads + Wait + Sync, H: Holding + Sync>(rt: &R, map: &H) -> bool {
     let own = Hold::new();
     let hold = &own;
@@ -116,7 +119,8 @@ fn is_held<R: Threads + Wait + Sync, H: Holding + Sync>(rt: &R, map: &H) -> bool
     made && asked && hold.held.is_at(1)
 }
 
-// A closure that is called outside the lock lets another thread's call be answered while it runs.
+// Checks that a read waits for a closure that makes a value. If the map called the closure without
+// the lock, the read would return while the closure runs.
 #[test]
 fn a_closure_that_makes_a_value_runs_under_the_lock(rt: HostRuntime) -> Result<(), Fail> {
     for call in 0..4u64 {
@@ -127,16 +131,16 @@ fn a_closure_that_makes_a_value_runs_under_the_lock(rt: HostRuntime) -> Result<(
 
 // ---- closures that read
 
-// A shared map with 6 at 1.
+// A shared map that has 6 at 1.
 trait Read {
-    // What `f` returns for the value at 1.
+    // Returns what `f` returns for the value at 1.
     fn read<R: Wait, F: FnOnce(&u64) -> u64 + Drop>(&self, rt: &R, f: F) -> Option<u64>
         requires { F.IsAlwaysCallable f };
 
-    // Puts 9 at 2.
+    // Inserts 9 at 2.
     fn put<R: Wait>(&self, rt: &R) -> bool;
 
-    // What is at 2.
+    // Returns the value at 2.
     fn find<R: Wait>(&self, rt: &R) -> Option<u64>;
 }
 
@@ -168,7 +172,8 @@ impl Read for Ordered {
     }
 }
 
-// Waits, in a closure that reads 6, until the other thread's insertion was answered, and finds what it put: 9, or 0 where it didn't come.
+// Runs in a closure that reads 6: waits until the other thread's insertion returns, and returns the
+// value that it inserted, 9. Returns 0 if the insertion doesn't return.
 fn finds_the_other<R: Wait, M: Read>(rt: &R, map: &M, hold: &Hold) -> u64 {
     hold.runs.raise(1);
     if !hold.answered.comes_to(1) {
@@ -177,14 +182,14 @@ fn finds_the_other<R: Wait, M: Read>(rt: &R, map: &M, hold: &Hold) -> u64 {
     map.find(rt).unwrap_or(0)
 }
 
-// Puts while the closure runs.
+// Inserts while the closure runs.
 fn puts_beside<R: Wait, M: Read>(rt: &R, map: &M, hold: &Hold) -> bool {
     let good = hold.runs.comes_to(1) && map.put(rt);
     hold.answered.raise(1);
     good
 }
 
-// Whether a closure that reads may call the same map, beside an insertion of another thread.
+// Returns whether a closure that reads may call the same map while another thread inserts.
 fn is_free<R: Threads + Wait + Sync, M: Read + Sync>(rt: &R, map: &M) -> bool {
     let own = Hold::new();
     let hold = &own;
@@ -196,7 +201,9 @@ fn is_free<R: Threads + Wait + Sync, M: Read + Sync>(rt: &R, map: &M) -> bool {
     found == Some(9) && put
 }
 
-// A read in a read's closure that waits behind a writer, which waits for the closure, never returns.
+// Checks that a closure that reads a value can read the same map while another thread inserts. If
+// the closure ran under the lock, its read could wait for the writer, which waits for the closure:
+// a deadlock.
 #[test]
 fn a_closure_that_reads_a_value_may_call_the_same_map(rt: HostRuntime) -> Result<(), Fail> {
     let hashed: Hashed = FrozenMap::new(rt.alloc());

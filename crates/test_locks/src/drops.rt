@@ -1,4 +1,4 @@
-//! Values that an insertion has no use for: they are dropped after the lock was released.
+//! Values that an insertion doesn't store: the map drops them after it has released the lock.
 use crate::marks::Mark;
 use elsa_locks::map::{FrozenBTreeMap, FrozenMap};
 use std::alloc::Global;
@@ -7,7 +7,7 @@ use std::test::Fail;
 use std::thread;
 use std::thread::Threads;
 
-// What a drop and another thread tell each other.
+// The marks by which a drop and another thread wait for each other.
 #[derive(Drop)]
 struct Visit {
     drops: Mark,
@@ -15,7 +15,7 @@ struct Visit {
     saw: Mark,
 }
 
-// A value whose first drop waits for another thread's call on the map that it was passed to.
+// A value whose first drop waits until another thread's call on the same map returns.
 struct Watched<'v> {
     visit: &'v Visit,
 }
@@ -30,9 +30,9 @@ impl Drop for Watched<'_> {
     }
 }
 
-// A shared map of such values.
+// A shared map of watched values.
 trait Shelf {
-    // Gives the key 1 a value, unless it has one.
+    // Inserts a value at the key 1. If the key has a value, that one stays.
     fn put<R: Wait>(&self, rt: &R) -> bool;
 
     fn count<R: Wait>(&self, rt: &R) -> usize;
@@ -72,14 +72,15 @@ impl<'v> Shelf for Ordered<'v> {
     }
 }
 
-// Asks for the length while the value is dropped.
+// Reads the length while the value is dropped.
 fn asks_beside<R: Wait, S: Shelf>(rt: &R, shelf: &S, visit: &Visit) -> bool {
     let good = visit.drops.comes_to(1) && shelf.count(rt) == 1;
     visit.answered.raise(1);
     good
 }
 
-// Whether another thread's call is answered while a value is dropped that was passed in for a present key.
+// Returns whether another thread's call returns while a value is dropped that was inserted at a
+// present key.
 fn is_free<R: Threads + Wait + Sync, S: Shelf + Sync>(rt: &R, shelf: &S, visit: &Visit) -> bool {
     if !shelf.put(rt) {
         return false;
@@ -108,7 +109,8 @@ fn ordered_is_free<R: Threads + Wait + Sync>(rt: &R, alloc: Global) -> bool {
     is_free(rt, &Ordered { map, visit }, visit)
 }
 
-// A value that is dropped under the lock lets no other thread in while it drops.
+// Checks that a value inserted at a present key is dropped without the lock. If it were dropped
+// under the lock, the other thread's call would wait for the drop.
 #[test]
 fn a_value_for_a_present_key_is_dropped_after_the_lock_was_released(
     rt: HostRuntime,

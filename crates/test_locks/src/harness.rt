@@ -1,22 +1,26 @@
-//! Scripts on what lies behind a lock, in which each request for memory is refused in turn; `test_script` does the same without a lock,
-//! and says what is looked at.
+//! Scripts of calls on collections under a lock, run with each request for memory denied in turn.
+//! `test_script` does the same for collections without a lock, and explains what is checked.
 use std::alloc::{AllocError, Global};
 use std::sync::Wait;
 use test_alloc::Budget;
 
 /// A shared collection with the calls of its script, which are numbered from 0.
 pub trait Script {
-    /// Makes the call of this number, and says whether it answered what it must. `Err` where memory was refused.
+    /// Makes the call with this number, and returns whether its result is the expected one.
+    ///
+    /// # Errors
+    /// Fails if an allocation of the call fails.
     fn call<R: Wait>(&mut self, rt: &R, number: usize) -> Result<bool, AllocError>;
 
-    /// Whether the collection holds exactly what the calls before this number leave.
+    /// Returns whether the collection has exactly the content that the calls before this number
+    /// leave.
     fn holds<R: Wait>(&self, rt: &R, number: usize) -> bool;
 }
 
-/// Makes the first `count` calls, each refused one a second time with nothing refused.
+/// Makes the first `count` calls. A call that fails is repeated while no request is denied.
 ///
-/// Answers how many calls were refused, or `None` where a call or what it left wasn't as it must be, or where a call answered an allocation
-/// failure though `heap` had refused nothing.
+/// Returns the number of calls that failed, or `None` if a result or the content was not the
+/// expected one, or if a call reported an allocation failure though `heap` had denied no request.
 pub fn goes_through<R: Wait, S: Script>(
     rt: &R,
     script: &mut S,
@@ -46,14 +50,19 @@ pub fn goes_through<R: Wait, S: Script>(
     Some(failures)
 }
 
-/// What goes through one script.
+/// A script together with the way to run it.
 pub trait Family {
-    /// Goes through the whole script over `heap`. Everything is dropped before the answer, which is that of [`goes_through`].
+    /// Runs the whole script with memory of `heap`. Everything is dropped before it returns the
+    /// result of [`goes_through`].
     fn goes_over<R: Wait>(&self, rt: &R, alloc: Global, heap: &Budget<Global>) -> Option<u64>;
 }
 
-/// The requests of the script, if it goes with nothing refused, with each refused alone and with all from each on refused; else the number of
-/// the request at which it didn't, which is the greatest of all where none was refused.
+/// Runs the script with no request denied, with each request denied alone, and with all requests
+/// from each on denied. Returns the number of requests.
+///
+/// # Errors
+/// Returns the number of the first denied request at which the script failed, or `u64::MAX` if it
+/// failed with no request denied.
 pub fn refuse_each_in_turn<R: Wait, F: Family>(
     rt: &R,
     alloc: Global,
@@ -73,7 +82,8 @@ pub fn refuse_each_in_turn<R: Wait, F: Family>(
     Ok(open.asked())
 }
 
-// Whether one call is refused where the request of this number is, or none is but another request was made in that one's place.
+// Returns whether exactly one call fails if the request with this number is denied, or none fails
+// and another request was made instead.
 fn stands_one<R: Wait, F: Family>(
     rt: &R,
     alloc: Global,
@@ -88,7 +98,8 @@ fn stands_one<R: Wait, F: Family>(
     is_told && budget.refused() == 1 && budget.given() == budget.granted()
 }
 
-// Whether one call is refused where each request from this number on is, up to the first call that is refused.
+// Returns whether exactly one call fails if each request from this number on is denied until the
+// first call fails.
 fn stands_all<R: Wait, F: Family>(rt: &R, alloc: Global, family: &F, number: u64) -> bool {
     let budget = Budget::new(alloc);
     budget.refuse(number, u64::MAX);

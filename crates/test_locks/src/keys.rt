@@ -1,4 +1,5 @@
-//! Keys that see when they are hashed: how often a call hashes, and that reads are under the lock at once.
+//! Keys that record when they are hashed. They show how often a call hashes, and that several reads
+//! have the lock at once.
 ghost use Rattle.std.specs.Prelude.{[], nat_eq, refl};
 ghost use Rattle.std.specs.Cmp.{nat_eq_equiv, on_equiv, partial_equiv_from_equiv};
 
@@ -10,7 +11,8 @@ use std::test::Fail;
 use std::thread;
 use std::thread::Threads;
 
-// A number that counts its hashes in a mark, and in each waits for another thread's. All have one hash.
+// A number that counts its hashes in a mark, and waits in each hash for another thread's mark. All
+// these keys have one hash.
 #[derive(Clone, Copy)]
 struct Key<'k> {
     number: u64,
@@ -50,11 +52,12 @@ type Map<'k> = FrozenMap<Key<'k>, u64>;
 
 const KEYS: u64 = 64;
 
-// Makes the insertion of that number, and says whether it answered the value.
+// Makes the insertion with the number `call`, and returns whether its result is the value.
 fn inserts<'k>(rt: &impl Wait, map: &Map<'k>, call: u64, key: Key<'k>, value: u64) -> bool {
     match call {
         0 => matches!(map.insert(rt, key, value), Ok(kept) if *kept == value),
-        1 => matches!(map.insert_new(rt, key, value), Ok((kept, true)) if *kept == value),
+        1 =>
+            matches!(map.insert_new(rt, key, value), Ok(done) if done.is_new && *done.value == value),
         2 => matches!(map.insert_with(rt, key, || value), Ok(kept) if *kept == value),
         3 => matches!(map.insert_with_key(rt, key, |_| value), Ok(kept) if *kept == value),
         4 => matches!(map.get_copy_or_insert(rt, key, value), Ok(kept) if kept == value),
@@ -65,7 +68,7 @@ fn inserts<'k>(rt: &impl Wait, map: &Map<'k>, call: u64, key: Key<'k>, value: u6
     }
 }
 
-// Whether so many new keys, by each insertion in turn, are hashed so often.
+// Returns whether `KEYS` new keys, inserted by each insertion in turn, are hashed `KEYS` times.
 fn are_hashed_once<'k>(rt: &impl Wait, map: &Map<'k>, first: Key<'k>) -> bool {
     for number in 0..KEYS {
         let key = Key {
@@ -81,7 +84,8 @@ fn are_hashed_once<'k>(rt: &impl Wait, map: &Map<'k>, first: Key<'k>) -> bool {
     first.mine.is_at(KEYS) && !first.mine.is_at(KEYS + 1)
 }
 
-// An insertion that looks up and then stores hashes twice.
+// Checks that an insertion of a new key hashes it once. An insertion that looks up and then stores
+// would hash it twice.
 #[test]
 fn a_new_key_is_hashed_once(rt: HostRuntime) -> Result<(), Fail> {
     let (mine, other, saw) = (Mark::new(), Mark::new(), Mark::new());
@@ -97,7 +101,7 @@ fn a_new_key_is_hashed_once(rt: HostRuntime) -> Result<(), Fail> {
     Ok(())
 }
 
-// Makes the read of that number of an absent key.
+// Makes the read with the number `call` of an absent key.
 fn reads<'k>(rt: &impl Wait, map: &Map<'k>, call: u64, key: Key<'k>) -> bool {
     match call {
         0 => matches!(map.get(rt, &key), Ok(None)),
@@ -106,7 +110,7 @@ fn reads<'k>(rt: &impl Wait, map: &Map<'k>, call: u64, key: Key<'k>) -> bool {
     }
 }
 
-// Whether two reads are under the lock at once, each of which waits for the other.
+// Returns whether two reads that wait for each other have the lock at once.
 fn meet<'k, R: Threads + Wait + Sync>(
     rt: &R,
     map: &Map<'k>,
@@ -122,7 +126,8 @@ fn meet<'k, R: Threads + Wait + Sync>(
     a && b && one.saw.is_at(1) && two.saw.is_at(1)
 }
 
-// A read that takes the lock alone lets no other reader in, and its key waits in vain.
+// Checks that two reads have the lock at once. If a read took the lock for writing, its key would
+// wait until the time limit.
 #[test]
 fn reads_share_the_lock(rt: HostRuntime) -> Result<(), Fail> {
     for call in 0..3u64 {
@@ -149,7 +154,7 @@ fn reads_share_the_lock(rt: HostRuntime) -> Result<(), Fail> {
             other: &marks.0,
             saw: &marks.3,
         };
-        // A table without keys needs no hash.
+        // An empty table does not hash the key, so the map gets an entry first.
         let map: Map<'_> = FrozenMap::new(rt.alloc());
         assert!(rt; map.insert(&rt, present, 7).is_ok() && meet(&rt, &map, call, one, two));
     }

@@ -1,4 +1,4 @@
-//! Locked collections and recordings of thousands: no call is refused for its size.
+//! Locked collections and recordings with thousands of entries: no call fails because of the size.
 use elsa_history::{RecordPass, Recorder, VecCommand};
 use elsa_locks::map::{FrozenBTreeMap, FrozenMap};
 use elsa_locks::vec::{FrozenVec, VecState};
@@ -8,7 +8,7 @@ use std::test::Fail;
 
 const MANY: u64 = 5000;
 
-// Whether a list takes that many items, and its clone has them.
+// Returns whether a list stores `MANY` items and its clone has them.
 fn list_takes(rt: &impl Wait, alloc: Global) -> Result<bool, AllocError> {
     let list: FrozenVec<u64> = FrozenVec::new(alloc);
     for item in 0..MANY {
@@ -18,7 +18,7 @@ fn list_takes(rt: &impl Wait, alloc: Global) -> Result<bool, AllocError> {
     Ok(copy.len(rt) == MANY as usize && list.equals(rt, &copy)?)
 }
 
-// The same of a hashed map, and its keys.
+// Returns whether a hashed map stores `MANY` entries and its clone and its keys have them.
 fn hashed_takes(rt: &impl Wait, alloc: Global) -> Result<bool, AllocError> {
     let map: FrozenMap<u64, u64> = FrozenMap::new(alloc);
     for key in 0..MANY {
@@ -29,7 +29,7 @@ fn hashed_takes(rt: &impl Wait, alloc: Global) -> Result<bool, AllocError> {
     Ok(keys.len() == MANY as usize && map.equals(rt, &copy)?)
 }
 
-// The same of an ordered map.
+// Returns whether an ordered map stores `MANY` entries and its clone and its keys have them.
 fn ordered_takes(rt: &impl Wait, alloc: Global) -> Result<bool, AllocError> {
     let map: FrozenBTreeMap<u64, u64> = FrozenBTreeMap::new(alloc);
     for key in 0..MANY {
@@ -50,7 +50,7 @@ fn locked_forms_take_thousands(rt: HostRuntime) -> Result<(), Fail> {
 
 type List = VecState<u64>;
 
-// Makes that many calls of a recorder.
+// Makes `MANY` calls of a recorder.
 fn calls(
     rt: &impl Wait,
     recorder: &Recorder<List>,
@@ -62,7 +62,7 @@ fn calls(
     Ok(())
 }
 
-// Whether a recording of that many calls by one pass closes.
+// Returns whether a recording of `MANY` calls by one pass closes.
 fn recording_closes(rt: &impl Wait, alloc: Global) -> Result<bool, AllocError> {
     let recorder: Recorder<List> = Recorder::new(alloc, VecState::new(alloc));
     let mut pass = recorder.pass(1);

@@ -1,4 +1,5 @@
-//! Tests of the locked collections and the recorder, as a stranger uses them, and with memory refused.
+//! Tests of the locked collections and the recorder, used as by any other crate, also with
+//! allocation failures.
 #![tactic(auto)]
 
 #[cfg(test)]

@@ -1,4 +1,4 @@
-//! Worked rows of the locked vector.
+//! Examples of the locked vector, with their expected results.
 use elsa_locks::vec::{FrozenVec, Iter};
 use std::alloc::AllocError;
 use std::sync::{Arc, Wait};
@@ -6,7 +6,7 @@ use std::test::Fail;
 
 type List = FrozenVec<&'static str>;
 
-// Whether the item that was answered is this one.
+// Returns whether `item` is an owner of `want`.
 fn is(item: Option<Arc<&'static str>>, want: &str) -> bool {
     match item {
         Some(item) => *item == want,
@@ -18,7 +18,7 @@ fn stands(rt: &impl Wait, list: &List, item: &str, place: usize) -> Result<bool,
     Ok(is(list.get(rt, place)?, item))
 }
 
-// Whether the push is answered this place.
+// Returns whether the push returns this index.
 fn goes_to(
     rt: &impl Wait,
     list: &List,
@@ -46,7 +46,7 @@ fn places_count_from_0(rt: HostRuntime) -> Result<(), Fail> {
     Ok(())
 }
 
-// Whether the walk answers this item next.
+// Returns whether the walk returns this item next.
 fn answers(
     rt: &impl Wait,
     walk: &mut Iter<'_, &'static str>,
@@ -72,7 +72,7 @@ fn are_equal(rt: &impl Wait, list: &Numbers, other: &Numbers) -> Result<bool, Al
     Ok(list.equals(rt, list)? && list.equals(rt, other)?)
 }
 
-// Whether the other list is no longer equal once it gets one more item, which the list hasn't.
+// Returns whether the lists differ after a push into `other`.
 fn parts(rt: &impl Wait, list: &Numbers, other: &Numbers) -> Result<bool, AllocError> {
     other.push(rt, 8)?;
     Ok(!list.equals(rt, other)? && other.len(rt) == 2)
@@ -94,7 +94,7 @@ fn pushes_into_a_clone_leave_its_source(rt: HostRuntime) -> Result<(), Fail> {
     Ok(())
 }
 
-// Whether there are two owners, of whose list "b" is the second item.
+// Returns whether there are two owners, and the second item of their list is "b".
 fn are_two(rt: &impl Wait, items: Vec<Arc<&'static str>>) -> Result<bool, AllocError> {
     let count = items.len();
     Ok(count == 2 && stands(rt, &FrozenVec::from_vec(items), "b", 1)?)

@@ -1,4 +1,5 @@
-//! Worked rows of the locked maps, a state without a lock, and nine threads at one map.
+//! Examples of the locked maps, with their expected results; a state without a lock; and nine
+//! threads with one map.
 use crate::marks::Mark;
 use elsa_locks::map::{FrozenBTreeMap, FrozenMap, MapState};
 use std::alloc::{AllocError, Global};
@@ -10,7 +11,8 @@ use std::thread;
 
 type Numbers = FrozenMap<u64, u64>;
 
-// The value of an insertion at 1 whose closure makes a 12, and how often that was called.
+// Returns the value of an insertion at 1 whose closure makes a 12, and the number of calls of that
+// closure.
 fn made_at_one(rt: &impl Wait, map: &Numbers) -> Result<(u64, u64), AllocError> {
     let calls = Cell::new(0u64);
     let value = map.insert_with(rt, 1, || {
@@ -20,7 +22,7 @@ fn made_at_one(rt: &impl Wait, map: &Numbers) -> Result<(u64, u64), AllocError> 
     Ok((*value, calls.get()))
 }
 
-// Whether 6 is what stays at 1, whatever is given there later.
+// Returns whether 6 stays at 1 when other values are inserted there later.
 fn keeps_six(rt: &impl Wait, map: &Numbers) -> Result<bool, AllocError> {
     let copies = (
         map.get_copy_or_insert(rt, 1, 6)?,
@@ -45,7 +47,7 @@ fn has_keys(rt: &impl Wait, map: &Texts, want: &[u64]) -> Result<bool, AllocErro
     Ok(keys.as_slice() == want)
 }
 
-// Whether the other map is no longer equal once it gets one more key, which the map hasn't.
+// Returns whether the maps differ after the insertion of another key into `other`.
 fn parts(rt: &impl Wait, map: &Texts, other: &Texts) -> Result<bool, AllocError> {
     other.insert(rt, 3, "c")?;
     Ok(!map.equals(rt, other)?)
@@ -72,11 +74,10 @@ fn a_map_is_equal_to_itself(rt: HostRuntime) -> Result<(), Fail> {
 }
 
 fn is_new(rt: &impl Wait, map: &Texts, text: &'static str) -> Result<bool, AllocError> {
-    let (_, new) = map.insert_new(rt, 1, text)?;
-    Ok(new)
+    Ok(map.insert_new(rt, 1, text)?.is_new)
 }
 
-// Whether the pair at the place is this one.
+// Returns whether the pair at this index is `key` with `text`.
 fn is_pair(pairs: &[(u64, Arc<&str>)], place: usize, key: u64, text: &str) -> bool {
     match pairs.get(place) {
         Some(pair) => pair.0 == key && *pair.1 == text,
@@ -84,7 +85,7 @@ fn is_pair(pairs: &[(u64, Arc<&str>)], place: usize, key: u64, text: &str) -> bo
     }
 }
 
-// Whether 2 with "b" is the one pair.
+// Returns whether the only pair is 2 with "b".
 fn are_of_two(pairs: &[(u64, Arc<&str>)]) -> bool {
     pairs.len() == 1 && is_pair(pairs, 0, 2, "b")
 }
@@ -109,7 +110,7 @@ fn has_at(rt: &impl Wait, map: &Ordered, key: u64, text: &str) -> Result<bool, A
     }
 }
 
-// Whether these are 1 with "b" and then 2 with "x".
+// Returns whether the pairs are 1 with "b" and then 2 with "x".
 fn are_of_both(pairs: &[(u64, Arc<&str>)]) -> bool {
     pairs.len() == 2 && is_pair(pairs, 0, 1, "b") && is_pair(pairs, 1, 2, "x")
 }
@@ -138,7 +139,7 @@ type Owners = FrozenMap<usize, String>;
 
 const TEXTS: [&str; 9] = ["1", "2", "3", "4", "5", "6", "7", "8", "9"];
 
-// The text at a place of the table, as an owned one.
+// Returns the text at this index of `TEXTS` as a `String`.
 fn owned(alloc: Global, place: usize) -> Result<String, AllocError> {
     match TEXTS.get(place) {
         Some(text) => String::from_str(alloc, text),
@@ -146,7 +147,7 @@ fn owned(alloc: Global, place: usize) -> Result<String, AllocError> {
     }
 }
 
-// Inserts the number behind the place with its text.
+// Inserts the key `place + 1` with its text.
 fn insert_text(rt: &impl Wait, alloc: Global, map: &Owners, place: usize) -> bool {
     match owned(alloc, place) {
         Ok(text) => map.insert(rt, place.saturating_add(1), text).is_ok(),
@@ -154,7 +155,7 @@ fn insert_text(rt: &impl Wait, alloc: Global, map: &Owners, place: usize) -> boo
     }
 }
 
-// Whether the number behind the place has its text.
+// Returns whether the key `place + 1` has its text.
 fn has_text(rt: &impl Wait, map: &Owners, place: usize) -> Result<bool, AllocError> {
     match map.get(rt, &place.saturating_add(1))? {
         Some(text) => Ok(TEXTS.get(place) == Some(&text.as_str())),
@@ -162,7 +163,8 @@ fn has_text(rt: &impl Wait, map: &Owners, place: usize) -> Result<bool, AllocErr
     }
 }
 
-// Inserts the number behind the place with its text, waits until all nine are in, and says whether the next thread's is found.
+// Inserts the key `place + 1` with its text, waits until all nine threads have inserted, and
+// returns whether the key of the next thread is found.
 fn insert_beside_the_others(
     rt: &impl Wait,
     alloc: Global,
@@ -209,15 +211,18 @@ fn nine_threads_find_what_the_others_inserted(rt: HostRuntime) -> Result<(), Fai
 type State = MapState<&'static str, u64>;
 
 fn with_its_length(map: &mut State, key: &'static str) -> Result<u64, AllocError> {
-    Ok(*map.insert_with_key(key, |key| key.len() as u64)?)
+    Ok(*map.insert_with_key(key, |key| key.len() as u64)?.value)
 }
 
 fn copy_with_its_length(map: &mut State, key: &'static str) -> Result<u64, AllocError> {
-    map.get_copy_or_insert_with_key(key, |key| key.len() as u64)
+    Ok(
+        map.get_copy_or_insert_with_key(key, |key| key.len() as u64)?
+            .value,
+    )
 }
 
 fn copy_or_nine(map: &mut State, key: &'static str) -> Result<u64, AllocError> {
-    map.get_copy_or_insert_with(key, || 9)
+    Ok(map.get_copy_or_insert_with_key(key, |_| 9)?.value)
 }
 
 #[test]

@@ -1,51 +1,53 @@
-//! Hand-shakes of a test's threads. Each wait is bounded: where the threads don't overlap, the test fails and doesn't hang.
+//! Marks by which the threads of a test wait for each other. Each wait is bounded: if the threads
+//! don't overlap, the test fails instead of hanging.
 use std::sync::atomic::{AtomicU64, Ordering};
 use std::thread;
 
-/// How often a thread that waits for another looks.
+/// The number of looks of a thread that waits for another.
 const TURNS: u64 = 4_000_000;
 
-/// How often it does where each look is a locked call.
+/// The number of looks if each look is a locked call.
 pub const CALLS: u64 = 1_000_000;
 
-/// How often it looks where what it looks for must not come.
+/// The number of looks for a change that must not happen.
 const FEW_TURNS: u64 = 20_000;
 
-/// A number that threads raise and others wait for.
+/// A number that threads raise and that others wait for.
 #[derive(Drop)]
 pub struct Mark {
     reached: AtomicU64,
 }
 
 impl Mark {
-    /// A mark at 0.
+    /// Makes a mark at 0.
     pub fn new() -> Mark {
         Mark {
             reached: AtomicU64::new(0),
         }
     }
 
-    /// Raises the mark.
+    /// Sets the mark to `to`.
     pub fn raise(&self, to: u64) {
         self.reached.store(to, Ordering::SeqCst);
     }
 
-    /// Raises the mark by one.
+    /// Increases the mark by 1.
     pub fn raise_by_one(&self) {
         let _ = self.reached.fetch_add(1, Ordering::SeqCst);
     }
 
-    /// Whether the mark is that high now.
+    /// Returns whether the mark is at least `least` now.
     pub fn is_at(&self, least: u64) -> bool {
         self.reached.load(Ordering::SeqCst) >= least
     }
 
-    /// Waits until the mark is that high. `false`: it didn't come.
+    /// Waits until the mark is at least `least`. Returns `false` if that doesn't happen within the
+    /// bound.
     pub fn comes_to(&self, least: u64) -> bool {
         self.comes_within(least, TURNS)
     }
 
-    /// Waits a little, and says whether the mark came to be that high.
+    /// Waits a short time, and returns whether the mark became at least `least`.
     pub fn comes_soon(&self, least: u64) -> bool {
         self.comes_within(least, FEW_TURNS)
     }
@@ -55,7 +57,8 @@ impl Mark {
             if self.is_at(least) {
                 return true;
             }
-            // At first without giving up the processor, so that two threads that wait for each other go on together.
+            // The first looks don't yield the processor, so that two threads that wait for each
+            // other continue at the same time.
             if turn > 100 {
                 thread::yield_now();
             }

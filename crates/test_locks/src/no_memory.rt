@@ -1,5 +1,6 @@
-//! Calls that take no memory: an insertion of a copy where the key is there, and every call whose answer is no `Result`, on a state and behind
-//! its lock. The memory is refused, and the state has each size up to sixteen, so that its table is full at some.
+//! Calls that allocate nothing: an insertion that returns a copy of a present key's value, and each
+//! call that doesn't return a `Result`, on a state and on a locked map. All requests are denied,
+//! and the state has each size up to sixteen, so its table is full at some of them.
 use elsa_locks::map::{FrozenMap, MapState};
 use std::alloc::{AllocError, Global};
 use std::hash::{BuildHasherDefault, FoldHasher};
@@ -13,14 +14,14 @@ type State<'b> = MapState<usize, usize, BuildHasherDefault<FoldHasher>, Heap<'b>
 
 type Map<'b> = FrozenMap<usize, usize, BuildHasherDefault<FoldHasher>, Heap<'b>>;
 
-// The number of calls on each.
+// The number of calls on a state, and on a map.
 const CALLS: usize = 7;
 
-// The numbers below the size, each its own value.
+// Makes a state of the numbers below `size`, each with itself as its value.
 fn filled(heap: Heap<'_>, size: usize) -> Result<State<'_>, AllocError> {
     let mut state = MapState::new(heap);
     for number in 0..size {
-        let _ = *state.insert(number, number)?;
+        let _ = *state.insert(number, number)?.value;
     }
     Ok(state)
 }
@@ -33,12 +34,12 @@ fn filled_map<'b>(rt: &impl Wait, heap: Heap<'b>, size: usize) -> Result<Map<'b>
     Ok(map)
 }
 
-// Whether the call of this number answers what it must where `last` is the last number.
+// Returns whether the call with this number has the expected result. `last` is the last key.
 fn state_answers(state: &mut State<'_>, number: usize, last: usize) -> bool {
     match number {
-        0 => state.get_copy_or_insert(last, 99) == Ok(last),
-        1 => state.get_copy_or_insert_with(last, || 99) == Ok(last),
-        2 => state.get_copy_or_insert_with_key(last, |_| 99) == Ok(last),
+        0 => matches!(state.get_copy_or_insert(last, 99), Ok(done) if done.value == last),
+        1 | 2 =>
+            matches!(state.get_copy_or_insert_with_key(last, |_| 99), Ok(done) if done.value == last),
         3 => state.get_copy(&last) == Some(last) && state.get_copy(&99).is_none(),
         4 => state.map_get(&last, |value| *value) == Some(last),
         5 => state.len() == last.wrapping_add(1) && !state.is_empty(),
@@ -58,7 +59,8 @@ fn map_answers(rt: &impl Wait, map: &Map<'_>, number: usize, last: usize) -> boo
     }
 }
 
-// The first call on a state of this size that answers wrongly or asks for memory.
+// Returns the number of the first call on a state of this size that has a wrong result or requests
+// memory.
 fn state_asks(heap: Heap<'_>, size: usize) -> Option<usize> {
     heap.refuse_next(0);
     let Ok(mut state) = filled(heap, size) else {

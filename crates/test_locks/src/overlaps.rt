@@ -1,5 +1,5 @@
-//! Locked calls that overlap: a reader finds what another thread puts beside it, pushers alternate and are told the places of their own items, and
-//! a comparison holds one lock at a time.
+//! Locked calls that overlap. A reader finds what another thread inserts meanwhile, two threads
+//! that push in turn get the indices of their own items, and a comparison has one lock at a time.
 ghost use Rattle.std.specs.Prelude.{nat_eq};
 ghost use Rattle.std.specs.Cmp.{nat_eq_equiv, on_equiv, partial_equiv_from_equiv};
 
@@ -20,12 +20,12 @@ type List = FrozenVec<u64>;
 
 // ---- absent, and then present
 
-// A shared collection that is empty, and then holds 6.
+// A shared collection that is empty at first and gets a 6.
 trait Shelf {
-    // Puts the 6.
+    // Inserts the 6.
     fn put<R: Wait>(&self, rt: &R) -> bool;
 
-    // The 6, if it is there.
+    // Returns the 6, or `None` if it isn't stored.
     fn find<R: Wait>(&self, rt: &R) -> Option<u64>;
 }
 
@@ -62,7 +62,8 @@ impl Shelf for List {
     }
 }
 
-// Whether the shelf is found empty and, after the other thread was asked, with its 6.
+// Returns whether the collection is empty at first, and has the 6 some time after `asked` was
+// raised.
 fn sees_it_come<R: Wait, S: Shelf>(rt: &R, shelf: &S, asked: &Mark) -> bool {
     if shelf.find(rt).is_some() {
         return false;
@@ -113,7 +114,8 @@ fn has(rt: &impl Wait, list: &List, place: usize, item: u64) -> bool {
     }
 }
 
-// Whether a push of this round is told one of the round's two places, at which its own item is.
+// Returns whether a push of this round returns one of the round's two indices, and its own item is
+// at that index.
 fn is_told_its_place(rt: &impl Wait, list: &List, round: u64, item: u64) -> bool {
     match list.push_get_index(rt, item) {
         Ok(place) => (place / 2) as u64 == round && has(rt, list, place, item),
@@ -121,7 +123,7 @@ fn is_told_its_place(rt: &impl Wait, list: &List, round: u64, item: u64) -> bool
     }
 }
 
-// Pushes once a round, each when the other has pushed in the round before.
+// Pushes once in each round, after the other thread has pushed in the round before.
 fn pushes_in_step<R: Wait>(rt: &R, list: &List, mine: &Mark, other: &Mark, number: u64) -> bool {
     for round in 0..ROUNDS {
         let item = round.wrapping_mul(2).wrapping_add(number);
@@ -133,7 +135,8 @@ fn pushes_in_step<R: Wait>(rt: &R, list: &List, mine: &Mark, other: &Mark, numbe
     true
 }
 
-// A place that is read under one lock, for an item that goes in under another, is the other's in some round.
+// Checks that each push returns the index of its own item. If the index were read under another
+// lock than the push, it would be the other thread's in some round.
 #[test]
 fn pushers_in_step_are_told_the_places_of_their_own_items(rt: HostRuntime) -> Result<(), Fail> {
     let list: List = FrozenVec::new(rt.alloc());
@@ -149,9 +152,9 @@ fn pushers_in_step_are_told_the_places_of_their_own_items(rt: HostRuntime) -> Re
     Ok(())
 }
 
-// ---- a comparison beside a call on its first collection
+// ---- a comparison, and a call on its first collection meanwhile
 
-// What a comparison and another thread tell each other.
+// The marks by which a comparison and another thread wait for each other.
 #[derive(Drop)]
 struct Visit {
     compares: Mark,
@@ -168,7 +171,7 @@ impl Visit {
         }
     }
 
-    // Waits, in a comparison, until the other thread has changed the first collection.
+    // Runs in a comparison: waits until the other thread has changed the first collection.
     fn receive(&self) {
         self.compares.raise(1);
         if self.changed.comes_to(1) {
@@ -197,7 +200,7 @@ impl PartialEq for Watched<'_> {
 
 // A shared collection of watched numbers.
 trait Compared {
-    // Puts the number at the end, or at itself.
+    // Pushes the number, or inserts it at itself as the key.
     fn put<R: Wait>(&self, rt: &R, number: u64) -> bool;
 
     fn is_equal<R: Wait>(&self, rt: &R, other: &Self) -> bool;
@@ -258,14 +261,15 @@ impl<'v> Compared for WatchedTree<'v> {
     }
 }
 
-// Puts one more number into the collection while the comparison goes on.
+// Adds a number to the collection during the comparison.
 fn changes_it<R: Wait, C: Compared>(rt: &R, first: &C, visit: &Visit) -> bool {
     let good = visit.compares.comes_to(1) && first.put(rt, 8);
     visit.changed.raise(1);
     good
 }
 
-// Whether both are equal as they were, and a call on the first was answered while they were compared.
+// Returns whether the collections are equal as they were before, and a call on the first returned
+// while they were compared.
 fn is_free_while_compared<R: Threads + Wait + Sync, C: Compared + Sync>(
     rt: &R,
     first: &C,
@@ -319,7 +323,8 @@ fn tree_is_free<R: Threads + Wait + Sync>(rt: &R, alloc: Global) -> bool {
     )
 }
 
-// A comparison that holds its own lock while it has the other's lets no call on its own collection in.
+// Checks that a comparison has no lock of its own collection while it has the other's. If it had
+// both, a call on its own collection would wait for the comparison.
 #[test]
 fn a_comparison_holds_no_lock_of_its_own_beside_the_other(rt: HostRuntime) -> Result<(), Fail> {
     assert!(rt; list_is_free(&rt, rt.alloc()));

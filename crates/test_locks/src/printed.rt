@@ -1,4 +1,5 @@
-//! What `{:?}` prints of the locked forms: their content, and `<locked>` while an insertion has the lock.
+//! The output of `{:?}` of the locked collections: their content, and `<locked>` while an insertion
+//! has the lock.
 use elsa_locks::map::{FrozenBTreeMap, FrozenMap, MapState};
 use elsa_locks::vec::{FrozenVec, VecState};
 use std::alloc::{AllocError, Global};
@@ -33,7 +34,7 @@ fn printed_states(alloc: Global) -> Result<String, AllocError> {
     format!(in alloc; "{map:?} {list:?}")
 }
 
-/// What an insertion's closure prints of the map that it inserts into.
+/// Returns what the closure of an insertion prints of the map itself.
 fn printed_within(rt: &impl Wait, alloc: Global) -> Result<String, AllocError> {
     let map: FrozenBTreeMap<u64, String> = FrozenBTreeMap::new(alloc);
     let owner = map.insert_with(rt, 1, || match format!(in alloc; "{map:?}") {

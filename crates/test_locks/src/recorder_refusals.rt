@@ -1,5 +1,6 @@
-//! The recorder over cores on a budget: with each request for memory refused in turn, inside the core or around it, a refused call adds neither
-//! an entry nor a receipt, and the receipts are the history.
+//! The recorder over sequential objects on a budget, with each request for memory denied in turn,
+//! inside the object or in the recorder. A call that fails adds neither an entry nor a receipt, and
+//! the receipts are the history.
 use crate::harness::{Family, Script, goes_through, refuse_each_in_turn};
 use elsa_history::{Core, MapCommand, MapReply, RecordPass, Recorder, VecCommand, VecReply};
 use elsa_locks::map::{MapState, TreeState};
@@ -14,13 +15,13 @@ type Heap<'b> = &'b Budget<Global>;
 
 const CALLS: usize = 32;
 
-// The 32 calls of one pass: what each asks, and what it must be answered.
+// The 32 calls of one pass: the command and the expected reply of each.
 trait Recorded: Core + Drop {
     fn command(number: usize) -> Self::Command;
 
     fn reply(number: usize) -> Self::Reply;
 
-    // Whether the core holds what all calls leave.
+    // Returns whether the object has the content that all calls leave.
     fn is_full(&self) -> bool;
 }
 
@@ -41,7 +42,8 @@ impl<C: Recorded> Script for Recording<'_, C> {
     }
 }
 
-// Whether the pass's receipts are the history, which has each call with its reply; to close takes no memory.
+// Returns whether the pass's receipts are the history, which has each call with its reply, and the
+// close allocates nothing.
 fn closes<'b, C: Recorded>(
     recorder: Recorder<C, Heap<'b>>,
     passes: Vec<RecordPass<C, Heap<'b>>, Heap<'b>>,
@@ -84,7 +86,7 @@ fn recording_goes<'b, R: Wait, C: Recorded>(
 
 // ---- the maps
 
-// A new key, that key again, a new key, and that key's value, or the number of keys.
+// A new key, the same key again, another new key, and then its value or the number of keys.
 fn map_command(number: usize) -> MapCommand<usize, usize> {
     match number % 8 {
         0 | 4 => MapCommand::InsertNew(number / 2, number),

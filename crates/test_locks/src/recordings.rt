@@ -1,4 +1,4 @@
-//! Recordings by one thread and by two, and what closes and what does not.
+//! Recordings by one thread and by two, and which of them close.
 use crate::marks::Mark;
 use elsa_history::laws::{recorded_alone, recorded_in_parts};
 use elsa_history::{
@@ -12,7 +12,7 @@ use std::sync::Wait;
 use std::test::Fail;
 use std::thread;
 
-// The list of two passes.
+// Makes the list of two passes.
 fn both<C: Core>(
     alloc: Global,
     one: RecordPass<C>,
@@ -24,14 +24,14 @@ fn both<C: Core>(
     Ok(passes)
 }
 
-// The list of one pass.
+// Makes the list of one pass.
 fn alone<C: Core>(alloc: Global, pass: RecordPass<C>) -> Result<Vec<RecordPass<C>>, AllocError> {
     let mut passes = Vec::new(alloc);
     passes.push(pass)?;
     Ok(passes)
 }
 
-// Whether the receipts are the history, and it has that many entries.
+// Returns whether the receipts are the history, and it has `count` entries.
 fn closes_with<C: Core + Drop>(
     recorder: Recorder<C>,
     passes: Vec<RecordPass<C>>,
@@ -53,7 +53,7 @@ fn numbers(alloc: Global) -> Recorder<Numbers> {
     Recorder::new(alloc, MapState::new(alloc))
 }
 
-// Records an insertion at 1, and says whether 6 was answered.
+// Records an insertion at 1, and returns whether the reply is 6.
 fn answers_six(
     rt: &impl Wait,
     recorder: &Recorder<Numbers>,
@@ -63,7 +63,8 @@ fn answers_six(
     Ok(recorder.call(rt, pass, MapCommand::Insert(1, value))? == MapReply::Value(6))
 }
 
-// Whether the history is that of 6 by the first pass and 12 by the second, both answered 6.
+// Returns whether the history is an insertion of 6 by the first pass and of 12 by the second, both
+// with the reply 6.
 fn is_of_both(history: &History<Numbers>) -> bool {
     let entries = [
         (1, MapCommand::Insert(1, 6), MapReply::Value(6)),
@@ -73,7 +74,7 @@ fn is_of_both(history: &History<Numbers>) -> bool {
 }
 
 #[test]
-fn two_passes_at_one_key(rt: HostRuntime) -> Result<(), Fail> {
+fn two_insertions_at_one_key_had_other_replies(rt: HostRuntime) -> Result<(), Fail> {
     let recorder = numbers(rt.alloc());
     let mut a = recorder.pass(1);
     let mut b = recorder.pass(2);
@@ -87,7 +88,7 @@ fn two_passes_at_one_key(rt: HostRuntime) -> Result<(), Fail> {
 }
 
 #[test]
-fn one_call_is_the_history(rt: HostRuntime) -> Result<(), Fail> {
+fn the_history_of_one_call_was_wrong(rt: HostRuntime) -> Result<(), Fail> {
     let core: Numbers = MapState::new(rt.alloc());
     let Ok(history) = recorded_alone(&rt, rt.alloc(), core, 1, MapCommand::Insert(1, 6))? else {
         return Err(Fail::from("the receipt is the history"));
@@ -97,7 +98,7 @@ fn one_call_is_the_history(rt: HostRuntime) -> Result<(), Fail> {
     Ok(())
 }
 
-// Whether the part is one push of the item by pass 1, answered by the place.
+// Returns whether the part is one push of the item by pass 1, with `place` as its reply.
 fn is_push(part: &Entries<VecState<u64>>, item: u64, place: usize) -> bool {
     let entries = [(1, VecCommand::Push(item), VecReply::Place(place))];
     part.as_slice() == entries.as_slice()
@@ -117,7 +118,7 @@ fn the_second_part_goes_on_where_the_first_ended(rt: HostRuntime) -> Result<(), 
 }
 
 #[test]
-fn a_pass_that_is_missing(rt: HostRuntime) -> Result<(), Fail> {
+fn a_close_without_one_pass_succeeded(rt: HostRuntime) -> Result<(), Fail> {
     let recorder = numbers(rt.alloc());
     let mut a = recorder.pass(1);
     let mut b = recorder.pass(2);
@@ -132,7 +133,7 @@ fn a_pass_that_is_missing(rt: HostRuntime) -> Result<(), Fail> {
     Ok(())
 }
 
-// Whether the recorder finds a pass of another among these.
+// Returns whether the recorder finds a pass of another recorder among these.
 fn is_foreign_to(recorder: Recorder<Numbers>, passes: Vec<Pass>) -> bool {
     matches!(
         recorder.close(passes),
@@ -140,14 +141,14 @@ fn is_foreign_to(recorder: Recorder<Numbers>, passes: Vec<Pass>) -> bool {
     )
 }
 
-// Whether a recorder without calls closes over no passes, with no entries.
+// Returns whether a recorder without calls closes with no passes and no entries.
 fn closes_empty(alloc: Global) -> bool {
     let recorder: Recorder<VecState<u64>> = Recorder::new(alloc, VecState::new(alloc));
     closes_with(recorder, Vec::new(alloc), 0)
 }
 
 #[test]
-fn a_pass_of_another_recorder(rt: HostRuntime) -> Result<(), Fail> {
+fn a_close_with_a_pass_of_another_recorder_succeeded(rt: HostRuntime) -> Result<(), Fail> {
     let one = numbers(rt.alloc());
     let mut pass = one.pass(1);
     assert!(rt; answers_six(&rt, &one, &mut pass, 6)?);
@@ -156,9 +157,10 @@ fn a_pass_of_another_recorder(rt: HostRuntime) -> Result<(), Fail> {
     Ok(())
 }
 
-// A pass of another recorder that had the same answer at the same place, beside the recorder's own.
+// Checks that a close rejects the receipts of another recorder if they have the same reply at the
+// same index as the recorder's own.
 #[test]
-fn two_receipts_for_one_entry(rt: HostRuntime) -> Result<(), Fail> {
+fn a_close_with_two_receipts_for_one_entry_succeeded(rt: HostRuntime) -> Result<(), Fail> {
     let one = numbers(rt.alloc());
     let two = numbers(rt.alloc());
     let mut own = one.pass(1);
@@ -169,9 +171,12 @@ fn two_receipts_for_one_entry(rt: HostRuntime) -> Result<(), Fail> {
     Ok(())
 }
 
-// Of the recorder's two passes one is missing, and in its place is one of another recorder.
+// Checks that a close rejects a pass of another recorder which is passed instead of one of the
+// recorder's two passes.
 #[test]
-fn a_foreign_pass_in_place_of_a_missing_one(rt: HostRuntime) -> Result<(), Fail> {
+fn a_close_with_a_foreign_pass_instead_of_a_missing_one_succeeded(
+    rt: HostRuntime,
+) -> Result<(), Fail> {
     let one = numbers(rt.alloc());
     let two = numbers(rt.alloc());
     let (mut own, mut lost, mut foreign) = (one.pass(1), one.pass(2), two.pass(2));
@@ -195,7 +200,7 @@ fn answers(
     Ok(recorder.call(rt, pass, command)? == want)
 }
 
-// Whether 1 is new with 6, and not with 12, and is then the one key.
+// Returns whether 1 is new with 6, is not new with 12, and is then the only key.
 fn is_new_once(
     rt: &impl Wait,
     recorder: &Recorder<Ordered>,
@@ -233,7 +238,8 @@ fn a_new_key_is_new_once(rt: HostRuntime) -> Result<(), Fail> {
 
 type Places = RecordPass<VecState<u64>>;
 
-// Whether the history has that many entries, and its callers change at least that often from one entry to the next.
+// Returns whether the history has `count` entries, and its caller changes at least `least` times
+// from one entry to the next.
 fn interleaves<C: Core + Drop>(
     recorder: Recorder<C>,
     passes: Vec<RecordPass<C>>,
@@ -254,12 +260,14 @@ fn interleaves<C: Core + Drop>(
     history.entries().len() == count && changes > least
 }
 
-// Whether the other thread has made as many calls, where this one has made a number of tens.
+// If `calls` is a multiple of ten, waits until the other thread has made `calls` calls, and returns
+// whether it did.
 fn goes_on(other: &Mark, calls: u64) -> bool {
     calls % 10 != 0 || other.comes_to(calls)
 }
 
-/// Pushes 100 numbers, each ten once the other has pushed as many, and says whether each was answered a place above the one before.
+/// Pushes 100 numbers, and before each ten waits until the other thread has pushed the same number
+/// of items. Returns the pass, or `None` if an index was not greater than the one before.
 fn pushes<R: Wait>(
     rt: &R,
     recorder: &Recorder<VecState<u64>>,
@@ -284,7 +292,8 @@ fn pushes<R: Wait>(
     Some(pass)
 }
 
-// Marks the places that the pass was answered, and says whether each was below 200 and not marked.
+// Marks the indices that the pass's replies have, and returns whether each was below 200 and not
+// marked before.
 fn marks_places(pass: &Places, marked: &mut [bool; 200]) -> bool {
     for receipt in pass.receipts() {
         let VecReply::Place(place) = receipt.2 else {
@@ -298,7 +307,7 @@ fn marks_places(pass: &Places, marked: &mut [bool; 200]) -> bool {
     true
 }
 
-// Whether the two passes were answered each place below 200 once.
+// Returns whether each index below 200 is in exactly one reply of the two passes.
 fn share_places(one: &Places, two: &Places) -> bool {
     let mut marked = [false; 200];
     let once = marks_places(one, &mut marked) && marks_places(two, &mut marked);
@@ -311,7 +320,7 @@ fn share_places(one: &Places, two: &Places) -> bool {
 }
 
 #[test]
-fn two_threads_push(rt: HostRuntime) -> Result<(), Fail> {
+fn two_threads_got_one_index_or_skipped_one(rt: HostRuntime) -> Result<(), Fail> {
     let recorder: Recorder<VecState<u64>> = Recorder::new(rt.alloc(), VecState::new(rt.alloc()));
     let (one, two) = (recorder.pass(1), recorder.pass(2));
     let marks = (Mark::new(), Mark::new());
@@ -332,7 +341,8 @@ fn two_threads_push(rt: HostRuntime) -> Result<(), Fail> {
     Ok(())
 }
 
-/// 50 calls, in turn an insertion of the caller's number and a look-up, each at one of five keys, and each ten once the other has made as many.
+/// Makes 50 calls, alternately an insertion of the pass's number and a lookup, each at one of five
+/// keys. Before each ten it waits until the other thread has made the same number of calls.
 fn turns<R: Wait>(
     rt: &R,
     recorder: &Recorder<Numbers>,
@@ -362,7 +372,7 @@ fn rises(pass: &Pass) -> bool {
 }
 
 #[test]
-fn two_threads_insert_and_get(rt: HostRuntime) -> Result<(), Fail> {
+fn a_recording_of_two_threads_did_not_close(rt: HostRuntime) -> Result<(), Fail> {
     let recorder = numbers(rt.alloc());
     let (one, two) = (recorder.pass(1), recorder.pass(2));
     let marks = (Mark::new(), Mark::new());

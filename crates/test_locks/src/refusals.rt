@@ -1,5 +1,5 @@
-//! Memory refused: no closure is called where the room was refused, and scripts of 32 calls on the locked collections in which each request is
-//! refused in turn.
+//! Allocation failures. No closure is called if its map can't allocate room for the value, and
+//! scripts of 32 calls on the locked collections run with each request denied in turn.
 use crate::harness::{Family, Script, goes_through, refuse_each_in_turn};
 use elsa_locks::map::{FrozenBTreeMap, FrozenMap};
 use elsa_locks::vec::FrozenVec;
@@ -55,7 +55,8 @@ fn made(rt: &impl Wait, map: &Map<'_>, calls: &Cell<u64>, form: Form) -> Result<
     }
 }
 
-// Whether each form was refused when the next request was, and called nothing.
+// Returns whether each of the four insertions fails when its next request is denied, and calls no
+// closure.
 fn are_refused(rt: &impl Wait, budget: Heap<'_>, map: &Map<'_>, calls: &Cell<u64>) -> bool {
     for form in [Form::With, Form::WithKey, Form::CopyWith, Form::CopyWithKey] {
         budget.refuse_next(1);
@@ -88,7 +89,7 @@ fn word(place: usize) -> &'static str {
     WORDS[place % 16]
 }
 
-// The words as keys.
+// Makes the list of the words as keys.
 fn keys_of<'b>(alloc: Global, heap: Heap<'b>) -> Result<Vec<Text<'b>>, AllocError> {
     let mut keys = Vec::new(alloc);
     for word in WORDS {
@@ -99,13 +100,14 @@ fn keys_of<'b>(alloc: Global, heap: Heap<'b>) -> Result<Vec<Text<'b>>, AllocErro
 
 type Hashed<'b> = FrozenMap<Text<'b>, usize, BuildHasherDefault<FoldHasher>, Heap<'b>>;
 
-// An even call gives the next word its number, by each of the seven insertions in turn; an odd one gives the last word another number, clones,
-// lists the keys, compares or lists the pairs.
+// An even call inserts the next word with its number, by each of the seven insertions in turn. An
+// odd call inserts the last word with another number, clones, lists the keys, compares or lists the
+// pairs.
 #[derive(Drop)]
 struct HashedCalls<'b> {
     heap: Heap<'b>,
     map: Hashed<'b>,
-    // The words as keys, made of memory that nobody refuses.
+    // The words as keys, in memory whose requests are never denied.
     keys: Vec<Text<'b>>,
 }
 
@@ -127,7 +129,7 @@ impl Script for HashedCalls<'_> {
     }
 }
 
-// Whether the word then has its own number.
+// Returns whether the word then has its own number.
 fn hashed_given<'b>(
     rt: &impl Wait,
     map: &Hashed<'b>,
@@ -138,7 +140,7 @@ fn hashed_given<'b>(
     let key = String::from_str(heap, word(place))?;
     let given = match place % 7 {
         0 => *map.insert(rt, key, value)?,
-        1 => *map.insert_new(rt, key, value)?.0,
+        1 => *map.insert_new(rt, key, value)?.value,
         2 => *map.insert_with(rt, key, || value)?,
         3 => *map.insert_with_key(rt, key, |_| value)?,
         4 => map.get_copy_or_insert(rt, key, value)?,
@@ -148,7 +150,7 @@ fn hashed_given<'b>(
     Ok(given == place)
 }
 
-// A word that is there keeps its number, and isn't new.
+// Returns whether a word that is present keeps its number and isn't new.
 fn hashed_again<'b>(
     rt: &impl Wait,
     map: &Hashed<'b>,
@@ -156,8 +158,8 @@ fn hashed_again<'b>(
     place: usize,
 ) -> Result<bool, AllocError> {
     let key = String::from_str(heap, word(place))?;
-    let (value, new) = map.insert_new(rt, key, 99)?;
-    Ok(*value == place && !new && hashed_given(rt, map, heap, place, 99)?)
+    let done = map.insert_new(rt, key, 99)?;
+    Ok(*done.value == place && !done.is_new && hashed_given(rt, map, heap, place, 99)?)
 }
 
 fn hashed_equals(rt: &impl Wait, map: &Hashed<'_>) -> Result<bool, AllocError> {
@@ -201,8 +203,8 @@ fn a_refused_call_leaves_the_locked_hashed_map_as_it_was(rt: HostRuntime) -> Res
 
 type Ordered<'b> = FrozenBTreeMap<Text<'b>, usize, Heap<'b>>;
 
-// An even call gives the next word its number, by each of the two insertions in turn; an odd one gives the last word another number, clones,
-// collects, compares or lists the pairs.
+// An even call inserts the next word with its number, by each of the two insertions in turn. An odd
+// call inserts the last word with another number, clones, collects, compares or lists the pairs.
 #[derive(Drop)]
 struct OrderedCalls<'b> {
     heap: Heap<'b>,
@@ -238,11 +240,11 @@ fn ordered_given<'b>(
     if place % 2 == 0 {
         return Ok(*map.insert(rt, key, place)? == place);
     }
-    let (value, new) = map.insert_new(rt, key, place)?;
-    Ok(*value == place && new)
+    let done = map.insert_new(rt, key, place)?;
+    Ok(*done.value == place && done.is_new)
 }
 
-// A word that is there keeps its number, and isn't new.
+// Returns whether a word that is present keeps its number and isn't new.
 fn ordered_again<'b>(
     rt: &impl Wait,
     map: &Ordered<'b>,
@@ -253,8 +255,8 @@ fn ordered_again<'b>(
         String::from_str(heap, word(place))?,
         String::from_str(heap, word(place))?,
     );
-    let (value, new) = map.insert_new(rt, key, 99)?;
-    Ok(*value == place && !new && *map.insert(rt, again, 98)? == place)
+    let done = map.insert_new(rt, key, 99)?;
+    Ok(*done.value == place && !done.is_new && *map.insert(rt, again, 98)? == place)
 }
 
 fn ordered_collected<'b>(
@@ -275,7 +277,7 @@ fn ordered_equals(rt: &impl Wait, map: &Ordered<'_>) -> Result<bool, AllocError>
     Ok(map.equals(rt, map)? && map.equals(rt, &map.clone(rt)?)?)
 }
 
-// Whether the first words, so many, are the pairs, in their order.
+// Returns whether the pairs are the first `count` words, in their order.
 fn are_words(pairs: &[(Text<'_>, Arc<usize, Heap<'_>>)], count: usize) -> bool {
     let mut place = 0usize;
     for pair in pairs {
@@ -331,7 +333,8 @@ fn a_refused_call_leaves_the_locked_ordered_map_as_it_was(rt: HostRuntime) -> Re
 
 type List<'b> = FrozenVec<usize, Heap<'b>>;
 
-// An even call pushes the next number, by each of the three pushes in turn; an odd one clones, compares, gets, or takes a clone apart.
+// An even call pushes the next number, by each of the three pushes in turn. An odd call clones,
+// compares, gets an item, or takes a clone apart.
 #[derive(Drop)]
 struct ListCalls<'b> {
     list: List<'b>,
@@ -385,7 +388,7 @@ fn item(rt: &impl Wait, list: &List<'_>, place: usize) -> Result<Option<usize>, 
     }
 }
 
-// Whether the numbers below the count are the items, by a walk.
+// Returns whether a walk visits exactly the numbers below `count`.
 fn list_holds(rt: &impl Wait, list: &List<'_>, count: usize) -> bool {
     let mut walk = list.iter();
     for place in 0..count {

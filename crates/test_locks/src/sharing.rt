@@ -1,5 +1,6 @@
-//! What one locked call does at once: readers share the lock, one inserter of nine is told that its key was new, an owner is that of the own
-//! item, and a comparison sees contents and not lengths alone.
+//! What a locked call does in one step. Readers share the lock, one of nine inserters gets
+//! `is_new = true`, a push returns an owner of its own item, and a comparison compares contents and
+//! not only lengths.
 use crate::marks::Mark;
 use elsa_locks::map::{FrozenBTreeMap, FrozenMap};
 use elsa_locks::vec::FrozenVec;
@@ -17,16 +18,17 @@ type List = FrozenVec<u64>;
 
 // ---- readers
 
-// A map with 6 at the key 1, which is read by a closure and by a copy; an ordered map copies by a closure too.
+// A map with 6 at the key 1, which the tests read by a closure and as a copy. The ordered map
+// copies by a closure too.
 trait Read {
-    // Whether the closure was called, and returned true.
+    // Returns whether the closure was called and returned `true`.
     fn reads<R: Wait>(&self, rt: &R, mine: &Mark, other: &Mark) -> bool;
 
-    // The copy.
+    // Returns the copy.
     fn copies<R: Wait>(&self, rt: &R) -> Option<u64>;
 }
 
-// In a closure: tells the other thread that it runs, and waits for that thread.
+// Runs in a closure: raises this thread's mark, and waits for the other thread's.
 fn meets(mine: &Mark, other: &Mark) -> bool {
     mine.raise(1);
     other.comes_to(1)
@@ -52,7 +54,7 @@ impl Read for Ordered {
     }
 }
 
-// Whether two closures run at once, each of which waits for the other.
+// Returns whether two closures that wait for each other run at once.
 fn closures_meet<R: Threads + Wait + Sync, M: Read + Sync>(rt: &R, map: &M) -> bool {
     let marks = (Mark::new(), Mark::new());
     let (one, two) = (&marks.0, &marks.1);
@@ -60,7 +62,7 @@ fn closures_meet<R: Threads + Wait + Sync, M: Read + Sync>(rt: &R, map: &M) -> b
     a && b
 }
 
-// Copies while a closure runs, and tells it so.
+// Copies while a closure runs, and raises `copied` after that.
 fn copies_beside<R: Wait, M: Read>(rt: &R, map: &M, runs: &Mark, copied: &Mark) -> bool {
     if !runs.comes_to(1) {
         return false;
@@ -70,7 +72,7 @@ fn copies_beside<R: Wait, M: Read>(rt: &R, map: &M, runs: &Mark, copied: &Mark) 
     six
 }
 
-// Whether a copy is made while a closure runs that waits for it.
+// Returns whether a copy is made while a closure runs that waits for it.
 fn a_copy_meets<R: Threads + Wait + Sync, M: Read + Sync>(rt: &R, map: &M) -> bool {
     let marks = (Mark::new(), Mark::new());
     let (runs, copied) = (&marks.0, &marks.1);
@@ -82,7 +84,8 @@ fn a_copy_meets<R: Threads + Wait + Sync, M: Read + Sync>(rt: &R, map: &M) -> bo
     a && b
 }
 
-// A closure that waits for another read runs where that can be made: without the lock, or beside other readers.
+// Checks that a closure of a read can wait for another read. So the closure runs without the lock,
+// or shares it with other readers.
 #[test]
 fn closures_of_reads_run_at_once(rt: HostRuntime) -> Result<(), Fail> {
     let hashed: Hashed = FrozenMap::new(rt.alloc());
@@ -93,28 +96,29 @@ fn closures_of_reads_run_at_once(rt: HostRuntime) -> Result<(), Fail> {
     Ok(())
 }
 
-// ---- one of nine is told "new"
+// ---- one of nine gets `is_new = true`
 
 const KEYS: u64 = 2000;
 
-// A map whose insertion says whether the key was new.
+// A map whose insertion returns whether the key was new.
 trait Inserted {
     fn is_new<R: Wait>(&self, rt: &R, key: u64) -> bool;
 }
 
 impl Inserted for Hashed {
     fn is_new<R: Wait>(&self, rt: &R, key: u64) -> bool {
-        matches!(self.insert_new(rt, key, 6), Ok((_, true)))
+        matches!(self.insert_new(rt, key, 6), Ok(done) if done.is_new)
     }
 }
 
 impl Inserted for Ordered {
     fn is_new<R: Wait>(&self, rt: &R, key: u64) -> bool {
-        matches!(self.insert_new(rt, key, 6), Ok((_, true)))
+        matches!(self.insert_new(rt, key, 6), Ok(done) if done.is_new)
     }
 }
 
-// For how many keys this thread was told that its own was new. It begins when all nine are there.
+// Waits until all nine threads have arrived, inserts each key, and returns the number of keys that
+// were new.
 fn count_new<R: Wait, M: Inserted>(rt: &R, map: &M, arrived: &Mark) -> u64 {
     arrived.raise_by_one();
     if !arrived.comes_to(9) {
@@ -129,7 +133,7 @@ fn count_new<R: Wait, M: Inserted>(rt: &R, map: &M, arrived: &Mark) -> u64 {
     new
 }
 
-// Whether of nine threads that insert each key exactly one is told that it was new.
+// Returns whether, of nine threads that insert each key, exactly one finds it new.
 fn one_of_nine_is_told<R: Threads + Wait + Sync, M: Inserted + Sync>(
     rt: &R,
     alloc: Global,
@@ -145,7 +149,8 @@ fn one_of_nine_is_told<R: Threads + Wait + Sync, M: Inserted + Sync>(
     Ok(all == KEYS)
 }
 
-// A flag that comes from two lengths under locks of their own is true for several threads, or for none.
+// Checks that a key is new for one thread. If `is_new` were computed from two lengths that are read
+// under separate locks, it would be true for several threads, or for none.
 #[test]
 fn one_thread_is_told_that_a_key_was_new(rt: HostRuntime) -> Result<(), Fail> {
     let hashed: Hashed = FrozenMap::new(rt.alloc());
@@ -159,7 +164,7 @@ fn one_thread_is_told_that_a_key_was_new(rt: HostRuntime) -> Result<(), Fail> {
 
 const ROUNDS: u64 = 20_000;
 
-// Whether the owner that a push returns is that of its own item.
+// Returns whether the owner that a push returns is that of its own item.
 fn owns_its_item(rt: &impl Wait, list: &List, item: u64) -> bool {
     match list.push_get(rt, item) {
         Ok(owner) => *owner == item,
@@ -167,7 +172,7 @@ fn owns_its_item(rt: &impl Wait, list: &List, item: u64) -> bool {
     }
 }
 
-// Pushes once a round, each when the other has pushed in the round before.
+// Pushes once in each round, after the other thread has pushed in the round before.
 fn pushes_in_step<R: Wait>(rt: &R, list: &List, mine: &Mark, other: &Mark, number: u64) -> bool {
     for round in 0..ROUNDS {
         let item = round.wrapping_mul(2).wrapping_add(number);
@@ -179,7 +184,8 @@ fn pushes_in_step<R: Wait>(rt: &R, list: &List, mine: &Mark, other: &Mark, numbe
     true
 }
 
-// An owner that is taken of the last item under a lock of its own is that of the other's item in some round.
+// Checks that a push returns an owner of its own item. If it read the last item under another lock,
+// it would return the other thread's item in some round.
 #[test]
 fn pushers_in_step_get_owners_of_their_own_items(rt: HostRuntime) -> Result<(), Fail> {
     let list: List = FrozenVec::new(rt.alloc());
@@ -197,7 +203,7 @@ fn pushers_in_step_get_owners_of_their_own_items(rt: HostRuntime) -> Result<(), 
 
 // ---- equal lengths
 
-// Whether two lists of one item each, 7 and 8, are told apart.
+// Returns whether two lists with one item each, 7 and 8, are unequal.
 fn lists_differ(rt: &impl Wait, alloc: Global) -> Result<bool, AllocError> {
     let one: List = FrozenVec::new(alloc);
     let two: List = FrozenVec::new(alloc);
@@ -206,7 +212,8 @@ fn lists_differ(rt: &impl Wait, alloc: Global) -> Result<bool, AllocError> {
     Ok(!one.equals(rt, &two)?)
 }
 
-// Whether two hashed maps of one entry each are told apart, where the keys or the values differ.
+// Returns whether two hashed maps with one entry each are unequal, if their keys or their values
+// differ.
 fn hashed_maps_differ(
     rt: &impl Wait,
     alloc: Global,
@@ -220,7 +227,8 @@ fn hashed_maps_differ(
     Ok(!one.equals(rt, &two)?)
 }
 
-// The same of two ordered maps.
+// Returns whether two ordered maps with one entry each are unequal, if their keys or their values
+// differ.
 fn ordered_maps_differ(
     rt: &impl Wait,
     alloc: Global,

@@ -1,29 +1,30 @@
-//! A table at each of its three types, through the bound: a closure makes the value of an absent key, and a present one keeps its own.
-use elsa_tables::{Put, Refusal, Table, insert_with};
+//! The three map implementations, used through their trait. A closure makes the value of an absent
+//! key, and a present key keeps its own.
+use elsa_tables::{Inserted, Put, Refusal, Table, insert_with};
 use indexmap::IndexMap;
 use std::collections::{BTreeMap, HashMap};
 use std::test::Fail;
 
-// Whether the key has the value afterwards, and was new as said.
+// Returns whether the insertion returns `kept` and `is_new`.
 fn has<T: Table<u64, u64>>(table: &mut T, key: u64, made: u64, kept: u64, is_new: bool) -> bool {
-    let put: Result<(u64, bool), Refusal<()>> = insert_with(table, key, |_| Ok(made));
-    matches!(put, Ok((value, new)) if value == kept && new == is_new)
+    let put: Result<Inserted<u64>, Refusal<()>> = insert_with(table, key, |_| Ok(made));
+    matches!(put, Ok(done) if done.value == kept && done.is_new == is_new)
 }
 
-// Whether an error of the closure comes back.
+// Returns whether the insertion returns an error of the closure.
 fn is_refused<T: Table<u64, u64>>(table: &mut T, key: u64) -> bool {
-    let put: Result<(u64, bool), Refusal<u64>> = insert_with(table, key, |_| Err(5));
+    let put: Result<Inserted<u64>, Refusal<u64>> = insert_with(table, key, |_| Err(5));
     matches!(put, Err(Refusal::Value(5)))
 }
 
-// Whether a present key's value is read, and no value is made for it.
+// Returns whether the value of a present key is read, and no value is made for it.
 fn is_read<T: Table<u64, u64>>(table: &mut T, key: u64, kept: u64) -> bool {
     let make = |_key: &u64| -> Result<(u64, u64), ()> { Err(()) };
     let put = table.put_with(key, make, |value: &u64| value.wrapping_add(1));
     matches!(put, Ok(Put::Found(seen, _)) if seen == kept.wrapping_add(1))
 }
 
-// Whether the table is left with 6 at 1 and 7 at 2.
+// Returns whether the table has 6 at 1 and 7 at 2 after these insertions.
 fn serves<T: Table<u64, u64>>(table: &mut T) -> bool {
     let filled = has(table, 1, 6, 6, true)
         && has(table, 1, 9, 6, false)

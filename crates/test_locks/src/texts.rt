@@ -1,4 +1,5 @@
-//! Locked maps with text keys, asked and inserted by any text: `String`s and `&str`s, hashed by a hasher of the caller's and in order.
+//! Locked maps with text keys, looked up and inserted by any text. The keys are `String`s and
+//! `&str`s, hashed by a hasher of the caller's or in order.
 use elsa_hash::seeded::SeededState;
 use elsa_locks::map::{FrozenBTreeMap, FrozenMap};
 use std::alloc::{AllocError, Global};
@@ -13,21 +14,21 @@ fn seeded() -> SeededState {
     SeededState::with_seed(3, 5)
 }
 
-// Whether the first value of a text stays.
+// Returns whether the first value of a text stays.
 fn keeps_the_first(rt: &impl Wait, map: &Texts) -> Result<bool, AllocError> {
     Ok(*map.insert_text(rt, "one", 1)? == 1 && *map.insert_text(rt, "one", 2)? == 1)
 }
 
-// Whether a text that is a key is found, and no other.
+// Returns whether a text that is a key is found, and no other is.
 fn finds(rt: &impl Wait, map: &Texts) -> bool {
-    let there = matches!(map.get_text(rt, "one"), Ok(Some(value)) if *value == 1);
-    there && map.get_copy_text(rt, "one") == Some(1) && map.get_copy_text(rt, "on").is_none()
+    let there = matches!(map.get(rt, "one"), Ok(Some(value)) if *value == 1);
+    there && map.get_copy(rt, "one") == Some(1) && map.get_copy(rt, "on").is_none()
 }
 
-// Whether a key that is a `String` of its own is found by its text.
+// Returns whether a key that was inserted as a `String` is found by its text.
 fn finds_an_own(rt: &impl Wait, alloc: Global, map: &Texts) -> Result<bool, AllocError> {
     let key = String::from_str(alloc, "two")?;
-    Ok(*map.insert(rt, key, 2)? == 2 && map.get_copy_text(rt, "two") == Some(2))
+    Ok(*map.insert(rt, key, 2)? == 2 && map.get_copy(rt, "two") == Some(2))
 }
 
 #[test]
@@ -38,7 +39,7 @@ fn texts_are_found_in_a_map_with_a_seed(rt: HostRuntime) -> Result<(), Fail> {
     Ok(())
 }
 
-// Whether a clone is equal, and has the one key.
+// Returns whether a clone is equal and has the one key.
 fn is_copied(rt: &impl Wait, map: &Numbers) -> Result<bool, AllocError> {
     let copy = map.clone(rt)?;
     Ok(map.equals(rt, &copy)? && copy.keys_cloned(rt)?.len() == 1)
@@ -53,13 +54,13 @@ fn a_map_with_a_seed_is_copied(rt: HostRuntime) -> Result<(), Fail> {
 
 type OrderedTexts = FrozenBTreeMap<String, u64>;
 
-// Whether the first value of a text stays, and it alone is found.
+// Returns whether the first value of a text stays, and only that text is found.
 fn keeps_the_first_in_order(rt: &impl Wait, map: &OrderedTexts) -> Result<bool, AllocError> {
     let kept = *map.insert_text(rt, "one", 1)? == 1 && *map.insert_text(rt, "one", 2)? == 1;
-    Ok(kept && map.get_copy_text(rt, "one") == Some(1) && map.get_copy_text(rt, "on").is_none())
+    Ok(kept && map.get_copy(rt, "one") == Some(1) && map.get_copy(rt, "on").is_none())
 }
 
-// The least key, which is the least text.
+// Returns whether `text` is the least key.
 fn is_least(rt: &impl Wait, map: &OrderedTexts, text: &str) -> Result<bool, AllocError> {
     let Some((key, _value)) = map.first_key_value_cloned(rt)? else {
         return Ok(false);
@@ -70,12 +71,12 @@ fn is_least(rt: &impl Wait, map: &OrderedTexts, text: &str) -> Result<bool, Allo
 #[test]
 fn texts_are_lost_or_out_of_order_in_an_ordered_map(rt: HostRuntime) -> Result<(), Fail> {
     let map: OrderedTexts = FrozenBTreeMap::new(rt.alloc());
-    assert!(rt; keeps_the_first_in_order(&rt, &map)? && map.get_text(&rt, "two")?.is_none());
+    assert!(rt; keeps_the_first_in_order(&rt, &map)? && map.get(&rt, "two")?.is_none());
     assert!(rt; *map.insert_text(&rt, "four", 4)? == 4 && is_least(&rt, &map, "four")?);
     Ok(())
 }
 
-// Whether this is an owner of the number.
+// Returns whether this is an owner of the number.
 fn is(owner: Option<Arc<u64>>, number: u64) -> bool {
     match owner {
         Some(owner) => *owner == number,
@@ -83,14 +84,14 @@ fn is(owner: Option<Arc<u64>>, number: u64) -> bool {
     }
 }
 
-// Whether a hashed map of one lifetime is asked by a text of another.
+// Returns whether a text of another lifetime than the keys finds its entry in a hashed map.
 fn is_asked_hashed(
     rt: &impl Wait,
     map: &FrozenMap<&'static str, u64>,
     key: &str,
 ) -> Result<bool, AllocError> {
-    let is_owner = is(map.get_text(rt, key)?, 5);
-    Ok(is_owner && map.get_copy_text(rt, key) == Some(5) && map.get_copy_text(rt, "").is_none())
+    let is_owner = is(map.get(rt, key)?, 5);
+    Ok(is_owner && map.get_copy(rt, key) == Some(5) && map.get_copy(rt, "").is_none())
 }
 
 fn is_asked_in_order(
@@ -98,8 +99,8 @@ fn is_asked_in_order(
     map: &FrozenBTreeMap<&'static str, u64>,
     key: &str,
 ) -> Result<bool, AllocError> {
-    let is_owner = is(map.get_text(rt, key)?, 5);
-    Ok(is_owner && map.get_copy_text(rt, key) == Some(5) && map.get_copy_text(rt, "").is_none())
+    let is_owner = is(map.get(rt, key)?, 5);
+    Ok(is_owner && map.get_copy(rt, key) == Some(5) && map.get_copy(rt, "").is_none())
 }
 
 #[test]

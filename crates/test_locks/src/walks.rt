@@ -1,4 +1,5 @@
-//! Walks over the locked maps under one lock, what they copy out, and what they leave where memory is refused.
+//! Walks over the locked maps under one lock, what they copy, and what they leave after an
+//! allocation failure.
 use elsa_locks::map::{FrozenBTreeMap, FrozenMap};
 use std::alloc::{AllocError, Global};
 use std::sync::{Arc, Wait};
@@ -9,7 +10,7 @@ type Ordered = FrozenBTreeMap<u64, u64>;
 
 type Hashed = FrozenMap<u64, u64>;
 
-/// 3, 1 and 2, in this order, with twice their value.
+/// Makes a map of the keys 3, 1 and 2, inserted in this order, each with twice itself as its value.
 fn ordered(rt: &impl Wait, alloc: Global) -> Result<Ordered, AllocError> {
     let map: Ordered = FrozenBTreeMap::new(alloc);
     for key in [3u64, 1, 2] {
@@ -18,7 +19,7 @@ fn ordered(rt: &impl Wait, alloc: Global) -> Result<Ordered, AllocError> {
     Ok(map)
 }
 
-/// The digits of the keys and values that a walk shows, in its order.
+/// Returns the digits of the keys and values that a walk visits, in its order.
 fn digits(rt: &impl Wait, map: &Ordered) -> u64 {
     let mut seen = 0u64;
     map.for_each(rt, |key, value| {
@@ -30,7 +31,7 @@ fn digits(rt: &impl Wait, map: &Ordered) -> u64 {
     seen
 }
 
-/// The digits of the keys that a walk over the keys from `first` to `last` shows, in its order.
+/// Returns the digits of the keys from `first` to `last` that a walk visits, in its order.
 fn digits_between(rt: &impl Wait, map: &Ordered, first: u64, last: u64) -> u64 {
     let mut seen = 0u64;
     map.for_each_in_range(rt, first.., |key, _value| {
@@ -41,7 +42,8 @@ fn digits_between(rt: &impl Wait, map: &Ordered, first: u64, last: u64) -> u64 {
     seen
 }
 
-/// The sum of the keys, each a power of ten, so that it shows how often each was visited.
+/// Returns the sum of the keys that a walk visits. Each key is a power of ten, so the sum shows how
+/// often it was visited.
 fn sum_of_powers(rt: &impl Wait, alloc: Global) -> Result<u64, AllocError> {
     let map: Hashed = FrozenMap::new(alloc);
     for key in [100u64, 1, 1000, 10, 1] {
@@ -70,7 +72,7 @@ fn a_walk_over_a_hashed_map_misses_or_repeats_an_entry(rt: HostRuntime) -> Resul
     Ok(())
 }
 
-/// Whether the pair is this key with this value.
+/// Returns whether the pair is this key with this value.
 fn is_pair(pair: Option<(u64, Arc<u64>)>, key: u64, value: u64) -> bool {
     match pair {
         Some((found, owner)) => found == key && *owner == value,
@@ -78,13 +80,14 @@ fn is_pair(pair: Option<(u64, Arc<u64>)>, key: u64, value: u64) -> bool {
     }
 }
 
-/// Whether the ends are the pairs of 1 and of 3.
+/// Returns whether the first and the last pair are those of 1 and of 3.
 fn has_its_ends(rt: &impl Wait, map: &Ordered) -> Result<bool, AllocError> {
     let first = is_pair(map.first_key_value_cloned(rt)?, 1, 2);
     Ok(first && is_pair(map.last_key_value_cloned(rt)?, 3, 6))
 }
 
-/// Whether a map without entries has no ends, no keys, and makes no call.
+/// Returns whether a map without entries has no first and no last pair and no keys, and calls no
+/// closure.
 fn has_nothing(rt: &impl Wait, alloc: Global) -> Result<bool, AllocError> {
     let map: Ordered = FrozenBTreeMap::new(alloc);
     let no_ends = map.first_key_value_cloned(rt)?.is_none()
@@ -104,14 +107,14 @@ type Heap<'b> = &'b Budget<Global>;
 
 type Texts<'b> = FrozenBTreeMap<String<Heap<'b>>, u64, Heap<'b>>;
 
-/// A map with one key, a text of the heap.
+/// Makes a map with one key, a text in memory of `heap`.
 fn of_one<'b>(rt: &impl Wait, heap: Heap<'b>) -> Result<Texts<'b>, AllocError> {
     let map: Texts<'b> = FrozenBTreeMap::new(heap);
     let _ = *map.insert(rt, String::from_str(heap, "one")?, 1)?;
     Ok(map)
 }
 
-/// Whether the first pair and the keys are there.
+/// Returns whether the first pair and the keys are right.
 fn gives_its_key(rt: &impl Wait, map: &Texts<'_>) -> Result<bool, AllocError> {
     let first = match map.first_key_value_cloned(rt)? {
         Some((key, value)) => key.as_str() == "one" && *value == 1,
@@ -120,7 +123,8 @@ fn gives_its_key(rt: &impl Wait, map: &Texts<'_>) -> Result<bool, AllocError> {
     Ok(first && map.keys_cloned(rt)?.len() == 1)
 }
 
-/// Whether copies of a key are refused where memory is, and are made again afterwards, with nothing left over.
+/// Returns whether copying a key fails when its requests are denied, and succeeds again afterwards,
+/// with no memory left allocated.
 fn is_refused_and_stays(rt: &impl Wait, heap: Heap<'_>) -> Result<bool, AllocError> {
     let map = of_one(rt, heap)?;
     for granted in 0..3u64 {

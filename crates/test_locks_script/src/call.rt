@@ -1,4 +1,4 @@
-//! A call of the script, read from a line, what it was answered, and what is seen after it.
+//! A call of the script, which is read from a line, its result, and what is compared after it.
 
 use std::fmt;
 use std::fmt::{Display, Formatter, Write};
@@ -28,7 +28,7 @@ pub enum Kind {
     Next,
 }
 
-/// A call, with its key or place and its value.
+/// A call, with its key or index and its value.
 #[derive(Clone, Copy)]
 pub struct Call {
     pub kind: Kind,
@@ -36,17 +36,18 @@ pub struct Call {
     pub value: u64,
 }
 
-/// The keys or places of the script are the numbers below this.
+/// The number of keys or indices of the script, which are the numbers below it.
 pub const KEYS: usize = 12;
 
-/// The keys that a map answered, ascending, of which the first `count` are meant.
+/// The keys that a map returned, in ascending order. The first `count` numbers of the list are
+/// valid.
 #[derive(Clone, Copy, PartialEq)]
 pub struct Keys {
     pub list: [u64; KEYS],
     pub count: usize,
 }
 
-/// What a call was answered.
+/// The result of a call.
 #[derive(Clone, Copy, PartialEq)]
 pub enum Answer {
     Done,
@@ -60,7 +61,7 @@ pub enum Answer {
 }
 
 impl Keys {
-    /// The keys that are meant.
+    /// Returns the valid keys.
     fn meant(&self) -> &[u64] {
         &self.list[..self.count.min(KEYS)]
     }
@@ -82,7 +83,7 @@ impl Display for Answer {
     }
 }
 
-/// The value of an owner that was answered.
+/// Returns the value of an owner.
 pub fn shared(owner: Option<Arc<u64>>) -> Option<u64> {
     match owner {
         Some(owner) => Some(*owner),
@@ -90,7 +91,8 @@ pub fn shared(owner: Option<Arc<u64>>) -> Option<u64> {
     }
 }
 
-/// What is compared after each call: the answer, the length, and what stands at each key or place of the script.
+/// What is compared after each call: its result, the length, and the value at each key or index of
+/// the script.
 #[derive(Clone, Copy, PartialEq)]
 pub struct Seen {
     pub answer: Answer,
@@ -124,7 +126,8 @@ fn kind_of(word: &str) -> Option<Kind> {
     Some(kind)
 }
 
-/// The call that the rest of a line tells of: its name, and its key and value, which are 0 where they don't stand.
+/// Parses the rest of a line: the name of a call, and its key and value, which are 0 if they are
+/// missing.
 pub fn parse(rest: &str) -> Option<Call> {
     let (name, numbers) = rest.split_once(' ').unwrap_or((rest, ""));
     let (key, value) = numbers.split_once(' ').unwrap_or((numbers, ""));

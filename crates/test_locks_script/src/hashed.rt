@@ -9,7 +9,7 @@ type Locked = FrozenMap<u64, u64>;
 
 type State = MapState<u64, u64>;
 
-/// The keys, ascending. More than the script has are told as no such call.
+/// Returns the keys in ascending order, or `NotOffered` if there are more than the script has.
 fn ascending(mut keys: Vec<u64>) -> Result<Answer, AllocError> {
     keys.sort()?;
     let count = keys.len();
@@ -23,7 +23,10 @@ fn ascending(mut keys: Vec<u64>) -> Result<Answer, AllocError> {
     Ok(Answer::Keys(Keys { list, count }))
 }
 
-/// What the locked map answers, and what is seen after it.
+/// Makes the call on the locked map, and returns what is compared after it.
+///
+/// # Errors
+/// Fails if an allocation fails.
 pub fn locked(rt: &impl Wait, map: &Locked, call: Call) -> Result<Seen, AllocError> {
     let answer = match call.kind {
         Kind::Insert | Kind::InsertNew | Kind::InsertWith | Kind::InsertWithKey => {
@@ -85,18 +88,21 @@ fn locked_reading(rt: &impl Wait, map: &Locked, call: Call) -> Result<Answer, Al
 }
 
 fn locked_new(rt: &impl Wait, map: &Locked, key: u64, value: u64) -> Result<Answer, AllocError> {
-    let (there, new) = map.insert_new(rt, key, value)?;
-    Ok(Answer::New(*there, new))
+    let done = map.insert_new(rt, key, value)?;
+    Ok(Answer::New(*done.value, done.is_new))
 }
 
-/// A clone with one more insertion.
+/// Returns a clone after another insertion.
 fn locked_with(rt: &impl Wait, map: &Locked, key: u64, value: u64) -> Result<Locked, AllocError> {
     let other = map.clone(rt)?;
     other.insert(rt, key, value)?;
     Ok(other)
 }
 
-/// What its state answers, and what is seen after it.
+/// Makes the call on the state, and returns what is compared after it.
+///
+/// # Errors
+/// Fails if an allocation fails.
 pub fn state(map: &mut State, call: Call) -> Result<Seen, AllocError> {
     let answer = match call.kind {
         Kind::Insert | Kind::InsertNew | Kind::InsertWith | Kind::InsertWithKey => {
@@ -120,21 +126,21 @@ pub fn state(map: &mut State, call: Call) -> Result<Seen, AllocError> {
 
 fn state_copy(map: &mut State, call: Call) -> Result<Answer, AllocError> {
     let Call { kind, key, value } = call;
-    let there = match kind {
+    let done = match kind {
         Kind::GetCopyOrInsert => map.get_copy_or_insert(key, value)?,
-        Kind::GetCopyOrInsertWith => map.get_copy_or_insert_with(key, || value)?,
+        Kind::GetCopyOrInsertWith => map.get_copy_or_insert_with_key(key, |_| value)?,
         _ => map.get_copy_or_insert_with_key(key, |k| k.wrapping_add(value))?,
     };
-    Ok(Answer::Value(there))
+    Ok(Answer::Value(done.value))
 }
 
 fn state_insertion(map: &mut State, call: Call) -> Result<Answer, AllocError> {
     let Call { kind, key, value } = call;
     match kind {
-        Kind::Insert => Ok(Answer::Value(*map.insert(key, value)?)),
+        Kind::Insert => Ok(Answer::Value(*map.insert(key, value)?.value)),
         Kind::InsertNew => state_new(map, key, value),
-        Kind::InsertWith => Ok(Answer::Value(*map.insert_with(key, || value)?)),
-        _ => Ok(Answer::Value(*map.insert_with_key(key, |k| k.wrapping_add(value))?)),
+        Kind::InsertWith => Ok(Answer::Value(*map.insert_with_key(key, |_| value)?.value)),
+        _ => Ok(Answer::Value(*map.insert_with_key(key, |k| k.wrapping_add(value))?.value)),
     }
 }
 
@@ -158,11 +164,11 @@ fn state_get(map: &State, key: u64) -> Result<Option<u64>, AllocError> {
 }
 
 fn state_new(map: &mut State, key: u64, value: u64) -> Result<Answer, AllocError> {
-    let (there, new) = map.insert_new(key, value)?;
-    Ok(Answer::New(*there, new))
+    let done = map.insert(key, value)?;
+    Ok(Answer::New(*done.value, done.is_new))
 }
 
-/// A clone with one more insertion.
+/// Returns a copy after another insertion.
 fn state_with(map: &State, key: u64, value: u64) -> Result<State, AllocError> {
     let mut other = map.copy()?;
     other.insert(key, value)?;

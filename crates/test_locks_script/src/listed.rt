@@ -9,7 +9,11 @@ type Locked = FrozenVec<u64>;
 
 type State = VecState<u64>;
 
-/// What the locked list answers, and what is seen after it; `next` is a call of the walk.
+/// Makes the call on the locked list, and returns what is compared after it. `next` is a call on
+/// the walk.
+///
+/// # Errors
+/// Fails if an allocation fails.
 pub fn locked(
     rt: &impl Wait,
     list: &Locked,
@@ -58,14 +62,18 @@ fn locked_call(rt: &impl Wait, list: &Locked, call: Call) -> Result<Answer, Allo
     }
 }
 
-/// A clone with one more item.
+/// Returns a clone after another push.
 fn locked_with(rt: &impl Wait, list: &Locked, value: u64) -> Result<Locked, AllocError> {
     let other = list.clone(rt)?;
     other.push(rt, value)?;
     Ok(other)
 }
 
-/// What its state answers, and what is seen after it; `place` stands for the walk.
+/// Makes the call on the state, and returns what is compared after it. `place` is the index of the
+/// walk.
+///
+/// # Errors
+/// Fails if an allocation fails.
 pub fn state(list: &mut State, place: &mut usize, call: Call) -> Result<Seen, AllocError> {
     let answer = if call.kind == Kind::Next {
         Answer::Found(state_next(list, place)?)
@@ -115,7 +123,7 @@ fn state_call(list: &mut State, call: Call) -> Result<Answer, AllocError> {
     }
 }
 
-/// A copy with one more item.
+/// Returns a copy after another push.
 fn state_with(list: &State, value: u64) -> Result<State, AllocError> {
     let mut other = list.copy()?;
     other.push(value)?;

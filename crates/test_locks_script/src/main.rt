@@ -1,8 +1,10 @@
-//! Runs a script of calls on each locked collection and on the state under it, and compares the two.
+//! Runs a script of calls on each locked collection and on its state without a lock, and compares
+//! the two.
 //!
-//! A line of standard input is `map`, `tree` or `vec`, the call's name, and its key or place and its value. For each line
-//! it prints the line, what the locked form answers, and then its length and what stands at the keys or places 0 to 11.
-//! A line ends in `DIFFERS` where the state answers otherwise or has another length or content.
+//! A line of standard input is `map`, `tree` or `vec`, the name of the call, and its key or index
+//! and its value. For each line the program prints the line, the result of the locked collection,
+//! its length, and its values at the keys or indices 0 to 11. The line ends with `DIFFERS` if the
+//! state has another result, length or content.
 #![tactic(auto)]
 
 mod call;
@@ -17,7 +19,7 @@ use std::alloc::{AllocError, Global};
 use std::io;
 use std::sync::Wait;
 
-/// The maps, each with its state beside it.
+/// The locked maps, each with its state.
 #[derive(Drop)]
 struct Maps {
     map: FrozenMap<u64, u64>,
@@ -35,7 +37,7 @@ fn empty_maps(alloc: Global) -> Maps {
     }
 }
 
-/// The list and a walk over it, with its state and the walk's place beside them.
+/// The locked list and a walk over it, with the list's state and the index of the walk.
 #[derive(Drop)]
 struct Lists<'a> {
     list: &'a FrozenVec<u64>,

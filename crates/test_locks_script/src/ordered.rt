@@ -9,7 +9,10 @@ type Locked = FrozenBTreeMap<u64, u64>;
 
 type State = TreeState<u64, u64>;
 
-/// What the locked map answers, and what is seen after it.
+/// Makes the call on the locked map, and returns what is compared after it.
+///
+/// # Errors
+/// Fails if an allocation fails.
 pub fn locked(rt: &impl Wait, map: &Locked, call: Call) -> Result<Seen, AllocError> {
     let answer = locked_call(rt, map, call)?;
     let mut found = [None; KEYS];
@@ -43,18 +46,21 @@ fn locked_call(rt: &impl Wait, map: &Locked, call: Call) -> Result<Answer, Alloc
 }
 
 fn locked_new(rt: &impl Wait, map: &Locked, key: u64, value: u64) -> Result<Answer, AllocError> {
-    let (there, new) = map.insert_new(rt, key, value)?;
-    Ok(Answer::New(*there, new))
+    let done = map.insert_new(rt, key, value)?;
+    Ok(Answer::New(*done.value, done.is_new))
 }
 
-/// A clone with one more insertion.
+/// Returns a clone after another insertion.
 fn locked_with(rt: &impl Wait, map: &Locked, key: u64, value: u64) -> Result<Locked, AllocError> {
     let other = map.clone(rt)?;
     other.insert(rt, key, value)?;
     Ok(other)
 }
 
-/// What its state answers, and what is seen after it.
+/// Makes the call on the state, and returns what is compared after it.
+///
+/// # Errors
+/// Fails if an allocation fails.
 pub fn state(map: &mut State, call: Call) -> Result<Seen, AllocError> {
     let answer = state_call(map, call)?;
     let mut found = [None; KEYS];
@@ -75,7 +81,7 @@ fn state_get(map: &State, key: u64) -> Result<Option<u64>, AllocError> {
 fn state_call(map: &mut State, call: Call) -> Result<Answer, AllocError> {
     let Call { kind, key, value } = call;
     match kind {
-        Kind::Insert => Ok(Answer::Value(*map.insert(key, value)?)),
+        Kind::Insert => Ok(Answer::Value(*map.insert(key, value)?.value)),
         Kind::InsertNew => state_new(map, key, value),
         Kind::Get => Ok(Answer::Found(state_get(map, key)?)),
         Kind::MapGet => Ok(Answer::Found(map.map_get(&key, |there| there.wrapping_add(value)))),
@@ -88,11 +94,11 @@ fn state_call(map: &mut State, call: Call) -> Result<Answer, AllocError> {
 }
 
 fn state_new(map: &mut State, key: u64, value: u64) -> Result<Answer, AllocError> {
-    let (there, new) = map.insert_new(key, value)?;
-    Ok(Answer::New(*there, new))
+    let done = map.insert(key, value)?;
+    Ok(Answer::New(*done.value, done.is_new))
 }
 
-/// A clone with one more insertion.
+/// Returns a copy after another insertion.
 fn state_with(map: &State, key: u64, value: u64) -> Result<State, AllocError> {
     let mut other = map.copy()?;
     other.insert(key, value)?;

@@ -1,4 +1,5 @@
-//! Collections whose table is in `Global` memory, over an arena of other memory: requests of the arena alone are refused.
+//! Collections whose table is in `Global` memory, and whose arena has another allocator. Only
+//! requests of the arena are denied.
 use bumpalo::Bump;
 use elsa_maps::index_map::FrozenIndexMap;
 use elsa_maps::map::FrozenMap;
@@ -11,16 +12,19 @@ use test_alloc::Budget;
 
 type Hasher = BuildHasherDefault<FoldHasher>;
 
-// The arena's allocator. It is owned, and so refuses what it was told before the arena was made.
+// The arena's allocator. The arena owns it, so the requests to deny are set before the arena is
+// made.
 type Heap = Budget<Global>;
 
-// More values than the arena's first chunk has room for.
+// The number of values, which is greater than the first chunk of the arena has room for.
 const CALLS: usize = 100;
 
-// How many requests are refused: more than the arena makes for one value.
+// The number of denied requests, which is greater than the number of requests that the arena makes
+// for one value.
 const REFUSED: u64 = 64;
 
-// The numbers from 0, each at its place or under itself as a key.
+// The numbers from 0. In a list, each number is at itself as the index; in a map, at itself as the
+// key.
 #[derive(Drop)]
 enum Numbers<'a> {
     List(FrozenVec<'a, Own<usize>, Global, Heap>),
@@ -45,7 +49,7 @@ impl<'a> Numbers<'a> {
         }
     }
 
-    // Whether it has the numbers below this, and no other.
+    // Returns whether it has exactly the numbers below `count`.
     fn holds(&self, count: usize) -> bool {
         for number in 0..count {
             if self.at(number) != Some(&number) {
@@ -56,7 +60,8 @@ impl<'a> Numbers<'a> {
     }
 }
 
-// How often the number was refused until it was given; `None` where a refused call changed something, or an accepted one didn't add it.
+// Returns the number of calls that failed before the number was added. Returns `None` if a call
+// that failed changed something, or a successful one didn't add the number.
 fn given(numbers: &mut Numbers<'_>, number: usize) -> Option<u64> {
     for failures in 0..=REFUSED {
         match numbers.give(number) {
@@ -75,7 +80,8 @@ fn given(numbers: &mut Numbers<'_>, number: usize) -> Option<u64> {
     None
 }
 
-// How many calls were refused until all numbers were there; `None` where one went wrong.
+// Returns the number of calls that failed before all numbers were added, or `None` if a call had a
+// wrong result.
 fn all_given(mut numbers: Numbers<'_>) -> Option<u64> {
     let mut failures = 0u64;
     for number in 0..CALLS {
@@ -88,14 +94,15 @@ fn all_given(mut numbers: Numbers<'_>) -> Option<u64> {
     }
 }
 
-// An arena that is refused its request of this number and those after it, so many.
+// Makes an arena whose requests from this number on are denied, `REFUSED` of them.
 fn arena_without(alloc: Global, number: u64) -> Bump<Heap> {
     let heap = Budget::new(alloc);
     heap.refuse(number, number.saturating_add(REFUSED));
     Bump::new(heap)
 }
 
-// Whether calls are refused where the arena's requests from this number on are, and each succeeds once they are granted.
+// Returns whether calls fail if the arena's requests from this number on are denied, and each call
+// succeeds once they are granted.
 fn is_told(alloc: Global, number: u64) -> bool {
     let (one, two, three) = (
         arena_without(alloc, number),

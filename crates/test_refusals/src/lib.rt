@@ -1,7 +1,9 @@
-//! Memory refused in the maps, the index forms, the runs, the interner, the engine and the cache: each request for memory and each placing in turn; and the
-//! calls that ask for none.
+//! Allocation failures in the maps, the index collections, the runs, the interner, the engine and
+//! the cache. Each request for memory, and each allocation in the arena, is denied in turn. Other
+//! tests make the calls that must not allocate.
 //!
-//! Scripts are over any allocator, and only what starts them names the one that refuses: so they are proved in a third of the time.
+//! Scripts are generic over the allocator, and only their callers name the one that denies
+//! requests. That reduces the time of their proofs to a third.
 #![tactic(auto)]
 
 #[cfg(test)]

@@ -1,5 +1,5 @@
-//! The engine with each request for memory, and each placing of a name, refused in turn: each answer line is that of the names kept so far, or
-//! `no memory`.
+//! The engine, with each request for memory and each allocation in the arena denied in turn. Each
+//! output line is that of the names stored so far, or `no memory`.
 use bumpalo::Bump;
 use elsa_interner::interner::{Counted, intern_engine};
 use std::alloc::{AllocError, Allocator, Global};
@@ -7,7 +7,7 @@ use std::test::Fail;
 use test_alloc::Budget;
 use test_script::leave_room;
 
-// The lines of the worked run.
+// The lines of the example run.
 const WORKED: [&str; 7] = [
     "put lonely",
     "put best friend",
@@ -18,7 +18,7 @@ const WORKED: [&str; 7] = [
     "at 1",
 ];
 
-// Thirty-two lines about new names and names that are there.
+// Thirty-two lines with new names and names that are present.
 const MANY: [&str; 32] = [
     "put a", "put b", "find a", "put a", "len", "put c", "put d", "at 0", "find z", "put b",
     "put e", "put f", "at 9", "put g", "len", "put a", "put h", "put i", "find i", "put j",
@@ -30,7 +30,7 @@ const NUMBERS: [&str; 16] = [
     "0", "1", "2", "3", "4", "5", "6", "7", "8", "9", "10", "11", "12", "13", "14", "15",
 ];
 
-// The names that the answers so far leave, and how many lines were refused.
+// The names that were stored according to the output so far, and the number of lines that failed.
 #[derive(Drop)]
 struct Kept<'t> {
     names: [&'t str; 16],
@@ -48,7 +48,8 @@ impl<'t> Kept<'t> {
         None
     }
 
-    // Whether this is the answer to `put` of the name, which is then kept; a name that is there is never refused.
+    // Returns whether `answer` is a right output line for `put` of the name, which is then stored.
+    // A `put` of a present name never fails.
     fn puts(&mut self, name: &'t str, answer: &str) -> bool {
         if let Some(number) = self.number_of(name) {
             return NUMBERS.get(number) == Some(&answer);
@@ -81,7 +82,7 @@ impl<'t> Kept<'t> {
         answer == "none"
     }
 
-    // Whether this is the answer to the line.
+    // Returns whether `answer` is a right output line for this line.
     fn fits(&mut self, line: &'t str, answer: &str) -> bool {
         match line.split_once(' ') {
             Some(("put", name)) => self.puts(name, answer),
@@ -92,7 +93,7 @@ impl<'t> Kept<'t> {
     }
 }
 
-// How many lines were refused, if each answer is right.
+// Returns the number of lines that failed, or `None` if an output line is wrong.
 fn refused_lines(lines: &[&str], out: &str) -> Option<usize> {
     let mut kept = Kept {
         names: [""; 16],
@@ -120,7 +121,8 @@ fn input_of(alloc: Global, lines: &[&str]) -> Result<String, AllocError> {
     Ok(input)
 }
 
-// How many lines the engine refuses over these, if it answers each rightly.
+// Returns the number of lines for which the engine reports an allocation failure, or `None` if an
+// output line is wrong.
 fn engine_refuses<P: Allocator>(
     alloc: Global,
     heap: &Budget<Global>,
@@ -139,7 +141,8 @@ fn engine_refuses<P: Allocator>(
     refused_lines(lines, str::from_utf8(bytes.as_slice()).ok()?)
 }
 
-// Whether one line is refused where one request is, whichever that is; how many requests there are.
+// Returns the number of requests, or `None` if some denied request makes more or fewer than one
+// line fail.
 fn requests(alloc: Global, lines: &[&str]) -> Option<u64> {
     let open = Budget::new(alloc);
     if engine_refuses(alloc, &open, &Bump::new(alloc), lines) != Some(0) {
@@ -157,7 +160,7 @@ fn requests(alloc: Global, lines: &[&str]) -> Option<u64> {
     Some(open.asked())
 }
 
-// How many lines are refused where the arena has room for so many times eight bytes.
+// Returns the number of lines that fail if the arena has room for `room` times eight bytes.
 fn squeezed(alloc: Global, lines: &[&str], room: usize) -> Option<usize> {
     let (heap, arena) = (Budget::new(alloc), Bump::new(alloc));
     leave_room(&arena, room);
@@ -182,7 +185,8 @@ fn an_arena_that_is_full_keeps_the_names_before(rt: HostRuntime) -> Result<(), F
     Ok(())
 }
 
-// How many lines are refused over an arena whose own requests are refused from this number on, if each of its blocks comes back.
+// Returns the number of lines that fail if the arena's requests from this number on are denied, or
+// `None` if a block of the arena isn't deallocated.
 fn refused_by_the_arena(alloc: Global, number: u64) -> Option<usize> {
     let (open, heap) = (Budget::new(alloc), Budget::new(alloc));
     heap.refuse(number, u64::MAX);

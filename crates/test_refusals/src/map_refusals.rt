@@ -1,5 +1,5 @@
-//! One script of 32 calls for the three maps, with texts as keys and values: each request for memory, the tables', the owners' and the
-//! arena's, is refused in turn.
+//! One script of 32 calls for the three maps, with texts as keys and values. Each request for
+//! memory is denied in turn: those of the tables, of the texts and of the arena.
 use bumpalo::Bump;
 use elsa_maps::index_map::FrozenIndexMap;
 use elsa_maps::map::{FrozenBTreeMap, FrozenMap};
@@ -21,7 +21,7 @@ type Indexed<'a, A> = FrozenIndexMap<'a, Text<A>, Text<A>, Hasher, A>;
 
 const CALLS: usize = 32;
 
-// The form of a map.
+// The type of a map.
 #[derive(Clone, Copy, Drop)]
 enum Form {
     Hashed,
@@ -29,7 +29,7 @@ enum Form {
     Indexed,
 }
 
-// A map of texts, as the script calls it.
+// A map of texts with the calls of the script.
 #[derive(Drop)]
 enum Map<'a, A: Allocator + Copy + Drop> {
     Hashed(Hashed<'a, A>),
@@ -46,7 +46,7 @@ impl<'a, A: Allocator + Copy + Drop> Map<'a, A> {
         }
     }
 
-    // A map of these pairs, collected.
+    // Collects a map of these pairs.
     fn of(
         form: Form,
         heap: A,
@@ -60,7 +60,7 @@ impl<'a, A: Allocator + Copy + Drop> Map<'a, A> {
         }
     }
 
-    // The key is the word at this place.
+    // Inserts the pair. The key is the word with the number `place`.
     fn give(&mut self, key: Text<A>, value: Text<A>, place: usize) -> Result<&'a str, AllocError> {
         match self {
             Map::Hashed(map) => map.insert(key, value),
@@ -75,11 +75,13 @@ impl<'a, A: Allocator + Copy + Drop> Map<'a, A> {
         value: Text<A>,
         place: usize,
     ) -> Result<(&'a str, bool), AllocError> {
-        match self {
+        let done = match self {
             Map::Hashed(map) => map.insert_new(key, value),
             Map::Ordered(map) => map.insert_new(key, value),
-            Map::Indexed(map) => new_given_in_order(map, key, value, place),
-        }
+            Map::Indexed(map) => return new_given_in_order(map, key, value, place),
+        };
+        let done = done?;
+        Ok((done.value, done.is_new))
     }
 
     fn value_of(&self, key: &Text<A>) -> Option<&'a str> {
@@ -98,7 +100,7 @@ impl<'a, A: Allocator + Copy + Drop> Map<'a, A> {
         }
     }
 
-    // How many pairs it is taken apart into.
+    // Returns the number of pairs that the map is taken apart into.
     fn count(self) -> Result<usize, AllocError> {
         match self {
             Map::Hashed(map) => Ok(map.into_tuple_vec()?.len()),
@@ -108,12 +110,12 @@ impl<'a, A: Allocator + Copy + Drop> Map<'a, A> {
     }
 }
 
-// Whether the place is one whose word goes through a call that tells its place.
+// Returns whether the word with this number is inserted by a call that returns the index.
 fn is_full(place: usize) -> bool {
     (place / 2).wrapping_add(place / 4) % 2 == 1
 }
 
-// By `insert` and by `insert_full`, which has to tell this place.
+// Inserts by `insert` or by `insert_full`, which has to return the index `place`.
 fn given_in_order<'a, A: Allocator + Copy + Drop>(
     map: &mut Indexed<'a, A>,
     key: Text<A>,
@@ -127,7 +129,7 @@ fn given_in_order<'a, A: Allocator + Copy + Drop>(
     Ok(if at == place { kept } else { "" })
 }
 
-// By `insert_new` and by `insert_full_new`, which has to tell this place.
+// Inserts by `insert_new` or by `insert_full_new`, which has to return the index `place`.
 fn new_given_in_order<'a, A: Allocator + Copy + Drop>(
     map: &mut Indexed<'a, A>,
     key: Text<A>,
@@ -135,10 +137,12 @@ fn new_given_in_order<'a, A: Allocator + Copy + Drop>(
     place: usize,
 ) -> Result<(&'a str, bool), AllocError> {
     if !is_full(place) {
-        return map.insert_new(key, value);
+        let done = map.insert_new(key, value)?;
+        return Ok((done.value, done.is_new));
     }
-    let (at, kept, new) = map.insert_full_new(key, value)?;
-    Ok((if at == place { kept } else { "" }, new))
+    let done = map.insert_full_new(key, value)?;
+    let kept = if done.index == place { done.value } else { "" };
+    Ok((kept, done.is_new))
 }
 
 fn hashed_of<'a, A: Allocator + Copy + Drop>(
@@ -168,15 +172,16 @@ fn indexed_of<'a, A: Allocator + Copy + Drop>(
     Ok(Map::Indexed(made))
 }
 
-// An even call gives the next word a value, in turn by `insert` and by `insert_new`, of the index map also by `insert_full` and `insert_full_new`; of the odd ones the first gives the last word another
-// value, the second clones, the third lists and the last collects.
+// An even call inserts the next word with a value, alternately by `insert` and by `insert_new`; an
+// index map uses `insert_full` and `insert_full_new` too. Of each four odd calls the first inserts
+// the last word with another value, the second clones, the third lists and the fourth collects.
 #[derive(Drop)]
 struct Calls<'a, A: Allocator + Copy + Drop> {
     form: Form,
     heap: A,
     arena: &'a Bump,
     map: Map<'a, A>,
-    // The words as keys, made of memory that nobody refuses.
+    // The words as keys, in memory whose requests are never denied.
     keys: Vec<Text<A>>,
 }
 
@@ -201,7 +206,7 @@ fn word(place: usize) -> &'static str {
     WORDS[place % 16]
 }
 
-// The value of the word at this place.
+// Returns the value of the word with this number.
 fn value(place: usize) -> &'static str {
     word(place.wrapping_add(5))
 }
@@ -232,7 +237,7 @@ fn new_given<A: Allocator + Copy + Drop>(
     Ok(map.give_new(key, text, place)? == (value(place), true))
 }
 
-// The key keeps its value, and isn't new.
+// Returns whether the key keeps its value and isn't new.
 fn given_again<A: Allocator + Copy + Drop>(
     map: &mut Map<'_, A>,
     heap: A,
@@ -254,7 +259,7 @@ fn listed<A: Allocator + Copy + Drop>(map: &Map<'_, A>, number: usize) -> Result
     Ok(map.copied()?.count()? == number.div_ceil(2))
 }
 
-// Of two pairs with one key the last value stays.
+// Returns whether, of two pairs with one key, the last value stays.
 fn collected<A: Allocator + Copy + Drop>(
     form: Form,
     heap: A,
@@ -268,7 +273,7 @@ fn collected<A: Allocator + Copy + Drop>(
     Ok(has_words(&Map::of(form, heap, arena, pairs)?, keys, 2))
 }
 
-// Whether the first words, so many, have their values, and no other word has one.
+// Returns whether exactly the first `count` words have their values.
 fn has_words<A: Allocator + Copy + Drop>(
     map: &Map<'_, A>,
     keys: &Vec<Text<A>>,
@@ -289,7 +294,7 @@ fn has_words<A: Allocator + Copy + Drop>(
     place == 16
 }
 
-// The words as keys.
+// Makes the list of the words as keys.
 fn keys_of<A: Allocator + Copy + Drop>(alloc: Global, heap: A) -> Result<Vec<Text<A>>, AllocError> {
     let mut keys = Vec::new(alloc);
     for word in WORDS {
@@ -298,7 +303,8 @@ fn keys_of<A: Allocator + Copy + Drop>(alloc: Global, heap: A) -> Result<Vec<Tex
     Ok(keys)
 }
 
-// The script over a map in the memory of `heap`, which the budget counts; `open` refuses nobody.
+// Runs the script on a map in memory of `heap`, whose requests `budget` counts. `open` denies no
+// request.
 fn goes<A: Allocator + Copy + Drop>(
     alloc: Global,
     form: Form,

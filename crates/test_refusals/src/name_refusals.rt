@@ -1,4 +1,5 @@
-//! The interner whose tables, or whose arena, are refused their requests: a refused `put` leaves no copy behind, and the arena's memory may be of any allocator.
+//! The interner, with denied requests of its tables or of its arena. A `put` that fails leaves no
+//! copy in the arena, and the arena may have any allocator.
 use bumpalo::Bump;
 use elsa_interner::interner::Interner;
 use std::alloc::{Allocator, Global};
@@ -11,7 +12,7 @@ type Hasher = BuildHasherDefault<FoldHasher>;
 
 const NEW: &str = "seventeen letters";
 
-/// How many of a hundred puts of a name are refused.
+/// Returns how often `put` fails in a hundred calls with one name.
 fn refused_puts<A: Allocator + Copy, P: Allocator>(
     names: &mut Interner<'_, Hasher, A, P>,
     name: &str,
@@ -25,7 +26,7 @@ fn refused_puts<A: Allocator + Copy, P: Allocator>(
     refused
 }
 
-/// Whether the first words, so many, are put; they are the names then.
+/// Returns whether the first `count` words are put and are then the names.
 fn puts_words<A: Allocator + Copy, P: Allocator>(
     names: &mut Interner<'_, Hasher, A, P>,
     count: usize,
@@ -38,8 +39,8 @@ fn puts_words<A: Allocator + Copy, P: Allocator>(
     names.len() == count
 }
 
-/// Whether a hundred puts behind so many names are refused, and the arena is as it was, where the tables' next request but so many is
-/// refused, and all behind it.
+/// Returns whether a hundred puts fail after `count` names and leave the arena unchanged, if the
+/// tables' requests after the next `granted` ones are denied.
 fn leaves_no_copy(alloc: Global, count: usize, granted: u64) -> bool {
     let (heap, arena) = (Budget::new(alloc), Bump::new(alloc));
     let mut names = Interner::new(&heap, &arena);
@@ -55,7 +56,8 @@ fn leaves_no_copy(alloc: Global, count: usize, granted: u64) -> bool {
 fn a_put_that_the_tables_are_refused_leaves_no_copy_in_the_arena(
     rt: HostRuntime,
 ) -> Result<(), Fail> {
-    // Without names the list asks first and then the table; the list grows at the fifth and at the ninth name, the table at the seventh.
+    // Without names, the list allocates before the hash table. The list grows at the fifth and at
+    // the ninth name, the hash table at the seventh.
     for (count, granted) in [(0, 0), (0, 1), (4, 0), (6, 0), (8, 0)] {
         assert!(rt;
             leaves_no_copy(rt.alloc(), count, granted),
@@ -65,7 +67,8 @@ fn a_put_that_the_tables_are_refused_leaves_no_copy_in_the_arena(
     Ok(())
 }
 
-/// Whether each put is refused while the arena's requests are, and leaves the names; and whether all are put once they are granted.
+/// Returns whether each put fails and adds no name while the arena's requests are denied, and all
+/// words are put once they are granted.
 fn is_told<P: Allocator>(alloc: Global, heap: &Budget<Global>, arena: &Bump<P>) -> bool {
     let mut names: Interner<'_, Hasher, Global, P> = Interner::new(alloc, arena);
     heap.refuse(0, u64::MAX);

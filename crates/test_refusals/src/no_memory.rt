@@ -1,6 +1,6 @@
-//! Calls that take no memory: no look-up, length, walk, search, comparison or conversion, and no insertion of what is there, asks the tables'
-//! memory or the arena for anything. Both are full, and refuse what they are asked; each collection has each size up to sixteen, so that its
-//! table is full too at some.
+//! Calls that allocate nothing: lookups, lengths, walks, searches, comparisons, conversions, and
+//! insertions of present keys. The tables' allocator and the arena are full and deny each request.
+//! Each collection has each size up to sixteen, so its table is full at some of them.
 use bumpalo::Bump;
 use elsa_cache::{LoadFault, ResourceCache};
 use elsa_index::index_set::FrozenIndexSet;
@@ -19,10 +19,11 @@ type Heap<'a> = &'a Budget<Global>;
 
 type Hasher = BuildHasherDefault<FoldHasher>;
 
-// Keys and values that are in no collection.
+// A number that no collection has as a key or value.
 const ABSENT: usize = 99;
 
-// What was asked of the tables' memory, and what the arena has left and has taken.
+// Returns the number of requests of the tables, the room that the arena has left, and the bytes
+// that it has allocated.
 fn asked(heap: Heap<'_>, arena: &Bump) -> (u64, usize, usize) {
     (
         heap.asked(),
@@ -31,17 +32,17 @@ fn asked(heap: Heap<'_>, arena: &Bump) -> (u64, usize, usize) {
     )
 }
 
-// A collection with numbered calls, none of which takes memory.
+// A collection with numbered calls, none of which allocates.
 trait Calls<'a, A: Allocator + Copy + Drop>: Sized + Drop {
-    // The collection of the numbers below `size`.
+    // Makes the collection of the numbers below `size`.
     fn filled(alloc: Global, heap: A, arena: &'a Bump, size: usize) -> Result<Self, AllocError>;
 
-    // Makes the call of this number about `last`, the last number that is there, and says whether it answered what it must; `None` where there is
-    // no call of this number.
+    // Makes the call with this number about `last`, the last present number, and returns whether
+    // the result is the expected one. Returns `None` if there is no call with this number.
     fn call(&mut self, heap: A, arena: &'a Bump, number: usize, last: usize) -> Option<bool>;
 }
 
-// The first call that answered wrongly or asked for memory, as its number at the size.
+// Returns the number of the first call that had a wrong result or requested memory.
 fn first_wrong<'a, C: Calls<'a, Heap<'a>>>(
     alloc: Global,
     heap: Heap<'a>,
@@ -68,7 +69,8 @@ fn first_wrong<'a, C: Calls<'a, Heap<'a>>>(
     Some(ABSENT)
 }
 
-// Whether no call at any size up to sixteen answers wrongly or asks for memory; what was wrong stands in the error.
+// Checks that at each size up to sixteen no call has a wrong result or requests memory. Otherwise
+// the error is the size and the number of the call.
 fn take_none<'a, C: Calls<'a, Heap<'a>>>(
     alloc: Global,
     heap: Heap<'a>,
@@ -174,13 +176,13 @@ impl<'a, A: Allocator + Copy + Drop> Calls<'a, A> for Hashed<'a, A> {
         match number {
             0 => Some(matches!(self.insert(last, Own(ABSENT)), Ok(value) if *value == last)),
             1 => Some(
-                matches!(self.insert_new(last, Own(ABSENT)), Ok((value, false)) if *value == last),
+                matches!(self.insert_new(last, Own(ABSENT)), Ok(done) if !done.is_new && *done.value == last),
             ),
             2 => Some(
                 matches!(MapForm::insert(self, last, Own(ABSENT)), Ok(value) if *value == last),
             ),
             3 => Some(
-                matches!(MapForm::insert_new(self, last, Own(ABSENT)), Ok((value, false)) if *value == last),
+                matches!(MapForm::insert_new(self, last, Own(ABSENT)), Ok(done) if !done.is_new && *done.value == last),
             ),
             4..7 => Some(is_found_in_hashed(self, number, last)),
             7..10 => Some(is_whole_hashed(self, number, last)),
@@ -236,13 +238,13 @@ impl<'a, A: Allocator + Copy + Drop> Calls<'a, A> for Ordered<'a, A> {
         match number {
             0 => Some(matches!(self.insert(last, Own(ABSENT)), Ok(value) if *value == last)),
             1 => Some(
-                matches!(self.insert_new(last, Own(ABSENT)), Ok((value, false)) if *value == last),
+                matches!(self.insert_new(last, Own(ABSENT)), Ok(done) if !done.is_new && *done.value == last),
             ),
             2 => Some(
                 matches!(MapForm::insert(self, last, Own(ABSENT)), Ok(value) if *value == last),
             ),
             3 => Some(
-                matches!(MapForm::insert_new(self, last, Own(ABSENT)), Ok((value, false)) if *value == last),
+                matches!(MapForm::insert_new(self, last, Own(ABSENT)), Ok(done) if !done.is_new && *done.value == last),
             ),
             4..6 => Some(is_found_in_ordered(self, number, last)),
             6..9 => Some(is_whole_ordered(self, number, last)),
@@ -296,13 +298,13 @@ impl<'a, A: Allocator + Copy + Drop> Calls<'a, A> for Indexed<'a, A> {
         match number {
             0 => Some(matches!(self.insert(last, Own(ABSENT)), Ok(value) if *value == last)),
             1 => Some(
-                matches!(self.insert_new(last, Own(ABSENT)), Ok((value, false)) if *value == last),
+                matches!(self.insert_new(last, Own(ABSENT)), Ok(done) if !done.is_new && *done.value == last),
             ),
             2 => Some(
                 matches!(self.insert_full(last, Own(ABSENT)), Ok((place, _)) if place == last),
             ),
             3 => Some(
-                matches!(self.insert_full_new(last, Own(ABSENT)), Ok((place, _, false)) if place == last),
+                matches!(self.insert_full_new(last, Own(ABSENT)), Ok(done) if !done.is_new && done.index == last),
             ),
             4..8 => Some(is_found_in_indexed(self, number, last)),
             8..11 => Some(is_whole_indexed(self, number, last)),
@@ -363,10 +365,12 @@ impl<'a, A: Allocator + Copy + Drop> Calls<'a, A> for Numbers<'a, A> {
     fn call(&mut self, heap: A, arena: &'a Bump, number: usize, last: usize) -> Option<bool> {
         match number {
             0 => Some(matches!(self.insert(Own(last)), Ok(value) if *value == last)),
-            1 => Some(matches!(self.insert_new(Own(last)), Ok((value, false)) if *value == last)),
+            1 => Some(
+                matches!(self.insert_full_new(Own(last)), Ok(done) if !done.is_new && *done.value == last),
+            ),
             2 => Some(matches!(self.insert_full(Own(last)), Ok((place, _)) if place == last)),
             3 => Some(
-                matches!(self.insert_full_new(Own(last)), Ok((place, _, false)) if place == last),
+                matches!(self.insert_full_new(Own(last)), Ok(done) if !done.is_new && done.index == last),
             ),
             4..7 => Some(is_found_in_numbers(self, number, last)),
             7..10 => Some(is_whole_set(self, number, last)),
@@ -412,7 +416,7 @@ fn is_whole_set<A: Allocator + Copy + Drop>(
     }
 }
 
-// ---- the interner, the cache, and what was placed before
+// ---- the interner, the cache, and what was stored before
 
 type Names<'a, A> = Interner<'a, Hasher, A>;
 
@@ -474,7 +478,7 @@ impl<'a, A: Allocator + Copy + Drop> Calls<'a, A> for Resources<'a, A> {
     }
 }
 
-// Whether what lies somewhere already is placed as it is.
+// Returns whether a reference is stored as it is.
 fn are_placed(heap: Heap<'_>, arena: &Bump) -> bool {
     leave_room(arena, 0);
     heap.refuse_next(u64::MAX);

@@ -1,5 +1,5 @@
-//! Scripts of 32 calls on the index set, the interner and the cache: each request for memory, the tables', the owners' and the arena's, is
-//! refused in turn.
+//! Scripts of 32 calls on the index set, the interner and the cache. Each request for memory is
+//! denied in turn: those of the tables, of the texts and of the arena.
 use bumpalo::Bump;
 use elsa_cache::{LoadFault, ResourceCache};
 use elsa_index::index_set::FrozenIndexSet;
@@ -26,8 +26,8 @@ fn word(place: usize) -> &'static str {
 
 type Set<'a, A> = FrozenIndexSet<'a, Text<A>, Hasher, A>;
 
-// An even call adds the next word, by each of the six insertions in turn; of the odd ones the first adds the last word again, the second
-// clones, and the third collects.
+// An even call adds the next word, by each of the set's five insertions in turn. Of each three odd
+// calls the first adds the last word again, the second clones, and the third collects.
 #[derive(Drop)]
 struct SetCalls<'a, A: Allocator + Copy + Drop> {
     heap: A,
@@ -84,8 +84,10 @@ fn inserted<A: Allocator + Copy + Drop>(
     match way {
         2 => Ok(set.insert(text)? == word(place)),
         3 => Ok(set.insert_full(text)? == (place, word(place))),
-        4 => Ok(set.insert_new(text)? == (word(place), true)),
-        _ => Ok(set.insert_full_new(text)? == (place, word(place), true)),
+        _ => {
+            let done = set.insert_full_new(text)?;
+            Ok(done.index == place && done.value == word(place) && done.is_new)
+        }
     }
 }
 
@@ -95,7 +97,8 @@ fn added_again<A: Allocator + Copy + Drop>(
     place: usize,
 ) -> Result<bool, AllocError> {
     let text = String::from_str(heap, word(place))?;
-    Ok(set.insert_full_new(text)? == (place, word(place), false))
+    let done = set.insert_full_new(text)?;
+    Ok(done.index == place && done.value == word(place) && !done.is_new)
 }
 
 fn cloned<A: Allocator + Copy + Drop>(set: &Set<'_, A>, count: usize) -> Result<bool, AllocError> {
@@ -111,7 +114,7 @@ fn collected<A: Allocator + Copy + Drop>(heap: A, arena: &Bump) -> Result<bool, 
     Ok(has_words(&made, 2))
 }
 
-// Whether the first words, so many, are the values, in order.
+// Returns whether the values are the first `count` words, in order.
 fn has_words<A: Allocator + Copy + Drop>(set: &Set<'_, A>, count: usize) -> bool {
     for place in 0..count {
         if set.get_index(place) != Some(word(place)) {
@@ -157,7 +160,7 @@ fn a_refused_call_leaves_the_index_set_as_it_was(rt: HostRuntime) -> Result<(), 
 
 // ---- the interner
 
-// An even call puts the next word, an odd one puts the last one again.
+// An even call puts the next word, an odd one puts the last word again.
 #[derive(Drop)]
 struct Puts<'a, A: Allocator + Copy + Drop> {
     names: Interner<'a, Hasher, A>,
@@ -173,7 +176,7 @@ impl<A: Allocator + Copy + Drop> Script for Puts<'_, A> {
     }
 }
 
-// Whether the first words, so many, are the names, and no other word is one.
+// Returns whether exactly the first `count` words are the names.
 fn has_names<A: Allocator + Copy + Drop>(names: &Interner<'_, Hasher, A>, count: usize) -> bool {
     for place in 0..16 {
         let there = place < count;
@@ -216,7 +219,8 @@ fn a_refused_put_adds_no_name(rt: HostRuntime) -> Result<(), Fail> {
 
 // ---- the cache
 
-// What is made of a text is its first character; a call of the loader is counted.
+// Loads a path whose text is the path and whose resource is the first character of it. Counts the
+// calls of the loader.
 fn first_at<'a, A: Allocator + Copy + Drop>(
     cache: &mut ResourceCache<'a, A>,
     alloc: Global,
@@ -233,7 +237,8 @@ fn first_at<'a, A: Allocator + Copy + Drop>(
     Ok(resource.get())
 }
 
-// An even call asks for the next word's resource, and an odd one for all before again; the text of a path is the path.
+// An even call gets the resource of the next word, an odd one gets those of all earlier words
+// again. The text of a path is the path.
 #[derive(Drop)]
 struct Resources<'a, A: Allocator + Copy + Drop> {
     alloc: Global,
@@ -258,7 +263,7 @@ impl<A: Allocator + Copy + Drop> Script for Resources<'_, A> {
         }
     }
 
-    // Each path was loaded once, but for one whose text was refused.
+    // Each path was loaded once, except for one whose text could not be stored.
     fn holds(&self, number: usize) -> bool {
         let paths = number.div_ceil(2) as u64;
         paths <= self.loads && self.loads <= paths + 1
@@ -269,7 +274,7 @@ fn is_first(first: &str, place: usize) -> bool {
     word(place).starts_with(first) && first.len() == 1
 }
 
-// Whether the first words, so many, have their resources, without a load.
+// Returns whether the first `count` words have their resources, without a call of the loader.
 fn are_kept<A: Allocator + Copy + Drop>(
     cache: &mut ResourceCache<'_, A>,
     alloc: Global,
@@ -294,7 +299,7 @@ impl Family for Caches {
         CALLS
     }
 
-    // A text of eight bytes and a resource of sixteen.
+    // A load stores a text of eight bytes and a resource of sixteen.
     fn placings(&self, number: usize) -> usize {
         if number % 2 == 0 { 3 } else { 0 }
     }
@@ -317,12 +322,14 @@ fn a_refused_load_is_made_again_and_loses_no_other(rt: HostRuntime) -> Result<()
     Ok(())
 }
 
-// What is refused of the memory that one load takes.
+// The denied part of the memory that one load requires.
 #[derive(Clone, Copy, Debug)]
 enum Refusal {
-    // The request of this number. The texts' table makes the first half of them, and the resources' the rest.
+    // The request with this number. The first half of the requests are those of the texts' table,
+    // the rest are those of the resources' table.
     Request(u64),
-    // What no longer fits into this many times eight bytes of the arena: the text takes one of them, and its resource two.
+    // Each allocation for which the arena has no room, if it has room for this number of times
+    // eight bytes. The text uses one of them, and its resource two.
     Room(usize),
 }
 
@@ -333,8 +340,9 @@ fn refuse(refusal: Refusal, heap: Heap<'_>, arena: &Bump) {
     }
 }
 
-// What a load whose text begins with `a` answers where memory is refused so, what the next one answers, whose text begins with `b`, and how
-// often the loader was called by the first and by both.
+// Loads twice, with memory denied at the first load only. Returns the fault of the first load,
+// whose text begins with `a`; the result of the second load, whose text begins with `b`; and the
+// number of calls of the loader after the first load and after both.
 fn loads_after(alloc: Global, refusal: Refusal) -> (Option<LoadFault>, Option<char>, u64, u64) {
     let (heap, arena) = (Budget::new(alloc), Bump::new(alloc));
     let mut cache = ResourceCache::new(&heap, &arena);
@@ -367,13 +375,14 @@ fn load<A: Allocator + Copy + Drop>(
     }
 }
 
-// Whether a load is refused so, and the next one then calls the loader if `again`, and else takes the text that the first one gained.
+// Returns whether the load fails, and the next load then calls the loader if `again`, and otherwise
+// uses the text that the first one stored.
 fn is_refused(alloc: Global, refusal: Refusal, again: bool) -> bool {
     let (first, loads) = if again { ('b', 2) } else { ('a', 1) };
     loads_after(alloc, refusal) == (Some(LoadFault::Memory), Some(first), 1, loads)
 }
 
-// How many requests a load makes.
+// Returns the number of requests of a load.
 fn requests_of_a_load(alloc: Global) -> u64 {
     let (heap, arena) = (Budget::new(alloc), Bump::new(alloc));
     let mut cache = ResourceCache::new(&heap, &arena);

@@ -1,4 +1,5 @@
-//! Room that is made ahead: as many insertions as it was made for ask the tables' memory, which refuses all requests, for nothing.
+//! Reserved capacity: insertions up to that number don't allocate in the table. The tables'
+//! allocator denies all requests meanwhile.
 use bumpalo::Bump;
 use elsa_index::index_set::FrozenIndexSet;
 use elsa_maps::index_map::FrozenIndexMap;
@@ -14,7 +15,7 @@ type Heap<'a> = &'a Budget<Global>;
 
 type Hasher = BuildHasherDefault<FoldHasher>;
 
-// A collection of numbers that can make room.
+// A collection of numbers that can reserve capacity.
 trait Roomy<'a, A: Allocator + Copy + Drop>: Sized + Drop {
     fn with_capacity(heap: A, arena: &'a Bump, count: usize) -> Result<Self, AllocError>;
 
@@ -22,7 +23,7 @@ trait Roomy<'a, A: Allocator + Copy + Drop>: Sized + Drop {
 
     fn capacity(&self) -> usize;
 
-    // Whether a number that is not there was added.
+    // Adds a number that is absent, and returns whether it was added.
     fn adds(&mut self, number: usize) -> bool;
 }
 
@@ -62,7 +63,7 @@ impl<'a, A: Allocator + Copy + Drop> Roomy<'a, A> for Hashed<'a, A> {
     }
 
     fn adds(&mut self, number: usize) -> bool {
-        matches!(self.insert_new(number, Own(number)), Ok((_, true)))
+        matches!(self.insert_new(number, Own(number)), Ok(done) if done.is_new)
     }
 }
 
@@ -82,7 +83,7 @@ impl<'a, A: Allocator + Copy + Drop> Roomy<'a, A> for Indexed<'a, A> {
     }
 
     fn adds(&mut self, number: usize) -> bool {
-        matches!(self.insert_new(number, Own(number)), Ok((_, true)))
+        matches!(self.insert_new(number, Own(number)), Ok(done) if done.is_new)
     }
 }
 
@@ -102,11 +103,11 @@ impl<'a, A: Allocator + Copy + Drop> Roomy<'a, A> for Numbers<'a, A> {
     }
 
     fn adds(&mut self, number: usize) -> bool {
-        matches!(self.insert_new(Own(number)), Ok((_, true)))
+        matches!(self.insert_full_new(Own(number)), Ok(done) if done.is_new)
     }
 }
 
-// Whether the numbers from one on are added though no memory is granted.
+// Returns whether `count` numbers from `from` on are added while all requests are denied.
 fn adds_without_memory<'a, C: Roomy<'a, Heap<'a>>>(
     heap: Heap<'a>,
     numbers: &mut C,
@@ -124,7 +125,8 @@ fn adds_without_memory<'a, C: Roomy<'a, Heap<'a>>>(
     heap.asked() == before && numbers.capacity() >= from.wrapping_add(count)
 }
 
-// Whether a collection that is made with room takes as many numbers without memory, and once it made room anew as many again.
+// Returns whether a collection with capacity for `count` numbers adds them without memory, and
+// again `count` numbers after `reserve`.
 fn asks_nothing<'a, C: Roomy<'a, Heap<'a>>>(heap: Heap<'a>, arena: &'a Bump, count: usize) -> bool {
     let Ok(mut numbers) = C::with_capacity(heap, arena, count) else {
         return false;

@@ -1,4 +1,5 @@
-//! Growths of a vector, an index set and an index map that are refused: each makes room first, so no copy stays in the arena.
+//! Growths of a vector, an index set and an index map that fail. Each collection makes room in the
+//! table first, so no copy stays in the arena.
 use bumpalo::Bump;
 use elsa_index::index_set::FrozenIndexSet;
 use elsa_maps::index_map::FrozenIndexMap;
@@ -18,12 +19,13 @@ type Values<'a, A> = FrozenIndexSet<'a, Own<u64>, Hasher, A>;
 
 type Texts<'a, A> = FrozenIndexMap<'a, &'a str, Own<u64>, Hasher, A>;
 
-// What shows each byte that is taken of an arena.
+// Returns the arena's allocated bytes and the room that is left in its chunk. Any allocation
+// changes one of the two.
 fn room(arena: &Bump) -> (usize, usize) {
     (arena.allocated_bytes(), arena.chunk_capacity())
 }
 
-// How many of a hundred pushes are refused.
+// Returns how often a push fails in a hundred calls.
 fn refused_pushes<A: Allocator + Copy>(numbers: &mut Numbers<'_, A>) -> usize {
     let mut refused = 0usize;
     for number in 0..100u64 {
@@ -34,7 +36,7 @@ fn refused_pushes<A: Allocator + Copy>(numbers: &mut Numbers<'_, A>) -> usize {
     refused
 }
 
-// How many insertions of the hundred numbers from this one on are refused.
+// Returns how often an insertion fails in a hundred calls, with the numbers from `from` on.
 fn refused_values<A: Allocator + Copy>(values: &mut Values<'_, A>, from: u64) -> usize {
     let mut refused = 0usize;
     for number in 0..100u64 {
@@ -45,7 +47,7 @@ fn refused_values<A: Allocator + Copy>(values: &mut Values<'_, A>, from: u64) ->
     refused
 }
 
-// How many insertions of words are refused, each word tried seven times.
+// Returns how often an insertion of a word fails, with each word tried seven times.
 fn refused_texts<A: Allocator + Copy>(texts: &mut Texts<'_, A>) -> usize {
     let mut refused = 0usize;
     for number in 0..112usize {
@@ -56,7 +58,7 @@ fn refused_texts<A: Allocator + Copy>(texts: &mut Texts<'_, A>) -> usize {
     refused
 }
 
-// Whether a hundred pushes behind so many items are refused, and the arena is as it was.
+// Returns whether a hundred pushes fail after `count` items, and the arena is unchanged.
 fn pushes_leave_no_copy(alloc: Global, count: usize) -> bool {
     let (heap, arena) = (Budget::new(alloc), Bump::new(alloc));
     let mut numbers = Numbers::new(&heap, &arena);
@@ -72,7 +74,8 @@ fn pushes_leave_no_copy(alloc: Global, count: usize) -> bool {
     refused == 100 && numbers.len() == len && room(&arena) == before
 }
 
-// The same of a set, whose values are the numbers from 1 on.
+// Returns whether a hundred insertions into a set fail after the numbers below `count`, and the
+// arena is unchanged.
 fn values_leave_no_copy(alloc: Global, count: u64) -> bool {
     let (heap, arena) = (Budget::new(alloc), Bump::new(alloc));
     let mut values = Values::new(&heap, &arena);
@@ -88,7 +91,8 @@ fn values_leave_no_copy(alloc: Global, count: u64) -> bool {
     refused == 100 && values.len() == len && room(&arena) == before
 }
 
-// The same of a map by texts, whose keys are the first words.
+// Returns whether insertions by text into a map fail after the first `count` words, and the arena
+// is unchanged.
 fn texts_leave_no_copy(alloc: Global, count: usize) -> bool {
     let (heap, arena) = (Budget::new(alloc), Bump::new(alloc));
     let mut texts = Texts::new(&heap, &arena);

@@ -1,5 +1,6 @@
-//! Whole runs of 32 commands with each request for memory, and each placing, refused in turn: `NoMemory` answers a push or an insertion of an
-//! absent key alone, every other reply is the model's over the accepted calls, and `Err` means that no command was done.
+//! Runs of 32 commands, with each request for memory and each allocation in the arena denied in
+//! turn. Only a push, or an insertion of an absent key, has the reply `NoMemory`. Every other reply
+//! is the model's for the calls that succeeded. If a run returns `Err`, no command was executed.
 use bumpalo::Bump;
 use elsa_index::index_set::FrozenIndexSet;
 use elsa_maps::index_map::FrozenIndexMap;
@@ -23,7 +24,8 @@ const COMMANDS: usize = 32;
 
 // ---- the model
 
-// The value of each key that was accepted so far, and how many calls were refused. Keys are given in ascending order.
+// The values of the keys that were inserted so far, and the number of calls that failed. Keys are
+// inserted in ascending order.
 #[derive(Drop)]
 struct Model {
     values: [Option<usize>; 16],
@@ -42,7 +44,7 @@ impl Model {
         self.values.get(key).copied().flatten()
     }
 
-    // How many of the keys below this are there: the place of the key, if it is.
+    // Returns the number of present keys below this one. If the key is present, that is its index.
     fn below(&self, key: usize) -> usize {
         let mut count = 0usize;
         for other in 0..key {
@@ -61,7 +63,7 @@ impl Model {
         }
     }
 
-    // The value at the place.
+    // Returns the value at this index.
     fn at(&self, place: usize) -> Option<usize> {
         for key in 0..16 {
             if self.place(key) == Some(place) {
@@ -71,7 +73,7 @@ impl Model {
         None
     }
 
-    // The key's value after an insertion of this one, and whether the key is new.
+    // Inserts the value at the key, and returns the key's value and whether the key is new.
     fn give(&mut self, key: usize, value: usize) -> (usize, bool) {
         if let Some(there) = self.value(key) {
             return (there, false);
@@ -82,21 +84,21 @@ impl Model {
         (value, true)
     }
 
-    // Whether an insertion of the key may be refused, as it was.
+    // Counts an insertion of the key that failed, and returns whether it may fail.
     fn refuse(&mut self, key: usize) -> bool {
         self.refused = self.refused.saturating_add(1);
         self.value(key).is_none()
     }
 }
 
-// How a run went.
+// The outcome of a run.
 #[derive(Clone, Copy, Debug, PartialEq, Eq)]
 enum Went {
-    // Answered by `Err`, and nothing was done.
+    // The run returned `Err`, and no command was executed.
     Nowhere,
-    // Each reply is the model's, and so is what is left; so many calls were refused.
+    // Each reply and the final content are the model's, and this number of calls failed.
     Through(u64),
-    // Not as it must.
+    // A reply or the content is wrong.
     Wrong,
 }
 
@@ -123,7 +125,8 @@ enum Runs {
 }
 
 impl Runs {
-    // How the run goes over a collection with its table in `heap`, and its commands there too.
+    // Returns the outcome of the run on a collection whose table is in `heap`, where its commands
+    // are too.
     fn goes(self, heap: &Budget<Global>, arena: &Bump) -> Went {
         match self {
             Runs::Vector => vec_goes(heap, arena),
@@ -135,8 +138,9 @@ impl Runs {
     }
 }
 
-// Whether the run goes through with nothing refused, nowhere with the second request refused, which is for the replies, and with each later
-// one refused through with one call refused. The first request is for the commands.
+// Returns whether the outcome is right for each denied request. With no request denied, no call
+// fails. The first request is for the commands. If the second request, which is for the replies, is
+// denied, the run returns `Err`. With each later request denied, one call fails.
 fn stands_requests(alloc: Global, run: Runs) -> bool {
     let open = Budget::new(alloc);
     if run.goes(&open, &Bump::new(alloc)) != Went::Through(0) {
@@ -157,8 +161,8 @@ fn stands_requests(alloc: Global, run: Runs) -> bool {
     open.asked() > 4
 }
 
-// Whether the run goes through with calls refused where the arena has room for fewer values than the sixteen that are accepted, and with
-// none refused where it has.
+// Returns whether calls fail if the arena has room for fewer than the sixteen values of the run,
+// and none fails if it has room for all.
 fn stands_placings(alloc: Global, run: Runs) -> bool {
     for room in 0..17 {
         let (heap, arena) = (Budget::new(alloc), Bump::new(alloc));
@@ -179,7 +183,7 @@ fn stands(alloc: Global, run: Runs) -> bool {
 
 // A command of a run.
 trait Numbered: Sized + Drop {
-    // The command of this number.
+    // Makes the command with this number.
     fn of(number: usize) -> Self;
 }
 
@@ -193,7 +197,8 @@ fn commands<C: Numbered, A: Allocator + Copy + Drop>(alloc: A) -> Result<Vec<C, 
 
 // A reply of a run.
 trait Fits: Copy {
-    // Whether this is the model's reply to the command of this number, which the model takes in.
+    // Returns whether this is the model's reply to the command with this number, and executes the
+    // command on the model.
     fn fits(self, model: &mut Model, number: usize) -> bool;
 }
 
@@ -268,7 +273,7 @@ fn a_refused_push_of_a_run_is_told_and_the_run_goes_on(rt: HostRuntime) -> Resul
 
 // ---- the maps
 
-// An insertion's value: 99 where the key has to be there already.
+// Returns the value of an insertion: 99 if the key must be present already.
 fn value_of(number: usize) -> usize {
     if number % 2 == 0 { number } else { 99 }
 }
@@ -435,7 +440,7 @@ fn a_refused_insertion_of_an_index_map_run_is_told_and_the_run_goes_on(
 
 type Numbers<'a, A> = FrozenIndexSet<'a, Own<usize>, Hasher, A>;
 
-// The values of the set are the keys themselves.
+// The values of the set are the keys.
 impl<B: Drop, M: Drop> Numbered for SetCommand<Own<usize>, B, M> {
     fn of(number: usize) -> Self {
         let value = Own(number / 2);

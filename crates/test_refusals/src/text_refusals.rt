@@ -1,4 +1,5 @@
-//! A script of 16 calls by text on an index map with text keys: each request for memory and each placing is refused in turn.
+//! A script of 16 calls by text on an index map with text keys. Each request for memory and each
+//! allocation in the arena is denied in turn.
 use bumpalo::Bump;
 use elsa_maps::index_map::FrozenIndexMap;
 use std::alloc::{AllocError, Allocator, Global};
@@ -15,12 +16,13 @@ fn word(place: usize) -> &'static str {
     WORDS[place % 16]
 }
 
-// The value of the word at this place.
+// Returns the value of the word with this number.
 fn value(place: usize) -> &'static str {
     word(place.wrapping_add(5))
 }
 
-// An even call gives the next word a value, in turn by `insert_text` and by `insert_full_text`; an odd one gives it another value.
+// An even call inserts the next word with a value, alternately by `insert_text` and by
+// `insert_full_text`. An odd call inserts the same word with another value.
 #[derive(Drop)]
 struct Calls<'a, A: Allocator + Copy + Drop> {
     heap: A,
@@ -48,7 +50,7 @@ impl<A: Allocator + Copy + Drop> Script for Calls<'_, A> {
     }
 }
 
-// Whether the first words, so many, have their values, and no other word has one.
+// Returns whether exactly the first `count` words have their values.
 fn has_words<A: Allocator + Copy + Drop>(map: &Texts<'_, A>, count: usize) -> bool {
     for place in 0..16 {
         let want = if place < count {
@@ -56,7 +58,7 @@ fn has_words<A: Allocator + Copy + Drop>(map: &Texts<'_, A>, count: usize) -> bo
         } else {
             None
         };
-        if map.get_text(word(place)) != want {
+        if map.get(word(place)) != want {
             return false;
         }
     }
@@ -84,7 +86,7 @@ impl Family for ByText {
         CALLS
     }
 
-    // The key and the value.
+    // An insertion stores the key and the value.
     fn placings(&self, number: usize) -> usize {
         if number % 2 == 0 { 2 } else { 0 }
     }

@@ -1,10 +1,10 @@
-//! The forms that threads share, in one thread.
+//! The shared collections, with one thread.
 use crate::words::{Words, shown};
 use elsa::sync::{FrozenBTreeMap, FrozenMap, FrozenVec, LockFreeFrozenVec};
 use std::alloc::{AllocError, Global};
 use std::sync::Wait;
 
-/// One collection of each form.
+/// One collection of each shared type.
 #[derive(Drop)]
 pub struct Locked {
     map: FrozenMap<u64, String>,
@@ -14,6 +14,10 @@ pub struct Locked {
 }
 
 impl Locked {
+    /// Makes empty collections.
+    ///
+    /// # Errors
+    /// Fails if an allocation fails.
     pub fn new(alloc: Global) -> Result<Locked, AllocError> {
         Ok(Locked {
             map: FrozenMap::new(alloc),
@@ -23,7 +27,10 @@ impl Locked {
         })
     }
 
-    /// The answer to the line.
+    /// Makes the call of the line, and returns its output.
+    ///
+    /// # Errors
+    /// Fails if an allocation fails.
     pub fn answer<R: Wait>(
         &self,
         rt: &R,

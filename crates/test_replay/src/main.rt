@@ -1,6 +1,8 @@
-//! Answers a script of calls, one line a call, by the collections of this repository.
+//! Runs a script of calls, one in each line, on the collections of this repository, and prints an
+//! output line for each.
 //!
-//! The stored answers are those that upstream's own collections gave to the same script (`tools/make_replay`).
+//! The stored output is that of upstream's own collections for the same script
+//! (`tools/make_replay`).
 #![tactic(auto)]
 
 mod locked;

@@ -1,10 +1,10 @@
-//! The forms of one thread.
+//! The single-threaded collections.
 use crate::words::{Words, counted, found, paired, shown};
 use bumpalo::Bump;
 use elsa::{FrozenBTreeMap, FrozenIndexMap, FrozenIndexSet, FrozenMap, FrozenVec};
 use std::alloc::{AllocError, Global};
 
-/// One collection of each form.
+/// One collection of each single-threaded type.
 #[derive(Drop)]
 pub struct OneThread<'a> {
     vec: FrozenVec<'a, String>,
@@ -15,6 +15,7 @@ pub struct OneThread<'a> {
 }
 
 impl<'a> OneThread<'a> {
+    /// Makes empty collections.
     pub fn new(alloc: Global, arena: &'a Bump) -> OneThread<'a> {
         OneThread {
             vec: FrozenVec::new(alloc, arena),
@@ -25,7 +26,11 @@ impl<'a> OneThread<'a> {
         }
     }
 
-    /// The answer to the line, or None where it names none of these forms.
+    /// Makes the call of the line, and returns its output, or `None` if the line is for none of
+    /// these collections.
+    ///
+    /// # Errors
+    /// Fails if an allocation fails.
     pub fn answer(
         &mut self,
         alloc: Global,

@@ -1,7 +1,7 @@
-//! A line of the script, cut into words, and the shapes of an answer.
+//! A line of the script as words, and the formats of an output line.
 use std::alloc::{AllocError, Global};
 
-/// A line `FORM CALL FIRST SECOND`; a word that isn't there is empty.
+/// A line `FORM CALL FIRST SECOND`. A missing word is empty.
 #[derive(Clone, Copy)]
 pub struct Words<'a> {
     pub form: &'a str,
@@ -11,6 +11,7 @@ pub struct Words<'a> {
 }
 
 impl<'a> Words<'a> {
+    /// Splits a line into its words.
     pub fn of(line: &'a str) -> Words<'a> {
         let mut words = line.split(' ');
         Words {
@@ -21,23 +22,29 @@ impl<'a> Words<'a> {
         }
     }
 
-    /// The first word as a place or a length.
+    /// Returns the first word as an index or a length.
     pub fn place(&self) -> usize {
         self.first.parse::<usize>().unwrap_or(0)
     }
 
-    /// The first word as a key or an item.
+    /// Returns the first word as a key or an item.
     pub fn key(&self) -> u64 {
         self.first.parse::<u64>().unwrap_or(0)
     }
 }
 
-/// The text, or `none`.
+/// Returns the text, or `none`.
+///
+/// # Errors
+/// Fails if an allocation fails.
 pub fn shown(alloc: Global, answer: Option<&str>) -> Result<String, AllocError> {
     String::from_str(alloc, answer.unwrap_or("none"))
 }
 
-/// The number, or `none`.
+/// Returns the number, or `none`.
+///
+/// # Errors
+/// Fails if an allocation fails.
 pub fn counted(alloc: Global, answer: Option<usize>) -> Result<String, AllocError> {
     match answer {
         Some(number) => format!(in alloc; "{number}"),
@@ -45,7 +52,10 @@ pub fn counted(alloc: Global, answer: Option<usize>) -> Result<String, AllocErro
     }
 }
 
-/// Where a search ended.
+/// Returns the result of a search.
+///
+/// # Errors
+/// Fails if an allocation fails.
 pub fn found(alloc: Global, answer: Result<usize, usize>) -> Result<String, AllocError> {
     match answer {
         Ok(place) => format!(in alloc; "at {place}"),
@@ -53,7 +63,10 @@ pub fn found(alloc: Global, answer: Result<usize, usize>) -> Result<String, Allo
     }
 }
 
-/// The pairs, as `KEY=TEXT` with a space between.
+/// Returns the pairs as `KEY=TEXT`, with a space between them.
+///
+/// # Errors
+/// Fails if an allocation fails.
 pub fn paired(alloc: Global, pairs: &[(u64, &str)]) -> Result<String, AllocError> {
     let mut text = String::new(alloc);
     for (place, pair) in pairs.iter().enumerate() {

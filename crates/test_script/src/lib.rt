@@ -1,11 +1,17 @@
-//! Scripts in which each request for memory, and each placing in an arena, is refused in turn.
+//! Scripts of calls in which each request for memory, and each allocation in the arena, is denied
+//! in turn.
 //!
-//! A [`Family`] goes through a script of calls over an allocator that counts and refuses. [`refuse_each_in_turn`] lets it go once with
-//! nothing refused, where no call may answer an allocation failure. Then it lets it go for each request with that one refused, for each with
-//! all from that one on refused, and for each placing with that one refused; each time exactly one call has to answer so (none, where the call
-//! asked again for less and got it). [`goes_through`] is how a script is walked: a refused call must leave the content as it was, and must
-//! succeed when it is made again. Where nothing is refused, what each call leaves is looked at; else what the refused call and the last one
-//! leave, since those before do what they did then.
+//! A [`Family`] runs a script of calls with an allocator that counts requests and denies some.
+//! [`refuse_each_in_turn`] runs it once with no request denied; then no call may report an
+//! allocation failure. After that it runs the script for each request with that one denied, for
+//! each request with it and all later ones denied, and for each allocation in the arena with that
+//! one denied. Each time exactly one call has to fail, or none if the call then requested less and
+//! got it.
+//!
+//! [`goes_through`] makes the calls of a script. A call that fails must leave the content
+//! unchanged, and must succeed when it is repeated. If no request is denied, the content is checked
+//! after each call. Otherwise it is checked after the call that fails and after the last one,
+//! because the earlier calls have the same results as before.
 #![tactic(auto)]
 
 use bumpalo::Bump;
@@ -20,28 +26,33 @@ pub const WORDS: [&str; 16] = [
 
 /// A collection with the calls of its script, which are numbered from 0.
 pub trait Script {
-    /// Makes the call of this number, and says whether it answered what it must. `Err` where memory was refused.
+    /// Makes the call with this number, and returns whether its result is the expected one.
+    ///
+    /// # Errors
+    /// Fails if an allocation of the call fails.
     fn call(&mut self, number: usize) -> Result<bool, AllocError>;
 
-    /// Whether the collection holds exactly what the calls before this number leave.
+    /// Returns whether the collection has exactly the content that the calls before this number
+    /// leave.
     fn holds(&self, number: usize) -> bool;
 }
 
-/// Which placings are refused: at the first try of the call `call` the arena has room for `room` values of eight bytes.
+/// The allocations in the arena that are denied: at the first try of the call `call`, the arena has
+/// room for `room` values of eight bytes.
 #[derive(Clone, Copy)]
 pub struct Squeeze {
     call: usize,
     room: usize,
 }
 
-/// No placing is refused.
+/// No allocation in the arena is denied.
 pub const NO_SQUEEZE: Squeeze = Squeeze {
     call: usize::MAX,
     room: 0,
 };
 
-/// Fills the arena until it has room for so many values of eight bytes, and for no more until its limit is lifted. Of a chunk of more than 125
-/// KiB some is left.
+/// Fills the arena until it has room for `values` values of eight bytes, and sets its limit so that
+/// it doesn't grow. If a chunk is larger than 125 KiB, more room stays.
 pub fn leave_room(arena: &Bump, values: usize) {
     let room = values.saturating_mul(8);
     for _ in 0..64 {
@@ -63,10 +74,11 @@ pub fn leave_room(arena: &Bump, values: usize) {
     }
 }
 
-/// Makes the first `count` calls, each refused one a second time with nothing refused.
+/// Makes the first `count` calls. A call that fails is repeated while no request is denied.
 ///
-/// Answers how many calls were refused, or `None` where a call or what it left wasn't as it must be, or where a call answered an allocation
-/// failure though neither `heap` nor `arena` had refused anything.
+/// Returns the number of calls that failed, or `None` if a result or the content was not the
+/// expected one, or if a call reported an allocation failure though neither `heap` nor `arena` had
+/// denied a request.
 pub fn goes_through<S: Script>(
     script: &mut S,
     count: usize,
@@ -101,39 +113,45 @@ pub fn goes_through<S: Script>(
     Some(failures)
 }
 
-/// What goes through one script.
+/// A script together with the way to run it.
 pub trait Family {
-    /// The number of calls of the script.
+    /// Returns the number of calls of the script.
     fn calls(&self) -> usize;
 
-    /// How many values, of eight bytes each, the call of this number places in the arena.
+    /// Returns the number of values of eight bytes that the call with this number stores in the
+    /// arena.
     fn placings(&self, number: usize) -> usize;
 
-    /// Goes through the whole script over `heap` by [`goes_through`], whose answer this is. Everything is dropped before the answer.
+    /// Runs the whole script with memory of `heap`, by [`goes_through`]. Everything is dropped
+    /// before it returns that result.
     fn goes_over(&self, alloc: Global, heap: &Budget<Global>, squeezed: Squeeze) -> Option<u64>;
 }
 
-/// How much there was to refuse.
+/// The number of requests and of allocations in the arena that were denied, each in turn.
 #[derive(Clone, Copy, Debug)]
 pub struct Refused {
-    /// The requests of the script where nothing is refused.
+    /// The number of requests of the script if none is denied.
     pub requests: u64,
-    /// The placings of the script.
+    /// The number of allocations of the script in the arena.
     pub placings: u64,
 }
 
-/// Where a script went wrong.
+/// The run in which a script failed.
 #[derive(Clone, Copy, Debug, Drop)]
 pub enum Wrong {
-    /// With nothing refused.
+    /// The run with no request denied.
     Open,
-    /// With the request of this number refused, alone or with all after it.
+    /// A run with the request of this number denied, alone or with all later ones.
     Request(u64),
-    /// With one of the placings of the call of this number refused.
+    /// A run with an allocation in the arena denied that the call of this number makes.
     Placing(usize),
 }
 
-/// Lets the script go with nothing refused, and with each request and each placing refused in turn.
+/// Runs the script with no request denied, and with each request and each allocation in the arena
+/// denied in turn.
+///
+/// # Errors
+/// Returns the first run in which the script failed.
 pub fn refuse_each_in_turn<F: Family>(alloc: Global, family: &F) -> Result<Refused, Wrong> {
     let open = Budget::new(alloc);
     if family.goes_over(alloc, &open, NO_SQUEEZE) != Some(0) || open.given() != open.granted() {
@@ -149,7 +167,8 @@ pub fn refuse_each_in_turn<F: Family>(alloc: Global, family: &F) -> Result<Refus
     Ok(Refused { requests, placings })
 }
 
-// Whether one call is refused where the request of this number is, or none is but another request was made in that one's place.
+// Returns whether exactly one call fails if the request with this number is denied, or none fails
+// and another request was made instead.
 fn stands_one<F: Family>(alloc: Global, family: &F, number: u64, requests: u64) -> bool {
     let budget = Budget::new(alloc);
     budget.refuse(number, number.saturating_add(1));
@@ -158,7 +177,8 @@ fn stands_one<F: Family>(alloc: Global, family: &F, number: u64, requests: u64) 
     is_told && budget.refused() == 1 && budget.given() == budget.granted()
 }
 
-// Whether one call is refused where each request from this number on is, up to the first call that is refused.
+// Returns whether exactly one call fails if each request from this number on is denied until the
+// first call fails.
 fn stands_all<F: Family>(alloc: Global, family: &F, number: u64) -> bool {
     let budget = Budget::new(alloc);
     budget.refuse(number, u64::MAX);
@@ -166,7 +186,8 @@ fn stands_all<F: Family>(alloc: Global, family: &F, number: u64) -> bool {
     failures == Some(1) && budget.refused() > 0 && budget.given() == budget.granted()
 }
 
-// The number of placings, each of which was refused where the arena had room for those before it alone.
+// Returns the number of allocations in the arena. Each is denied in a run in which the arena has
+// room for the earlier ones of its call only.
 fn refuse_each_placing<F: Family>(alloc: Global, family: &F) -> Result<u64, Wrong> {
     let mut placings = 0u64;
     for call in 0..family.calls() {
@@ -184,7 +205,7 @@ fn refuse_each_placing<F: Family>(alloc: Global, family: &F) -> Result<u64, Wron
     Ok(placings)
 }
 
-// Whether so many calls are refused where the arena is squeezed so.
+// Returns whether `failures` calls fail if the arena is limited by `squeezed`.
 fn is_squeezed<F: Family>(alloc: Global, family: &F, squeezed: Squeeze, failures: u64) -> bool {
     let open = Budget::new(alloc);
     family.goes_over(alloc, &open, squeezed) == Some(failures) && open.given() == open.granted()

@@ -1,4 +1,4 @@
-//! A text that no collection was written as is refused by a name.
+//! A text that isn't the text of a collection can't be read: the error has a name.
 use bumpalo::Bump;
 use elsa_index::index_set::FrozenIndexSet;
 use elsa_interner::interner::Interner;
@@ -12,7 +12,7 @@ use serde_json::error::Category;
 use std::alloc::{AllocError, Global};
 use std::test::Fail;
 
-/// The kind of the error with which the text is refused as a `T`, or `None` where it is read.
+/// Returns the kind of the error if the text can't be read as a `T`, or `None` if it is read.
 fn refusal<'a, T: Deserialize<'a>>(alloc: Global, text: &'a str) -> Option<Category> {
     serde_json::from_str::<T>(alloc, text)
         .err()
@@ -106,7 +106,8 @@ fn a_text_behind_the_collection_was_read(rt: HostRuntime) -> Result<(), Fail> {
     Ok(())
 }
 
-/// What is said of the names in the text, and whether the interner then has the name `left` last.
+/// Puts the names of the text into an interner. Returns the result, and whether the last name is
+/// `left`.
 fn names_of(alloc: Global, text: &str, left: &str) -> Result<(Result<(), ReadFault>, bool), Error> {
     let arena = Bump::new(alloc);
     let mut names: Interner<'_> = Interner::new(alloc, &arena);
@@ -175,7 +176,7 @@ fn a_second_value_of_a_key_went_in(rt: HostRuntime) -> Result<(), Fail> {
     Ok(())
 }
 
-/// The text that a refusal prints.
+/// Returns the text that a fault prints.
 fn told(alloc: Global, fault: ReadFault) -> Result<String, AllocError> {
     format!(in alloc; "{fault}")
 }

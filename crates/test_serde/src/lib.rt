@@ -1,6 +1,9 @@
-//! Collections through `serde_json`: the text of each, what is read back, and what a broken text or a refused allocation leaves.
+//! Collections through `serde_json`: the text of each, what is read back, and what a broken text or
+//! an allocation failure leaves.
 #![tactic(auto)]
 
+#[cfg(test)]
+mod broken_files;
 #[cfg(test)]
 mod broken_texts;
 #[cfg(test)]

@@ -1,5 +1,6 @@
-//! Each collection has its text, and is the same when it is read back.
+//! Each collection has its text, and is the same after it was read back.
 use bumpalo::Bump;
+use elsa_append::{AppendMap, FrozenAppendMap};
 use elsa_index::index_set::FrozenIndexSet;
 use elsa_interner::interner::Interner;
 use elsa_maps::index_map::FrozenIndexMap;
@@ -13,7 +14,8 @@ use std::test::Fail;
 
 const NAMES: &str = r#"["fox","a \"dog\"","","猫"]"#;
 
-/// Whether the names of the text are at their places, and are written as the same text, also without the arena.
+/// Returns whether the names of the text have the right numbers, and are written as the same text,
+/// also from the reader.
 fn names_go_round(alloc: Global, text: &str) -> Result<bool, Error> {
     let arena = Bump::new(alloc);
     let mut names: Interner<'_> = Interner::new(alloc, &arena);
@@ -96,6 +98,30 @@ fn index_map_goes_round(alloc: Global, text: &str) -> Result<bool, Error> {
     Ok(is_inserted && is_same)
 }
 
+fn append_map_goes_round(alloc: Global, text: &str) -> Result<bool, Error> {
+    let arena = Bump::new(alloc);
+    let mut map: FrozenAppendMap<'_, String, Own<u64>> = FrozenAppendMap::over(
+        alloc,
+        &arena,
+        AppendMap::new(alloc),
+    );
+    let read: Entries<String, Own<u64>> = serde_json::from_str(alloc, text)?;
+    let is_inserted = read.insert_into(&mut map) == Ok(());
+    let table = map.into_map();
+    let is_same = serde_json::to_string(alloc, &Stored(&table))?.as_str() == text;
+    Ok(is_inserted && is_same)
+}
+
+#[test]
+fn a_map_for_large_collections_changed_on_its_way_through_json(
+    rt: HostRuntime,
+) -> Result<(), Fail> {
+    for text in [r#"{"b":2,"a":1,"c":3}"#, "{}"] {
+        assert!(rt; append_map_goes_round(rt.alloc(), text)?, "{text}");
+    }
+    Ok(())
+}
+
 fn ordered_map_goes_round(alloc: Global, text: &str, sorted: &str) -> Result<bool, Error> {
     let arena = Bump::new(alloc);
     let mut map: FrozenBTreeMap<'_, String, Own<u64>> = FrozenBTreeMap::new(alloc, &arena);
@@ -105,7 +131,8 @@ fn ordered_map_goes_round(alloc: Global, text: &str, sorted: &str) -> Result<boo
     Ok(is_inserted && is_sorted)
 }
 
-/// Whether the map that is read from the text, is written and is read again has what the first one had.
+/// Returns whether a map that was read from the text, written and read again has the content of the
+/// first one.
 fn hashed_map_goes_round(alloc: Global, text: &str) -> Result<bool, Error> {
     let arena = Bump::new(alloc);
     let mut first: FrozenMap<'_, u64, String> = FrozenMap::new(alloc, &arena);

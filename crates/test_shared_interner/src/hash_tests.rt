@@ -1,5 +1,6 @@
-//! How often an interner hashes a name: once where it is looked up, and once for each row that it is entered in. No clause counts
-//! hashes, so these tests alone see rows that are made again.
+//! The number of times that an interner hashes a name: once when it is looked up, and once for each
+//! hash index into which it is entered. No clause counts hashes, so only these tests notice a hash
+//! index that is rebuilt.
 ghost use Rattle.std.specs.Prelude.{◌≡◌, [], nat_eq, refl};
 ghost use Rattle.std.specs.Cmp.{nat_eq_equiv, on_equiv, partial_equiv_from_equiv};
 
@@ -9,10 +10,10 @@ use std::sync::Wait;
 use std::sync::atomic::{AtomicU64, Ordering};
 use std::test::*;
 
-/// How many names are put before one is looked for.
+/// The number of names that are put before one is looked up.
 const NAMES: u64 = 64;
 
-/// A number that counts how often it is hashed. All have one hash.
+/// A number that counts how often it is hashed. All these numbers have one hash.
 #[derive(Clone, Copy)]
 struct Counted<'c> {
     number: u64,
@@ -47,7 +48,7 @@ type Interner<'c> = SharedInterner<Counted<'c>>;
 
 type Names<'c> = NamePass<Counted<'c>>;
 
-/// Puts the numbers below [`NAMES`]. Whether each is at its own place.
+/// Puts the numbers below [`NAMES`], and returns whether each is at itself as the index.
 fn put_all<'c, R: Wait>(
     rt: &R,
     interner: &Interner<'c>,
@@ -65,7 +66,8 @@ fn put_all<'c, R: Wait>(
     true
 }
 
-/// Whether the last name is found by few hashes. A pass that entered all names again would make [`NAMES`] of them.
+/// Returns whether the last name is found by few hashes. A view that entered all names again would
+/// make [`NAMES`] hashes.
 fn finds_the_last<'c, R: Wait>(
     rt: &R,
     interner: &Interner<'c>,
@@ -82,7 +84,7 @@ fn finds_the_last<'c, R: Wait>(
     place == Ok(number as usize) && after.wrapping_sub(before) < 8
 }
 
-/// Whether a pass finds the last name that it put by few hashes, and a new pass does.
+/// Returns whether a view finds the last name that it put by few hashes, and a new view does too.
 fn keeps_the_index<'c, R: Wait>(rt: &R, interner: &Interner<'c>, hashes: &'c AtomicU64) -> bool {
     let mut names = interner.pass();
     put_all(rt, interner, &mut names, hashes)
@@ -98,7 +100,8 @@ fn a_new_pass_finds_a_name_by_few_hashes(rt: HostRuntime) -> Result<(), Fail> {
     Ok(())
 }
 
-/// Whether two passes that put or found all names, and then met, find the last name by few hashes.
+/// Returns whether two views that put or found all names, and were then merged, find the last name
+/// by few hashes.
 fn keep_the_index<'c, R: Wait>(rt: &R, interner: &Interner<'c>, hashes: &'c AtomicU64) -> bool {
     let mut one = interner.pass();
     let mut other = interner.pass();

@@ -1,8 +1,9 @@
-//! The shared interner by one thread, and memory that is refused.
+//! The shared interner with one thread, and with allocation failures.
 ghost use Rattle.std.specs.Prelude.{◌≡◌};
 ghost use Rattle.elsa_lock_free.specs.Distinct.{AgreeOnPlaces};
 ghost use Rattle.elsa_lock_free.specs.SharedList.{items_of};
 
+use elsa_shared_interner::handle::NameHandle;
 use elsa_shared_interner::name::Name;
 use elsa_shared_interner::shared::{NamePass, SharedInterner};
 use std::alloc::{Allocator, Global};
@@ -15,7 +16,7 @@ type Names<A> = NamePass<Name, BuildHasherDefault<FoldHasher>, A>;
 
 type Interner<A> = SharedInterner<Name, BuildHasherDefault<FoldHasher>, A>;
 
-/// The place of a name, or `None` where memory was refused.
+/// Returns the number of a name, or `None` if an allocation fails.
 fn put<R: Wait, A: Allocator + Copy>(
     rt: &R,
     interner: &Interner<A>,
@@ -29,7 +30,7 @@ fn put<R: Wait, A: Allocator + Copy>(
     interner.put(rt, names, name).ok()
 }
 
-/// Whether the name at this place is the text.
+/// Returns whether the name with the number `place` is the text.
 fn has<A: Allocator + Copy>(
     interner: &Interner<A>,
     names: &mut Names<A>,
@@ -45,7 +46,7 @@ fn has<A: Allocator + Copy>(
     }
 }
 
-/// Whether two passes find each other's names.
+/// Returns whether two views find each other's names.
 fn two_passes_agree<R: Wait>(rt: &R, interner: &SharedInterner) -> bool {
     let mut p = interner.pass();
     let mut q = interner.pass();
@@ -64,7 +65,7 @@ fn two_passes_find_each_others_names(rt: HostRuntime) -> Result<(), Fail> {
     Ok(())
 }
 
-/// The place at which a pass finds a name, without a put.
+/// Returns the number at which a view finds a name, without a put.
 fn find<A: Allocator + Copy>(
     interner: &Interner<A>,
     names: &mut Names<A>,
@@ -74,10 +75,13 @@ fn find<A: Allocator + Copy>(
     ensures { names.new.vector ≡ names.old.vector }
 {
     let name = Name::new(text).ok()?;
-    interner.find(names, name)
+    let mut handle = NameHandle::of(interner, std::mem::replace(names, interner.pass()));
+    let found = handle.find(name);
+    *names = handle.into_pass();
+    found
 }
 
-/// Whether a pass that puts nothing finds the names of another one, and no others.
+/// Returns whether a view that puts nothing finds the names of another, and no others.
 fn finds_without_a_put<R: Wait>(rt: &R, interner: &SharedInterner) -> bool {
     let mut p = interner.pass();
     let mut q = interner.pass();
@@ -97,7 +101,8 @@ fn a_pass_finds_names_that_it_did_not_put(rt: HostRuntime) -> Result<(), Fail> {
     Ok(())
 }
 
-/// Whether a new pass finds a name that another one put, and puts it, without a request for memory.
+/// Returns whether a new view finds a name that another put, and puts it, without a request for
+/// memory.
 fn knows_at_once<R: Wait>(
     rt: &R,
     budget: &Budget<Global>,
@@ -129,7 +134,8 @@ fn a_refused_first_put_succeeds_later(rt: HostRuntime) -> Result<(), Fail> {
     Ok(())
 }
 
-/// Whether the first put is refused with its memory, and the same put then takes the first place.
+/// Returns whether the first put fails with its request denied, and the same put then returns the
+/// number 0.
 fn refused_once<R: Wait>(
     rt: &R,
     budget: &Budget<Global>,
@@ -143,8 +149,9 @@ fn refused_once<R: Wait>(
     refused.is_none() && empty && put(rt, interner, &mut names, "a") == Some(0)
 }
 
-/// Whether the first put, whose requests are this many, is refused the last of them, the list's buffer, and the same put then makes
-/// as many requests and takes the first place.
+/// Returns whether the first put, which makes `requests` requests, fails if the last is denied,
+/// that for the list's buffer. The same put must then make the same number of requests and return
+/// the number 0.
 fn refused_its_buffer<R: Wait>(
     rt: &R,
     budget: &Budget<Global>,
@@ -161,7 +168,7 @@ fn refused_its_buffer<R: Wait>(
     refused.is_none() && again == Some(0) && more == requests
 }
 
-/// How many requests the first put makes.
+/// Returns the number of requests of the first put.
 fn requests_of_a_put<R: Wait>(
     rt: &R,
     budget: &Budget<Global>,
@@ -189,7 +196,8 @@ const WORDS: [&str; 20] = [
     "t",
 ];
 
-/// How many puts of the script were refused; 100 where one gave a wrong place. Each word is put twice, by two passes.
+/// Puts each word twice, by two views. Returns the number of puts that failed, or 100 if a number
+/// was wrong.
 fn script<R: Wait, A: Allocator + Copy>(rt: &R, interner: &Interner<A>) -> u64 {
     let mut p = interner.pass();
     let mut q = interner.pass();
@@ -221,7 +229,7 @@ fn script<R: Wait, A: Allocator + Copy>(rt: &R, interner: &Interner<A>) -> u64 {
     refused
 }
 
-/// Whether the script goes well though its request with this number is refused.
+/// Returns whether the script has the right results though its request with this number is denied.
 fn goes_on_after<R: Wait>(rt: &R, budget: &Budget<Global>, number: u64) -> bool {
     let Ok(interner) = Interner::<&Budget<Global>>::new(budget) else {
         return false;
@@ -240,12 +248,13 @@ fn a_script_goes_on_after_each_refused_request(rt: HostRuntime) -> Result<(), Fa
     for number in 0..40 {
         assert!(rt; goes_on_after(&rt, &budget, number), "at request {number}");
     }
-    // A buffer of the list begins at the places 0, 3 and 15, and asks for its slots and for its row of words.
+    // Buffers of the list begin at the indices 0, 3 and 15. Each makes a request for its slots and
+    // one for its hash index.
     assert!(rt; budget.refused() == 6);
     Ok(())
 }
 
-/// Whether a name that a pass knows is put once more, and read, without a request for memory.
+/// Returns whether a known name is put again and read without a request for memory.
 fn asks_nothing<R: Wait>(
     rt: &R,
     budget: &Budget<Global>,
@@ -266,7 +275,8 @@ fn a_put_of_a_known_name_asks_for_no_memory(rt: HostRuntime) -> Result<(), Fail>
     Ok(())
 }
 
-/// How many names two passes of an interner have seen; each name has one place for both.
+/// Returns the numbers of names that two views of an interner have observed. Each name has the same
+/// number in both, by contract.
 fn agree(one: &NamePass, other: &NamePass) -> (usize, usize)
     requires { one.now.vector ≡ other.now.vector }
     ensures { AgreeOnPlaces ⟦<Name as PartialEq>⟧.eq (items_of one.now.seen) (items_of other.now.seen) }
@@ -286,7 +296,7 @@ fn passes_that_never_met_agree_on_what_both_have_seen(rt: HostRuntime) -> Result
     Ok(())
 }
 
-/// Whether a handle puts a name, and another one finds it and counts it, each without a pass in the caller's hands.
+/// Returns whether a handle puts a name, and another handle finds it and counts it.
 fn by_handles<R: Wait>(rt: &R, interner: &SharedInterner, name: Name, other: Name) -> bool {
     let mut one = interner.handle();
     let mut two = interner.handle();

@@ -1,4 +1,5 @@
-//! An interner of thousands of names, and texts of 2,000 bytes: no call is refused for its size.
+//! An interner with thousands of names, and texts of 2,000 bytes: no call fails because of the
+//! size.
 use bumpalo::Bump;
 use elsa_lock_free_map::place_text::TextBuffer;
 use elsa_shared_interner::handle::NameHandle;
@@ -7,10 +8,10 @@ use std::alloc::{AllocError, Global};
 use std::sync::Wait;
 use std::test::*;
 
-/// How many names there are.
+/// The number of names.
 const MANY: u64 = 5000;
 
-/// Whether the numbers below [`MANY`] are put, each at its own place, twice.
+/// Returns whether the numbers below [`MANY`] are put twice, each at itself as the index.
 fn takes_many<R: Wait>(rt: &R, names: &mut NameHandle<'_, u64>) -> bool {
     for name in 0..MANY {
         let place = Ok(name as usize);
@@ -21,7 +22,7 @@ fn takes_many<R: Wait>(rt: &R, names: &mut NameHandle<'_, u64>) -> bool {
     true
 }
 
-/// Whether another handle finds the last of them.
+/// Returns whether another handle finds the last of them.
 fn is_found(names: &mut NameHandle<'_, u64>) -> bool {
     names.find(MANY - 1) == Some((MANY - 1) as usize)
 }
@@ -33,7 +34,7 @@ fn an_interner_takes_thousands_of_names(rt: HostRuntime) -> Result<(), Fail> {
     Ok(())
 }
 
-/// A text of 2,000 bytes that ends in this one.
+/// Makes a text of 2,000 bytes that ends with `end`.
 fn long(alloc: Global, end: &str) -> Result<String, AllocError> {
     let mut text = String::new(alloc);
     for _ in end.len()..2000 {
@@ -43,7 +44,7 @@ fn long(alloc: Global, end: &str) -> Result<String, AllocError> {
     Ok(text)
 }
 
-/// Whether an arena takes a long text, and a buffer another one.
+/// Returns whether an arena stores a long text, and a buffer another one.
 fn takes_long<'a>(
     rt: &impl Wait,
     alloc: Global,
@@ -52,11 +53,11 @@ fn takes_long<'a>(
 ) -> Result<bool, AllocError> {
     let (fox, owl) = (long(alloc, "fox")?, long(alloc, "owl")?);
     let interner: SharedInterner<&'a str> = SharedInterner::new(alloc)?;
-    let mut names = interner.pass();
-    let first = interner.put_text(rt, &mut names, arena, fox.as_str())? == 0;
-    let second = interner.put_text(rt, &mut names, &mut buffer, owl.as_str())? == 1;
-    let found = interner.find_text(&mut names, owl.as_str()) == Some(1);
-    Ok(first && second && found && interner.at(&mut names, 0) == Some(fox.as_str()))
+    let mut names = interner.handle();
+    let first = names.put_text(rt, arena, fox.as_str())? == 0;
+    let second = names.put_text(rt, &mut buffer, owl.as_str())? == 1;
+    let found = names.find_text(owl.as_str()) == Some(1);
+    Ok(first && second && found && names.at(0) == Some(fox.as_str()))
 }
 
 #[test]

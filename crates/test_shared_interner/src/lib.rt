@@ -1,5 +1,5 @@
-//! Tests of names and of the shared interner as a stranger calls them: worked cases, threads that overlap, and memory that is
-//! refused.
+//! Tests of names and of the shared interner, used as by any other crate: examples, threads that
+//! overlap, and allocation failures.
 #![tactic(auto)]
 
 #[cfg(test)]

@@ -1,8 +1,9 @@
-//! Names by value.
+//! Names as values.
 use elsa_shared_interner::name::{Name, NameFault};
 use std::test::*;
 
-/// Whether the text is a name that gives it back, or is too long.
+/// Returns whether the text is a name that has the same text, if `named`, and is too long
+/// otherwise.
 fn is_name(text: &str, named: bool) -> bool {
     match Name::new(text) {
         Ok(name) => named && name.as_str() == text,
@@ -26,7 +27,7 @@ fn texts_of_up_to_23_bytes_are_names(rt: HostRuntime) -> Result<(), Fail> {
     Ok(())
 }
 
-/// Whether the names compare as these texts.
+/// Returns whether the names of two texts compare as the texts.
 fn compares(one: &str, other: &str) -> bool {
     let Ok(name) = Name::new(one) else {
         return false;

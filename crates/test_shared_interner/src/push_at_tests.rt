@@ -1,11 +1,12 @@
-//! Pushes at a place.
+//! Pushes at an index.
 use elsa_lock_free::item_rule::DistinctItems;
 use elsa_lock_free::lock_free::LockFreeFrozenVec;
 use std::alloc::Global;
 use std::sync::Wait;
 use std::test::*;
 
-/// Whether the second of two pushes at a place finds it taken, reads it, and takes the next.
+/// Returns whether the second of two pushes at the index 0 returns `None`, and then reads the item
+/// of the first.
 fn second_reads_on<R: Wait>(rt: &R, vector: &LockFreeFrozenVec<u64>) -> bool {
     let mut p = vector.pass();
     let mut q = vector.pass();
@@ -22,7 +23,8 @@ fn of_two_pushes_at_a_place_one_reads_on(rt: HostRuntime) -> Result<(), Fail> {
     Ok(())
 }
 
-/// Whether of two pushes of 5 at place 0 of a distinct vector the second finds it taken, and pushes 6 at place 1 once it has read the 5.
+/// Returns whether the second of two pushes of 5 at the index 0 of a vector of distinct items
+/// returns `None`, and then pushes 6 at the index 1 after it has read the 5.
 fn second_pushes_another<R: Wait>(
     rt: &R,
     vector: &LockFreeFrozenVec<u64, Global, DistinctItems>,

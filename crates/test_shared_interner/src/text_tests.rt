@@ -1,9 +1,11 @@
-//! Texts of any length in the shared interner: placed only if they are new, refused in turn, and put by two threads.
+//! Texts of any length in the shared interner: stored only if they are new, with each request
+//! denied in turn, and put by two threads.
 ghost use Rattle.std.specs.Prelude.{◌≡◌, IfOk};
 
 use bumpalo::Bump;
 use elsa_lock_free_map::place_text::{PlaceText, TextBuffer};
-use elsa_shared_interner::shared::{NamePass, SharedInterner};
+use elsa_shared_interner::handle::NameHandle;
+use elsa_shared_interner::shared::SharedInterner;
 use std::alloc::{AllocError, Allocator, Global};
 use std::hash::{BuildHasherDefault, FoldHasher};
 use std::sync::Wait;
@@ -13,26 +15,26 @@ use std::thread;
 use test_alloc::Budget;
 use test_script::{Family, Script, Squeeze, WORDS, goes_through, refuse_each_in_turn};
 
-type Texts<'a, A> = NamePass<&'a str, BuildHasherDefault<FoldHasher>, A>;
+type Texts<'a, A> = SharedInterner<&'a str, BuildHasherDefault<FoldHasher>, A>;
 
-/// Puts a text twice. Both have one place, by contract.
+type TextHandle<'i, 'a, A> = NameHandle<'i, &'a str, BuildHasherDefault<FoldHasher>, A>;
+
+/// Puts a text twice. Both puts return one number, by contract.
 fn twice<'a, R: Wait>(
     rt: &R,
-    interner: &SharedInterner<&'a str>,
-    names: &mut NamePass<&'a str>,
+    names: &mut NameHandle<'_, &'a str>,
     arena: &'a Bump,
     text: &str,
 ) -> Result<(usize, usize), AllocError>
-    requires { names.old.vector ≡ interner.now }
     ensures same { names.new.vector ≡ names.old.vector }
     ensures one_place { IfOk result (λ r. r.0 ≡ r.1) }
 {
-    let first = interner.put_text(rt, names, arena, text)?;
-    let second = interner.put_text(rt, names, arena, text)?;
+    let first = names.put_text(rt, arena, text)?;
+    let second = names.put_text(rt, arena, text)?;
     Ok((first, second))
 }
 
-/// Whether a text that another pass put is read, and nothing is placed for it.
+/// Returns whether a text that another handle put is read, and nothing is stored for it.
 fn reads_the_other<'a, R: Wait>(
     rt: &R,
     alloc: Global,
@@ -40,41 +42,41 @@ fn reads_the_other<'a, R: Wait>(
     two: &'a Bump,
 ) -> Result<bool, AllocError> {
     let interner: SharedInterner<&'a str> = SharedInterner::new(alloc)?;
-    let mut p = interner.pass();
-    let mut q = interner.pass();
-    let first = twice(rt, &interner, &mut p, one, "a text of no use at all")? == (0, 0)
-        && twice(rt, &interner, &mut p, one, "")? == (1, 1);
-    let second = twice(rt, &interner, &mut q, two, "")? == (1, 1)
-        && twice(rt, &interner, &mut q, two, "a text of no use at all")? == (0, 0);
+    let mut p = interner.handle();
+    let mut q = interner.handle();
+    let first = twice(rt, &mut p, one, "a text of no use at all")? == (0, 0)
+        && twice(rt, &mut p, one, "")? == (1, 1);
+    let second = twice(rt, &mut q, two, "")? == (1, 1)
+        && twice(rt, &mut q, two, "a text of no use at all")? == (0, 0);
     let nothing_placed = two.allocated_bytes() == 0;
-    Ok(first && second && nothing_placed && interner.at(&mut q, 1) == Some(""))
+    Ok(first && second && nothing_placed && q.at(1) == Some(""))
 }
 
-/// Whether a pass that put nothing finds the texts of another one, and no others.
+/// Returns whether a handle that put nothing finds the texts of another, and no others.
 fn finds_without_a_put<'a, R: Wait>(
     rt: &R,
     alloc: Global,
     arena: &'a Bump,
 ) -> Result<bool, AllocError> {
     let interner: SharedInterner<&'a str> = SharedInterner::new(alloc)?;
-    let mut p = interner.pass();
-    let mut q = interner.pass();
-    let first = twice(rt, &interner, &mut p, arena, "best friend")? == (0, 0)
-        && twice(rt, &interner, &mut p, arena, "")? == (1, 1);
-    let found = interner.find_text(&mut q, "") == Some(1);
-    let absent = interner.find_text(&mut q, "best").is_none();
-    Ok(first && found && absent && interner.find_text(&mut q, "best friend") == Some(0))
+    let mut p = interner.handle();
+    let mut q = interner.handle();
+    let first = twice(rt, &mut p, arena, "best friend")? == (0, 0)
+        && twice(rt, &mut p, arena, "")? == (1, 1);
+    let found = q.find_text("") == Some(1);
+    let absent = q.find_text("best").is_none();
+    Ok(first && found && absent && q.find_text("best friend") == Some(0))
 }
 
 #[test]
-fn a_pass_finds_texts_that_it_did_not_put(rt: HostRuntime) -> Result<(), Fail> {
+fn a_handle_finds_texts_that_it_did_not_put(rt: HostRuntime) -> Result<(), Fail> {
     let arena = Bump::new(rt.alloc());
     assert!(rt; finds_without_a_put(&rt, rt.alloc(), &arena)?);
     Ok(())
 }
 
 #[test]
-fn a_text_that_another_pass_put_is_read_and_not_placed(rt: HostRuntime) -> Result<(), Fail> {
+fn a_text_that_another_handle_put_is_read_and_not_placed(rt: HostRuntime) -> Result<(), Fail> {
     let one = Bump::new(rt.alloc());
     let two = Bump::new(rt.alloc());
     assert!(rt; reads_the_other(&rt, rt.alloc(), &one, &two)?);
@@ -83,78 +85,56 @@ fn a_text_that_another_pass_put_is_read_and_not_placed(rt: HostRuntime) -> Resul
 
 const CALLS: usize = 32;
 
-/// An interner with a pass of it, and the arena of its texts. Each even call puts a new word, each odd one the first word.
-struct Words<'a, R: Wait, A: Allocator + Copy> {
-    rt: &'a R,
-    heap: &'a Budget<Global>,
+/// An interner with a handle of it, and the arena of its texts. Each even call puts a new word,
+/// each odd call the first word.
+#[derive(Drop)]
+struct Words<'i, 'a, R: Wait, A: Allocator + Copy> {
+    rt: &'i R,
+    heap: &'i Budget<Global>,
     arena: &'a Bump,
-    interner: SharedInterner<&'a str, BuildHasherDefault<FoldHasher>, A>,
-    names: Texts<'a, A>,
-    ghost of: { names.vector ≡ interner },
+    interner: &'i Texts<'a, A>,
+    names: TextHandle<'i, 'a, A>,
 }
 
-impl<'a, R: Wait, A: Allocator + Copy> Drop for Words<'a, R, A> {
-    fn drop(self) {
-        let Words {
-            rt: _rt,
-            heap: _heap,
-            arena: _arena,
-            interner: _interner,
-            names: _names,
-        } = self;
-    }
-}
-
-/// Puts a word by a text that ends with the call.
+/// Puts a word as a text that ends with the call.
 fn put_short<'a, R: Wait, A: Allocator + Copy>(
     rt: &R,
-    interner: &SharedInterner<&'a str, BuildHasherDefault<FoldHasher>, A>,
-    names: &mut Texts<'a, A>,
+    names: &mut TextHandle<'_, 'a, A>,
     arena: &'a Bump,
     word: &str,
-) -> Result<usize, AllocError>
-    requires { names.old.vector ≡ interner.now }
-    ensures { names.new.vector ≡ names.old.vector }
-{
+) -> Result<usize, AllocError> {
     let mut bytes = [0; 8];
     let len = word.len().min(8);
     bytes[..len].copy_from_slice(word.as_bytes().get(..len).unwrap_or_default());
     let Ok(text) = str::from_utf8(&bytes[..len]) else {
         return Err(AllocError);
     };
-    interner.put_text(rt, names, arena, text)
+    names.put_text(rt, arena, text)
 }
 
-impl<'a, R: Wait, A: Allocator + Copy> Script for Words<'a, R, A> {
+impl<'i, 'a, R: Wait, A: Allocator + Copy> Script for Words<'i, 'a, R, A> {
     fn call(&mut self, number: usize) -> Result<bool, AllocError> {
         let place = number / 2;
         if number % 2 == 0 {
-            let word = WORDS[place % 16];
-            let put = put_short(self.rt, &self.interner, &mut self.names, self.arena, word)?;
+            let put = put_short(self.rt, &mut self.names, self.arena, WORDS[place % 16])?;
             return Ok(put == place);
         }
         let asked = self.heap.asked();
         let room = self.arena.chunk_capacity();
-        let put = put_short(
-            self.rt,
-            &self.interner,
-            &mut self.names,
-            self.arena,
-            WORDS[0],
-        )?;
+        let put = put_short(self.rt, &mut self.names, self.arena, WORDS[0])?;
         Ok(put == 0 && self.heap.asked() == asked && self.arena.chunk_capacity() == room)
     }
 
     fn holds(&self, number: usize) -> bool {
         let count = number.div_ceil(2);
-        let mut fresh = self.interner.pass();
+        let mut fresh = self.interner.handle();
         for place in 0..16usize {
             let expected = if place < count {
                 Some(WORDS[place])
             } else {
                 None
             };
-            if self.interner.at(&mut fresh, place) != expected {
+            if fresh.at(place) != expected {
                 return false;
             }
         }
@@ -188,13 +168,12 @@ impl<'r, R: Wait> Family for Interners<'r, R> {
         let Ok(interner) = made else {
             return None;
         };
-        let names = interner.pass();
         let mut script = Words {
             rt: self.rt,
             heap,
             arena: &arena,
-            interner,
-            names,
+            interner: &interner,
+            names: interner.handle(),
         };
         let refused = goes_through(&mut script, CALLS, heap, &arena, squeezed)?;
         Some(refused.saturating_add(failures))
@@ -208,7 +187,8 @@ fn a_refused_request_or_placing_puts_no_text(rt: HostRuntime) -> Result<(), Fail
     Ok(())
 }
 
-/// The numbers of words that a thread puts, and reads back; `None` where one went wrong.
+/// Puts the words in one thread and reads them back. Returns their numbers, or `None` if a result
+/// was wrong.
 fn numbers<'a, R: Wait>(
     rt: &R,
     interner: &SharedInterner<&'a str>,
@@ -216,7 +196,7 @@ fn numbers<'a, R: Wait>(
     mut buffer: TextBuffer<'a>,
     first: usize,
 ) -> Option<[usize; 16]> {
-    let mut names = interner.pass();
+    let mut names = interner.handle();
     let mut numbers = [99; 16];
     let _ = there.fetch_add(1, Ordering::SeqCst);
     for _ in 0..10_000_000u64 {
@@ -228,11 +208,11 @@ fn numbers<'a, R: Wait>(
     for i in 0..16usize {
         let place = (first.wrapping_add(i)) % 16;
         let word = WORDS[place];
-        let put = interner.put_text(rt, &mut names, &mut buffer, word);
+        let put = names.put_text(rt, &mut buffer, word);
         let Ok(number) = put else {
             return None;
         };
-        if interner.at(&mut names, number) != Some(word) {
+        if names.at(number) != Some(word) {
             return None;
         }
         numbers[place] = number;
@@ -240,7 +220,7 @@ fn numbers<'a, R: Wait>(
     Some(numbers)
 }
 
-/// Whether two threads, each with a buffer of its own, have one number for each word.
+/// Returns whether two threads, each with its own buffer, get one number for each word.
 fn two_threads_agree<'a, R: thread::Threads + Wait + Sync>(
     rt: &R,
     alloc: Global,
@@ -276,7 +256,8 @@ fn threads_with_buffers_of_their_own_have_one_number_for_a_text(
     Ok(())
 }
 
-/// What is left of a buffer of eight bytes after a text of five, one of four that is refused, and one of three.
+/// Fills a buffer of eight bytes with a text of five, one of four that doesn't fit, and one of
+/// three. Returns whether the results and the room are right.
 fn fills(mut buffer: TextBuffer<'_>) -> bool {
     let first = matches!((&mut buffer).place_text("abcde"), Ok("abcde"));
     let refused = (&mut buffer).place_text("fghi").is_err();

@@ -1,4 +1,4 @@
-//! Threads that put names beside one another. Each waits for the others first, so that they overlap.
+//! Threads that put names at the same time. Each waits for the others first, so that they overlap.
 ghost use Rattle.std.specs.Prelude.{◌≡◌};
 
 use elsa_shared_interner::name::Name;
@@ -9,13 +9,13 @@ use std::test::*;
 use std::thread;
 use std::thread::Threads;
 
-/// How many names the threads put.
+/// The number of names that the threads put.
 const NAMES: u64 = 100;
 
-/// How often a thread looks for another before it gives up.
+/// The greatest number of looks of a thread that waits for another.
 const TURNS: u64 = 10_000_000;
 
-/// The name with this number: "n0" to "n99".
+/// Returns the name with this number: "n0" to "n99".
 fn numbered(number: u64) -> Option<Name> {
     let tens = (number / 10 % 10) as u8 + b'0';
     let ones = (number % 10) as u8 + b'0';
@@ -25,7 +25,7 @@ fn numbered(number: u64) -> Option<Name> {
     Name::new(str::from_utf8(bytes).ok()?).ok()
 }
 
-/// Says that this thread is there, and waits until `count` threads are.
+/// Counts this thread, and waits until `count` threads are counted.
 fn meet_all(there: &AtomicU64, count: u64) -> bool {
     let _ = there.fetch_add(1, Ordering::SeqCst);
     for _ in 0..TURNS {
@@ -37,7 +37,8 @@ fn meet_all(there: &AtomicU64, count: u64) -> bool {
     false
 }
 
-/// Puts all names from `first` on, going round. Whether each is at the place that was returned.
+/// Puts all names from `first` on, and then those before it. Returns whether each has the number
+/// that was returned.
 fn put_all<R: Wait>(rt: &R, interner: &SharedInterner, names: &mut NamePass, first: u64) -> bool
     requires { names.old.vector ≡ interner.now }
     ensures { names.new.vector ≡ names.old.vector }
@@ -56,7 +57,7 @@ fn put_all<R: Wait>(rt: &R, interner: &SharedInterner, names: &mut NamePass, fir
     true
 }
 
-/// The place of each name by its number; 255 where memory was refused.
+/// Returns the number of each name, or 255 if an allocation failed.
 fn places<R: Wait>(rt: &R, interner: &SharedInterner, names: &mut NamePass) -> [u8; 100]
     requires { names.old.vector ≡ interner.now }
     ensures { names.new.vector ≡ names.old.vector }
@@ -73,7 +74,7 @@ fn places<R: Wait>(rt: &R, interner: &SharedInterner, names: &mut NamePass) -> [
     places
 }
 
-/// Whether the places are 0 to 99, each once.
+/// Returns whether the numbers are 0 to 99, each once.
 fn each_once(places: &[u8; 100]) -> bool {
     let mut taken: u128 = 0;
     for number in 0..100 {
@@ -86,7 +87,8 @@ fn each_once(places: &[u8; 100]) -> bool {
     taken == (1u128 << 100) - 1
 }
 
-/// One thread's part: it waits for the others, puts all names from its start, and returns their places.
+/// Does the work of one thread: waits for the others, puts all names from `first` on, and returns
+/// their numbers.
 fn part<R: Wait>(rt: &R, interner: &SharedInterner, there: &AtomicU64, first: u64) -> [u8; 100] {
     let mut names = interner.pass();
     let met = meet_all(there, 4);
@@ -97,7 +99,7 @@ fn part<R: Wait>(rt: &R, interner: &SharedInterner, there: &AtomicU64, first: u6
     }
 }
 
-/// Whether four threads have one place for each name.
+/// Returns whether four threads have one number for each name.
 fn four_threads<R: Threads + Wait + Sync>(rt: &R, interner: &SharedInterner) -> bool {
     let there = AtomicU64::new(0);
     let met = &there;
@@ -124,7 +126,7 @@ fn four_threads_give_a_hundred_names_a_hundred_places(rt: HostRuntime) -> Result
     Ok(())
 }
 
-/// Puts a name, and then reads on until the other is there.
+/// Puts a name, and then reads until the other is there.
 fn sees_other<R: Wait>(rt: &R, interner: &SharedInterner, mine: u64, other: u64) -> bool {
     let mut names = interner.pass();
     let (Some(mine), Some(other)) = (numbered(mine), numbered(other)) else {
@@ -136,7 +138,7 @@ fn sees_other<R: Wait>(rt: &R, interner: &SharedInterner, mine: u64, other: u64)
     waits_for(interner, &mut names, other)
 }
 
-/// Whether the name comes to be at place 0 or 1.
+/// Waits until the name has the number 0 or 1, and returns whether it does within the bound.
 fn waits_for(interner: &SharedInterner, names: &mut NamePass, other: Name) -> bool
     requires { names.old.vector ≡ interner.now }
 {

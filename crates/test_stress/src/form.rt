@@ -1,4 +1,5 @@
-//! One run over one form: pairs of threads, each thread with a pass of its own; the two passes meet and are handed on.
+//! One run on a shared collection: pairs of threads, each thread with its own view. The two views
+//! of a pair are merged, and two other threads continue with them.
 use crate::script::{Draws, Entry, Log, Script};
 use std::alloc::{AllocError, Global};
 use std::sync::Wait;
@@ -7,24 +8,27 @@ use std::thread;
 use std::thread::Threads;
 use test_alloc::Budget;
 
-/// How often a thread looks for the others before it begins without them.
+/// The number of looks of a thread for the others, after which it begins without them.
 const TURNS: u64 = 100_000;
 
-/// How many keys there are.
+/// The number of keys.
 pub const KEYS: u64 = 300;
 
-/// A form that threads share, as the scripts call it.
+/// A shared collection with the calls of the scripts.
 pub trait Form {
-    /// What a thread has beside the form.
+    /// The view that a thread has of the collection.
     type Pass: Send + Drop;
 
-    /// Whether a pass is of the form.
+    /// Whether a view belongs to the collection.
     ghost of: { Self → Self.Pass → Type 0 };
 
     fn pass(&self) -> Self::Pass
         ensures { of self.now result };
 
-    /// Inserts the key, and returns the entry that stands and whether it is new.
+    /// Inserts the key, and returns the entry that the collection then has, and whether it is new.
+    ///
+    /// # Errors
+    /// Fails if an allocation fails.
     fn insert<R: Wait>(
         &self,
         rt: &R,
@@ -35,23 +39,25 @@ pub trait Form {
         requires { of self.now pass.old }
         ensures { of self.now pass.new };
 
-    /// The entry with that number, if there is one.
+    /// Returns the entry with this number, or `None`.
     fn at<R: Wait>(&self, rt: &R, pass: &mut Self::Pass, number: u64) -> Option<Entry>
         requires { of self.now pass.old }
         ensures { of self.now pass.new };
 
-    /// Whether the form has exactly the `new` entries that threads inserted.
+    /// Returns whether the collection has exactly the `new` entries that threads inserted. The
+    /// shared interner checks only that its names have their numbers.
     fn has<R: Wait>(&self, rt: &R, pass: &mut Self::Pass, new: u64) -> bool
         requires { of self.now pass.old }
         ensures { of self.now pass.new };
 
-    /// Both passes see what either has seen. Whether both then know of as much.
+    /// Merges the two views, and returns whether both then have observed the same number of
+    /// entries.
     fn meet(&self, one: &mut Self::Pass, other: &mut Self::Pass) -> bool
         requires { of self.now one.old × of self.now other.old }
         ensures { of self.now one.new × of self.now other.new };
 }
 
-/// One call by chance.
+/// Makes one random call.
 fn call<R: Wait, F: Form>(
     rt: &R,
     heap: &Budget<Global>,
@@ -79,7 +85,7 @@ fn call<R: Wait, F: Form>(
     }
 }
 
-/// Whether the entry is there as it was seen.
+/// Returns whether the collection has this entry.
 fn stands<R: Wait, F: Form>(rt: &R, form: &F, pass: &mut F::Pass, entry: Entry) -> bool
     requires { F.of form.now pass.old }
     ensures { F.of form.now pass.new }
@@ -87,7 +93,7 @@ fn stands<R: Wait, F: Form>(rt: &R, form: &F, pass: &mut F::Pass, entry: Entry) 
     form.at(rt, pass, entry.number) == Some(entry)
 }
 
-/// Whether all that a log has is there.
+/// Returns whether the collection has all entries of a log.
 fn all_stand<R: Wait, F: Form>(rt: &R, form: &F, pass: &mut F::Pass, log: &Log) -> bool
     requires { F.of form.now pass.old }
     ensures { F.of form.now pass.new }
@@ -100,7 +106,7 @@ fn all_stand<R: Wait, F: Form>(rt: &R, form: &F, pass: &mut F::Pass, log: &Log) 
     true
 }
 
-/// Says that this thread is there, and waits for a time until `count` threads are.
+/// Counts this thread, and waits a bounded time until `count` threads are counted.
 fn meet_all(there: &AtomicU64, count: u64) {
     let _ = there.fetch_add(1, Ordering::SeqCst);
     for _ in 0..TURNS {
@@ -111,7 +117,8 @@ fn meet_all(there: &AtomicU64, count: u64) {
     }
 }
 
-/// One thread's calls, and whether all that it has seen is there at their end.
+/// Makes the calls of one thread, and records whether all entries that it observed are there at the
+/// end.
 fn work<R: Wait, F: Form>(
     rt: &R,
     heap: &Budget<Global>,
@@ -136,7 +143,7 @@ fn work<R: Wait, F: Form>(
     }
 }
 
-/// A pass and its log, after the calls of one thread.
+/// Returns a view and its log after the calls of one thread.
 fn worked<R: Wait, F: Form>(
     rt: &R,
     heap: &Budget<Global>,
@@ -153,7 +160,7 @@ fn worked<R: Wait, F: Form>(
     (pass, log)
 }
 
-/// Two threads at once, each with a pass and its log.
+/// Runs two threads at once, each with a view and its log.
 fn both_work<R: Threads + Wait + Sync, F: Form + Sync>(
     rt: &R,
     heap: &Budget<Global>,
@@ -177,7 +184,8 @@ fn both_work<R: Threads + Wait + Sync, F: Form + Sync>(
     thread::join(rt, first, second)
 }
 
-/// Two threads, each with a pass. The passes meet, and two further threads go on, each with the other's pass.
+/// Runs two threads, each with a view. Then it merges the views and runs two other threads, each
+/// with the other's view.
 fn pair<R: Threads + Wait + Sync, F: Form + Sync>(
     rt: &R,
     alloc: Global,
@@ -205,7 +213,7 @@ fn pair<R: Threads + Wait + Sync, F: Form + Sync>(
     (one.1, other.1)
 }
 
-/// Whether what all threads saw is there at the end, and nothing else.
+/// Returns whether the collection has exactly the entries that the threads observed.
 fn checks<R: Wait, F: Form>(rt: &R, form: &F, logs: &[(Log, Log)]) -> bool {
     let mut pass = form.pass();
     let mut new = 0u64;
@@ -220,7 +228,10 @@ fn checks<R: Wait, F: Form>(rt: &R, form: &F, logs: &[(Log, Log)]) -> bool {
     form.has(rt, &mut pass, new)
 }
 
-/// Whether one run over the form went well.
+/// Makes one run on the collection, and returns whether all results were right.
+///
+/// # Errors
+/// Fails if an allocation of the test itself fails.
 pub fn runs_well<R: Threads + Wait + Sync, F: Form + Sync>(
     rt: &R,
     alloc: Global,

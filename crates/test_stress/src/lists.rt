@@ -1,9 +1,10 @@
-//! The two lists: an entry's number is its place, and its key an item that no other thread pushes.
+//! The two lists. The number of an entry is its index, and its key is an item that no other thread
+//! pushes.
 ghost use Rattle.std.specs.Prelude.{◌≡◌};
 
 use crate::form::Form;
 use crate::script::Entry;
-use elsa::sync::{FrozenVec, LockFreeFrozenVec, Pass};
+use elsa::sync::{FrozenVec, Handle, LockFreeFrozenVec, Pass};
 use std::alloc::{AllocError, Global};
 use std::sync::Wait;
 use test_alloc::Budget;
@@ -20,7 +21,7 @@ pub struct LockedList<'h> {
     pub vector: FrozenVec<u64, &'h Budget<Global>>,
 }
 
-/// The entry of an item at a place.
+/// Makes the entry of an item at an index.
 fn entry(place: u64, item: u64) -> Entry {
     Entry {
         number: place,
@@ -45,12 +46,14 @@ impl<'h> Form for FreeList<'h> {
         _key: u64,
         value: u64,
     ) -> Result<(Entry, bool), AllocError> {
+        let mut handle = Handle::of(&self.vector, std::mem::replace(pass, self.vector.pass()));
         let place = if value % 2 == 0 {
-            self.vector.push_as(rt, pass, value)?
+            handle.push(rt, value).map_err(AllocError::from)
         } else {
-            self.vector.extend_as(rt, pass, &[value])?
+            handle.extend(rt, &[value])
         };
-        Ok((entry(place as u64, value), true))
+        *pass = handle.into_pass();
+        Ok((entry(place? as u64, value), true))
     }
 
     fn at<R: Wait>(

@@ -1,8 +1,11 @@
-//! Random scripts of many threads over each form that threads share, with memory refused at random; `tools/stress` runs it.
+//! Random scripts of many threads on each shared collection, with random allocation failures in all
+//! collections except the shared interner. `tools/stress` runs it.
 //!
-//! `test_stress SEED SECONDS PAIRS CALLS` makes runs with the seeds from SEED on until so many seconds are over, and one at least. In a run each form is
-//! called by PAIRS pairs of threads, with CALLS calls by each of the first two and of the two that go on with their passes. It prints `ok` and the
-//! number of runs, or the form that broke and the run's seed.
+//! `test_stress SEED SECONDS PAIRS CALLS` makes runs with the seeds from SEED on, at least one,
+//! until SECONDS seconds have passed. In a run, PAIRS pairs of threads make calls on each
+//! collection: CALLS calls by each of the first two threads, and by each of the two that continue
+//! with their views. The program prints `ok` and the number of runs, or the collection that failed
+//! and the seed of the run.
 #![tactic(auto)]
 
 mod form;
@@ -27,7 +30,7 @@ use test_alloc::Budget;
 
 const USAGE: &str = "usage: test_stress SEED SECONDS PAIRS CALLS";
 
-/// The forms.
+/// The names of the collections.
 const FORMS: [&str; 7] = [
     "LockFreeFrozenVec",
     "LockFreeFrozenMap",
@@ -38,7 +41,7 @@ const FORMS: [&str; 7] = [
     "Recorder",
 ];
 
-/// Whether one run over the form went well.
+/// Makes one run on the collection with this name, and returns whether all results were right.
 fn of_form<R: Threads + Wait + Sync>(
     rt: &R,
     alloc: Global,
@@ -75,7 +78,8 @@ fn of_form<R: Threads + Wait + Sync>(
     }
 }
 
-/// Whether one run over the form went well, and all its memory came back.
+/// Returns whether one run on the collection had the right results and deallocated all memory of
+/// its budget. The shared interner has no budget.
 fn is_well<R: Threads + Wait + Sync>(
     rt: &R,
     alloc: Global,
@@ -94,7 +98,7 @@ fn number_of(words: &[String], place: usize) -> u64 {
     }
 }
 
-/// The first form that broke, if one did.
+/// Returns the first collection that failed, or `None`.
 fn broken<R: Threads + Wait + Sync>(
     rt: &R,
     alloc: Global,

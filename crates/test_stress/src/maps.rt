@@ -1,15 +1,16 @@
-//! The maps. Of the concurrent map an entry's number is its place, of the locked ones its key.
+//! The maps. The number of an entry is its index in the concurrent map, and its key in the locked
+//! maps.
 ghost use Rattle.std.specs.Prelude.{◌≡◌, ⊤};
 
 use crate::form::Form;
 use crate::script::Entry;
-use elsa::sync::{FrozenBTreeMap, FrozenMap, LockFreeFrozenMap, MapPass};
+use elsa::sync::{FrozenBTreeMap, FrozenMap, LockFreeFrozenMap, MapHandle, MapPass};
 use std::alloc::{AllocError, Global};
 use std::hash::{BuildHasherDefault, FoldHasher};
 use std::sync::Wait;
 use test_alloc::Budget;
 
-/// What a thread has seen of the concurrent map.
+/// The view that a thread has of the concurrent map.
 type Seen<'h> = MapPass<u64, u64, BuildHasherDefault<FoldHasher>, &'h Budget<Global>>;
 
 /// The concurrent map.
@@ -18,32 +19,47 @@ pub struct FreeMap<'h> {
     pub map: LockFreeFrozenMap<u64, u64, BuildHasherDefault<FoldHasher>, &'h Budget<Global>>,
 }
 
-/// The locked map over a hashed table.
+/// The locked hashed map.
 #[derive(Drop)]
 pub struct HashedMap<'h> {
     pub map: FrozenMap<u64, u64, BuildHasherDefault<FoldHasher>, &'h Budget<Global>>,
 }
 
-/// The locked map over an ordered table.
+/// The locked ordered map.
 #[derive(Drop)]
 pub struct OrderedMap<'h> {
     pub map: FrozenBTreeMap<u64, u64, &'h Budget<Global>>,
 }
 
-/// Whether the key has the value, and another value inserted for it changes nothing.
-fn first_wins<'h, R: Wait>(
-    rt: &R,
-    map: &LockFreeFrozenMap<u64, u64, BuildHasherDefault<FoldHasher>, &'h Budget<Global>>,
+/// A handle of the concurrent map.
+type FreeHandle<'m, 'h> = MapHandle<
+    'm,
+    u64,
+    u64,
+    BuildHasherDefault<FoldHasher>,
+    &'h Budget<Global>,
+>;
+
+/// Makes a handle of a view, and leaves a new view instead of it.
+fn by_pass<'m, 'h>(
+    map: &'m LockFreeFrozenMap<u64, u64, BuildHasherDefault<FoldHasher>, &'h Budget<Global>>,
     pass: &mut Seen<'h>,
-    entry: Entry,
-) -> bool
+) -> FreeHandle<'m, 'h>
     requires { pass.old.vector ≡ map.now }
-    ensures { pass.new.vector ≡ map.now }
+    ensures handle { result.vector ≡ map.now }
+    ensures left { pass.new.vector ≡ map.now }
 {
-    if map.get_as(pass, entry.key) != Some(entry.value) {
+    MapHandle::of(map, std::mem::replace(pass, map.pass()))
+}
+
+/// Returns whether the key has the value, and an insertion of another value leaves it.
+fn first_wins<R: Wait>(rt: &R, map: &mut FreeHandle<'_, '_>, entry: Entry) -> bool
+    ensures { map.new.vector ≡ map.old.vector }
+{
+    if map.get(entry.key) != Some(entry.value) {
         return false;
     }
-    match map.insert_as(rt, pass, entry.key, entry.value.wrapping_add(1)) {
+    match map.insert(rt, entry.key, entry.value.wrapping_add(1)) {
         Ok(stands) => !stands.is_new
             && stands.value == entry.value
             && stands.place as u64 == entry.number,
@@ -67,9 +83,10 @@ impl<'h> Form for FreeMap<'h> {
         key: u64,
         value: u64,
     ) -> Result<(Entry, bool), AllocError> {
-        let stands = self
-            .map
-            .get_or_insert_with_as(rt, pass, key, move || value)?;
+        let mut handle = by_pass(&self.map, pass);
+        let stands = handle.get_or_insert_with(rt, key, move || value);
+        *pass = handle.into_pass();
+        let stands = stands?;
         let entry = Entry {
             number: stands.place as u64,
             key,
@@ -79,9 +96,15 @@ impl<'h> Form for FreeMap<'h> {
     }
 
     fn at<R: Wait>(&self, rt: &R, pass: &mut Seen<'h>, number: u64) -> Option<Entry> {
-        let (key, value) = self.map.get_by_place_as(pass, number as usize)?;
+        let mut handle = by_pass(&self.map, pass);
+        let found = handle.get_by_place(number as usize);
+        let (key, value) = found.unwrap_or((u64::MAX, u64::MAX));
         let entry = Entry { number, key, value };
-        if first_wins(rt, &self.map, pass, entry) {
+        let wins = found.is_some() && first_wins(rt, &mut handle, entry);
+        *pass = handle.into_pass();
+        if found.is_none() {
+            None
+        } else if wins {
             Some(entry)
         } else {
             Some(Entry {
@@ -93,7 +116,10 @@ impl<'h> Form for FreeMap<'h> {
     }
 
     fn has<R: Wait>(&self, _rt: &R, pass: &mut Seen<'h>, new: u64) -> bool {
-        self.map.len_as(pass) as u64 == new
+        let mut handle = by_pass(&self.map, pass);
+        let length = handle.len();
+        *pass = handle.into_pass();
+        length as u64 == new
     }
 
     fn meet(&self, one: &mut Seen<'h>, other: &mut Seen<'h>) -> bool {
@@ -118,13 +144,13 @@ impl<'h> Form for HashedMap<'h> {
         key: u64,
         value: u64,
     ) -> Result<(Entry, bool), AllocError> {
-        let (stands, is_new) = self.map.insert_new(rt, key, value)?;
+        let done = self.map.insert_new(rt, key, value)?;
         let entry = Entry {
             number: key,
             key,
-            value: *stands,
+            value: *done.value,
         };
-        Ok((entry, is_new))
+        Ok((entry, done.is_new))
     }
 
     fn at<R: Wait>(&self, rt: &R, _pass: &mut (), number: u64) -> Option<Entry> {
@@ -161,13 +187,13 @@ impl<'h> Form for OrderedMap<'h> {
         key: u64,
         value: u64,
     ) -> Result<(Entry, bool), AllocError> {
-        let (stands, is_new) = self.map.insert_new(rt, key, value)?;
+        let done = self.map.insert_new(rt, key, value)?;
         let entry = Entry {
             number: key,
             key,
-            value: *stands,
+            value: *done.value,
         };
-        Ok((entry, is_new))
+        Ok((entry, done.is_new))
     }
 
     fn at<R: Wait>(&self, rt: &R, _pass: &mut (), number: u64) -> Option<Entry> {

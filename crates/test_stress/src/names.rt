@@ -1,4 +1,5 @@
-//! The interner that threads share: an entry's number is the place of a name, its key the number that the name is the digits of.
+//! The shared interner. The number of an entry is that of a name, and the name is the digits of the
+//! entry's key.
 ghost use Rattle.std.specs.Prelude.{◌≡◌};
 
 use crate::form::{Form, KEYS};
@@ -14,7 +15,7 @@ pub struct Names {
     pub names: SharedInterner,
 }
 
-/// The name of a number.
+/// Returns the name of a number.
 fn named(number: u64) -> Result<Name, AllocError> {
     let mut digits = Buffer::new();
     match Name::new(digits.format(number)) {
@@ -23,7 +24,7 @@ fn named(number: u64) -> Result<Name, AllocError> {
     }
 }
 
-/// The entry of a key at a place.
+/// Makes the entry of a key.
 fn entry(number: u64, key: u64) -> Entry {
     Entry {
         number,

@@ -1,4 +1,5 @@
-//! The recorder: the receipts of all passes are its history, and a plain table that is told the same calls gives the same replies.
+//! The recorder. The receipts of all passes are its history, and a plain table has the same replies
+//! to the same commands.
 use crate::form::KEYS;
 use crate::script::{Draws, Script};
 use elsa::sync::history::{MapCommand, MapReply, RecordPass, Recorder};
@@ -10,12 +11,12 @@ use std::thread;
 use std::thread::Threads;
 use test_alloc::Budget;
 
-/// What the recorder is over.
+/// The sequential object of the recorder.
 type Core<A> = MapState<u64, u64, BuildHasherDefault<FoldHasher>, A>;
 
 type Told<A> = RecordPass<Core<A>, A>;
 
-/// One recorded call by chance.
+/// Makes one random call on the recorder.
 fn call<R: Wait, A: Allocator + Copy>(
     rt: &R,
     heap: &Budget<Global>,
@@ -37,7 +38,7 @@ fn call<R: Wait, A: Allocator + Copy>(
     let _ = recorder.call(rt, pass, command).is_ok();
 }
 
-/// What a plain table replies: the value of each key, and how many there are.
+/// A plain table that computes the expected replies: the value of each key, and the number of keys.
 #[derive(Drop)]
 struct Plain {
     values: Vec<Option<u64>>,
@@ -58,7 +59,8 @@ impl Plain {
         }
     }
 
-    /// The value that stands, and whether the key was new.
+    /// Inserts a value, unless the key has one. Returns the key's value, and whether the key was
+    /// new.
     fn insert(&mut self, key: u64, value: u64) -> (u64, bool) {
         if let Some(stands) = self.get(key) {
             return (stands, false);
@@ -70,7 +72,7 @@ impl Plain {
         (value, true)
     }
 
-    /// Whether the reply is what the table replies to the command.
+    /// Runs the command on the table, and returns whether the reply is that of the table.
     fn replies(&mut self, command: MapCommand<u64, u64>, reply: MapReply<u64>) -> bool {
         match command {
             MapCommand::Insert(key, value) => reply == MapReply::Value(self.insert(key, value).0),
@@ -84,7 +86,7 @@ impl Plain {
     }
 }
 
-/// The receipts of one thread's calls.
+/// Makes the calls of one thread, and returns its pass.
 fn calls<R: Wait, A: Allocator + Copy>(
     rt: &R,
     heap: &Budget<Global>,
@@ -100,7 +102,7 @@ fn calls<R: Wait, A: Allocator + Copy>(
     pass
 }
 
-/// Whether the receipts are the history, and its replies those of a plain table.
+/// Returns whether the receipts are the history, and its replies are those of a plain table.
 fn closes<A: Allocator + Copy>(
     alloc: Global,
     recorder: Recorder<Core<A>, A>,
@@ -118,7 +120,11 @@ fn closes<A: Allocator + Copy>(
     Ok(true)
 }
 
-/// Whether one run over a recorder went well. Each pass is handed on to a second thread.
+/// Makes one run on a recorder, in which a second thread continues with each pass. Returns whether
+/// all results were right.
+///
+/// # Errors
+/// Fails if an allocation of the test itself fails.
 pub fn runs_well<R: Threads + Wait + Sync, A: Allocator + Copy + Send + Sync>(
     rt: &R,
     alloc: Global,

@@ -1,7 +1,8 @@
-//! What threads do: random numbers, and what was read and written.
+//! What the threads use: random numbers, and the log of what they read and inserted.
 use std::alloc::{AllocError, Global};
 
-/// How a run is made: its seed, how many pairs of threads, how many calls each thread makes.
+/// The parameters of a run: its seed, the number of pairs of threads, and the number of calls of
+/// each thread.
 #[derive(Clone, Copy)]
 pub struct Script {
     pub seed: u64,
@@ -10,7 +11,7 @@ pub struct Script {
 }
 
 impl Script {
-    /// The seed of a pair of threads.
+    /// Returns the seed of a pair of threads.
     pub fn seed_of(&self, pair: usize) -> u64 {
         self.seed
             .wrapping_mul(1000)
@@ -19,13 +20,14 @@ impl Script {
     }
 }
 
-/// Random numbers of one thread.
+/// The random numbers of one thread.
 #[derive(Clone, Copy)]
 pub struct Draws {
     state: u64,
 }
 
 impl Draws {
+    /// Makes the random numbers of a seed and a thread.
     pub fn new(seed: u64, thread: u64) -> Draws {
         let mut draws = Draws {
             state: seed
@@ -36,6 +38,7 @@ impl Draws {
         draws
     }
 
+    /// Returns the next random number, which has 31 bits.
     pub fn next(&mut self) -> u64 {
         self.state = self
             .state
@@ -44,19 +47,20 @@ impl Draws {
         self.state >> 33
     }
 
-    /// A number of 64 bits, which no other draw of a run is equal to but by chance.
+    /// Returns a number of 64 bits. Two of a run are equal only by chance.
     pub fn whole(&mut self) -> u64 {
         let _ = self.next();
         self.state
     }
 
-    /// A number below the count, which is at most 2^31.
+    /// Returns a number below `count`, which is at most 2^31.
     pub fn below(&mut self, count: u64) -> u64 {
         self.next().wrapping_mul(count) >> 31
     }
 }
 
-/// An entry that was read or inserted: the number by which it is read again, a place or a key, and what is there.
+/// An entry that was read or inserted: the number by which it can be read again, an index or a key,
+/// and its key and value.
 #[derive(Clone, Copy, PartialEq, Eq)]
 pub struct Entry {
     pub number: u64,
@@ -64,18 +68,19 @@ pub struct Entry {
     pub value: u64,
 }
 
-/// What a thread has done and seen.
+/// The calls of a thread so far, and the entries that it observed.
 #[derive(Drop)]
 pub struct Log {
     pub entries: Vec<Entry>,
-    /// How many entries it inserted.
+    /// The number of entries that it inserted.
     pub new: u64,
     pub calls: u64,
-    /// Whether each answer was right so far.
+    /// Whether each result was right so far.
     pub well: bool,
 }
 
 impl Log {
+    /// Makes an empty log.
     pub fn new(alloc: Global) -> Log {
         Log {
             entries: Vec::new(alloc),
@@ -85,10 +90,18 @@ impl Log {
         }
     }
 
+    /// Adds an entry that was read.
+    ///
+    /// # Errors
+    /// Fails if an allocation fails. The log is then unchanged.
     pub fn saw(&mut self, entry: Entry) -> Result<(), AllocError> {
         Ok(self.entries.push(entry)?)
     }
 
+    /// Adds the entry that an insertion returned, and counts it if it is new.
+    ///
+    /// # Errors
+    /// Fails if an allocation fails. The entry is then counted, but not added.
     pub fn inserted(&mut self, entry: Entry, is_new: bool) -> Result<(), AllocError> {
         if is_new {
             self.new = self.new.saturating_add(1);
@@ -96,6 +109,7 @@ impl Log {
         self.saw(entry)
     }
 
+    /// Records a wrong result.
     pub fn fails(&mut self) {
         self.well = false;
     }

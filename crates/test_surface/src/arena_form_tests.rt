@@ -1,10 +1,10 @@
-//! Values that own memory in an arena, by the paths of `elsa`.
+//! Values that own memory in an arena, with the paths of `elsa`.
 use elsa::TypedArena;
 use elsa::arena::Place;
 use std::alloc::{AllocError, Global};
 use std::test::Fail;
 
-/// Whether the value of that number is this text.
+/// Returns whether the value with this number is `text`.
 fn is_at(arena: &TypedArena<String>, number: usize, text: &str) -> bool {
     match arena.get(number) {
         Some(kept) => kept.as_str() == text,
@@ -12,7 +12,7 @@ fn is_at(arena: &TypedArena<String>, number: usize, text: &str) -> bool {
     }
 }
 
-/// The number of a place and of the same place once more, where they are one.
+/// Returns the number of a place, or `None` if a copy of the place has another number.
 fn number_of(place: &Place<String>) -> Option<usize> {
     let again = place.again();
     if again.number() == place.number() {
@@ -22,7 +22,7 @@ fn number_of(place: &Place<String>) -> Option<usize> {
     }
 }
 
-/// Whether two texts that own their bytes are placed, and each is where it was placed.
+/// Returns whether two `String`s are stored and each is read at its place.
 fn keeps_texts(alloc: Global) -> Result<bool, AllocError> {
     let arena: TypedArena<String> = TypedArena::with_capacity(alloc, 2)?;
     let (one, two) = (

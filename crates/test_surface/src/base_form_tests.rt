@@ -1,5 +1,6 @@
-//! The forms of calls that docs/reference lists for collecting, for the inner collections, for code over both maps, for the interner, the cache and the runs,
-//! through `elsa` and `bumpalo` alone: each proved and run.
+//! The call forms that docs/reference lists for collecting, for the inner collections, for code
+//! over both maps, for the interner, the cache and the runs. They use only `elsa` and `bumpalo`,
+//! and each is proved and run.
 use bumpalo::Bump;
 use elsa::cache::{LoadFault, ResourceCache};
 use elsa::interner::Interner;
@@ -12,7 +13,7 @@ use std::alloc::{AllocError, Global};
 use std::hash::BuildHasherDefault;
 use std::test::Fail;
 
-/// A vector of these texts, collected, taken apart and made again.
+/// Collects a vector of these texts, takes it apart and makes it again.
 fn made_again<'a>(
     alloc: Global,
     arena: &'a Bump,
@@ -22,35 +23,36 @@ fn made_again<'a>(
     Ok(FrozenVec::from_vec(arena, made.into_vec()))
 }
 
-/// Whether a vector of "b" and "d" is searched by an item and indexed.
+/// Returns whether a vector of "b" and "d" is searched and indexed.
 fn is_found<'a>(texts: &FrozenVec<'a, &'a str>) -> bool {
     let held = texts.len() == 2 && texts[1] == "d" && texts.get_unchecked(0) == "b";
     held && texts.binary_search("d") == Ok(1)
 }
 
-/// Whether a vector is emptied through its inner one.
+/// Returns whether clearing the inner vector empties the vector.
 fn is_emptied<'a>(mut texts: FrozenVec<'a, &'a str>) -> bool {
     texts.as_mut().clear();
     texts.is_empty()
 }
 
 #[test]
-fn forms_of_a_vector_of_borrows(rt: HostRuntime) -> Result<(), Fail> {
+fn a_call_on_a_vector_of_borrows_had_a_wrong_result(rt: HostRuntime) -> Result<(), Fail> {
     let arena = Bump::new(rt.alloc());
     let texts = made_again(rt.alloc(), &arena, ["b", "d"])?;
     assert!(rt; is_found(&texts) && is_emptied(texts));
     Ok(())
 }
 
-/// What a key has in either map after an insertion.
+/// Returns the value of the key 7 in either map after an insertion, and whether the key was new.
 fn kept_in<R, V: StableDeref<R>, M: MapForm<R, Key = u64, Value = V>>(
     map: &mut M,
     value: V,
 ) -> Result<(V::Borrow, bool), AllocError> {
-    map.insert_new(7, value)
+    let done = map.insert_new(7, value)?;
+    Ok((done.value, done.is_new))
 }
 
-/// Whether a hashed map keeps the first value, and is taken apart and made again.
+/// Returns whether a hashed map keeps the first value, and can be taken apart and made again.
 fn is_hashed(alloc: Global, arena: &Bump) -> Result<bool, AllocError> {
     let mut map: FrozenMap<'_, u64, &str> = FrozenMap::new(alloc, arena);
     let is_first = kept_in(&mut map, "x")? == ("x", true);
@@ -58,7 +60,7 @@ fn is_hashed(alloc: Global, arena: &Bump) -> Result<bool, AllocError> {
     Ok(is_first && map.get(&7) == Some("x"))
 }
 
-/// The same of an ordered map, by the same function `kept_in`.
+/// Returns whether an ordered map does the same, with the same function `kept_in`.
 fn is_ordered(alloc: Global, arena: &Bump) -> Result<bool, AllocError> {
     let mut map: FrozenBTreeMap<'_, u64, &str> = FrozenBTreeMap::new(alloc, arena);
     let is_first = kept_in(&mut map, "y")? == ("y", true);
@@ -68,13 +70,14 @@ fn is_ordered(alloc: Global, arena: &Bump) -> Result<bool, AllocError> {
 }
 
 #[test]
-fn forms_of_inner_maps(rt: HostRuntime) -> Result<(), Fail> {
+fn a_map_changed_when_it_was_taken_apart(rt: HostRuntime) -> Result<(), Fail> {
     let arena = Bump::new(rt.alloc());
     assert!(rt; is_hashed(rt.alloc(), &arena)? && is_ordered(rt.alloc(), &arena)?);
     Ok(())
 }
 
-/// The place of the key 5 in a map of these pairs, collected, taken apart and made again.
+/// Returns the index of the key 5 in a map of these pairs that was collected, taken apart and made
+/// again.
 fn place_of_five<'a>(
     alloc: Global,
     arena: &'a Bump,
@@ -90,7 +93,7 @@ fn place_of_five<'a>(
     Ok(again.get_index_of(&5))
 }
 
-/// Whether a text that is absent goes last in a set.
+/// Returns whether an absent text is added to an empty set at the index 0.
 fn adds<'a>(
     alloc: Global,
     set: &mut FrozenIndexSet<'a, String>,
@@ -104,14 +107,14 @@ fn adds<'a>(
     Ok(place == 0 && kept == text)
 }
 
-/// Whether a set is taken apart and made again.
+/// Returns whether a set can be taken apart and made again.
 fn is_made_again<'a>(arena: &'a Bump, set: FrozenIndexSet<'a, String>) -> bool {
     let made: FrozenIndexSet<'a, String> = FrozenIndexSet::from_set(arena, set.into_set());
     made.get(&"fox").is_some()
 }
 
 #[test]
-fn forms_of_inner_index_forms(rt: HostRuntime) -> Result<(), Fail> {
+fn an_index_collection_changed_when_it_was_taken_apart(rt: HostRuntime) -> Result<(), Fail> {
     let arena = Bump::new(rt.alloc());
     let mut set: FrozenIndexSet<'_, String> = FrozenIndexSet::new(rt.alloc(), &arena);
     let pairs = [(7, Own(1)), (5, Own(2))];
@@ -120,7 +123,8 @@ fn forms_of_inner_index_forms(rt: HostRuntime) -> Result<(), Fail> {
     Ok(())
 }
 
-/// Whether an interner with a secret numbers names and finds them both ways.
+/// Returns whether an interner with a secret numbers names, and finds names by number and numbers
+/// by name.
 fn is_interner(alloc: Global, secret: SeededState) -> Result<bool, AllocError> {
     let arena = Bump::new(alloc);
     let mut names = Interner::with_hasher(alloc, &arena, secret);
@@ -136,12 +140,13 @@ fn is_interner(alloc: Global, secret: SeededState) -> Result<bool, AllocError> {
 }
 
 #[test]
-fn forms_of_an_interner(rt: HostRuntime) -> Result<(), Fail> {
+fn a_call_on_an_interner_had_a_wrong_result(rt: HostRuntime) -> Result<(), Fail> {
     assert!(rt; is_interner(rt.alloc(), SeededState::with_seed(1, 2))?);
     Ok(())
 }
 
-/// Whether the cache shows the first character of what its loader gives, and keeps nothing of a path that isn't found.
+/// Returns whether the cache shows the first character of what its loader returns, and stores
+/// nothing for a path that isn't found.
 fn is_cache(alloc: Global) -> Result<bool, LoadFault> {
     let arena = Bump::new(alloc);
     let mut cache = ResourceCache::new(alloc, &arena);
@@ -156,12 +161,12 @@ fn is_cache(alloc: Global) -> Result<bool, LoadFault> {
 }
 
 #[test]
-fn forms_of_the_cache(rt: HostRuntime) -> Result<(), Fail> {
+fn a_call_on_the_cache_had_a_wrong_result(rt: HostRuntime) -> Result<(), Fail> {
     assert!(rt; matches!(is_cache(rt.alloc()), Ok(true)));
     Ok(())
 }
 
-/// Whether a run replies to each command of a vector.
+/// Returns whether a run has a reply for each command of a vector.
 fn is_run(alloc: Global) -> Result<bool, AllocError> {
     let arena = Bump::new(alloc);
     let mut vector: FrozenVec<'_, &str> = FrozenVec::new(alloc, &arena);
@@ -174,7 +179,7 @@ fn is_run(alloc: Global) -> Result<bool, AllocError> {
 }
 
 #[test]
-fn forms_of_a_run(rt: HostRuntime) -> Result<(), Fail> {
+fn a_run_on_a_vector_had_other_replies(rt: HostRuntime) -> Result<(), Fail> {
     assert!(rt; is_run(rt.alloc())?);
     Ok(())
 }

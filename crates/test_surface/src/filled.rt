@@ -1,15 +1,18 @@
-//! What a caller can promise of a vector that two workers filled.
+//! What a caller can ensure of a vector that two workers filled.
 ghost use Rattle.std.specs.Prelude.{◌≡◌, ◌≢◌, ◌≤◌, ℕ, IfOk, IfSome};
-ghost use Rattle.elsa.specs.Workers.{numbers, pushed_by};
+ghost use Rattle.elsa_program.specs.Workers.{numbers, pushed_by};
 
-use elsa::shared::{Gate, first_fault, run_shared_into};
 use elsa::sync::{LockFreeFrozenVec, Pass};
+use elsa_program::shared::{Gate, first_fault, run_shared_into};
 use std::alloc::{AllocError, Global};
 use std::sync::Wait;
 use std::thread::Threads;
 
-/// Lets two workers push `count` numbers each into a new vector, and returns a pass of it, or `None` if a worker had a fault. Two authors
-/// have pushed all numbers of a worker each, in order.
+/// Makes a vector, lets two workers push `count` numbers each, and returns a view of it, or `None`
+/// if a worker had a fault. Each of two writers has pushed all numbers of one worker, in order.
+///
+/// # Errors
+/// Fails if an allocation fails.
 pub fn two_filled<R: Threads + Wait + Sync, G: Gate + Sync>(
     rt: &R,
     alloc: Global,

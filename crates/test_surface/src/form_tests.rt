@@ -1,11 +1,12 @@
-//! The forms of calls that docs/reference lists for a vector and the one-thread maps, through `elsa` and `bumpalo` alone: each proved and run.
+//! The call forms that docs/reference lists for a vector and the single-threaded maps. They use
+//! only `elsa` and `bumpalo`, and each is proved and run.
 use bumpalo::Bump;
 use elsa::vec::Cursor;
 use elsa::{FrozenBTreeMap, FrozenIndexMap, FrozenIndexSet, FrozenMap, FrozenVec, Own};
 use std::alloc::{AllocError, Global};
 use std::test::Fail;
 
-/// Whether the accessors give "b" and "fox".
+/// Returns whether the accessors return "b" and "fox".
 fn is_read(words: &FrozenVec<'_, String>) -> bool {
     let ends = words.first() == Some("b") && words.last() == Some("fox");
     ends && words.get(1) == Some("fox")
@@ -14,14 +15,14 @@ fn is_read(words: &FrozenVec<'_, String>) -> bool {
         && !words.is_empty()
 }
 
-/// Whether the searches find "fox" by length.
+/// Returns whether the searches find "fox" by its length.
 fn is_searched(words: &FrozenVec<'_, String>) -> bool {
     let by_key = words.binary_search_by_key(&3, |word| word.len());
     let by = words.binary_search_by(|word| word.len().cmp(&3));
     by_key == Ok(1) && by == Ok(1) && words.partition_point(|word| word.len() < 2) == 1
 }
 
-/// Whether a walk and a cursor reach both words.
+/// Returns whether an iterator and a cursor visit both words.
 fn is_walked(words: &FrozenVec<'_, String>) -> bool {
     let mut bytes: usize = 0;
     for word in words.iter() {
@@ -32,7 +33,7 @@ fn is_walked(words: &FrozenVec<'_, String>) -> bool {
     first && bytes == 4 && cursor.next(words).is_some() && cursor.next(words).is_none()
 }
 
-/// Whether a clone is equal, and stays apart.
+/// Returns whether a clone is equal, and a push into the clone leaves the original unchanged.
 fn is_cloned(words: &FrozenVec<'_, String>, alloc: Global) -> Result<bool, AllocError> {
     let mut copy = words.clone()?;
     let is_equal = copy == *words;
@@ -42,7 +43,7 @@ fn is_cloned(words: &FrozenVec<'_, String>, alloc: Global) -> Result<bool, Alloc
 }
 
 #[test]
-fn forms_of_a_vector(rt: HostRuntime) -> Result<(), Fail> {
+fn a_call_on_a_vector_had_a_wrong_result(rt: HostRuntime) -> Result<(), Fail> {
     let alloc = rt.alloc();
     let arena = Bump::new(alloc);
     let mut words = FrozenVec::new(alloc, &arena);
@@ -53,7 +54,7 @@ fn forms_of_a_vector(rt: HostRuntime) -> Result<(), Fail> {
     Ok(())
 }
 
-/// Whether numbers are copied out, and indexed.
+/// Returns whether a number is read as a copy by its index.
 fn is_of_numbers(alloc: Global) -> Result<bool, AllocError> {
     let arena = Bump::new(alloc);
     let mut numbers: FrozenVec<Own<u64>> = FrozenVec::new(alloc, &arena);
@@ -64,21 +65,21 @@ fn is_of_numbers(alloc: Global) -> Result<bool, AllocError> {
 }
 
 #[test]
-fn forms_of_a_vector_of_numbers(rt: HostRuntime) -> Result<(), Fail> {
+fn a_number_was_not_copied_out_of_a_vector(rt: HostRuntime) -> Result<(), Fail> {
     assert!(rt; is_of_numbers(rt.alloc())?);
     Ok(())
 }
 
-/// Whether a hashed map keeps the first value of a key.
+/// Returns whether a hashed map keeps the first value of a key.
 fn keeps_the_first(alloc: Global) -> Result<bool, AllocError> {
     let arena = Bump::new(alloc);
     let mut map: FrozenMap<u64, &str> = FrozenMap::new(alloc, &arena);
     let first = map.insert(1, "a")?;
-    let (second, is_new) = map.insert_new(1, "b")?;
-    Ok(first == "a" && second == "a" && !is_new && map.len() == 1 && !map.is_empty())
+    let second = map.insert_new(1, "b")?;
+    Ok(first == "a" && second.value == "a" && !second.is_new && map.len() == 1 && !map.is_empty())
 }
 
-/// Whether a hashed map answers by key.
+/// Returns whether a hashed map finds an entry by its key.
 fn is_map(alloc: Global) -> Result<bool, AllocError> {
     let arena = Bump::new(alloc);
     let mut map: FrozenMap<u64, &str> = FrozenMap::new(alloc, &arena);
@@ -89,7 +90,7 @@ fn is_map(alloc: Global) -> Result<bool, AllocError> {
     Ok(both && copy == map && map.get(&4).is_none())
 }
 
-/// Whether an ordered map answers in the order of its keys.
+/// Returns whether an ordered map returns its pairs in the order of its keys.
 fn is_ordered(alloc: Global) -> Result<bool, AllocError> {
     let arena = Bump::new(alloc);
     let mut map: FrozenBTreeMap<u64, &str> = FrozenBTreeMap::new(alloc, &arena);
@@ -102,18 +103,18 @@ fn is_ordered(alloc: Global) -> Result<bool, AllocError> {
 }
 
 #[test]
-fn forms_of_maps(rt: HostRuntime) -> Result<(), Fail> {
+fn a_call_on_a_map_had_a_wrong_result(rt: HostRuntime) -> Result<(), Fail> {
     assert!(rt; keeps_the_first(rt.alloc())? && is_map(rt.alloc())? && is_ordered(rt.alloc())?);
     Ok(())
 }
 
-/// Whether an index map has places in the order of insertion.
+/// Returns whether an index map has its indices in the order of insertion.
 fn is_index_map(alloc: Global) -> Result<bool, AllocError> {
     let arena = Bump::new(alloc);
     let mut map: FrozenIndexMap<u64, &str> = FrozenIndexMap::new(alloc, &arena);
     let first = map.insert_full(7, "x")?;
-    let (place, value, is_new) = map.insert_full_new(5, "y")?;
-    let placed = first == (0, "x") && place == 1 && value == "y" && is_new;
+    let second = map.insert_full_new(5, "y")?;
+    let placed = first == (0, "x") && second.index == 1 && second.value == "y" && second.is_new;
     Ok(
         placed
             && map.get_index_of(&5) == Some(1)
@@ -122,7 +123,7 @@ fn is_index_map(alloc: Global) -> Result<bool, AllocError> {
     )
 }
 
-/// Whether an index set finds a text of any lifetime.
+/// Returns whether an index set finds a text of any lifetime.
 fn is_index_set(alloc: Global) -> Result<bool, AllocError> {
     let arena = Bump::new(alloc);
     let mut set: FrozenIndexSet<String> = FrozenIndexSet::new(alloc, &arena);
@@ -132,7 +133,7 @@ fn is_index_set(alloc: Global) -> Result<bool, AllocError> {
 }
 
 #[test]
-fn forms_of_index_forms(rt: HostRuntime) -> Result<(), Fail> {
+fn a_call_on_an_index_collection_had_a_wrong_result(rt: HostRuntime) -> Result<(), Fail> {
     assert!(rt; is_index_map(rt.alloc())? && is_index_set(rt.alloc())?);
     Ok(())
 }

@@ -1,4 +1,5 @@
-//! The map that threads look up without a lock, through `elsa` alone: each of its calls, and four threads that race for each key.
+//! The lock-free map, by `elsa` alone: each of its calls, and four threads that insert the same
+//! keys.
 ghost use Rattle.std.specs.Prelude.{◌≡◌};
 
 use elsa::SeededState;
@@ -10,19 +11,18 @@ use std::thread;
 
 type Ages = LockFreeFrozenMap<&'static str, u64>;
 
-/// Whether the calls by a pass find what was inserted first, by key and by place.
-fn finds_by_a_pass(rt: &impl Wait, ages: &Ages) -> Result<bool, AllocError> {
-    let mut pass = ages.pass();
-    let new = ages.insert_as(rt, &mut pass, "ann", 30)?;
-    let old = ages.insert_as(rt, &mut pass, "ann", 40)?;
+/// Returns whether a handle finds the value that was inserted first, by key and by index.
+fn finds_the_first(rt: &impl Wait, ages: &Ages) -> Result<bool, AllocError> {
+    let mut handle = ages.handle();
+    let new = handle.insert(rt, "ann", 30)?;
+    let old = handle.insert(rt, "ann", 40)?;
     let is_first = new.is_new && new.place == 0 && !old.is_new && old.value == 30;
-    let found = ages.get_as(&mut pass, "ann") == Some(30)
-        && ages.find_as(&mut pass, "ann") == Some(0);
-    let by_place = ages.get_by_place_as(&mut pass, 0) == Some(("ann", 30));
-    Ok(is_first && found && by_place && ages.len_as(&mut pass) == 1)
+    let found = handle.get("ann") == Some(30) && handle.find(&"ann") == Some(0);
+    let by_place = handle.get_by_place(0) == Some(("ann", 30));
+    Ok(is_first && found && by_place && handle.len() == 1 && handle.seen_len() == 1)
 }
 
-/// Whether a handle finds what the map has, and inserts behind it.
+/// Returns whether a handle finds the map's entry, and appends another one.
 fn finds_by_a_handle(rt: &impl Wait, ages: &Ages) -> Result<bool, AllocError> {
     let mut handle = MapHandle::of(ages, ages.pass());
     let is_there = handle.get("ann") == Some(30) && handle.get("bob").is_none();
@@ -30,20 +30,19 @@ fn finds_by_a_handle(rt: &impl Wait, ages: &Ages) -> Result<bool, AllocError> {
     Ok(is_there && place == 1 && handle.len() == 2 && handle.get_by_place(1) == Some(("bob", 20)))
 }
 
-/// Whether the calls by a pass contain what was inserted, make a value for an absent key alone, and walk over all in order.
-fn walks_by_a_pass(rt: &impl Wait, ages: &Ages) -> Result<bool, AllocError> {
-    let mut pass = ages.pass();
-    let made = ages.get_or_insert_with_as(rt, &mut pass, "eve", || 50)?;
-    let kept = ages.get_or_insert_with_as(rt, &mut pass, "eve", || 60)?;
-    let contains = ages.contains_key_as(&mut pass, "eve")
-        && !ages.contains_key_as(&mut pass, "zoe");
-    ages.one_to_one_as(&pass);
-    ages.same_place_as(&pass, &ages.pass());
-    let last = ages.iter_as(&pass).last();
-    Ok(made.is_new && !kept.is_new && kept.value == 50 && contains && last == Some(("eve", 50)))
+/// Returns whether a handle contains what was inserted, makes a value only for an absent key, and
+/// walks over all entries in order.
+fn walks_to_the_last(rt: &impl Wait, ages: &Ages) -> Result<bool, AllocError> {
+    let mut handle = ages.handle();
+    let made = handle.get_or_insert_with(rt, "eve", || 50)?;
+    let kept = handle.get_or_insert_with(rt, "eve", || 60)?;
+    let contains = handle.contains_key("eve") && !handle.contains_key("zoe");
+    let seen = handle.pass().seen_len() == 3;
+    let last = handle.iter().last();
+    Ok(made.is_new && kept.value == 50 && contains && seen && last == Some(("eve", 50)))
 }
 
-/// Whether a handle of a map with three entries does the same.
+/// Returns whether a handle of a map with three entries does the same.
 fn walks_by_a_handle(rt: &impl Wait, ages: &Ages) -> Result<bool, AllocError> {
     let mut handle = ages.handle();
     let made = handle.get_or_insert_with(rt, "fay", || 70)?;
@@ -54,7 +53,8 @@ fn walks_by_a_handle(rt: &impl Wait, ages: &Ages) -> Result<bool, AllocError> {
     Ok(made.place == 3 && contains && walk.next() == Some(("ann", 30)) && walk.size_hint().0 == 3)
 }
 
-/// Whether a handle that has seen nothing has met one that has.
+/// Returns whether a handle that has observed nothing has both entries after a merge with one that
+/// has observed them.
 fn meets(ages: &Ages) -> bool {
     let mut seen = MapHandle::of(ages, ages.pass());
     let mut fresh = MapHandle::of(ages, ages.pass());
@@ -67,7 +67,7 @@ fn meets(ages: &Ages) -> bool {
 #[test]
 fn a_map_without_locks_keeps_the_first_value_of_a_key(rt: HostRuntime) -> Result<(), Fail> {
     let ages = Ages::new(rt.alloc())?;
-    assert!(rt; finds_by_a_pass(&rt, &ages)?);
+    assert!(rt; finds_the_first(&rt, &ages)?);
     assert!(rt; finds_by_a_handle(&rt, &ages)?);
     assert!(rt; meets(&ages));
     Ok(())
@@ -76,16 +76,19 @@ fn a_map_without_locks_keeps_the_first_value_of_a_key(rt: HostRuntime) -> Result
 #[test]
 fn a_map_without_locks_is_walked_over_and_makes_values(rt: HostRuntime) -> Result<(), Fail> {
     let ages = Ages::new(rt.alloc())?;
-    assert!(rt; finds_by_a_pass(&rt, &ages)? && finds_by_a_handle(&rt, &ages)?);
-    assert!(rt; walks_by_a_pass(&rt, &ages)?);
+    assert!(rt; finds_the_first(&rt, &ages)? && finds_by_a_handle(&rt, &ages)?);
+    assert!(rt; walks_to_the_last(&rt, &ages)?);
     assert!(rt; walks_by_a_handle(&rt, &ages)?);
     Ok(())
 }
 
-/// How many keys each thread inserts.
+/// The number of keys that each thread inserts.
 const KEYS: u64 = 200;
 
-/// How many of the keys this thread was the first to insert, if each then has a value that one of the threads gave it.
+/// Inserts each key, and returns the number of keys that were new.
+///
+/// # Errors
+/// Fails if an allocation fails, or if a key then has a value that no thread inserted.
 fn raced<R: Wait>(
     rt: &R,
     map: &LockFreeFrozenMap<u64, u64, SeededState>,

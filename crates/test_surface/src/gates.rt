@@ -1,12 +1,13 @@
-//! Gates that note what the workers were answered.
-use elsa::shared::Gate;
+//! Gates that record what the workers do.
+use elsa_program::shared::Gate;
 use std::sync::atomic::{AtomicU64, Ordering};
 use std::thread;
 
-/// How often a worker that is held looks for the other's note.
+/// The greatest number of looks of a waiting worker for the other's progress.
 const TURNS: u64 = 10_000_000;
 
-/// Counts its calls, and answers false at the call of a number that is named, counted from 1, of a worker that is named.
+/// A gate that counts its calls, and stops the worker `worker` at that worker's call with the
+/// number `at`, counted from 1.
 #[derive(Drop)]
 pub struct Stops {
     pub worker: usize,
@@ -16,7 +17,8 @@ pub struct Stops {
 }
 
 impl Stops {
-    /// A gate that stops worker `worker` at its `at`-th call; with 0 it stops nobody.
+    /// Makes a gate that stops the worker `worker` at its `at`-th call. If `at` is 0, it stops no
+    /// worker.
     pub fn new(worker: usize, at: u64) -> Stops {
         Stops {
             worker,
@@ -26,7 +28,7 @@ impl Stops {
         }
     }
 
-    /// How often the gate was called.
+    /// Returns the number of calls of the gate.
     pub fn calls(&self) -> u64 {
         self.calls.load(Ordering::SeqCst)
     }
@@ -43,7 +45,8 @@ impl Gate for Stops {
     }
 }
 
-/// Holds each of two workers until the other has been answered too, and notes their places, each as one more than the place.
+/// A gate at which each of two workers waits until the other has pushed too. It records the index
+/// of each, plus 1.
 #[derive(Drop)]
 pub struct Pair {
     first: AtomicU64,
@@ -51,7 +54,7 @@ pub struct Pair {
 }
 
 impl Pair {
-    /// No notes yet.
+    /// Makes a gate without records.
     pub fn new() -> Pair {
         Pair {
             first: AtomicU64::new(0),
@@ -59,7 +62,7 @@ impl Pair {
         }
     }
 
-    /// The two notes, the smaller first; 0 stands for none.
+    /// Returns the two recorded numbers, the smaller first. A 0 means that there is no record.
     pub fn notes(&self) -> (u64, u64) {
         let first = self.first.load(Ordering::SeqCst);
         let second = self.second.load(Ordering::SeqCst);
@@ -85,7 +88,8 @@ impl Gate for Pair {
     }
 }
 
-/// Holds each of two workers after each push until the other has made as many, and stops one that waits in vain.
+/// A gate at which each of two workers waits after each push until the other has made the same
+/// number of pushes. It stops a worker for which that doesn't happen within `TURNS` looks.
 #[derive(Drop)]
 pub struct Alternates {
     first: AtomicU64,
@@ -93,7 +97,7 @@ pub struct Alternates {
 }
 
 impl Alternates {
-    /// No push yet.
+    /// Makes a gate without pushes.
     pub fn new() -> Alternates {
         Alternates {
             first: AtomicU64::new(0),
@@ -120,7 +124,7 @@ impl Gate for Alternates {
     }
 }
 
-/// Answers false to a worker whose places don't rise, and sums all places.
+/// A gate that stops a worker whose indices don't increase, and adds all indices up.
 #[derive(Drop)]
 pub struct Rising {
     pub last: [AtomicU64; 4],
@@ -128,7 +132,7 @@ pub struct Rising {
 }
 
 impl Rising {
-    /// No places yet, for four workers.
+    /// Makes a gate for four workers, without indices.
     pub fn new() -> Rising {
         Rising {
             last: [
@@ -141,7 +145,7 @@ impl Rising {
         }
     }
 
-    /// The sum of all places that were answered.
+    /// Returns the sum of all indices.
     pub fn sum(&self) -> u64 {
         self.sum.load(Ordering::SeqCst)
     }

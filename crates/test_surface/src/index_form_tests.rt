@@ -1,4 +1,5 @@
-//! The forms of calls that docs/reference lists for index maps and sets of numbers, through `elsa` and `bumpalo` alone: each proved and run.
+//! The call forms that docs/reference lists for index maps and index sets of numbers. They use only
+//! `elsa` and `bumpalo`, and each is proved and run.
 use bumpalo::Bump;
 use elsa::{FrozenIndexMap, FrozenIndexSet, LookUp, Own, StableDeref};
 use std::alloc::{AllocError, Global};
@@ -9,20 +10,20 @@ use std::test::Fail;
 
 type Map<'a> = FrozenIndexMap<'a, u64, Own<u64>>;
 
-/// Gives 7 the value 1 and 5 the value 2, and says whether 7 kept its first value.
+/// Inserts 7 with the value 1 and 5 with the value 2, and returns whether 7 keeps its first value.
 fn fills<'a>(map: &mut Map<'a>) -> Result<bool, AllocError> {
-    let (value, is_new) = map.insert_new(7, Own(1))?;
+    let done = map.insert_new(7, Own(1))?;
     map.insert(5, Own(2))?;
-    Ok(is_new && *value == 1 && *map.insert(7, Own(3))? == 1)
+    Ok(done.is_new && *done.value == 1 && *map.insert(7, Own(3))? == 1)
 }
 
-/// Whether the map answers by the key 5.
+/// Returns whether each lookup of the key 5 finds its entry.
 fn has_five<'a>(map: &Map<'a>) -> bool {
     let full = map.get_full(&5) == Some((1, 5, &2)) && map.contains_key(&5);
     full && map.map_get(&5, |value| *value) == Some(2) && map.get(&5).is_some() && *map[&5] == 2
 }
 
-/// The digits of the keys in order and from the back.
+/// Returns the digits of the keys in order, and from the back.
 fn digits<'a>(map: &Map<'a>) -> [u64; 2] {
     let mut digits = [0u64; 2];
     for (key, _value) in map.iter() {
@@ -34,7 +35,7 @@ fn digits<'a>(map: &Map<'a>) -> [u64; 2] {
     digits
 }
 
-/// The digits of the keys alone, and those of the values.
+/// Returns the digits of the keys, and those of the values.
 fn halves<'a>(map: &Map<'a>) -> [u64; 2] {
     let mut digits = [0u64; 2];
     for key in map.keys() {
@@ -46,7 +47,8 @@ fn halves<'a>(map: &Map<'a>) -> [u64; 2] {
     digits
 }
 
-/// Whether a clone is equal, is no longer so without content, and begins anew with the map's.
+/// Returns whether a clone is equal, differs after it was cleared, and has the map's entries after
+/// `rebase`.
 fn is_made_anew<'a>(map: Map<'a>) -> Result<bool, AllocError> {
     let mut copy = map.clone()?;
     let is_equal = copy == map && copy.len() == 2;
@@ -58,7 +60,7 @@ fn is_made_anew<'a>(map: Map<'a>) -> Result<bool, AllocError> {
 }
 
 #[test]
-fn forms_of_an_index_map_of_numbers(rt: HostRuntime) -> Result<(), Fail> {
+fn a_call_on_an_index_map_of_numbers_had_a_wrong_result(rt: HostRuntime) -> Result<(), Fail> {
     let arena = Bump::new(rt.alloc());
     let mut map: Map<'_> = FrozenIndexMap::with_hasher(
         rt.alloc(),
@@ -75,15 +77,16 @@ fn forms_of_an_index_map_of_numbers(rt: HostRuntime) -> Result<(), Fail> {
 
 type Set<'a> = FrozenIndexSet<'a, Own<u64>>;
 
-/// Puts 7 and 5 into the set, and says whether 5 was new once.
+/// Inserts 7 and 5, and returns whether 5 is new only once.
 fn adds<'a>(set: &mut Set<'a>) -> Result<bool, AllocError> {
     let first = *set.insert(Own(7))?;
-    let (_value, is_new) = set.insert_new(Own(5))?;
-    let (place, value, is_new_again) = set.insert_full_new(Own(5))?;
-    Ok(first == 7 && is_new && place == 1 && *value == 5 && !is_new_again)
+    let five = set.insert_full_new(Own(5))?;
+    let again = set.insert_full_new(Own(5))?;
+    let is_kept = again.index == 1 && *again.value == 5 && !again.is_new;
+    Ok(first == 7 && five.is_new && is_kept)
 }
 
-/// Whether 9 goes last, where it is absent.
+/// Returns whether 9 is absent and is then added last.
 fn adds_nine<'a>(set: &mut Set<'a>) -> Result<bool, AllocError> {
     if set.get_index_of(&Own(9)).is_some() {
         return Ok(false);
@@ -92,13 +95,13 @@ fn adds_nine<'a>(set: &mut Set<'a>) -> Result<bool, AllocError> {
     Ok(place == 2 && *value == 9 && set.len() == 3)
 }
 
-/// Whether the set answers by the value 5 and by the first place.
+/// Returns whether the set finds the value 5 and the value at the first index.
 fn has_both<'a>(set: &Set<'a>) -> bool {
     let full = set.get_full(&Own(5)) == Some((1, &5)) && set.contains(&Own(5));
     full && set.get_index(0).is_some() && *set[0] == 7
 }
 
-/// The digits of the values in order, and from the back.
+/// Returns the digits of the values in order, and from the back.
 fn set_digits<'a>(set: &Set<'a>) -> [u64; 2] {
     let mut digits = [0u64; 2];
     for value in set.iter() {
@@ -110,7 +113,8 @@ fn set_digits<'a>(set: &Set<'a>) -> [u64; 2] {
     digits
 }
 
-/// Whether a clone is equal, is no longer so without content, and begins anew with the set's.
+/// Returns whether a clone is equal, differs after it was cleared, and has the set's values after
+/// `rebase`.
 fn is_set_anew<'a>(set: Set<'a>) -> Result<bool, AllocError> {
     let mut copy = set.clone()?;
     let is_equal = copy == set;
@@ -121,7 +125,7 @@ fn is_set_anew<'a>(set: Set<'a>) -> Result<bool, AllocError> {
 }
 
 #[test]
-fn forms_of_an_index_set_of_numbers(rt: HostRuntime) -> Result<(), Fail> {
+fn a_call_on_an_index_set_of_numbers_had_a_wrong_result(rt: HostRuntime) -> Result<(), Fail> {
     let arena = Bump::new(rt.alloc());
     let mut set: Set<'_> = FrozenIndexSet::with_hasher(
         rt.alloc(),
@@ -135,7 +139,8 @@ fn forms_of_an_index_set_of_numbers(rt: HostRuntime) -> Result<(), Fail> {
 
 // ---- what the collections call
 
-/// Whether 5 is at the second place of a set that is collected of 7, 5 and 7, and asked from inside.
+/// Returns whether 5 is at the second index of a set that was collected from 7, 5 and 7, by a
+/// lookup in the inner set.
 fn is_at_the_second(alloc: Global) -> Result<bool, AllocError> {
     let arena = Bump::new(alloc);
     let values = [Own(7u64), Own(5), Own(7)];
@@ -144,7 +149,7 @@ fn is_at_the_second(alloc: Global) -> Result<bool, AllocError> {
     Ok(Own(5).position(&inner) == Some(1) && inner.len() == 2)
 }
 
-/// Whether a number is placed.
+/// Returns whether a number is stored in an arena.
 fn is_placed(alloc: Global) -> bool {
     let arena = Bump::new(alloc);
     let placed = match Own(8u64).place(&arena) {
@@ -155,7 +160,7 @@ fn is_placed(alloc: Global) -> bool {
 }
 
 #[test]
-fn forms_of_placing_and_looking_up(rt: HostRuntime) -> Result<(), Fail> {
+fn a_value_was_not_stored_or_not_found(rt: HostRuntime) -> Result<(), Fail> {
     assert!(rt; is_at_the_second(rt.alloc())? && is_placed(rt.alloc()));
     Ok(())
 }

@@ -1,10 +1,10 @@
-//! What the words of a command line ask for.
-use elsa::Job;
-use elsa::command::job;
+//! The jobs that the words of a command line select.
+use elsa_program::Job;
+use elsa_program::command::job;
 use std::alloc::{AllocError, Global};
 use std::test::*;
 
-/// The job of the words of a line, which single spaces part.
+/// Returns the job of the words of a line, which are separated by single spaces.
 fn asked(alloc: Global, line: &str) -> Result<Option<Job>, AllocError> {
     let mut words = Vec::new(alloc);
     for word in line.split(' ') {
@@ -14,7 +14,7 @@ fn asked(alloc: Global, line: &str) -> Result<Option<Job>, AllocError> {
 }
 
 #[test]
-fn words_that_are_a_job(rt: HostRuntime) -> Result<(), Fail> {
+fn a_valid_command_line_was_rejected(rt: HostRuntime) -> Result<(), Fail> {
     let lines = [
         ("intern", Job::Intern),
         ("shared 2 1000", Job::Shared(2, 1000)),
@@ -32,7 +32,7 @@ fn words_that_are_a_job(rt: HostRuntime) -> Result<(), Fail> {
 }
 
 #[test]
-fn words_that_are_none(rt: HostRuntime) -> Result<(), Fail> {
+fn an_invalid_command_line_was_accepted(rt: HostRuntime) -> Result<(), Fail> {
     let lines = [
         "",
         "Intern",

@@ -1,10 +1,13 @@
-//! Tests of the workers, of the words that ask for them, and of the page for callers, as a stranger calls them.
+//! Tests of the workers, of the command line that starts them, and of the call forms on the pages
+//! for users, written as any other crate would call them.
 #![tactic(auto)]
 
 #[cfg(test)]
 mod arena_form_tests;
 #[cfg(test)]
 mod base_form_tests;
+#[cfg(test)]
+mod error_tests;
 #[cfg(test)]
 mod filled;
 #[cfg(test)]

@@ -1,11 +1,12 @@
-//! The forms of calls that docs/reference lists for the locked collections, through `elsa` alone: each proved and run.
+//! The call forms that docs/reference lists for the locked collections. They use only `elsa`, and
+//! each is proved and run.
 use elsa::sync::{FrozenBTreeMap, FrozenMap, FrozenVec};
 use std::alloc::AllocError;
 use std::collections::BTreeMap;
 use std::sync::{Arc, Wait};
 use std::test::Fail;
 
-/// Whether this is an owner of the number.
+/// Returns whether this is an owner of the number.
 pub fn is(owner: Option<Arc<u64>>, number: u64) -> bool {
     match owner {
         Some(owner) => *owner == number,
@@ -17,15 +18,17 @@ pub fn is(owner: Option<Arc<u64>>, number: u64) -> bool {
 
 type Hashed = FrozenMap<u64, u64>;
 
-/// Gives 1 the value 10 and 2 the value 20, and says whether both keep them.
+/// Inserts 1 with the value 10 and 2 with the value 20, and returns whether both keep them.
 fn inserts(rt: &impl Wait, map: &Hashed) -> Result<bool, AllocError> {
     let with = *map.insert_with(rt, 1, || 10)?;
     let with_key = *map.insert_with_key(rt, 2, |key| key.wrapping_mul(10))?;
-    let (again, is_new) = map.insert_new(rt, 2, 5)?;
-    Ok(with == 10 && with_key == 20 && *again == 20 && !is_new && *map.insert(rt, 1, 5)? == 10)
+    let again = map.insert_new(rt, 2, 5)?;
+    let is_kept = *again.value == 20 && !again.is_new && *map.insert(rt, 1, 5)? == 10;
+    Ok(with == 10 && with_key == 20 && is_kept)
 }
 
-/// Gives 3 the value 30 and 4 the value 40, and says whether both are copied out.
+/// Inserts 3 with the value 30 and 4 with the value 40, and returns whether the copies of both are
+/// right.
 fn copies(rt: &impl Wait, map: &Hashed) -> Result<bool, AllocError> {
     let ten = map.get_copy_or_insert(rt, 1, 5)?;
     let thirty = map.get_copy_or_insert_with(rt, 3, || 30)?;
@@ -33,26 +36,26 @@ fn copies(rt: &impl Wait, map: &Hashed) -> Result<bool, AllocError> {
     Ok(ten == 10 && thirty == 30 && forty == 40 && map.get_copy(rt, &3) == Some(30))
 }
 
-/// Whether the map answers by the key 4.
+/// Returns whether each lookup of the key 4 finds its value.
 fn has_forty(rt: &impl Wait, map: &Hashed) -> Result<bool, AllocError> {
     let read = is(map.get(rt, &4)?, 40) && map.map_get(rt, &4, |value| *value) == Some(40);
     Ok(read && map.len(rt) == 4 && !map.is_empty(rt))
 }
 
-/// Whether a clone is equal and has as many keys.
+/// Returns whether a clone is equal and has four keys.
 fn is_cloned(rt: &impl Wait, map: &Hashed) -> Result<bool, AllocError> {
     let copy = map.clone(rt)?;
     Ok(map.equals(rt, &copy)? && copy.keys_cloned(rt)?.len() == 4)
 }
 
-/// How many pairs there are behind a removal of the key 1.
+/// Returns the number of pairs after the removal of the key 1.
 fn without_one(mut map: Hashed) -> Result<usize, AllocError> {
     let _ = map.as_mut().remove(&1);
     Ok(map.into_tuple_vec()?.len())
 }
 
 #[test]
-fn forms_of_the_locked_hashed_map(rt: HostRuntime) -> Result<(), Fail> {
+fn a_call_on_the_locked_hashed_map_had_a_wrong_result(rt: HostRuntime) -> Result<(), Fail> {
     let map: Hashed = FrozenMap::new(rt.alloc());
     assert!(rt; inserts(&rt, &map)? && copies(&rt, &map)?);
     assert!(rt; has_forty(&rt, &map)? && is_cloned(&rt, &map)? && without_one(map)? == 3);
@@ -63,19 +66,19 @@ fn forms_of_the_locked_hashed_map(rt: HostRuntime) -> Result<(), Fail> {
 
 type Ordered = FrozenBTreeMap<u64, u64>;
 
-/// Gives 2 the value 20, and says whether it keeps it.
+/// Inserts 2 with the value 20, and returns whether it keeps it.
 fn inserts_in_order(rt: &impl Wait, map: &Ordered) -> Result<bool, AllocError> {
-    let (first, is_new) = map.insert_new(rt, 2, 20)?;
-    Ok(*first == 20 && is_new && *map.insert(rt, 2, 5)? == 20)
+    let first = map.insert_new(rt, 2, 20)?;
+    Ok(*first.value == 20 && first.is_new && *map.insert(rt, 2, 5)? == 20)
 }
 
-/// Whether the map answers by the key 2.
+/// Returns whether each lookup of the key 2 finds its value.
 fn has_twenty(rt: &impl Wait, map: &Ordered) -> Result<bool, AllocError> {
     let read = is(map.get(rt, &2)?, 20) && map.map_get(rt, &2, |value| *value) == Some(20);
     Ok(read && map.len(rt) == 2 && !map.is_empty(rt))
 }
 
-/// Whether a clone is equal, and how many pairs it has.
+/// Returns whether a clone is equal, and the number of its pairs.
 fn is_cloned_in_order(rt: &impl Wait, map: &Ordered) -> Result<(bool, usize), AllocError> {
     let copy = map.clone(rt)?;
     let is_equal = map.equals(rt, &copy)?;
@@ -83,7 +86,7 @@ fn is_cloned_in_order(rt: &impl Wait, map: &Ordered) -> Result<(bool, usize), Al
 }
 
 #[test]
-fn forms_of_the_locked_ordered_map(rt: HostRuntime) -> Result<(), Fail> {
+fn a_call_on_the_locked_ordered_map_had_a_wrong_result(rt: HostRuntime) -> Result<(), Fail> {
     let pairs = [(1u64, 11u64), (1, 10)];
     let map: Ordered = FrozenBTreeMap::from_iter(rt.alloc(), pairs.into_iter())?;
     assert!(rt; inserts_in_order(&rt, &map)? && has_twenty(&rt, &map)?);
@@ -98,21 +101,22 @@ fn forms_of_the_locked_ordered_map(rt: HostRuntime) -> Result<(), Fail> {
 
 type List = FrozenVec<u64>;
 
-/// Pushes 7, 8 and 9, and says whether they are answered.
+/// Pushes 7, 8 and 9, and returns whether the owner and the index that the pushes return are right.
 fn pushes(rt: &impl Wait, list: &List) -> Result<bool, AllocError> {
     list.push(rt, 7)?;
     let eight = *list.push_get(rt, 8)?;
     Ok(eight == 8 && list.push_get_index(rt, 9)? == 2)
 }
 
-/// Whether the list has 9 at its last place, and a walk begins with 7.
+/// Returns whether the list has 9 at its last index, and a walk begins with 7.
 fn has_nine(rt: &impl Wait, list: &List) -> Result<bool, AllocError> {
     let mut walk = list.iter();
     let read = is(walk.next(rt)?, 7) && is(list.get(rt, 2)?, 9);
     Ok(read && list.len(rt) == 3 && !list.is_empty(rt))
 }
 
-/// Whether a clone is equal, also when it is taken apart and made again, and is empty at last.
+/// Returns whether a clone that was taken apart and made again is equal, and is empty after
+/// `clear`.
 fn is_list_anew(rt: &impl Wait, list: &List) -> Result<bool, AllocError> {
     let copy = list.clone(rt)?;
     let mut again: List = FrozenVec::from_vec(copy.into_vec());
@@ -122,7 +126,7 @@ fn is_list_anew(rt: &impl Wait, list: &List) -> Result<bool, AllocError> {
 }
 
 #[test]
-fn forms_of_the_locked_vector(rt: HostRuntime) -> Result<(), Fail> {
+fn a_call_on_the_locked_vector_had_a_wrong_result(rt: HostRuntime) -> Result<(), Fail> {
     let list: List = FrozenVec::new(rt.alloc());
     assert!(rt; pushes(&rt, &list)? && has_nine(&rt, &list)? && is_list_anew(&rt, &list)?);
     Ok(())

@@ -1,17 +1,17 @@
-//! The forms of calls that docs/reference lists for growing a vector, for maps of numbers, their walks and their inner maps, through `elsa` and `bumpalo`
-//! alone: each proved and run.
+//! The call forms that docs/reference lists for a growing vector, and for maps of numbers, their
+//! walks and their inner maps. They use only `elsa` and `bumpalo`, and each is proved and run.
 use bumpalo::Bump;
 use elsa::{FrozenBTreeMap, FrozenMap, FrozenVec, MapForm, Own, StableDeref};
 use std::alloc::{AllocError, Global};
 use std::hash::BuildHasherDefault;
 use std::test::Fail;
 
-/// Whether a vector has the one number and not the other.
+/// Returns whether a vector contains 8 and doesn't contain 6.
 fn has_eight_and_no_six(numbers: &FrozenVec<'_, Own<u64>>) -> bool {
     numbers.contains(&8) && !numbers.contains(&6)
 }
 
-/// Whether a vector has an iterator's items behind its own, and no other.
+/// Returns whether a vector has an iterator's items after its own, and no other.
 fn is_extended(alloc: Global) -> Result<bool, AllocError> {
     let arena = Bump::new(alloc);
     let mut numbers: FrozenVec<'_, Own<u64>> = FrozenVec::new(alloc, &arena);
@@ -21,19 +21,19 @@ fn is_extended(alloc: Global) -> Result<bool, AllocError> {
 }
 
 #[test]
-fn forms_of_a_vector_that_grows(rt: HostRuntime) -> Result<(), Fail> {
+fn an_extended_vector_lost_an_item(rt: HostRuntime) -> Result<(), Fail> {
     assert!(rt; is_extended(rt.alloc())?);
     Ok(())
 }
 
-/// What the maps are collected from: of the key 1 the last value stays.
+/// The pairs from which the maps are collected. Of the key 1 the last value stays.
 const PAIRS: [(u64, Own<u64>); 4] = [(3, Own(30)), (1, Own(11)), (2, Own(20)), (1, Own(10))];
 
 // ---- the hashed map
 
 type Hashed<'a> = FrozenMap<'a, u64, Own<u64>>;
 
-/// The sums over the entries, the keys and the values, by the three walks.
+/// Returns the sums over the entries, the keys and the values, by the three walks.
 fn sums<'a>(map: &Hashed<'a>) -> [u64; 3] {
     let mut sums = [0u64; 3];
     for (key, value) in map.iter() {
@@ -48,19 +48,19 @@ fn sums<'a>(map: &Hashed<'a>) -> [u64; 3] {
     sums
 }
 
-/// Whether the map has 20 at the key 2, and no key 4.
+/// Returns whether the map has 20 at the key 2, and no key 4.
 fn has_twenty<'a>(map: &Hashed<'a>) -> bool {
     map.contains_key(&2) && map.get(&2).is_some() && *map[&2] == 20 && !map.contains_key(&4)
 }
 
-/// Whether the map is emptied through its inner one.
+/// Returns whether clearing the inner map empties the map.
 fn is_emptied<'a>(mut map: Hashed<'a>) -> bool {
     map.as_mut().clear();
     map.is_empty()
 }
 
 #[test]
-fn forms_of_a_hashed_map_of_numbers(rt: HostRuntime) -> Result<(), Fail> {
+fn a_call_on_a_hashed_map_of_numbers_had_a_wrong_result(rt: HostRuntime) -> Result<(), Fail> {
     let arena = Bump::new(rt.alloc());
     let map = FrozenMap::from_iter(rt.alloc(), &arena, BuildHasherDefault::new(), PAIRS)?;
     assert!(rt; sums(&map) == [66, 6, 60] && has_twenty(&map) && is_emptied(map));
@@ -71,7 +71,8 @@ fn forms_of_a_hashed_map_of_numbers(rt: HostRuntime) -> Result<(), Fail> {
 
 type Ordered<'a> = FrozenBTreeMap<'a, u64, Own<u64>>;
 
-/// The digits of the keys by entries, from the back and alone.
+/// Returns the digits of the keys by a walk over the entries, by one from the back, and by one over
+/// the keys.
 fn digits<'a>(map: &Ordered<'a>) -> [u64; 3] {
     let mut digits = [0u64; 3];
     for (key, _value) in map.iter() {
@@ -86,7 +87,7 @@ fn digits<'a>(map: &Ordered<'a>) -> [u64; 3] {
     digits
 }
 
-/// The digits of the keys between 2 and 4, and the sum of the values.
+/// Returns the digits of the keys between 2 and 4, and the sum of the values.
 fn range_and_sum<'a>(map: &Ordered<'a>) -> [u64; 2] {
     let mut found = [0u64; 2];
     for (key, _value) in map.range(2..4) {
@@ -98,28 +99,28 @@ fn range_and_sum<'a>(map: &Ordered<'a>) -> [u64; 2] {
     found
 }
 
-/// Whether the map's ends are the keys 1 and 3.
+/// Returns whether the first key is 1 and the last key is 3.
 fn has_ends<'a>(map: &Ordered<'a>) -> bool {
     map.first_key_value() == Some((1, &10)) && map.last_key_value() == Some((3, &30))
 }
 
-/// Whether the map has 20 at the key 2, and no key 4.
+/// Returns whether the map has 20 at the key 2, and no key 4.
 fn has_twenty_in_order<'a>(map: &Ordered<'a>) -> bool {
     let asked = map.contains_key(&2) && !map.contains_key(&4);
     asked && map.map_get(&2, |value| *value) == Some(20) && map.get(&2).is_some() && *map[&2] == 20
 }
 
-/// Whether the key 4 is new once, and the map is then emptied through its inner one.
+/// Returns whether the key 4 is new only once, and clearing the inner map then empties the map.
 fn is_new_once<'a>(mut map: Ordered<'a>) -> Result<bool, AllocError> {
-    let (first, is_new) = map.insert_new(4, Own(40))?;
-    let (again, is_new_again) = map.insert_new(4, Own(41))?;
-    let kept = map.len() == 4 && *first == 40 && *again == 40;
+    let first = map.insert_new(4, Own(40))?;
+    let again = map.insert_new(4, Own(41))?;
+    let kept = map.len() == 4 && *first.value == 40 && *again.value == 40;
     map.as_mut().clear();
-    Ok(kept && is_new && !is_new_again && map.is_empty())
+    Ok(kept && first.is_new && !again.is_new && map.is_empty())
 }
 
 #[test]
-fn forms_of_an_ordered_map_of_numbers(rt: HostRuntime) -> Result<(), Fail> {
+fn a_call_on_an_ordered_map_of_numbers_had_a_wrong_result(rt: HostRuntime) -> Result<(), Fail> {
     let arena = Bump::new(rt.alloc());
     let map = FrozenBTreeMap::from_iter(rt.alloc(), &arena, PAIRS)?;
     let is_walked = digits(&map) == [123, 321, 123] && range_and_sum(&map) == [23, 60];
@@ -130,7 +131,8 @@ fn forms_of_an_ordered_map_of_numbers(rt: HostRuntime) -> Result<(), Fail> {
 
 // ---- either map
 
-/// Whether a map of either form has one key behind an insertion, and none behind a base that is empty.
+/// Returns whether a map of either type has one key after an insertion, and none after `rebase` to
+/// an empty base.
 fn is_form<R, V: StableDeref<R>, M: MapForm<R, Key = u64, Value = V>>(
     map: &mut M,
     value: V,
@@ -143,7 +145,7 @@ fn is_form<R, V: StableDeref<R>, M: MapForm<R, Key = u64, Value = V>>(
     Ok(before && one && map.is_empty())
 }
 
-/// Whether both maps are such forms.
+/// Returns whether `is_form` is true for both maps.
 fn are_forms(alloc: Global) -> Result<bool, AllocError> {
     let arena = Bump::new(alloc);
     let mut hashed: Hashed<'_> = FrozenMap::with_hasher(alloc, &arena, BuildHasherDefault::new());
@@ -157,7 +159,7 @@ fn are_forms(alloc: Global) -> Result<bool, AllocError> {
 }
 
 #[test]
-fn forms_of_code_over_both_maps(rt: HostRuntime) -> Result<(), Fail> {
+fn code_for_either_map_had_a_wrong_result(rt: HostRuntime) -> Result<(), Fail> {
     assert!(rt; are_forms(rt.alloc())?);
     Ok(())
 }

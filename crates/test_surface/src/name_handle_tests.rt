@@ -1,4 +1,4 @@
-//! The shared interner by handles, and a map without locks whose keys are texts, through `elsa` alone.
+//! Handles of the shared interner, and a lock-free map with text keys, by `elsa` alone.
 use bumpalo::Bump;
 use elsa::interner::{NameHandle, SharedInterner};
 use elsa::sync::{LockFreeFrozenMap, MapHandle};
@@ -10,7 +10,7 @@ type Words<'a> = SharedInterner<&'a str>;
 
 type Ages<'a> = LockFreeFrozenMap<&'a str, u64>;
 
-/// Whether a handle puts a name and a text once each, and finds both.
+/// Returns whether a handle puts a name and a text once each, and finds both.
 fn puts<'a>(rt: &impl Wait, words: &Words<'a>, arena: &'a Bump) -> Result<bool, AllocError> {
     let mut one = words.handle();
     let first = one.put(rt, "fox")? == 0 && one.put(rt, "fox")? == 0;
@@ -20,7 +20,8 @@ fn puts<'a>(rt: &impl Wait, words: &Words<'a>, arena: &'a Bump) -> Result<bool, 
     Ok(first && text && found && absent && one.at(1) == Some("owl") && one.at(2).is_none())
 }
 
-/// Whether a new handle counts both names, and one that has seen nothing sees them where it met that.
+/// Returns whether a new handle counts both names, and a handle that has observed nothing has both
+/// after a merge with it.
 fn meets(words: &Words<'_>) -> bool {
     let mut seen = NameHandle::of(words, words.pass());
     let mut fresh = words.handle();
@@ -28,8 +29,9 @@ fn meets(words: &Words<'_>) -> bool {
     seen.one_to_one();
     seen.same_name_same_place(&fresh);
     fresh.meet(&mut seen);
-    let mut pass = fresh.into_pass();
-    counted && pass.seen_len() == 2 && words.len(&mut pass) == 2
+    let pass = fresh.into_pass();
+    pass.one_to_one();
+    counted && pass.seen_len() == 2 && NameHandle::of(words, pass).len() == 2
 }
 
 #[test]
@@ -40,23 +42,23 @@ fn handles_of_an_interner_share_its_names(rt: HostRuntime) -> Result<(), Fail> {
     Ok(())
 }
 
-/// Whether a map asked by texts through a pass keeps the first value of a text, and places each text once.
-fn asks_by_a_pass<'a>(
+/// Returns whether the map keeps the first value of a text, finds it by text, and stores the text
+/// once.
+fn keeps_the_first<'a>(
     rt: &impl Wait,
     ages: &Ages<'a>,
     arena: &'a Bump,
 ) -> Result<bool, AllocError> {
-    let mut pass = ages.pass();
-    let new = ages.insert_text_as(rt, &mut pass, arena, "ann", 30)?;
+    let mut handle = ages.handle();
+    let new = handle.insert_text(rt, arena, "ann", 30)?;
     let placed = arena.allocated_bytes();
-    let old = ages.insert_text_as(rt, &mut pass, arena, "ann", 40)?;
+    let old = handle.insert_text(rt, arena, "ann", 40)?;
     let first = new.is_new && !old.is_new && old.value == 30 && arena.allocated_bytes() == placed;
-    let found = ages.find_text_as(&mut pass, "ann") == Some(0)
-        && ages.get_text_as(&mut pass, "ann") == Some(30);
-    Ok(first && found && ages.get_text_as(&mut pass, "zoe").is_none())
+    let found = handle.find_text("ann") == Some(0) && handle.get_text("ann") == Some(30);
+    Ok(first && found && handle.get_text("zoe").is_none())
 }
 
-/// Whether a handle of a map with one text does the same.
+/// Returns whether a handle of a map with one text does the same.
 fn asks_by_a_handle<'a>(
     rt: &impl Wait,
     ages: &Ages<'a>,
@@ -78,6 +80,6 @@ fn asks_by_a_handle<'a>(
 fn a_map_without_locks_is_asked_by_texts(rt: HostRuntime) -> Result<(), Fail> {
     let arena = Bump::new(rt.alloc());
     let ages = Ages::new(rt.alloc())?;
-    assert!(rt; asks_by_a_pass(&rt, &ages, &arena)? && asks_by_a_handle(&rt, &ages, &arena)?);
+    assert!(rt; keeps_the_first(&rt, &ages, &arena)? && asks_by_a_handle(&rt, &ages, &arena)?);
     Ok(())
 }

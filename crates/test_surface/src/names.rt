@@ -1,4 +1,4 @@
-//! Names with a number each, in one arena.
+//! Numbers for names, in one arena.
 ghost use Rattle.std.specs.Prelude.{◌≡◌, IfOk, OnErr, ℕ, None, Some, Ok, length};
 ghost use Rattle.std.specs.Borrow.{Bor};
 ghost use Rattle.std.specs.Map.{lookup};
@@ -6,8 +6,12 @@ ghost use Rattle.std.specs.Map.{lookup};
 use elsa::{FrozenMap, Own};
 use std::alloc::AllocError;
 
-/// The number of a name: the one that it has, or else the next, which is how many names there were. The arena keeps a copy of a new name.
-/// `Err` on an allocation failure, only for a new name: nothing has changed.
+/// Returns the number of a name: the one that it has, or else the next number, which is the number
+/// of names before. The arena stores a copy of a new name.
+///
+/// # Errors
+/// Fails if an allocation fails, which can happen only for a new name. The names are then
+/// unchanged.
 pub fn number_of<'a>(
     numbers: &mut FrozenMap<'a, &'a str, Own<usize>>,
     name: &str,
@@ -15,7 +19,7 @@ pub fn number_of<'a>(
     ensures present { (kept : Bor ℕ) →
         lookup (⟦<&'a str as PartialEq>⟧.eq name.entry) numbers.old ≡ Some kept →
         (result ≡ Ok kept) × (numbers.new ≡ numbers.old) }
-    ensures new { lookup (⟦<&'a str as PartialEq>⟧.eq name.entry) numbers.old ≡ None →
+    ensures numbered { lookup (⟦<&'a str as PartialEq>⟧.eq name.entry) numbers.old ≡ None →
         IfOk result (λ kept. kept.now ≡ length numbers.old) }
     ensures found { IfOk result (λ kept.
         lookup (⟦<&'a str as PartialEq>⟧.eq name.entry) numbers.new ≡ Some kept) }

@@ -1,4 +1,4 @@
-//! The functions of the page for callers, run.
+//! The functions of the pages for users, run.
 use crate::names::number_of;
 use crate::shared_names;
 use crate::shared_names::Numbers;
@@ -10,7 +10,8 @@ use std::sync::atomic::{AtomicU64, Ordering};
 use std::test::*;
 use std::thread;
 
-/// A name keeps its first number, whoever holds the text that asks, and the next new name has the next number.
+/// Checks that a name keeps its first number, whichever text is passed, and the next new name has
+/// the next number.
 #[test]
 fn a_name_keeps_its_first_number(rt: HostRuntime) -> Result<(), Fail> {
     let arena = Bump::new(rt.alloc());
@@ -30,7 +31,8 @@ fn a_name_keeps_its_first_number(rt: HostRuntime) -> Result<(), Fail> {
 
 const NAMES: [&str; 4] = ["lonely", "best friend", "lonely", "third"];
 
-/// The sum of the numbers of the names, and of their squares: what any order of the threads leaves.
+/// Returns the sum of the numbers of the names, and of their squares. They are the same for any
+/// order of the threads.
 fn sums<R: Wait>(rt: &R, alloc: Global, names: &Numbers) -> Result<(u64, u64), AllocError> {
     let mut sum = 0u64;
     let mut squares = 0u64;
@@ -42,7 +44,8 @@ fn sums<R: Wait>(rt: &R, alloc: Global, names: &Numbers) -> Result<(u64, u64), A
     Ok((sum, squares))
 }
 
-/// Two threads number the same names: both are told the same numbers, and three names take three of them.
+/// Checks that two threads that number the same names get the same numbers, and three names use
+/// three numbers.
 #[test]
 fn two_threads_give_a_name_one_number(rt: HostRuntime) -> Result<(), Fail> {
     let names = Numbers {

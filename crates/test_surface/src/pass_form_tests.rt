@@ -1,14 +1,15 @@
-//! The forms of calls that docs/reference lists for the concurrent vector and its passes, through `elsa` alone: each proved and run.
+//! The call forms that docs/reference lists for the concurrent vector and its views. They use only
+//! `elsa`, and each is proved and run.
 ghost use Rattle.std.specs.Prelude.{◌≡◌};
 
-use elsa::sync::{LockFreeFrozenVec, Pass};
+use elsa::sync::{Handle, LockFreeFrozenVec, Pass};
 use std::alloc::AllocError;
 use std::sync::Wait;
 use std::test::Fail;
 
 type Vector = LockFreeFrozenVec<u64>;
 
-/// Whether a pass pushes 7 to the first place, and has then seen it.
+/// Returns whether a view pushes 7 at the first index, and has then observed it.
 fn pushes(rt: &impl Wait, vector: &Vector, pass: &mut Pass<u64>) -> bool
     requires { pass.old.vector ≡ vector.now }
     ensures { pass.new.vector ≡ pass.old.vector }
@@ -16,7 +17,7 @@ fn pushes(rt: &impl Wait, vector: &Vector, pass: &mut Pass<u64>) -> bool
     vector.push_as(rt, pass, 7) == Ok(0) && pass.seen_len() == 1
 }
 
-/// Whether a pass reads 7 at the first of one place.
+/// Returns whether a view reads 7 at the only index.
 fn reads(vector: &Vector, pass: &mut Pass<u64>) -> bool
     requires { pass.old.vector ≡ vector.now }
     ensures { pass.new.vector ≡ pass.old.vector }
@@ -24,15 +25,16 @@ fn reads(vector: &Vector, pass: &mut Pass<u64>) -> bool
     vector.get_as(pass, 0) == Some(7) && vector.len_as(pass) == 1
 }
 
-/// Whether what a pass has seen is 7 alone.
+/// Returns whether the observed prefix of a view is 7 alone.
 fn walks(vector: &Vector, pass: &Pass<u64>) -> bool
     requires { pass.now.vector ≡ vector.now }
 {
-    let mut items = vector.iter_as(pass);
+    let handle = Handle::of(vector, pass.again());
+    let mut items = handle.iter();
     items.next() == Some(7) && items.next().is_none()
 }
 
-/// Whether a clone by a pass has 7 alone, and is equal.
+/// Returns whether a clone by a view has 7 alone, and is equal.
 fn is_cloned(vector: &Vector, pass: &mut Pass<u64>) -> Result<bool, AllocError>
     requires { pass.old.vector ≡ vector.now }
     ensures { pass.new.vector ≡ pass.old.vector }
@@ -41,7 +43,8 @@ fn is_cloned(vector: &Vector, pass: &mut Pass<u64>) -> Result<bool, AllocError>
     Ok(walks(&copy, &copy_pass) && vector.equals_as(pass, &copy, &mut copy_pass))
 }
 
-/// Whether a pass that has seen nothing has seen one item where it met one that has.
+/// Returns whether a view that has observed nothing has observed one item after a merge with one
+/// that has.
 fn meets(vector: &Vector, pass: &mut Pass<u64>) -> bool
     requires { pass.old.vector ≡ vector.now }
 {
@@ -51,7 +54,7 @@ fn meets(vector: &Vector, pass: &mut Pass<u64>) -> bool
     nothing && other.seen_len() == 1
 }
 
-/// Whether a pass does each of its calls.
+/// Returns whether each call that takes a view has the expected result.
 fn is_passed(rt: &impl Wait, vector: &Vector) -> Result<bool, AllocError> {
     let mut pass = vector.pass();
     let seen = pushes(rt, vector, &mut pass) && reads(vector, &mut pass) && walks(vector, &pass);
@@ -59,13 +62,13 @@ fn is_passed(rt: &impl Wait, vector: &Vector) -> Result<bool, AllocError> {
 }
 
 #[test]
-fn forms_of_a_pass(rt: HostRuntime) -> Result<(), Fail> {
+fn a_call_with_a_view_had_a_wrong_result(rt: HostRuntime) -> Result<(), Fail> {
     let vector: Vector = LockFreeFrozenVec::new(rt.alloc())?;
     assert!(rt; is_passed(&rt, &vector)?);
     Ok(())
 }
 
-/// Whether the calls without a pass see the push of 7.
+/// Returns whether the calls without a view see the push of 7.
 fn is_read(rt: &impl Wait, vector: &Vector) -> Result<bool, AllocError> {
     let before = vector.is_empty();
     let place = vector.push(rt, 7)?;
@@ -75,7 +78,7 @@ fn is_read(rt: &impl Wait, vector: &Vector) -> Result<bool, AllocError> {
 }
 
 #[test]
-fn forms_of_calls_without_a_pass(rt: HostRuntime) -> Result<(), Fail> {
+fn a_call_without_a_view_had_a_wrong_result(rt: HostRuntime) -> Result<(), Fail> {
     let vector: Vector = LockFreeFrozenVec::new(rt.alloc())?;
     assert!(rt; is_read(&rt, &vector)?);
     Ok(())

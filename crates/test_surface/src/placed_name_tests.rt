@@ -1,4 +1,4 @@
-//! The shared interner over placed texts, which are names of any length, through `elsa` alone.
+//! The shared interner with names that are texts in an arena, of any length, by `elsa` alone.
 use bumpalo::Bump;
 use elsa::interner::SharedInterner;
 use std::alloc::{AllocError, Allocator, Global};
@@ -8,7 +8,8 @@ use test_alloc::Budget;
 
 const LONG: &str = "a name of more bytes than a short one can have";
 
-/// Whether two texts at two addresses that read the same have one number, and a third another, which gives the text back.
+/// Returns whether two equal texts at two addresses have one number, a third text has another, and
+/// each number has its text.
 fn numbers<'a>(rt: &impl Wait, alloc: Global, arena: &'a Bump) -> Result<bool, AllocError> {
     let one = arena.try_alloc_str(LONG)?;
     let same = arena.try_alloc_str(LONG)?;
@@ -28,7 +29,8 @@ fn placed_texts_that_read_the_same_have_one_number(rt: HostRuntime) -> Result<()
     Ok(())
 }
 
-/// Whether a text is refused while the requests of its arena are, and is put once they are granted.
+/// Returns whether a text can't be put while the arena's requests are denied, and is put once they
+/// are granted.
 fn is_told<'a, P: Allocator>(
     rt: &impl Wait,
     alloc: Global,
@@ -36,12 +38,12 @@ fn is_told<'a, P: Allocator>(
     arena: &'a Bump<P>,
 ) -> Result<bool, AllocError> {
     let words: SharedInterner<&'a str> = SharedInterner::new(alloc)?;
-    let mut names = words.pass();
+    let mut names = words.handle();
     heap.refuse(0, u64::MAX);
-    let refused = words.put_text(rt, &mut names, arena, LONG).is_err();
+    let refused = names.put_text(rt, arena, LONG).is_err();
     heap.refuse_next(0);
-    let put = words.put_text(rt, &mut names, arena, LONG)? == 0;
-    Ok(refused && put && words.at(&mut names, 0) == Some(LONG))
+    let put = names.put_text(rt, arena, LONG)? == 0;
+    Ok(refused && put && names.at(0) == Some(LONG))
 }
 
 #[test]

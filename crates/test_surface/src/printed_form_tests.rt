@@ -1,4 +1,5 @@
-//! What `{:?}` prints of each form of one thread and without locks, through `elsa` and `bumpalo` alone: as std prints its like.
+//! The output of `{:?}` of each single-threaded and lock-free collection, by `elsa` and `bumpalo`
+//! alone: that of std's collections of the same kind.
 use bumpalo::Bump;
 use elsa::interner::{Interner, Name, SharedInterner};
 use elsa::sync::{LockFreeFrozenMap, LockFreeFrozenVec};

@@ -1,13 +1,14 @@
-//! The forms of calls that docs/reference lists and no other crate over `elsa` alone makes: each proved and run.
+//! The call forms that docs/reference lists and no other crate makes by `elsa` alone. Each is
+//! proved and run.
 use bumpalo::Bump;
-use elsa::interner::{Name, SharedInterner, TextBuffer};
+use elsa::interner::{Name, NameHandle, SharedInterner, TextBuffer};
 use elsa::sync::LockFreeFrozenVec;
 use elsa::{FrozenBTreeMap, FrozenIndexMap, FrozenMap, FrozenVec, Own, SeededState};
 use std::alloc::{AllocError, Global};
 use std::sync::Wait;
 use std::test::*;
 
-/// The lengths of the names from the back, as the digits of a number.
+/// Returns the lengths of the names from the back, as the digits of a number.
 fn lengths_from_the_back(names: &FrozenVec<'_, String>) -> usize {
     let mut lengths = 0usize;
     for name in names.iter().rev() {
@@ -26,7 +27,7 @@ fn a_vector_is_walked_from_the_back(rt: HostRuntime) -> Result<(), Fail> {
     Ok(())
 }
 
-/// What each map with `String` keys has at a text, where the key "fox" has the value 7.
+/// Returns what each map with `String` keys has at a text. The key "fox" has the value 7.
 fn at_text(alloc: Global, text: &str) -> Result<[Option<u64>; 3], AllocError> {
     let arena = Bump::new(alloc);
     let mut hashed: FrozenMap<'_, String, Own<u64>> = FrozenMap::new(alloc, &arena);
@@ -36,9 +37,9 @@ fn at_text(alloc: Global, text: &str) -> Result<[Option<u64>; 3], AllocError> {
     ordered.insert(String::from_str(alloc, "fox")?, Own(7))?;
     indexed.insert(String::from_str(alloc, "fox")?, Own(7))?;
     Ok([
-        hashed.get_text(text).copied(),
-        ordered.get_text(text).copied(),
-        indexed.get_text(text).copied(),
+        hashed.get(text).copied(),
+        ordered.get(text).copied(),
+        indexed.get(text).copied(),
     ])
 }
 
@@ -49,7 +50,7 @@ fn maps_with_string_keys_are_asked_by_a_text(rt: HostRuntime) -> Result<(), Fail
     Ok(())
 }
 
-/// Whether a vector that never holds an item twice takes one at the place that a pass names.
+/// Returns whether a push by a view at the index 0 of a vector of distinct items succeeds.
 fn is_pushed_at(rt: &impl Wait, alloc: Global) -> Result<bool, AllocError> {
     let vector = LockFreeFrozenVec::distinct(alloc)?;
     let mut pass = vector.pass();
@@ -57,14 +58,26 @@ fn is_pushed_at(rt: &impl Wait, alloc: Global) -> Result<bool, AllocError> {
     Ok(vector.is_distinct() && place == Some(0) && vector.get_as(&mut pass, 0) == Some(7))
 }
 
+/// Returns whether a handle of a vector of distinct items pushes one item at the index 0, and no
+/// other there.
+fn is_pushed_once(rt: &impl Wait, alloc: Global) -> Result<bool, AllocError> {
+    let vector = LockFreeFrozenVec::distinct(alloc)?;
+    let mut handle = vector.handle();
+    let first = handle.push_at(rt, 0, 7u64)?;
+    let second = handle.push_at(rt, 0, 9)?;
+    Ok(first == Some(0) && second.is_none() && handle.get(0) == Some(7))
+}
+
 #[test]
-fn forms_of_a_vector_of_distinct_items(rt: HostRuntime) -> Result<(), Fail> {
+fn a_vector_of_distinct_items_pushed_twice_at_one_index(rt: HostRuntime) -> Result<(), Fail> {
     let vector: LockFreeFrozenVec<u64> = LockFreeFrozenVec::new(rt.alloc())?;
     assert!(rt; is_pushed_at(&rt, rt.alloc())? && !vector.is_distinct());
+    assert!(rt; is_pushed_once(&rt, rt.alloc())?);
     Ok(())
 }
 
-/// Whether a pass of an interner with a secret, which has seen no name, has seen the one of another pass where it met that.
+/// Returns whether a view of an interner with a secret, which has observed no name, has observed
+/// the name of another view after a merge.
 fn meets(rt: &impl Wait, alloc: Global, name: Name) -> Result<bool, AllocError> {
     let names = SharedInterner::with_hasher(alloc, SeededState::with_seed(1, 2))?;
     let mut one = names.pass();
@@ -72,18 +85,20 @@ fn meets(rt: &impl Wait, alloc: Global, name: Name) -> Result<bool, AllocError> 
     let number = names.put(rt, &mut one, name)?;
     let nothing = other.seen_len() == 0;
     other.meet(&mut one);
-    let found = names.find(&mut other, name);
+    let mut other = NameHandle::of(&names, other);
+    let found = other.find(name);
     Ok(nothing && other.seen_len() == 1 && found == Some(number))
 }
 
 #[test]
-fn a_shared_interner_with_a_secret(rt: HostRuntime) -> Result<(), Fail> {
+fn a_merged_view_of_an_interner_with_a_secret_lost_a_name(rt: HostRuntime) -> Result<(), Fail> {
     let name = Name::new("fox").map_err(|_| AllocError)?;
     assert!(rt; meets(&rt, rt.alloc(), name)?);
     Ok(())
 }
 
-/// The number of a text that is put and is then found, and the room that is left in the buffer which has its copy.
+/// Returns the number of a text that is put and is then found, and the room that is left in the
+/// buffer that has its copy.
 fn puts_of_a_text<'a>(
     rt: &impl Wait,
     alloc: Global,
@@ -91,9 +106,9 @@ fn puts_of_a_text<'a>(
     text: &str,
 ) -> Result<(usize, usize, usize), AllocError> {
     let names: SharedInterner<&'a str> = SharedInterner::new(alloc)?;
-    let mut pass = names.pass();
-    let first = names.put_text(rt, &mut pass, &mut buffer, text)?;
-    let second = names.find_text(&mut pass, text).unwrap_or(100);
+    let mut handle = names.handle();
+    let first = handle.put_text(rt, &mut buffer, text)?;
+    let second = handle.find_text(text).unwrap_or(100);
     Ok((first, second, buffer.room()))
 }
 

@@ -1,4 +1,5 @@
-//! The forms of calls that docs/reference lists for texts of a set, walks under a lock, tables and arenas, through `elsa` alone: each proved and run.
+//! The call forms that docs/reference lists for texts of a set, walks under a lock, map
+//! implementations and arenas. They use only `elsa`, and each is proved and run.
 use bumpalo::Bump;
 use elsa::FrozenIndexSet;
 use elsa::stable::KeepsText;
@@ -11,23 +12,22 @@ use std::test::Fail;
 
 // ---- texts
 
-/// Whether a set finds the text that it was given.
+/// Returns whether a set finds a text that was inserted.
 fn finds_its_text(alloc: Global) -> Result<bool, AllocError> {
     let arena = Bump::new(alloc);
     let mut set: FrozenIndexSet<'_, &str> = FrozenIndexSet::new(alloc, &arena);
     set.insert_text("a")?;
-    let is_first = set.get_index_of_text("a") == Some(0)
-        && set.get_full_text("a") == Some((0, "a"));
-    Ok(is_first && set.contains_text("a") && !set.contains_text("b"))
+    let is_first = set.get_index_of("a") == Some(0) && set.get_full("a") == Some((0, "a"));
+    Ok(is_first && set.contains("a") && !set.contains("b"))
 }
 
-/// Whether an arena keeps a text.
+/// Returns whether an arena stores a text.
 fn keeps_a_text(alloc: Global) -> Result<bool, AllocError> {
     let arena = Bump::new(alloc);
     Ok((&arena).keep_text("a")? == "a")
 }
 
-/// How many pairs there are of a table with one entry.
+/// Returns the number of pairs of a table with one entry.
 fn pairs_of_one(alloc: Global) -> Result<usize, AllocError> {
     let mut table: HashMap<u64, u64> = HashMap::new(alloc);
     table.insert(1, 2)?;
@@ -35,7 +35,7 @@ fn pairs_of_one(alloc: Global) -> Result<usize, AllocError> {
 }
 
 #[test]
-fn forms_of_texts_and_pairs(rt: HostRuntime) -> Result<(), Fail> {
+fn a_text_or_a_pair_was_lost(rt: HostRuntime) -> Result<(), Fail> {
     assert!(rt; finds_its_text(rt.alloc())? && keeps_a_text(rt.alloc())?);
     assert!(rt; pairs_of_one(rt.alloc())? == 1);
     Ok(())
@@ -43,7 +43,7 @@ fn forms_of_texts_and_pairs(rt: HostRuntime) -> Result<(), Fail> {
 
 // ---- walks under a lock
 
-/// The sum of the products of keys and values.
+/// Returns the sum of the products of keys and values.
 fn sum_of(rt: &impl Wait, map: &FrozenMap<u64, u64>) -> u64 {
     let mut sum = 0u64;
     map.for_each(
@@ -53,14 +53,14 @@ fn sum_of(rt: &impl Wait, map: &FrozenMap<u64, u64>) -> u64 {
     sum
 }
 
-/// The sum of the values at the keys 2 and 3.
+/// Returns the sum of the values at the keys 2 and 3.
 fn sum_between(rt: &impl Wait, map: &FrozenBTreeMap<u64, u64>) -> u64 {
     let mut sum = 0u64;
     map.for_each_in_range(rt, 2..=3, |_key, value| sum = sum.wrapping_add(*value));
     sum
 }
 
-/// Whether the least key is 1 and the greatest 4.
+/// Returns whether the least key is 1 and the greatest is 4.
 fn ends_are(rt: &impl Wait, map: &FrozenBTreeMap<u64, u64>) -> Result<bool, AllocError> {
     let Some((first, _value)) = map.first_key_value_cloned(rt)? else {
         return Ok(false);
@@ -72,7 +72,7 @@ fn ends_are(rt: &impl Wait, map: &FrozenBTreeMap<u64, u64>) -> Result<bool, Allo
 }
 
 #[test]
-fn forms_of_walks_under_a_lock(rt: HostRuntime) -> Result<(), Fail> {
+fn a_walk_under_a_lock_missed_an_entry(rt: HostRuntime) -> Result<(), Fail> {
     let hashed: FrozenMap<u64, u64> = FrozenMap::new(rt.alloc());
     let ordered: FrozenBTreeMap<u64, u64> = FrozenBTreeMap::new(rt.alloc());
     for key in 1..5u64 {

@@ -1,4 +1,5 @@
-//! The forms of calls that docs/reference lists for the engine and for runs of each form, through `elsa` and `bumpalo` alone: each proved and run.
+//! The call forms that docs/reference lists for the engine and for the runs of each collection.
+//! They use only `elsa` and `bumpalo`, and each is proved and run.
 use bumpalo::Bump;
 use elsa::interner::{Counted, EngineFault, Interner, intern_engine, intern_engine_with_hasher};
 use elsa::run::{
@@ -9,7 +10,8 @@ use elsa::{FrozenBTreeMap, FrozenIndexMap, FrozenIndexSet, FrozenMap, Own, Seede
 use std::alloc::{AllocError, Global};
 use std::test::Fail;
 
-/// What the engine does on two lines, hashing its names by the secret, if there is one, and how many bytes it wrote.
+/// Runs the engine on two lines, with names hashed by the secret if there is one. Returns its
+/// result and the number of bytes that it wrote.
 fn engine(alloc: Global, secret: Option<SeededState>) -> (Result<(), EngineFault>, usize) {
     let arena = Bump::new(alloc);
     let mut reader = Counted::new(b"put fox\nat 0\n".as_slice());
@@ -23,7 +25,7 @@ fn engine(alloc: Global, secret: Option<SeededState>) -> (Result<(), EngineFault
     (outcome, bytes.len())
 }
 
-/// Whether an interner has the name that it was given.
+/// Returns whether an interner has the name that was put.
 fn is_named(alloc: Global) -> Result<bool, AllocError> {
     let arena = Bump::new(alloc);
     let mut names = Interner::new(alloc, &arena);
@@ -31,7 +33,7 @@ fn is_named(alloc: Global) -> Result<bool, AllocError> {
 }
 
 #[test]
-fn forms_of_the_engine(rt: HostRuntime) -> Result<(), Fail> {
+fn the_engine_wrote_other_output(rt: HostRuntime) -> Result<(), Fail> {
     let secret = SeededState::with_seed(1, 2);
     for state in [None, Some(secret)] {
         assert!(rt; engine(rt.alloc(), state) == (Ok(()), 6));
@@ -40,7 +42,7 @@ fn forms_of_the_engine(rt: HostRuntime) -> Result<(), Fail> {
     Ok(())
 }
 
-/// Whether the replies are those of both maps.
+/// Returns whether the replies are those that both maps must give.
 fn are_of_a_map(replies: &[MapReply<&u64>]) -> bool {
     replies
         == [
@@ -51,7 +53,7 @@ fn are_of_a_map(replies: &[MapReply<&u64>]) -> bool {
         .as_slice()
 }
 
-/// Whether a run on a hashed map is answered.
+/// Returns whether a run on a hashed map has these replies.
 fn runs_hashed(alloc: Global) -> Result<bool, AllocError> {
     let arena = Bump::new(alloc);
     let mut map: FrozenMap<'_, u64, Own<u64>> = FrozenMap::new(alloc, &arena);
@@ -66,7 +68,7 @@ fn runs_hashed(alloc: Global) -> Result<bool, AllocError> {
     Ok(are_of_a_map(run_map(&mut map, commands)?.as_slice()))
 }
 
-/// Whether a run on an ordered map is answered.
+/// Returns whether a run on an ordered map has these replies.
 fn runs_ordered(alloc: Global) -> Result<bool, AllocError> {
     let arena = Bump::new(alloc);
     let mut map: FrozenBTreeMap<'_, u64, Own<u64>> = FrozenBTreeMap::new(alloc, &arena);
@@ -81,7 +83,7 @@ fn runs_ordered(alloc: Global) -> Result<bool, AllocError> {
     Ok(are_of_a_map(run_map(&mut map, commands)?.as_slice()))
 }
 
-/// Whether a run on an index map is answered.
+/// Returns whether a run on an index map has the expected replies.
 fn runs_index_map(alloc: Global) -> Result<bool, AllocError> {
     let arena = Bump::new(alloc);
     let mut map: FrozenIndexMap<'_, u64, Own<u64>> = FrozenIndexMap::new(alloc, &arena);
@@ -96,7 +98,7 @@ fn runs_index_map(alloc: Global) -> Result<bool, AllocError> {
     Ok(replies.as_slice() == [IndexReply::Full(0, &1), IndexReply::Place(Some(0))].as_slice())
 }
 
-/// Whether a run on an index set is answered.
+/// Returns whether a run on an index set has the expected replies.
 fn runs_index_set(alloc: Global) -> Result<bool, AllocError> {
     let arena = Bump::new(alloc);
     let mut set: FrozenIndexSet<'_, Own<u64>> = FrozenIndexSet::new(alloc, &arena);
@@ -106,7 +108,7 @@ fn runs_index_set(alloc: Global) -> Result<bool, AllocError> {
 }
 
 #[test]
-fn forms_of_runs(rt: HostRuntime) -> Result<(), Fail> {
+fn a_run_had_other_replies(rt: HostRuntime) -> Result<(), Fail> {
     assert!(rt; runs_hashed(rt.alloc())? && runs_ordered(rt.alloc())?);
     assert!(rt; runs_index_map(rt.alloc())? && runs_index_set(rt.alloc())?);
     Ok(())

@@ -1,4 +1,4 @@
-//! The searches that docs/guide names for a closure with a state, through `elsa` and `bumpalo` alone.
+//! The searches that docs/guide names for closures with a state, by `elsa` and `bumpalo` alone.
 use bumpalo::Bump;
 use elsa::FrozenVec;
 use elsa::vec_laws::{place_by_order, place_by_test};
@@ -9,7 +9,8 @@ fn by_length<'a>(alloc: Global, arena: &'a Bump) -> Result<FrozenVec<'a, &'a str
     FrozenVec::from_iter(alloc, arena, ["a", "bb", "ccc", "dddd"].into_iter())
 }
 
-/// The place of a text of this length, and where the texts below it end; each search counts its calls.
+/// Returns the index of a text of this length, and the end of the texts that are shorter. Each
+/// search counts the calls of its closure.
 fn places<'a>(
     texts: &FrozenVec<'a, &'a str>,
     length: usize,
@@ -27,7 +28,7 @@ fn places<'a>(
 }
 
 #[test]
-fn searches_by_closures_with_a_state(rt: HostRuntime) -> Result<(), Fail> {
+fn a_search_by_a_closure_with_a_state_missed_its_target(rt: HostRuntime) -> Result<(), Fail> {
     let arena = Bump::new(rt.alloc());
     let texts = by_length(rt.alloc(), &arena)?;
     let mut calls = 0;

@@ -11,7 +11,13 @@ pub struct Numbers {
     pub next: AtomicU64,
 }
 
-/// The number of a name: a new name has the next one. It waits for the map.
+/// Returns the number of a name. A new name gets the next number.
+///
+/// # Errors
+/// Fails if an allocation fails. The names are then unchanged.
+///
+/// # Blocks
+/// It waits for the map's lock.
 pub fn number_of<R: Wait>(
     rt: &R,
     alloc: Global,

@@ -1,11 +1,11 @@
 //! Workers that push into one vector.
 use crate::gates::{Pair, Rising, Stops};
-use elsa::shared::{SharedFault, run_shared, run_shared_on_stacks};
+use elsa_program::shared::{SharedFault, run_shared, run_shared_on_stacks};
 use std::test::*;
 use test_alloc::Budget;
 
 #[test]
-fn lengths(rt: HostRuntime) -> Result<(), Fail> {
+fn the_workers_left_another_length(rt: HostRuntime) -> Result<(), Fail> {
     for (workers, count) in [(2, 1000), (1, 0), (16, 0), (16, 20), (1, 1), (3, 5)] {
         let gate = Stops::new(0, 0);
         let length = run_shared(&rt, rt.alloc(), workers, count, &gate);
@@ -15,16 +15,20 @@ fn lengths(rt: HostRuntime) -> Result<(), Fail> {
     Ok(())
 }
 
-/// Each place is answered once, and those of one worker rise: the places of 4000 pushes are 0 to 3999.
+/// Checks that each index is returned once, and those of one worker increase: the indices of 4000
+/// pushes are 0 to 3999.
 #[test]
-fn places(rt: HostRuntime) -> Result<(), Fail> {
+fn the_indices_of_a_worker_did_not_increase_or_one_was_missing(
+    rt: HostRuntime,
+) -> Result<(), Fail> {
     let gate = Rising::new();
     assert_eq!(rt; run_shared(&rt, rt.alloc(), 4, 1000, &gate), Ok(4000));
     assert_eq!(rt; gate.sum(), 3999 * 4000 / 2);
     Ok(())
 }
 
-/// Two workers that wait for each other's answer: they run at the same time.
+/// Checks that two workers run at the same time, by a gate that lets each wait for the other's
+/// push.
 #[test]
 fn workers_run_side_by_side(rt: HostRuntime) -> Result<(), Fail> {
     let gate = Pair::new();
@@ -33,9 +37,9 @@ fn workers_run_side_by_side(rt: HostRuntime) -> Result<(), Fail> {
     Ok(())
 }
 
-/// One worker is stopped, and the others go on.
+/// Checks that the other workers continue if one is stopped.
 #[test]
-fn a_gate_that_stops_one(rt: HostRuntime) -> Result<(), Fail> {
+fn a_gate_stopped_another_worker_or_none(rt: HostRuntime) -> Result<(), Fail> {
     for (worker, at) in [(0, 1), (1, 3), (2, 50)] {
         let gate = Stops::new(worker, at);
         let answer = run_shared(&rt, rt.alloc(), 3, 50, &gate);
@@ -45,9 +49,10 @@ fn a_gate_that_stops_one(rt: HostRuntime) -> Result<(), Fail> {
     Ok(())
 }
 
-/// No machine has a stack as large as all addresses, so the thread can't be started; the one before it runs to its end.
+/// Checks that a thread with a stack as large as the address space is not started, and the worker
+/// before it pushes all its numbers.
 #[test]
-fn a_thread_that_cannot_be_started(rt: HostRuntime) -> Result<(), Fail> {
+fn a_thread_that_could_not_be_started_was_not_reported(rt: HostRuntime) -> Result<(), Fail> {
     for (stacks, calls) in [([usize::MAX, 0], 0), ([0, usize::MAX], 100_000)] {
         let gate = Stops::new(0, 0);
         let answer = run_shared_on_stacks(&rt, rt.alloc(), 2, 100_000, &gate, &stacks);
@@ -57,9 +62,10 @@ fn a_thread_that_cannot_be_started(rt: HostRuntime) -> Result<(), Fail> {
     Ok(())
 }
 
-/// The gate's fault comes first where a thread couldn't be started either.
+/// Checks that the gate's fault, which precedes the other in order, is returned if a thread
+/// couldn't be started too.
 #[test]
-fn the_first_fault_in_order(rt: HostRuntime) -> Result<(), Fail> {
+fn another_fault_than_the_first_was_returned(rt: HostRuntime) -> Result<(), Fail> {
     let gate = Stops::new(0, 7);
     let answer = run_shared_on_stacks(&rt, rt.alloc(), 3, 20, &gate, &[0, 0, usize::MAX]);
     assert_eq!(rt; answer, Err(SharedFault::Gate));
@@ -67,9 +73,10 @@ fn the_first_fault_in_order(rt: HostRuntime) -> Result<(), Fail> {
     Ok(())
 }
 
-/// Each request for memory refused in turn, alone and with all that follow: the fault is that of memory, and all memory comes back.
+/// Checks that the fault is `Memory` and all memory is deallocated if a request is denied: each
+/// request in turn, alone and with all later ones.
 #[test]
-fn refused_memory(rt: HostRuntime) -> Result<(), Fail> {
+fn an_allocation_failure_was_not_reported_or_leaked(rt: HostRuntime) -> Result<(), Fail> {
     let budget = Budget::new(rt.alloc());
     let gate = Stops::new(0, 0);
     assert_eq!(rt; run_shared(&rt, &budget, 2, 20, &gate), Ok(40));

@@ -1,4 +1,5 @@
-//! The forms of calls that docs/reference lists for the states of the locked collections and for the recorder, through `elsa` alone: each proved and run.
+//! The call forms that docs/reference lists for the states of the locked collections and for the
+//! recorder. They use only `elsa`, and each is proved and run.
 use crate::locked_form_tests::is;
 use elsa::sync::history::{
     CloseFault, History, MapCommand, MapReply, ReceiptsFault, RecordPass, Recorder, VecCommand,
@@ -15,29 +16,32 @@ use std::test::Fail;
 
 type Hashed = MapState<u64, u64>;
 
-/// Gives 1 the value 10 and 2 the value 20, and says whether both keep them.
+/// Inserts 1 with the value 10 and 2 with the value 20, and returns whether both keep them.
 fn inserts(map: &mut Hashed) -> Result<bool, AllocError> {
-    let with = *map.insert_with(1, || 10)?;
-    let with_key = *map.insert_with_key(2, |key| key.wrapping_mul(10))?;
-    let (again, is_new) = map.insert_new(2, 5)?;
-    Ok(with == 10 && with_key == 20 && *again == 20 && !is_new && *map.insert(1, 5)? == 10)
+    let first = map.insert(1, 10)?;
+    let with_key = map.insert_with_key(2, |key| key.wrapping_mul(10))?;
+    let again = map.insert(2, 5)?;
+    let are_new = first.is_new && with_key.is_new && !again.is_new;
+    Ok(are_new && *first.value == 10 && *with_key.value == 20 && *again.value == 20)
 }
 
-/// Gives 3 the value 30 and 4 the value 40, and says whether both are copied out.
+/// Inserts 3 with the value 30 and 4 with the value 40, and returns whether the copies of both are
+/// right.
 fn copies(map: &mut Hashed) -> Result<bool, AllocError> {
     let ten = map.get_copy_or_insert(1, 5)?;
-    let thirty = map.get_copy_or_insert_with(3, || 30)?;
+    let thirty = map.get_copy_or_insert(3, 30)?;
     let forty = map.get_copy_or_insert_with_key(4, |key| key.wrapping_mul(10))?;
-    Ok(ten == 10 && thirty == 30 && forty == 40 && map.get_copy(&3) == Some(30))
+    let are_new = !ten.is_new && thirty.is_new && forty.is_new;
+    Ok(are_new && ten.value == 10 && forty.value == 40 && map.get_copy(&3) == Some(30))
 }
 
-/// Whether the map answers by the key 4.
+/// Returns whether each lookup of the key 4 finds its value.
 fn has_forty(map: &Hashed) -> Result<bool, AllocError> {
     let read = is(map.get(&4)?, 40) && map.map_get(&4, |value| *value) == Some(40);
     Ok(read && map.len() == 4 && !map.is_empty())
 }
 
-/// Whether a copy is the same, and has as many keys and pairs.
+/// Returns whether a copy is the same, and has four keys and four pairs.
 fn is_copied(map: &Hashed) -> Result<bool, AllocError> {
     let copy = map.copy()?;
     let is_same = map.same(&copy) && copy.keys_cloned()?.len() == 4;
@@ -45,7 +49,7 @@ fn is_copied(map: &Hashed) -> Result<bool, AllocError> {
 }
 
 #[test]
-fn forms_of_the_state_of_a_hashed_map(rt: HostRuntime) -> Result<(), Fail> {
+fn a_call_on_the_state_of_a_hashed_map_had_a_wrong_result(rt: HostRuntime) -> Result<(), Fail> {
     let mut map: Hashed = MapState::new(rt.alloc());
     assert!(rt; inserts(&mut map)? && copies(&mut map)? && has_forty(&map)? && is_copied(&map)?);
     Ok(())
@@ -55,19 +59,19 @@ fn forms_of_the_state_of_a_hashed_map(rt: HostRuntime) -> Result<(), Fail> {
 
 type Ordered = TreeState<u64, u64>;
 
-/// Gives 2 the value 20, and says whether it keeps it.
+/// Inserts 2 with the value 20, and returns whether it keeps it.
 fn inserts_in_order(map: &mut Ordered) -> Result<bool, AllocError> {
-    let (first, is_new) = map.insert_new(2, 20)?;
-    Ok(*first == 20 && is_new && *map.insert(2, 5)? == 20)
+    let first = map.insert(2, 20)?;
+    Ok(*first.value == 20 && first.is_new && *map.insert(2, 5)?.value == 20)
 }
 
-/// Whether the map answers by the key 2.
+/// Returns whether each lookup of the key 2 finds its value.
 fn has_twenty(map: &Ordered) -> Result<bool, AllocError> {
     let read = is(map.get(&2)?, 20) && map.map_get(&2, |value| *value) == Some(20);
     Ok(read && map.len() == 2 && !map.is_empty())
 }
 
-/// Whether a copy is the same, and how many pairs it has.
+/// Returns whether a copy is the same, and the number of its pairs.
 fn is_copied_in_order(map: &Ordered) -> Result<(bool, usize), AllocError> {
     let copy = map.copy()?;
     let is_same = map.same(&copy);
@@ -75,7 +79,7 @@ fn is_copied_in_order(map: &Ordered) -> Result<(bool, usize), AllocError> {
 }
 
 #[test]
-fn forms_of_the_state_of_an_ordered_map(rt: HostRuntime) -> Result<(), Fail> {
+fn a_call_on_the_state_of_an_ordered_map_had_a_wrong_result(rt: HostRuntime) -> Result<(), Fail> {
     let pairs = [(1u64, 11u64), (1, 10)];
     let mut map: Ordered = TreeState::from_iter(rt.alloc(), pairs.into_iter())?;
     assert!(rt; inserts_in_order(&mut map)? && has_twenty(&map)?);
@@ -89,19 +93,19 @@ fn forms_of_the_state_of_an_ordered_map(rt: HostRuntime) -> Result<(), Fail> {
 
 type List = VecState<u64>;
 
-/// Pushes 7, 8 and 9, and says whether they are answered.
+/// Pushes 7, 8 and 9, and returns whether the owner and the index that the pushes return are right.
 fn pushes(list: &mut List) -> Result<bool, AllocError> {
     list.push(7)?;
     let eight = *list.push_get(8)?;
     Ok(eight == 8 && list.push_get_index(9)? == 2)
 }
 
-/// Whether the list has 9 at its last place.
+/// Returns whether the list has 9 at its last index.
 fn has_nine(list: &List) -> Result<bool, AllocError> {
     Ok(is(list.get(2)?, 9) && list.len() == 3 && !list.is_empty())
 }
 
-/// Whether a copy is the same when it is taken apart and made again.
+/// Returns whether a copy that was taken apart and made again is the same.
 fn is_list_anew(list: &List) -> Result<bool, AllocError> {
     let copy = list.copy()?;
     let again: List = VecState::from_vec(copy.into_vec());
@@ -109,7 +113,7 @@ fn is_list_anew(list: &List) -> Result<bool, AllocError> {
 }
 
 #[test]
-fn forms_of_the_state_of_a_vector(rt: HostRuntime) -> Result<(), Fail> {
+fn a_call_on_the_state_of_a_vector_had_a_wrong_result(rt: HostRuntime) -> Result<(), Fail> {
     let mut list: List = VecState::new(rt.alloc());
     assert!(rt; pushes(&mut list)? && has_nine(&list)? && is_list_anew(&list)?);
     Ok(())
@@ -117,7 +121,7 @@ fn forms_of_the_state_of_a_vector(rt: HostRuntime) -> Result<(), Fail> {
 
 // ---- the recorder
 
-/// Records an insertion, and says whether the pass has its receipt.
+/// Records an insertion, and returns whether the pass has its receipt.
 fn records(
     rt: &impl Wait,
     recorder: &Recorder<Ordered>,
@@ -127,13 +131,13 @@ fn records(
     Ok(reply == MapReply::Value(10) && pass.number() == 5 && pass.receipts().len() == 1)
 }
 
-/// Whether the history is that of one insertion by the caller 5.
+/// Returns whether the history is one insertion by the caller 5.
 fn is_of_one(history: &History<Ordered>) -> bool {
     let entries = [(5, MapCommand::Insert(1, 10), MapReply::Value(10))];
     history.entries() == entries.as_slice() && history.core().len() == 1
 }
 
-/// Whether the receipts of one pass are the history.
+/// Returns whether the receipts of one pass are the history.
 fn closes(
     alloc: Global,
     recorder: Recorder<Ordered>,
@@ -147,14 +151,15 @@ fn closes(
 }
 
 #[test]
-fn forms_of_the_recorder(rt: HostRuntime) -> Result<(), Fail> {
+fn a_call_on_the_recorder_had_a_wrong_result(rt: HostRuntime) -> Result<(), Fail> {
     let recorder: Recorder<Ordered> = Recorder::new(rt.alloc(), TreeState::new(rt.alloc()));
     let mut pass = recorder.pass(5);
     assert!(rt; records(&rt, &recorder, &mut pass)? && closes(rt.alloc(), recorder, pass)?);
     Ok(())
 }
 
-/// Whether a push whose pass is missing at the close is in the history that the fault has.
+/// Returns whether a push whose pass is missing at the close is in the history that the fault
+/// contains.
 fn is_missed(rt: &impl Wait, alloc: Global) -> Result<bool, AllocError> {
     let recorder: Recorder<List> = Recorder::new(alloc, VecState::new(alloc));
     let mut pass = recorder.pass(1);
@@ -168,7 +173,7 @@ fn is_missed(rt: &impl Wait, alloc: Global) -> Result<bool, AllocError> {
 }
 
 #[test]
-fn forms_of_a_recorder_that_misses_a_pass(rt: HostRuntime) -> Result<(), Fail> {
+fn a_close_without_a_pass_lost_the_history(rt: HostRuntime) -> Result<(), Fail> {
     assert!(rt; is_missed(&rt, rt.alloc())?);
     Ok(())
 }

@@ -1,4 +1,5 @@
-//! Text keys of the three maps, the cache of what a parser makes and the walk over names, through `elsa` and `bumpalo` alone.
+//! Text keys of the three maps, the cache of parsed files, and the walk over names, by `elsa` and
+//! `bumpalo` alone.
 use bumpalo::Bump;
 use elsa::cache::{CacheFault, ParsedCache};
 use elsa::interner::Interner;
@@ -6,7 +7,8 @@ use elsa::{FrozenBTreeMap, FrozenIndexMap, FrozenMap, Own};
 use std::alloc::{AllocError, Global};
 use std::test::*;
 
-/// The value that a name has in each map after it was given these two, by texts that end with the call.
+/// Inserts a name with this value into each map, by a text that ends with the call. Returns the
+/// value that the name has in each.
 fn kept<'a>(
     alloc: Global,
     hashed: &mut FrozenMap<'a, &'a str, Own<u64>>,
@@ -23,7 +25,7 @@ fn kept<'a>(
     ])
 }
 
-/// What each map has at a name.
+/// Returns the value of a name in each map.
 fn found<'a>(
     hashed: &FrozenMap<'a, &'a str, Own<u64>>,
     ordered: &FrozenBTreeMap<'a, &'a str, Own<u64>>,
@@ -31,13 +33,13 @@ fn found<'a>(
     name: &str,
 ) -> [Option<u64>; 3] {
     [
-        hashed.get_text(name).copied(),
-        ordered.get_text(name).copied(),
-        indexed.get_text(name).copied(),
+        hashed.get(name).copied(),
+        ordered.get(name).copied(),
+        indexed.get(name).copied(),
     ]
 }
 
-/// Whether each map keeps the first of two values of a text, and has no other text.
+/// Returns whether each map keeps the first of two values of a text, and has no other text.
 fn keeps_the_first(alloc: Global) -> Result<bool, AllocError> {
     let arena = Bump::new(alloc);
     let mut hashed = FrozenMap::new(alloc, &arena);
@@ -56,7 +58,7 @@ fn a_text_keeps_its_first_value_in_each_map(rt: HostRuntime) -> Result<(), Fail>
     Ok(())
 }
 
-/// The places of these texts in an index map that is given them in order.
+/// Returns the indices of these texts in an index map into which they are inserted in order.
 fn places(alloc: Global, texts: [&str; 4]) -> Result<[usize; 4], AllocError> {
     let arena = Bump::new(alloc);
     let mut map: FrozenIndexMap<'_, &str, Own<u64>> = FrozenIndexMap::new(alloc, &arena);
@@ -75,7 +77,7 @@ fn a_text_has_the_place_of_its_first_insertion(rt: HostRuntime) -> Result<(), Fa
     Ok(())
 }
 
-/// The lengths of the two halves of a text, which is loaded as this, or why there are none.
+/// Returns the lengths of the two halves of a file's text, or the fault of the cache.
 fn lengths<'a>(
     alloc: Global,
     cache: &mut ParsedCache<'a, (&'a str, &'a str)>,
@@ -89,7 +91,7 @@ fn lengths<'a>(
     Ok((halves.0.len(), halves.1.len()))
 }
 
-/// The same by a path that is the key itself.
+/// Does the same with a path that is itself stored as the key.
 fn placed_lengths<'a>(
     alloc: Global,
     cache: &mut ParsedCache<'a, (&'a str, &'a str)>,
@@ -126,7 +128,8 @@ fn a_loaded_text_is_parsed_once(rt: HostRuntime) -> Result<(), Fail> {
     Ok(())
 }
 
-/// The lengths of the names in the order of the walk and from the back, as the digits of numbers.
+/// Returns the lengths of the names in the order of the walk and from the back, as the digits of
+/// numbers.
 fn walked<'a>(names: &Interner<'a>) -> (usize, usize) {
     let mut front = 0usize;
     for name in names.iter() {
@@ -139,7 +142,8 @@ fn walked<'a>(names: &Interner<'a>) -> (usize, usize) {
     (front, back)
 }
 
-/// Whether an interner has the names that it was given and no other, and is walked both ways in the order of their numbers.
+/// Returns whether an interner has exactly the names that were put, and a walk in either direction
+/// visits them in the order of their numbers.
 fn has_its_names(alloc: Global) -> Result<bool, AllocError> {
     let arena = Bump::new(alloc);
     let mut names = Interner::new(alloc, &arena);

@@ -1,6 +1,8 @@
-//! Cases of upstream's own tests and examples, written anew: threads that read what other running threads have just pushed or inserted, and pairs by value.
+//! Cases of upstream's own tests and examples, written anew: threads that read what other running
+//! threads have just pushed or inserted, and pairs by value.
 //!
-//! Each test with threads has a hand-shake that ends only if they run at the same time: one after the other they give up.
+//! In each test with threads, a thread waits for another's progress. If the threads ran one after
+//! the other, the test would fail.
 use bumpalo::Bump;
 use elsa::sync::LockFreeFrozenVec;
 use elsa::{FrozenMap, sync};
@@ -10,13 +12,13 @@ use std::sync::{Mutex, Wait};
 use std::test::Fail;
 use std::thread;
 
-/// How often a thread looks for what another is to do, at most.
+/// The greatest number of looks of a thread that waits for another.
 const LOOKS: u64 = 10_000_000;
 
-/// How many numbers each of two pushers pushes.
+/// The number of items that each of two threads pushes.
 const PUSHES: u64 = 1000;
 
-/// Waits until the reader has read something.
+/// Waits until the reader has read an item, and returns whether it did.
 fn is_met(reads: &AtomicU64) -> bool {
     for _ in 0..LOOKS {
         if reads.load(Ordering::SeqCst) > 0 {
@@ -27,10 +29,10 @@ fn is_met(reads: &AtomicU64) -> bool {
     false
 }
 
-/// A place, and the number that was pushed there.
+/// The indices of pushed numbers, each with its number.
 type Told = Mutex<Vec<(usize, u64)>>;
 
-/// Pushes a number, and tells its place under the lock.
+/// Pushes a number, and adds its index to the list under the lock.
 fn push_one<R: Wait>(rt: &R, vector: &LockFreeFrozenVec<u64>, told: &Told, number: u64) -> bool {
     match vector.push(rt, number) {
         Ok(place) => told.lock(rt).push((place, number)).is_ok(),
@@ -38,7 +40,8 @@ fn push_one<R: Wait>(rt: &R, vector: &LockFreeFrozenVec<u64>, told: &Told, numbe
     }
 }
 
-/// Pushes the numbers from `first` on, and goes on after the half of them only once the reader has read.
+/// Pushes `PUSHES` numbers from `first` on. After half of them it waits until the reader has read
+/// an item.
 fn push_and_tell<R: Wait>(
     rt: &R,
     vector: &LockFreeFrozenVec<u64>,
@@ -57,7 +60,7 @@ fn push_and_tell<R: Wait>(
     true
 }
 
-/// Reads each number at the place that was told, until it has read all of two pushers.
+/// Reads each number at the index in the list, until it has read all numbers of the two threads.
 fn read_what_is_told<R: Wait>(
     rt: &R,
     vector: &LockFreeFrozenVec<u64>,
@@ -101,7 +104,8 @@ fn a_place_handed_on_through_a_lock_has_its_item(rt: HostRuntime) -> Result<(), 
     Ok(())
 }
 
-/// Pushes the numbers from `first` on, and goes on after the half of them only once the reader has read.
+/// Pushes `PUSHES` numbers from `first` on. After half of them it waits until the reader has read
+/// an item.
 fn push_all<R: Wait>(
     rt: &R,
     vector: &LockFreeFrozenVec<u64>,
@@ -119,7 +123,8 @@ fn push_all<R: Wait>(
     true
 }
 
-/// Reads each place in turn, again and again until something is there; the sum of all numbers, or `None` where one didn't come.
+/// Reads the items in the order of their indices, each again until it is there. Returns the sum of
+/// all numbers, or `None` if an item was missing after `LOOKS` looks.
 fn read_in_order(vector: &LockFreeFrozenVec<u64>, reads: &AtomicU64) -> Option<u64> {
     let mut sum: u64 = 0;
     for _ in 0..LOOKS {
@@ -159,7 +164,7 @@ fn a_reader_follows_two_pushers(rt: HostRuntime) -> Result<(), Fail> {
 /// Numbers with their decimal texts.
 type Texts = sync::FrozenMap<u64, String>;
 
-/// Looks for a number until another thread has inserted it with its text.
+/// Reads a number until another thread has inserted it, and returns whether it has its text.
 fn is_inserted<R: Wait>(rt: &R, map: &Texts, number: u64) -> Result<bool, AllocError> {
     for _ in 0..LOOKS {
         if let Some(text) = map.get(rt, &number)? {
@@ -170,7 +175,8 @@ fn is_inserted<R: Wait>(rt: &R, map: &Texts, number: u64) -> Result<bool, AllocE
     Ok(false)
 }
 
-/// Inserts every second number from `first` on, each once the one before it is there, which the other thread inserts.
+/// Inserts every second number from `first` on, each after the other thread has inserted the number
+/// before it.
 fn take_turns<R: Wait>(rt: &R, alloc: Global, map: &Texts, first: u64) -> Result<bool, AllocError> {
     for round in 0..100u64 {
         let number = first.wrapping_add(2 * round);
@@ -197,7 +203,7 @@ fn a_thread_finds_what_another_running_one_inserts(rt: HostRuntime) -> Result<()
     Ok(())
 }
 
-/// Whether the pairs of a hashed map, sorted, are these.
+/// Returns whether the sorted pairs of a hashed map are those that were inserted first.
 fn has_pairs(alloc: Global) -> Result<bool, AllocError> {
     let arena = Bump::new(alloc);
     let mut map: FrozenMap<u64, &str> = FrozenMap::new(alloc, &arena);

@@ -1,9 +1,9 @@
-//! Walks by `for` through `elsa` alone.
+//! Walks by `for`, by `elsa` alone.
 use bumpalo::Bump;
 use elsa::FrozenVec;
 use std::test::Fail;
 
-/// The bytes of all names.
+/// Returns the number of bytes of all names.
 fn bytes_of(names: &FrozenVec<'_, String>) -> usize {
     let mut bytes: usize = 0;
     for name in names.iter() {

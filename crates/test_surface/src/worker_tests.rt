@@ -1,10 +1,11 @@
-//! Workers that push into a vector of the caller's: what is told of each, and what the vector then holds of it.
+//! Workers that push into a vector of the caller's: the fault that is returned for each, and the
+//! numbers that the vector then has of it.
 ghost use Rattle.std.specs.Prelude.{◌≡◌};
 
 use crate::filled::two_filled;
 use crate::gates::{Alternates, Stops};
-use elsa::shared::{Gate, SharedFault, first_fault, run_shared_into};
-use elsa::sync::{LockFreeFrozenVec, Pass};
+use elsa::sync::{Handle, LockFreeFrozenVec, Pass};
+use elsa_program::shared::{Gate, SharedFault, first_fault, run_shared_into};
 use std::alloc::{AllocError, Allocator, Global};
 use std::sync::Wait;
 use std::test::*;
@@ -13,7 +14,7 @@ use test_alloc::Budget;
 
 type Vector = LockFreeFrozenVec<u64>;
 
-/// The numbers from `first` to `last` that a pass has seen, in their order.
+/// Returns the numbers from `first` to `last` in the observed prefix of a view, in their order.
 fn seen(
     alloc: Global,
     vector: &Vector,
@@ -23,13 +24,14 @@ fn seen(
 ) -> Result<Vec<u64>, AllocError>
     requires { pass.now.vector ≡ vector.now }
 {
-    vector
-        .iter_as(pass)
+    Handle::of(vector, pass.again())
+        .iter()
         .filter(|n| first <= *n && *n <= last)
         .collect(alloc)
 }
 
-/// What three workers of four numbers are told, and the numbers of each in a vector that had the number 100.
+/// Returns the faults of three workers of four numbers each, and the numbers of each in a vector
+/// that had the number 100 before.
 fn three_workers<R: Threads + Wait + Sync, G: Gate + Sync>(
     rt: &R,
     alloc: Global,
@@ -47,7 +49,8 @@ fn three_workers<R: Threads + Wait + Sync, G: Gate + Sync>(
     format!(in alloc; "{faults:?} {before:?} {one:?} {two:?} {three:?}")
 }
 
-/// Each worker's numbers are there in order, and of one that its gate stops a beginning.
+/// Checks that each worker's numbers are pushed in order, and a worker that its gate stops has
+/// pushed the first of them.
 #[test]
 fn a_worker_that_is_stopped_is_told_alone(rt: HostRuntime) -> Result<(), Fail> {
     let told = three_workers(&rt, rt.alloc(), &Stops::new(1, 2), &[])?;
@@ -58,7 +61,8 @@ fn a_worker_that_is_stopped_is_told_alone(rt: HostRuntime) -> Result<(), Fail> {
     Ok(())
 }
 
-/// No machine has a stack as large as all addresses. The worker before it ends well, and the one after it isn't started.
+/// Checks that a thread with a stack as large as the address space is reported. The worker before
+/// it pushes all its numbers, and the one after it isn't started.
 #[test]
 fn a_thread_that_cannot_be_started_is_told(rt: HostRuntime) -> Result<(), Fail> {
     let told = three_workers(&rt, rt.alloc(), &Stops::new(0, 0), &[0, usize::MAX, 0])?;
@@ -69,7 +73,8 @@ fn a_thread_that_cannot_be_started_is_told(rt: HostRuntime) -> Result<(), Fail> 
     Ok(())
 }
 
-/// Whether the n-th two numbers are the n-th of each of two workers of three, in either order.
+/// Returns whether the n-th two numbers are the n-th numbers of each of two workers, three of each,
+/// in either order.
 fn alternate(numbers: &[u64]) -> bool {
     numbers.len() == 6
         && (0..3u64).all(|n| {
@@ -79,8 +84,8 @@ fn alternate(numbers: &[u64]) -> bool {
         })
 }
 
-/// Two workers each of which waits after a push until the other has made as many: their numbers alternate. If they ran one after the other, the first
-/// would wait in vain, and its gate would stop it.
+/// Checks that the numbers of two workers alternate if each waits after a push until the other has
+/// made the same number of pushes. If they ran one after the other, the gate would stop the first.
 #[test]
 fn two_workers_alternate(rt: HostRuntime) -> Result<(), Fail> {
     let alloc = rt.alloc();
@@ -102,7 +107,7 @@ fn two_workers_alternate(rt: HostRuntime) -> Result<(), Fail> {
     Ok(())
 }
 
-/// The caller that promises what two workers left returns a pass that has seen all of it.
+/// Checks that `two_filled` returns a view that has observed all numbers of both workers.
 #[test]
 fn a_caller_gets_the_numbers_of_both_workers(rt: HostRuntime) -> Result<(), Fail> {
     let pass = two_filled(&rt, rt.alloc(), 5, &Stops::new(0, 0))?;
@@ -110,7 +115,11 @@ fn a_caller_gets_the_numbers_of_both_workers(rt: HostRuntime) -> Result<(), Fail
     Ok(())
 }
 
-/// Whether a run that lacks memory tells it: by an error, before any push, or as the fault of a worker. `Err` where there isn't even a vector.
+/// Returns whether a run with a denied request reports it: by an error before any push, or as the
+/// fault of a worker.
+///
+/// # Errors
+/// Fails if the vector can't be made.
 fn tells_of_memory<R: Threads + Wait + Sync, A: Allocator + Copy + Send + Sync>(
     rt: &R,
     alloc: A,
@@ -124,7 +133,8 @@ fn tells_of_memory<R: Threads + Wait + Sync, A: Allocator + Copy + Send + Sync>(
     }
 }
 
-/// Each request for memory refused in turn, alone and with all that follow.
+/// Checks that an allocation failure is reported, with each request denied in turn, alone and with
+/// all later ones.
 #[test]
 fn a_refused_allocation_is_told(rt: HostRuntime) -> Result<(), Fail> {
     let budget = Budget::new(rt.alloc());

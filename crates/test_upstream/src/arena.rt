@@ -1,12 +1,13 @@
-//! Things that name their friends, in an arena that is filled through `&self`. A thing owns its name and its list of friends; a friend is named by its number,
-//! since a value that is dropped can't borrow from its own arena.
+//! Things with lists of their friends, in an arena that is filled through `&self`. A thing owns its
+//! name and its list of friends. The list has the friends' numbers, because a value that is dropped
+//! can't borrow from its own arena.
 ghost use Rattle.std.specs.Prelude.{◌≡◌, IfOk};
 
 use elsa::arena::TypedArena;
 use std::alloc::{AllocError, Global};
 use std::test::Fail;
 
-/// A thing, which owns its name and the list of its friends, by their numbers.
+/// A thing, which owns its name and the list of its friends' numbers.
 #[derive(Drop)]
 struct Thing {
     name: String,
@@ -37,14 +38,14 @@ impl Things {
         }
     }
 
-    /// The thing itself, borrowed for as long as the arena.
+    /// Adds a thing through `&self`, and returns a reference to it with the arena's lifetime.
     fn keep(&self, thing: Thing) -> Result<&Thing, Thing>
         ensures { IfOk result (λ kept. kept.now ≡ thing) }
     {
         self.all.alloc(thing)
     }
 
-    /// The names of a thing's friends, each with a space behind it.
+    /// Returns the names of a thing's friends, each followed by a space.
     fn friends_of(&self, number: usize) -> Result<String, AllocError> {
         let mut names = String::new(self.alloc);
         let Some(thing) = self.all.get(number) else {
@@ -60,7 +61,7 @@ impl Things {
     }
 }
 
-/// The five things of upstream's example, each added through one shared borrow.
+/// Makes the five things of upstream's example, each added through one shared borrow.
 fn five(alloc: Global) -> Result<Things, AllocError> {
     let things = Things::new(alloc)?;
     let lonely = things.add_thing("lonely", Vec::new(alloc))?;
@@ -72,7 +73,7 @@ fn five(alloc: Global) -> Result<Things, AllocError> {
     Ok(things)
 }
 
-/// Whether each thing names the friends that upstream's example prints.
+/// Returns whether each thing has the friends that upstream's example prints.
 fn are_friends(alloc: Global) -> Result<bool, AllocError> {
     let things = five(alloc)?;
     let wanted = [
@@ -90,7 +91,7 @@ fn are_friends(alloc: Global) -> Result<bool, AllocError> {
     Ok(things.all.len() == 5)
 }
 
-/// Whether the borrow of a thing stays while others are added.
+/// Returns whether the borrow of a thing stays valid while others are added.
 fn stays(alloc: Global) -> Result<bool, AllocError> {
     let things = Things::new(alloc)?;
     let name = String::from_str(alloc, "lonely")?;

@@ -1,17 +1,18 @@
-//! Resources that borrow from the texts that they were made of, both kept by the path through `&self`. The texts have a map of their own, made before the
-//! resources, since a resource owns a list and so can't borrow from its own map.
+//! Resources that borrow from the texts of which they were made, both stored by their path through
+//! `&self`. The texts have their own map, which is made before the resources, because a resource
+//! owns a list and so can't borrow from its own map.
 use elsa::cell::{CellFault, FrozenMap};
 use std::alloc::{AllocError, Global};
 use std::test::Fail;
 
-/// What was made of a text: its first line, and all its lines, which it owns as a list.
+/// The resource of a text: its first line, and all its lines, which it owns as a list.
 #[derive(Drop)]
 struct FluentResource<'t> {
     first: &'t str,
     lines: Vec<&'t str>,
 }
 
-/// Why a resource isn't there.
+/// The reason why there is no resource.
 #[derive(Debug, Clone, Copy, PartialEq, Eq)]
 enum ResourceFault {
     NotFound,
@@ -30,7 +31,8 @@ impl<T: Drop> From<CellFault<T>> for ResourceFault {
     }
 }
 
-/// Keeps each text that was read and each resource that was made, for as long as the texts.
+/// A store of each text that was read and each resource that was made, for the lifetime of the
+/// texts.
 #[derive(Drop)]
 struct ResourceManager<'t> {
     alloc: Global,
@@ -49,9 +51,9 @@ impl<'t> ResourceManager<'t> {
         })
     }
 
-    /// The text at the path, which is read once.
+    /// Returns the text at the path, which is read once.
     fn text_of(&self, path: &str) -> Result<&'t str, ResourceFault> {
-        if let Ok(Some(text)) = self.strings.get_text(path) {
+        if let Ok(Some(text)) = self.strings.get(path) {
             return Ok(text.as_str());
         }
         for (name, text) in FILES {
@@ -65,9 +67,9 @@ impl<'t> ResourceManager<'t> {
         Err(ResourceFault::NotFound)
     }
 
-    /// The resource at the path, which is made once.
+    /// Returns the resource at the path, which is made once.
     fn get_resource(&self, path: &str) -> Result<&FluentResource<'t>, ResourceFault> {
-        if let Ok(Some(resource)) = self.resources.get_text(path) {
+        if let Ok(Some(resource)) = self.resources.get(path) {
             return Ok(&**resource);
         }
         let mut lines = Vec::new(self.alloc);
@@ -84,14 +86,15 @@ impl<'t> ResourceManager<'t> {
     }
 }
 
-/// The first line and the number of lines of the resource, asked for twice, and how many texts were read.
+/// Gets the resource twice. Returns whether both have the same lines, the number of its lines, and
+/// the number of texts that were read.
 fn asked_twice(alloc: Global, path: &str) -> Result<(bool, usize, usize), ResourceFault> {
     let strings = FrozenMap::new(alloc)?;
     let manager = ResourceManager::new(alloc, &strings)?;
     let first = manager.get_resource(path)?;
     let again = manager.get_resource(path)?;
     let is_same = first.first == again.first && again.lines.len() == first.lines.len();
-    Ok((is_same, first.lines.len(), strings.len()))
+    Ok((is_same, first.lines.len(), strings.len().unwrap_or(0)))
 }
 
 #[test]

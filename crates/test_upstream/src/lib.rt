@@ -1,10 +1,13 @@
-//! Upstream's four examples, written anew with owners inside where upstream has them, through `elsa` alone.
+//! Upstream's four examples and the lookups of its documentation, written anew with values that own
+//! memory where upstream has them, by `elsa` alone.
 #![tactic(auto)]
 
 #[cfg(test)]
 mod arena;
 #[cfg(test)]
 mod fluent_resource;
+#[cfg(test)]
+mod look_ups;
 #[cfg(test)]
 mod string_interner;
 #[cfg(test)]

@@ -6,7 +6,7 @@ use elsa::FrozenIndexSet;
 use std::alloc::{AllocError, Global};
 use std::test::Fail;
 
-/// Gives each text a number. It owns none of them: they lie in the arena.
+/// An interner that numbers texts. They are stored in the arena.
 #[derive(Drop)]
 struct StringInterner<'a> {
     alloc: Global,
@@ -21,18 +21,18 @@ impl<'a> StringInterner<'a> {
         }
     }
 
-    /// The number of a text, which is kept if it is new.
+    /// Returns the number of a text, which is stored if it is new.
     fn get_or_intern(&mut self, value: &str) -> Result<usize, AllocError> {
         let text = String::from_str(self.alloc, value)?;
         Ok(self.set.insert_full(text)?.0)
     }
 
-    /// The number of a text, if it was kept.
+    /// Returns the number of a text, or `None` if it isn't stored.
     fn get(&self, value: &str) -> Option<usize> {
         self.set.get_index_of(&value)
     }
 
-    /// The text of a number.
+    /// Returns the text of a number.
     fn resolve(&self, index: usize) -> Option<&'a str>
         ensures { IfSome result (λ text. slice_get self.now.set index ≡ Some text) }
     {
@@ -40,7 +40,8 @@ impl<'a> StringInterner<'a> {
     }
 }
 
-/// Whether the texts have the numbers of upstream's example, before and after all are there.
+/// Returns whether the texts have the numbers of upstream's example, before and after all are
+/// stored.
 fn are_numbered(alloc: Global) -> Result<bool, AllocError> {
     let arena = Bump::new(alloc);
     let mut interner = StringInterner::new(alloc, &arena);

@@ -1,14 +1,14 @@
-//! Threads that each insert a text under their number, and wait for that of the thread opposite.
+//! Threads that each insert a text at their number, and wait for the text of the opposite thread.
 use elsa::sync::FrozenMap;
 use std::alloc::Global;
 use std::sync::Wait;
 use std::test::Fail;
 use std::thread;
 
-/// How often a thread looks for the other's text, at most.
+/// The greatest number of looks of a thread for the other's text.
 const LOOKS: u64 = 10_000_000;
 
-/// The greatest number of a thread, and one more.
+/// The greatest number of a thread, plus 1.
 const THREADS: usize = 10;
 
 /// Inserts the text of a number, and waits until the opposite number has its own.

@@ -1,4 +1,5 @@
-//! Callers over an arena of any allocator, over any arena and over any table, which the contracts of the collections alone prove; and runs of them.
+//! Callers that work with an arena of any allocator, with any arena, and with any map
+//! implementation. They are proved from the contracts of the collections alone, and run.
 ghost use Rattle.std.specs.Prelude.{◌≡◌, ◌++◌, ◌∷◌, [], IfOk, OnErr, Some};
 ghost use Rattle.std.specs.String.{string_bytes};
 ghost use Rattle.elsa_maps.specs.FirstWins.{value_at};
@@ -12,7 +13,7 @@ use std::alloc::{AllocError, Allocator, Global};
 use std::test::Fail;
 use test_alloc::Budget;
 
-// A text into a vector over an arena of any allocator.
+// Pushes a text into a vector whose arena has any allocator, and returns its borrow.
 fn text_kept<'a, P: Allocator>(
     list: &mut FrozenVec<'a, String, Global, P>,
     text: String,
@@ -23,7 +24,7 @@ fn text_kept<'a, P: Allocator>(
     list.push_get(text)
 }
 
-// Two items into a vector over any arena.
+// Pushes two items into a vector with any arena, and returns their borrows.
 fn two_kept<R: Copy, T: StableDeref<R>>(
     list: &mut FrozenVecIn<R, T>,
     one: T,
@@ -37,7 +38,8 @@ fn two_kept<R: Copy, T: StableDeref<R>>(
     Ok((first, second))
 }
 
-// A value into a map over any arena and any table.
+// Inserts a value into a map with any arena and any map implementation, and returns the value that
+// the key has.
 fn value_kept<R: Copy, V: StableDeref<R>, T: Table<u64, V::Borrow>>(
     map: &mut Frozen<R, u64, V, T>,
     key: u64,
@@ -48,7 +50,7 @@ fn value_kept<R: Copy, V: StableDeref<R>, T: Table<u64, V::Borrow>>(
     map.insert(key, value)
 }
 
-// Texts in an arena over a budget.
+// Returns whether texts are stored in an arena over a budget.
 fn texts_are_kept(alloc: Global) -> Result<bool, AllocError> {
     let heap = Budget::new(alloc);
     let arena = Bump::new(&heap);
@@ -62,7 +64,7 @@ fn texts_are_kept(alloc: Global) -> Result<bool, AllocError> {
     Ok(first == "lonely" && second == "best" && third == "friend" && list.len() == 3)
 }
 
-// The first of two values of a key, in a hashed and in an ordered map.
+// Returns whether the first of two values of a key stays, in a hashed and in an ordered map.
 fn values_are_kept(alloc: Global) -> Result<bool, AllocError> {
     let arena = Bump::new(alloc);
     let mut hashed: FrozenMap<'_, u64, Own<u64>> = FrozenMap::new(alloc, &arena);

@@ -1,4 +1,5 @@
-//! Functions of the laws with ample memory: what they answer, written by hand. The laws that aren't here are called in `vec_tests` and `map_tests`.
+//! Functions of the laws, with enough memory: their results compared with hand-written ones. The
+//! other laws are called in `vec_tests` and `map_tests`.
 use bumpalo::Bump;
 use elsa_maps::map::FrozenMap;
 use elsa_maps::map::laws::{is_new_once, keeps_earlier_values};
@@ -30,12 +31,12 @@ fn insertions<'a>(alloc: Global, arena: &'a Bump) -> Result<bool, AllocError> {
     let new = keeps_earlier_values(&mut map, 1, "a")?;
     let between = Vec::from_array(alloc, [(2, "b")])?;
     let (first, again) = is_new_once(&mut map, (1, "c"), between, (1, "d"))?;
-    let is_kept = new.1 && !first.1 && !again.1 && again.0 == "a";
+    let is_kept = new.is_new && !first.is_new && !again.is_new && again.value == "a";
     Ok(is_kept && map.get(&2) == Some("b"))
 }
 
 #[test]
-fn the_laws_of_pushes_searches_and_insertions(rt: HostRuntime) -> Result<(), Fail> {
+fn a_law_of_pushes_searches_or_insertions_had_a_wrong_result(rt: HostRuntime) -> Result<(), Fail> {
     let arena = Bump::new(rt.alloc());
     assert!(rt; pushes(rt.alloc(), &arena)? && searches(rt.alloc(), &arena)?);
     assert!(rt; insertions(rt.alloc(), &arena)?);

@@ -1,4 +1,5 @@
-//! Tests of `elsa_vec`, `elsa_maps` and `elsa_sets` as a stranger calls them: worked cases, tables of probes, odd keys, and memory refused.
+//! Tests of `elsa_vec`, `elsa_maps` and `elsa_sets`, used as by any other crate: examples, tables
+//! of the calls of a search, unusual keys, and allocation failures.
 #![tactic(auto)]
 
 #[cfg(test)]

@@ -1,4 +1,5 @@
-//! What no clause says of the maps: worked rows, upstream's cases, keys with an odd hash or no hash.
+//! Facts of the maps that no clause states: examples, upstream's cases, and keys with one hash or
+//! no hash.
 ghost use Rattle.std.specs.Prelude.{◌≡◌, ℕ, [], List, IfOk, IsSome, Some, refl};
 ghost use Rattle.std.specs.Borrow.{Bor};
 ghost use Rattle.std.specs.Map.{lookup};
@@ -13,7 +14,7 @@ use std::collections::BTreeMap;
 use std::hash::{BuildHasherDefault, Hash, Hasher, RandomState};
 use std::test::Fail;
 
-// A key whose hash is that of every other.
+// A key that has the same hash as every other.
 #[derive(Clone, Copy, Drop, PartialEq, Eq)]
 struct SameHash(u32);
 
@@ -31,7 +32,7 @@ struct NoHash(u32);
 
 // ---- collecting
 
-// The pairs of an ordered map of these texts, as a list.
+// Inserts these pairs into an ordered map, and returns its pairs as a list.
 fn ordered_pairs<'a>(
     alloc: Global,
     arena: &'a Bump,
@@ -52,7 +53,7 @@ fn ordered_pairs_ascend(rt: HostRuntime) -> Result<(), Fail> {
     Ok(())
 }
 
-// The values at 1 and 2 in a hashed map of these pairs, and their number.
+// Collects a hashed map of these pairs, and returns its values at 1 and 2 and its length.
 fn hashed_of<'a>(
     alloc: Global,
     arena: &'a Bump,
@@ -67,7 +68,7 @@ fn hashed_of<'a>(
     Ok(([map.get(&1), map.get(&2)], map.len()))
 }
 
-// The same in an ordered map.
+// Does the same with an ordered map.
 fn ordered_of<'a>(
     alloc: Global,
     arena: &'a Bump,
@@ -100,7 +101,7 @@ fn length_at<'k>(map: &Keyed<'_, 'k>, key: &'k str) -> Option<usize> {
     map.map_get(&key, |value| value.len())
 }
 
-// How often the function of a look-up is called.
+// Returns the number of calls of a lookup's closure.
 fn calls_at<'k>(map: &Keyed<'_, 'k>, key: &'k str) -> usize {
     let mut calls = 0usize;
     let _answer = map.map_get(&key, |_| calls = 1);
@@ -144,7 +145,7 @@ fn equality_asks_for_no_hash_and_no_order(rt: HostRuntime) -> Result<(), Fail> {
     Ok(())
 }
 
-// Whether each key below 200 has itself as its value.
+// Returns whether each key below 200 has itself as its value.
 fn has_all(map: &FrozenMap<'_, SameHash, Own<u32>>) -> bool {
     for number in 0..200 {
         if map.get(&SameHash(number)).copied() != Some(number) {
@@ -167,7 +168,8 @@ fn keys_that_hash_alike_are_told_apart(rt: HostRuntime) -> Result<(), Fail> {
 
 type Seeded<'a> = FrozenMap<'a, u32, &'a str, RandomState>;
 
-// A map of one pair and a clone of it with one more, which was taken apart and made again, and whether all went so.
+// Makes a map of one pair, and a clone of it with another pair, which is taken apart and made
+// again. Returns both, and whether all results were right.
 fn parted<'a>(
     alloc: Global,
     arena: &'a Bump,
@@ -187,7 +189,7 @@ fn parted<'a>(
     ))
 }
 
-// The value at a key by `[]`, if the key is there.
+// Returns the value at a key by `[]`, or `None` if the key is absent.
 fn by_key<'a>(map: &Seeded<'a>, key: u32) -> Option<&'a str> {
     if map.get(&key).is_none() {
         return None;
@@ -197,9 +199,9 @@ fn by_key<'a>(map: &Seeded<'a>, key: u32) -> Option<&'a str> {
 
 type Named<'a> = FrozenBTreeMap<'a, String, &'a str>;
 
-// A clone with one more key.
+// Returns a clone with this key added.
 fn with_key<'a>(map: &Named<'a>, key: String, value: &'a str) -> Result<Named<'a>, AllocError>
-    ensures there { IfOk result (λ copy.
+    ensures found_after { IfOk result (λ copy.
         IsSome (lookup (eq_by_cmp ⟦<String as Ord>⟧.cmp key) copy)) }
     ensures kept { (there : Bor (List ℕ)) →
         lookup (eq_by_cmp ⟦<String as Ord>⟧.cmp key) map.now ≡ Some there →
@@ -211,7 +213,7 @@ fn with_key<'a>(map: &Named<'a>, key: String, value: &'a str) -> Result<Named<'a
     Ok(copy)
 }
 
-// The value at a text that went into a clone alone, in a clone of that.
+// Inserts a text into a clone only, and returns its value in a clone of that clone.
 fn in_a_clone<'a>(
     alloc: Global,
     arena: &'a Bump,
@@ -243,7 +245,7 @@ fn based<'a>(alloc: Global, arena: &'a Bump) -> Result<Based<'a>, AllocError> {
     Ok(FrozenBTreeMap::from_map(alloc, arena, base))
 }
 
-// The value at 1 by `[]`, if the key is there.
+// Returns the value at 1 by `[]`, or `None` if the key is absent.
 fn at_one<'a>(map: &Based<'a>) -> Option<&'a str> {
     if map.get(&1).is_none() {
         return None;
@@ -251,12 +253,12 @@ fn at_one<'a>(map: &Based<'a>) -> Option<&'a str> {
     Some(map[&1])
 }
 
-// Takes 1 out of the inner map.
+// Removes the key 1 from the inner map.
 fn remove_one(map: &mut Based<'_>) {
     map.as_mut().remove(&1);
 }
 
-// The value at 1 in the inner map of a clone, and how many pairs that has.
+// Returns the value at 1 in the inner map of a clone, and the number of its pairs.
 fn inner<'a>(
     alloc: Global,
     arena: &'a Bump,

@@ -1,4 +1,5 @@
-//! Values that own memory, moved into a typed arena: callers that the contracts alone prove, and runs that count what is dropped.
+//! Values that own memory and are moved into a typed arena: callers that are proved from the
+//! contracts alone, and runs that count the drops.
 ghost use Rattle.std.specs.Prelude.{◌≡◌, ◌++◌, ◌∷◌, [], IfOk, OnErr};
 
 use elsa_arena::arena::TypedArena;
@@ -12,10 +13,10 @@ use test_alloc::Budget;
 // Upstream's vector of boxes.
 type Boxes<'a> = FrozenVecIn<&'a TypedArena<Box<u64>>, Box<u64>>;
 
-// Lists whose items own memory.
+// A vector of lists whose items own memory.
 type Lists<'a> = FrozenVecIn<&'a TypedArena<Vec<String>>, Vec<String>>;
 
-// What two boxes held, behind one another.
+// Pushes two boxes, and returns the borrows of their values.
 fn two_boxes<'a>(
     boxes: &mut Boxes<'a>,
     one: Box<u64>,
@@ -29,7 +30,7 @@ fn two_boxes<'a>(
     Ok((first, second))
 }
 
-// A list of texts, which is kept with its texts.
+// Pushes a list of texts, and returns its borrow.
 fn list_kept<'a>(lists: &mut Lists<'a>, list: Vec<String>) -> Result<&'a [String], AllocError>
     ensures kept { IfOk result (λ kept. kept.now ≡ list.items) }
     ensures refused { OnErr result (lists.new ≡ lists.old) }
@@ -37,7 +38,8 @@ fn list_kept<'a>(lists: &mut Lists<'a>, list: Vec<String>) -> Result<&'a [String
     lists.push_get(list)
 }
 
-// Whether boxes show what they held, while more are pushed and after the vector's end.
+// Returns whether borrows of boxes show their values while others are pushed, and after the
+// vector's end.
 fn boxes_are_shown(alloc: Global) -> Result<bool, AllocError> {
     let arena = TypedArena::new(alloc)?;
     let mut boxes = Boxes::new(alloc, &arena);
@@ -59,7 +61,7 @@ fn boxes_are_shown(alloc: Global) -> Result<bool, AllocError> {
     Ok(*first == 7 && *second == 8 && is_last)
 }
 
-// Whether a list's texts are read from the arena after the vector's end.
+// Returns whether a list's texts are read from the arena after the vector's end.
 fn lists_are_shown(alloc: Global) -> Result<bool, AllocError> {
     let arena = TypedArena::new(alloc)?;
     let mut lists = Lists::new(alloc, &arena);
@@ -74,7 +76,8 @@ fn lists_are_shown(alloc: Global) -> Result<bool, AllocError> {
     Ok(kept.len() == 2 && kept[0].as_str() == "toad" && kept[1].as_str() == "robin")
 }
 
-// How many owners of one value there are: with a hundred in the arena, after the vector's end, and after the arena's.
+// Returns the number of owners of one value: with a hundred in the arena, after the vector's end,
+// and after the arena's.
 fn owners(alloc: Global) -> Result<(usize, usize, usize), AllocError> {
     let counted = Arc::new(alloc, 0_u64)?;
     let arena = TypedArena::new(alloc)?;
@@ -91,7 +94,8 @@ fn owners(alloc: Global) -> Result<(usize, usize, usize), AllocError> {
     Ok((held, after_vector, Arc::strong_count(&counted)))
 }
 
-// How many owners of one value there are after a push that is refused, and whether it was.
+// Pushes a value with denied memory. Returns whether the push failed, and the number of owners of
+// the value.
 fn owners_after_a_refusal(alloc: Global) -> Result<(bool, usize), AllocError> {
     let counted = Arc::new(alloc, 0_u64)?;
     let heap = Budget::new(alloc);

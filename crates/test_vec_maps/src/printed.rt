@@ -1,4 +1,4 @@
-//! What `{:?}` prints of the collections.
+//! The output of `{:?}` of the collections.
 use bumpalo::Bump;
 use elsa_maps::map::{FrozenBTreeMap, FrozenMap};
 use elsa_vec::stable::Own;
@@ -6,7 +6,7 @@ use elsa_vec::vec::FrozenVec;
 use std::alloc::{AllocError, Global};
 use std::test::*;
 
-/// Whether `{:?}` of a vector of these texts, and of one of these numbers, prints as a `Vec` of them.
+/// Returns whether vectors of these texts print as a `Vec` of them.
 fn vectors_print(alloc: Global, arena: &Bump) -> Result<bool, Fail> {
     let mut names: FrozenVec<'_, &str> = FrozenVec::new(alloc, arena);
     let none = format!(in alloc; "{names:?}")?;

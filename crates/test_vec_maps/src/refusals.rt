@@ -1,4 +1,5 @@
-//! The vector's script of 36 calls and the placing of owners, with each request for memory, the tables' and the arena's, refused in turn.
+//! A script of 36 calls on the vector, and the storing of owners in the arena, with each request
+//! for memory denied in turn: those of the table and of the arena.
 use bumpalo::Bump;
 use elsa_vec::stable::{Own, StableDeref};
 use elsa_vec::vec::FrozenVec;
@@ -17,7 +18,8 @@ type Items<'a, 'b> = FrozenVec<'a, Text<'b>, Heap<'b>>;
 
 const CALLS: usize = 36;
 
-// Of four calls the first pushes the next word, the third pushes one and gets it; the second clones, and the last collects.
+// Of each four calls, the first pushes the next word, the second clones, the third pushes the next
+// word and gets it, and the last collects.
 #[derive(Drop)]
 struct Vector<'a, 'b> {
     heap: Heap<'b>,
@@ -40,7 +42,7 @@ impl Script for Vector<'_, '_> {
     }
 }
 
-// The words over and over.
+// Returns the word at this index, with the sixteen words repeated.
 fn word(place: usize) -> &'static str {
     WORDS[place % 16]
 }
@@ -69,7 +71,7 @@ fn collected(heap: Heap<'_>, arena: &Bump) -> Result<bool, AllocError> {
     Ok(has_words(&made, 3))
 }
 
-// Whether the items are the first words, so many.
+// Returns whether the items are the first `count` words.
 fn has_words(items: &Items<'_, '_>, count: usize) -> bool {
     for place in 0..count {
         if items.get(place) != Some(word(place)) {
@@ -115,9 +117,10 @@ fn a_refused_push_clone_or_collection_leaves_the_vector_as_it_was(
     Ok(())
 }
 
-// ---- placing
+// ---- storing in the arena
 
-// Whether a text that the arena refuses comes back, and is placed once there is room.
+// Returns whether a text that the arena has no room for is returned, and is stored once there is
+// room.
 fn text_comes_back(heap: Heap<'_>, arena: &Bump) -> Result<bool, AllocError> {
     let text: Text<'_> = String::from_str(heap, word(3))?;
     let asked = heap.asked();
@@ -130,7 +133,7 @@ fn text_comes_back(heap: Heap<'_>, arena: &Bump) -> Result<bool, AllocError> {
     Ok(is_same && matches!(back.place(arena), Ok(placed) if placed == word(3)))
 }
 
-// The same of a list.
+// Returns the same for a list.
 fn list_comes_back(heap: Heap<'_>, arena: &Bump) -> Result<bool, AllocError> {
     let list: Vec<u64, Heap<'_>> = Vec::from_slice(heap, &[7, 8, 9])?;
     let asked = heap.asked();
@@ -143,7 +146,7 @@ fn list_comes_back(heap: Heap<'_>, arena: &Bump) -> Result<bool, AllocError> {
     Ok(is_same && matches!(back.place(arena), Ok(placed) if placed == [7, 8, 9].as_slice()))
 }
 
-// The same of a single value.
+// Returns the same for a single value.
 fn value_comes_back(arena: &Bump) -> bool {
     arena.set_allocation_limit(Some(0));
     let Err(back) = Own(7u64).place(arena) else {
@@ -153,7 +156,7 @@ fn value_comes_back(arena: &Bump) -> bool {
     back == Own(7) && matches!(back.place(arena), Ok(placed) if *placed == 7)
 }
 
-// Whether each comes back from an arena of its own that makes no chunk.
+// Returns whether each owner is returned from an arena that can't allocate a chunk.
 fn come_back(alloc: Global, heap: Heap<'_>) -> Result<bool, AllocError> {
     let text = text_comes_back(heap, &Bump::new(alloc))?;
     let list = list_comes_back(heap, &Bump::new(alloc))?;

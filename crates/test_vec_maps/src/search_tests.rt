@@ -1,5 +1,6 @@
-//! At which places the three searches call their closure: exact lists up to eight items, and how often at every length up to a thousand. No
-//! clause excludes a call beside those that lead to the answer.
+//! The indices at which the three searches call their closure: exact lists for up to eight items,
+//! and the number of calls for lengths up to a thousand. No clause excludes calls that the result
+//! doesn't require.
 use bumpalo::Bump;
 use elsa_vec::stable::Own;
 use elsa_vec::vec::FrozenVec;
@@ -7,7 +8,7 @@ use std::alloc::{AllocError, Global};
 use std::cmp::Ordering;
 use std::test::Fail;
 
-// The numbers from 0 up.
+// The numbers from 0 up, each at itself as its index.
 type Numbers<'a> = FrozenVec<'a, Own<usize>>;
 
 #[derive(Clone, Copy, Debug, PartialEq, Eq)]
@@ -19,10 +20,11 @@ enum Way {
 
 const WAYS: [Way; 3] = [Way::ByOrder, Way::ByKey, Way::ByTest];
 
-// No place of a search.
+// No index of a search.
 const NO: usize = usize::MAX;
 
-// What is searched for: the place below which all are Less and from which all are Greater, but that it is Equal where that is so.
+// The target of a search: all items below the index `below` are less, and those from it on are
+// greater. If `is_equal`, the item at `below` is equal.
 #[derive(Clone, Copy, Debug)]
 struct Target {
     below: usize,
@@ -41,7 +43,8 @@ impl Target {
         }
     }
 
-    // What is compared with twice a number: the middle between two of them, or one of them.
+    // Returns the key of the target. It is compared with twice a number, so it is twice a number,
+    // or the number before that.
     fn key(&self) -> usize {
         let twice = self.below.wrapping_mul(2);
         if self.is_equal {
@@ -60,7 +63,7 @@ impl Target {
     }
 }
 
-// How often a closure was called, and at which places the first four and the last time.
+// The number of calls of a closure, and the indices of its first four calls and of the last.
 #[derive(Clone, Copy)]
 struct Calls {
     count: usize,
@@ -108,12 +111,13 @@ fn searched(
     }
 }
 
-// Whether there is such a search: a test is true or false, and no item is equal behind the last.
+// Returns whether there is a search with this target. The closure of a partition can't return
+// `Equal`, and there is no equal item after the last.
 fn is_search(way: Way, target: Target, count: usize) -> bool {
     !target.is_equal || way != Way::ByTest && target.below < count
 }
 
-// The places up to the first that is this one, it among them.
+// Returns the indices up to the first that is `last`, including that one.
 fn up_to(places: [usize; 4], last: usize) -> [usize; 4] {
     let mut kept = [NO; 4];
     for at in 0..4 {
@@ -125,7 +129,8 @@ fn up_to(places: [usize; 4], last: usize) -> [usize; 4] {
     kept
 }
 
-// Whether the search calls at these places, up to the one that is equal, and never again.
+// Returns whether the search calls its closure exactly at these indices, up to that of the equal
+// item.
 fn calls_at(items: &Numbers<'_>, way: Way, target: Target, places: [usize; 4]) -> bool {
     let mut calls = Calls::new();
     let answer = searched(items, way, target, &mut calls);
@@ -157,7 +162,8 @@ fn numbers(alloc: Global, arena: &Bump, count: usize) -> Result<Numbers<'_>, All
     Ok(made)
 }
 
-// The places at which upstream's halving calls, at each number of items up to eight, where all below a place are Less.
+// Checks the indices at which upstream's halving calls the closure, for each number of items up to
+// eight and each target.
 #[test]
 fn searches_of_eight_items_call_where_they_halve(rt: HostRuntime) -> Result<(), Fail> {
     let arena = Bump::new(rt.alloc());
@@ -217,7 +223,7 @@ fn searches_of_eight_items_call_where_they_halve(rt: HostRuntime) -> Result<(), 
     Ok(())
 }
 
-// The least number of binary digits that the count needs.
+// Returns the number of binary digits of the count.
 fn digits(count: usize) -> usize {
     let (mut power, mut digits) = (1usize, 0usize);
     for _ in 0..20 {
@@ -230,7 +236,7 @@ fn digits(count: usize) -> usize {
     digits
 }
 
-// Whether the search calls at most so often, and last where the item is equal.
+// Returns whether the search calls its closure at most `most` times, and last at the equal item.
 fn calls_few(items: &Numbers<'_>, way: Way, target: Target, most: usize) -> bool {
     let mut calls = Calls::new();
     let answer = searched(items, way, target, &mut calls);
@@ -238,7 +244,7 @@ fn calls_few(items: &Numbers<'_>, way: Way, target: Target, most: usize) -> bool
     answer == target.answer() && is_last && calls.count <= most
 }
 
-// Whether each search for each place of these items does so.
+// Returns whether this is true of each search for each target in these items.
 fn all_call_few(items: &Numbers<'_>) -> bool {
     let (count, most) = (items.len(), digits(items.len()));
     for below in 0..count.saturating_add(1) {
@@ -254,7 +260,8 @@ fn all_call_few(items: &Numbers<'_>) -> bool {
     true
 }
 
-// Whether a list of so many items is tried: each short one, and those round which the number of digits changes.
+// Returns whether a list of this length is tested: short ones, those next to a change of the number
+// of digits, and 1000.
 fn is_tried(count: usize) -> bool {
     let is_edge = digits(count.saturating_sub(1)) != digits(count.saturating_add(1));
     count <= 64 || is_edge || count == 1000
@@ -271,7 +278,8 @@ fn searches_call_at_most_once_a_binary_digit(rt: HostRuntime) -> Result<(), Fail
     Ok(())
 }
 
-// What a key closure that contradicts itself answers in turn, and the last one from then on; it is compared with 1.
+// Searches by a closure that contradicts itself: it returns the first of `keys`, and from the
+// second call on the last. They are compared with 1.
 fn searched_by_turns(
     items: &Numbers<'_>,
     keys: [usize; 2],

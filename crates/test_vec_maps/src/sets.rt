@@ -1,4 +1,5 @@
-//! Plain sets: worked cases, walks, callers that the contracts alone prove, and each request for memory refused in turn.
+//! Plain sets: examples, walks, callers that are proved from the contracts alone, and each request
+//! for memory denied in turn.
 ghost use Rattle.std.specs.Prelude.{◌≡◌, ◌<◌, ◌≤◌, IfOk, IsOk, true};
 ghost use Rattle.std.specs.HashSet.{spare};
 ghost use Rattle.std.specs.BTreeSet.{contains};
@@ -18,19 +19,19 @@ type Hashed<'a> = FrozenSet<'a, &'a str, BuildHasherDefault<FoldHasher>, Heap<'a
 
 type Ordered<'a> = FrozenBTreeSet<'a, &'a str, Heap<'a>>;
 
-/// Numbers as they are inserted, and whether each is new.
+/// Numbers in the order of their insertion, and whether each is new.
 const NUMBERS: [(u64, bool); 4] = [(3, true), (1, true), (2, true), (1, false)];
 
 // ---- callers
 
-// A text that a set keeps, as it was given.
+// Inserts a text, and returns the stored one, which is equal to it.
 fn kept<'a>(names: &mut FrozenSet<'a, &'a str>, name: &str) -> Result<&'a str, AllocError>
     ensures { IfOk result (λ kept. kept.now ≡ name.now) }
 {
     names.insert_text(name)
 }
 
-// The second of two numbers is in the set, whichever was there.
+// Inserts two numbers. The second is then in the set, whatever the set had before.
 fn both_kept(numbers: &mut FrozenBTreeSet<'_, u64>, one: u64, other: u64) -> Result<(), AllocError>
     ensures { IfOk result (λ _. contains nat_cmp numbers.new other ≡ true) }
 {
@@ -39,7 +40,7 @@ fn both_kept(numbers: &mut FrozenBTreeSet<'_, u64>, one: u64, other: u64) -> Res
     Ok(())
 }
 
-// An insertion for which there is room isn't refused.
+// Inserts a number for which there is capacity, and returns `true`: the insertion doesn't fail.
 fn kept_in_room(numbers: &mut FrozenSet<'_, u64>, number: u64) -> bool
     requires { 0 < spare numbers.old }
     ensures { result ≡ true }
@@ -47,9 +48,9 @@ fn kept_in_room(numbers: &mut FrozenSet<'_, u64>, number: u64) -> bool
     numbers.insert(number).is_ok()
 }
 
-// ---- worked cases
+// ---- examples
 
-// Whether each number was new where it is to be, and how many there are.
+// Makes a set of the numbers, and returns it with whether each insertion returned the right flag.
 fn hashed<'a>(alloc: Global, arena: &'a Bump) -> Result<(FrozenSet<'a, u64>, bool), AllocError> {
     let mut numbers = FrozenSet::new(alloc, arena);
     let mut good = numbers.is_empty();
@@ -91,7 +92,7 @@ fn an_ordered_set_says_of_each_number_whether_it_is_new(rt: HostRuntime) -> Resu
     Ok(())
 }
 
-// The numbers of a hashed set, added by `for` and by `iter`.
+// Returns the sums of the numbers of a hashed set, by `for` and by `iter`.
 fn sums(numbers: &FrozenSet<'_, u64>) -> (u64, u64) {
     let mut by_for = 0u64;
     for number in numbers {
@@ -104,7 +105,8 @@ fn sums(numbers: &FrozenSet<'_, u64>) -> (u64, u64) {
     (by_for, by_iter)
 }
 
-// The numbers of an ordered set as the digits of numbers: by `for`, by `iter`, and from the back.
+// Returns the numbers of an ordered set as the digits of numbers: by `for`, by `iter`, and from the
+// back.
 fn digits(numbers: &FrozenBTreeSet<'_, u64>) -> (u64, u64, u64) {
     let mut by_for = 0u64;
     for number in numbers {
@@ -131,7 +133,7 @@ fn a_set_is_walked_once_for_each_number(rt: HostRuntime) -> Result<(), Fail> {
     Ok(())
 }
 
-// How many numbers are from `low` on and below `high`.
+// Returns the number of values from `low` on and below `high`.
 fn within(numbers: &FrozenBTreeSet<'_, u64>, low: u64, high: u64) -> usize {
     let mut count = 0usize;
     if high < low {
@@ -144,7 +146,7 @@ fn within(numbers: &FrozenBTreeSet<'_, u64>, low: u64, high: u64) -> usize {
 }
 
 #[test]
-fn the_range_and_the_ends_of_an_ordered_set(rt: HostRuntime) -> Result<(), Fail> {
+fn a_range_or_an_end_of_an_ordered_set_was_wrong(rt: HostRuntime) -> Result<(), Fail> {
     let arena = Bump::new(rt.alloc());
     let (numbers, _) = ordered(rt.alloc(), &arena)?;
     let empty: FrozenBTreeSet<'_, u64> = FrozenBTreeSet::new(rt.alloc(), &arena);
@@ -158,7 +160,8 @@ fn the_range_and_the_ends_of_an_ordered_set(rt: HostRuntime) -> Result<(), Fail>
 
 // ---- collected, cloned, compared, printed
 
-// Whether hashed sets that were collected in any order are equal, and a clone is independent.
+// Returns whether hashed sets that were collected in different orders are equal, and a clone is
+// independent.
 fn hashed_compare(alloc: Global, arena: &Bump) -> Result<bool, AllocError> {
     let hasher = BuildHasherDefault::new();
     let one: FrozenSet<'_, u64> = FrozenSet::from_iter(alloc, arena, hasher, [3, 1, 3, 2])?;
@@ -186,7 +189,7 @@ fn collected_and_cloned_sets_are_equal_by_their_values(rt: HostRuntime) -> Resul
     Ok(())
 }
 
-// What sets print, and std's set that is taken out.
+// Returns whether sets print as std's do, and the std set that is taken out is right.
 fn sets_print(alloc: Global, arena: &Bump) -> Result<bool, Fail> {
     let mut names: FrozenSet<'_, &str> = FrozenSet::new(alloc, arena);
     let none = format!(in alloc; "{names:?}")?;
@@ -207,7 +210,8 @@ fn a_set_prints_as_its_values(rt: HostRuntime) -> Result<(), Fail> {
 
 // ---- texts
 
-// Whether stored texts are read after their sets' end, and the texts that were given ended with their calls.
+// Returns whether stored texts are read after the end of their sets and of the texts that were
+// inserted.
 fn texts_outlast(alloc: Global, arena: &Bump) -> Result<bool, AllocError> {
     let (mut names, mut sorted) = (
         FrozenSet::new(alloc, arena),
@@ -217,10 +221,10 @@ fn texts_outlast(alloc: Global, arena: &Bump) -> Result<bool, AllocError> {
     let first = kept(&mut names, text.as_str())?;
     let second = sorted.insert_text(text.as_str())?;
     drop(text);
-    let is_asked = names.get_text("lonely") == Some(first) && sorted.get_text("lone").is_none();
-    let is_there = names.contains_text("lonely") && !names.contains_text("");
-    let is_in_order = sorted.contains_text("lonely") && !sorted.contains_text("");
-    let is_absent = names.get_text("lone").is_none() && sorted.get_text("lonely") == Some(second);
+    let is_asked = names.get("lonely") == Some(first) && sorted.get("lone").is_none();
+    let is_there = names.contains("lonely") && !names.contains("");
+    let is_in_order = sorted.contains("lonely") && !sorted.contains("");
+    let is_absent = names.get("lone").is_none() && sorted.get("lonely") == Some(second);
     drop(names);
     drop(sorted);
     Ok(is_asked && is_there && is_in_order && is_absent && first == "lonely" && second == "lonely")
@@ -233,9 +237,10 @@ fn a_stored_text_outlasts_its_set(rt: HostRuntime) -> Result<(), Fail> {
     Ok(())
 }
 
-// ---- room and refusals
+// ---- capacity and allocation failures
 
-// How often a set with room for sixteen asks for memory: before and by sixteen insertions.
+// Returns the number of requests of a set with capacity for sixteen, before and after sixteen
+// insertions.
 fn asks_in_room(heap: Heap<'_>, arena: &Bump) -> Result<(u64, u64), AllocError> {
     let mut numbers: FrozenSet<'_, u64, BuildHasherDefault<FoldHasher>, Heap<'_>> =
         FrozenSet::with_capacity(heap, arena, 8)?;
@@ -258,7 +263,7 @@ fn insertions_into_room_ask_for_no_memory(rt: HostRuntime) -> Result<(), Fail> {
     Ok(())
 }
 
-// Whether a text that owns its memory comes back from a set that is refused room for it.
+// Returns whether a text that owns its memory is returned by a set that can't allocate room for it.
 fn value_comes_back(alloc: Global, heap: Heap<'_>, arena: &Bump) -> Result<bool, AllocError> {
     let mut hashed: FrozenSet<'_, String, BuildHasherDefault<FoldHasher>, Heap<'_>> =
         FrozenSet::with_hasher(heap, arena, BuildHasherDefault::new());
@@ -282,7 +287,7 @@ fn a_refused_value_comes_back(rt: HostRuntime) -> Result<(), Fail> {
     Ok(())
 }
 
-// A set of texts, as the script calls it.
+// A set of texts with the calls of the script.
 trait Texts<'a>: Drop {
     fn give(&mut self, text: &str) -> Result<&'a str, AllocError>;
 
@@ -297,7 +302,7 @@ impl<'a> Texts<'a> for Hashed<'a> {
     }
 
     fn has(&self, text: &str) -> bool {
-        self.contains_text(text)
+        self.contains(text)
     }
 
     fn count(&self) -> usize {
@@ -311,7 +316,7 @@ impl<'a> Texts<'a> for Ordered<'a> {
     }
 
     fn has(&self, text: &str) -> bool {
-        self.contains_text(text)
+        self.contains(text)
     }
 
     fn count(&self) -> usize {
@@ -335,7 +340,8 @@ impl<'a, M: Texts<'a>> Drop for Given<'a, M> {
     }
 }
 
-// Of two calls the first gives a new word, the second the first word again, which takes no memory.
+// Of each two calls, the first inserts a new word, and the second the first word again, which
+// allocates nothing.
 impl<'a, M: Texts<'a>> Script for Given<'a, M> {
     fn call(&mut self, number: usize) -> Result<bool, AllocError> {
         if number % 2 == 0 {
@@ -378,7 +384,7 @@ impl Family for Sets {
         CALLS
     }
 
-    // A new word has its text in the arena.
+    // A new word is copied into the arena.
     fn placings(&self, number: usize) -> usize {
         if number % 2 == 0 { 1 } else { 0 }
     }

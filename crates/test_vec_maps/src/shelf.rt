@@ -1,4 +1,5 @@
-//! Maps whose keys are copied texts and whose values own memory: callers that the contracts alone prove, and runs that count what is dropped.
+//! Maps whose keys are copied texts and whose values own memory: callers that are proved from the
+//! contracts alone, and runs that count the drops.
 ghost use Rattle.std.specs.Prelude.{◌≡◌, IfOk, Some};
 ghost use Rattle.std.specs.Ordering.{eq_by_cmp};
 ghost use Rattle.elsa_maps.specs.FirstWins.{value_at};
@@ -12,17 +13,17 @@ use std::sync::Arc;
 use std::test::Fail;
 use test_alloc::Budget;
 
-/// What was read of a file. It owns its text.
+/// The result of parsing a file. It owns its text.
 #[derive(Drop)]
 struct Parsed {
     text: String,
     lines: usize,
 }
 
-// Upstream's map from strings to boxes, whose keys need no string.
+// Upstream's map from strings to boxes. Its keys need no `String`.
 type Files<'a> = FrozenMapIn<Shelf<'a, Box<Parsed>>, &'a str, Box<Parsed>>;
 
-// The value of a path, which had this one put in its place.
+// Inserts a path with this file, and returns the file that the path has.
 fn kept<'a>(
     files: &mut Files<'a>,
     path: &str,
@@ -33,10 +34,10 @@ fn kept<'a>(
     files.insert_text(path, parsed)
 }
 
-// The same in the order of the paths.
+// The same map in the order of the paths.
 type Sorted<'a> = FrozenBTreeMapIn<Shelf<'a, Box<Parsed>>, &'a str, Box<Parsed>>;
 
-// The value of a path in order, which had this one put in its place.
+// Inserts a path with this file in order, and returns the file that the path has.
 fn kept_in_order<'a>(
     files: &mut Sorted<'a>,
     path: &str,
@@ -48,7 +49,7 @@ fn kept_in_order<'a>(
     files.insert_text(path, parsed)
 }
 
-// A boxed file of so many lines.
+// Makes a boxed file with this number of lines.
 fn boxed_file(alloc: Global, text: &str, lines: usize) -> Result<Box<Parsed>, AllocError> {
     let text = String::from_str(alloc, text)?;
     match Box::new(alloc, Parsed { text, lines }) {
@@ -57,7 +58,7 @@ fn boxed_file(alloc: Global, text: &str, lines: usize) -> Result<Box<Parsed>, Al
     }
 }
 
-// Whether a path keeps its first file, whose borrow is read after the map's end.
+// Returns whether a path keeps its first file, whose borrow is read after the map's end.
 fn first_file_stays(alloc: Global) -> Result<bool, AllocError> {
     let (texts, values) = (Bump::new(alloc), TypedArena::new(alloc)?);
     let shelf = Shelf {
@@ -68,7 +69,7 @@ fn first_file_stays(alloc: Global) -> Result<bool, AllocError> {
     let path = String::from_str(alloc, "a/b")?;
     let first = kept(&mut files, path.as_str(), boxed_file(alloc, "fox", 1)?)?;
     let second = kept(&mut files, "a/b", boxed_file(alloc, "dog", 2)?)?;
-    let is_found = files.get_text("a/b").is_some() && files.get_text("a").is_none();
+    let is_found = files.get("a/b").is_some() && files.get("a").is_none();
     let is_one = files.len() == 1 && values.len() == 1;
     drop(files);
     Ok(is_found && is_one && first.text.as_str() == "fox" && second.lines == 1)
@@ -80,7 +81,8 @@ fn a_text_keeps_the_first_value_that_owns_memory(rt: HostRuntime) -> Result<(), 
     Ok(())
 }
 
-// How many owners of one value there are: with three of four given ones kept, after the map's end, and after the shelf's.
+// Returns the number of owners of one value: with three of four inserted ones stored, after the
+// map's end, and after the shelf's.
 fn owners(alloc: Global) -> Result<(usize, usize, usize), AllocError> {
     let counted = Arc::new(alloc, 0_u64)?;
     let (texts, values) = (Bump::new(alloc), TypedArena::new(alloc)?);
@@ -107,7 +109,7 @@ fn a_value_under_a_text_is_dropped_once_with_its_arena(rt: HostRuntime) -> Resul
     Ok(())
 }
 
-// Whether each path in order keeps its first file, which is read after the map's end.
+// Returns whether each path in order keeps its first file, which is read after the map's end.
 fn first_file_stays_in_order(alloc: Global) -> Result<bool, AllocError> {
     let (texts, values) = (Bump::new(alloc), TypedArena::new(alloc)?);
     let shelf = Shelf {
@@ -138,7 +140,8 @@ fn a_text_in_order_keeps_the_first_value_that_owns_memory(rt: HostRuntime) -> Re
 // A shelf over a budget.
 type Tight<'a, T> = Shelf<'a, T, &'a Budget<Global>>;
 
-// How many owners of one value there are after an insertion in order that no arena has room for, and whether it was refused.
+// Inserts a value in order with denied memory. Returns whether the insertion failed, and the number
+// of owners of the value.
 fn owners_after_a_refusal(alloc: Global) -> Result<(bool, usize), AllocError> {
     let counted = Arc::new(alloc, 0_u64)?;
     let heap = Budget::new(alloc);
@@ -155,7 +158,8 @@ fn owners_after_a_refusal(alloc: Global) -> Result<(bool, usize), AllocError> {
     Ok((is_refused && map.is_empty(), Arc::strong_count(&counted)))
 }
 
-// Whether a value that the shelf has no room for comes back, and is placed once there is room.
+// Returns whether a value that the shelf has no room for is returned, and is stored once there is
+// room.
 fn value_comes_back(alloc: Global) -> Result<bool, AllocError> {
     let heap = Budget::new(alloc);
     let (texts, values) = (Bump::new(&heap), TypedArena::new(&heap)?);
@@ -172,7 +176,7 @@ fn value_comes_back(alloc: Global) -> Result<bool, AllocError> {
     Ok(is_same && matches!(back.place(shelf), Ok(kept) if kept.as_str() == "toad"))
 }
 
-// The same of a box.
+// Returns the same for a box.
 fn box_comes_back(alloc: Global) -> Result<bool, AllocError> {
     let heap = Budget::new(alloc);
     let (texts, values) = (Bump::new(&heap), TypedArena::new(&heap)?);

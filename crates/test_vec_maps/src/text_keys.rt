@@ -1,4 +1,5 @@
-//! Keys given as texts of any lifetime: a new one is copied into the arena, one that is there takes no memory.
+//! Keys that are inserted as texts of any lifetime: a new one is copied into the arena, and a
+//! present one allocates nothing.
 use bumpalo::Bump;
 use elsa_maps::map::{FrozenBTreeMap, FrozenMap};
 use elsa_vec::stable::Own;
@@ -14,7 +15,7 @@ type Hashed<'a> = FrozenMap<'a, &'a str, Own<u64>, BuildHasherDefault<FoldHasher
 
 type Ordered<'a> = FrozenBTreeMap<'a, &'a str, Own<u64>, Heap<'a>>;
 
-// A map of numbers, as the script calls it.
+// A map of numbers with the calls of the script.
 trait ByText<'a>: Drop {
     fn empty(heap: Heap<'a>, arena: &'a Bump) -> Self;
 
@@ -35,7 +36,7 @@ impl<'a> ByText<'a> for Hashed<'a> {
     }
 
     fn at(&self, key: &str) -> Option<u64> {
-        self.get_text(key).copied()
+        self.get(key).copied()
     }
 
     fn count(&self) -> usize {
@@ -53,7 +54,7 @@ impl<'a> ByText<'a> for Ordered<'a> {
     }
 
     fn at(&self, key: &str) -> Option<u64> {
-        self.get_text(key).copied()
+        self.get(key).copied()
     }
 
     fn count(&self) -> usize {
@@ -63,12 +64,13 @@ impl<'a> ByText<'a> for Ordered<'a> {
 
 const CALLS: usize = 32;
 
-// The calls before this number have given a number to so many words: each even call to a new one.
+// Returns the number of words that the calls before this number have inserted: each even call
+// inserts a new one.
 fn words_before(number: usize) -> usize {
     number.div_ceil(2)
 }
 
-// A text that ends with the call: the key can't be kept by its borrow.
+// Inserts a text that ends with the call, so the map can't store the text itself as the key.
 fn give_short<'a, M: ByText<'a>>(
     map: &mut M,
     heap: Heap<'a>,
@@ -93,7 +95,8 @@ impl<'a, M: ByText<'a>> Drop for Texts<'a, M> {
     }
 }
 
-// Of two calls the first gives a new word its place as its value; the second gives the first word another value, which it doesn't take.
+// Of each two calls, the first inserts a new word with its number as its value. The second inserts
+// the first word with another value, which is not stored.
 impl<'a, M: ByText<'a>> Script for Texts<'a, M> {
     fn call(&mut self, number: usize) -> Result<bool, AllocError> {
         if number % 2 == 0 {
@@ -122,7 +125,7 @@ impl<'a, M: ByText<'a>> Script for Texts<'a, M> {
     }
 }
 
-// The script over a map with numbers at text keys.
+// Runs the script on a map with text keys.
 fn goes<'a, M: ByText<'a>>(
     heap: Heap<'a>,
     arena: &'a Bump,
@@ -143,7 +146,7 @@ impl Family for Maps {
         CALLS
     }
 
-    // A new word has its text and its value in the arena.
+    // A new word and its value are stored in the arena.
     fn placings(&self, number: usize) -> usize {
         if number % 2 == 0 { 2 } else { 0 }
     }
@@ -168,7 +171,8 @@ fn a_refused_text_or_value_leaves_either_map_as_it_was(rt: HostRuntime) -> Resul
     Ok(())
 }
 
-// What a key that reads the same has after the arena is full, and whether an absent one is refused then.
+// Returns whether a present key is inserted again without memory and keeps its value, and the
+// insertion of an absent key then fails.
 fn asks_nothing<'a, M: ByText<'a>>(heap: Heap<'a>, arena: &'a Bump, mut map: M) -> bool {
     if map.give("a name", 7).is_err() {
         return false;
@@ -193,14 +197,15 @@ fn a_text_that_is_there_takes_no_memory(rt: HostRuntime) -> Result<(), Fail> {
     Ok(())
 }
 
-/// Whether maps with `String` keys are asked by a text that isn't one of their keys' own.
+/// Returns whether maps with `String` keys find an entry by a text that isn't one of their keys'
+/// own.
 fn strings_are_found(alloc: Global, arena: &Bump) -> Result<bool, AllocError> {
     let mut hashed: FrozenMap<'_, String, Own<u64>> = FrozenMap::new(alloc, arena);
     let mut ordered: FrozenBTreeMap<'_, String, Own<u64>> = FrozenBTreeMap::new(alloc, arena);
     hashed.insert(String::from_str(alloc, "a name")?, Own(7))?;
     ordered.insert(String::from_str(alloc, "a name")?, Own(8))?;
-    let there = hashed.get_text("a name") == Some(&7) && ordered.get_text("a name") == Some(&8);
-    Ok(there && hashed.get_text("a nam").is_none() && ordered.get_text("").is_none())
+    let there = hashed.get("a name") == Some(&7) && ordered.get("a name") == Some(&8);
+    Ok(there && hashed.get("a nam").is_none() && ordered.get("").is_none())
 }
 
 #[test]

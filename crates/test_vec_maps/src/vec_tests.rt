@@ -1,4 +1,5 @@
-//! What no clause says of the vector: worked rows, upstream's cases, and the places at which a search asks.
+//! Facts of the vector that no clause states: examples, upstream's cases, and the indices at which
+//! a search calls its closure.
 ghost use Rattle.std.specs.Prelude.{◌≡◌, ◌<◌, ℕ, IfOk, Some, false, length, ltb, slice_get, true};
 ghost use denote.Ref.{Bor};
 ghost use Rattle.std.specs.List.Sorted.{IsBinarySearchResult, IsPartitionPoint, IsPartitionedBy};
@@ -24,7 +25,7 @@ fn cow(cows: &FrozenVec<'_, Own<Moo>>, place: usize) -> Option<i32> {
 }
 
 #[test]
-fn copies_of_what_stands_there(rt: HostRuntime) -> Result<(), Fail> {
+fn an_item_was_not_copied_by_its_index(rt: HostRuntime) -> Result<(), Fail> {
     let arena = Bump::new(rt.alloc());
     let mut cows: FrozenVec<'_, Own<Moo>> = FrozenVec::new(rt.alloc(), &arena);
     let absent = cow(&cows, 1);
@@ -35,7 +36,7 @@ fn copies_of_what_stands_there(rt: HostRuntime) -> Result<(), Fail> {
     Ok(())
 }
 
-// The last of three by `[]`, and the first by a look without a test.
+// Returns the last of three items by `[]`, and the first by `get_unchecked`.
 fn by_place(cows: &FrozenVec<'_, Own<Moo>>) -> Option<(i32, i32)> {
     if cows.len() != 3 {
         return None;
@@ -43,7 +44,8 @@ fn by_place(cows: &FrozenVec<'_, Own<Moo>>) -> Option<(i32, i32)> {
     Some((cows[2].0, cows.get_unchecked(0).0))
 }
 
-// The first of 1001 items, read before it is answered, when the vector has ended.
+// Returns the borrow of the first of 1001 items after the vector's end, and whether it was right
+// before.
 fn first_of_many(alloc: Global, arena: &Bump) -> Result<(&str, bool), AllocError> {
     let mut names: Names<'_> = FrozenVec::new(alloc, arena);
     let first = names.push_get(String::from_str(alloc, "a")?)?;
@@ -71,7 +73,7 @@ struct Thing<'a> {
 
 type Things<'a> = FrozenVec<'a, Own<Thing<'a>>>;
 
-// Adds a thing whose friends are all that were added before it.
+// Adds a thing whose friends are the things in `before`.
 fn befriend<'a>(
     arena: &'a Bump,
     things: &mut Things<'a>,
@@ -82,7 +84,8 @@ fn befriend<'a>(
     Ok(*things.push_get(Own(Thing { name, friends }))?)
 }
 
-// Whether the things have these names, and each as many friends as stand before it.
+// Returns whether the things have these names, and each has the number of friends that is its
+// index.
 fn are_named(things: &Things<'_>, names: &[&str]) -> bool {
     let mut place = 0usize;
     for thing in things {
@@ -94,7 +97,7 @@ fn are_named(things: &Things<'_>, names: &[&str]) -> bool {
     place == names.len()
 }
 
-// The name of the first friend of the second thing.
+// Returns the name of the first friend of the second thing.
 fn a_friend<'a>(things: &Things<'a>) -> Option<&'a str> {
     if things.len() < 2 {
         return None;
@@ -103,7 +106,7 @@ fn a_friend<'a>(things: &Things<'a>) -> Option<&'a str> {
 }
 
 #[test]
-fn things_that_befriend_each_other(rt: HostRuntime) -> Result<(), Fail> {
+fn a_thing_lost_a_friend(rt: HostRuntime) -> Result<(), Fail> {
     let arena = Bump::new(rt.alloc());
     let mut things: Things<'_> = FrozenVec::new(rt.alloc(), &arena);
     let lonely = befriend(&arena, &mut things, &[], "lonely")?;
@@ -120,7 +123,7 @@ fn things_that_befriend_each_other(rt: HostRuntime) -> Result<(), Fail> {
 
 type Texts<'a> = FrozenVec<'a, &'a str>;
 
-// A vector of these texts and a clone of it, each with one more text of its own.
+// Makes a vector of these texts and a clone of it, each with another text of its own.
 fn parted_pair<'a>(
     alloc: Global,
     arena: &'a Bump,
@@ -132,7 +135,8 @@ fn parted_pair<'a>(
     Ok((one, other, equal))
 }
 
-// Taken apart and made again, and once more after the inner vector was cleared.
+// Takes the texts apart and makes them again, and clears the inner vector. Returns the number of
+// texts, the last of five, and whether the results were right.
 fn taken_apart<'a>(arena: &'a Bump, texts: Texts<'a>) -> (usize, Option<&'a str>, bool) {
     let inner = texts.into_vec();
     let between = inner.get(4).copied();
@@ -143,7 +147,7 @@ fn taken_apart<'a>(arena: &'a Bump, texts: Texts<'a>) -> (usize, Option<&'a str>
 }
 
 #[test]
-fn collected_cloned_and_taken_apart(rt: HostRuntime) -> Result<(), Fail> {
+fn a_vector_changed_when_it_was_cloned_or_taken_apart(rt: HostRuntime) -> Result<(), Fail> {
     let arena = Bump::new(rt.alloc());
     let (one, other, equal) = parted_pair(rt.alloc(), &arena, ["a", "b", "c", "d"])?;
     assert!(rt; equal && one != other && other != one);
@@ -153,7 +157,7 @@ fn collected_cloned_and_taken_apart(rt: HostRuntime) -> Result<(), Fail> {
 
 // ---- walks
 
-// Whether an iterator gives these texts, collected and counted.
+// Returns whether an iterator returns these texts, collected and counted.
 fn walks(alloc: Global, texts: &Texts<'_>, want: &[&str]) -> Result<bool, AllocError> {
     let all = walked(alloc, texts)?;
     Ok(all.as_slice() == want && texts.iter().count() == want.len())
@@ -172,7 +176,7 @@ fn a_walk_gives_each_item_once(rt: HostRuntime) -> Result<(), Fail> {
 }
 
 #[test]
-fn a_cursor_amid_pushes(rt: HostRuntime) -> Result<(), Fail> {
+fn a_cursor_missed_an_item_pushed_during_its_walk(rt: HostRuntime) -> Result<(), Fail> {
     let arena = Bump::new(rt.alloc());
     let mut names: Texts<'_> = FrozenVec::new(rt.alloc(), &arena);
     let mut cursor = Cursor::new();
@@ -186,7 +190,7 @@ fn a_cursor_amid_pushes(rt: HostRuntime) -> Result<(), Fail> {
 
 // ---- searches
 
-// Whether each text is found as it stands beside it.
+// Returns whether the search for each text has the result that is next to it.
 fn finds<'a>(texts: &Texts<'a>, rows: &[(&'a str, Result<usize, usize>)]) -> bool {
     for row in rows {
         if texts.binary_search(row.0) != row.1 {
@@ -196,7 +200,7 @@ fn finds<'a>(texts: &Texts<'a>, rows: &[(&'a str, Result<usize, usize>)]) -> boo
     true
 }
 
-// The place of a text of this length, or where it would go.
+// Returns the index of a text of this length, or the index at which it would be inserted.
 fn of_length(texts: &Texts<'_>, wanted: usize) -> Result<usize, usize>
     ensures place { IsBinarySearchResult (λ text. nat_cmp (length text.now) wanted)
         texts.now result }
@@ -205,7 +209,8 @@ fn of_length(texts: &Texts<'_>, wanted: usize) -> Result<usize, usize>
     texts.binary_search_by_key(&wanted, |text| text.len())
 }
 
-// The place of a number whose double is wanted, by a closure that takes numbers below 100 alone.
+// Returns the index of a number whose double is `wanted`, by a closure that requires numbers below
+// 100.
 fn of_half(items: &FrozenVec<'_, Own<u8>>, wanted: u8) -> Result<usize, usize>
     requires { (place : ℕ) (item : Bor ℕ) → slice_get items.now place ≡ Some item → item.now < 100 }
     ensures { IfOk result (λ place. place < length items.now) }
@@ -217,7 +222,7 @@ fn of_half(items: &FrozenVec<'_, Own<u8>>, wanted: u8) -> Result<usize, usize>
     )
 }
 
-// A search of one number, and the whole vector.
+// Returns whether a search in a vector of one number is right, and its slice is.
 fn half_of_one(alloc: Global) -> Result<bool, AllocError> {
     let arena = Bump::new(alloc);
     let mut items: FrozenVec<'_, Own<u8>> = FrozenVec::new(alloc, &arena);
@@ -227,12 +232,12 @@ fn half_of_one(alloc: Global) -> Result<bool, AllocError> {
 }
 
 #[test]
-fn a_search_by_a_closure_that_takes_the_items_alone(rt: HostRuntime) -> Result<(), Fail> {
+fn a_search_by_a_closure_for_the_items_only_missed_its_target(rt: HostRuntime) -> Result<(), Fail> {
     assert!(rt; half_of_one(rt.alloc())?);
     Ok(())
 }
 
-// Whether each length is found as it stands beside it.
+// Returns whether the search for each length has the result that is next to it.
 fn finds_by_length(texts: &Texts<'_>, rows: &[(usize, Result<usize, usize>)]) -> bool {
     for row in rows {
         if of_length(texts, row.0) != row.1 {
@@ -242,7 +247,7 @@ fn finds_by_length(texts: &Texts<'_>, rows: &[(usize, Result<usize, usize>)]) ->
     true
 }
 
-// Where the texts shorter than this end.
+// Returns the index at which the texts shorter than `limit` end.
 fn shorter(texts: &Texts<'_>, limit: usize) -> usize
     ensures { IsPartitionedBy (λ text. ltb (length text.now) limit) texts.now →
         IsPartitionPoint (λ text. ltb (length text.now) limit ≡ true)
@@ -252,7 +257,7 @@ fn shorter(texts: &Texts<'_>, limit: usize) -> usize
 }
 
 #[test]
-fn searches_of_sorted_texts(rt: HostRuntime) -> Result<(), Fail> {
+fn a_search_of_sorted_texts_missed_its_target(rt: HostRuntime) -> Result<(), Fail> {
     let arena = Bump::new(rt.alloc());
     let texts: Texts<'_> = FrozenVec::from_iter(
         rt.alloc(),
@@ -277,7 +282,7 @@ fn searches_of_sorted_texts(rt: HostRuntime) -> Result<(), Fail> {
 
 type Numbers<'a> = FrozenVec<'a, Own<usize>>;
 
-// The numbers from 0 up.
+// Makes a vector of the numbers below `count`.
 fn numbers(alloc: Global, arena: &Bump, count: usize) -> Result<Numbers<'_>, AllocError> {
     let mut made = FrozenVec::new(alloc, arena);
     for number in 0..count {
@@ -286,10 +291,10 @@ fn numbers(alloc: Global, arena: &Bump, count: usize) -> Result<Numbers<'_>, All
     Ok(made)
 }
 
-// No place of a search.
+// No index of a search.
 const NO: usize = usize::MAX;
 
-// Whether the noted places are these, up to the first that is none.
+// Returns whether these are the noted indices, of which there are at most four.
 fn are_noted(places: &Vec<usize>, calls: [usize; 4]) -> bool {
     for at in 0..4 {
         if places.get(at).copied().unwrap_or(NO) != calls[at] {
@@ -299,7 +304,8 @@ fn are_noted(places: &Vec<usize>, calls: [usize; 4]) -> bool {
     places.len() <= 4
 }
 
-// A search by a closure that gives these answers in turn, and the last one from then on, and notes where it was called.
+// Searches by a closure that notes the index of each call. It returns the first of `answers`, and
+// from the second call on the last.
 fn searched(
     items: &Numbers<'_>,
     answers: [Ordering; 2],
@@ -314,7 +320,8 @@ fn searched(
     })
 }
 
-// Whether a search of so many items with these answers calls at these places and answers this.
+// Returns whether such a search of `count` items calls the closure at these indices and has this
+// result.
 fn calls_at(
     alloc: Global,
     count: usize,
@@ -329,7 +336,7 @@ fn calls_at(
 }
 
 #[test]
-fn the_calls_of_a_search(rt: HostRuntime) -> Result<(), Fail> {
+fn a_search_called_its_closure_at_other_indices(rt: HostRuntime) -> Result<(), Fail> {
     use std::cmp::Ordering::{Equal, Greater, Less};
     for (count, answers, calls, answer) in [
         (8, [Less, Less], [4, 6, 7, NO], Err(8)),
@@ -348,7 +355,8 @@ fn the_calls_of_a_search(rt: HostRuntime) -> Result<(), Fail> {
     Ok(())
 }
 
-// The same of a partition, with three answers.
+// Partitions by a closure that notes the index of each call and returns three results in turn, the
+// last one from then on.
 fn parted(items: &Numbers<'_>, answers: [bool; 3], places: &mut Vec<usize>) -> usize {
     let [mut answer, mut next, last] = answers;
     items.partition_point(|place| {
@@ -374,7 +382,7 @@ fn parts_at(
 }
 
 #[test]
-fn the_calls_of_a_partition(rt: HostRuntime) -> Result<(), Fail> {
+fn a_partition_called_its_closure_at_other_indices(rt: HostRuntime) -> Result<(), Fail> {
     for (count, answers, calls, answer) in [
         (7, [true, true, true], [3, 5, 6, NO], 7),
         (4, [false, true, true], [2, 1, NO, NO], 2),
@@ -394,7 +402,7 @@ fn finds_one_and_not_three(items: &FrozenVec<'_, Own<u32>>) -> bool {
 }
 
 #[test]
-fn searches_of_unsorted_numbers(rt: HostRuntime) -> Result<(), Fail> {
+fn a_search_of_unsorted_numbers_had_another_result(rt: HostRuntime) -> Result<(), Fail> {
     let arena = Bump::new(rt.alloc());
     let mut items: FrozenVec<'_, Own<u32>> = FrozenVec::new(rt.alloc(), &arena);
     for number in [3, 1, 2] {

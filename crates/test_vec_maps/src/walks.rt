@@ -1,4 +1,4 @@
-//! Walks over the maps, and what a vector gains by an iterator.
+//! Walks over the maps, and the items that `extend` adds to a vector.
 use bumpalo::Bump;
 use elsa_maps::map::{FrozenBTreeMap, FrozenMap};
 use elsa_vec::stable::Own;
@@ -9,7 +9,7 @@ use test_alloc::Budget;
 
 type Ordered<'a> = FrozenBTreeMap<'a, u64, &'a str>;
 
-/// Keys and values as they are inserted: the second value of the key 1 is dropped.
+/// Keys and values in the order of their insertion. The second value of the key 1 is dropped.
 const PAIRS: [(u64, &str); 4] = [(3, "c"), (1, "a"), (2, "b"), (1, "z")];
 
 fn ordered<'a>(alloc: Global, arena: &'a Bump) -> Result<Ordered<'a>, AllocError> {
@@ -20,7 +20,8 @@ fn ordered<'a>(alloc: Global, arena: &'a Bump) -> Result<Ordered<'a>, AllocError
     Ok(map)
 }
 
-/// The keys in the order of the walk, as the digits of a number, from the front and from the back.
+/// Returns the keys in the order of the walk, as the digits of a number, from the front and from
+/// the back.
 fn digits<'a>(map: &Ordered<'a>) -> (u64, u64) {
     let mut front = 0u64;
     for (key, _value) in map.iter() {
@@ -41,7 +42,7 @@ fn an_ordered_map_is_walked_in_the_order_of_its_keys(rt: HostRuntime) -> Result<
     Ok(())
 }
 
-/// The number of keys from `low` on and below `high`.
+/// Returns the number of keys from `low` on and below `high`.
 fn within<'a>(map: &Ordered<'a>, low: u64, high: u64) -> usize {
     let mut count = 0usize;
     if high < low {
@@ -64,7 +65,7 @@ fn a_range_has_the_keys_from_its_start_and_below_its_end(rt: HostRuntime) -> Res
 }
 
 #[test]
-fn the_first_and_the_last_entry_of_an_ordered_map(rt: HostRuntime) -> Result<(), Fail> {
+fn an_end_of_an_ordered_map_was_wrong(rt: HostRuntime) -> Result<(), Fail> {
     let arena = Bump::new(rt.alloc());
     let map = ordered(rt.alloc(), &arena)?;
     let empty: Ordered<'_> = FrozenBTreeMap::new(rt.alloc(), &arena);
@@ -73,7 +74,7 @@ fn the_first_and_the_last_entry_of_an_ordered_map(rt: HostRuntime) -> Result<(),
     Ok(())
 }
 
-/// The sums of the keys and of the lengths of the values, by the three walks.
+/// Returns the sums of the keys and of the lengths of the values, by the three walks.
 fn sums<'a>(map: &FrozenMap<'a, u64, &'a str>) -> (u64, u64, u64) {
     let mut pairs = 0u64;
     for (key, value) in map.iter() {
@@ -102,7 +103,7 @@ fn a_hashed_map_is_walked_once_for_each_key(rt: HostRuntime) -> Result<(), Fail>
     Ok(())
 }
 
-/// The keys in the order of `for` over an ordered map itself, as the digits of a number.
+/// Returns the keys in the order of `for` over an ordered map itself, as the digits of a number.
 fn digits_by_for<'a>(map: &Ordered<'a>) -> u64 {
     let mut digits = 0u64;
     for (key, _value) in map {
@@ -111,7 +112,7 @@ fn digits_by_for<'a>(map: &Ordered<'a>) -> u64 {
     digits
 }
 
-/// The sum of the keys and of the lengths of the values, by `for` over a hashed map itself.
+/// Returns the sum of the keys and of the lengths of the values, by `for` over a hashed map itself.
 fn sum_by_for<'a>(map: &FrozenMap<'a, u64, &'a str>) -> u64 {
     let mut sum = 0u64;
     for (key, value) in map {
@@ -143,7 +144,8 @@ fn an_extended_vector_has_its_items_and_then_the_iterator_s(rt: HostRuntime) -> 
     Ok(())
 }
 
-/// The numbers in the order of a walk from the back, and of one that takes from the back and the front by turns, as the digits of a number.
+/// Returns the numbers in the order of a walk from the back, and of one that takes from the back
+/// and the front in turn, as the digits of a number.
 fn from_the_back<'a>(numbers: &FrozenVec<'a, Own<u64>>) -> (u64, u64) {
     let mut back = 0u64;
     for number in numbers.iter().rev() {
@@ -173,7 +175,8 @@ fn a_vector_is_walked_from_the_back_and_from_both_ends(rt: HostRuntime) -> Resul
 
 const NUMBERS: [Own<u64>; 6] = [Own(1), Own(2), Own(3), Own(4), Own(5), Own(6)];
 
-/// Extends a vector of one item whose table may grow once: whether that failed, and how many items it has then, and after one more push.
+/// Extends a vector of one item, with one denied request. Returns whether `extend` failed, and the
+/// number of items after it and after another push.
 fn extended(alloc: Global, heap: &Budget<Global>) -> (bool, usize, usize) {
     let arena = Bump::new(alloc);
     let mut numbers: FrozenVec<'_, Own<u64>, &Budget<Global>> = FrozenVec::new(heap, &arena);
@@ -185,7 +188,8 @@ fn extended(alloc: Global, heap: &Budget<Global>) -> (bool, usize, usize) {
     (ended.is_err(), kept, numbers.len())
 }
 
-/// An allocation that fails while a vector is extended leaves the vector as it was, and it goes on.
+/// Checks that an allocation failure in `extend` leaves the vector unchanged, and the next push
+/// succeeds.
 #[test]
 fn a_refused_extension_leaves_the_vector_as_it_was(rt: HostRuntime) -> Result<(), Fail> {
     let heap = Budget::new(rt.alloc());

@@ -1,4 +1,4 @@
--- Lines, tails and answers, as more bytes are read.
+-- The lines, the tail and the replies, as more bytes are read.
 use Rattle.std.proofs.Common.{◌≡◌, ◌≢◌, ℕ, ◌<◌, Bool, true, false, List, [], ◌∷◌, ◌++◌, length, codes, refl, append_assoc, arith, sym, ap, subst, ◌∙◌, inl, inr}
 use Rattle.std.proofs.KnownBytes.{Appends-nil}
 use Rattle.std.proofs.lemmas.Bool.{cases_eq}
@@ -22,19 +22,19 @@ answers_append names names' names'' [] (y ∷ xs) l x p q = absurd p
 answers_append names names' names'' (k ∷ ls) [] l x p q = absurd p
 answers_append names names' names'' (k ∷ ls) (y ∷ xs) l x p q = (p.0, p.1, answers_append p.0 names' names'' ls xs l x p.2 q)
 
--- one more line and its answer
+-- Another line and its reply are appended.
 answered_more : (lines names names' : List (List ℕ)) (written line answer : List ℕ)
     → IsAnsweredTo names lines written → AnswersLine names line answer names' → IsAnsweredTo names' (lines ++ line ∷ []) (written ++ (answer ++ 10 ∷ []))
 answered_more lines names names' written line answer a next =
     (a.0 ++ answer ∷ [], answers_append [] names names' lines a.0 line answer a.1 next, ap (λ t. t ++ (answer ++ 10 ∷ [])) a.2 ∙ sym (ended_append a.0 answer))
 
--- the answer to the line that has begun
+-- The reply to the line that had begun.
 finished_answers : (names names' : List (List ℕ)) (line end answer tail line' : List ℕ) (skips skips' : Bool)
     → IsFinished names line skips end answer names' line' skips' → IsSoFar line skips tail → AnswersLine names (tail ++ end) answer names'
 finished_answers names names' line end answer tail line' false skips' f s = subst (λ t. AnswersLine names (t ++ end) answer names') (s.kept refl) (f.kept refl)
 finished_answers names names' line end answer tail line' true skips' f s = inr (f.skipped refl)
 
--- at the start nothing was cut and nothing answered
+-- At the start there is no line and no reply.
 pub reached_new : (names : List (List ℕ)) (line : List ℕ) (skips : Bool) → names ≡ [] → line ≡ [] → skips ≡ false → IsReached [] names line skips []
 reached_new names line skips e f h = record {
   lines = [];
@@ -76,11 +76,12 @@ reached_tail bytes written piece line line' names names' skips skips' r inside k
   so_far = keeps r.tail r.so_far;
 }
 
--- where the bytes end, what was written answers their lines
+-- If reading stops here, the bytes written are the replies to the lines.
 pub answers_reached : (bytes written line : List ℕ) (names : List (List ℕ)) (skips : Bool) → IsReached bytes names line skips written → AnswersLines bytes written
 answers_reached bytes written line names skips r = (r.lines, r.tail, names, r.cut, r.answered)
 
--- and each line of what was read beyond may have been refused
+-- Also for any bytes that follow there are possible replies, since an allocation may fail for each
+-- of their lines.
 answers_rest : (rest bytes written line : List ℕ) (names : List (List ℕ)) (skips : Bool) → IsReached bytes names line skips written → (extra : List ℕ) × AnswersLines (bytes ++ rest) (written ++ extra)
 answers_rest [] bytes written line names skips r = ([], rw (append-nil bytes, append-nil written) (answers_reached bytes written line names skips r))
 answers_rest (b ∷ rest) bytes written line names skips r = elim (cases_eq b 10) [
@@ -99,7 +100,7 @@ answers_rest (b ∷ rest) bytes written line names skips r = elim (cases_eq b 10
     no_memory : List ℕ
     no_memory = codes "no memory"
 
-    -- the same where all of the tail is kept
+    -- The same state, if all of the tail is stored.
     kept_whole : (bytes written line : List ℕ) (names : List (List ℕ)) (skips : Bool) → (r : IsReached bytes names line skips written) → IsReached bytes names r.tail false written
     kept_whole bytes written line names skips r =
         record { lines = r.lines; tail = r.tail; cut = r.cut; answered = r.answered; so_far = record { kept = λ _. refl; some = λ s. absurd (cc) } }
@@ -111,7 +112,7 @@ comes (Err e) bytes written line names skips h = answers_reached bytes written l
 past_line : (before end later piece : List ℕ) → piece ≡ end ++ 10 ∷ later → (before ++ (end ++ 10 ∷ [])) ++ later ≡ before ++ piece
 past_line before end later piece e = append_assoc before (end ++ 10 ∷ []) later ∙ ap (λ t. before ++ t) (append_assoc end (10 ∷ []) later ∙ sym e)
 
--- a line of a piece is answered, and then what follows it
+-- The first line of a piece gets its reply, and then the rest of the piece is read.
 pub feeds_line : {T E : Type 0} (r : Result T E) (piece end later answer line line1 line' : List ℕ) (names names1 names' : List (List ℕ)) (skips skips1 skips' : Bool) (a b c : Option (List ℕ)) (w v u : List ℕ)
     → piece ≡ end ++ 10 ∷ later → IsInside end → IsFinished names line skips end answer names1 line1 skips1 → Queued a w b v (answer ++ 10 ∷ [])
     → Feeds r names1 line1 skips1 later names' line' skips' b v c u → Feeds r names line skips piece names' line' skips' a w c u
@@ -126,7 +127,7 @@ feeds_line r piece end later answer line line1 line' names names1 names' skips s
       );
 }
 
--- the writer failed at the answer to a line
+-- The writer failed at the reply to a line.
 pub feeds_stop : {T E : Type 0} (r : Result T E) (piece end later answer line line1 line' : List ℕ) (names names1 names' : List (List ℕ)) (skips skips1 skips' : Bool) (a c : Option (List ℕ)) (w u : List ℕ)
     → IsErr r → piece ≡ end ++ 10 ∷ later → IsInside end → IsFinished names line skips end answer names1 line1 skips1 → AppendsSome a c (w ++ (answer ++ 10 ∷ []))
     → Feeds r names line skips piece names' line' skips' a w c u
@@ -141,7 +142,7 @@ feeds_stop r piece end later answer line line1 line' names names1 names' skips s
       );
 }
 
--- no line of a piece ends, and what waits is written
+-- No line ends in the piece, and the bytes that wait are written.
 pub feeds_tail : {T E : Type 0} (r : Result T E) (piece line line' : List ℕ) (names names' : List (List ℕ)) (skips skips' : Bool) (a b : Option (List ℕ)) (w v : List ℕ)
     → IsInside piece → ((tail : List ℕ) → IsSoFar line skips tail → IsSoFar line' skips' (tail ++ piece)) → names' ≡ names → Queues r a w b v [] → Feeds r names line skips piece names' line' skips' a w b v
 feeds_tail r piece line line' names names' skips skips' a b w v inside keeps same flushed = record {
@@ -153,7 +154,7 @@ tail_counts : (lines : List (List ℕ)) (tail : List ℕ) → 0 < length tail �
 tail_counts lines [] some = absurd (omega arith)
 tail_counts lines (b ∷ bs) some = refl
 
--- the last line has begun
+-- The last line has no byte 10, and gets its reply.
 pub ends_line : {T E : Type 0} (r : Result T E) (line line' answer : List ℕ) (names names' : List (List ℕ)) (skips skips' : Bool) (a b : Option (List ℕ)) (w v : List ℕ)
     → IsFinished names line skips [] answer names' line' skips' → ((tail : List ℕ) → IsSoFar line skips tail → 0 < length tail) → Queues r a w b v (answer ++ 10 ∷ []) → Ends r names line skips a w b v
 ends_line r line line' answer names names' skips skips' a b w v f some added = record {
@@ -166,7 +167,7 @@ ends_line r line line' answer names names' skips skips' a b w v f some added = r
       );
 }
 
--- no line has begun
+-- If no line has begun, nothing is written at the end.
 pub ends_none : {T E : Type 0} (x : T) (line : List ℕ) (names : List (List ℕ)) (skips : Bool) (a : Option (List ℕ)) (w : List ℕ) → ((tail : List ℕ) → IsSoFar line skips tail → tail ≡ []) → Ends {E = E} (Ok x) names line skips a w a w
 ends_none x line names skips a w none = record {
   from = λ bytes written reached.

@@ -9,7 +9,7 @@ use Rattle.elsa_interner.specs.Feeding.{IsReached, Feeds, Ends}
 use Rattle.elsa_interner.proofs.EngineLemmas.KnownBytes.{some_later, written_all}
 use Rattle.elsa_interner.proofs.EngineLemmas.LinesOfChunks.{answers_reached}
 
--- how far a run has come after n pieces
+-- What was read and written after n pieces.
 pub record Further (n : ℕ) (a b h h' : Option (List ℕ)) (names : List (List ℕ)) (line : List ℕ) (skips : Bool) : Type 0 where
   pub bytes : List ℕ
   pub written : List ℕ
@@ -18,7 +18,7 @@ pub record Further (n : ℕ) (a b h h' : Option (List ℕ)) (names : List (List 
   pub reached : IsReached bytes names line skips written
   pub held : Appends h h' written
 
--- one more piece
+-- Another piece is read.
 pub further : {T E : Type 0} (x : T) (n : ℕ) (a b c h h' h'' : Option (List ℕ)) (w v line line' piece : List ℕ) (names names' : List (List ℕ)) (skips skips' : Bool)
     → Further n a b h h' names line skips → 0 < length piece → Consumes b c piece → Feeds {E = E} (Ok x) names line skips piece names' line' skips' h' w h'' v → w ≡ [] → v ≡ [] → Further (n + 1) a c h h'' names' line' skips'
 further x n a b c h h' h'' w v line line' piece names names' skips skips' s more p feeds e f =
@@ -33,13 +33,13 @@ further x n a b c h h' h'' w v line line' piece names names' skips skips' s more
       held = Appends-trans h h' h'' s.written m.0 s.held (written_all h' h'' w v m.0 e f m.2);
     }
 
--- the reader failed, or read enough
+-- The reader failed, or the greatest number of reads was made.
 pub has_answered : (i n : ℕ) (a b c h h' : Option (List ℕ)) (line : List ℕ) (names : List (List ℕ)) (skips : Bool) → Further n a b h h' names line skips → i ≤ n → Keeps b c → HasAnswered i a c h h'
 has_answered i n a b c h h' line names skips s enough kept =
     let many = s.many in
     (s.bytes, s.written, omega arith, Consumes-kept a b c s.bytes s.consumed kept, answers_reached s.bytes s.written line names skips s.reached, s.held)
 
--- the writer failed at the answers to a piece's lines
+-- The writer failed at the replies to the lines of a piece.
 pub has_answered_some : {T E : Type 0} (y : E) (n : ℕ) (a b c h h' h'' : Option (List ℕ)) (w v line line' piece : List ℕ) (names names' : List (List ℕ)) (skips skips' : Bool)
     → Further n a b h h' names line skips → Consumes b c piece → Feeds {T = T} (Err y) names line skips piece names' line' skips' h' w h'' v → w ≡ [] → HasAnsweredSome a c h h''
 has_answered_some y n a b c h h' h'' w v line line' piece names names' skips skips' s p feeds e =
@@ -50,14 +50,14 @@ consumes_nothing : (a b c : Option (List ℕ)) (bytes buf : List ℕ) (n : ℕ) 
 consumes_nothing a b c bytes buf n e p q =
     subst (λ t. Consumes a c t) (append-nil bytes) (Consumes-trans a b c bytes [] p (subst (λ t. Consumes b c (take t buf)) e q))
 
--- the input has ended
+-- The input has ended.
 pub has_answered_all : {T E : Type 0} (x : T) (n i : ℕ) (a b c h h' h'' : Option (List ℕ)) (w v line buf : List ℕ) (names : List (List ℕ)) (skips : Bool)
     → Further n a b h h' names line skips → i ≡ 0 → Consumes b c (take i buf) → IsAtEnd c → Ends {E = E} (Ok x) names line skips h' w h'' v → w ≡ [] → v ≡ [] → HasAnsweredAll a c h h''
 has_answered_all x n i a b c h h' h'' w v line buf names skips s none p at_end ends e f =
     let m = ends.from s.bytes s.written s.reached in
     (s.bytes, s.written ++ m.0, consumes_nothing a b c s.bytes buf i none s.consumed p, at_end, m.1, Appends-trans h h' h'' s.written m.0 s.held (written_all h' h'' w v m.0 e f m.2))
 
--- the writer failed at the answer to the last line
+-- The writer failed at the reply to the last line.
 pub has_answered_last : {T E : Type 0} (y : E) (n i : ℕ) (a b c h h' h'' : Option (List ℕ)) (w v line buf : List ℕ) (names : List (List ℕ)) (skips : Bool)
     → Further n a b h h' names line skips → i ≡ 0 → Consumes b c (take i buf) → IsAtEnd c → Ends {T = T} (Err y) names line skips h' w h'' v → w ≡ [] → HasAnsweredSome a c h h''
 has_answered_last y n i a b c h h' h'' w v line buf names skips s none p at_end ends e =

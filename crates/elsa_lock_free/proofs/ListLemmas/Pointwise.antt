@@ -2,7 +2,7 @@
 use Rattle.std.proofs.Common.{◌≡◌, ℕ, zero, suc, Bool, List, [], ◌∷◌, ◌&&◌, drop, slice_get, Some, ap, ◌∙◌}
 use lib.Pointwise.{pointwise}
 
--- a comparison from i on compares the pair at i, and then those behind it
+-- a comparison from index i compares the pair at i, and then the later pairs
 pub pointwise_step : {A : Type 0} (E : A → A → Bool) (xs ys : List A) (i : ℕ) (x y : A) → slice_get xs i ≡ Some x → slice_get ys i ≡ Some y
     → pointwise E (drop i xs) (drop i ys) ≡ (E x y && pointwise E (drop (suc i) xs) (drop (suc i) ys))
 pointwise_step E [] ys i x y p q = absurd (cc p)

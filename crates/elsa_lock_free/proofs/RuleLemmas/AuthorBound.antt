@@ -94,7 +94,7 @@ module _ {M : Type 1} {𝓤 : Ura M} (𝓛 : Logic 𝓤) where
           use2 𝓛 (given (F s.1) (‵ (rule.keeps names (rule.shows s.1)) ⊛ ‵ X)) (test s.1) $ learn ! (λ f. split ! $ move ! (2 ∷ 3 ∷ 0 ∷ []) $
           types.Kit.use3 𝓛 (‵ J) (shut s.0 s.1 so.0) $ frame ! $ show ! (Shown x) s.1 $ check ! (so.1, f) $ done !))))
 
-    -- what the rule gives out of every history that begins so, and keeps, is had of a history that was seen
+    -- a fact that the rule yields for each history with the prefix `x`, and keeps, holds for a history that was observed
     module _ (X : Fml) (x : List E) (gives : (log : List E) → IsPrefix x log → ⟦ rule.keeps names (rule.shows log) ⟧ ⊢ ⟦ rule.keeps names (rule.shows log) ⟧ ∗ ⟦ X ⟧) where
       pub history_gives : ⟦ K x ⟧ ⊢ H.⇛ ⟦ X ⟧
       history_gives = qed 𝓛 (‵ (K x) ∷ []) ∵ use1 𝓛 (given Q (‵ N ⊛ ‵ (had x))) (unsealed x) $ learn ! (λ calm. split ! $
@@ -110,7 +110,7 @@ module _ {M : Type 1} {𝓤 : Ura M} (𝓛 : Logic 𝓤) where
       use2 𝓛 (given (count (suc a) (list_of log) ≤ n) (‵ (tickets [] (list_of log)) ⊛ ‵ (tickets_from a n))) (tickets_bound 𝓛 T.Denot a n [] (list_of log) (omega arith)) $ learn ! (λ le. split ! $
       check ! le $ move ! (2 ∷ 0 ∷ []) $ fjoin ! $ move ! (2 ∷ 0 ∷ []) $ fjoin ! $ done !)
 
-  -- the rule gives out the evidence that a beginning of its list was written, and keeps what it has
+  -- the rule yields the evidence that a prefix of its list was written, and keeps its part
   pub rule_gives : (T B : RattleType) (slot_names : B.Denot → List ℕ) (fits : B.Denot → T.Denot → Type 0) (names : List ℕ) (x log : List (Event T.Denot)) → IsPrefix x log
       → ⟦ rule_owns T B slot_names fits names log ⟧ ⊢ ⟦ rule_owns T B slot_names fits names log ⟧ ∗ ⟦ prefix_written T B slot_names fits (buffer_slots_of names) 0 (items_of (list_of x)) ⟧
   rule_gives T B slot_names fits names x log pre =

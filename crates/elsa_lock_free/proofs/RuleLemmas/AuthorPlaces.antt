@@ -1,5 +1,5 @@
 -- The places of an author, in a list that grows.
-use Rattle.std.proofs.Common.{◌≡◌, ◌≢◌, ◌⊎◌, inl, inr, slice_index_or, ℕ, zero, suc, ◌+◌, ◌<◌, ◌≤◌, ◌==◌, Bool, true, false, List, [], ◌∷◌, ◌++◌, length, if◌then◌else◌, refl, ap, sym, ◌∙◌, arith, length-append, append_assoc}
+use Rattle.std.proofs.Common.{◌≡◌, ◌≢◌, ◌⊎◌, inl, inr, slice_index_or, ℕ, zero, suc, ◌+◌, ◌<◌, ◌≤◌, ◌==◌, Bool, true, false, List, [], ◌∷◌, ◌++◌, length, if◌then◌else◌, refl, ap, sym, ◌∙◌, arith, append_assoc}
 use Rattle.std.proofs.lemmas.List.{append-nil}
 use Rattle.std.proofs.lemmas.Bool.Decides.{nat_tests}
 use mathlib.Core.List.{IsPrefix}
@@ -61,16 +61,12 @@ module _ {T : Type 0} where
   all_places a i [] = refl
   all_places a i (c ∷ cs) = let is : (a == a) ≡ true = grind (arith, nat_tests) in rw is (ap (λ (l : List ℕ). i ∷ l) (all_places a (suc i) cs))
 
-  -- many entries of its own at the end are as many places more
+  -- appended entries of an author add their indices to its own indices
   pub extend_places : (a n i : ℕ) (es fs : List (Entry T)) (cs : List T) → AppendsAll es fs i (authored a cs) → count a es ≡ n → count a fs ≡ n + length cs → places_from a 0 fs ≡ places_from a 0 es ++ run i (length cs)
   extend_places a n i es fs cs (before, pre, at, is) was now =
       let b : count a before + length cs ≡ count a fs = sym (extended_count a before cs) ∙ ap (count a) (sym is) in
       let k : 0 + length before ≡ i = omega (arith, at) in
       ap (places_from a 0) is ∙ (places_append a 0 before (authored a cs) ∙ (ap (λ (l : List ℕ). l ++ places_from a (0 + length before) (authored a cs)) (same_places a es before pre (omega (arith, b, was, now))) ∙ (ap (λ (j : ℕ). places_from a 0 es ++ places_from a j (authored a cs)) k ∙ ap (λ (l : List ℕ). places_from a 0 es ++ l) (all_places a i cs))))
-
-  -- what was appended is at the end
-  pub appended_end : (es fs : List (Entry T)) (i : ℕ) (e : Entry T) → Appends es fs i e → length fs ≡ i + 1
-  appended_end es fs i e (before, pre, at, is) = ap length is ∙ (length-append before (e ∷ []) ∙ ap (λ (k : ℕ). k + 1) at)
 
 -- a number in a list, by the list's own form
 In : ℕ → List ℕ → Type 0

@@ -1,4 +1,4 @@
--- What an event behind a history does to it.
+-- How an event that is appended to a history changes it.
 use Rattle.std.proofs.Common.{◌≡◌, ℕ, suc, drop, ◌+◌, ◌≤◌, ◌==◌, Bool, List, [], ◌∷◌, ◌++◌, length, refl, ap, sym, ◌∙◌, arith, length-append, append_assoc}
 use Rattle.std.proofs.lemmas.List.{append-nil, drop_at, length-map, map-append}
 use Rattle.elsa_lock_free.specs.declared.event.Entry.{Entry}
@@ -65,7 +65,7 @@ module _ {T : Type 0} where
   added_entries (Extended a xs) = sym (authored_length a xs)
   added_entries (Cloned xs) = sym (copied_length xs)
 
-  -- a history has as many entries as its events added
+  -- the number of entries of a history is the sum of the numbers that its events added
   added_all : (xs : List (Event T)) → total (added xs) ≡ length (list_of xs)
   added_all [] = refl
   added_all (e ∷ xs) = let h = added_all xs in let k = added_entries e in let l = length-append (entries e) (list_of xs) in omega (arith, h, k, l)
@@ -76,7 +76,7 @@ module _ {T : Type 0} where
   pub added_same : (xs ys : List (Event T)) → added xs ≡ added ys → length xs ≡ length ys
   added_same xs ys e = let a = added_length xs in let b = added_length ys in let c = ap length e in omega arith
 
-  -- a list of items that begins with a history's is that and what is behind it
+  -- a list of items with the items of a history as a prefix is that prefix and the rest
   pub behind_whole : (es : List (Event T)) (xs : List T) → IsPrefix (items_of (list_of es)) xs → items_of (list_of es) ++ behind es xs ≡ xs
   behind_whole es xs p =
       let rest : behind es xs ≡ p.0 = ap (drop (length (list_of es))) (sym p.1) ∙ drop_at (items_of (list_of es)) p.0 (length (list_of es)) (items_length (list_of es)) in

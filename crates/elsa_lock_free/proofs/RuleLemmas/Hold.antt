@@ -1,4 +1,4 @@
--- Where the length that a thread holds lies: at the begin of a buffer, or in an open one.
+-- The slot of the length while a thread has the lock: it begins a buffer, or is in an open one.
 use Rattle.std.proofs.Common.{◌≡◌, ℕ, zero, suc, ◌+◌, ◌-◌, ◌^◌, ◌<◌, ◌==◌, true, false, refl, sym, subst, arith}
 use Rattle.std.specs.Prelude.{MatchBool}
 use Rattle.std.proofs.lemmas.Bool.Decides.{nat_tests}
@@ -24,7 +24,7 @@ begins_closed n b j at begins =
 pub first_begins : (n b j : ℕ) → IsAt n b j → b < 31 → j ≡ 0 → BeginsABuffer n
 first_begins n b j at low first = let e = before_power b in let f = at.begins in (b, omega (arith, low), omega (arith, e, f, first))
 
--- which a comparison with 0 tells
+-- a comparison of the slot with 0 decides which
 pub begins_test : (n b j : ℕ) → IsAt n b j → b < 31 → MatchBool (j == 0) (BeginsABuffer n) (BeginsABuffer n → ⊥)
 begins_test n b zero at low = let yes : (zero == 0) ≡ true = grind (arith, nat_tests) in subst (λ t. MatchBool t (BeginsABuffer n) (BeginsABuffer n → ⊥)) (sym yes) (first_begins n b 0 at low refl)
 begins_test n b (suc j) at low = let no : (suc j == 0) ≡ false = grind (arith, nat_tests) in subst (λ t. MatchBool t (BeginsABuffer n) (BeginsABuffer n → ⊥)) (sym no) (λ begins. let z = (begins_closed n b (suc j) at begins).0 in absurd (omega (arith, z)))

@@ -41,7 +41,7 @@ module _ {T : Type 0} where
   pub extended_list : (v new : List (Event T)) (a : ℕ) (cs : List T) → new ≡ v ++ Extended a cs ∷ [] → list_of new ≡ list_of v ++ authored a cs
   extended_list v new a cs e = ap list_of e ∙ list_snoc v (Extended a cs)
 
-  -- an author has as many entries as items of its own
+  -- the number of an author's entries in its own items is their number
   all_its_own : (a : ℕ) (cs : List T) → count a (authored a cs) ≡ length cs
   all_its_own a [] = refl
   all_its_own a (c ∷ cs) = let is : (a == a) ≡ true = grind (arith, nat_tests) in let b = ap bit is in let h = all_its_own a cs in omega (arith, b, h)
@@ -60,7 +60,7 @@ module _ {T : Type 0} where
       let c2 : count (suc a) (list_of v) ≤ n = subst (λ (l : List (Event T)). count (suc a) (list_of l) ≤ n) (same ∙ sym s) c1 in
       (ended T v log new e found held pre l2 is was then, c2)
 
-  -- the same, of an offer that says what it adds before what it knows of the history
+  -- the same for an offer that has the number of its entries before the history
   pub exchange_of_many : (v log ans new : List (Event T)) (e : Event T) (found held a n : ℕ) (about : List (Event T)) → IsPrefix v log → word_of log ≡ found → held ≡ word_of v
       → MatchBool (found == held) (new ≡ log ++ e ∷ []) (new ≡ log) → about ≡ OfferOf a n ∷ e ∷ v → ans ≡ log → length ans ≡ length (others (others about)) → OnlyPushed about ans
       → (new ≡ v ++ e ∷ []) × (count (suc a) (list_of v) ≤ n)

@@ -108,8 +108,9 @@ module _ {M : Type 1} {𝓤 : Ura M} (𝓛 : Logic 𝓤) where
         suffices ! _ (upd_i 𝓤 Z) $ frame ! $ rewrite ! 0 (λ (l : Log). ‵ (All (list_of l))) so refl $ nothing ! $
         fpack ! (count (suc a) (list_of r) ≤ n) (λ _. ftrue) (subst (λ (l : Log). count (suc a) (list_of l) ≤ n) so le) $ move ! (2 ∷ 0 ∷ 1 ∷ []) $ fjoin ! $ move ! (1 ∷ 0 ∷ []) $ fjoin ! $ done !))
 
-    -- The end of a hold, by an event that adds entries or none. The right, the rights to write behind these entries and the evidence
-    -- for them go in. `pays` is what their tickets cost the pass, which has `k` tickets fewer before and `left` fewer after
+    -- The release of the lock, by an event that adds entries or none. It takes the right to release, the rights to the
+    -- slots after these entries, and their evidence. `pays`: the entries take tickets from the author, which has used `k`
+    -- tickets before and `left` after
     module _ (v : Log) (e : Event T.Denot) (ends : begins_hold e ≡ false) (a k left : ℕ) (pays : (L : Entries) → count (suc a) L ≤ k → ⟦ author a k ⟧ ⊢ ⟦ tickets L (entries e) ⟧ ∗ ⟦ author a left ⟧) where
       abbrev Goes : Log → Log → Log → Type 0
       Goes xs ys r = (r ≡ xs) × ((ys ≡ xs) ⊎ ((ys ≡ xs ++ e ∷ []) × (is_held xs ≡ true)))

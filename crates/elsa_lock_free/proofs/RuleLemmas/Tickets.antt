@@ -1,4 +1,5 @@
--- An author's tickets: each entry in the rule has one of its author, so who has the others knows how many entries are its own. Assumes `Logic`.
+-- An author's tickets: each entry in the rule has one ticket of its author, so the number of the other tickets bounds the
+-- number of the author's entries. Assumes `Logic`.
 use Rattle.std.proofs.Common.{◌≡◌, ◌≢◌, ℕ, suc, ◌<◌, ◌≤◌, ◌==◌, Bool, true, false, List, [], ◌∷◌, ◌++◌, refl, ap, sym, subst, arith, append_assoc}
 use Rattle.std.proofs.lemmas.List.{append-nil}
 use Rattle.std.proofs.lemmas.Bool.Decides.{nat_tests}

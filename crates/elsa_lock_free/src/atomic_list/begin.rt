@@ -21,7 +21,7 @@ use std::alloc::{AllocError, Allocator};
 impl<T: Drop, A: Allocator + Copy, K: ItemRule<T>, X: Beside<T> + Drop> AtomicList<T, A, K, X> {
     /// An empty list, one that is filled with nothing, and its history, which leaves the word free.
     pub fn new(alloc: A) -> Result<(AtomicList<T, A, K, X>, SeenHistory<T, A, K, X>), AllocError>
-        ensures of { IfOk result (λ r. IsOf r.1 r.0.first) }
+        ensures same_vector { IfOk result (λ r. IsOf r.1 r.0.first) }
         ensures free { IfOk result (λ r. is_held r.1.log ≡ false) }
         ensures empty { IfOk result (λ r. list_of r.1.log ≡ []) }
     {
@@ -36,7 +36,8 @@ impl<T: Drop, A: Allocator + Copy, K: ItemRule<T>, X: Beside<T> + Drop> AtomicLi
         Ok((list, seen))
     }
 
-    /// The list of `n` items in these slots, and its history. Its maker holds the word at first, and publishes the items.
+    /// The list of `n` items in these slots, and its history. Its maker holds the word at first,
+    /// and publishes the items.
     fn filled(
         slots: Slots<T, A, X>,
         prefix: WrittenPrefix<T, Buffer<T, A, X>>,
@@ -46,10 +47,10 @@ impl<T: Drop, A: Allocator + Copy, K: ItemRule<T>, X: Beside<T> + Drop> AtomicLi
         requires slots { length slots ≡ 31 }
         requires prefix { (prefix.buffer_slots ≡ slots) × (n ≡ length prefix.items) × (n < 2 ^ 62) }
         requires ahead { GoesOn slots n ahead.opened ahead.slots.of ahead.further.of }
-        requires new { EachIsNew K.is_new prefix.items }
+        requires obeys_rule { EachIsNew K.is_new prefix.items }
 
         // The history of the new list is that these items were published.
-        ensures of { IsOf result.1 result.0.first }
+        ensures same_vector { IsOf result.1 result.0.first }
         ensures items { list_of result.1.log ≡ copied prefix.items }
         ensures history { result.1.log ≡ Cloned prefix.items ∷ [] }
     {
@@ -77,10 +78,10 @@ impl<T: Drop, A: Allocator + Copy, K: ItemRule<T>, X: Beside<T> + Drop> AtomicLi
             × (n ≡ length prefix.items) × (n < 2 ^ 62) }
         requires ahead { GoesOn (buffer_slots_of self.now.first.names) n
             ahead.opened ahead.slots.of ahead.further.of }
-        requires new { EachIsNew K.is_new prefix.items }
+        requires obeys_rule { EachIsNew K.is_new prefix.items }
 
         // The history is that these items were published.
-        ensures of { IsOf result self.now.first }
+        ensures same_vector { IsOf result self.now.first }
         ensures items { list_of result.log ≡ copied prefix.items }
         ensures history { result.log ≡ Cloned prefix.items ∷ [] }
     {
@@ -111,13 +112,13 @@ impl<T: Drop, A: Allocator + Copy, K: ItemRule<T>, X: Beside<T> + Drop> AtomicLi
         offer: Offer<Event<T>, Log<T>, OneWord<Buffer<T, A, X>, K>, ReleaseGain<Buffer<T, A, X>>>,
         n: usize,
     ) -> SeenHistory<T, A, K, X>
-        requires of { IsOf seen self.now.first × (seen.log ≡ []) }
+        requires same_vector { IsOf seen self.now.first × (seen.log ≡ []) }
         requires offer { (offer.names ≡ seen.names) × (offer.state ≡ None) }
-        requires ask { (xs : List T) × (offer.ask ≡ Cloned xs) × (n ≡ length xs) × (n < 2 ^ 62)
+        requires request { (xs : List T) × (offer.ask ≡ Cloned xs) × (n ≡ length xs) × (n < 2 ^ 62)
             × EachIsNew K.is_new xs }
         requires about { (a : ℕ) × (k : ℕ) × (offer.about ≡ OfferOf a k ∷ []) }
 
-        // The history is what the offer asked.
+        // The history is the one of the offer.
         ensures same { IsOf result seen }
         ensures items { list_of result.log ≡ entries offer.ask }
         ensures history { result.log ≡ offer.ask ∷ [] }
@@ -139,8 +140,8 @@ impl<T: Drop, A: Allocator + Copy, K: ItemRule<T>, X: Beside<T> + Drop> AtomicLi
 }
 
 impl<T: Copy + Drop, A: Allocator + Copy, K: ItemRule<T>> AtomicList<T, A, K> {
-    /// A vector of its own with the first `n` items of what was seen, which have no author, and its history: that they were
-    /// published, and nothing else.
+    /// A vector of its own with the first `n` items of what was seen, which have no author, and its
+    /// history: that they were published, and nothing else.
     pub fn copy(
         &self,
         n: usize,
@@ -148,7 +149,7 @@ impl<T: Copy + Drop, A: Allocator + Copy, K: ItemRule<T>> AtomicList<T, A, K> {
     ) -> Result<(AtomicList<T, A, AnyItems>, SeenHistory<T, A, AnyItems, ()>), AllocError>
         requires prefix { (prefix.now.buffer_slots ≡ buffer_slots_of self.now.first.names)
             × (n ≡ length prefix.now.items) × (n < 2 ^ 62) }
-        ensures of { IfOk result (λ r. IsOf r.1 r.0.first) }
+        ensures same_vector { IfOk result (λ r. IsOf r.1 r.0.first) }
         ensures items { IfOk result (λ r. list_of r.1.log ≡ copied prefix.now.items) }
         ensures history { IfOk result (λ r. r.1.log ≡ Cloned prefix.now.items ∷ []) }
     {

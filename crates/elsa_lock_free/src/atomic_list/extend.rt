@@ -1,16 +1,18 @@
-//! Many pushes under one hold: acquire the word, write the slots from the length on, publish them at once.
+//! Many pushes under one hold: acquire the word, write the slots from the length on, publish them
+//! at once.
 ghost use Rattle.std.specs.Prelude.{◌≡◌, true, false, ◌+◌, ◌^◌, ◌<◌, ◌≤◌, ◌∷◌, ◌++◌, [], length, List, None, suc, take};
 ghost use Rattle.elsa_slots.specs.Ahead.{GoesOn};
 ghost use Rattle.elsa_lock_free.specs.SharedList.{AppendsAll, BeginsAmong, authored, count};
 ghost use Rattle.elsa_lock_free.specs.declared.event.Event.TheVariants.{Acquired, Extended, OfferOf};
 ghost use Rattle.elsa_lock_free.specs.History.{added, author_of, entries, is_held, list_of, used_of};
 ghost use Rattle.elsa_lock_free.specs.Rights.{head, buffer_slots_of};
-ghost use Rattle.elsa_lock_free.specs.SeenHistory.{IsOf};
+ghost use Rattle.elsa_lock_free.specs.SeenHistory.{IsAtAcquire, IsOf};
 
 use super::push::LIMIT;
 use super::{AtomicList, SeenHistory};
 use crate::event::Event;
 use crate::item_rule::ItemRule;
+use crate::pass::PushRight;
 use crate::rule::{AcquireGain, EndHold, ExtendGain, Log, OneWord};
 use crate::tokens::{
     Author, Held, evidence, offer_extend_closed, offer_extend_open, take_acquired_closed,
@@ -22,7 +24,8 @@ use logbook::{Gained, Offer};
 use std::alloc::Allocator;
 use std::sync::Wait;
 
-/// What many pushes leave: what is known of the history, its author, the place of the first item, and how many were pushed.
+/// What many pushes leave: what is known of the history, its author, the place of the first item,
+/// and how many were pushed.
 pub type Extension<T, A, K> = (SeenHistory<T, A, K, ()>, Author, usize, usize);
 
 /// What an acquire at the length `n` gained: the hold, and what it takes to append there.
@@ -59,24 +62,26 @@ impl<T: Copy + Drop, A: Allocator + Copy, K: ItemRule<T>> AtomicList<T, A, K> {
     /// Ends the hold at the length `n`, by an offer of `pushed` items.
     fn publish_all(
         &self,
+        _right: &PushRight,
         seen: SeenHistory<T, A, K, ()>,
         offer: Offer<Event<T>, Log<T>, OneWord<Buffer<T, A>, K>, ExtendGain<Buffer<T, A>>>,
         n: usize,
         pushed: usize,
     ) -> (SeenHistory<T, A, K, ()>, Author)
         // The holder's history, and its length.
-        requires of { IsOf seen self.now.first × (is_held seen.log ≡ true) }
-        requires n { (n ≡ length (list_of seen.log)) × (n + pushed < 2 ^ 62) }
+        requires same_vector { IsOf seen self.now.first × (is_held seen.log ≡ true) }
+        requires length { (n ≡ length (list_of seen.log)) × (n + pushed < 2 ^ 62) }
 
-        // The offer of these items, by an author who has no fewer tickets than entries.
+        // The offer of these items, by the writer, who has no fewer tickets than entries.
+        requires writer { _right.now ≡ suc (author_of offer.about) }
         requires offer { (offer.names ≡ seen.names) × (offer.state ≡ None) }
         requires about { offer.about
             ≡ OfferOf (author_of offer.about) (used_of offer.about) ∷ offer.ask ∷ seen.log }
-        requires ask { (xs : List T) × (offer.ask ≡ Extended (suc (author_of offer.about)) xs)
+        requires request { (xs : List T) × (offer.ask ≡ Extended (suc (author_of offer.about)) xs)
             × (pushed ≡ length xs) }
         requires mine { used_of offer.about
             ≤ count (suc (author_of offer.about)) (list_of seen.log) }
-        requires new { (xs : List T) (x : T) → K.is_new xs x }
+        requires obeys_rule { (xs : List T) (x : T) → K.is_new xs x }
 
         // The word is free, the list has these entries more, and the author as many tickets fewer.
         ensures free { is_held result.0.log ≡ false }
@@ -101,21 +106,23 @@ impl<T: Copy + Drop, A: Allocator + Copy, K: ItemRule<T>> AtomicList<T, A, K> {
         (seen, take_extended(offer.into_gain()))
     }
 
-    /// Appends items, and releases the word that was acquired at the length `n`. Returns how many were pushed: all, or none if an
-    /// allocation failed.
+    /// Appends items, and releases the word that was acquired at the length `n`. Returns how many
+    /// were pushed: all, or none if an allocation failed.
     fn append_all(
         &self,
+        by: &PushRight,
         seen: SeenHistory<T, A, K, ()>,
         right: Gained<Event<T>, Log<T>, AcquireGain<Buffer<T, A>>>,
         author: Author,
         n: usize,
         items: &[T],
     ) -> (SeenHistory<T, A, K, ()>, Author, usize)
-        requires of { IsOf seen self.now.first }
-        requires right { (right.names ≡ seen.names) × (seen.log ≡ right.answer ++ Acquired ∷ []) }
+        requires same_vector { IsOf seen self.now.first }
+        requires writer { by.now ≡ suc author.name }
+        requires right { IsAtAcquire right seen }
         requires length { (n ≡ length (list_of right.answer)) × (n < 2 ^ 62) }
         requires mine { author.used ≤ count (suc author.name) (list_of seen.log) }
-        requires new { (xs : List T) (x : T) → K.is_new xs x }
+        requires obeys_rule { (xs : List T) (x : T) → K.is_new xs x }
 
         // The word is free, and the author's entries are its own.
         ensures free { is_held result.0.log ≡ false }
@@ -141,32 +148,35 @@ impl<T: Copy + Drop, A: Allocator + Copy, K: ItemRule<T>> AtomicList<T, A, K> {
         match opened {
             Some(opened) => {
                 let offer = offer_extend_open(&seen, held, prefix, opened, slots, further, author);
-                let (seen, author) = self.publish_all(seen, offer, n, pushed);
+                let (seen, author) = self.publish_all(by, seen, offer, n, pushed);
                 (seen, author, pushed)
             }
             None => {
                 slots.discard();
                 let offer = offer_extend_closed(&seen, held, prefix, further, author);
-                let (seen, author) = self.publish_all(seen, offer, n, pushed);
+                let (seen, author) = self.publish_all(by, seen, offer, n, pushed);
                 (seen, author, pushed)
             }
         }
     }
 
-    /// Pushes items side by side under one hold, tried first at the length `guess`, and publishes them at once. Returns the place of
-    /// the first, and how many were pushed: all, or none if an allocation failed.
+    /// Pushes items side by side under one hold, tried first at the length `guess`, and publishes
+    /// them at once. Returns the place of the first, and how many were pushed: all, or none if an
+    /// allocation failed.
     pub fn extend<R: Wait>(
         &self,
         rt: &R,
+        by: &PushRight,
         seen: SeenHistory<T, A, K, ()>,
         author: Author,
         guess: usize,
         items: &[T],
     ) -> Extension<T, A, K>
-        requires of { IsOf seen self.now.first }
+        requires same_vector { IsOf seen self.now.first }
+        requires writer { by.now ≡ suc author.name }
         requires mine { count (suc author.name) (list_of seen.log) ≡ author.used }
         requires guess { guess < 2 ^ 62 }
-        requires new { (xs : List T) (x : T) → K.is_new xs x }
+        requires obeys_rule { (xs : List T) (x : T) → K.is_new xs x }
 
         // The word is free, and the author's entries are its own.
         ensures free { is_held result.0.log ≡ false }
@@ -184,7 +194,7 @@ impl<T: Copy + Drop, A: Allocator + Copy, K: ItemRule<T>> AtomicList<T, A, K> {
     {
         let mut seen = seen;
         let (n, right) = self.acquire(rt, &mut seen, guess);
-        let (seen, author, pushed) = self.append_all(seen, right, author, n, items);
+        let (seen, author, pushed) = self.append_all(by, seen, right, author, n, items);
         (seen, author, n, pushed)
     }
 }

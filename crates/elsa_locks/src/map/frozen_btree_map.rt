@@ -1,10 +1,10 @@
-//! The ordered map behind a lock.
+//! The ordered map under a lock.
 ghost use Rattle.std.specs.Prelude.{IfOk};
 ghost use Rattle.std.specs.BTreeMap.Range.{IsLeBy, IsLtBy};
 ghost use Rattle.std.specs.List.Sorted.{IsStrictlySortedBy};
 ghost use Rattle.std.specs.Map.{keys_of};
 ghost use Rattle.std.specs.Iterator.{IsFinite};
-ghost use Rattle.elsa_words.specs.FirstWins.{CloneIsEqual};
+ghost use Rattle.elsa_specs.specs.FirstWins.{CloneIsEqual};
 
 use super::{Locked, TreeState};
 use std::alloc::{AllocError, Allocator, Global};
@@ -12,40 +12,56 @@ use std::collections::BTreeMap;
 use std::ops::RangeBounds;
 use std::sync::{Arc, RwLock, Wait};
 
-/// An ordered map that threads share, in which the first value of a key stays: see [`Locked`] for what runs under the lock.
+/// An ordered map that threads share, in which the first value of a key stays. [`Locked`] documents
+/// what runs under the lock.
 ///
-/// Each call makes that of the same name on a [`TreeState`].
+/// Each call makes the call of the same name on a [`TreeState`].
 pub type FrozenBTreeMap<K, V, A = Global> = Locked<K, V, BTreeMap<K, Arc<V, A>, A>, A>;
 
 impl<K: Ord + Drop, V, A: Allocator + Copy> Locked<K, V, BTreeMap<K, Arc<V, A>, A>, A> {
-    /// An empty map. Takes no memory and no lock.
+    /// Makes an empty map. It allocates nothing and takes no lock.
     pub fn new(alloc: A) -> Self {
         Locked {
             lock: RwLock::new(TreeState::new(alloc)),
         }
     }
 
-    /// A map over the entries of `map`, which stay as they are. Takes no memory; `alloc` serves later insertions.
+    /// Makes a map with the entries of `map`. It allocates nothing; later insertions use `alloc`.
     pub fn from_map(alloc: A, map: BTreeMap<K, Arc<V, A>, A>) -> Self {
         Locked {
             lock: RwLock::new(TreeState::from_map(alloc, map)),
         }
     }
 
-    /// Calls `f` at the key and the value of each entry, once at each, ascending by key. `O(n)`. Takes no memory.
+    /// Calls `f` with the key and the value of each entry, once for each, in ascending order of the
+    /// keys. It allocates nothing.
     ///
-    /// One read lock is held for the whole walk: insertions wait until it ends, other reads needn't. A call on the same map in `f`
-    /// may wait for ever, also one that only reads.
+    /// The call shares the lock until all entries were visited: insertions block until then, and
+    /// other reads don't. A call on the same map in `f` can deadlock, even if it only reads.
+    ///
+    /// # Blocks
+    /// While a thread writes or waits to write.
+    ///
+    /// # Cost
+    /// `O(n)`.
     pub fn for_each<F: FnMut(&K, &V) + Drop>(&self, rt: &impl Wait, f: F)
         requires { F.IsAlwaysCallable f }
     {
         self.lock.read(rt).for_each(f)
     }
 
-    /// Calls `f` at the key and the value of each entry whose key is in the range, once at each, ascending by key.
+    /// Calls `f` with the key and the value of each entry whose key is in the range, once for each,
+    /// in ascending order of the keys. It allocates nothing.
     ///
-    /// The range must not begin behind its end, as `5..3` does. `O(log n)`, and `O(1)` on average for each entry. Takes no memory.
-    /// One read lock is held for the whole walk, as in [`for_each`](Locked::for_each): a call on the same map in `f` may wait for ever.
+    /// The range must not begin after its end, as `5..3` does. The call shares the lock until all
+    /// these entries were visited, as [`for_each`](Locked::for_each) does: a call on the same map
+    /// in `f` can deadlock.
+    ///
+    /// # Blocks
+    /// While a thread writes or waits to write.
+    ///
+    /// # Cost
+    /// `O(log n)`, and `O(1)` on average for each entry.
     pub fn for_each_in_range<G: RangeBounds<K> + Drop, F: FnMut(&K, &V) + Drop>(
         &self,
         rt: &impl Wait,
@@ -58,8 +74,17 @@ impl<K: Ord + Drop, V, A: Allocator + Copy> Locked<K, V, BTreeMap<K, Arc<V, A>, 
         self.lock.read(rt).for_each_in_range(range, f)
     }
 
-    /// A clone of each key, each once, ascending. `O(n)`. The keys' `Clone` runs while this call shares the lock.
-    /// `Err` on an allocation failure.
+    /// Returns a clone of each key, each once, in ascending order. The keys' `Clone` runs while
+    /// this call shares the lock.
+    ///
+    /// # Errors
+    /// Fails if an allocation fails, or if a key's `clone` fails.
+    ///
+    /// # Blocks
+    /// While a thread writes or waits to write.
+    ///
+    /// # Cost
+    /// `O(n)`.
     pub fn keys_cloned(&self, rt: &impl Wait) -> Result<Vec<K, A>, AllocError>
     where
         K: Clone,
@@ -68,10 +93,17 @@ impl<K: Ord + Drop, V, A: Allocator + Copy> Locked<K, V, BTreeMap<K, Arc<V, A>, 
         self.lock.read(rt).keys_cloned()
     }
 
-    /// A clone of the least key and an owner of its value, or `None` if the map is empty. `O(log n)`.
-    ///
+    /// Returns a clone of the least key and an `Arc` of its value, or `None` if the map is empty.
     /// The key's `Clone` runs while this call shares the lock.
-    /// `Err` only where that failed, or where the `Arc` already has the most owners that it can count.
+    ///
+    /// # Errors
+    /// Fails if the key's `clone` fails, or if the `Arc` has the maximum number of owners.
+    ///
+    /// # Blocks
+    /// While a thread writes or waits to write.
+    ///
+    /// # Cost
+    /// `O(log n)`.
     pub fn first_key_value_cloned(
         &self,
         rt: &impl Wait,
@@ -83,10 +115,17 @@ impl<K: Ord + Drop, V, A: Allocator + Copy> Locked<K, V, BTreeMap<K, Arc<V, A>, 
         self.lock.read(rt).first_key_value_cloned()
     }
 
-    /// A clone of the greatest key and an owner of its value, or `None` if the map is empty. `O(log n)`.
+    /// Returns a clone of the greatest key and an `Arc` of its value, or `None` if the map is
+    /// empty. The key's `Clone` runs while this call shares the lock.
     ///
-    /// The key's `Clone` runs while this call shares the lock.
-    /// `Err` only where that failed, or where the `Arc` already has the most owners that it can count.
+    /// # Errors
+    /// Fails if the key's `clone` fails, or if the `Arc` has the maximum number of owners.
+    ///
+    /// # Blocks
+    /// While a thread writes or waits to write.
+    ///
+    /// # Cost
+    /// `O(log n)`.
     pub fn last_key_value_cloned(
         &self,
         rt: &impl Wait,
@@ -98,10 +137,18 @@ impl<K: Ord + Drop, V, A: Allocator + Copy> Locked<K, V, BTreeMap<K, Arc<V, A>, 
         self.lock.read(rt).last_key_value_cloned()
     }
 
-    /// A map with the same content, which shares the values. Later insertions into either leave the other. `O(n)`.
+    /// Makes a map with the same content, which shares the values. Later insertions into one of the
+    /// two don't change the other. The keys' `Clone` runs while this call shares the lock.
     ///
-    /// The keys' `Clone` runs while this call shares the lock.
-    /// `Err` on an allocation failure.
+    /// # Errors
+    /// Fails if an allocation fails, if a key's `clone` fails, or if an `Arc` has the maximum
+    /// number of owners.
+    ///
+    /// # Blocks
+    /// While a thread writes or waits to write.
+    ///
+    /// # Cost
+    /// `O(n)`.
     pub fn clone(&self, rt: &impl Wait) -> Result<Self, AllocError>
     where
         K: Clone,
@@ -114,11 +161,21 @@ impl<K: Ord + Drop, V, A: Allocator + Copy> Locked<K, V, BTreeMap<K, Arc<V, A>, 
         })
     }
 
-    /// Whether both have the same keys, with values that are equal by `==`. `O(n)`.
+    /// Returns whether both maps have the same keys, with values that are equal by `==`.
     ///
-    /// It copies its own content under its lock, releases it, and compares under the other's, so a map may be compared
-    /// with itself, and two threads may compare two maps both ways round. `==` runs while this call shares the other's lock.
-    /// `Err` only where the copy failed.
+    /// The call copies the content of `self` under its lock, releases the lock, and compares the
+    /// copy under the lock of `other`. So a map may be compared with itself, and two threads may
+    /// compare two maps with each other in both directions. `==` runs while this call shares the
+    /// lock of `other`.
+    ///
+    /// # Errors
+    /// Fails if the copy fails, as [`clone`](Locked::clone) does.
+    ///
+    /// # Blocks
+    /// While a thread writes to one of the maps or waits to write.
+    ///
+    /// # Cost
+    /// `O(n)`.
     pub fn equals(&self, rt: &impl Wait, other: &Self) -> Result<bool, AllocError>
     where
         K: Clone,
@@ -132,15 +189,17 @@ impl<K: Ord + Drop, V, A: Allocator + Copy> Locked<K, V, BTreeMap<K, Arc<V, A>, 
 }
 
 impl<K: Ord + Drop, V: Drop, A: Allocator + Copy> Locked<K, V, BTreeMap<K, Arc<V, A>, A>, A> {
-    /// The map of the items: each key has the value of its last pair. `O(n log n)`. Takes no lock.
+    /// Makes a map of the iterator's pairs: each key has the value of its last pair. It takes no
+    /// lock.
     ///
-    /// `Err` where the memory of an `Arc` or of a growth was refused; what was collected is dropped.
-    pub fn from_iter<I: Iterator<Item = (K, V)> + Drop>(
-        alloc: A,
-        items: I,
-    ) -> Result<Self, AllocError>
-        requires can { I.can_next items }
-        requires ends { IsFinite (I.remaining items) }
+    /// # Errors
+    /// Fails if an allocation fails. The map is then dropped.
+    ///
+    /// # Cost
+    /// `O(n log n)`.
+    pub fn from_iter<I: IntoIterator<Item = (K, V)>>(alloc: A, items: I) -> Result<Self, AllocError>
+        requires ends { (s : I.IntoIter) → I.into_iter_gives items s →
+            I.IntoIter.can_next s × IsFinite (I.IntoIter.remaining s) }
     {
         let made = TreeState::from_iter(alloc, items)?;
         Ok(Locked {
@@ -148,9 +207,11 @@ impl<K: Ord + Drop, V: Drop, A: Allocator + Copy> Locked<K, V, BTreeMap<K, Arc<V
         })
     }
 
-    /// The entries, each once, ascending by key. Takes no lock, since the owner has the map alone.
+    /// Returns the entries, each once, in ascending order of the keys. It takes no lock, since the
+    /// caller owns the map.
     ///
-    /// `Err` drops the map.
+    /// # Errors
+    /// Fails if an allocation fails. The map is then dropped.
     pub fn into_tuple_vec(self) -> Result<Vec<(K, Arc<V, A>), A>, AllocError>
         ensures { IfOk result (λ v. IsStrictlySortedBy K.cmp (keys_of v.items)) }
     {

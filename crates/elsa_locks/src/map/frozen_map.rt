@@ -1,8 +1,8 @@
-//! The hashed map behind a lock.
+//! The hashed map under a lock.
 ghost use Rattle.std.specs.Prelude.{IfOk};
 ghost use Rattle.std.specs.List.{IsDistinct};
 ghost use Rattle.std.specs.Map.{keys_of};
-ghost use Rattle.elsa_words.specs.FirstWins.{CloneIsEqual};
+ghost use Rattle.elsa_specs.specs.FirstWins.{CloneIsEqual};
 
 use super::{Locked, MapState};
 use std::alloc::{AllocError, Allocator, Global};
@@ -10,9 +10,11 @@ use std::collections::HashMap;
 use std::hash::{BuildHasher, BuildHasherDefault, FoldHasher, Hash};
 use std::sync::{Arc, RwLock, Wait};
 
-/// A hashed map that threads share, in which the first value of a key stays: see [`Locked`] for what runs under the lock.
+/// A hashed map that threads share, in which the first value of a key stays. [`Locked`] documents
+/// what runs under the lock.
 ///
-/// Each call makes that of the same name on a [`MapState`]. `S` makes the hasher: give one that is seeded where keys come from outside.
+/// Each call makes the call of the same name on a [`MapState`]. `S` builds the hasher. If the keys
+/// are untrusted input, use a `SeededState` of `elsa`.
 pub type FrozenMap<K, V, S = BuildHasherDefault<FoldHasher>, A = Global> = Locked<
     K,
     V,
@@ -26,16 +28,18 @@ impl<K: Eq + Hash + Drop, V, A: Allocator + Copy> Locked<
     HashMap<K, Arc<V, A>, BuildHasherDefault<FoldHasher>, A>,
     A,
 > {
-    /// An empty map. Takes no memory and no lock.
+    /// Makes an empty map. It allocates nothing and takes no lock.
     pub fn new(alloc: A) -> Self {
         Locked {
             lock: RwLock::new(MapState::new(alloc)),
         }
     }
 
-    /// The entries, each once, in no specified order. Takes no lock, since the owner has the map alone.
+    /// Returns the entries, each once, in an unspecified order. It takes no lock, since the caller
+    /// owns the map.
     ///
-    /// `Err` drops the map.
+    /// # Errors
+    /// Fails if an allocation fails. The map is then dropped.
     pub fn into_tuple_vec(self) -> Result<Vec<(K, Arc<V, A>), A>, AllocError>
     where
         V: Drop,
@@ -52,25 +56,42 @@ impl<K: Eq + Hash + Drop, V, S: BuildHasher, A: Allocator + Copy> Locked<
     HashMap<K, Arc<V, A>, S, A>,
     A,
 > {
-    /// An empty map whose keys this hasher hashes. Takes no memory and no lock.
+    /// Makes an empty map that hashes its keys by `hash_builder`. It allocates nothing and takes no
+    /// lock.
     pub fn with_hasher(alloc: A, hash_builder: S) -> Self {
         Locked {
             lock: RwLock::new(MapState::with_hasher(alloc, hash_builder)),
         }
     }
 
-    /// Calls `f` at the key and the value of each entry, once at each, in no specified order. `O(n)`. Takes no memory.
+    /// Calls `f` with the key and the value of each entry, once for each, in an unspecified order.
+    /// It allocates nothing.
     ///
-    /// One read lock is held for the whole walk: insertions wait until it ends, other reads needn't. A call on the same map in `f`
-    /// may wait for ever, also one that only reads.
+    /// The call shares the lock until all entries were visited: insertions block until then, and
+    /// other reads don't. A call on the same map in `f` can deadlock, even if it only reads.
+    ///
+    /// # Blocks
+    /// While a thread writes or waits to write.
+    ///
+    /// # Cost
+    /// `O(n)`.
     pub fn for_each<F: FnMut(&K, &V) + Drop>(&self, rt: &impl Wait, f: F)
         requires { F.IsAlwaysCallable f }
     {
         self.lock.read(rt).for_each(f)
     }
 
-    /// A clone of each key, each once, in no specified order. `O(n)`. The keys' `Clone` runs while this call shares the lock.
-    /// `Err` on an allocation failure.
+    /// Returns a clone of each key, each once, in an unspecified order. The keys' `Clone` runs
+    /// while this call shares the lock.
+    ///
+    /// # Errors
+    /// Fails if an allocation fails, or if a key's `clone` fails.
+    ///
+    /// # Blocks
+    /// While a thread writes or waits to write.
+    ///
+    /// # Cost
+    /// `O(n)`.
     pub fn keys_cloned(&self, rt: &impl Wait) -> Result<Vec<K, A>, AllocError>
     where
         K: Clone,
@@ -79,10 +100,18 @@ impl<K: Eq + Hash + Drop, V, S: BuildHasher, A: Allocator + Copy> Locked<
         self.lock.read(rt).keys_cloned()
     }
 
-    /// A map with the same content, which shares the values. Later insertions into either leave the other. `O(n)`.
+    /// Makes a map with the same content, which shares the values. Later insertions into one of the
+    /// two don't change the other. The keys' `Clone` runs while this call shares the lock.
     ///
-    /// The keys' `Clone` runs while this call shares the lock.
-    /// `Err` on an allocation failure.
+    /// # Errors
+    /// Fails if an allocation fails, if the `clone` of a key or of the hash builder fails, or if an
+    /// `Arc` has the maximum number of owners.
+    ///
+    /// # Blocks
+    /// While a thread writes or waits to write.
+    ///
+    /// # Cost
+    /// `O(n)`.
     pub fn clone(&self, rt: &impl Wait) -> Result<Self, AllocError>
     where
         K: Clone,
@@ -96,11 +125,21 @@ impl<K: Eq + Hash + Drop, V, S: BuildHasher, A: Allocator + Copy> Locked<
         })
     }
 
-    /// Whether both have the same keys, with values that are equal by `==`. `O(n)`.
+    /// Returns whether both maps have the same keys, with values that are equal by `==`.
     ///
-    /// It copies its own content under its lock, releases it, and compares under the other's, so a map may be compared
-    /// with itself, and two threads may compare two maps both ways round. `==` runs while this call shares the other's lock.
-    /// `Err` only where the copy failed.
+    /// The call copies the content of `self` under its lock, releases the lock, and compares the
+    /// copy under the lock of `other`. So a map may be compared with itself, and two threads may
+    /// compare two maps with each other in both directions. `==` runs while this call shares the
+    /// lock of `other`.
+    ///
+    /// # Errors
+    /// Fails if the copy fails, as [`clone`](Locked::clone) does.
+    ///
+    /// # Blocks
+    /// While a thread writes to one of the maps or waits to write.
+    ///
+    /// # Cost
+    /// `O(n)`.
     pub fn equals(&self, rt: &impl Wait, other: &Self) -> Result<bool, AllocError>
     where
         K: Clone,

@@ -2,7 +2,7 @@
 ghost use Rattle.std.specs.Prelude.{◌≡◌, [], IfOk, IsTrue, ◌↔◌};
 ghost use Rattle.std.specs.List.{IsDistinct, AllZip};
 ghost use Rattle.std.specs.Map.{keys_of};
-ghost use Rattle.elsa_words.specs.FirstWins.{value_at, IsSameContent, IsEqualMap, IsKeys, CloneIsEqual};
+ghost use Rattle.elsa_specs.specs.FirstWins.{value_at, IsSameContent, IsEqualMap, IsKeys, CloneIsEqual};
 ghost use Rattle.elsa_locks.specs.Shared.{shown};
 ghost use Rattle.elsa_locks.specs.Walks.{VisitsAll};
 
@@ -13,10 +13,11 @@ use std::collections::HashMap;
 use std::hash::{BuildHasher, BuildHasherDefault, FoldHasher, Hash};
 use std::sync::Arc;
 
-/// A hashed map in which the first value of a key stays. Values are shared as `Arc<V>`. Keys are told apart by `==`.
+/// A hashed map in which the first value of a key stays. Values are shared as `Arc<V>`, and keys
+/// are compared by `==`.
 ///
-/// Contracts see the list of its entries, in no specified order, with each value in place of its `Arc`. `S` makes the hasher, and `A` gives
-/// the memory of the table and of each `Arc`.
+/// Contracts see the list of its entries, in an unspecified order, with each value instead of its
+/// `Arc`. `S` builds the hasher. `A` allocates the table and each `Arc`.
 pub type MapState<K, V, S = BuildHasherDefault<FoldHasher>, A = Global> = State<
     K,
     V,
@@ -30,14 +31,17 @@ impl<K: Eq + Hash + Drop, V, A: Allocator + Copy> State<
     HashMap<K, Arc<V, A>, BuildHasherDefault<FoldHasher>, A>,
     A,
 > {
-    /// An empty map. Takes no memory.
+    /// Makes an empty map. It allocates nothing.
     pub fn new(alloc: A) -> Self
         ensures { result ≡ [] }
     {
         State::over(alloc, HashMap::new(alloc))
     }
 
-    /// The entries, each once, in no specified order. `Err` drops the map.
+    /// Returns the entries, each once, in an unspecified order.
+    ///
+    /// # Errors
+    /// Fails if an allocation fails. The map is then dropped.
     #[tactic(auto, using(crate::proofs::Shared::shows))]
     pub fn into_tuple_vec(self) -> Result<Vec<(K, Arc<V, A>), A>, AllocError>
     where
@@ -64,14 +68,18 @@ impl<K: Eq + Hash + Drop, V, S: BuildHasher, A: Allocator + Copy> State<
     HashMap<K, Arc<V, A>, S, A>,
     A,
 > {
-    /// An empty map whose keys this hasher hashes. Takes no memory.
+    /// Makes an empty map that hashes its keys by `hash_builder`. It allocates nothing.
     pub fn with_hasher(alloc: A, hash_builder: S) -> Self
         ensures { result ≡ [] }
     {
         State::over(alloc, HashMap::with_hasher(alloc, hash_builder))
     }
 
-    /// Calls `f` at the key and the value of each entry, once at each, in no specified order. `O(n)`. Takes no memory.
+    /// Calls `f` with the key and the value of each entry, once for each, in an unspecified order.
+    /// It allocates nothing.
+    ///
+    /// # Cost
+    /// `O(n)`.
     pub fn for_each<F: FnMut(&K, &V) + Drop>(&self, f: F)
         requires { F.IsAlwaysCallable f }
         ensures { VisitsAll F.FnMut f self.now }
@@ -79,8 +87,16 @@ impl<K: Eq + Hash + Drop, V, S: BuildHasher, A: Allocator + Copy> State<
         visit(self.table.iter(), f);
     }
 
-    /// A clone of each key, each once, in no specified order. `O(n)`, one request for the list besides the keys' clones.
-    /// `Err` on an allocation failure.
+    /// Returns a clone of each key, each once, in an unspecified order.
+    ///
+    /// # Errors
+    /// Fails if an allocation fails, or if a key's `clone` fails.
+    ///
+    /// # Allocates
+    /// The list, once, and what the clones allocate.
+    ///
+    /// # Cost
+    /// `O(n)`.
     #[tactic(auto, using(crate::proofs::Shared::shows))]
     pub fn keys_cloned(&self) -> Result<Vec<K, A>, AllocError>
     where
@@ -96,8 +112,15 @@ impl<K: Eq + Hash + Drop, V, S: BuildHasher, A: Allocator + Copy> State<
         Ok(keys)
     }
 
-    /// A map with the same content, which shares the values. `O(n)`. Later insertions into either leave the other.
-    /// `Err` on an allocation failure.
+    /// Makes a map with the same content, which shares the values. Later insertions into one of the
+    /// two don't change the other.
+    ///
+    /// # Errors
+    /// Fails if an allocation fails, if the `clone` of a key or of the hash builder fails, or if an
+    /// `Arc` has the maximum number of owners.
+    ///
+    /// # Cost
+    /// `O(n)`.
     pub fn copy(&self) -> Result<Self, AllocError>
     where
         K: Clone,
@@ -109,7 +132,11 @@ impl<K: Eq + Hash + Drop, V, S: BuildHasher, A: Allocator + Copy> State<
         Ok(State::over(self.alloc, self.table.clone()?))
     }
 
-    /// Whether both have the same keys, with values that are equal by `==`. `O(n)`. Takes no memory.
+    /// Returns whether both maps have the same keys, with values that are equal by `==`. It
+    /// allocates nothing.
+    ///
+    /// # Cost
+    /// `O(n)`.
     pub fn same(&self, other: &Self) -> bool
     where
         V: PartialEq,

@@ -1,24 +1,27 @@
-//! The map behind a lock, over any table.
+//! The map under a lock, over any table.
 ghost use Rattle.std.specs.Prelude.{◌≡◌, Some, true, is_some};
 
 use super::State;
-use elsa_tables::Table;
+use elsa_tables::{Inserted, Seeks, Table};
 use std::alloc::{AllocError, Allocator, Global};
 use std::fmt::{self, Debug, Formatter, Write};
 use std::sync::{Arc, RwLock, Wait};
 
 /// A map that threads share, in which the first value of a key stays, over a table `T`.
 ///
-/// Each call on `&self` takes the lock, makes the call of the same name on the [`State`] behind it, and releases the lock
-/// before it returns: look there for what is promised of that call. Reading calls share the lock, inserting ones
-/// have it alone. All of them may wait.
+/// Each call on `&self` takes the lock, makes the call of the same name on its [`State`], and
+/// releases the lock before it returns. The contracts of `State` define the effect of that call.
+/// Reads share the lock; insertions take it exclusively.
 ///
-/// What runs under the lock: the table's hashing and comparing of keys, closures that make a value, the closure of `for_each`, the `Drop` of a key that is
-/// passed in for a present one or that the table had no room for, and of a value whose `Arc` got no memory. A call on the same map in one
-/// of them may wait for ever. A value or a closure that an insertion has no use for is dropped after the lock was released, and the
-/// closure of `map_get` runs after it.
+/// Some code of the caller runs while a call has the lock: the hashing, comparison and `Clone` of
+/// keys; the `==` of values; closures that make a value; the closure of `for_each`; the `Drop` of a
+/// key that the map already has or has no room for; the `Drop` of a value whose `Arc` could not be
+/// allocated. If this code calls the same map, it can deadlock. An insertion that doesn't use its
+/// value or its closure drops it after the lock is released. `map_get` calls its closure after the
+/// lock is released.
 ///
-/// [`FrozenMap`](super::FrozenMap) and [`FrozenBTreeMap`](super::FrozenBTreeMap) are this over a hashed table and over an ordered one.
+/// [`FrozenMap`](super::FrozenMap) is its name over a hash table, and
+/// [`FrozenBTreeMap`](super::FrozenBTreeMap) over an ordered table.
 #[derive(Drop)]
 pub struct Locked<K, V, T, A: Allocator = Global>
 where
@@ -27,7 +30,7 @@ where
     pub(super) lock: RwLock<State<K, V, T, A>>,
 }
 
-/// What is in there, taken out.
+/// Takes the value out of the option.
 pub(super) fn take<X>(given: &mut Option<X>) -> X
     requires { is_some given.old ≡ true }
     ensures { given.old ≡ Some result }
@@ -42,51 +45,78 @@ impl<K, V, T, A: Allocator + Copy> Locked<K, V, T, A>
 where
     T: Table<K, Arc<V, A>>,
 {
-    /// An owner of the value at the key, or `None` if the key is absent.
-    /// `Err` only where the `Arc` already has the most owners that it can count.
-    pub fn get(&self, rt: &impl Wait, key: &K) -> Result<Option<Arc<V, A>>, AllocError>
+    /// Returns an `Arc` of the value at the key that `query` finds, or `None` if the map has no
+    /// such key.
+    ///
+    /// A reference to a key is a query, and so is a `&str` if the keys are texts: [`Seeks`] lists
+    /// them.
+    ///
+    /// # Errors
+    /// Fails if the map has the key and the `Arc` has the maximum number of owners.
+    ///
+    /// # Blocks
+    /// While a thread writes or waits to write.
+    pub fn get<Q>(&self, rt: &impl Wait, query: Q) -> Result<Option<Arc<V, A>>, AllocError>
     where
+        Q: Seeks<K, Arc<V, A>, T>,
         V: Drop,
     {
-        self.lock.read(rt).get(key)
+        self.lock.read(rt).get(query)
     }
 
-    /// What the one call of `f` on the value at the key returns, or `None`, without a call, if the key is absent.
+    /// Calls `f` once, with the value at the key that `query` finds, and returns the result.
+    /// Returns `None`, without a call, if the map has no such key.
     ///
-    /// `f` runs after the lock was released, on one more owner of the value, so it may call the same map; only where the `Arc` already has
-    /// the most owners that it can count does `f` run while this call shares the lock.
-    pub fn map_get<R, F: FnOnce(&V) -> R + Drop>(&self, rt: &impl Wait, key: &K, f: F) -> Option<R>
+    /// The lock is released before `f` is called, so `f` may call the same map. Exception: if the
+    /// `Arc` has the maximum number of owners, `f` runs while this call shares the lock.
+    ///
+    /// # Blocks
+    /// While a thread writes or waits to write.
+    pub fn map_get<R, Q, F>(&self, rt: &impl Wait, query: Q, f: F) -> Option<R>
     where
+        Q: Seeks<K, Arc<V, A>, T>,
+        F: FnOnce(&V) -> R + Drop,
         V: Drop,
         requires { F.IsAlwaysCallable f }
     {
-        let found = self.lock.read(rt).get(key);
+        let found = self.lock.read(rt).get(query);
         match found {
             Ok(None) => None,
             Ok(Some(owner)) => Some(f(&*owner)),
-            Err(_) => self.lock.read(rt).map_get(key, f),
+            Err(_) => self.lock.read(rt).map_get(query, f),
         }
     }
 
-    /// A copy of the value at the key, or `None` if the key is absent. Takes no memory.
-    pub fn get_copy(&self, rt: &impl Wait, key: &K) -> Option<V>
+    /// Returns a copy of the value at the key that `query` finds, or `None` if the map has no such
+    /// key.
+    ///
+    /// # Blocks
+    /// While a thread writes or waits to write.
+    pub fn get_copy<Q: Seeks<K, Arc<V, A>, T>>(&self, rt: &impl Wait, query: Q) -> Option<V>
     where
         V: Copy,
     {
-        self.lock.read(rt).get_copy(key)
+        self.lock.read(rt).get_copy(query)
     }
 
-    /// The number of entries. Takes no memory.
+    /// Returns the number of entries. It allocates nothing.
+    ///
+    /// # Blocks
+    /// While a thread writes or waits to write.
     pub fn len(&self, rt: &impl Wait) -> usize {
         self.lock.read(rt).len()
     }
 
-    /// Whether there is no entry. Takes no memory.
+    /// Returns whether the map has no entry. It allocates nothing.
+    ///
+    /// # Blocks
+    /// While a thread writes or waits to write.
     pub fn is_empty(&self, rt: &impl Wait) -> bool {
         self.lock.read(rt).is_empty()
     }
 
-    /// The table itself, to write: it may change or remove anything. Takes no lock, since the owner has the map alone.
+    /// Returns the table, borrowed for writing: the caller may change or remove any entry. It takes
+    /// no lock, since the caller has the only reference to the map.
     pub fn as_mut(&mut self) -> &mut T {
         self.lock.get_mut().table_mut()
     }
@@ -96,34 +126,55 @@ impl<K, V: Drop, T, A: Allocator + Copy> Locked<K, V, T, A>
 where
     T: Table<K, Arc<V, A>>,
 {
-    /// An owner of the value that the key has afterwards: its own if it is present, else the one given.
+    /// Inserts the value unless the map has the key, and returns an `Arc` of the value that the key
+    /// then has.
     ///
-    /// The value of a present key's insertion is dropped after the lock was released, the key under it.
-    /// `Err` on an allocation failure, or where the `Arc` has the most owners that it can count: the map is as before.
+    /// If the map has the key, the given key is dropped under the lock, and the given value after
+    /// the lock is released.
+    ///
+    /// # Errors
+    /// Fails if an allocation fails, or if the `Arc` has the maximum number of owners. The map is
+    /// then unchanged.
+    ///
+    /// # Blocks
+    /// While another thread has the lock.
     pub fn insert(&self, rt: &impl Wait, key: K, value: V) -> Result<Arc<V, A>, AllocError> {
-        Ok(self.insert_new(rt, key, value)?.0)
+        Ok(self.insert_new(rt, key, value)?.value)
     }
 
-    /// `insert`, with whether the key was new.
-    /// `Err` on an allocation failure, or where the `Arc` has the most owners that it can count: the map is as before.
+    /// Inserts the value unless the map has the key. Returns an `Arc` of the value that the key
+    /// then has, and whether the key was new.
+    ///
+    /// # Errors
+    /// Fails as [`insert`](Locked::insert) does.
+    ///
+    /// # Blocks
+    /// While another thread has the lock.
     pub fn insert_new(
         &self,
         rt: &impl Wait,
         key: K,
         value: V,
-    ) -> Result<(Arc<V, A>, bool), AllocError> {
+    ) -> Result<Inserted<Arc<V, A>>, AllocError> {
         let mut given = Some(value);
         let make = |_key: &K| -> V
             requires { is_some given ≡ true }
         { take(&mut given) };
-        let answer = self.lock.write(rt).insert_with_key_new(key, make);
+        let answer = self.lock.write(rt).insert_with_key(key, make);
         answer
     }
 
-    /// `insert` of what `f` returns, which is called only where the key is absent and room was made for it.
+    /// Inserts the result of `f` unless the map has the key, and returns an `Arc` of the value that
+    /// the key then has.
     ///
-    /// `f` runs while this call has the lock alone: a call on the same map in it may wait for ever.
-    /// `Err` on an allocation failure, or where the `Arc` has the most owners that it can count: the map is as before.
+    /// `f` is called only if the key is absent and the table has room for it. It runs under the
+    /// lock, so a call on the same map in it can deadlock.
+    ///
+    /// # Errors
+    /// Fails as [`insert`](Locked::insert) does.
+    ///
+    /// # Blocks
+    /// While another thread has the lock.
     pub fn insert_with<F: FnOnce() -> V + Drop>(
         &self,
         rt: &impl Wait,
@@ -137,11 +188,18 @@ where
             requires { (is_some given ≡ true) × ((g : F) → given ≡ Some g → F.pre g) }
         { take(&mut given)() };
         let answer = self.lock.write(rt).insert_with_key(key, make);
-        answer
+        Ok(answer?.value)
     }
 
-    /// `insert_with` for an `f` that is given the key. A call on the same map in it may wait for ever.
-    /// `Err` on an allocation failure, or where the `Arc` has the most owners that it can count: the map is as before.
+    /// Inserts the result of `f` unless the map has the key, and returns an `Arc` of the value that
+    /// the key then has: [`insert_with`](Locked::insert_with) for an `f` that receives the key. A
+    /// call on the same map in `f` can deadlock.
+    ///
+    /// # Errors
+    /// Fails as [`insert`](Locked::insert) does.
+    ///
+    /// # Blocks
+    /// While another thread has the lock.
     pub fn insert_with_key<F: FnOnce(&K) -> V + Drop>(
         &self,
         rt: &impl Wait,
@@ -155,7 +213,7 @@ where
             requires { (is_some given ≡ true) × ((g : F) → given ≡ Some g → F.pre g key) }
         { take(&mut given)(key) };
         let answer = self.lock.write(rt).insert_with_key(key, make);
-        answer
+        Ok(answer?.value)
     }
 }
 
@@ -163,16 +221,31 @@ impl<K, V: Copy, T, A: Allocator + Copy> Locked<K, V, T, A>
 where
     T: Table<K, Arc<V, A>>,
 {
-    /// A copy of the value that the key has afterwards. A present key takes no memory.
-    /// `Err` on an allocation failure, only for an absent key: the map is as before, and what was given is dropped.
+    /// Inserts the value unless the map has the key, and returns a copy of the value that the key
+    /// then has. If the map has the key, the call allocates nothing.
+    ///
+    /// # Errors
+    /// Fails if the key is absent and an allocation fails. The map is then unchanged, and the key
+    /// and the value are dropped.
+    ///
+    /// # Blocks
+    /// While another thread has the lock.
     pub fn get_copy_or_insert(&self, rt: &impl Wait, key: K, value: V) -> Result<V, AllocError> {
-        self.lock.write(rt).get_copy_or_insert(key, value)
+        let answer = self.lock.write(rt).get_copy_or_insert(key, value);
+        Ok(answer?.value)
     }
 
-    /// `get_copy_or_insert` of what `f` returns, which is called only where the key is absent and room was made for it.
+    /// Inserts the result of `f` unless the map has the key, and returns a copy of the value that
+    /// the key then has. If the map has the key, the call allocates nothing.
     ///
-    /// `f` runs while this call has the lock alone: a call on the same map in it may wait for ever.
-    /// `Err` on an allocation failure, only for an absent key: the map is as before, and what was given is dropped.
+    /// `f` is called only if the key is absent and the table has room for it. It runs under the
+    /// lock, so a call on the same map in it can deadlock.
+    ///
+    /// # Errors
+    /// Fails as [`get_copy_or_insert`](Locked::get_copy_or_insert) does.
+    ///
+    /// # Blocks
+    /// While another thread has the lock.
     pub fn get_copy_or_insert_with<F: FnOnce() -> V + Drop>(
         &self,
         rt: &impl Wait,
@@ -186,11 +259,18 @@ where
             requires { (is_some given ≡ true) × ((g : F) → given ≡ Some g → F.pre g) }
         { take(&mut given)() };
         let answer = self.lock.write(rt).get_copy_or_insert_with_key(key, make);
-        answer
+        Ok(answer?.value)
     }
 
-    /// `get_copy_or_insert_with` for an `f` that is given the key. A call on the same map in it may wait for ever.
-    /// `Err` on an allocation failure, only for an absent key: the map is as before, and what was given is dropped.
+    /// Inserts the result of `f` unless the map has the key, and returns a copy of the value that
+    /// the key then has: [`get_copy_or_insert_with`](Locked::get_copy_or_insert_with) for an `f`
+    /// that receives the key. A call on the same map in `f` can deadlock.
+    ///
+    /// # Errors
+    /// Fails as [`get_copy_or_insert`](Locked::get_copy_or_insert) does.
+    ///
+    /// # Blocks
+    /// While another thread has the lock.
     pub fn get_copy_or_insert_with_key<F: FnOnce(&K) -> V + Drop>(
         &self,
         rt: &impl Wait,
@@ -204,12 +284,12 @@ where
             requires { (is_some given ≡ true) × ((g : F) → given ≡ Some g → F.pre g key) }
         { take(&mut given)(key) };
         let answer = self.lock.write(rt).get_copy_or_insert_with_key(key, make);
-        answer
+        Ok(answer?.value)
     }
 }
 
-/// `{:?}` writes the entries, in the table's order, as of the table itself, under the read lock; `<locked>` while an insertion has the lock
-/// or waits for it. Waits for nobody.
+/// Writes the entries by `{:?}`, in the table's order, as the table does, under the read lock. If
+/// an insertion has the lock or waits for it, it writes `<locked>`. It never blocks.
 impl<K, V, T, A: Allocator> Debug for Locked<K, V, T, A>
 where
     T: Table<K, Arc<V, A>> + Debug,

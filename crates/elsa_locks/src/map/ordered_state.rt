@@ -7,25 +7,29 @@ ghost use Rattle.std.specs.List.{AllZip};
 ghost use Rattle.std.specs.List.Sorted.{IsStrictlySortedBy};
 ghost use Rattle.std.specs.Map.{keys_of};
 ghost use Rattle.std.specs.Ordering.{eq_by_cmp};
-ghost use Rattle.elsa_words.specs.FirstWins.{value_at, IsSameContent, IsEqualMap, IsCollected, IsKeys, CloneIsEqual};
+ghost use Rattle.elsa_specs.specs.FirstWins.{value_at, IsSameContent, IsEqualMap, IsCollected, IsKeys, CloneIsEqual};
 ghost use Rattle.elsa_locks.specs.Shared.{shown};
 ghost use Rattle.elsa_locks.specs.Walks.{VisitsAll, IsCopyOf};
 
 use super::State;
 use super::walks::{copied_entry, visit};
-use elsa_words::for_its_clause;
+use elsa_specs::for_its_clause;
 use std::alloc::{AllocError, Allocator, Global};
 use std::collections::BTreeMap;
 use std::ops::RangeBounds;
 use std::sync::Arc;
 
-/// An ordered map in which the first value of a key stays. Values are shared as `Arc<V>`. Keys are told apart by their order.
+/// An ordered map in which the first value of a key stays. Values are shared as `Arc<V>`, and keys
+/// are compared by their order.
 ///
-/// Contracts see the list of its entries, ascending by key, with each value in place of its `Arc`. `A` gives the memory of the tree and of
-/// each `Arc`.
+/// Contracts see the list of its entries, in ascending order of the keys, with each value instead
+/// of its `Arc`. `A` allocates the tree and each `Arc`.
 pub type TreeState<K, V, A = Global> = State<K, V, BTreeMap<K, Arc<V, A>, A>, A>;
 
-/// Stores an owner at a key, in place of the one that is there, if any. `Err` leaves the entries.
+/// Stores an `Arc` at a key, and replaces the earlier one if there is one.
+///
+/// # Errors
+/// Fails if an allocation fails. The entries are then unchanged.
 #[tactic(auto, using(crate::proofs::Shared::shows))]
 fn store<K: Ord + Drop, V: Drop, A: Allocator + Copy>(
     table: &mut BTreeMap<K, Arc<V, A>, A>,
@@ -43,21 +47,25 @@ fn store<K: Ord + Drop, V: Drop, A: Allocator + Copy>(
 }
 
 impl<K: Ord + Drop, V, A: Allocator + Copy> State<K, V, BTreeMap<K, Arc<V, A>, A>, A> {
-    /// An empty map. Takes no memory.
+    /// Makes an empty map. It allocates nothing.
     pub fn new(alloc: A) -> Self
         ensures { result ≡ [] }
     {
         State::over(alloc, BTreeMap::new(alloc))
     }
 
-    /// A map over the entries of `map`, which stay as they are. Takes no memory; `alloc` serves later insertions.
+    /// Makes a map with the entries of `map`. It allocates nothing; later insertions use `alloc`.
     pub fn from_map(alloc: A, map: BTreeMap<K, Arc<V, A>, A>) -> Self
         ensures { result ≡ shown map.entries }
     {
         State::over(alloc, map)
     }
 
-    /// Calls `f` at the key and the value of each entry, once at each, ascending by key. `O(n)`. Takes no memory.
+    /// Calls `f` with the key and the value of each entry, once for each, in ascending order of the
+    /// keys. It allocates nothing.
+    ///
+    /// # Cost
+    /// `O(n)`.
     pub fn for_each<F: FnMut(&K, &V) + Drop>(&self, f: F)
         requires { F.IsAlwaysCallable f }
         ensures { VisitsAll F.FnMut f self.now }
@@ -65,9 +73,13 @@ impl<K: Ord + Drop, V, A: Allocator + Copy> State<K, V, BTreeMap<K, Arc<V, A>, A
         visit(self.table.iter(), f);
     }
 
-    /// Calls `f` at the key and the value of each entry whose key is in the range, once at each, ascending by key.
+    /// Calls `f` with the key and the value of each entry whose key is in the range, once for each,
+    /// in ascending order of the keys. It allocates nothing.
     ///
-    /// The range must not begin behind its end, as `5..3` does. `O(log n)`, and `O(1)` on average for each entry. Takes no memory.
+    /// The range must not begin after its end, as `5..3` does.
+    ///
+    /// # Cost
+    /// `O(log n)`, and `O(1)` on average for each entry.
     pub fn for_each_in_range<G: RangeBounds<K> + Drop, F: FnMut(&K, &V) + Drop>(
         &self,
         range: G,
@@ -81,8 +93,16 @@ impl<K: Ord + Drop, V, A: Allocator + Copy> State<K, V, BTreeMap<K, Arc<V, A>, A
         visit(self.table.range(range), f);
     }
 
-    /// A clone of each key, each once, ascending. `O(n)`, one request for the list besides the keys' clones.
-    /// `Err` on an allocation failure.
+    /// Returns a clone of each key, each once, in ascending order.
+    ///
+    /// # Errors
+    /// Fails if an allocation fails, or if a key's `clone` fails.
+    ///
+    /// # Allocates
+    /// The list, once, and what the clones allocate.
+    ///
+    /// # Cost
+    /// `O(n)`.
     #[tactic(auto, using(crate::proofs::Shared::shows))]
     pub fn keys_cloned(&self) -> Result<Vec<K, A>, AllocError>
     where
@@ -99,36 +119,52 @@ impl<K: Ord + Drop, V, A: Allocator + Copy> State<K, V, BTreeMap<K, Arc<V, A>, A
         Ok(keys)
     }
 
-    /// A clone of the least key and an owner of its value, or `None` if the map is empty. `O(log n)`.
+    /// Returns a clone of the least key and an `Arc` of its value, or `None` if the map is empty.
     ///
-    /// `Err` only where the key's clone failed or one more owner couldn't be made.
+    /// # Errors
+    /// Fails if the key's `clone` fails, or if the `Arc` has the maximum number of owners.
+    ///
+    /// # Cost
+    /// `O(log n)`.
     pub fn first_key_value_cloned(&self) -> Result<Option<(K, Arc<V, A>)>, AllocError>
     where
         K: Clone,
         V: Drop,
         ensures answer { IfOk result (λ a.
             MatchOption a (self.now ≡ []) (IsCopyOf K.is_clone (slice_get self.now 0))) }
-        ensures only_there { OnErr result (0 < length self.now) }
+        ensures only_present { OnErr result (0 < length self.now) }
     {
         copied_entry(self.table.first_key_value())
     }
 
-    /// A clone of the greatest key and an owner of its value, or `None` if the map is empty. `O(log n)`.
+    /// Returns a clone of the greatest key and an `Arc` of its value, or `None` if the map is
+    /// empty.
     ///
-    /// `Err` only where the key's clone failed or one more owner couldn't be made.
+    /// # Errors
+    /// Fails if the key's `clone` fails, or if the `Arc` has the maximum number of owners.
+    ///
+    /// # Cost
+    /// `O(log n)`.
     pub fn last_key_value_cloned(&self) -> Result<Option<(K, Arc<V, A>)>, AllocError>
     where
         K: Clone,
         V: Drop,
         ensures answer { IfOk result (λ a. MatchOption a (self.now ≡ [])
             (IsCopyOf K.is_clone (slice_get self.now (length self.now - 1)))) }
-        ensures only_there { OnErr result (0 < length self.now) }
+        ensures only_present { OnErr result (0 < length self.now) }
     {
         copied_entry(self.table.last_key_value())
     }
 
-    /// A map with the same content, which shares the values. `O(n)`. Later insertions into either leave the other.
-    /// `Err` on an allocation failure.
+    /// Makes a map with the same content, which shares the values. Later insertions into one of the
+    /// two don't change the other.
+    ///
+    /// # Errors
+    /// Fails if an allocation fails, if a key's `clone` fails, or if an `Arc` has the maximum
+    /// number of owners.
+    ///
+    /// # Cost
+    /// `O(n)`.
     pub fn copy(&self) -> Result<Self, AllocError>
     where
         K: Clone,
@@ -139,31 +175,36 @@ impl<K: Ord + Drop, V, A: Allocator + Copy> State<K, V, BTreeMap<K, Arc<V, A>, A
         Ok(State::over(self.alloc, self.table.clone()?))
     }
 
-    /// Whether both have the same keys, with values that are equal by `==`. `O(n)`. Takes no memory.
+    /// Returns whether both maps have the same keys, with values that are equal by `==`. It
+    /// allocates nothing.
+    ///
+    /// # Cost
+    /// `O(n)`.
     pub fn same(&self, other: &Self) -> bool
     where
         V: PartialEq,
         ensures { IsTrue result ↔ IsEqualMap (eq_by_cmp K.cmp) V.eq self.now other.now }
     {
-        // The keys of both ascend.
+        // The contract of `len` has the fact that the keys are in ascending order.
         for_its_clause((self.len(), other.len()));
         self.table == other.table
     }
 }
 
 impl<K: Ord + Drop, V: Drop, A: Allocator + Copy> State<K, V, BTreeMap<K, Arc<V, A>, A>, A> {
-    /// The map of the items: each key has the value of its last pair. `O(n log n)`.
+    /// Makes a map of the iterator's pairs: each key has the value of its last pair.
     ///
-    /// `Err` where the memory of an `Arc` or of a growth was refused; what was collected is dropped.
-    pub fn from_iter<I: Iterator<Item = (K, V)> + Drop>(
-        alloc: A,
-        items: I,
-    ) -> Result<Self, AllocError>
-        requires can { I.can_next items }
-        requires ends { IsFinite (I.remaining items) }
+    /// # Errors
+    /// Fails if an allocation fails. The map is then dropped.
+    ///
+    /// # Cost
+    /// `O(n log n)`.
+    pub fn from_iter<I: IntoIterator<Item = (K, V)>>(alloc: A, items: I) -> Result<Self, AllocError>
+        requires ends { (s : I.IntoIter) → I.into_iter_gives items s →
+            I.IntoIter.can_next s × IsFinite (I.IntoIter.remaining s) }
         ensures { IfOk result (λ m.
-            (pairs : List (K × V)) × Drains I.next_gives items pairs
-            × IsCollected (eq_by_cmp K.cmp) pairs m) }
+            (s : I.IntoIter) × (pairs : List (K × V)) × I.into_iter_gives items s
+            × Drains I.IntoIter.next_gives s pairs × IsCollected (eq_by_cmp K.cmp) pairs m) }
     {
         let mut table = BTreeMap::new(alloc);
         for (key, value) in items {
@@ -173,7 +214,10 @@ impl<K: Ord + Drop, V: Drop, A: Allocator + Copy> State<K, V, BTreeMap<K, Arc<V,
         Ok(State::over(alloc, table))
     }
 
-    /// The entries, each once, ascending by key. `Err` drops the map.
+    /// Returns the entries, each once, in ascending order of the keys.
+    ///
+    /// # Errors
+    /// Fails if an allocation fails. The map is then dropped.
     #[tactic(auto, using(crate::proofs::Shared::shows))]
     pub fn into_tuple_vec(self) -> Result<Vec<(K, Arc<V, A>), A>, AllocError>
         ensures pairs { IfOk result (λ v. shown v.items ≡ self) }

@@ -1,14 +1,14 @@
-//! The map under the lock, over any table, with contracts that say what each call does.
+//! The map under the lock, over any table, with contracts that define the effect of each call.
 ghost use Rattle.std.specs.Prelude.{◌≡◌, [], Some, None, true, length, is_some, IfSome, IfOk, OnErr, OnOk, IsTrue, ◌↔◌};
 ghost use Rattle.std.specs.Option.{option_map, UnwrapsOrElse};
 ghost use Rattle.std.specs.Arc.{arc_value};
 ghost use Rattle.std.specs.Fn.{FnOnceReturnsAt, FnOnceTakesAt};
 ghost use Rattle.std.specs.List.{IsDistinct};
-ghost use Rattle.std.specs.Map.{keys_of};
-ghost use Rattle.elsa_words.specs.FirstWins.{value_at};
+ghost use Rattle.std.specs.Map.{keys_of, lookup};
+ghost use Rattle.elsa_specs.specs.FirstWins.{value_at};
 ghost use Rattle.elsa_locks.specs.Shared.{shown, Leaves};
 
-use elsa_tables::{Put, Table};
+use elsa_tables::{Inserted, Put, Seeks, Table};
 use std::alloc::{AllocError, Allocator, Global};
 use std::fmt::{self, Debug, Formatter, Write};
 use std::marker::{Model, PhantomData};
@@ -16,9 +16,10 @@ use std::sync::Arc;
 
 /// A map in which the first value of a key stays, over a table `T`. Values are shared as `Arc<V>`.
 ///
-/// Contracts see the list of its entries, in the table's order, with each value in place of its `Arc`, and tell keys apart as the table
-/// does. `A` gives the memory of each `Arc`. [`MapState`](super::MapState) and [`TreeState`](super::TreeState) are this over a hashed table
-/// and over an ordered one.
+/// Contracts see the list of its entries, in the table's order, with each value instead of its
+/// `Arc`, and compare keys as the table does. `A` allocates each `Arc`.
+/// [`MapState`](super::MapState) is its name over a hash table, and [`TreeState`](super::TreeState)
+/// over an ordered table.
 #[derive(Drop)]
 pub struct State<K, V, T, A: Allocator = Global>
 where
@@ -41,22 +42,25 @@ where
     ghost view = { λ s. shown (T.entries s.table) };
 }
 
-/// The owner at the key, if it is present.
-fn find<'m, K, V, A: Allocator, T: Table<K, Arc<V, A>>>(
+/// Returns the `Arc` at the key that `query` finds, or `None` if the table has no such key.
+fn find<'m, K: 'm, V, A: Allocator, T: Table<K, Arc<V, A>>, Q: Seeks<K, Arc<V, A>, T>>(
     table: &'m T,
-    key: &K,
+    query: Q,
 ) -> Option<&'m Arc<V, A>>
     ensures { option_map (λ a. arc_value a.now) result
-        ≡ value_at T.same (shown (T.entries table.now)) key.now }
+        ≡ lookup (Q.finds query) (shown (T.entries table.now)) }
 {
-    table.find(key)
+    match query.seek(table) {
+        Some((_, owner)) => Some(owner),
+        None => None,
+    }
 }
 
 impl<K, V, T, A: Allocator + Copy> State<K, V, T, A>
 where
     T: Table<K, Arc<V, A>>,
 {
-    /// A map over the entries of `table`, which stay as they are. Takes no memory; `alloc` serves later insertions.
+    /// Makes a map with the entries of `table`. It allocates nothing; later insertions use `alloc`.
     pub fn over(alloc: A, table: T) -> Self
         ensures { result ≡ shown (T.entries table) }
     {
@@ -67,17 +71,17 @@ where
         }
     }
 
-    /// The number of entries; no two of them have equal keys.
+    /// Returns the number of entries. No two of them have equal keys.
     #[tactic(auto, using(crate::proofs::Shared::shows))]
     pub fn len(&self) -> usize
-        ensures len { result ≡ length self.now }
+        ensures length { result ≡ length self.now }
         ensures distinct { IsDistinct T.same (keys_of self.now) }
         ensures order { T.in_order (keys_of self.now) }
     {
         self.table.len()
     }
 
-    /// Whether there is no entry.
+    /// Returns whether the map has no entry.
     #[tactic(auto, using(crate::proofs::Shared::shows))]
     pub fn is_empty(&self) -> bool
         ensures { IsTrue result ↔ (self.now ≡ []) }
@@ -85,41 +89,60 @@ where
         self.len() == 0
     }
 
-    /// An owner of the value at the key, or `None` if the key is absent. One search.
+    /// Returns an `Arc` of the value at the key that `query` finds, or `None` if the map has no
+    /// such key.
     ///
-    /// `Err` only where one more owner couldn't be made.
-    pub fn get(&self, key: &K) -> Result<Option<Arc<V, A>>, AllocError>
+    /// A reference to a key is a query, and so is a `&str` if the keys are texts: [`Seeks`] lists
+    /// them.
+    ///
+    /// # Errors
+    /// Fails if the map has the key and the `Arc` has the maximum number of owners.
+    ///
+    /// # Cost
+    /// One search.
+    pub fn get<Q: Seeks<K, Arc<V, A>, T>>(&self, query: Q) -> Result<Option<Arc<V, A>>, AllocError>
     where
         V: Drop,
-        ensures answer { IfOk result (λ a. option_map arc_value a ≡ value_at T.same self.now key.now) }
-        ensures only_there { OnErr result (is_some (value_at T.same self.now key.now) ≡ true) }
+        ensures answer { IfOk result (λ a. option_map arc_value a ≡ lookup (Q.finds query) self.now) }
+        ensures only_present { OnErr result (is_some (lookup (Q.finds query) self.now) ≡ true) }
     {
-        find(&self.table, key).cloned()
+        find(&self.table, query).cloned()
     }
 
-    /// A copy of the value at the key, or `None` if the key is absent. One search. Takes no memory.
-    pub fn get_copy(&self, key: &K) -> Option<V>
+    /// Returns a copy of the value at the key that `query` finds, or `None` if the map has no such
+    /// key.
+    ///
+    /// # Cost
+    /// One search.
+    pub fn get_copy<Q: Seeks<K, Arc<V, A>, T>>(&self, query: Q) -> Option<V>
     where
         V: Copy,
-        ensures { result ≡ value_at T.same self.now key.now }
+        ensures { result ≡ lookup (Q.finds query) self.now }
     {
-        find(&self.table, key).map(|value| **value)
+        find(&self.table, query).map(|value| **value)
     }
 
-    /// What the one call of `f` on the value at the key returns, or `None`, without a call, if the key is absent.
-    pub fn map_get<R, F: FnOnce(&V) -> R + Drop>(&self, key: &K, f: F) -> Option<R>
-        requires { IfSome (value_at T.same self.now key.now) (FnOnceTakesAt F.FnOnce f) }
+    /// Calls `f` once, with the value at the key that `query` finds, and returns the result.
+    /// Returns `None`, without a call, if the map has no such key.
+    ///
+    /// # Cost
+    /// One search.
+    pub fn map_get<R, Q, F>(&self, query: Q, f: F) -> Option<R>
+    where
+        Q: Seeks<K, Arc<V, A>, T>,
+        F: FnOnce(&V) -> R + Drop,
+        requires { IfSome (lookup (Q.finds query) self.now) (FnOnceTakesAt F.FnOnce f) }
         ensures called { IfSome result (λ r.
-            IfSome (value_at T.same self.now key.now) (λ v. FnOnceReturnsAt F.FnOnce f v r)) }
-        ensures there { is_some result ≡ is_some (value_at T.same self.now key.now) }
+            IfSome (lookup (Q.finds query) self.now) (λ v. FnOnceReturnsAt F.FnOnce f v r)) }
+        ensures called_if_present { is_some result ≡ is_some (lookup (Q.finds query) self.now) }
     {
-        match find(&self.table, key) {
+        match find(&self.table, query) {
             Some(value) => Some(f(&**value)),
             None => None,
         }
     }
 
-    /// The table itself, to write.
+    /// Returns the table, borrowed for writing.
     pub(crate) fn table_mut(&mut self) -> &mut T
         ensures { shown (T.entries result.now) ≡ self.old }
     {
@@ -131,25 +154,36 @@ impl<K, V: Drop, T, A: Allocator + Copy> State<K, V, T, A>
 where
     T: Table<K, Arc<V, A>>,
 {
-    /// An owner of the value that the key has afterwards, and whether the key was new. An absent key gets what `f` returns.
+    /// Inserts the result of `f` unless the map has the key, and returns an `Arc` of the value that
+    /// the key then has.
     ///
-    /// `f` is called only where the key is absent and has room; then the `Arc` is made and stored. One search. `Err` leaves the content.
-    pub fn insert_with_key_new<F: FnOnce(&K) -> V + Drop>(
+    /// `f` is called only if the key is absent and the table has room for it. Then the `Arc` is
+    /// allocated and stored.
+    ///
+    /// # Errors
+    /// Fails if an allocation fails, or if the `Arc` has the maximum number of owners. The content
+    /// is then unchanged.
+    ///
+    /// # Cost
+    /// One search.
+    pub fn insert_with_key<F: FnOnce(&K) -> V + Drop>(
         &mut self,
         key: K,
         f: F,
-    ) -> Result<(Arc<V, A>, bool), AllocError>
+    ) -> Result<Inserted<Arc<V, A>>, AllocError>
         requires { value_at T.same self.old key ≡ None → FnOnceTakesAt F.FnOnce f key }
 
-        // The first value of the key stays; a new key gets what the closure returned.
-        ensures answer { IfOk result (λ a.
+        // The first value of the key stays; a new key gets the result of the closure.
+        ensures answer { IfOk result (λ r.
             UnwrapsOrElse (value_at T.same self.old key) (FnOnceReturnsAt F.FnOnce f key)
-            (arc_value a.0)) }
-        ensures stands { IfOk result (λ a. value_at T.same self.new key ≡ Some (arc_value a.0)) }
+            (arc_value r.value)) }
+        ensures value_after { IfOk result (λ r.
+            value_at T.same self.new key ≡ Some (arc_value r.value)) }
 
-        // Whether it was new, and the content with it, or as before.
-        ensures new { IfOk result (λ a. IsTrue a.1 ↔ (value_at T.same self.old key ≡ None)) }
-        ensures content { IfOk result (λ a. Leaves T.same self.old key (arc_value a.0) self.new) }
+        // Whether the key was new, and the content after the call. If the call fails, the content
+        // is unchanged.
+        ensures is_new { IfOk result (λ r. IsTrue r.is_new ↔ (value_at T.same self.old key ≡ None)) }
+        ensures content { IfOk result (λ r. Leaves T.same self.old key (arc_value r.value) self.new) }
         ensures refused { OnErr result (self.new ≡ self.old) }
     {
         let alloc = self.alloc;
@@ -169,72 +203,42 @@ where
             return Err(AllocError);
         };
         let answer = match put {
-            Put::Found(there, _unused) => return Ok((there?, false)),
+            Put::Found(there, _uncalled) => return Ok(Inserted {
+                value: there?,
+                index: (),
+                is_new: false,
+            }),
             Put::Added(answer) => answer,
         };
-        Ok((answer, true))
+        Ok(Inserted {
+            value: answer,
+            index: (),
+            is_new: true,
+        })
     }
 
-    /// [`insert_with_key_new`](State::insert_with_key_new) without its flag, with the same `Err`.
-    pub fn insert_with_key<F: FnOnce(&K) -> V + Drop>(
-        &mut self,
-        key: K,
-        f: F,
-    ) -> Result<Arc<V, A>, AllocError>
-        requires { value_at T.same self.old key ≡ None → FnOnceTakesAt F.FnOnce f key }
-        ensures answer { IfOk result (λ a.
-            UnwrapsOrElse (value_at T.same self.old key) (FnOnceReturnsAt F.FnOnce f key)
-            (arc_value a)) }
-        ensures content { IfOk result (λ a. Leaves T.same self.old key (arc_value a) self.new) }
-        ensures refused { OnErr result (self.new ≡ self.old) }
-    {
-        Ok(self.insert_with_key_new(key, f)?.0)
-    }
-
-    /// [`insert_with_key`](State::insert_with_key) for an `f` that is not given the key, with the same `Err`.
-    pub fn insert_with<F: FnOnce() -> V + Drop>(
-        &mut self,
-        key: K,
-        f: F,
-    ) -> Result<Arc<V, A>, AllocError>
-        requires { value_at T.same self.old key ≡ None → F.pre f }
-        ensures answer { IfOk result (λ a.
-            UnwrapsOrElse (value_at T.same self.old key) (F.post f) (arc_value a)) }
-        ensures content { IfOk result (λ a. Leaves T.same self.old key (arc_value a) self.new) }
-        ensures refused { OnErr result (self.new ≡ self.old) }
-    {
-        let make = move |_key: &K| -> V
-            requires { F.pre f }
-            ensures { F.post f result }
-        { f() };
-        self.insert_with_key(key, make)
-    }
-
-    /// An owner of the value that the key has afterwards, and whether the key was new.
+    /// Inserts the value unless the map has the key, and returns an `Arc` of the value that the key
+    /// then has.
     ///
-    /// A present key keeps its value, and the key and the value passed in are dropped. A new key takes one
-    /// request for the value's `Arc`, and what the table takes to grow. `Err` leaves the content.
-    pub fn insert_new(&mut self, key: K, value: V) -> Result<(Arc<V, A>, bool), AllocError>
-        ensures stands { IfOk result (λ a. value_at T.same self.new key ≡ Some (arc_value a.0)) }
-        ensures new { IfOk result (λ a. IsTrue a.1 ↔ (value_at T.same self.old key ≡ None)) }
+    /// If the map has the key, the given key and value are dropped.
+    ///
+    /// # Errors
+    /// Fails if an allocation fails, or if the `Arc` has the maximum number of owners. The content
+    /// is then unchanged.
+    ///
+    /// # Allocates
+    /// The value's `Arc` and the growth of the table, if the key is new.
+    pub fn insert(&mut self, key: K, value: V) -> Result<Inserted<Arc<V, A>>, AllocError>
+        ensures value_after { IfOk result (λ r.
+            value_at T.same self.new key ≡ Some (arc_value r.value)) }
+        ensures is_new { IfOk result (λ r. IsTrue r.is_new ↔ (value_at T.same self.old key ≡ None)) }
         ensures content { OnOk result (Leaves T.same self.old key value self.new) }
         ensures refused { OnErr result (self.new ≡ self.old) }
     {
         let make = move |_key: &K| -> V
             ensures { result ≡ value }
         { value };
-        self.insert_with_key_new(key, make)
-    }
-
-    /// An owner of the value that the key has afterwards: its own if it is present, else the one given.
-    ///
-    /// Existing values are never overwritten. `Err` leaves the content.
-    pub fn insert(&mut self, key: K, value: V) -> Result<Arc<V, A>, AllocError>
-        ensures stands { IfOk result (λ a. value_at T.same self.new key ≡ Some (arc_value a)) }
-        ensures content { OnOk result (Leaves T.same self.old key value self.new) }
-        ensures refused { OnErr result (self.new ≡ self.old) }
-    {
-        Ok(self.insert_new(key, value)?.0)
+        self.insert_with_key(key, make)
     }
 }
 
@@ -242,25 +246,33 @@ impl<K, V: Copy, T, A: Allocator + Copy> State<K, V, T, A>
 where
     T: Table<K, Arc<V, A>>,
 {
-    /// A copy of the value that the key has afterwards, and whether the key was new. An absent key gets what `f` returns.
+    /// Inserts the result of `f` unless the map has the key, and returns a copy of the value that
+    /// the key then has.
     ///
-    /// A present key takes no memory and always succeeds. `f` is called only where the key is absent and has room; then the `Arc` is made
-    /// and stored. One search. `Err` only for an absent key, and it leaves the content.
-    pub fn get_copy_or_insert_with_key_new<F: FnOnce(&K) -> V + Drop>(
+    /// `f` is called only if the key is absent and the table has room for it. Then the `Arc` is
+    /// allocated and stored. If the map has the key, the call allocates nothing.
+    ///
+    /// # Errors
+    /// Fails if the key is absent and an allocation fails. The content is then unchanged.
+    ///
+    /// # Cost
+    /// One search.
+    pub fn get_copy_or_insert_with_key<F: FnOnce(&K) -> V + Drop>(
         &mut self,
         key: K,
         f: F,
-    ) -> Result<(V, bool), AllocError>
+    ) -> Result<Inserted<V>, AllocError>
         requires { value_at T.same self.old key ≡ None → FnOnceTakesAt F.FnOnce f key }
 
-        // The first value of the key stays; a new key gets what the closure returned.
-        ensures answer { IfOk result (λ a.
-            UnwrapsOrElse (value_at T.same self.old key) (FnOnceReturnsAt F.FnOnce f key) a.0) }
-        ensures stands { IfOk result (λ a. value_at T.same self.new key ≡ Some a.0) }
+        // The first value of the key stays; a new key gets the result of the closure.
+        ensures answer { IfOk result (λ r.
+            UnwrapsOrElse (value_at T.same self.old key) (FnOnceReturnsAt F.FnOnce f key) r.value) }
+        ensures value_after { IfOk result (λ r. value_at T.same self.new key ≡ Some r.value) }
 
-        // Whether it was new, and the content with it, or as before.
-        ensures new { IfOk result (λ a. IsTrue a.1 ↔ (value_at T.same self.old key ≡ None)) }
-        ensures content { IfOk result (λ a. Leaves T.same self.old key a.0 self.new) }
+        // Whether the key was new, and the content after the call. If the call fails, the content
+        // is unchanged.
+        ensures is_new { IfOk result (λ r. IsTrue r.is_new ↔ (value_at T.same self.old key ≡ None)) }
+        ensures content { IfOk result (λ r. Leaves T.same self.old key r.value self.new) }
         ensures refused { OnErr result (
             (self.new ≡ self.old) × (value_at T.same self.old key ≡ None)) }
     {
@@ -280,53 +292,28 @@ where
             Err(_refusal) => return Err(AllocError),
         };
         let copied = match put {
-            Put::Found(there, _unused) => return Ok((there, false)),
+            Put::Found(there, _unused) => return Ok(Inserted {
+                value: there,
+                index: (),
+                is_new: false,
+            }),
             Put::Added(copied) => copied,
         };
-        Ok((copied, true))
+        Ok(Inserted {
+            value: copied,
+            index: (),
+            is_new: true,
+        })
     }
 
-    /// [`get_copy_or_insert_with_key_new`](State::get_copy_or_insert_with_key_new) without its flag, with the same `Err`.
-    pub fn get_copy_or_insert_with_key<F: FnOnce(&K) -> V + Drop>(
-        &mut self,
-        key: K,
-        f: F,
-    ) -> Result<V, AllocError>
-        requires { value_at T.same self.old key ≡ None → FnOnceTakesAt F.FnOnce f key }
-        ensures answer { IfOk result (
-            UnwrapsOrElse (value_at T.same self.old key) (FnOnceReturnsAt F.FnOnce f key)) }
-        ensures content { IfOk result (λ v. Leaves T.same self.old key v self.new) }
-        ensures refused { OnErr result (
-            (self.new ≡ self.old) × (value_at T.same self.old key ≡ None)) }
-    {
-        Ok(self.get_copy_or_insert_with_key_new(key, f)?.0)
-    }
-
-    /// [`get_copy_or_insert_with_key`](State::get_copy_or_insert_with_key) for an `f` that is not given the key, with the same `Err`.
-    pub fn get_copy_or_insert_with<F: FnOnce() -> V + Drop>(
-        &mut self,
-        key: K,
-        f: F,
-    ) -> Result<V, AllocError>
-        requires { value_at T.same self.old key ≡ None → F.pre f }
-        ensures answer { IfOk result (UnwrapsOrElse (value_at T.same self.old key) (F.post f)) }
-        ensures content { IfOk result (λ v. Leaves T.same self.old key v self.new) }
-        ensures refused { OnErr result (
-            (self.new ≡ self.old) × (value_at T.same self.old key ≡ None)) }
-    {
-        let make = move |_key: &K| -> V
-            requires { F.pre f }
-            ensures { F.post f result }
-        { f() };
-        self.get_copy_or_insert_with_key(key, make)
-    }
-
-    /// A copy of the value that the key has afterwards, and whether the key was new.
+    /// Inserts the value unless the map has the key, and returns a copy of the value that the key
+    /// then has. If the map has the key, the call allocates nothing.
     ///
-    /// A present key takes no memory and always succeeds. `Err` leaves the content.
-    pub fn get_copy_or_insert_new(&mut self, key: K, value: V) -> Result<(V, bool), AllocError>
-        ensures stands { IfOk result (λ a. value_at T.same self.new key ≡ Some a.0) }
-        ensures new { IfOk result (λ a. IsTrue a.1 ↔ (value_at T.same self.old key ≡ None)) }
+    /// # Errors
+    /// Fails if the key is absent and an allocation fails. The content is then unchanged.
+    pub fn get_copy_or_insert(&mut self, key: K, value: V) -> Result<Inserted<V>, AllocError>
+        ensures value_after { IfOk result (λ r. value_at T.same self.new key ≡ Some r.value) }
+        ensures is_new { IfOk result (λ r. IsTrue r.is_new ↔ (value_at T.same self.old key ≡ None)) }
         ensures content { OnOk result (Leaves T.same self.old key value self.new) }
         ensures refused { OnErr result (
             (self.new ≡ self.old) × (value_at T.same self.old key ≡ None)) }
@@ -334,23 +321,11 @@ where
         let make = move |_key: &K| -> V
             ensures { result ≡ value }
         { value };
-        self.get_copy_or_insert_with_key_new(key, make)
-    }
-
-    /// A copy of the value that the key has afterwards: its own if it is present, else the one given.
-    ///
-    /// A present key takes no memory and always succeeds. `Err` leaves the content.
-    pub fn get_copy_or_insert(&mut self, key: K, value: V) -> Result<V, AllocError>
-        ensures stands { IfOk result (λ v. value_at T.same self.new key ≡ Some v) }
-        ensures content { OnOk result (Leaves T.same self.old key value self.new) }
-        ensures refused { OnErr result (
-            (self.new ≡ self.old) × (value_at T.same self.old key ≡ None)) }
-    {
-        Ok(self.get_copy_or_insert_new(key, value)?.0)
+        self.get_copy_or_insert_with_key(key, make)
     }
 }
 
-/// `{:?}` writes each entry once, in the table's order, as of the table itself: `{1: "x"}`.
+/// Writes each entry once by `{:?}`, in the table's order, as the table does: `{1: "x"}`.
 impl<K, V, T, A: Allocator> Debug for State<K, V, T, A>
 where
     T: Table<K, Arc<V, A>> + Debug,

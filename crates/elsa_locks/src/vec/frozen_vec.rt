@@ -1,4 +1,4 @@
-//! The list behind a lock, and a walk over it.
+//! The vector under a lock, and an iterator over it.
 ghost use Rattle.std.specs.Prelude.{◌≡◌, ◌+◌, IfOk, OnErr, IfSome, IfNone, MatchOption};
 
 use super::VecState;
@@ -7,42 +7,50 @@ use std::fmt::{self, Debug, Formatter, Write};
 use std::marker::Model;
 use std::sync::{Arc, RwLock, Wait};
 
-/// A list that threads share and that only grows.
+/// A vector that threads share and that only grows.
 ///
-/// Each call on `&self` takes the lock, makes the call of the same name on the [`VecState`] behind it, and releases the lock
-/// before it returns: look there for what is promised of that call. Reading calls share the lock, pushes have it
-/// alone. All of them may wait. The `==` of items runs under the lock too: a call on the same list in it may wait for ever.
+/// Each call on `&self` takes the lock, makes the call of the same name on its [`VecState`], and
+/// releases the lock before it returns. The contracts of `VecState` define the effect of that call.
+/// Reads share the lock; pushes take it exclusively. The `==` of items runs under the lock too: a
+/// call on the same vector in it can deadlock.
 #[derive(Drop)]
 pub struct FrozenVec<V, A: Allocator = Global> {
     lock: RwLock<VecState<V, A>>,
 }
 
 impl<V, A: Allocator + Copy> FrozenVec<V, A> {
-    /// An empty list. Takes no memory and no lock.
+    /// Makes an empty vector. It allocates nothing and takes no lock.
     pub fn new(alloc: A) -> Self {
         FrozenVec {
             lock: RwLock::new(VecState::new(alloc)),
         }
     }
 
-    /// The list of these owners. Takes no memory and no lock.
+    /// Makes a vector of these `Arc`s. It allocates nothing and takes no lock.
     pub fn from_vec(list: Vec<Arc<V, A>, A>) -> Self {
         FrozenVec {
             lock: RwLock::new(VecState::from_vec(list)),
         }
     }
 
-    /// The number of items. Takes no memory.
+    /// Returns the number of items. It allocates nothing.
+    ///
+    /// # Blocks
+    /// While a thread writes or waits to write.
     pub fn len(&self, rt: &impl Wait) -> usize {
         self.lock.read(rt).len()
     }
 
-    /// Whether there is no item. Takes no memory.
+    /// Returns whether the vector has no item. It allocates nothing.
+    ///
+    /// # Blocks
+    /// While a thread writes or waits to write.
     pub fn is_empty(&self, rt: &impl Wait) -> bool {
         self.lock.read(rt).is_empty()
     }
 
-    /// A walk from place 0. Takes no lock and no memory; each `next` takes the lock by itself.
+    /// Returns an iterator that begins at the index 0. It allocates nothing and takes no lock; each
+    /// `next` takes the lock.
     pub fn iter(&self) -> Iter<'_, V, A>
         ensures { result ≡ 0 }
     {
@@ -52,45 +60,77 @@ impl<V, A: Allocator + Copy> FrozenVec<V, A> {
         }
     }
 
-    /// The owners of the items, in order. Takes no memory, and no lock, since the owner has the list alone.
+    /// Returns the `Arc`s of the items, in order. It allocates nothing, and takes no lock, since
+    /// the caller owns the vector.
     pub fn into_vec(self) -> Vec<Arc<V, A>, A> {
         let FrozenVec { lock } = self;
         lock.into_inner().into_vec()
     }
 
-    /// The list itself, to write: it may change or remove anything. Takes no lock, since the owner has the list alone.
+    /// Returns the list, borrowed for writing: the caller may change or remove any item. It takes
+    /// no lock, since the caller has the only reference to the vector.
     pub fn as_mut(&mut self) -> &mut Vec<Arc<V, A>, A> {
         self.lock.get_mut().list_mut()
     }
 }
 
 impl<V: Drop, A: Allocator + Copy> FrozenVec<V, A> {
-    /// Puts the item at the end.
-    /// `Err` on an allocation failure: the list is as before, and the value is dropped.
+    /// Appends the item.
+    ///
+    /// # Errors
+    /// Fails if an allocation fails. The vector is then unchanged, and the item is dropped.
+    ///
+    /// # Blocks
+    /// While another thread has the lock.
     pub fn push(&self, rt: &impl Wait, value: V) -> Result<(), AllocError> {
         self.lock.write(rt).push(value)
     }
 
-    /// Puts the item at the end, and returns one more owner of it.
-    /// `Err` on an allocation failure: the list is as before, and the value is dropped.
+    /// Appends the item, and returns an `Arc` of it.
+    ///
+    /// # Errors
+    /// Fails if an allocation fails. The vector is then unchanged, and the item is dropped.
+    ///
+    /// # Blocks
+    /// While another thread has the lock.
     pub fn push_get(&self, rt: &impl Wait, value: V) -> Result<Arc<V, A>, AllocError> {
         self.lock.write(rt).push_get(value)
     }
 
-    /// Puts the item at the end, and returns its place, counted from 0.
-    /// `Err` on an allocation failure: the list is as before, and the value is dropped.
+    /// Appends the item, and returns its index.
+    ///
+    /// # Errors
+    /// Fails if an allocation fails. The vector is then unchanged, and the item is dropped.
+    ///
+    /// # Blocks
+    /// While another thread has the lock.
     pub fn push_get_index(&self, rt: &impl Wait, value: V) -> Result<usize, AllocError> {
         self.lock.write(rt).push_get_index(value)
     }
 
-    /// An owner of the item at the place, or `None` at or past the end.
-    /// `Err` only where the `Arc` already has the most owners that it can count.
+    /// Returns an `Arc` of the item at the index `place`, or `None` if the index is at or above the
+    /// length.
+    ///
+    /// # Errors
+    /// Fails if the `Arc` has the maximum number of owners.
+    ///
+    /// # Blocks
+    /// While a thread writes or waits to write.
     pub fn get(&self, rt: &impl Wait, place: usize) -> Result<Option<Arc<V, A>>, AllocError> {
         self.lock.read(rt).get(place)
     }
 
-    /// A list with the same items, which are shared. Later pushes into either leave the other. `O(n)`.
-    /// `Err` on an allocation failure.
+    /// Makes a vector of the same items, which are shared. Later pushes into one of the two don't
+    /// change the other.
+    ///
+    /// # Errors
+    /// Fails if an allocation fails, or if an `Arc` has the maximum number of owners.
+    ///
+    /// # Blocks
+    /// While a thread writes or waits to write.
+    ///
+    /// # Cost
+    /// `O(n)`.
     pub fn clone(&self, rt: &impl Wait) -> Result<Self, AllocError> {
         let copied = self.lock.read(rt).copy()?;
         Ok(FrozenVec {
@@ -98,10 +138,21 @@ impl<V: Drop, A: Allocator + Copy> FrozenVec<V, A> {
         })
     }
 
-    /// Whether both have as many items, equal place by place by `==`. `O(n)`.
+    /// Returns whether both vectors have the same length and, at each index, items that are equal
+    /// by `==`.
     ///
-    /// It copies its own content under its lock, releases it, and compares under the other's, so a list may be compared
-    /// with itself, and two threads may compare two lists both ways round. `Err` only where the copy failed.
+    /// The call copies the content of `self` under its lock, releases the lock, and compares the
+    /// copy under the lock of `other`. So a vector may be compared with itself, and two threads may
+    /// compare two vectors with each other in both directions.
+    ///
+    /// # Errors
+    /// Fails if the copy fails, as [`clone`](FrozenVec::clone) does.
+    ///
+    /// # Blocks
+    /// While a thread writes to one of the vectors or waits to write.
+    ///
+    /// # Cost
+    /// `O(n)`.
     pub fn equals(&self, rt: &impl Wait, other: &Self) -> Result<bool, AllocError>
     where
         V: PartialEq,
@@ -111,7 +162,8 @@ impl<V: Drop, A: Allocator + Copy> FrozenVec<V, A> {
     }
 }
 
-/// A walk over a [`FrozenVec`] that may grow meanwhile. Contracts see the place that it asks for next.
+/// An iterator over a [`FrozenVec`] that may grow meanwhile. Contracts see the index of the next
+/// item.
 #[derive(Drop)]
 pub struct Iter<'a, V, A: Allocator = Global> {
     list: &'a FrozenVec<V, A>,
@@ -127,14 +179,19 @@ impl<'a, V, A: Allocator> Model for Iter<'a, V, A> {
 }
 
 impl<'a, V: Drop, A: Allocator + Copy> Iter<'a, V, A> {
-    /// An owner of the item at the walk's place, and moves on by one; `None` at the end, where the walk keeps its place
-    /// and so goes on after a later push. Each call looks at the length afresh. May wait.
+    /// Returns an `Arc` of the item at the iterator's index, and increases the index by 1. Returns
+    /// `None` if the index is at the end of the vector; the index is then unchanged, so a call
+    /// after a later push returns the new item.
     ///
-    /// `Err` only where one more owner couldn't be made; the walk keeps its place then.
+    /// # Errors
+    /// Fails if the `Arc` has the maximum number of owners. The index is then unchanged.
+    ///
+    /// # Blocks
+    /// While a thread writes or waits to write.
     pub fn next(&mut self, rt: &impl Wait) -> Result<Option<Arc<V, A>>, AllocError>
         ensures moves { IfOk result (λ a. IfSome a (λ _. self.new ≡ self.old + 1)) }
-        ensures end { IfOk result (λ a. IfNone a (self.new ≡ self.old)) }
-        ensures err { OnErr result (self.new ≡ self.old) }
+        ensures at_end { IfOk result (λ a. IfNone a (self.new ≡ self.old)) }
+        ensures refused { OnErr result (self.new ≡ self.old) }
     {
         let Some(next) = self.place.checked_add(1) else {
             return Ok(None);
@@ -147,7 +204,8 @@ impl<'a, V: Drop, A: Allocator + Copy> Iter<'a, V, A> {
     }
 }
 
-/// `{:?}` writes the items in their order, under the read lock; `<locked>` while a push has the lock or waits for it. Waits for nobody.
+/// Writes the items in order by `{:?}`, under the read lock. If a push has the lock or waits for
+/// it, it writes `<locked>`. It never blocks.
 impl<V: Debug, A: Allocator> Debug for FrozenVec<V, A> {
     fn fmt<W: Write>(&self, f: &mut Formatter<W>) -> fmt::Result {
         match self.lock.try_read() {

@@ -1,4 +1,4 @@
-//! The list under the lock of `FrozenVec`, with contracts that say what each call does.
+//! The vector under the lock of `FrozenVec`, with contracts that define the effect of each call.
 ghost use Rattle.std.specs.Prelude.{◌≡◌, [], ◌∷◌, ◌++◌, ◌<◌, length, slice_get, IfOk, OnErr, OnOk, IsTrue, ◌↔◌};
 ghost use Rattle.std.specs.Option.{option_map};
 ghost use Rattle.std.specs.Arc.{arc_value};
@@ -10,9 +10,9 @@ use std::fmt::{self, Debug, Formatter, Write};
 use std::marker::Model;
 use std::sync::Arc;
 
-/// A list that only grows. Values are shared as `Arc<V>`.
+/// A vector that only grows. Values are shared as `Arc<V>`.
 ///
-/// Contracts see the list of its values. A place counts from 0. `A` gives the memory of the list and of each `Arc`.
+/// Contracts see the list of its values. `A` allocates the list and each `Arc`.
 #[derive(Drop)]
 pub struct VecState<V, A: Allocator = Global> {
     list: Vec<Arc<V, A>, A>,
@@ -29,7 +29,7 @@ impl<V, A: Allocator> Model for VecState<V, A> {
 }
 
 impl<V, A: Allocator + Copy> VecState<V, A> {
-    /// An empty list. Takes no memory.
+    /// Makes an empty vector. It allocates nothing.
     pub fn new(alloc: A) -> Self
         ensures { result ≡ [] }
     {
@@ -39,7 +39,7 @@ impl<V, A: Allocator + Copy> VecState<V, A> {
         }
     }
 
-    /// The list of these owners. Takes no memory.
+    /// Makes a vector of these `Arc`s. It allocates nothing.
     pub fn from_vec(list: Vec<Arc<V, A>, A>) -> Self
         ensures { result ≡ shown_items list.items }
     {
@@ -47,7 +47,7 @@ impl<V, A: Allocator + Copy> VecState<V, A> {
         VecState { list, alloc }
     }
 
-    /// The number of items.
+    /// Returns the number of items.
     #[tactic(auto, using(crate::proofs::Shared::shows))]
     pub fn len(&self) -> usize
         ensures { result ≡ length self.now }
@@ -55,14 +55,18 @@ impl<V, A: Allocator + Copy> VecState<V, A> {
         self.list.len()
     }
 
-    /// Whether there is no item.
+    /// Returns whether the vector has no item.
     pub fn is_empty(&self) -> bool
         ensures { IsTrue result ↔ (self.now ≡ []) }
     {
         self.list.is_empty()
     }
 
-    /// A copy of the item at the place, or `None` at or past the end. `O(1)`. Takes no memory.
+    /// Returns a copy of the item at the index `place`, or `None` if the index is at or above the
+    /// length. It allocates nothing.
+    ///
+    /// # Cost
+    /// `O(1)`.
     #[tactic(auto, using(crate::proofs::Shared::shows))]
     pub fn get_copy(&self, place: usize) -> Option<V>
     where
@@ -72,7 +76,11 @@ impl<V, A: Allocator + Copy> VecState<V, A> {
         self.list.get(place).map(|value| **value)
     }
 
-    /// Whether both have as many items, equal place by place by `==`. `O(n)`. Takes no memory.
+    /// Returns whether both vectors have the same length and, at each index, items that are equal
+    /// by `==`. It allocates nothing.
+    ///
+    /// # Cost
+    /// `O(n)`.
     #[tactic(auto, using(crate::proofs::Shared::shows))]
     pub fn same(&self, other: &Self) -> bool
     where
@@ -82,7 +90,7 @@ impl<V, A: Allocator + Copy> VecState<V, A> {
         self.list == other.list
     }
 
-    /// The owners of the items, in order. Takes no memory.
+    /// Returns the `Arc`s of the items, in order. It allocates nothing.
     pub fn into_vec(self) -> Vec<Arc<V, A>, A>
         ensures { shown_items result.items ≡ self }
     {
@@ -90,7 +98,7 @@ impl<V, A: Allocator + Copy> VecState<V, A> {
         list
     }
 
-    /// The list itself, to write.
+    /// Returns the list, borrowed for writing.
     pub(crate) fn list_mut(&mut self) -> &mut Vec<Arc<V, A>, A>
         ensures { shown_items result.now.items ≡ self.old }
     {
@@ -99,31 +107,42 @@ impl<V, A: Allocator + Copy> VecState<V, A> {
 }
 
 impl<V: Drop, A: Allocator + Copy> VecState<V, A> {
-    /// An owner of the item at the place, or `None` at or past the end. `O(1)`.
+    /// Returns an `Arc` of the item at the index `place`, or `None` if the index is at or above the
+    /// length.
     ///
-    /// `Err` only where one more owner couldn't be made.
+    /// # Errors
+    /// Fails if the `Arc` has the maximum number of owners.
+    ///
+    /// # Cost
+    /// `O(1)`.
     #[tactic(auto, using(crate::proofs::Shared::shows))]
     pub fn get(&self, place: usize) -> Result<Option<Arc<V, A>>, AllocError>
         ensures answer { IfOk result (λ a. option_map arc_value a ≡ slice_get self.now place) }
-        ensures only_there { OnErr result (place < length self.now) }
+        ensures only_present { OnErr result (place < length self.now) }
     {
         self.list.get(place).cloned()
     }
 
-    /// Puts the item at the end. `Err` leaves the list.
+    /// Appends the item.
+    ///
+    /// # Errors
+    /// Fails if an allocation fails. The vector is then unchanged, and the item is dropped.
     pub fn push(&mut self, value: V) -> Result<(), AllocError>
-        ensures ok { OnOk result (self.new ≡ self.old ++ value ∷ []) }
+        ensures appended { OnOk result (self.new ≡ self.old ++ value ∷ []) }
         ensures refused { OnErr result (self.new ≡ self.old) }
     {
         self.push_get_index(value)?;
         Ok(())
     }
 
-    /// Puts the item at the end, and returns one more owner of it. `Err` leaves the list.
+    /// Appends the item, and returns an `Arc` of it.
+    ///
+    /// # Errors
+    /// Fails if an allocation fails. The vector is then unchanged, and the item is dropped.
     #[tactic(auto, using(crate::proofs::Shared::shows))]
     pub fn push_get(&mut self, value: V) -> Result<Arc<V, A>, AllocError>
         ensures answer { IfOk result (λ a. arc_value a ≡ value) }
-        ensures ok { OnOk result (self.new ≡ self.old ++ value ∷ []) }
+        ensures appended { OnOk result (self.new ≡ self.old ++ value ∷ []) }
         ensures refused { OnErr result (self.new ≡ self.old) }
     {
         let made = Arc::new(self.alloc, value)?;
@@ -132,11 +151,14 @@ impl<V: Drop, A: Allocator + Copy> VecState<V, A> {
         Ok(answer)
     }
 
-    /// Puts the item at the end, and returns its place. `Err` leaves the list.
+    /// Appends the item, and returns its index.
+    ///
+    /// # Errors
+    /// Fails if an allocation fails. The vector is then unchanged, and the item is dropped.
     #[tactic(auto, using(crate::proofs::Shared::shows))]
     pub fn push_get_index(&mut self, value: V) -> Result<usize, AllocError>
         ensures answer { IfOk result (λ place. place ≡ length self.old) }
-        ensures ok { OnOk result (self.new ≡ self.old ++ value ∷ []) }
+        ensures appended { OnOk result (self.new ≡ self.old ++ value ∷ []) }
         ensures refused { OnErr result (self.new ≡ self.old) }
     {
         let place = self.len();
@@ -145,8 +167,14 @@ impl<V: Drop, A: Allocator + Copy> VecState<V, A> {
         Ok(place)
     }
 
-    /// A list with the same items, which are shared. `O(n)`. Later pushes into either leave the other.
-    /// `Err` on an allocation failure.
+    /// Makes a vector of the same items, which are shared. Later pushes into one of the two don't
+    /// change the other.
+    ///
+    /// # Errors
+    /// Fails if an allocation fails, or if an `Arc` has the maximum number of owners.
+    ///
+    /// # Cost
+    /// `O(n)`.
     #[tactic(auto, using(crate::proofs::Clones::copied_items))]
     pub fn copy(&self) -> Result<Self, AllocError>
         ensures { IfOk result (λ copied. copied ≡ self.now) }
@@ -158,7 +186,7 @@ impl<V: Drop, A: Allocator + Copy> VecState<V, A> {
     }
 }
 
-/// `{:?}` writes the items in their order, as of a `Vec` of them: `["x", "y"]`.
+/// Writes the items in order by `{:?}`, as a `Vec` of them does: `["x", "y"]`.
 impl<V: Debug, A: Allocator> Debug for VecState<V, A> {
     fn fmt<W: Write>(&self, f: &mut Formatter<W>) -> fmt::Result {
         self.list.fmt(f)

@@ -1,61 +1,68 @@
-//! What all forms of map have in common, for code that is written over any of them.
+//! What all maps have in common, for code that is written over any of them.
 ghost use Rattle.std.specs.Prelude.{◌≡◌, ◌↔◌, List, Bool, false, true, None, IfOk, IsTrue, OnErr, Ok, Some, length};
 ghost use Rattle.std.specs.Cmp.{IsEquivalence};
 ghost use Rattle.std.specs.List.{IsDistinct};
 ghost use Rattle.std.specs.Map.{keys_of};
 ghost use Rattle.elsa_maps.specs.FirstWins.{AddsNew, IsRefused, value_at};
+ghost use Rattle.elsa_tables.specs.Tables.{was_present};
 
 use super::Frozen;
-use elsa_tables::Table;
+use elsa_tables::{Inserted, Table};
 use elsa_vec::stable::StableDeref;
 use std::alloc::{AllocError, Allocator};
 
 /// A map in which the first value of a key stays, however it finds its keys.
 ///
-/// Its calls mean what they mean at [`Frozen`], and code over `M: MapForm<R>` is proved once for every form. `R` is the
-/// reference to the arena, as `&'a Bump<P>`.
+/// Its calls have the meaning of those of [`Frozen`]. Code over `M: MapForm<R>` is proved once for
+/// every map. `R` is the reference to the arena, such as `&'a Bump<P>`.
 pub trait MapForm<R> {
-    /// What the map is asked by.
+    /// The keys.
     type Key: Drop;
 
-    /// What an insertion places in the arena.
+    /// The values, which an insertion stores in the arena.
     type Value: StableDeref<R>;
 
-    /// The inner map, with each key's borrow.
+    /// The inner map, from each key to the borrow of its value.
     type Base: Drop;
 
-    // Whether two keys are one.
+    // Whether two keys are equal.
     ghost same: { Self.Key → Self.Key → Bool };
 
-    // The entries, in an order of the form's own.
+    // The entries, in an order that the map chooses.
     ghost entries: { Self → List (Self.Key × Self.Value.Borrow) };
 
     // The entries of an inner map.
     ghost base_entries: { Self.Base → List (Self.Key × Self.Value.Borrow) };
 
-    // What the entries may become by a new one.
+    // How a new entry extends the entries.
     ghost extends: { List (Self.Key × Self.Value.Borrow) → Self.Key → Self.Value.Borrow →
         List (Self.Key × Self.Value.Borrow) → Type 0 };
 
-    /// Gives `key` the value unless it has one, and returns the value that it now has and whether it was new.
-    /// `Err` on an allocation failure, only for a new key: the content is as before.
+    /// Inserts the value unless the map has an equal key. Returns the value that the key then has,
+    /// and whether the key was new.
+    ///
+    /// # Errors
+    /// Fails if the key is new and an allocation fails. The map is then unchanged.
     fn insert_new(
         &mut self,
         key: Self::Key,
         value: Self::Value,
-    ) -> Result<(<Self::Value as StableDeref<R>>::Borrow, bool), AllocError>
+    ) -> Result<Inserted<<Self::Value as StableDeref<R>>::Borrow>, AllocError>
         ensures present { (x : Self.Value.Borrow) → value_at same (entries self.old) key ≡ Some x →
-            (result ≡ Ok (x, false)) × (entries self.new ≡ entries self.old) }
-        ensures stands { IfOk result (λ r. value_at same (entries self.new) key ≡ Some r.0) }
+            (result ≡ Ok (was_present x)) × (entries self.new ≡ entries self.old) }
+        ensures value_after { IfOk result (λ r. value_at same (entries self.new) key ≡ Some r.value) }
         ensures added { value_at same (entries self.old) key ≡ None →
-            IfOk result (λ r. (r.1 ≡ true) × AddsNew same Self.Value.target Self.Value.shown
-            (entries self.old) key value r.0 (entries self.new)) }
+            IfOk result (λ r. (r.is_new ≡ true) × AddsNew same Self.Value.target Self.Value.shown
+            (entries self.old) key value r.value (entries self.new)) }
         ensures new_entry { value_at same (entries self.old) key ≡ None →
-            IfOk result (λ r. extends (entries self.old) key r.0 (entries self.new)) }
+            IfOk result (λ r. extends (entries self.old) key r.value (entries self.new)) }
         ensures refused { OnErr result (IsRefused same (entries self.old) key (entries self.new)) };
 
-    /// Gives `key` the value unless it has one, and returns the value that it now has.
-    /// `Err` on an allocation failure, only for a new key: the content is as before.
+    /// Inserts the value unless the map has an equal key, and returns the value that the key then
+    /// has.
+    ///
+    /// # Errors
+    /// Fails if the key is new and an allocation fails. The map is then unchanged.
     fn insert(
         &mut self,
         key: Self::Key,
@@ -63,7 +70,7 @@ pub trait MapForm<R> {
     ) -> Result<<Self::Value as StableDeref<R>>::Borrow, AllocError>
         ensures present { (x : Self.Value.Borrow) → value_at same (entries self.old) key ≡ Some x →
             (result ≡ Ok x) × (entries self.new ≡ entries self.old) }
-        ensures stands { IfOk result (λ b. value_at same (entries self.new) key ≡ Some b) }
+        ensures value_after { IfOk result (λ b. value_at same (entries self.new) key ≡ Some b) }
         ensures added { value_at same (entries self.old) key ≡ None →
             IfOk result (λ b. AddsNew same Self.Value.target Self.Value.shown (entries self.old) key
             value b (entries self.new)) }
@@ -71,23 +78,24 @@ pub trait MapForm<R> {
             IfOk result (λ b. extends (entries self.old) key b (entries self.new)) }
         ensures refused { OnErr result (IsRefused same (entries self.old) key (entries self.new)) };
 
-    /// The value at `key`, or `None` exactly if there is none.
+    /// Returns the value of `key`, or `None` if the map has no such key.
     fn get(&self, key: &Self::Key) -> Option<<Self::Value as StableDeref<R>>::Borrow>
         ensures { result ≡ value_at same (entries self.now) key.now };
 
-    /// The number of entries.
+    /// Returns the number of entries.
     fn len(&self) -> usize
         ensures count { result ≡ length (entries self.now) }
 
-        // What holds of every form: that two keys are one is an equivalence, and no two keys of the map are one.
+        // What holds of every map: the equality of keys is an equivalence, and no two keys are
+        // equal.
         ensures equivalence { IsEquivalence same }
         ensures distinct { IsDistinct same (keys_of (entries self.now)) };
 
-    /// Whether there are no entries.
+    /// Returns whether the map has no entry.
     fn is_empty(&self) -> bool
         ensures { IsTrue result ↔ (length (entries self.now) ≡ 0) };
 
-    /// Begins a new epoch with the content of `base`; what the map held is dropped.
+    /// Replaces the content by that of `base`, and drops the earlier inner map.
     fn rebase(&mut self, base: Self::Base)
         ensures { entries self.new ≡ base_entries base };
 }
@@ -111,7 +119,7 @@ where
 
     ghost extends = { T.extends };
 
-    fn insert_new(&mut self, key: K, value: V) -> Result<(V::Borrow, bool), AllocError> {
+    fn insert_new(&mut self, key: K, value: V) -> Result<Inserted<V::Borrow>, AllocError> {
         Frozen::insert_new(self, key, value)
     }
 

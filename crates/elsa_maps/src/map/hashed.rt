@@ -2,13 +2,11 @@
 ghost use Rattle.std.specs.Prelude.{◌≡◌, ◌≤◌, ◌↔◌, [], ◌∷◌, List, None, true, IfOk, IsOk, IsPermutation, IsTrue, OnErr, OnOk, Ok, Some, length};
 ghost use Rattle.std.specs.Iterator.{Drains, IsFinite};
 ghost use Rattle.std.specs.List.{IsDistinct};
-ghost use Rattle.std.specs.Map.{keys_of, lookup, values_of};
+ghost use Rattle.std.specs.Map.{keys_of, values_of};
 ghost use Rattle.std.specs.Map.Iter.{ShowsInOrder, deref, deref_pair};
-ghost use Rattle.std.specs.Str.{bytes_eq};
-ghost use Rattle.std.specs.String.{string_bytes};
-ghost use Rattle.elsa_maps.specs.FirstWins.{AddsNew, HoldsLast, IsRefused, SameAt, entry_at, same_values, value_at};
-ghost use Rattle.elsa_words.proofs.MapEquality.{same_values_equivalence, same_values_laws};
-ghost use Rattle.elsa_words.specs.FirstWins.{IsEqualMap};
+ghost use Rattle.elsa_maps.specs.FirstWins.{AddsNew, HoldsLast, IsRefused, SameAt, same_values, value_at};
+ghost use Rattle.elsa_specs.proofs.MapEquality.{same_values_equivalence, same_values_laws};
+ghost use Rattle.elsa_specs.specs.FirstWins.{IsEqualMap};
 
 use super::Frozen;
 use bumpalo::Bump;
@@ -18,10 +16,12 @@ use std::collections::HashMap;
 use std::collections::hash_map::{Iter, Keys, Values};
 use std::hash::{BuildHasher, BuildHasherDefault, FoldHasher, Hash};
 
-/// A map in which the first value of a key stays, and a key is found by its hash: over the arena to which an `R` refers.
+/// A hashed map in which the first value of a key stays. Its values are stored in the arena to
+/// which an `R` refers.
 ///
-/// The default hasher is fast and has a fixed seed; where strangers choose the keys, take a `SeededState` of `elsa` by
-/// [`with_hasher`](FrozenMapIn::with_hasher). `A` is the allocator of the table.
+/// The default hasher is fast and has a fixed seed. For keys from untrusted input, pass a
+/// `SeededState` of `elsa` to [`with_hasher`](FrozenMapIn::with_hasher). `A` is the allocator of
+/// the table.
 pub type FrozenMapIn<R, K, V, S = BuildHasherDefault<FoldHasher>, A = Global> = Frozen<
     R,
     K,
@@ -30,7 +30,8 @@ pub type FrozenMapIn<R, K, V, S = BuildHasherDefault<FoldHasher>, A = Global> = 
     A,
 >;
 
-/// The hashed map whose values are placed in a `Bump` of lifetime `'a`; `P` is the allocator of the arena.
+/// The hashed map whose values are stored in a `Bump` of lifetime `'a`. `P` is the allocator of the
+/// arena.
 pub type FrozenMap<'a, K, V, S = BuildHasherDefault<FoldHasher>, A = Global, P = Global> =
     FrozenMapIn<&'a Bump<P>, K, V, S, A>;
 
@@ -41,18 +42,19 @@ impl<R: Copy, K: Eq + Hash + Drop, V: StableDeref<R>, A: Allocator + Copy> Froze
     BuildHasherDefault<FoldHasher>,
     A,
 > {
-    /// An empty map with the default hasher, over `arena` for its values and `alloc` for its table.
-    ///
-    /// Takes no memory.
+    /// Makes an empty map with the default hasher. Its values are stored in `arena`, and `alloc`
+    /// allocates its table. It allocates nothing.
     pub fn new(alloc: A, arena: R) -> Self
         ensures { result ≡ [] }
     {
         FrozenMapIn::with_hasher(alloc, arena, BuildHasherDefault::new())
     }
 
-    /// An empty map with the default hasher and room for so many entries, as after [`reserve`](FrozenMapIn::reserve).
+    /// Makes an empty map with the default hasher and capacity for `count` entries, as
+    /// [`reserve`](FrozenMapIn::reserve) does.
     ///
-    /// `Err` on an allocation failure; room for none takes no memory.
+    /// # Errors
+    /// Fails if an allocation fails. A capacity of 0 allocates nothing.
     pub fn with_capacity(alloc: A, arena: R, count: usize) -> Result<Self, AllocError>
         ensures empty { IfOk result (λ m. m ≡ []) }
         ensures none_is_free { count ≡ 0 → IsOk result }
@@ -70,36 +72,41 @@ impl<
     S: BuildHasher,
     A: Allocator + Copy,
 > FrozenMapIn<R, K, V, S, A> {
-    /// An empty map that hashes its keys by `hash_builder`.
-    ///
-    /// Takes no memory.
+    /// Makes an empty map that hashes its keys by `hash_builder`. It allocates nothing.
     pub fn with_hasher(alloc: A, arena: R, hash_builder: S) -> Self
         ensures { result ≡ [] }
     {
         FrozenMapIn::from_map(alloc, arena, HashMap::with_hasher(alloc, hash_builder))
     }
 
-    /// A map with the content of `map`.
+    /// Makes a map with the entries of `map`. It allocates nothing.
     ///
-    /// Takes no memory. `alloc` is for the memory that [`clone`](FrozenMapIn::clone) and
-    /// [`into_tuple_vec`](Frozen::into_tuple_vec) take: std's map can't be asked for its allocator.
+    /// [`clone`](FrozenMapIn::clone) and [`into_tuple_vec`](Frozen::into_tuple_vec) allocate with
+    /// `alloc`, since the map doesn't return its allocator.
     pub fn from_map(alloc: A, arena: R, map: HashMap<K, V::Borrow, S, A>) -> Self
         ensures { result ≡ map.entries }
     {
         Frozen::over(alloc, arena, map)
     }
 
-    /// How many entries the map can have before its table asks for memory. `O(1)`.
+    /// Returns the number of entries that the map can have before its table grows.
+    ///
+    /// # Cost
+    /// `O(1)`.
     pub fn capacity(&self) -> usize
         ensures { length self.now ≤ result }
     {
         self.table.capacity()
     }
 
-    /// Makes room for so many more entries: as many insertions ask the table's allocator for nothing, and the arena alone may refuse them.
+    /// Reserves capacity for at least `additional` more entries. Inserting that many allocates
+    /// nothing in the table, only in the arena. The order of the entries may change.
     ///
-    /// The content stays, in an order that may change. `Err` on an allocation failure: the map is as it was. Where there is room already, it takes
-    /// no memory. `O(n)`, with one hash an entry.
+    /// # Errors
+    /// Fails if an allocation fails. The map is then unchanged.
+    ///
+    /// # Cost
+    /// `O(n)`, with one hash for each entry, if the table grows.
     pub fn reserve(&mut self, additional: usize) -> Result<(), AllocError>
         ensures entries { IsPermutation self.old self.new }
         ensures content { SameAt (value_at K.eq self.old) (value_at K.eq self.new) }
@@ -109,23 +116,11 @@ impl<
         self.table.reserve(additional)
     }
 
-    /// The key of the map that equals `key`, with its value; `None` exactly if there is none.
+    /// Returns an iterator over the entries, each once, in an unspecified order. An insertion while
+    /// it is used doesn't compile.
     ///
-    /// The key returned is the one that was inserted, which may differ from `key` where equality isn't identity.
-    pub fn get_key_value(&self, key: &K) -> Option<(K, V::Borrow)>
-    where
-        K: Copy,
-        ensures { result ≡ entry_at K.eq self.now key.now }
-    {
-        match self.table.get_key_value(key) {
-            Some((found, value)) => Some((*found, *value)),
-            None => None,
-        }
-    }
-
-    /// Each entry once, as a key and its value's borrow, in no specified order. Takes no memory; `O(1)`, and so is each entry.
-    ///
-    /// No insertion can be made while it walks.
+    /// # Cost
+    /// `O(1)`, also for each entry. It allocates nothing.
     pub fn iter(&self) -> Iter<'_, K, V::Borrow>
         ensures rest { result ≡ self.now }
         ensures runs { ShowsInOrder (deref_pair {K = K} {X = V.Borrow}) }
@@ -133,7 +128,10 @@ impl<
         self.table.iter()
     }
 
-    /// Each key once, in the order in which [`iter`](FrozenMapIn::iter) gives the entries. Takes no memory; `O(1)`, and so is each key.
+    /// Returns an iterator over the keys, each once, in the order of [`iter`](FrozenMapIn::iter).
+    ///
+    /// # Cost
+    /// `O(1)`, also for each key. It allocates nothing.
     pub fn keys(&self) -> Keys<'_, K, V::Borrow>
         ensures rest { result ≡ keys_of self.now }
         ensures runs { ShowsInOrder (deref {X = K}) }
@@ -141,29 +139,15 @@ impl<
         self.table.keys()
     }
 
-    /// The value's borrow of each entry, in the order in which [`iter`](FrozenMapIn::iter) gives the entries. Takes no memory; `O(1)`,
-    /// and so is each value.
+    /// Returns an iterator over the values, in the order of [`iter`](FrozenMapIn::iter).
+    ///
+    /// # Cost
+    /// `O(1)`, also for each value. It allocates nothing.
     pub fn values(&self) -> Values<'_, K, V::Borrow>
         ensures rest { result ≡ values_of self.now }
         ensures runs { ShowsInOrder (deref {X = V.Borrow}) }
     {
         self.table.values()
-    }
-}
-
-impl<'k, R: Copy, V: StableDeref<R>, S: BuildHasher, A: Allocator + Copy> FrozenMapIn<
-    R,
-    &'k str,
-    V,
-    S,
-    A,
-> {
-    /// The value at the text `key`, or `None` exactly if no key of the map reads the same. Takes no memory; one hash and one search.
-    pub fn get_text(&self, key: &str) -> Option<V::Borrow>
-        ensures { result ≡ value_at ⟦<&'k str as PartialEq>⟧.eq self.now key.entry }
-    {
-        let found = self.table.get(key)?;
-        Some(*found)
     }
 }
 
@@ -174,17 +158,23 @@ impl<'a, R: KeepsText<'a>, V: StableDeref<R>, S: BuildHasher, A: Allocator + Cop
     S,
     A,
 > {
-    /// Gives the text `key` the value, unless a key of the map reads the same, and returns the value that the text now has:
-    /// [`insert`](Frozen::insert) by a text of any lifetime.
+    /// Inserts the value unless the map has the text as a key, and returns the value that the text
+    /// then has: [`insert`](Frozen::insert) for a text of any lifetime.
     ///
-    /// A present text keeps its value: `value` is dropped, no memory is taken and the result is `Ok`, after one hash and one search.
-    /// A new one is copied into the arena and inserted there, which takes one more hash. Where either fails, it returns `Err`, the
-    /// map stays as it was, and the arena may keep a text that nobody sees.
+    /// If the map has the text, the given value is dropped and nothing is allocated. Otherwise the
+    /// text is copied into the arena.
+    ///
+    /// # Errors
+    /// Fails if the text is new and an allocation fails. The map is then unchanged. The arena may
+    /// keep an unused copy of the text.
+    ///
+    /// # Cost
+    /// One hash and one search for a present text, and two of each for a new one.
     pub fn insert_text(&mut self, key: &str, value: V) -> Result<V::Borrow, AllocError>
         ensures present { (x : V.Borrow) →
             value_at ⟦<&'a str as PartialEq>⟧.eq self.old key.entry ≡ Some x →
             (result ≡ Ok x) × (self.new ≡ self.old) }
-        ensures stands { IfOk result (λ b.
+        ensures value_after { IfOk result (λ b.
             value_at ⟦<&'a str as PartialEq>⟧.eq self.new key.entry ≡ Some b) }
         ensures added { value_at ⟦<&'a str as PartialEq>⟧.eq self.old key.entry ≡ None →
             IfOk result (λ b. AddsNew ⟦<&'a str as PartialEq>⟧.eq V.target V.shown self.old
@@ -192,28 +182,11 @@ impl<'a, R: KeepsText<'a>, V: StableDeref<R>, S: BuildHasher, A: Allocator + Cop
         ensures refused { OnErr result (
             IsRefused ⟦<&'a str as PartialEq>⟧.eq self.old key.entry self.new) }
     {
-        if let Some(found) = self.get_text(key) {
+        if let Some(found) = self.get(key) {
             return Ok(found);
         }
         let placed = self.arena.keep_text(key)?;
         self.insert(placed, value)
-    }
-}
-
-impl<R: Copy, B: Allocator, V: StableDeref<R>, S: BuildHasher, A: Allocator + Copy> FrozenMapIn<
-    R,
-    String<B>,
-    V,
-    S,
-    A,
-> {
-    /// The value at the text `key`, or `None` exactly if no key of the map reads the same: [`get`](FrozenMapIn::get) without a `String`.
-    /// Takes no memory; one hash and one search.
-    pub fn get_text(&self, key: &str) -> Option<V::Borrow>
-        ensures { result ≡ lookup (λ k. bytes_eq key.now (string_bytes k)) self.now }
-    {
-        let value = self.table.get(key)?;
-        Some(*value)
     }
 }
 
@@ -224,11 +197,17 @@ impl<
     S: BuildHasher + Drop,
     A: Allocator + Copy,
 > FrozenMapIn<R, K, V, S, A> {
-    /// A map of the pairs in which, other than by insertions, the last value of a key wins.
+    /// Makes a map of the pairs, in which the last value of a key wins, unlike in insertions. Which
+    /// of several equal keys is stored is unspecified.
     ///
-    /// Each value is placed in the arena. The table makes room for as many entries as the iterator says will come at least (its
-    /// `size_hint`), and grows as it goes on where more come or where that much room is refused. On an allocation failure it returns
-    /// `Err` and drops what was collected. Which of several equal keys the map then shows is left open.
+    /// The table reserves capacity for the lower bound of the iterator's `size_hint`. If that
+    /// fails, it grows entry by entry.
+    ///
+    /// # Errors
+    /// Fails if an allocation fails. What was collected is dropped.
+    ///
+    /// # Cost
+    /// `O(n)`, with one hash for each pair.
     pub fn from_iter<I: IntoIterator<Item = (K, V)>>(
         alloc: A,
         arena: R,
@@ -243,7 +222,7 @@ impl<
     {
         let pairs = pairs.into_iter();
         let mut table = HashMap::with_hasher(alloc, hash_builder);
-        // Fewer keys may come than the hint says, so its refusal is left to `insert`.
+        // The iterator may yield fewer keys than its hint, so only a failed `insert` is an error.
         let _room = table.reserve(pairs.size_hint().0);
         for pair in pairs {
             let (key, value) = pair;
@@ -255,11 +234,15 @@ impl<
         Ok(FrozenMapIn::from_map(alloc, arena, table))
     }
 
-    /// A map with the same content over the same arena, whose borrows are shared. Later insertions into either leave the
-    /// other as it is.
+    /// Makes a map with the same entries over the same arena, which shares the values. Later
+    /// insertions into one of the two don't change the other.
     ///
-    /// Copies the table whole and clones each key, with one hash and no search an entry. Where that is refused it clones the keys
-    /// anew and inserts entry by entry into a table with room for all. `Err` where memory is refused to that too.
+    /// # Errors
+    /// Fails if an allocation fails, or if the `clone` of a key or of the hash builder fails.
+    ///
+    /// # Cost
+    /// `O(n)`: the table is copied whole, with one hash and no search for each entry. If that
+    /// allocation fails, the entries are inserted one by one into a table with capacity for all.
     pub fn clone(&self) -> Result<Self, AllocError>
     where
         K: Clone,
@@ -271,7 +254,7 @@ impl<
         if let Ok(copy) = copied(&self.table) {
             return Ok(FrozenMapIn::from_map(self.alloc, self.arena, copy));
         }
-        // The clone of the hasher may hash a key otherwise, which is no reason to refuse.
+        // That a clone of the hasher hashes a key differently is no error.
         let hash_builder = self.table.hasher().clone()?;
         let mut copy = HashMap::with_capacity_and_hasher(self.alloc, self.len(), hash_builder)?;
         for (key, value) in &self.table {
@@ -284,7 +267,8 @@ impl<
     }
 }
 
-// The table copied whole: no key is searched for. Refused, too, where the clone of the hasher hashes a key otherwise.
+// Copies the table whole: no key is searched for. Fails too if the clone of the hasher hashes a key
+// differently.
 fn copied<K: Eq + Hash + Clone, B: Copy, S: BuildHasher + Clone, A: Allocator + Copy>(
     table: &HashMap<K, B, S, A>,
 ) -> Result<HashMap<K, B, S, A>, AllocError>
@@ -294,7 +278,7 @@ fn copied<K: Eq + Hash + Clone, B: Copy, S: BuildHasher + Clone, A: Allocator + 
     ensures count { IfOk result (λ copy. length copy.entries ≡ length table.now.entries) }
 {
     let mut copy = table.clone()?;
-    // What a clone of a value is, is left open by its type: each gets its source's value itself.
+    // A type may define any clone of its values, so each entry gets the value of its source.
     let mut values = table.values();
     let from_source = move |_key: &K, value: &mut B| -> bool
         ensures kept { result ≡ true }
@@ -310,7 +294,7 @@ fn copied<K: Eq + Hash + Clone, B: Copy, S: BuildHasher + Clone, A: Allocator + 
     Ok(copy)
 }
 
-/// `for (key, value) in &map` gives each entry once, in no specified order.
+/// `for (key, value) in &map` visits each entry once, in an unspecified order.
 impl<
     'm,
     R: Copy,
@@ -330,7 +314,7 @@ impl<
     }
 }
 
-// Two maps are equal where each key has equal values in both, or none in either.
+// Two maps are equal if each key has equal values in both, or none in either.
 impl<R: Copy, K: Eq + Hash + Drop, V: StableDeref<R>, S: BuildHasher, A: Allocator + Copy> PartialEq
     for FrozenMapIn<R, K, V, S, A>
 where

@@ -1,39 +1,44 @@
-//! What a caller may rely on, each law on the contract of a function that makes the calls.
+//! What a caller may rely on over several calls: each law is the contract of a function that makes
+//! the calls.
 //!
-//! The laws follow from the contracts of the maps alone, as any caller's own proofs do.
+//! The laws follow from the contracts of the maps alone, as a caller's own proofs do.
 ghost use Rattle.std.specs.Prelude.{◌≡◌, ◌+◌, ◌⊎◌, ◌↔◌, All, Bool, false, true, IfOk, IsSome, IsTrue, None, OnErr, Some, if◌then◌else◌, length};
 ghost use Rattle.elsa_maps.specs.FirstWins.{Inserts, Keeps, SameAt, value_at};
 
 use super::MapForm;
+use elsa_specs::for_its_clause;
+use elsa_tables::Inserted;
 use elsa_vec::stable::StableDeref;
-use elsa_words::for_its_clause;
 use std::alloc::AllocError;
 
-/// An insertion, accepted or refused, keeps the value of every key that has one; the key has the returned value
-/// afterwards, and the flag is true exactly where the key was new, and the content grows by one entry.
+/// Inserts the value. Whether it succeeds or fails, each key that had a value keeps it. After a
+/// success, the key has the returned value, `is_new` is true exactly if the key was new, and then
+/// there is one entry more.
 pub fn keeps_earlier_values<R, M: MapForm<R>>(
     map: &mut M,
     key: M::Key,
     value: M::Value,
-) -> Result<(<M::Value as StableDeref<R>>::Borrow, bool), AllocError>
+) -> Result<Inserted<<M::Value as StableDeref<R>>::Borrow>, AllocError>
     // The earlier values stay, and the key has the returned one.
     ensures kept { Keeps (value_at M.same (M.entries map.old)) (value_at M.same (M.entries map.new)) }
-    ensures there { IfOk result (λ r. value_at M.same (M.entries map.new) key ≡ Some r.0) }
+    ensures found_after { IfOk result (λ r. value_at M.same (M.entries map.new) key ≡ Some r.value) }
 
-    // Whether it was new, and by how much the content grew; a refusal leaves it.
-    ensures flag { IfOk result (λ r. IsTrue r.1 ↔ (value_at M.same (M.entries map.old) key ≡ None)) }
+    // Whether it was new, and by how many entries the map grew. A failed call changes nothing.
+    ensures flag { IfOk result (λ r.
+        IsTrue r.is_new ↔ (value_at M.same (M.entries map.old) key ≡ None)) }
     ensures grows { IfOk result (λ r.
-        length (M.entries map.new) ≡ length (M.entries map.old) + (if r.1 then 1 else 0)) }
+        length (M.entries map.new) ≡ length (M.entries map.old) + (if r.is_new then 1 else 0)) }
     ensures refused { OnErr result (M.entries map.new ≡ M.entries map.old) }
     ensures only_new { OnErr result (value_at M.same (M.entries map.old) key ≡ None) }
 {
-    // The keys' equality is an equivalence.
+    // The equality of keys is an equivalence.
     for_its_clause(map.len());
     map.insert_new(key, value)
 }
 
-/// Of two insertions of one key the second is told that the key wasn't new and returns the first one's value, whatever
-/// is inserted between them, all of which the map then has: in one epoch a key is new at most once.
+/// Inserts two values with equal keys, and other entries between the two. The second insertion
+/// returns `is_new = false` and the value of the first, and the map then has all entries. So a key
+/// is new at most once between two calls of `as_mut`.
 pub fn is_new_once<R, M: MapForm<R>>(
     map: &mut M,
     first: (M::Key, M::Value),
@@ -41,8 +46,8 @@ pub fn is_new_once<R, M: MapForm<R>>(
     again: (M::Key, M::Value),
 ) -> Result<
     (
-        (<M::Value as StableDeref<R>>::Borrow, bool),
-        (<M::Value as StableDeref<R>>::Borrow, bool),
+        Inserted<<M::Value as StableDeref<R>>::Borrow>,
+        Inserted<<M::Value as StableDeref<R>>::Borrow>,
     ),
     AllocError,
 >
@@ -50,18 +55,18 @@ pub fn is_new_once<R, M: MapForm<R>>(
 
     // The key is new at the first insertion alone, and keeps that one's value.
     ensures first { IfOk result (λ answers.
-        IsTrue answers.0.1 ↔ (value_at M.same (M.entries map.old) first.0 ≡ None)) }
-    ensures once { IfOk result (λ answers. answers.1.1 ≡ false) }
-    ensures same_value { IfOk result (λ answers. answers.1.0 ≡ answers.0.0) }
-    ensures there { IfOk result (λ answers.
-        value_at M.same (M.entries map.new) first.0 ≡ Some answers.0.0) }
+        IsTrue answers.0.is_new ↔ (value_at M.same (M.entries map.old) first.0 ≡ None)) }
+    ensures once { IfOk result (λ answers. answers.1.is_new ≡ false) }
+    ensures same_value { IfOk result (λ answers. answers.1.value ≡ answers.0.value) }
+    ensures found_after { IfOk result (λ answers.
+        value_at M.same (M.entries map.new) first.0 ≡ Some answers.0.value) }
 
-    // What was inserted between and before is there.
+    // The entries that were inserted before and between are present.
     ensures between { IfOk result (λ _.
         All (λ pair. IsSome (value_at M.same (M.entries map.new) pair.0)) between.items) }
     ensures kept { Keeps (value_at M.same (M.entries map.old)) (value_at M.same (M.entries map.new)) }
 {
-    // The keys' equality is an equivalence.
+    // The equality of keys is an equivalence.
     for_its_clause(map.len());
     let (first_key, first_value) = first;
     let before = keeps_earlier_values(map, first_key, first_value)?;
@@ -74,8 +79,8 @@ pub fn is_new_once<R, M: MapForm<R>>(
     Ok((before, after))
 }
 
-/// A copy of a map, as `clone` gives, and the map itself are independent of each other: after an insertion into each, each is what the
-/// map was before, with its own insertion alone.
+/// Inserts an entry into a map and another into its copy, as `clone` makes it. Each of the two then
+/// has the earlier entries and its own insertion alone.
 pub fn inserted_apart<R, M: MapForm<R>>(
     map: &mut M,
     mut copy: M,

@@ -1,30 +1,30 @@
-//! The map that keeps its keys in order.
+//! The map that keeps its keys sorted.
 ghost use Rattle.std.specs.Prelude.{◌≡◌, ◌-◌, ◌↔◌, [], ◌∷◌, List, None, true, IfOk, IsTrue, OnErr, OnOk, Ok, Some, length, slice_get};
 ghost use Rattle.std.specs.BTreeMap.Range.{IsLeBy, IsLtBy, entries_between};
 ghost use Rattle.std.specs.Cmp.{eq_by_cmp_equiv};
 ghost use Rattle.std.specs.Iterator.{Drains, IsFinite};
 ghost use Rattle.std.specs.List.Sorted.{IsStrictlySortedBy};
-ghost use Rattle.std.specs.Map.{keys_of, lookup, values_of};
+ghost use Rattle.std.specs.Map.{keys_of, values_of};
 ghost use Rattle.std.specs.Map.Iter.{ShowsInOrder, ShowsInReverse, deref, deref_pair};
-ghost use Rattle.std.specs.Ordering.{eq_by_cmp, nat_cmp};
-ghost use Rattle.std.specs.Cmp.Lexicographic.{slice_cmp};
-ghost use Rattle.std.specs.String.{string_bytes};
+ghost use Rattle.std.specs.Ordering.{eq_by_cmp};
 ghost use Rattle.elsa_maps.specs.FirstWins.{AddsNew, HoldsLast, IsRefused, SameAt, same_values, value_at};
-ghost use Rattle.elsa_words.proofs.MapEquality.{same_values_equivalence, same_values_laws};
-ghost use Rattle.elsa_words.specs.FirstWins.{IsEqualMap};
+ghost use Rattle.elsa_specs.proofs.MapEquality.{same_values_equivalence, same_values_laws};
+ghost use Rattle.elsa_specs.specs.FirstWins.{IsEqualMap};
 
 use super::Frozen;
 use bumpalo::Bump;
+use elsa_specs::for_its_clause;
 use elsa_vec::stable::{KeepsText, StableDeref};
-use elsa_words::for_its_clause;
 use std::alloc::{AllocError, Allocator, Global};
 use std::collections::BTreeMap;
 use std::collections::btree_map::{Iter, Keys, Range, Values};
 use std::ops::RangeBounds;
 
-/// A map in which the first value of a key stays, and whose keys are in order: over the arena to which an `R` refers.
+/// A map in which the first value of a key stays, and whose keys are sorted. Its values are stored
+/// in the arena to which an `R` refers.
 ///
-/// Keys need `Ord`, and two keys are one where they compare `Equal`. `A` is the allocator of the tree.
+/// Keys need `Ord`, and two keys are equal if they compare as `Equal`. `A` is the allocator of the
+/// tree.
 pub type FrozenBTreeMapIn<R, K, V, A = Global> = Frozen<
     R,
     K,
@@ -33,33 +33,34 @@ pub type FrozenBTreeMapIn<R, K, V, A = Global> = Frozen<
     A,
 >;
 
-/// The ordered map whose values are placed in a `Bump` of lifetime `'a`; `P` is the allocator of the arena.
+/// The ordered map whose values are stored in a `Bump` of lifetime `'a`. `P` is the allocator of
+/// the arena.
 pub type FrozenBTreeMap<'a, K, V, A = Global, P = Global> = FrozenBTreeMapIn<&'a Bump<P>, K, V, A>;
 
 impl<R: Copy, K: Ord + Drop, V: StableDeref<R>, A: Allocator + Copy> FrozenBTreeMapIn<R, K, V, A> {
-    /// An empty map, over `arena` for its values and `alloc` for its tree.
-    ///
-    /// Takes no memory.
+    /// Makes an empty map. Its values are stored in `arena`, and `alloc` allocates its tree. It
+    /// allocates nothing.
     pub fn new(alloc: A, arena: R) -> Self
         ensures { result ≡ [] }
     {
         FrozenBTreeMapIn::from_map(alloc, arena, BTreeMap::new(alloc))
     }
 
-    /// A map with the content of `map`.
+    /// Makes a map with the entries of `map`. It allocates nothing.
     ///
-    /// Takes no memory. `alloc` is for the memory that [`clone`](FrozenBTreeMapIn::clone) and
-    /// [`into_tuple_vec`](Frozen::into_tuple_vec) take: std's map can't be asked for its allocator.
+    /// [`clone`](FrozenBTreeMapIn::clone) and [`into_tuple_vec`](Frozen::into_tuple_vec) allocate
+    /// with `alloc`, since the map doesn't return its allocator.
     pub fn from_map(alloc: A, arena: R, map: BTreeMap<K, V::Borrow, A>) -> Self
         ensures { result ≡ map.entries }
     {
         Frozen::over(alloc, arena, map)
     }
 
-    /// Each entry once, as a key and its value's borrow, ascending by key; from the back, descending. Takes no memory; `O(log n)`, and
-    /// each entry `O(1)` on average.
+    /// Returns an iterator over the entries, each once, ascending by key. It can be used from the
+    /// back, descending. An insertion while it is used doesn't compile.
     ///
-    /// No insertion can be made while it walks.
+    /// # Cost
+    /// `O(log n)`, and `O(1)` on average for each entry. It allocates nothing.
     pub fn iter(&self) -> Iter<'_, K, V::Borrow>
         ensures rest { result ≡ self.now }
         ensures runs { ShowsInOrder (deref_pair {K = K} {X = V.Borrow}) }
@@ -68,7 +69,10 @@ impl<R: Copy, K: Ord + Drop, V: StableDeref<R>, A: Allocator + Copy> FrozenBTree
         self.table.iter()
     }
 
-    /// Each key once, ascending; from the back, descending. Costs as [`iter`](FrozenBTreeMapIn::iter).
+    /// Returns an iterator over the keys, each once, ascending. It can be used from the back.
+    ///
+    /// # Cost
+    /// That of [`iter`](FrozenBTreeMapIn::iter).
     pub fn keys(&self) -> Keys<'_, K, V::Borrow>
         ensures rest { result ≡ keys_of self.now }
         ensures runs { ShowsInOrder (deref {X = K}) }
@@ -77,7 +81,10 @@ impl<R: Copy, K: Ord + Drop, V: StableDeref<R>, A: Allocator + Copy> FrozenBTree
         self.table.keys()
     }
 
-    /// The value's borrow of each entry, ascending by key; from the back, descending. Costs as [`iter`](FrozenBTreeMapIn::iter).
+    /// Returns an iterator over the values, ascending by key. It can be used from the back.
+    ///
+    /// # Cost
+    /// That of [`iter`](FrozenBTreeMapIn::iter).
     pub fn values(&self) -> Values<'_, K, V::Borrow>
         ensures rest { result ≡ values_of self.now }
         ensures runs { ShowsInOrder (deref {X = V.Borrow}) }
@@ -86,10 +93,13 @@ impl<R: Copy, K: Ord + Drop, V: StableDeref<R>, A: Allocator + Copy> FrozenBTree
         self.table.values()
     }
 
-    /// The entries whose keys are in the range, ascending; from the back, descending. Takes no memory; `O(log n)`, and each entry
-    /// `O(1)` on average.
+    /// Returns an iterator over the entries whose keys are in the range, ascending. It can be used
+    /// from the back.
     ///
-    /// The range must not begin behind its end, as `5..3` does.
+    /// The start of the range must not be after its end, as in `5..3`.
+    ///
+    /// # Cost
+    /// `O(log n)`, and `O(1)` on average for each entry. It allocates nothing.
     pub fn range<G: RangeBounds<K> + Drop>(&self, range: G) -> Range<'_, K, V::Borrow>
         requires { G.is_forward range (IsLeBy K.cmp) (IsLtBy K.cmp) }
         ensures between { G.has_bounds range →
@@ -100,7 +110,10 @@ impl<R: Copy, K: Ord + Drop, V: StableDeref<R>, A: Allocator + Copy> FrozenBTree
         self.table.range(range)
     }
 
-    /// The entry with the least key, `None` exactly if the map is empty. Takes no memory; `O(log n)`.
+    /// Returns the entry with the least key, or `None` if the map is empty.
+    ///
+    /// # Cost
+    /// `O(log n)`.
     pub fn first_key_value(&self) -> Option<(K, V::Borrow)>
     where
         K: Copy,
@@ -110,7 +123,10 @@ impl<R: Copy, K: Ord + Drop, V: StableDeref<R>, A: Allocator + Copy> FrozenBTree
         Some((*key, *value))
     }
 
-    /// The entry with the greatest key, `None` exactly if the map is empty. Takes no memory; `O(log n)`.
+    /// Returns the entry with the greatest key, or `None` if the map is empty.
+    ///
+    /// # Cost
+    /// `O(log n)`.
     pub fn last_key_value(&self) -> Option<(K, V::Borrow)>
     where
         K: Copy,
@@ -120,10 +136,14 @@ impl<R: Copy, K: Ord + Drop, V: StableDeref<R>, A: Allocator + Copy> FrozenBTree
         Some((*key, *value))
     }
 
-    /// A map of the pairs in which, other than by insertions, the last value of a key wins.
+    /// Makes a map of the pairs, in which the last value of a key wins, unlike in insertions. Which
+    /// of several equal keys is stored is unspecified.
     ///
-    /// Each value is placed in the arena. On an allocation failure it returns `Err` and drops what was collected.
-    /// Which of several equal keys the map then shows is left open.
+    /// # Errors
+    /// Fails if an allocation fails. What was collected is dropped.
+    ///
+    /// # Cost
+    /// `O(n log n)`.
     pub fn from_iter<I: IntoIterator<Item = (K, V)>>(
         alloc: A,
         arena: R,
@@ -146,10 +166,14 @@ impl<R: Copy, K: Ord + Drop, V: StableDeref<R>, A: Allocator + Copy> FrozenBTree
         Ok(FrozenBTreeMapIn::from_map(alloc, arena, tree))
     }
 
-    /// A map with the same content over the same arena, whose borrows are shared. Later insertions into either leave the
-    /// other as it is.
+    /// Makes a map with the same entries over the same arena, which shares the values. Later
+    /// insertions into one of the two don't change the other.
     ///
-    /// Clones each key. On an allocation failure it returns `Err`.
+    /// # Errors
+    /// Fails if an allocation fails, or if the `clone` of a key fails.
+    ///
+    /// # Cost
+    /// `O(n)`.
     pub fn clone(&self) -> Result<Self, AllocError>
     where
         K: Clone,
@@ -163,7 +187,7 @@ impl<R: Copy, K: Ord + Drop, V: StableDeref<R>, A: Allocator + Copy> FrozenBTree
     }
 }
 
-// The tree copied whole: no key is searched for.
+// Copies the tree whole: no key is searched for.
 fn copied<K: Ord + Clone + Drop, B: Copy, A: Allocator + Copy>(
     tree: &BTreeMap<K, B, A>,
 ) -> Result<BTreeMap<K, B, A>, AllocError>
@@ -174,7 +198,7 @@ fn copied<K: Ord + Clone + Drop, B: Copy, A: Allocator + Copy>(
     ensures count { IfOk result (λ copy. length copy.entries ≡ length tree.now.entries) }
 {
     let mut copy = tree.clone()?;
-    // What a clone of a value is, is left open by its type: each gets its source's value itself.
+    // A type may define any clone of its values, so each entry gets the value of its source.
     let mut values = tree.values();
     let from_source = move |_key: &K, value: &mut B| -> bool
         ensures kept { result ≡ true }
@@ -190,33 +214,29 @@ fn copied<K: Ord + Clone + Drop, B: Copy, A: Allocator + Copy>(
     Ok(copy)
 }
 
-impl<'k, R: Copy, V: StableDeref<R>, A: Allocator + Copy> FrozenBTreeMapIn<R, &'k str, V, A> {
-    /// The value at the text `key`, or `None` exactly if no key of the map reads the same. Takes no memory; one search.
-    pub fn get_text(&self, key: &str) -> Option<V::Borrow>
-        ensures { result ≡ value_at (eq_by_cmp ⟦<&'k str as Ord>⟧.cmp) self.now key.entry }
-    {
-        let found = self.table.get(key)?;
-        Some(*found)
-    }
-}
-
 impl<'a, R: KeepsText<'a>, V: StableDeref<R>, A: Allocator + Copy> FrozenBTreeMapIn<
     R,
     &'a str,
     V,
     A,
 > {
-    /// Gives the text `key` the value, unless a key of the map reads the same, and returns the value that the text now has:
-    /// [`insert`](Frozen::insert) by a text of any lifetime.
+    /// Inserts the value unless the map has the text as a key, and returns the value that the text
+    /// then has: [`insert`](Frozen::insert) for a text of any lifetime.
     ///
-    /// A present text keeps its value: `value` is dropped, no memory is taken and the result is `Ok`, after one search.
-    /// A new one is copied into the arena and inserted there, which takes one more search. Where either fails, it returns `Err`, the
-    /// map stays as it was, and the arena may keep a text that nobody sees.
+    /// If the map has the text, the given value is dropped and nothing is allocated. Otherwise the
+    /// text is copied into the arena.
+    ///
+    /// # Errors
+    /// Fails if the text is new and an allocation fails. The map is then unchanged. The arena may
+    /// keep an unused copy of the text.
+    ///
+    /// # Cost
+    /// One search for a present text, and two for a new one.
     pub fn insert_text(&mut self, key: &str, value: V) -> Result<V::Borrow, AllocError>
         ensures present { (x : V.Borrow) →
             value_at (eq_by_cmp ⟦<&'a str as Ord>⟧.cmp) self.old key.entry ≡ Some x →
             (result ≡ Ok x) × (self.new ≡ self.old) }
-        ensures stands { IfOk result (λ b.
+        ensures value_after { IfOk result (λ b.
             value_at (eq_by_cmp ⟦<&'a str as Ord>⟧.cmp) self.new key.entry ≡ Some b) }
         ensures added { value_at (eq_by_cmp ⟦<&'a str as Ord>⟧.cmp) self.old key.entry ≡ None →
             IfOk result (λ b. AddsNew (eq_by_cmp ⟦<&'a str as Ord>⟧.cmp) V.target V.shown self.old
@@ -224,7 +244,7 @@ impl<'a, R: KeepsText<'a>, V: StableDeref<R>, A: Allocator + Copy> FrozenBTreeMa
         ensures refused { OnErr result (
             IsRefused (eq_by_cmp ⟦<&'a str as Ord>⟧.cmp) self.old key.entry self.new) }
     {
-        if let Some(found) = self.get_text(key) {
+        if let Some(found) = self.get(key) {
             return Ok(found);
         }
         let placed = self.arena.keep_text(key)?;
@@ -232,24 +252,7 @@ impl<'a, R: KeepsText<'a>, V: StableDeref<R>, A: Allocator + Copy> FrozenBTreeMa
     }
 }
 
-impl<R: Copy, B: Allocator, V: StableDeref<R>, A: Allocator + Copy> FrozenBTreeMapIn<
-    R,
-    String<B>,
-    V,
-    A,
-> {
-    /// The value at the text `key`, or `None` exactly if no key of the map reads the same: [`get`](Frozen::get) without a
-    /// `String`. Takes no memory; one search.
-    pub fn get_text(&self, key: &str) -> Option<V::Borrow>
-        ensures { result
-            ≡ lookup (λ k. eq_by_cmp (slice_cmp nat_cmp) key.now (string_bytes k)) self.now }
-    {
-        let value = self.table.get(key)?;
-        Some(*value)
-    }
-}
-
-/// `for (key, value) in &map` gives each entry once, ascending by key.
+/// `for (key, value) in &map` visits each entry once, ascending by key.
 impl<'m, R: Copy, K: Ord + Drop, V: StableDeref<R>, A: Allocator + Copy> IntoIterator
     for &'m FrozenBTreeMapIn<R, K, V, A> {
     type Item = (&'m K, &'m V::Borrow);
@@ -263,7 +266,7 @@ impl<'m, R: Copy, K: Ord + Drop, V: StableDeref<R>, A: Allocator + Copy> IntoIte
     }
 }
 
-// Two maps are equal where each key has equal values in both, or none in either.
+// Two maps are equal if each key has equal values in both, or none in either.
 impl<R: Copy, K: Ord + Drop, V: StableDeref<R>, A: Allocator + Copy> PartialEq
     for FrozenBTreeMapIn<R, K, V, A>
 where

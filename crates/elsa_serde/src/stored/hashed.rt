@@ -1,4 +1,4 @@
-//! The hashed map, as a map in no specified order.
+//! The hashed map, written as a map in an unspecified order.
 ghost use Rattle.serde.specs.Event.{WritesMap};
 
 use super::{Stored, write_entry};

@@ -1,4 +1,4 @@
-//! The index map, as a map in the order of first insertion.
+//! The index map, written as a map in the order of first insertion.
 ghost use Rattle.serde.specs.Event.{WritesMap};
 
 use super::{Stored, write_entry};

@@ -1,4 +1,4 @@
-//! The index set, as a sequence.
+//! The index set, written as a sequence.
 ghost use Rattle.serde.specs.Event.{WritesSeq};
 
 use super::Stored;

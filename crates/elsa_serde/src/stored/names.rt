@@ -1,4 +1,5 @@
-//! The interner, with its arena and without, as a sequence of texts: a name's number is its place.
+//! The interner, with its arena and without it, written as a sequence of texts: the index of a name
+//! is its number.
 ghost use Rattle.std.specs.Prelude.{◌≡◌, OnOk, length, map};
 ghost use Rattle.std.specs.Slice.Iter.{iter_rest};
 ghost use Rattle.serde.specs.Event.{WritesSeq};
@@ -39,7 +40,7 @@ impl<H: BuildHasher, A: Allocator + Copy, P: Allocator> Serialize
     }
 }
 
-// So many names, in order, as a sequence of texts.
+// Writes `count` names, in order, as a sequence of texts.
 fn write_names<S: Serializer>(
     count: usize,
     names: Iter<'_, &str>,

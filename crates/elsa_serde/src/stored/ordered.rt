@@ -1,4 +1,4 @@
-//! The ordered map, as a map that ascends by key.
+//! The ordered map, written as a map in ascending order of the keys.
 ghost use Rattle.serde.specs.Event.{WritesMap};
 
 use super::{Stored, write_entry};

@@ -1,4 +1,4 @@
-//! The vector, as a sequence.
+//! The vector, written as a sequence.
 ghost use Rattle.serde.specs.Event.{WritesSeq};
 
 use super::Stored;

@@ -1,4 +1,4 @@
-//! Walks over a vector: an iterator, and a cursor that goes on after later pushes.
+//! Two ways to walk over a vector: an iterator, and a cursor that continues after later pushes.
 ghost use Rattle.std.specs.Prelude.{◌≡◌, ◌+◌, IfSome, Some, if◌then◌else◌, is_some, length, slice_get};
 ghost use Rattle.std.specs.Iterator.{UpTo, YieldsFirst, YieldsLast, item_count};
 ghost use Rattle.std.specs.Iterator.SizeHint.{IsWithinCount};
@@ -9,7 +9,7 @@ use bumpalo::Bump;
 use std::alloc::{Allocator, Global};
 use std::marker::Model;
 
-/// A place in a vector, counted from 0, from which a reader goes on; contracts see it as that number.
+/// The index in a vector at which a reader continues. Contracts see it as that number.
 #[derive(Clone, Copy, Debug, PartialEq, Eq)]
 pub struct Cursor {
     place: usize,
@@ -26,16 +26,17 @@ impl Model for Cursor {
 }
 
 impl Cursor {
-    /// A cursor before the first item.
+    /// Makes a cursor before the first item.
     pub fn new() -> Self
         ensures { result ≡ 0 }
     {
         Cursor { place: 0 }
     }
 
-    /// The item at the cursor's place; the cursor then moves on by one.
+    /// Returns the item at the cursor's index and moves the cursor to the next index.
     ///
-    /// At the end it returns None and keeps its place, so it goes on after a later push. Asked of a vector with fewer items than its place, it returns None.
+    /// At the end it returns `None` and the cursor doesn't move, so it continues after a later
+    /// push. If the vector has fewer items than the cursor's index, it returns `None`.
     pub fn next<R: Copy, T: StableDeref<R>, A: Allocator + Copy>(
         &mut self,
         items: &FrozenVecIn<R, T, A>,
@@ -53,7 +54,8 @@ impl Cursor {
     }
 }
 
-/// Gives the items of a vector, in order or from the back; contracts see it as the list of the items that are left.
+/// An iterator over the items of a vector, from the front or from the back. Contracts see it as the
+/// list of the remaining items.
 #[derive(Drop)]
 pub struct IterIn<'v, R: Copy, T, A: Allocator + Copy = Global>
 where
@@ -64,10 +66,10 @@ where
     end: usize,
 }
 
-/// The iterator over a vector whose items are placed in a `Bump`.
+/// The iterator over a vector whose items are stored in a `Bump`.
 pub type Iter<'v, 'a, T, A = Global, P = Global> = IterIn<'v, &'a Bump<P>, T, A>;
 
-// An iterator is the list of the items from its place to its end.
+// In a clause, an iterator is the list of the items from its index to its end.
 impl<'v, R: Copy, T, A: Allocator + Copy> Model for IterIn<'v, R, T, A>
 where
     T: StableDeref<R>,

@@ -4,8 +4,8 @@ use Rattle.elsa_cache.proofs.parsed_cache.keep.Goals as goal
 pub returns-in-Some-clause-present : goal.returns-in-Some-clause-present
 returns-in-Some-clause-present g c = rw (← c.requires.reads_same _ c.in-Some.is) c.insert.ensures.present
 
-pub returns-in-Some-clause-stands : goal.returns-in-Some-clause-stands
-returns-in-Some-clause-stands g c = rw (← c.requires.reads_same _ c.in-Some.is) c.insert.ensures.stands
+pub returns-in-Some-clause-value_after : goal.returns-in-Some-clause-value_after
+returns-in-Some-clause-value_after g c = rw (← c.requires.reads_same _ c.in-Some.is) c.insert.ensures.value_after
 
 pub returns-in-Some-clause-refused : goal.returns-in-Some-clause-refused
 returns-in-Some-clause-refused g c = rw (← c.requires.reads_same _ c.in-Some.is) c.insert.ensures.refused

@@ -38,4 +38,4 @@ pub returns-clause-are_of : goal.returns-clause-are_of
 returns-clause-are_of g c =
     let none : c.loop-left.left ≡ 0 = omega arith in
     c.loop-left.invariant.2.0
-    (subst (AreOf g.C.Command.PartialEq.eq g.C.Reply.PartialEq.eq c.loop-left.passes.items) (sym (ap (λ n. take n c.args.entries.now) none)) (c.are_empty.ensures.yes c.if-not-are_empty.false))
+    (subst (AreOf g.C.Command.PartialEq.eq g.C.Reply.PartialEq.eq c.loop-left.passes.items) (sym (ap (λ n. take n c.args.entries.now) none)) (c.are_empty.ensures.when_true c.if-not-are_empty.false))

@@ -10,5 +10,5 @@ returns-clause-within c = near_within c.args.piece.now c.requires c.if-ends-eq0.
 pub returns-clause-before : goal.returns-clause-before
 returns-clause-before c = near_before c.args.piece.now c.requires c.if-ends-eq0.false
 
-pub returns-clause-there : goal.returns-clause-there
-returns-clause-there c = near_there c.args.piece.now c.requires c.if-ends-eq0.false
+pub returns-clause-line_end : goal.returns-clause-line_end
+returns-clause-line_end c = near_there c.args.piece.now c.requires c.if-ends-eq0.false

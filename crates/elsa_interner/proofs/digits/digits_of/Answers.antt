@@ -22,4 +22,4 @@ returns c =
     let back = rw (c.pair-3.ensures, c.pair-4.ensures, d4, d5, d6, d7) at c.from_le_bytes-back.ensures in
     let word : bit_or f (b * 2 ^ 32 % 2 ^ 64) ≡ from_le_bytes w64 (padded 8 n) = halves f b (omega (arith, front)) (omega (arith, back)) ∙ omega (arith, front, back) in
     let eight = le_bytes_8 (padded 8 n) _ (length_padded 8 n) (padded_below 8 n) word in
-    ap (take c.args.count) c.to_le_bytes.ensures ∙ shifted_digits n _ c.args.count _ short c.ranges.n.fits c.requires.count c.requires.few.1 refl eight
+    ap (take c.args.count) c.to_le_bytes.ensures ∙ shifted_digits n _ c.args.count _ short c.ranges.n.fits c.requires.count c.requires.digits.1 refl eight

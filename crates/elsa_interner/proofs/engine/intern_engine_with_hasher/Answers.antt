@@ -28,7 +28,7 @@ loop-turn-preserved g c =
     let bound = c.in-Ok.ensures.within in
     let some : 0 < length (take c.in-Ok.n c.read.new.buf) = rw length-take (omega arith) in
     record {
-      reads = c.in-Ok.ensures.ok ∙ i.reads;
+      reads = c.in-Ok.ensures.succeeded ∙ i.reads;
       writes = c.in-Ok-feed_bytes.ensures.counts ∙ i.writes;
       none = c.in-Ok-feed_bytes.ensures.none;
       so_far = further _ c.loop-turn._turn (g.R.Source.left c.args.reader.now) (g.R.Source.left c.loop-turn.reader) (g.R.Source.left c.read.new.self)

@@ -15,7 +15,7 @@ loop-at-preserved g c =
     let bound = rw whole at c.in_ok-at.ensures.within in
     record {
       some = appends_more (g.W.Sink.held c.args.writer.now) (g.W.Sink.held c.loop-at.writer) _ c.args.piece.now c.loop-at.at c.in_ok-at.field-0 c.loop-at.invariant.some bytes;
-      calm = c.in_ok-at.ensures.ok ∙ c.loop-at.invariant.calm;
+      calm = c.in_ok-at.ensures.succeeded ∙ c.loop-at.invariant.calm;
       within = let at_most = rw length-drop at bound in omega arith;
     }
 

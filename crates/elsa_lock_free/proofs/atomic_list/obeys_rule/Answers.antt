@@ -5,8 +5,8 @@ use Rattle.elsa_lock_free.proofs.RuleLemmas.EachNew.{prefix_is_new}
 use Rattle.elsa_lock_free.proofs.RuleLemmas.History.{items_prefix, list_prefix}
 use Rattle.elsa_lock_free.proofs.atomic_list.obeys_rule.Goals as goal
 
-pub returns-clause-new : goal.returns-clause-new
-returns-clause-new g c =
+pub returns-clause-obeys_rule : goal.returns-clause-obeys_rule
+returns-clause-obeys_rule g c =
     let v = c.args.seen.now.log in let log = c.learn.new.self.log in let more = list_prefix v log c.learn.ensures.3 in
     prefix_is_new g.K.ItemRule.is_new (items_of (list_of v)) (items_of (list_of log)) (items_prefix (list_of v) (list_of log) more) c.learn.ensures.4.1.each_is_new
 

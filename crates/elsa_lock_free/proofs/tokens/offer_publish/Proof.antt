@@ -25,7 +25,8 @@ use Rattle.elsa_lock_free.specs.contracts.tokens.offer_publish.Key.{name as #sel
 use Rattle.elsa_lock_free.proofs.tokens.offer_publish.Statement.{statement}
 use Rattle.elsa_lock_free.proofs.tokens.offer_publish.Code as code
 
--- the offer holds what the pusher gives: the hold, the evidence of the item and of its buffer, the rights to the slots and buffers behind it, and the author
+-- the offer has the right to release, the evidence of the item and of its buffer, the rights to the later slots and
+-- buffers, and the author
 pub offer_publish_spec : {M : Type 1} → statement M
 offer_publish_spec 𝓤 𝓛 𝓜 𝓡 wired T B K _ _ _ g d h e _ _ =
     let H = 𝓛.H in let 𝓣 = tables 𝓤 H 𝓜 𝓡 𝓡.env in let T' : RattleType = param 0 T in let B' : RattleType = param 1 B in let K' : RattleType = param 2 K in let E' : RattleType = Event.the_row T' in let L' : RattleType = LinkedList.the_row E' Global.the_row galloc.ghosts in let En = ended T B K g d h e in

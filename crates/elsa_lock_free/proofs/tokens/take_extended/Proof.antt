@@ -12,7 +12,7 @@ use Rattle.elsa_lock_free.specs.contracts.tokens.take_extended.Key.{name as #sel
 use Rattle.elsa_lock_free.proofs.tokens.take_extended.Statement.{statement}
 use Rattle.elsa_lock_free.proofs.tokens.take_extended.Code as code
 
--- what a publish of many gained is the author, with as many tickets fewer
+-- the gain of a publish of several items is the author, minus one ticket for each item
 pub take_extended_spec : {M : Type 1} → statement M
 take_extended_spec 𝓤 𝓛 𝓜 𝓡 wired T B _ _ g d _ =
     let H = 𝓛.H in let 𝓣 = tables 𝓤 H 𝓜 𝓡 𝓡.env in let T' : RattleType = param 0 T in let B' : RattleType = param 1 B in let E' : RattleType = Event.the_row T' in let L' : RattleType = LinkedList.the_row E' Global.the_row galloc.ghosts in let En = ended T B g d in

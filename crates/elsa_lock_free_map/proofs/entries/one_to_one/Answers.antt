@@ -1,6 +1,6 @@
 use Rattle.std.proofs.Common.{fold}
 use Rattle.elsa_lock_free.specs.SharedList.{items_of}
-use Rattle.elsa_index_words.specs.Entries.{keys_of}
+use Rattle.elsa_hash_index.specs.Entries.{keys_of}
 use Rattle.elsa_lock_free.proofs.RuleLemmas.EachNew.{one_to_one}
 use Rattle.elsa_lock_free_map.specs.Entries.{short}
 use Rattle.elsa_lock_free_map.proofs.MapLemmas.{keys_are_new}

@@ -1,19 +1,19 @@
 use Rattle.std.proofs.Common.{rules, ◌≡◌, ℕ, ◌*◌, ◌<◌, ◌∙◌, All, List, Option, Some, None, false, is_some, length, ap, arith, subst}
-use Rattle.elsa.specs.declared.shared.SharedFault.{SharedFault}
-use Rattle.elsa.specs.Workers.{HasPushed, HaveWorked, IsFirstFault, numbers, pushed_by}
+use Rattle.elsa_program.specs.declared.shared.SharedFault.{SharedFault}
+use Rattle.elsa_program.specs.Workers.{HasPushed, HaveWorked, IsFirstFault, numbers, pushed_by}
 use Rattle.test_surface.proofs.filled.two_filled.Goals as goal
 
--- where no fault is told, no worker had one
+-- If no first fault is returned, no worker had a fault.
 none_told : (faults : List (Option SharedFault)) (told : Option SharedFault) → is_some told ≡ false → IsFirstFault faults told → All (λ (fault : Option SharedFault). fault ≡ None) faults
 none_told faults None none first = first
 none_told faults (Some fault) none first = cc
 
--- a worker without a fault has pushed all its numbers
+-- A worker without a fault has pushed all its numbers.
 finished : (count worker : ℕ) (pushed : List ℕ) (fault : Option SharedFault) → fault ≡ None → HasPushed count worker pushed fault → pushed ≡ numbers (worker * count) count
 finished count worker pushed fault none had =
     let all = subst (HasPushed count worker pushed) none had in all.1 ∙ ap (numbers (worker * count)) all.2
 
--- the two workers are the two authors
+-- The two workers are the two writers.
 pub returns : goal.returns
 returns g c =
     let count = c.args.count in let told = c.in_ok-faults.ensures in let faults : List (Option SharedFault) = c.in_ok-faults.faults.items in

@@ -1,4 +1,4 @@
--- The blocks before `at` are mixed in, and more than none is left.
+-- The blocks before `at` are mixed in, and at least one byte is left.
 use Rattle.std.proofs.Common.{◌≡◌, ◌-◌, ◌/◌, ◌%◌, ◌<◌}
 use Rattle.elsa_hash.specs.Seeded.{mix_blocks}
 use Rattle.elsa_hash.proofs.seeded.SeededHasherHasher.write.Given as goal

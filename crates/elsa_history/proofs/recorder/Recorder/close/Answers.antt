@@ -14,8 +14,8 @@ returns-then-count-entries-clause-missing g c = λ h e.
     let a = rw c.entries.ensures.entries at c.in-Some.ensures.are_of in
     rw (← k) (a, lacks_one _ _ c.args.passes.items c.into_inner-history.result.1 a (λ q. c.if-count-entries.true (c.in-Some.ensures.count ∙ (q ∙ sym (ap length c.entries-2.ensures.entries)))))
 
-pub returns-clause-ok : goal.returns-clause-ok
-returns-clause-ok g c =
+pub returns-clause-recorded : goal.returns-clause-recorded
+returns-clause-recorded g c =
     all_receipts _ _ c.args.passes.items c.into_inner-history.result.1 (rw c.entries.ensures.entries at c.in-Some.ensures.are_of)
     (sym c.in-Some.ensures.count ∙ (c.if-count-entries.false ∙ ap length c.entries-2.ensures.entries))
 

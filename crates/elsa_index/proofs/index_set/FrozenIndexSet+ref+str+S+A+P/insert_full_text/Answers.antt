@@ -1,5 +1,5 @@
 use Rattle.elsa_index.proofs.index_set.FrozenIndexSet+ref+str+S+A+P.insert_full_text.Goals as goal
 
--- what was said of the placed text holds of the one that was given: they read the same
-pub returns-clause-stands_at : goal.returns-clause-stands_at
-returns-clause-stands_at g c = rw (c.in_ok-placed.ensures) at c.insert_absent.ensures.stands_at
+-- The facts about the stored text are true for the given one, which has the same bytes.
+pub returns-clause-index_after : goal.returns-clause-index_after
+returns-clause-index_after g c = rw (c.in_ok-placed.ensures) at c.insert_absent.ensures.index_after

@@ -4,7 +4,7 @@ use Rattle.elsa_interner.specs.Feeding.{Feeds}
 use Rattle.elsa_interner.specs.declared.devices.Failed.{Failed}
 use Rattle.elsa_interner.proofs.engine.Session.feed.Given as goal
 
--- what the rest of the chunk comes to from here, the chunk comes to
+-- If the rest of the chunk is read from the present state, the chunk was read from the first state.
 abbrev pub invariant-loop-line : goal.invariant-loop-line
 invariant-loop-line g l = record {
   fresh : (l.self.skips ≡ false) × (l.self.line.items ≡ []);

@@ -18,7 +18,7 @@ returns-in_err-push_reply-clause-feeds g c =
     (g.W.Sink.held c.args.writer.now) (g.W.Sink.held c.push_reply.new.writer) c.args.out.now _
     c.from_residual.ensures.0 c.in-Some.ensures.1 c.in-Some.ensures.0 c.finish_begun-answer.ensures c.in_err-push_reply.ensures.adds
 
--- what follows the line that has begun is fed, and the line before it
+-- The line that had begun gets its reply, and then the rest of the piece is read.
 pub returns-in-Ok-clause-feeds : goal.returns-in-Ok-clause-feeds
 returns-in-Ok-clause-feeds g c =
     let s = c.args.self.now in

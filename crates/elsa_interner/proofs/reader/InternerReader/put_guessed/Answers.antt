@@ -5,8 +5,8 @@ use Rattle.elsa_interner.specs.Names.{IsOneToOne, Puts}
 use Rattle.elsa_interner.proofs.NameLemmas.{found_here, at_place, never_there, put_there}
 use Rattle.elsa_interner.proofs.reader.InternerReader.put_guessed.Goals as goal
 
-pub returns-then-same_text-clause-put : goal.returns-then-same_text-clause-put
-returns-then-same_text-clause-put g c =
+pub returns-then-same_text-clause-numbered : goal.returns-then-same_text-clause-numbered
+returns-then-same_text-clause-numbered g c =
     let text = c.args.text.now in
     let i = c.args.guess in
     let ks = c.deref.result.now in

@@ -11,13 +11,13 @@ pub search-requires-clause-within : goal.search-requires-clause-within
 search-requires-clause-within g c h i has =
     omega (arith, c.self.invariant.within h i has, length-map c.self.inside.names.items (λ (b : Bor (List ℕ)). b.now), ap length c.as_slice.ensures.value)
 
-pub returns-in-Ok-clause-stands : goal.returns-in-Ok-clause-stands
-returns-in-Ok-clause-stands g c =
+pub returns-in-Ok-clause-value_after : goal.returns-in-Ok-clause-value_after
+returns-in-Ok-clause-value_after g c =
     let text = c.args.text.now in
     at_place c.args.self.now text c.in-Ok.place
     (subst (λ l. position (bytes_eq text) l ≡ Some c.in-Ok.place) (ap (map (λ (b : Bor (List ℕ)). b.now)) c.as_slice.ensures.value ∙ c.self.view_is) c.in-Ok.ensures.found)
 
--- the copy is refused, and the table has room that stays unused
+-- If the copy fails, the table has made room that is not used.
 pub invariant_of-self-in_err-name : goal.invariant_of-self-in_err-name
 invariant_of-self-in_err-name g c =
     let reserved = c.in_ok-room.ensures in
@@ -40,8 +40,8 @@ invariant_of-self-2 g c =
     subst (IsNumbered _ c.add-place.new.self) (sym last)
     (numbered_put _ c.reserve-2.new.self c.add-place.new.self _ text c.name_hash-hash.result c.add-place.result before c.name_hash-hash.ensures c.add-place.ensures.place c.add-place.ensures.places c.add-place.ensures.adds none)
 
-pub returns-clause-put : goal.returns-clause-put
-returns-clause-put g c =
+pub returns-clause-numbered : goal.returns-clause-numbered
+returns-clause-numbered g c =
     let ks = c.self.inside.names.items in
     let text = c.args.text.now in
     let named : c.match-placed.name.now ≡ text = elim c.match-placed.branch [
@@ -53,11 +53,11 @@ returns-clause-put g c =
     let placed : c.add-place.result ≡ length (map (λ (b : Bor (List ℕ)). b.now) ks) = omega (arith, c.add-place.ensures.place, c.in_ok-room.ensures.places, c.self.invariant.counted) in
     subst (λ l. Puts l text c.add-place.result (map (λ (b : Bor (List ℕ)). b.now) c.push_reserved.new.self.items)) c.self.view_is (put_new _ _ text c.add-place.result none placed last)
 
-pub returns-clause-stands_at : goal.returns-clause-stands_at
-returns-clause-stands_at g c = stands_put c.args.self.now c.args.text.now c.add-place.result (map (λ (b : Bor (List ℕ)). b.now) c.push_reserved.new.self.items) (returns-clause-put g c)
+pub returns-clause-index_after : goal.returns-clause-index_after
+returns-clause-index_after g c = stands_put c.args.self.now c.args.text.now c.add-place.result (map (λ (b : Bor (List ℕ)). b.now) c.push_reserved.new.self.items) (returns-clause-numbered g c)
 
-pub returns-clause-stands : goal.returns-clause-stands
-returns-clause-stands g c = at_place (map (λ (b : Bor (List ℕ)). b.now) c.push_reserved.new.self.items) c.args.text.now c.add-place.result (returns-clause-stands_at g c)
+pub returns-clause-value_after : goal.returns-clause-value_after
+returns-clause-value_after g c = at_place (map (λ (b : Bor (List ℕ)). b.now) c.push_reserved.new.self.items) c.args.text.now c.add-place.result (returns-clause-index_after g c)
 
 pub returns-clause-kept : goal.returns-clause-kept
-returns-clause-kept g c = kept_put c.args.self.now c.args.text.now c.add-place.result (map (λ (b : Bor (List ℕ)). b.now) c.push_reserved.new.self.items) (returns-clause-put g c)
+returns-clause-kept g c = kept_put c.args.self.now c.args.text.now c.add-place.result (map (λ (b : Bor (List ℕ)). b.now) c.push_reserved.new.self.items) (returns-clause-numbered g c)

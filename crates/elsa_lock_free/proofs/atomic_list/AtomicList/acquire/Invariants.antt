@@ -2,7 +2,7 @@ use Rattle.std.proofs.Common.{◌≡◌}
 use mathlib.Core.List.{IsPrefix}
 use Rattle.elsa_lock_free.proofs.atomic_list.AtomicList.acquire.Given as goal
 
--- the loop goes on, and the history that is seen only grows
+-- the loop continues, and the observed history only grows
 abbrev pub invariant-loop : goal.invariant-loop
 invariant-loop g l =
     (goal.iterator-loop g).can_next l.iterator' × (goal.iterator-loop g).is_finite l.iterator'

@@ -11,5 +11,5 @@ returns-then-length-n-clause-longer g c =
     let first = c.load-found.new.seen.log in
     let begin = list_prefix v first c.load-found.ensures.seen in let k = ap length begin.1 in let b = length-append (list_of v) begin.0 in
     let more = list_prefix first log inv.4 in let l = ap length more.1 in let a = length-append (list_of first) more.0 in
-    let at = c.requires.at in let other = c.if-length-n.true in
+    let at = c.requires.index in let other = c.if-length-n.true in
     (omega (arith, word, small), omega (arith, word, small, k, b, l, a, at, other))

@@ -3,7 +3,7 @@ use mathlib.Core.List.{IsPrefix}
 use Rattle.elsa_lock_free.specs.OneWord.{word_of}
 use Rattle.elsa_lock_free.proofs.atomic_list.AtomicList.acquire_at.Given as goal
 
--- the loop goes on, the history that is seen only grows, and the word found is that of this history
+-- the loop continues, the observed history only grows, and the word that was read is the word of this history
 abbrev pub invariant-loop : goal.invariant-loop
 invariant-loop g l =
     (goal.iterator-loop g).can_next l.iterator' × (goal.iterator-loop g).is_finite l.iterator'

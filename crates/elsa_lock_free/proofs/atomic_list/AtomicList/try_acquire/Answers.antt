@@ -8,5 +8,5 @@ compare_exchange-requires g c = let h = c.deref-2.ensures ∙ (ap (λ w. w.value
   c.requires.book ∙ sym (ap (λ w. w.book) h),
   pen.0 ∙ (c.requires.book ∙ sym (ap (λ w. w.book) h)),
   offer.0,
-  rw (ap (λ w. w.key) h, pen.1, offer.1, offer.3) (acquire_moves g.row.T.Denot g.K.ItemRule.is_new c.args.seen.now.log c.args.found.now c.requires.even),
+  rw (ap (λ w. w.key) h, pen.1, offer.1, offer.3) (acquire_moves g.row.T.Denot g.K.ItemRule.is_new c.args.seen.now.log c.args.found.now c.requires.unlocked),
 )

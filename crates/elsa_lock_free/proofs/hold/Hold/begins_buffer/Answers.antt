@@ -9,4 +9,4 @@ pub returns : goal.returns
 returns g c =
     let h = c.self.inside in let inv = c.self.invariant in
     let len : h.at ≡ length c.args.self.now.seen = inv.2 ∙ (sym (ap length (acquired_list h.right.answer h.seen.log inv.1)) ∙ ap (λ v. length v.seen) c.self.view_is) in
-    subst (λ (n : ℕ). MatchBool (c.locate-buffer.result.1 == 0) (BeginsABuffer n) (BeginsABuffer n → ⊥)) len (begins_test h.at c.locate-buffer.result.0 c.locate-buffer.result.1 c.locate-buffer.ensures.at c.locate-buffer.ensures.openable)
+    subst (λ (n : ℕ). MatchBool (h.slot == 0) (BeginsABuffer n) (BeginsABuffer n → ⊥)) len (begins_test h.at h.buffer h.slot inv.4 inv.5)

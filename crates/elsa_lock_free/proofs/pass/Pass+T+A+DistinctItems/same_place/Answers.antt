@@ -13,4 +13,4 @@ returns g c =
     let mine : IsPrefix v all = subst (λ (l : List (Event g.row.T.Denot)). IsPrefix l all) (ap (λ z. z.log) c.again-both.ensures) c.learn.ensures.2 in
     let one = items_prefix (list_of v) (list_of all) (list_prefix v all mine) in
     let other = items_prefix (list_of w) (list_of all) (list_prefix w all c.learn.ensures.3) in
-    rw (← c.self.view_is, ← c.other.view_is) (agree_on_places g.T.PartialEq.eq g.met.T.Eq.laws.symm (items_of (list_of v)) (items_of (list_of w)) (items_of (list_of all)) one other c.obeys_rule.ensures.new)
+    rw (← c.self.view_is, ← c.other.view_is) (agree_on_places g.T.PartialEq.eq g.met.T.Eq.laws.symm (items_of (list_of v)) (items_of (list_of w)) (items_of (list_of all)) one other c.obeys_rule.ensures.obeys_rule)

@@ -1,7 +1,6 @@
-use Rattle.std.proofs.Common.{subst}
-use Rattle.std.specs.Prelude.{IfOk}
+use Rattle.std.proofs.Common.{subst, sym}
 use Rattle.elsa_lock_free_map.specs.Entries.{InsertsOnce}
 use Rattle.elsa_lock_free_map.proofs.handle.MapHandle.insert.Goals as goal
 
 pub returns-clause-inserted : goal.returns-clause-inserted
-returns-clause-inserted g c = subst (λ w. IfOk c.insert_as.result (λ r. InsertsOnce g.K.PartialEq.eq w c.insert_as.new.pass c.args.key r)) c.self.view_is c.insert_as.ensures.inserted
+returns-clause-inserted g c = subst (λ r. InsertsOnce g.K.PartialEq.eq c.args.self.now c.insert_ref.new.self c.args.key r) (sym c.copied.ensures) c.in_ok-insert_ref.ensures.inserted

@@ -1,5 +1,11 @@
+use Rattle.std.proofs.Common.{Some, None}
 use Rattle.elsa_locks.proofs.Shared.{found_shown}
 use Rattle.elsa_locks.proofs.map.state.find.Goals as goal
 
-pub returns : goal.returns
-returns g c = found_shown (g.T.Table.same c.args.key.now) (g.T.Table.entries c.args.table.now) c.find.result c.find.ensures
+pub returns-in-Some : goal.returns-in-Some
+returns-in-Some g c =
+    found_shown (g.Q.Seeks.finds c.args.query) (g.T.Table.entries c.args.table.now) (Some c.in-Some.owner) c.in-Some.ensures.value
+
+pub returns-in-None : goal.returns-in-None
+returns-in-None g c =
+    found_shown (g.Q.Seeks.finds c.args.query) (g.T.Table.entries c.args.table.now) None c.in-None.ensures.value

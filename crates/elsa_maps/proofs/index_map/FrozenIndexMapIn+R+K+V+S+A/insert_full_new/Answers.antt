@@ -17,8 +17,8 @@ returns-clause-accepted g c =
     let is : g.V.HasTarget.shown c.in-Ok-place.borrow ≡ g.V.HasTarget.target c.args.value = search rules in
     new_pair_goes_last g.K.PartialEq.eq g.V.HasTarget.target g.V.HasTarget.shown c.args.self.now c.args.key c.args.value c.index-place.result c.in-Ok-place.borrow _ none at is (search (rules, same, keyed))
 
-pub returns-clause-stands : goal.returns-clause-stands
-returns-clause-stands g c = (stands_inserted g.K.PartialEq.eq g.met.K.Eq.laws g.V.HasTarget.target g.V.HasTarget.shown _ _ _ _ _ _ (returns-clause-accepted g c).0).1
+pub returns-clause-value_after : goal.returns-clause-value_after
+returns-clause-value_after g c = (stands_inserted g.K.PartialEq.eq g.met.K.Eq.laws g.V.HasTarget.target g.V.HasTarget.shown _ _ _ _ _ _ (returns-clause-accepted g c).0).1
 
-pub returns-clause-stands_at : goal.returns-clause-stands_at
-returns-clause-stands_at g c = (stands_inserted g.K.PartialEq.eq g.met.K.Eq.laws g.V.HasTarget.target g.V.HasTarget.shown _ _ _ _ _ _ (returns-clause-accepted g c).0).0
+pub returns-clause-index_after : goal.returns-clause-index_after
+returns-clause-index_after g c = (stands_inserted g.K.PartialEq.eq g.met.K.Eq.laws g.V.HasTarget.target g.V.HasTarget.shown _ _ _ _ _ _ (returns-clause-accepted g c).0).0

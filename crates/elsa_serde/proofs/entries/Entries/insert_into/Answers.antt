@@ -18,15 +18,15 @@ loop-key-preserved g c =
     let before = c.loop-key.invariant in
     let next = c.in-Some.ensures.steps in
     record {
-      went = up_to_more (AddsPair g.M.MapForm.same g.V.HasTarget.target g.V.HasTarget.shown g.M.MapForm.extends) length _ _ _ (c.in-Some.key, c.in-Some.value) _ _ _ before.went next.0 c.in_ok-insert_next.ensures.new c.in_ok-insert_next.ensures.new.2.2;
+      went = up_to_more (AddsPair g.M.MapForm.same g.V.HasTarget.target g.V.HasTarget.shown g.M.MapForm.extends) length _ _ _ (c.in-Some.key, c.in-Some.value) _ _ _ before.went next.0 c.in_ok-insert_next.ensures.added c.in_ok-insert_next.ensures.added.2.2;
       left = let had = ap length next.0 in let len = before.left in omega (arith, next.1, had, len);
     }
 
 pub insert_next-requires : goal.insert_next-requires
 insert_next-requires g c = let sum = c.loop-key.invariant.went.3 in let count = c.len-before.ensures.count in omega (arith, sum, count)
 
-pub returns-clause-all : goal.returns-clause-all
-returns-clause-all g c =
+pub returns-clause-inserted : goal.returns-clause-inserted
+returns-clause-inserted g c =
     let before = c.loop-key.invariant in
     let none = c.in-None.ensures.steps.0 in
     let len = before.left in

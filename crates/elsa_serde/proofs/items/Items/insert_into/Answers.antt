@@ -16,7 +16,7 @@ pub loop-value-preserved : goal.loop-value-preserved
 loop-value-preserved g c =
     let before = c.loop-value.invariant in
     let next = c.in-Some.ensures.steps in
-    let added = c.in_ok-insert_next.ensures.new in
+    let added = c.in_ok-insert_next.ensures.added in
     record {
       went = up_to_more (AddsValue g.T.HasTarget.target g.T.HasTarget.shown g.T.LookUp.finds) length _ _ _ c.in-Some.value _ _ _ before.went next.0 added (ap length added.3 ∙ length_push c.loop-value.set added.0);
       left = let had = ap length next.0 in let len = before.left in omega (arith, next.1, had, len);
@@ -25,8 +25,8 @@ loop-value-preserved g c =
 pub insert_next-requires : goal.insert_next-requires
 insert_next-requires g c = let sum = c.loop-value.invariant.went.3 in let count = c.len-before.ensures.count in omega (arith, sum, count)
 
-pub returns-clause-all : goal.returns-clause-all
-returns-clause-all g c =
+pub returns-clause-inserted : goal.returns-clause-inserted
+returns-clause-inserted g c =
     let before = c.loop-value.invariant in
     let none = c.in-None.ensures.steps.0 in
     let len = before.left in

@@ -3,7 +3,7 @@ use Rattle.std.specs.HashSet.{IsUnique, contains}
 use Rattle.std.specs.Set.{is_member}
 use Rattle.elsa_sets.proofs.hashed.FrozenSetIn+R+K+S+A.from_iter.Goals as goal
 
--- what was added to nothing is all that is there
+-- If values are added to an empty set, it has only these values.
 pub returns : goal.returns
 returns g c =
     let ran = c.in_ok-extend.ensures.ran in

@@ -1,7 +1,25 @@
-use Rattle.std.proofs.Common.{subst}
-use Rattle.std.specs.Prelude.{IfOk}
-use Rattle.elsa_shared_interner.specs.Names.{PutsName}
+use Rattle.std.proofs.Common.{subst, sym}
+use Rattle.elsa_lock_free.specs.SharedList.{items_of}
+use Rattle.elsa_shared_interner.specs.Names.{HasAt}
+use Rattle.elsa_shared_interner.proofs.AsNames.{came, has_entry, has_name, known, later_names, mine_stays}
 use Rattle.elsa_shared_interner.proofs.handle.NameHandle.put.Goals as goal
 
-pub returns-clause-put : goal.returns-clause-put
-returns-clause-put g c = subst (λ w. IfOk c.put.result (λ i. PutsName g.T.PartialEq.eq w c.put.new.names i c.args.name)) c.self.view_is c.put.ensures.put
+pub returns-in_default-clause-later : goal.returns-in_default-clause-later
+returns-in_default-clause-later g c = later_names c.self.inside.names c.insert-answer.new.self c.args.self.now c.self.view_is c.insert-answer.ensures.later
+
+pub returns-in_default-clause-refused : goal.returns-in_default-clause-refused
+returns-in_default-clause-refused g c = mine_stays c.self.inside.names c.insert-answer.new.self c.args.self.now c.self.view_is c.in_default.ensures.refused
+
+pub returns-clause-later : goal.returns-clause-later
+returns-clause-later g c = later_names c.self.inside.names c.insert-answer.new.self c.args.self.now c.self.view_is c.insert-answer.ensures.later
+
+pub returns-clause-numbered : goal.returns-clause-numbered
+returns-clause-numbered g c =
+    let pass = c.self.inside.names in let after = c.insert-answer.new.self in let new = c.in-Ok.ensures.inserted in let put = c.in-Ok.put in (
+      has_name g.T.PartialEq.eq after put.place c.args.name (new.0.0, new.0.1, new.0.2),
+      came pass after c.args.self.now c.self.view_is put.is_new put.place new.1,
+      λ j h.
+          let before = subst (λ v. HasAt g.T.PartialEq.eq (items_of v.seen) j c.args.name) (sym c.self.view_is) h in
+          let e = has_entry g.T.PartialEq.eq pass j c.args.name before in
+          known pass after c.args.self.now c.self.view_is put.is_new put.place j new.1 (new.2 j e.0 e.1),
+    )

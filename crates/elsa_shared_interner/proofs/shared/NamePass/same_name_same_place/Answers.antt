@@ -1,7 +1,7 @@
 use Rattle.std.proofs.Common.{subst, sym}
 use Rattle.elsa_lock_free.specs.Distinct.{AgreeOnPlaces}
 use Rattle.elsa_lock_free.specs.SharedList.{items_of}
-use Rattle.elsa_index_words.specs.Entries.{keys_of}
+use Rattle.elsa_hash_index.specs.Entries.{keys_of}
 use Rattle.elsa_shared_interner.proofs.AsNames.{items_names}
 use Rattle.elsa_shared_interner.proofs.shared.NamePass.same_name_same_place.Goals as goal
 

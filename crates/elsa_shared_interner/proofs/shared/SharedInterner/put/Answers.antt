@@ -1,25 +1,9 @@
-use Rattle.std.proofs.Common.{subst, sym}
-use Rattle.elsa_lock_free.specs.SharedList.{items_of}
-use Rattle.elsa_shared_interner.specs.Names.{HasAt}
-use Rattle.elsa_shared_interner.proofs.AsNames.{came, has_entry, has_name, known, later_names, mine_stays}
+use Rattle.std.proofs.Common.{subst, sym, ◌∙◌}
+use Rattle.std.specs.Prelude.{IfOk}
+use Rattle.elsa_shared_interner.specs.Names.{PutsName}
 use Rattle.elsa_shared_interner.proofs.shared.SharedInterner.put.Goals as goal
 
-pub returns-in_default-clause-later : goal.returns-in_default-clause-later
-returns-in_default-clause-later g c = later_names c.names.inside.pass c.insert_as-answer.new.pass c.args.names.now c.names.view_is c.insert_as-answer.ensures.later
-
-pub returns-in_default-clause-refused : goal.returns-in_default-clause-refused
-returns-in_default-clause-refused g c = mine_stays c.names.inside.pass c.insert_as-answer.new.pass c.args.names.now c.names.view_is c.in_default.ensures.refused
-
-pub returns-clause-later : goal.returns-clause-later
-returns-clause-later g c = later_names c.names.inside.pass c.insert_as-answer.new.pass c.args.names.now c.names.view_is c.insert_as-answer.ensures.later
-
-pub returns-clause-put : goal.returns-clause-put
-returns-clause-put g c =
-    let pass = c.names.inside.pass in let after = c.insert_as-answer.new.pass in let new = c.in-Ok.ensures.inserted in let put = c.in-Ok.put in (
-      has_name g.T.PartialEq.eq after put.place c.args.name (new.0.0, new.0.1, new.0.2),
-      came pass after c.args.names.now c.names.view_is put.is_new put.place new.1,
-      λ j h.
-          let before = subst (λ v. HasAt g.T.PartialEq.eq (items_of v.seen) j c.args.name) (sym c.names.view_is) h in
-          let e = has_entry g.T.PartialEq.eq pass j c.args.name before in
-          known pass after c.args.names.now c.names.view_is put.is_new put.place j new.1 (new.2 j e.0 e.1),
-    )
+pub returns-clause-numbered : goal.returns-clause-numbered
+returns-clause-numbered g c =
+    let was = subst (λ w. IfOk c.put-answer.result (λ i. PutsName g.T.PartialEq.eq w c.put-answer.new.self i c.args.name)) (c.of-handle.ensures.same_view ∙ c.replace.ensures.value) c.put-answer.ensures.numbered in
+    subst (λ w. IfOk c.put-answer.result (λ i. PutsName g.T.PartialEq.eq c.args.names.now w i c.args.name)) (sym c.into_pass.ensures.same_view) was

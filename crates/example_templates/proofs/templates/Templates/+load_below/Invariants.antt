@@ -1,7 +1,7 @@
 use Rattle.std.proofs.Common.{◌≡◌, ◌<◌}
 use Rattle.example_templates.proofs.templates.Templates.+load_below.Given as goal
 
--- proposed from what the function passes where it calls itself
+-- Each recursive call has a smaller `left`.
 abbrev pub decreases-load_below : goal.decreases-load_below
 decreases-load_below g l = l.left
 

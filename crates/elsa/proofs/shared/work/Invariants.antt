@@ -1,9 +1,0 @@
-use Rattle.std.proofs.Common.{◌≡◌, ◌*◌}
-use Rattle.elsa_lock_free.specs.SharedList.{IsSamePass}
-use Rattle.elsa.specs.Workers.{numbers, pushed_by}
-use Rattle.elsa.proofs.shared.work.Given as goal
-
--- the author has pushed the numbers so far
-abbrev pub invariant-loop-number : goal.invariant-loop-number
-invariant-loop-number g l =
-    IsSamePass l.fn.pass l.pass × (pushed_by l.pass.author l.pass.seen ≡ numbers (l.worker * l.count) l.number)

@@ -1,0 +1,11 @@
+//! A hash table that maps hashes to indices, for a collection that stores its items in a list of
+//! its own.
+//!
+//! [`table::PlaceTable`] finds the index of an item by the item's hash, in buckets of 8 bytes: 32
+//! bits of hash, and the index. The table doesn't see the items: the caller of a search decides
+//! which index is the right one. A search that finds nothing ends at the bucket into which the
+//! item's index would go, so an item that is looked up and then added is searched for once.
+#![tactic(auto)]
+
+mod slots;
+pub mod table;

@@ -1,0 +1,41 @@
+-- What a handle of a map has observed: entries of a key and a value, each key once.
+use Rattle.std.specs.Prelude.{ℕ, ◌≡◌, Bool, true, false, Some, None, List, [], ◌∷◌, ◌++◌, length, map, position}
+use Rattle.std.specs.Map.{keys_of, lookup}
+use mathlib.Core.List.{IsPrefix}
+use Rattle.elsa_cell.specs.Observed.{IsStateOf}
+use Rattle.elsa_cell.specs.declared.map.Entry.{Entry}
+use Rattle.elsa_cell.specs.declared.state.State.{State}
+
+module _ {K V : Type 0} where
+  -- the key of an entry
+  abbrev pub key_of : Entry K V → K
+  key_of e = e.key.value
+
+  -- an entry as a pair
+  abbrev pub pair_of : Entry K V → K × V
+  pair_of e = (e.key.value, e.value)
+
+  -- entries as pairs
+  abbrev pub pairs_of : List (Entry K V) → List (K × V)
+  pairs_of es = map pair_of es
+
+  -- the entries of `old`, and then one with this key and value
+  abbrev pub AppendsPair : List (Entry K V) → List (Entry K V) → K → V → Type 0
+  AppendsPair old new key value = (e : Entry K V) × (pair_of e ≡ (key, value)) × (new ≡ old ++ e ∷ [])
+
+  -- The effect of an insertion on a map that no other call has: a new key is appended with the
+  -- value; a present key stays, with its value. `kept` is the value that the key then has, `index`
+  -- is its index.
+  abbrev pub Inserts : (K → K → Bool) → List (Entry K V) → List (Entry K V) → K → V → V → ℕ → Bool → Type 0
+  Inserts equal old new key value kept index true = (lookup (equal key) (pairs_of old) ≡ None) × AppendsPair old new key value × (kept ≡ value) × (index ≡ length old)
+  Inserts equal old new key value kept index false = (lookup (equal key) (pairs_of old) ≡ Some kept) × (position (equal key) (map key_of old) ≡ Some index) × (new ≡ old)
+
+  -- The effect of an insertion, from what was observed: the map was that, or it had further entries
+  -- of other handles; then the insertion took place.
+  abbrev pub InsertsOnce : (K → K → Bool) → List (Entry K V) → List (Entry K V) → K → V → V → ℕ → Bool → Type 0
+  InsertsOnce equal before after key value kept index is_new = (all : List (Entry K V)) × IsPrefix before all × Inserts equal all after key value kept index is_new
+
+-- The state of a map with these buffers: that of the list of its entries, and a table that has
+-- their keys, in the same order.
+abbrev pub IsMapOf : {K V A U X : Type 0} → (X → List (K × U)) → List ℕ → State (Entry K V) A → X → Type 0
+IsMapOf entries buffers list table = IsStateOf buffers list × (keys_of (entries table) ≡ map key_of list.prefix.items)

@@ -1,0 +1,205 @@
+//! [`Observed`]: the prefix of a list that a handle has observed, and its iterator.
+ghost use Rattle.std.specs.Prelude.{◌≡◌, ◌<◌, ◌≤◌, ◌^◌, true, drop, length, slice_get, IfSome, Some};
+ghost use Rattle.std.specs.Iterator.{UpTo, YieldsFirstRef, item_count};
+ghost use Rattle.std.specs.Iterator.SizeHint.{IsWithinCount};
+ghost use Rattle.std.specs.Option.{option_map};
+ghost use mathlib.Core.List.{IsPrefix};
+ghost use Rattle.elsa_cell.specs.Observed.{Continues, IsStateOf};
+
+use crate::state::{State, begins};
+use elsa_machine::geometry::locate;
+use elsa_slots::slots::{Buffer, Slots, WrittenPrefix};
+use std::alloc::{Allocator, Global};
+use std::marker::Model;
+
+/// The prefix of a list that was observed, to read it while the list grows. Contracts see the list,
+/// by the names of its buffers, and the items of the prefix.
+///
+/// Its items are read by reference, valid as long as the collection, by no access to what
+/// insertions change. So it may be read inside any other call.
+pub struct Observed<'v, T, A: Allocator = Global> {
+    slots: &'v Slots<T, A>,
+    prefix: WrittenPrefix<T, Buffer<T, A>>,
+    count: usize,
+}
+
+impl<'v, T, A: Allocator> Model for Observed<'v, T, A> {
+    ghost use Rattle.std.specs.Prelude.{◌≡◌, ◌<◌, ◌^◌, length};
+    ghost use Rattle.elsa_cell.specs.Observed.{View};
+
+    ghost Value = { View T };
+
+    ghost view = { λ o. record { vector = o.slots.now; seen = o.prefix.items } };
+
+    ghost invariant = { λ o. (o.prefix.buffer_slots ≡ o.slots.now) × (o.count ≡ length o.prefix.items) × (o.count < 2 ^ 62) };
+}
+
+impl<T, A: Allocator> Drop for Observed<'_, T, A> {
+    fn drop(self) {
+        let Self {
+            slots: _,
+            prefix,
+            count: _,
+        } = self;
+        prefix.discard();
+    }
+}
+
+impl<'v, T, A: Allocator + Copy> Observed<'v, T, A> {
+    /// Observes all items of a state.
+    pub(crate) fn of(slots: &'v Slots<T, A>, state: &State<T, A>) -> Observed<'v, T, A>
+        requires { IsStateOf slots.now state.now }
+        ensures vector { result.vector ≡ slots.now }
+        ensures items { result.seen ≡ state.now.prefix.items }
+    {
+        Observed {
+            slots,
+            prefix: state.prefix.again(),
+            count: state.count,
+        }
+    }
+
+    /// Returns whether a state has all observed items. It always has: evidence shows it, but not
+    /// which of two lists is longer.
+    pub(crate) fn is_behind(&self, state: &State<T, A>) -> bool
+        requires { IsStateOf self.now.vector state.now }
+        ensures { result ≡ true → IsPrefix self.now.seen state.now.prefix.items }
+    {
+        if state.count < self.count {
+            return false;
+        }
+        begins(&self.prefix, &state.prefix);
+        true
+    }
+
+    /// Returns the slots of the list.
+    pub(crate) fn slots(&self) -> &'v Slots<T, A>
+        ensures { result.now ≡ self.now.vector }
+    {
+        self.slots
+    }
+
+    /// Returns a copy of what was observed. It allocates nothing.
+    pub fn again(&self) -> Observed<'v, T, A>
+        ensures same_view { result ≡ self.now }
+    {
+        Observed {
+            slots: self.slots,
+            prefix: self.prefix.again(),
+            count: self.count,
+        }
+    }
+
+    /// Returns the number of observed items.
+    pub fn len(&self) -> usize
+        ensures length { result ≡ length self.now.seen }
+        ensures limit { result < 2 ^ 62 }
+    {
+        self.count
+    }
+
+    /// Returns a reference to the item at an index, or `None` exactly if the index is at or above
+    /// the number of observed items. It allocates nothing.
+    ///
+    /// # Cost
+    /// `O(1)`.
+    pub fn get(&self, index: usize) -> Option<&'v T>
+        ensures item { option_map (λ r. r.now) result ≡ slice_get self.now.seen index }
+    {
+        if index >= self.count {
+            return None;
+        }
+        Some(self.item(index))
+    }
+
+    /// Returns a reference to the item at an index that was observed. It allocates nothing.
+    ///
+    /// # Cost
+    /// `O(1)`.
+    pub fn item(&self, index: usize) -> &'v T
+        requires seen { index < length self.now.seen }
+        ensures { slice_get self.now.seen index ≡ Some result.now }
+    {
+        self.len();
+        let (buffer, slot) = locate(index);
+        let (opened, item) = self.prefix.at(index, buffer, slot);
+        let slots = self.slots;
+        let lent = slots.get(buffer, slot, &opened, &item);
+        opened.discard();
+        item.discard();
+        lent
+    }
+
+    /// Returns an iterator over the observed items, from the index `from` on, in order and each
+    /// once. It allocates nothing.
+    ///
+    /// # Cost
+    /// `O(1)`, and so is each item.
+    pub fn iter_from(&self, from: usize) -> Iter<'v, T, A>
+        requires within { from ≤ length self.now.seen }
+        ensures items { result ≡ drop from self.now.seen }
+    {
+        Iter {
+            observed: self.again(),
+            next: from,
+        }
+    }
+
+    /// Merges what was observed of one list: both have then observed the longer prefix. It
+    /// allocates nothing.
+    ///
+    /// # Cost
+    /// `O(1)`.
+    pub fn merge(&mut self, other: &mut Observed<'_, T, A>)
+        requires same_vector { self.old.vector ≡ other.old.vector }
+        ensures continues { Continues self.old self.new }
+        ensures other_continues { Continues other.old other.new }
+        ensures same { self.new.seen ≡ other.new.seen }
+    {
+        if self.count < other.count {
+            begins(&self.prefix, &other.prefix);
+            self.count = other.count;
+            let seen = std::mem::replace(&mut self.prefix, other.prefix.again());
+            seen.discard();
+        } else {
+            begins(&other.prefix, &self.prefix);
+            other.count = self.count;
+            let seen = std::mem::replace(&mut other.prefix, self.prefix.again());
+            seen.discard();
+        }
+    }
+}
+
+/// An iterator over observed items, in order. Contracts see the items that are left.
+#[derive(Drop)]
+pub struct Iter<'v, T, A: Allocator = Global> {
+    observed: Observed<'v, T, A>,
+    next: usize,
+}
+
+impl<'v, T, A: Allocator> Model for Iter<'v, T, A> {
+    ghost use Rattle.std.specs.Prelude.{◌≤◌, List, drop, length};
+
+    ghost Value = { List T };
+
+    ghost view = { λ it. drop it.next it.observed.seen };
+
+    ghost invariant = { λ it. it.next ≤ length it.observed.seen };
+}
+
+impl<'v, T, A: Allocator + Copy> Iterator for Iter<'v, T, A> {
+    type Item = &'v T;
+
+    ghost next_gives = { YieldsFirstRef (λ left. left) };
+
+    ghost remaining = { item_count (λ left. left) };
+
+    fn next(&mut self) -> Option<&'v T> {
+        let index = self.next;
+        if index >= self.observed.len() {
+            return None;
+        }
+        self.next = index + 1;
+        Some(self.observed.item(index))
+    }
+}

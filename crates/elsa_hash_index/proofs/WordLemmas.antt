@@ -1,0 +1,69 @@
+-- What stays true of index entries that each change once, and what follows when a probe ends.
+use Rattle.std.proofs.Common.{◌≡◌, ℕ, ◌+◌, ◌*◌, ◌/◌, ◌%◌, ◌^◌, ◌<◌, ◌≤◌, inl, inr, ap, subst, sym, ◌∙◌, refl, arith}
+use Rattle.std.proofs.lemmas.Bool.{cases_eq, cases_lt}
+use Rattle.std.proofs.lemmas.Nat.{mod_below}
+use Rattle.std.proofs.Math.Nat.{mod-eq_of_lt}
+use Rattle.elsa_hash_index.specs.Words.{word_for, walk, IsLater, PassesFilled, IsIndexed}
+
+-- A probe stays among the index entries.
+pub walk_within : (count hash step : ℕ) → step < count → walk count hash step < count
+unfolding walk
+walk_within count hash step h = mod_below (((hash * count) % 2 ^ 64 / 2 ^ 32 + step) % 2 ^ 64) count (omega (arith, h))
+
+-- A number below the divisor is its own remainder.
+pub small_mod : (n m : ℕ) → n < m → n % m ≡ n
+small_mod n m h = mod-eq_of_lt h
+
+-- Unchanged index entries are later ones.
+pub later_same : (f : ℕ → ℕ) → IsLater f f
+later_same f i h = refl
+
+-- Two changes are one change.
+pub later_later : (f g h : ℕ → ℕ) → IsLater f g → IsLater g h → IsLater f h
+later_later f g h a b i lt = let e = a i lt in b i (omega (arith, e, lt)) ∙ e
+
+-- A probe that continues for a number of steps still does later.
+pub later_goes_on : (count : ℕ) (f g : ℕ → ℕ) (hash step : ℕ) → IsLater f g → PassesFilled count f hash step → PassesFilled count g hash step
+later_goes_on count f g hash step later on k lt = let h = on k lt in let e = later (walk count hash k) h in omega (arith, e, h)
+
+-- An index that is found is still found later.
+pub later_indexed : (count : ℕ) (f g : ℕ → ℕ) (hash place : ℕ) → IsLater f g → IsIndexed count f hash place → IsIndexed count g hash place
+later_indexed count f g hash place later i = record {
+  step = i.step;
+  within = i.within;
+  there = later (walk count hash i.step) (let e = i.there in omega (arith, e)) ∙ i.there;
+  goes_on = later_goes_on count f g hash i.step later i.goes_on;
+}
+
+-- M holds for each index with the hash that the first `step` steps of a probe reached.
+abbrev pub Missed : ℕ → (ℕ → ℕ) → ℕ → (ℕ → Type 0) → ℕ → Type 0
+Missed count words hash M step = (k : ℕ) → k < step → (place : ℕ) → words (walk count hash k) ≡ word_for hash place → M place
+
+-- A probe that reaches 0 has passed each index that is entered under its hash.
+pub passed_at_zero : (count : ℕ) (words : ℕ → ℕ) (hash place step : ℕ) → words (walk count hash step) ≡ 0 → (i : IsIndexed count words hash place) → i.step < step
+passed_at_zero count words hash place step zero i = elim (cases_lt i.step step) [
+  | inl lt ↦ lt
+  | inr ge ↦ elim (cases_eq i.step step) [
+    | inl same ↦ let e = i.there in let z = ap (λ n. words (walk count hash n)) same ∙ zero in absurd (omega (arith, e, z))
+    | inr other ↦ let h = i.goes_on step (omega arith) in absurd (omega (arith, h, zero))
+  ]
+]
+
+-- So M holds for each of these indices.
+pub absent_at_zero : (count : ℕ) (words : ℕ → ℕ) (hash step : ℕ) (M : ℕ → Type 0) → words (walk count hash step) ≡ 0 → Missed count words hash M step
+    → (place : ℕ) → IsIndexed count words hash place → M place
+absent_at_zero count words hash step M zero missed place i = missed i.step (passed_at_zero count words hash place step zero i) place i.there
+
+-- M also holds for each of them if the probe reached all index entries.
+pub absent_at_end : (count : ℕ) (words : ℕ → ℕ) (hash step : ℕ) (M : ℕ → Type 0) → count ≤ step → Missed count words hash M step
+    → (place : ℕ) → IsIndexed count words hash place → M place
+absent_at_end count words hash step M all missed place i = missed i.step (let h = i.within in omega (arith, h)) place i.there
+
+-- Another index is entered, after the earlier ones.
+pub more_indexed : (Under : ℕ → ℕ → Type 0) (count after : ℕ) (f g : ℕ → ℕ) (n hash : ℕ) → after ≡ count → IsLater f g
+    → ((p : ℕ) → p < n → (h : ℕ) × Under p h × IsIndexed count f h p) → Under n hash → IsIndexed after g hash n
+    → (p : ℕ) → p < n + 1 → (h : ℕ) × Under p h × IsIndexed after g h p
+more_indexed Under count after f g n hash same later all under last p lt = elim (cases_eq p n) [
+  | inl here ↦ (hash, subst (λ k. Under k hash) (sym here) under, subst (λ k. IsIndexed after g hash k) (sym here) last)
+  | inr other ↦ let old = all p (omega arith) in (old.0, old.1, subst (λ c. IsIndexed c g old.0 p) (sym same) (later_indexed count f g old.0 p later old.2))
+]

@@ -1,0 +1,10 @@
+use Rattle.std.proofs.Common.{◌≡◌, ◌+◌, ◌≤◌, length}
+use Rattle.std.specs.Prelude.{vec_capacity}
+use Rattle.elsa_hash_index.specs.Row.{named_from}
+use Rattle.elsa_hash_index.proofs.row.Row.new.Given as goal
+
+-- The index entries so far, the pens of the others, and capacity for all.
+abbrev pub invariant-loop : goal.invariant-loop
+invariant-loop g l =
+    (l.pens.book ≡ l.first.book) × (l.pens.next ≡ l.counter) × (l.pens.left + l.counter ≡ l.count)
+    × (l.words.items ≡ named_from l.first.book 0 l.counter) × (length l.words.items ≡ l.counter) × (l.count ≤ vec_capacity l.words)

@@ -1,6 +1,0 @@
-use Rattle.std.proofs.Common.{sym, ◌∙◌}
-use Rattle.elsa_lock_free_map.proofs.MapLemmas.{some_has}
-use Rattle.elsa_lock_free_map.proofs.map.LockFreeFrozenMap.contains_key_as.Goals as goal
-
-pub returns-clause-present : goal.returns-clause-present
-returns-clause-present g c is = some_has c.get_as.result _ c.get_as.ensures.found (sym c.is_some.ensures ∙ is)

@@ -1,0 +1,30 @@
+-- Which shard a key belongs to, and what a call with a key changes.
+use Rattle.std.specs.Prelude.{◌≡◌, ℕ, ◌+◌, ◌-◌, ◌*◌, ◌/◌, ◌%◌, ◌^◌, min, List, Some, fold, length, slice_get, slice_set}
+use Rattle.std.specs.Hash.{HashWrites}
+use Rattle.std.specs.declared.hash.BuildHasher as builder
+use Rattle.std.specs.declared.hash.Hasher as hasher
+use Rattle.elsa_lock_free.specs.SharedList.{Continues, View}
+
+-- One of `count` indices for a hash: the hash is multiplied by an odd number, and the upper half of
+-- the product's 64 bits is reduced modulo the count.
+unfoldable pub spread_over : ℕ → ℕ → ℕ
+spread_over count hash = hash * 11400714819323198485 % 2 ^ 64 / 2 ^ 32 % count
+
+-- The index of a key's shard, by the hasher's result for the key's writes.
+unfoldable pub shard_of : {S H : Type 0} → builder.Ghosts S H → hasher.Ghosts H → S → ℕ → HashWrites → ℕ
+shard_of b h state count writes = spread_over count (h.finish (fold h.write (b.build_hasher state) writes))
+
+-- Of the views of all shards, a call changed the view at one index, as `P` says, and no other.
+abbrev pub OnShard : {X : Type 0} → List X → List X → ℕ → (X → X → Type 0) → Type 0
+OnShard {X} old new index P =
+    (before after : X) × (slice_get old index ≡ Some before) × (new ≡ slice_set old index after) × P before after
+
+-- Each view of a list continues the view at the same index of another list.
+abbrev pub AllContinue : {T : Type 0} → List (View T) → List (View T) → Type 0
+AllContinue {T} old new =
+    (length new ≡ length old)
+    × ((i : ℕ) (before after : View T) → slice_get old i ≡ Some before → slice_get new i ≡ Some after → Continues before after)
+
+-- The number of entries that the views have observed in all, or the greatest number of 64 bits.
+abbrev pub seen_in_all : {T : Type 0} → List (View T) → ℕ
+seen_in_all views = fold (λ sum view. min (sum + length view.seen) (2 ^ 64 - 1)) 0 views

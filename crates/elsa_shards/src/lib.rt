@@ -1,0 +1,10 @@
+//! Maps that threads share, divided into shards by the hash of the key. Calls with keys of
+//! different shards don't wait for each other. A [`ShardedMap`] has a lock in each shard; the
+//! look-ups of a [`LockFreeShardedMap`] take none.
+#![tactic(auto)]
+
+pub mod lock_free;
+pub mod map;
+
+pub use lock_free::{LockFreeShardedMap, ShardedHandle};
+pub use map::ShardedMap;

@@ -1,0 +1,360 @@
+//! [`LockFreeShardedMap`]: a map of shards whose look-ups take no lock.
+ghost use Rattle.std.specs.Prelude.{◌≡◌, ◌<◌, ◌≤◌, true, IfOk, IfErr, IfSome, IfNone, length};
+ghost use Rattle.elsa_lock_free.specs.SharedList.{Continues, IsLaterPass, items_of, mine};
+ghost use Rattle.elsa_lock_free_map.specs.Entries.{Has, InsertsOnce, Lacks};
+ghost use Rattle.elsa_shards.specs.Shards.{AllContinue, OnShard, seen_in_all, shard_of};
+
+use crate::map::{SHARDS, index_of};
+use elsa_lock_free_map::handle::MapHandle;
+use elsa_lock_free_map::map::{Inserted, LockFreeFrozenMap};
+use indexmap::Equivalent;
+use std::alloc::{AllocError, Allocator, Global};
+use std::hash::{BuildHasher, BuildHasherDefault, FoldHasher, Hash};
+use std::marker::Model;
+use std::sync::Wait;
+
+/// An append-only map that threads share, divided into shards by the hash of the key. Look-ups take
+/// no lock, and insertions wait only for insertions of keys of the same shard.
+///
+/// A thread calls the map through a [`ShardedHandle`]. A key belongs to one shard, so what a
+/// [`LockFreeFrozenMap`] promises of a key holds here. What it promises of all entries doesn't:
+/// there is no order of insertion, and no index, across shards.
+#[derive(Drop)]
+pub struct LockFreeShardedMap<
+    K: Drop + Hash,
+    V: Drop,
+    S: BuildHasher + Copy + Drop = BuildHasherDefault<FoldHasher>,
+    A: Allocator + Copy = Global,
+> {
+    shards: Vec<LockFreeFrozenMap<K, V, S, A>, A>,
+    hash_builder: S,
+    alloc: A,
+}
+
+// In a clause, a map is its shards and its hash builder.
+impl<K: Drop + Hash, V: Drop, S: BuildHasher + Copy + Drop, A: Allocator + Copy> Model
+    for LockFreeShardedMap<K, V, S, A> {
+    ghost use Rattle.std.specs.Prelude.{List, length, ◌<◌};
+    ghost use Rattle.elsa_lock_free.specs.SharedList.{Vector};
+
+    ghost Value = { List Vector × S };
+
+    ghost view = { λ m. (m.shards.items, m.hash_builder) };
+
+    ghost invariant = { λ m. 0 < length m.shards.items };
+}
+
+impl<K: Drop + Hash, V: Drop, A: Allocator + Copy> LockFreeShardedMap<
+    K,
+    V,
+    BuildHasherDefault<FoldHasher>,
+    A,
+> {
+    /// Makes an empty map with 64 shards.
+    ///
+    /// # Errors
+    /// Fails if an allocation fails.
+    ///
+    /// # Allocates
+    /// The list of shards, and the directory of each.
+    pub fn new(alloc: A) -> Result<Self, AllocError>
+        ensures count { IfOk result (λ m. length m.0 ≡ 64) }
+    {
+        LockFreeShardedMap::with_shards(alloc, SHARDS, BuildHasherDefault::new())
+    }
+}
+
+impl<K: Drop + Hash, V: Drop, S: BuildHasher + Copy + Drop, A: Allocator + Copy> LockFreeShardedMap<
+    K,
+    V,
+    S,
+    A,
+> {
+    /// Makes an empty map with `count` shards that hashes its keys by `hash_builder`.
+    ///
+    /// # Errors
+    /// Fails if an allocation fails.
+    ///
+    /// # Allocates
+    /// The list of shards, and the directory of each.
+    pub fn with_shards(alloc: A, count: usize, hash_builder: S) -> Result<Self, AllocError>
+        requires positive { 0 < count }
+        ensures count { IfOk result (λ m. length m.0 ≡ count) }
+    {
+        let mut shards = Vec::with_capacity(alloc, count)?;
+        for _ in 0..count {
+            shards.push(LockFreeFrozenMap::with_hasher(alloc, hash_builder)?)?;
+        }
+        Ok(LockFreeShardedMap {
+            shards,
+            hash_builder,
+            alloc,
+        })
+    }
+
+    /// Returns the shards.
+    ///
+    /// # Cost
+    /// `O(1)`.
+    pub fn shards(&self) -> &[LockFreeFrozenMap<K, V, S, A>]
+        ensures shards { result.now ≡ self.now.0 }
+    {
+        self.shards.as_slice()
+    }
+
+    /// Makes a handle, which has observed nothing and inserted nothing.
+    ///
+    /// # Errors
+    /// Fails if an allocation fails.
+    ///
+    /// # Allocates
+    /// A list with a handle of each shard.
+    pub fn handle(&self) -> Result<ShardedHandle<'_, K, V, S, A>, AllocError>
+        ensures count { IfOk result (λ h. length h.0 ≡ length self.now.0) }
+        ensures same_hasher { IfOk result (λ h. h.1 ≡ self.now.1) }
+    {
+        let mut handles = Vec::with_capacity(self.alloc, self.shards.len())?;
+        for shard in &self.shards {
+            handles.push(shard.handle())?;
+        }
+        Ok(ShardedHandle {
+            handles,
+            hash_builder: self.hash_builder,
+        })
+    }
+}
+
+/// The handles of all shards of a map. Contracts see the view of each, and the hash builder.
+///
+/// Each call with a key makes the call of the same name on the handle of the key's shard.
+#[derive(Drop)]
+pub struct ShardedHandle<
+    'm,
+    K: Drop + Hash,
+    V: Drop,
+    S: BuildHasher + Copy + Drop = BuildHasherDefault<FoldHasher>,
+    A: Allocator + Copy = Global,
+> {
+    handles: Vec<MapHandle<'m, K, V, S, A>, A>,
+    hash_builder: S,
+}
+
+impl<'m, K: Drop + Hash, V: Drop, S: BuildHasher + Copy + Drop, A: Allocator + Copy> Model
+    for ShardedHandle<'m, K, V, S, A> {
+    ghost use Rattle.std.specs.Prelude.{List, length, ◌<◌};
+    ghost use Rattle.elsa_lock_free.specs.SharedList.{View};
+    ghost use Rattle.elsa_hash_index.specs.declared.entry.Entry.{Entry};
+
+    ghost Value = { List (View (Entry K V S)) × S };
+
+    ghost view = { λ h. (h.handles.items, h.hash_builder) };
+
+    ghost invariant = { λ h. 0 < length h.handles.items };
+}
+
+impl<'m, K: Drop + Hash, V: Drop, S: BuildHasher + Copy + Drop, A: Allocator + Copy> ShardedHandle<
+    'm,
+    K,
+    V,
+    S,
+    A,
+> {
+    /// Returns the index of the shard of the keys that are hashed like `query`.
+    ///
+    /// # Cost
+    /// One hash.
+    pub fn shard_index<Q: Hash + Copy>(&self, query: Q) -> usize
+        ensures within { result < length self.now.0 }
+        ensures chosen { result ≡ shard_of S.BuildHasher S.Hasher.Hasher self.now.1
+            (length self.now.0) (Q.hash_input query) }
+    {
+        index_of(&self.hash_builder, query, self.handles.len())
+    }
+
+    /// Returns the handles of the shards, to read what each has observed.
+    ///
+    /// # Cost
+    /// `O(1)`.
+    pub fn shards(&self) -> &[MapHandle<'m, K, V, S, A>]
+        ensures views { result.now ≡ self.now.0 }
+    {
+        self.handles.as_slice()
+    }
+
+    /// Returns the number of entries that the handle has observed in all shards, without an atomic
+    /// step.
+    ///
+    /// # Cost
+    /// The number of shards.
+    pub fn seen_len(&self) -> usize
+        ensures length { result ≡ seen_in_all self.now.0 }
+    {
+        let mut sum = 0usize;
+        for handle in &self.handles {
+            sum = sum.saturating_add(handle.seen_len());
+        }
+        sum
+    }
+
+    /// Reads the length of each shard, and returns the number of entries that the handle has then
+    /// observed: at least their number when the call began, and at most their number when it ended.
+    /// It takes no lock, allocates nothing and never blocks.
+    ///
+    /// # Cost
+    /// The number of shards.
+    pub fn len(&mut self) -> usize
+        ensures same_hasher { self.new.1 ≡ self.old.1 }
+        ensures continues { AllContinue self.old.0 self.new.0 }
+        ensures length { result ≡ seen_in_all self.new.0 }
+    {
+        for handle in self.handles.iter_mut() {
+            handle.len();
+        }
+        self.seen_len()
+    }
+
+    /// Returns a reference to the value of a key, or `None` if no entry of the key's shard that the
+    /// handle has then observed has the key. The reference lives as long as the map is borrowed.
+    ///
+    /// A query is a reference to a key, or another value that is [`Equivalent`] to keys: a `&str`,
+    /// for example, if the keys are `String`s. The call takes no lock, allocates nothing and never
+    /// blocks.
+    ///
+    /// # Cost
+    /// Two hashes and one search.
+    pub fn get_ref<Q: Equivalent<K>>(&mut self, query: Q) -> Option<&'m V>
+        ensures same_hasher { self.new.1 ≡ self.old.1 }
+        ensures on_shard { OnShard self.old.0 self.new.0
+            (shard_of S.BuildHasher S.Hasher.Hasher self.old.1 (length self.old.0)
+            (Q.hash_input query))
+            (λ before after. Continues before after
+            × IfSome result (λ v. Has Q.equivalent (items_of after.seen) query v.now)
+            × IfNone result (Lacks Q.equivalent (items_of after.seen) query)) }
+    {
+        let index = self.shard_index(query);
+        self.handles[index].get_ref(query)
+    }
+
+    /// Inserts a key and its value unless a thread has inserted an equal key: the first insertion
+    /// wins, for every thread. Returns a reference to the value that the key then has, its index in
+    /// its shard, and whether it is new. If the key isn't new, `key` and `value` are dropped.
+    ///
+    /// # Errors
+    /// Fails if an allocation fails, or if the shard has `2^32 - 1` entries. Then nothing is
+    /// inserted, and `key` and `value` are dropped; the same insertion may succeed later.
+    ///
+    /// # Blocks
+    /// While another thread inserts into the same shard, unless the handle has observed the key.
+    ///
+    /// # Allocates
+    /// A buffer of the shard and its row of index entries, if a buffer begins.
+    ///
+    /// # Cost
+    /// Two hashes and one search. If a buffer begins, its row is filled with all keys of the shard.
+    pub fn insert_ref<R: Wait>(
+        &mut self,
+        rt: &R,
+        key: K,
+        value: V,
+    ) -> Result<Inserted<&'m V>, AllocError>
+        ensures same_hasher { self.new.1 ≡ self.old.1 }
+        ensures on_shard { OnShard self.old.0 self.new.0
+            (shard_of S.BuildHasher S.Hasher.Hasher self.old.1 (length self.old.0)
+            (K.hash_input key))
+            (λ before after. IsLaterPass before after
+            × IfOk result (λ r. InsertsOnce K.eq before after key
+            (record { value = r.value.now; place = r.place; is_new = r.is_new }))
+            × IfErr result (λ e. mine after ≡ mine before)) }
+        ensures own_value { IfOk result (λ r. r.is_new ≡ true → r.value.now ≡ value) }
+    {
+        let index = self.shard_index(&key);
+        self.handles[index].insert_ref(rt, key, value)
+    }
+}
+
+impl<
+    'm,
+    K: Copy + Drop + Hash,
+    V: Copy + Drop,
+    S: BuildHasher + Copy + Drop,
+    A: Allocator + Copy,
+> ShardedHandle<'m, K, V, S, A> {
+    /// Returns the value of a key, or `None` if no entry of the key's shard that the handle has
+    /// then observed has the key. It takes no lock, allocates nothing and never blocks.
+    ///
+    /// # Cost
+    /// Two hashes and one search.
+    pub fn get(&mut self, key: K) -> Option<V>
+        ensures same_hasher { self.new.1 ≡ self.old.1 }
+        ensures on_shard { OnShard self.old.0 self.new.0
+            (shard_of S.BuildHasher S.Hasher.Hasher self.old.1 (length self.old.0)
+            (K.hash_input key))
+            (λ before after. Continues before after
+            × IfSome result (λ v. Has K.eq (items_of after.seen) key v)
+            × IfNone result (Lacks K.eq (items_of after.seen) key)) }
+    {
+        let index = self.shard_index(&key);
+        self.handles[index].get(key)
+    }
+
+    /// Inserts a key with its value, as [`insert_ref`](Self::insert_ref) does, and returns a copy
+    /// of the value that the key has.
+    ///
+    /// # Errors
+    /// Fails if an allocation fails, or if the shard has `2^32 - 1` entries. Nothing is inserted;
+    /// the same insertion may succeed later.
+    ///
+    /// # Blocks
+    /// While another thread inserts into the same shard, unless the handle has observed the key.
+    ///
+    /// # Cost
+    /// Two hashes and one search.
+    pub fn insert<R: Wait>(&mut self, rt: &R, key: K, value: V) -> Result<Inserted<V>, AllocError>
+        ensures same_hasher { self.new.1 ≡ self.old.1 }
+        ensures on_shard { OnShard self.old.0 self.new.0
+            (shard_of S.BuildHasher S.Hasher.Hasher self.old.1 (length self.old.0)
+            (K.hash_input key))
+            (λ before after. IsLaterPass before after
+            × IfOk result (InsertsOnce K.eq before after key)
+            × IfErr result (λ e. mine after ≡ mine before)) }
+        ensures own_value { IfOk result (λ r. r.is_new ≡ true → r.value ≡ value) }
+    {
+        let index = self.shard_index(&key);
+        self.handles[index].insert(rt, key, value)
+    }
+
+    /// Inserts a key with the value that `make` returns, unless a thread has inserted an equal key.
+    ///
+    /// If the handle finds the key, the call returns its value and doesn't call `make`. Otherwise
+    /// `make` runs under no lock, and may use the map by another handle. If another thread then
+    /// inserts the key first, the value of `make` is dropped.
+    ///
+    /// # Errors
+    /// Fails if an allocation fails, or if the shard has `2^32 - 1` entries. Then nothing is
+    /// inserted; the same insertion may succeed later.
+    ///
+    /// # Blocks
+    /// While another thread inserts into the same shard, unless the key was found.
+    ///
+    /// # Cost
+    /// Two hashes and one search, and those of `make`.
+    pub fn get_or_insert_with<R: Wait, F: FnOnce() -> V + Drop>(
+        &mut self,
+        rt: &R,
+        key: K,
+        make: F,
+    ) -> Result<Inserted<V>, AllocError>
+        requires callable { F.pre make }
+        ensures same_hasher { self.new.1 ≡ self.old.1 }
+        ensures on_shard { OnShard self.old.0 self.new.0
+            (shard_of S.BuildHasher S.Hasher.Hasher self.old.1 (length self.old.0)
+            (K.hash_input key))
+            (λ before after. IsLaterPass before after
+            × IfOk result (InsertsOnce K.eq before after key)
+            × IfErr result (λ e. mine after ≡ mine before)) }
+        ensures made { IfOk result (λ r. r.is_new ≡ true → F.post make r.value) }
+    {
+        let index = self.shard_index(&key);
+        self.handles[index].get_or_insert_with(rt, key, make)
+    }
+}

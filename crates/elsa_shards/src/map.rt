@@ -1,0 +1,353 @@
+//! [`ShardedMap`]: a hashed map of locked shards.
+ghost use Rattle.std.specs.Prelude.{◌≡◌, ◌<◌, IfOk, length};
+ghost use Rattle.elsa_shards.specs.Shards.{shard_of, spread_over};
+
+use elsa_locks::map::FrozenMap;
+use elsa_tables::{Inserted, Seeks};
+use std::alloc::{AllocError, Allocator, Global};
+use std::collections::HashMap;
+use std::hash::{BuildHasher, BuildHasherDefault, FoldHasher, Hash};
+use std::marker::Model;
+use std::sync::{Arc, Wait};
+
+/// The number of shards of [`ShardedMap::new`].
+pub(crate) const SHARDS: usize = 64;
+
+/// Returns one of `count` indices for a hash.
+#[inline(always)]
+#[tactic(auto, unfolding(crate::specs::Shards::spread_over))]
+fn spread(hash: u64, count: usize) -> usize
+    requires { 0 < count }
+    ensures within { result < count }
+    ensures chosen { result ≡ spread_over count hash }
+{
+    (hash.wrapping_mul(0x9E37_79B9_7F4A_7C15) >> 32) as usize % count
+}
+
+/// Returns the index of the shard, of `count`, of the keys that are hashed like `query`.
+#[tactic(auto, unfolding(crate::specs::Shards::shard_of))]
+pub(crate) fn index_of<Q: Hash + Copy, S: BuildHasher>(
+    hash_builder: &S,
+    query: Q,
+    count: usize,
+) -> usize
+    requires { 0 < count }
+    ensures within { result < count }
+    ensures chosen { result ≡ shard_of S.BuildHasher S.Hasher.Hasher hash_builder.now count
+        (Q.hash_input query) }
+{
+    spread(hash_builder.hash_one(query), count)
+}
+
+/// A hashed map that threads share, in which the first value of a key stays, divided into shards
+/// that have a lock each.
+///
+/// A key belongs to one shard, which its hash chooses. A call with a key makes the call of the same
+/// name on the [`FrozenMap`] of that shard, and waits only for calls on the same shard.
+///
+/// [`shards`](ShardedMap::shards) returns the shards, to visit all entries. A visit locks one shard
+/// at a time. Entries are never removed, so it sees each entry that the map had when it began. It
+/// may also see entries that other threads insert meanwhile.
+///
+/// Take a [`FrozenMap`] instead if a call must see the whole map at one moment. `S` builds the
+/// hasher. If the keys are untrusted input, use a `SeededState` of `elsa`.
+#[derive(Drop)]
+pub struct ShardedMap<
+    K: Eq + Hash + Drop,
+    V,
+    S: BuildHasher = BuildHasherDefault<FoldHasher>,
+    A: Allocator + Copy = Global,
+> {
+    shards: Vec<FrozenMap<K, V, S, A>, A>,
+    hash_builder: S,
+}
+
+// In a clause, a map is the number of its shards and its hash builder.
+impl<K: Eq + Hash + Drop, V, S: BuildHasher, A: Allocator + Copy> Model for ShardedMap<K, V, S, A> {
+    ghost use Rattle.std.specs.Prelude.{ℕ, length, ◌<◌};
+
+    ghost Value = { ℕ × S };
+
+    ghost view = { λ m. (length m.shards.items, m.hash_builder) };
+
+    ghost invariant = { λ m. 0 < length m.shards.items };
+}
+
+impl<K: Eq + Hash + Drop, V: Drop, A: Allocator + Copy> ShardedMap<
+    K,
+    V,
+    BuildHasherDefault<FoldHasher>,
+    A,
+> {
+    /// Makes an empty map with 64 shards.
+    ///
+    /// # Errors
+    /// Fails if an allocation fails.
+    ///
+    /// # Allocates
+    /// The list of shards.
+    pub fn new(alloc: A) -> Result<Self, AllocError>
+        ensures { IfOk result (λ m. m.0 ≡ 64) }
+    {
+        ShardedMap::with_shards(alloc, SHARDS, BuildHasherDefault::new())
+    }
+}
+
+impl<K: Eq + Hash + Drop, V: Drop, S: BuildHasher + Clone + Drop, A: Allocator + Copy> ShardedMap<
+    K,
+    V,
+    S,
+    A,
+> {
+    /// Makes an empty map with `count` shards that hashes its keys by `hash_builder`.
+    ///
+    /// More shards let more threads insert at the same time; an empty shard takes some 100 bytes.
+    ///
+    /// # Errors
+    /// Fails if an allocation fails, or if `hash_builder` can't be cloned.
+    ///
+    /// # Allocates
+    /// The list of shards.
+    pub fn with_shards(alloc: A, count: usize, hash_builder: S) -> Result<Self, AllocError>
+        requires { 0 < count }
+        ensures { IfOk result (λ m. m.0 ≡ count) }
+    {
+        let mut shards = Vec::with_capacity(alloc, count)?;
+        for _ in 0..count {
+            shards.push(FrozenMap::with_hasher(alloc, hash_builder.clone()?))?;
+        }
+        Ok(ShardedMap {
+            shards,
+            hash_builder,
+        })
+    }
+}
+
+impl<K: Eq + Hash + Drop, V: Drop, S: BuildHasher, A: Allocator + Copy> ShardedMap<K, V, S, A> {
+    /// Returns the number of shards.
+    pub fn shard_count(&self) -> usize
+        ensures { result ≡ self.now.0 }
+    {
+        self.shards.len()
+    }
+
+    /// Returns the shards. Each has the entries whose keys belong to it: to visit all entries,
+    /// visit those of each shard.
+    ///
+    /// # Cost
+    /// `O(1)`.
+    pub fn shards(&self) -> &[FrozenMap<K, V, S, A>]
+        ensures { length result.now ≡ self.now.0 }
+    {
+        self.shards.as_slice()
+    }
+
+    /// Returns the index of the shard of the keys that are hashed like `query`.
+    ///
+    /// # Cost
+    /// One hash.
+    pub fn shard_index<Q: Hash + Copy>(&self, query: Q) -> usize
+        ensures within { result < self.now.0 }
+        ensures chosen { result
+            ≡ shard_of S.BuildHasher S.Hasher.Hasher self.now.1 self.now.0 (Q.hash_input query) }
+    {
+        index_of(&self.hash_builder, query, self.shards.len())
+    }
+
+    // Returns the shard of the keys that are hashed like `query`.
+    fn shard<Q: Hash + Copy>(&self, query: Q) -> &FrozenMap<K, V, S, A> {
+        let index = self.shard_index(query);
+        &self.shards[index]
+    }
+
+    /// Returns an `Arc` of the value at the key that `query` finds, or `None` if the map has no
+    /// such key.
+    ///
+    /// A reference to a key is a query, and so is a `&str` if the keys are texts: [`Seeks`] lists
+    /// them. A query must be hashed like the keys that it finds.
+    ///
+    /// # Errors
+    /// Fails if the map has the key and the `Arc` has the maximum number of owners.
+    ///
+    /// # Blocks
+    /// While a thread writes to the key's shard or waits to write to it.
+    ///
+    /// # Cost
+    /// Two hashes and one search.
+    pub fn get<Q>(&self, rt: &impl Wait, query: Q) -> Result<Option<Arc<V, A>>, AllocError>
+    where
+        Q: Hash + Seeks<K, Arc<V, A>, HashMap<K, Arc<V, A>, S, A>>,
+    {
+        self.shard(query).get(rt, query)
+    }
+
+    /// Calls `f` once, with the value at the key that `query` finds, and returns the result.
+    /// Returns `None`, without a call, if the map has no such key.
+    ///
+    /// The shard's lock is released before `f` is called, so `f` may call the same map. Exception:
+    /// if the `Arc` has the maximum number of owners, `f` runs while this call shares the lock.
+    ///
+    /// # Blocks
+    /// While a thread writes to the key's shard or waits to write to it.
+    ///
+    /// # Cost
+    /// Two hashes and one search.
+    pub fn map_get<R, Q, F>(&self, rt: &impl Wait, query: Q, f: F) -> Option<R>
+    where
+        Q: Hash + Seeks<K, Arc<V, A>, HashMap<K, Arc<V, A>, S, A>>,
+        F: FnOnce(&V) -> R + Drop,
+        requires { F.IsAlwaysCallable f }
+    {
+        self.shard(query).map_get(rt, query, f)
+    }
+
+    /// Inserts the value unless the map has the key. Returns an `Arc` of the value that the key
+    /// then has, and whether the key was new.
+    ///
+    /// If the map has the key, the given key is dropped under the shard's lock, and the given value
+    /// after the lock is released.
+    ///
+    /// # Errors
+    /// Fails if an allocation fails, or if the `Arc` has the maximum number of owners. The map is
+    /// then unchanged.
+    ///
+    /// # Blocks
+    /// While another thread has the lock of the key's shard.
+    ///
+    /// # Cost
+    /// Two hashes and one search.
+    pub fn insert_new(
+        &self,
+        rt: &impl Wait,
+        key: K,
+        value: V,
+    ) -> Result<Inserted<Arc<V, A>>, AllocError> {
+        self.shard(&key).insert_new(rt, key, value)
+    }
+
+    /// Inserts the value unless the map has the key, and returns an `Arc` of the value that the key
+    /// then has.
+    ///
+    /// # Errors
+    /// Fails as [`insert_new`](Self::insert_new) does.
+    ///
+    /// # Blocks
+    /// While another thread has the lock of the key's shard.
+    ///
+    /// # Cost
+    /// Two hashes and one search.
+    pub fn insert(&self, rt: &impl Wait, key: K, value: V) -> Result<Arc<V, A>, AllocError> {
+        self.shard(&key).insert(rt, key, value)
+    }
+
+    /// Inserts the result of `f` unless the map has the key, and returns an `Arc` of the value that
+    /// the key then has.
+    ///
+    /// `f` is called only if the key is absent and the shard has room for it. It runs under the
+    /// shard's lock, so a call with a key of the same shard in it can deadlock.
+    ///
+    /// # Errors
+    /// Fails as [`insert_new`](Self::insert_new) does.
+    ///
+    /// # Blocks
+    /// While another thread has the lock of the key's shard.
+    ///
+    /// # Cost
+    /// Two hashes and one search.
+    pub fn insert_with<F: FnOnce() -> V + Drop>(
+        &self,
+        rt: &impl Wait,
+        key: K,
+        f: F,
+    ) -> Result<Arc<V, A>, AllocError>
+        requires { F.IsAlwaysCallable f }
+    {
+        self.shard(&key).insert_with(rt, key, f)
+    }
+
+    /// Returns the number of entries: at least their number when the call began, and at most their
+    /// number when it ended. It allocates nothing.
+    ///
+    /// # Blocks
+    /// While a thread writes to a shard or waits to write to it, one shard after the other.
+    ///
+    /// # Cost
+    /// The number of shards.
+    pub fn len(&self, rt: &impl Wait) -> usize {
+        let mut sum = 0usize;
+        for shard in &self.shards {
+            sum = sum.saturating_add(shard.len(rt));
+        }
+        sum
+    }
+
+    /// Returns whether no shard had an entry when the call visited it. It allocates nothing.
+    ///
+    /// # Blocks
+    /// As [`len`](Self::len) does.
+    pub fn is_empty(&self, rt: &impl Wait) -> bool {
+        self.len(rt) == 0
+    }
+}
+
+impl<K: Eq + Hash + Drop, V: Copy + Drop, S: BuildHasher, A: Allocator + Copy> ShardedMap<
+    K,
+    V,
+    S,
+    A,
+> {
+    /// Returns a copy of the value at the key that `query` finds, or `None` if the map has no such
+    /// key.
+    ///
+    /// # Blocks
+    /// While a thread writes to the key's shard or waits to write to it.
+    ///
+    /// # Cost
+    /// Two hashes and one search.
+    pub fn get_copy<Q>(&self, rt: &impl Wait, query: Q) -> Option<V>
+    where
+        Q: Hash + Seeks<K, Arc<V, A>, HashMap<K, Arc<V, A>, S, A>>,
+    {
+        self.shard(query).get_copy(rt, query)
+    }
+
+    /// Inserts the value unless the map has the key, and returns a copy of the value that the key
+    /// then has. If the map has the key, the call allocates nothing.
+    ///
+    /// # Errors
+    /// Fails if the key is absent and an allocation fails. The map is then unchanged, and the key
+    /// and the value are dropped.
+    ///
+    /// # Blocks
+    /// While another thread has the lock of the key's shard.
+    ///
+    /// # Cost
+    /// Two hashes and one search.
+    pub fn get_copy_or_insert(&self, rt: &impl Wait, key: K, value: V) -> Result<V, AllocError> {
+        self.shard(&key).get_copy_or_insert(rt, key, value)
+    }
+
+    /// Inserts the result of `f` unless the map has the key, and returns a copy of the value that
+    /// the key then has. If the map has the key, the call allocates nothing.
+    ///
+    /// `f` runs under the shard's lock, so a call with a key of the same shard in it can deadlock.
+    ///
+    /// # Errors
+    /// Fails as [`get_copy_or_insert`](Self::get_copy_or_insert) does.
+    ///
+    /// # Blocks
+    /// While another thread has the lock of the key's shard.
+    ///
+    /// # Cost
+    /// Two hashes and one search.
+    pub fn get_copy_or_insert_with<F: FnOnce() -> V + Drop>(
+        &self,
+        rt: &impl Wait,
+        key: K,
+        f: F,
+    ) -> Result<V, AllocError>
+        requires { F.IsAlwaysCallable f }
+    {
+        self.shard(&key).get_copy_or_insert_with(rt, key, f)
+    }
+}

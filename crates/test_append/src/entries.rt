@@ -1,0 +1,126 @@
+//! Worked cases of the calls, over maps of a few entries.
+use bumpalo::Bump;
+use elsa_append::{AppendMap, FrozenAppendMap, keeps_earlier_pairs};
+use elsa_maps::map::{InsertFault, MapForm};
+use elsa_tables::{IntoPairs, Table};
+use elsa_vec::stable::Own;
+use std::alloc::{AllocError, Global};
+use std::test::Fail;
+
+type Ages<'a> = FrozenAppendMap<'a, u32, Own<u64>>;
+
+// A map with the entries 30: 3, 10: 1, 20: 2, in this order.
+fn three<'a>(alloc: Global, arena: &'a Bump) -> Result<Ages<'a>, AllocError> {
+    let mut map = Ages::over(alloc, arena, AppendMap::new(alloc));
+    map.insert(30, Own(3))?;
+    map.insert_with(10, || Own(1))?;
+    map.insert_new(20, Own(2))?;
+    Ok(map)
+}
+
+fn has_three(table: &AppendMap<u32, &u64>) -> bool {
+    let [first, second, third] = table.entries() else {
+        return false;
+    };
+    let keys = first.0 == 30 && second.0 == 10 && third.0 == 20;
+    keys && *first.1 == 3 && *second.1 == 1 && *third.1 == 2
+}
+
+#[test]
+fn entries_keep_the_order_of_their_insertion(rt: HostRuntime) -> Result<(), Fail> {
+    let arena = Bump::new(rt.alloc());
+    let map = three(rt.alloc(), &arena)?;
+    assert!(rt; has_three(&map.into_map()));
+    Ok(())
+}
+
+#[test]
+fn a_present_key_keeps_its_value_and_its_index(rt: HostRuntime) -> Result<(), Fail> {
+    let arena = Bump::new(rt.alloc());
+    let mut map = three(rt.alloc(), &arena)?;
+    let done = map.insert_new(10, Own(9))?;
+    assert!(rt; *done.value == 1 && !done.is_new);
+    let found = keeps_earlier_pairs(&mut map, 30, Own(9))?;
+    assert!(rt; *found.value == 3 && !found.is_new);
+    assert!(rt; has_three(map.as_mut()));
+    Ok(())
+}
+
+// Whether an insertion whose closure fails returns the closure's error.
+fn fails_with_its_error(map: &mut Ages<'_>) -> bool {
+    let outcome = map.try_insert_with(40, || -> Result<Own<u64>, u8> { Err(7) });
+    matches!(outcome, Err(InsertFault::Value(7)))
+}
+
+#[test]
+fn a_failed_closure_leaves_the_entries(rt: HostRuntime) -> Result<(), Fail> {
+    let arena = Bump::new(rt.alloc());
+    let mut map = three(rt.alloc(), &arena)?;
+    assert!(rt; fails_with_its_error(&mut map) && has_three(map.as_mut()));
+    Ok(())
+}
+
+// Whether a clone has the same entries, and no entry that its source gets later.
+fn clones_apart(map: &mut Ages<'_>) -> Result<bool, AllocError> {
+    let copy = map.as_mut().clone()?;
+    map.insert(40, Own(4))?;
+    Ok(has_three(&copy) && copy.find(&40).is_none() && copy.find(&20) == Some(&&2))
+}
+
+#[test]
+fn a_clone_shares_no_later_entry(rt: HostRuntime) -> Result<(), Fail> {
+    let arena = Bump::new(rt.alloc());
+    let mut map = three(rt.alloc(), &arena)?;
+    assert!(rt; clones_apart(&mut map)? && map.len() == 4);
+    Ok(())
+}
+
+// Whether a map continues with the content of a clone.
+fn continues_from(map: &mut Ages<'_>) -> Result<bool, AllocError> {
+    let base = map.as_mut().clone()?;
+    map.insert(40, Own(4))?;
+    map.rebase(base);
+    let is_back = map.len() == 3 && map.get(&40).is_none();
+    Ok(is_back && *map.insert(40, Own(5))? == 5)
+}
+
+#[test]
+fn a_clone_is_the_base_of_a_map(rt: HostRuntime) -> Result<(), Fail> {
+    let arena = Bump::new(rt.alloc());
+    let mut map = three(rt.alloc(), &arena)?;
+    assert!(rt; continues_from(&mut map)?);
+    Ok(())
+}
+
+#[test]
+fn pairs_are_listed_in_the_order_of_their_insertion(rt: HostRuntime) -> Result<(), Fail> {
+    let arena = Bump::new(rt.alloc());
+    let pairs = three(rt.alloc(), &arena)?.into_tuple_vec()?;
+    assert!(rt; pairs.as_slice() == [(30, &3), (10, &1), (20, &2)].as_slice());
+    let table = three(rt.alloc(), &arena)?.into_map();
+    let pairs = table.into_pairs(rt.alloc())?;
+    assert!(rt; pairs.as_slice() == [(30, &3), (10, &1), (20, &2)].as_slice());
+    Ok(())
+}
+
+// Code over any map.
+fn adds<R, M: MapForm<R>>(map: &mut M, key: M::Key, value: M::Value) -> Result<bool, AllocError> {
+    Ok(map.insert_new(key, value)?.is_new)
+}
+
+#[test]
+fn code_over_any_map_takes_it(rt: HostRuntime) -> Result<(), Fail> {
+    let arena = Bump::new(rt.alloc());
+    let mut map = three(rt.alloc(), &arena)?;
+    assert!(rt; adds(&mut map, 40, Own(4))? && !adds(&mut map, 40, Own(5))?);
+    Ok(())
+}
+
+#[test]
+fn it_prints_as_a_map_in_the_order_of_insertion(rt: HostRuntime) -> Result<(), Fail> {
+    let arena = Bump::new(rt.alloc());
+    let map = three(rt.alloc(), &arena)?;
+    let text = format!(in rt.alloc(); "{map:?}")?;
+    assert_eq!(rt; text.as_str(), "{30: 3, 10: 1, 20: 2}");
+    Ok(())
+}

@@ -1,0 +1,14 @@
+//! Tests of `elsa_append` through its public calls: worked cases, keys with an odd `Hash` or `Eq`,
+//! allocation failures, reserved room, and maps of thousands of entries.
+#![tactic(auto)]
+
+#[cfg(test)]
+mod entries;
+#[cfg(test)]
+mod large;
+#[cfg(test)]
+mod odd_keys;
+#[cfg(test)]
+mod queries;
+#[cfg(test)]
+mod refusals;

@@ -1,0 +1,212 @@
+//! Allocation failures: each allocation of a script fails in turn, and each doubling of the
+//! buckets.
+use bumpalo::Bump;
+use elsa_append::{AppendMap, By, FrozenAppendMap};
+use elsa_tables::IntoPairs;
+use elsa_vec::stable::Own;
+use std::alloc::{AllocError, Global};
+use std::hash::{BuildHasherDefault, FoldHasher};
+use std::test::Fail;
+use test_alloc::Budget;
+use test_script::{Family, Script, Squeeze, WORDS, goes_through, refuse_each_in_turn};
+
+type Heap<'b> = &'b Budget<Global>;
+
+type Text<'b> = String<Heap<'b>>;
+
+type Map<'a, 'b> = FrozenAppendMap<
+    'a,
+    Text<'b>,
+    Text<'b>,
+    BuildHasherDefault<FoldHasher>,
+    Heap<'b>,
+>;
+
+const CALLS: usize = 32;
+
+// An even call inserts the next word. Of the odd ones, the first inserts it again, the second
+// clones the table, the third reserves room, and the last lists the pairs of a clone.
+#[derive(Drop)]
+struct Calls<'a, 'b> {
+    heap: Heap<'b>,
+    map: Map<'a, 'b>,
+    // The words as keys, in memory that is always granted.
+    keys: Vec<Text<'b>>,
+}
+
+impl Script for Calls<'_, '_> {
+    fn call(&mut self, number: usize) -> Result<bool, AllocError> {
+        let count = number.div_ceil(2);
+        match number % 8 {
+            1 => inserts(&mut self.map, self.heap, number / 2, false),
+            3 => clones(&mut self.map, count),
+            5 => reserves(&mut self.map, number),
+            7 => lists(&mut self.map, self.heap, count),
+            _ => inserts(&mut self.map, self.heap, number / 2, true),
+        }
+    }
+
+    fn holds(&self, number: usize) -> bool {
+        has_words(&self.map, self.keys.as_slice(), number.div_ceil(2))
+    }
+}
+
+fn word(place: usize) -> &'static str {
+    WORDS[place % 16]
+}
+
+fn value(place: usize) -> &'static str {
+    word(place.wrapping_add(5))
+}
+
+// Whether the word is new as expected, and has its value.
+fn inserts<'b>(
+    map: &mut Map<'_, 'b>,
+    heap: Heap<'b>,
+    place: usize,
+    is_new: bool,
+) -> Result<bool, AllocError> {
+    let key = String::from_str(heap, word(place))?;
+    let text = String::from_str(heap, if is_new { value(place) } else { "other" })?;
+    let done = map.insert_new(key, text)?;
+    Ok(done.value == value(place) && done.is_new == is_new)
+}
+
+fn clones(map: &mut Map<'_, '_>, count: usize) -> Result<bool, AllocError> {
+    let copy = map.as_mut().clone()?;
+    Ok(copy.entries().len() == count)
+}
+
+fn reserves(map: &mut Map<'_, '_>, number: usize) -> Result<bool, AllocError> {
+    match map.as_mut().reserve(number) {
+        Ok(()) => Ok(map.as_mut().capacity() >= number),
+        Err(_) => Err(AllocError),
+    }
+}
+
+fn lists<'b>(map: &mut Map<'_, 'b>, heap: Heap<'b>, count: usize) -> Result<bool, AllocError> {
+    let copy = map.as_mut().clone()?;
+    Ok(copy.into_pairs(heap)?.len() == count)
+}
+
+// Whether the first `count` words have their values, and no other word has one.
+fn has_words(map: &Map<'_, '_>, keys: &[Text<'_>], count: usize) -> bool {
+    let mut place = 0usize;
+    for key in keys {
+        let want = if place < count {
+            Some(value(place))
+        } else {
+            None
+        };
+        if map.get(By(key.as_str())) != want {
+            return false;
+        }
+        place = place.saturating_add(1);
+    }
+    map.len() == count && place == 16
+}
+
+// The words as keys.
+fn words<'b>(alloc: Global, heap: Heap<'b>) -> Result<Vec<Text<'b>>, AllocError> {
+    let mut keys = Vec::new(alloc);
+    for word in WORDS {
+        keys.push(String::from_str(heap, word)?)?;
+    }
+    Ok(keys)
+}
+
+fn goes<'b>(
+    alloc: Global,
+    heap: Heap<'b>,
+    open: Heap<'b>,
+    arena: &Bump,
+    squeezed: Squeeze,
+) -> Option<u64> {
+    let keys = words(alloc, open).ok()?;
+    let map = Map::over(heap, arena, AppendMap::new(heap));
+    let mut script = Calls { heap, map, keys };
+    goes_through(&mut script, CALLS, heap, arena, squeezed)
+}
+
+#[derive(Drop)]
+struct Texts;
+
+impl Family for Texts {
+    fn calls(&self) -> usize {
+        CALLS
+    }
+
+    fn placings(&self, number: usize) -> usize {
+        if number % 2 == 0 { 1 } else { 0 }
+    }
+
+    fn goes_over(&self, alloc: Global, heap: &Budget<Global>, squeezed: Squeeze) -> Option<u64> {
+        goes(
+            alloc,
+            heap,
+            &Budget::new(alloc),
+            &Bump::new(alloc),
+            squeezed,
+        )
+    }
+}
+
+#[test]
+fn a_failed_call_leaves_the_map_as_it_was(rt: HostRuntime) -> Result<(), Fail> {
+    let refused = refuse_each_in_turn(rt.alloc(), &Texts)?;
+    assert!(rt; refused.requests > 60 && refused.placings == 16);
+    Ok(())
+}
+
+// ---- doublings
+
+type Numbers<'a, 'b> = FrozenAppendMap<'a, u64, Own<u64>, BuildHasherDefault<FoldHasher>, Heap<'b>>;
+
+fn has_first(map: &Numbers<'_, '_>, count: u64) -> bool {
+    for number in 0..count {
+        if map.get(&number) != Some(&number) {
+            return false;
+        }
+    }
+    map.len() as u64 == count && map.get(&count).is_none()
+}
+
+// Whether an insertion fails if no memory is granted, leaves the entries, and then succeeds.
+fn fails_and_succeeds(map: &mut Numbers<'_, '_>, heap: Heap<'_>, number: u64) -> bool {
+    heap.refuse_next(u64::MAX);
+    let refused = heap.refused();
+    let outcome = map.insert(number, Own(number)).is_ok();
+    let is_told = outcome == (heap.refused() == refused);
+    let is_kept = outcome || has_first(map, number);
+    heap.refuse_next(0);
+    is_told
+        && is_kept
+        && map.insert(number, Own(number)).is_ok()
+        && has_first(map, number.saturating_add(1))
+}
+
+// The number of insertions that failed, if each of `count` left what it must.
+fn failed_doublings(alloc: Global, arena: &Bump, count: u64) -> Option<u64> {
+    let heap = Budget::new(alloc);
+    let mut map: Numbers<'_, '_> = Numbers::over(&heap, arena, AppendMap::new(&heap));
+    let mut failures = 0u64;
+    for number in 0..count {
+        let refused = heap.refused();
+        if !fails_and_succeeds(&mut map, &heap, number) {
+            return None;
+        }
+        if heap.refused() > refused {
+            failures = failures.saturating_add(1);
+        }
+    }
+    Some(failures)
+}
+
+#[test]
+fn a_failed_doubling_leaves_every_entry(rt: HostRuntime) -> Result<(), Fail> {
+    let arena = Bump::new(rt.alloc());
+    let failures = failed_doublings(rt.alloc(), &arena, 400);
+    // The buckets double at 0, 6, 12, 24, 48, 96, 192 and 384 entries.
+    assert!(rt; failures >= Some(8));
+    Ok(())
+}

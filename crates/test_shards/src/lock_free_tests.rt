@@ -1,0 +1,169 @@
+ghost use Rattle.std.specs.Prelude.{◌<◌};
+
+use elsa::sync::{LockFreeShardedMap, ShardedHandle};
+use std::alloc::{AllocError, Allocator, Global};
+use std::hash::{BuildHasherDefault, FoldHasher};
+use std::sync::Wait;
+use std::test::Fail;
+use std::thread;
+use test_alloc::Budget;
+
+const MANY: u64 = 4000;
+
+type Numbers<A = Global> = LockFreeShardedMap<u64, u64, BuildHasherDefault<FoldHasher>, A>;
+
+type NumbersHandle<'m> = ShardedHandle<'m, u64, u64>;
+
+fn with_shards(alloc: Global, count: usize) -> Result<Numbers, AllocError>
+    requires { 0 < count }
+{
+    LockFreeShardedMap::with_shards(alloc, count, BuildHasherDefault::new())
+}
+
+// Inserts a key with three times itself, and once more with another value. Returns whether the
+// first value stayed.
+fn inserts_once(
+    rt: &impl Wait,
+    handle: &mut NumbersHandle<'_>,
+    key: u64,
+) -> Result<bool, AllocError> {
+    let first = handle.insert(rt, key, key.wrapping_mul(3))?;
+    let second = handle.insert_ref(rt, key, 1)?;
+    let third = handle.get_or_insert_with(rt, key, || 2)?;
+    let same = first.value == key.wrapping_mul(3) && *second.value == first.value;
+    Ok(same && third.value == first.value && first.is_new && !second.is_new && !third.is_new)
+}
+
+fn fill(rt: &impl Wait, handle: &mut NumbersHandle<'_>) -> Result<bool, AllocError> {
+    let mut keeps = true;
+    for key in 0..MANY {
+        keeps = inserts_once(rt, handle, key)? && keeps;
+    }
+    Ok(keeps)
+}
+
+// Returns whether each key below `MANY` is found with its own value, and no other key.
+fn finds_each(handle: &mut NumbersHandle<'_>) -> bool {
+    let mut finds = true;
+    for key in 0..MANY {
+        let copy = handle.get(key);
+        let is_lent = handle.get_ref(&key) == Some(&key.wrapping_mul(3));
+        let is_absent = handle.get(key.wrapping_add(MANY)).is_none();
+        finds = finds && copy == Some(key.wrapping_mul(3)) && is_lent && is_absent;
+    }
+    finds
+}
+
+// Returns whether each shard has observed entries, and all of them together are `MANY`.
+fn uses_each_shard(handle: &NumbersHandle<'_>) -> bool {
+    let mut all = true;
+    let mut count = 0usize;
+    for shard in handle.shards() {
+        all = all && shard.seen_len() > 0;
+        count = count.wrapping_add(shard.seen_len());
+    }
+    all && count == MANY as usize
+}
+
+// Returns whether a new handle observes all entries once it reads the lengths, and not before.
+fn observes_all(map: &Numbers) -> Result<bool, AllocError> {
+    let mut late = map.handle()?;
+    let is_empty = late.seen_len() == 0;
+    Ok(is_empty && late.len() == MANY as usize && finds_each(&mut late))
+}
+
+fn takes_thousands(rt: &impl Wait, alloc: Global, count: usize) -> Result<bool, AllocError>
+    requires { 0 < count }
+{
+    let map = with_shards(alloc, count)?;
+    let mut handle = map.handle()?;
+    let is_kept = fill(rt, &mut handle)?;
+    let is_found = finds_each(&mut handle) && observes_all(&map)?;
+    Ok(is_kept && is_found && uses_each_shard(&handle) && map.shards().len() == count)
+}
+
+#[test]
+fn a_key_was_looked_up_in_another_lock_free_shard(rt: HostRuntime) -> Result<(), Fail> {
+    assert!(rt; takes_thousands(&rt, rt.alloc(), 1)?);
+    assert!(rt; takes_thousands(&rt, rt.alloc(), 64)?);
+    assert!(rt; takes_thousands(&rt, rt.alloc(), 7)?);
+    Ok(())
+}
+
+// Inserts the same keys as other threads do, each with a value of this thread's own. Returns the
+// sum of the values that the keys have.
+fn sum_of_values(rt: &impl Wait, map: &Numbers, thread: usize) -> u64 {
+    let mut sum = 0u64;
+    let Ok(mut handle) = map.handle() else {
+        return 0;
+    };
+    for key in 0..MANY {
+        let own = key.wrapping_mul(8).wrapping_add(thread as u64);
+        if let Ok(inserted) = handle.insert(rt, key, own) {
+            sum = sum.wrapping_add(inserted.value);
+        }
+    }
+    sum
+}
+
+#[test]
+fn two_threads_found_different_values_of_a_key_without_a_lock(rt: HostRuntime) -> Result<(), Fail> {
+    let map: Numbers = LockFreeShardedMap::new(rt.alloc())?;
+    let sums = thread::map_indices(&rt, rt.alloc(), 4, &|at| sum_of_values(&rt, &map, at))?;
+    let values = sum_of_values(&rt, &map, 4);
+    let mut same = true;
+    for sum in &sums {
+        same = same && *sum == values;
+    }
+    assert!(rt; same);
+    Ok(())
+}
+
+// Returns whether a text finds the key that was inserted as a `String`, and its first value stays.
+fn finds_a_text(rt: &impl Wait, alloc: Global) -> Result<bool, AllocError> {
+    let map: LockFreeShardedMap<String, String> = LockFreeShardedMap::new(alloc)?;
+    let mut handle = map.handle()?;
+    let first = String::from_str(alloc, "first")?;
+    handle.insert_ref(rt, String::from_str(alloc, "one")?, first)?;
+    let second = String::from_str(alloc, "second")?;
+    handle.insert_ref(rt, String::from_str(alloc, "one")?, second)?;
+    let Some(found) = handle.get_ref("one") else {
+        return Ok(false);
+    };
+    let is_absent = handle.get_ref("on").is_none() && handle.get_ref("one!").is_none();
+    Ok(found.as_str() == "first" && is_absent && handle.shard_index("one") < 64)
+}
+
+#[test]
+fn a_text_was_not_found_in_the_lock_free_shard_of_its_string(rt: HostRuntime) -> Result<(), Fail> {
+    assert!(rt; finds_a_text(&rt, rt.alloc())?);
+    Ok(())
+}
+
+// Returns whether a call inserts nothing if an allocation fails, and succeeds afterwards.
+fn keeps_its_content(
+    rt: &impl Wait,
+    map: &Numbers<&Budget<Global>>,
+    budget: &Budget<Global>,
+) -> Result<bool, AllocError> {
+    budget.refuse_next(1);
+    let is_refused = map.handle().is_err();
+    let mut handle = map.handle()?;
+    budget.refuse_next(1);
+    let has_failed = handle.insert(rt, 5, 50).is_err() && handle.get(5).is_none();
+    let is_made = handle.get_or_insert_with(rt, 5, || 50)?.is_new;
+    let is_kept = handle.insert(rt, 5, 51)?.value == 50 && handle.get(5) == Some(50);
+    Ok(is_refused && has_failed && is_made && is_kept)
+}
+
+#[test]
+fn a_failed_allocation_changed_the_lock_free_map(rt: HostRuntime) -> Result<(), Fail> {
+    let budget = Budget::new(rt.alloc());
+    let map: Numbers<&Budget<Global>> = LockFreeShardedMap::with_shards(
+        &budget,
+        3,
+        BuildHasherDefault::new(),
+    )?;
+    assert!(rt; keeps_its_content(&rt, &map, &budget)?);
+    Ok(())
+}
