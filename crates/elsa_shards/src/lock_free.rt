@@ -1,5 +1,5 @@
 //! [`LockFreeShardedMap`]: a map of shards whose look-ups take no lock.
-ghost use Rattle.std.specs.Prelude.{◌≡◌, ◌<◌, ◌≤◌, true, IfOk, IfErr, IfSome, IfNone, length};
+ghost use Rattle.std.specs.Prelude.{◌≡◌, ◌<◌, ◌≤◌, true, IfOk, IfErr, IfSome, IfNone, length, map};
 ghost use Rattle.elsa_lock_free.specs.SharedList.{Continues, IsLaterPass, items_of, mine};
 ghost use Rattle.elsa_lock_free_map.specs.Entries.{Has, InsertsOnce, Lacks};
 ghost use Rattle.elsa_shards.specs.Shards.{AllContinue, OnShard, seen_in_all, shard_of};
@@ -110,7 +110,7 @@ impl<K: Drop + Hash, V: Drop, S: BuildHasher + Copy + Drop, A: Allocator + Copy>
     /// # Allocates
     /// A list with a handle of each shard.
     pub fn handle(&self) -> Result<ShardedHandle<'_, K, V, S, A>, AllocError>
-        ensures count { IfOk result (λ h. length h.0 ≡ length self.now.0) }
+        ensures same_vectors { IfOk result (λ h. map (λ v. v.vector) h.0 ≡ self.now.0) }
         ensures same_hasher { IfOk result (λ h. h.1 ≡ self.now.1) }
     {
         let mut handles = Vec::with_capacity(self.alloc, self.shards.len())?;
