@@ -12,8 +12,9 @@ contain:
 STAMP is the toolchain's checksum of the library's sources, of its line of crates.txt and of all libraries below it.
 DIGEST is a sha256 over the files of NAME.rlib.
 """
-import hashlib, lzma, pathlib, shutil, subprocess, tarfile
+import hashlib, lzma, pathlib, shutil, subprocess, tarfile, tempfile
 
+from kit import toolchain
 from repository import root, stands_on
 
 DIGESTS = root / "proofs.sha256"
@@ -118,3 +119,20 @@ def taken(bundle, names, crates, room):
                 f"{name}: the files in {archive} are not those that proofs.sha256 names: fetch the bundle again"
             )
     return found
+
+
+def install(bundle, target, names, verify):
+    """Copies the release's proofs of these crates of the repository `target` to the folders in which the toolchain looks
+    for them; none, if one of them is rejected. It prints what the user trusts, and the command `verify` that proves the
+    crates again."""
+    crates = {it.name: it for it in toolchain().rtlib.crates_below(str(target))}
+    with tempfile.TemporaryDirectory(prefix="elsa-proofs-", dir=target) as room:
+        found = taken(bundle, names, crates, pathlib.Path(room))
+        for name, folder in found.items():
+            made = pathlib.Path(crates[name].rlib).parent
+            shutil.rmtree(made, ignore_errors=True)
+            made.mkdir(parents=True)
+            shutil.move(folder, made / folder.name)
+            (made / "stamp").write_text(crates[name].stamp())
+    print(f"The proofs of {len(names)} crates are taken from the release and are not checked here: you trust its")
+    print(f"maker, as you trust the kit's own libraries. `{verify}` proves them again.")

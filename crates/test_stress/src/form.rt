@@ -11,7 +11,7 @@ use test_alloc::Budget;
 /// The number of looks of a thread for the others, after which it begins without them.
 const TURNS: u64 = 100_000;
 
-/// The number of keys.
+/// The least number of keys.
 pub const KEYS: u64 = 300;
 
 /// A shared collection with the calls of the scripts.
@@ -57,13 +57,14 @@ pub trait Form {
         ensures { of self.now one.new × of self.now other.new };
 }
 
-/// Makes one random call.
+/// Makes one random call with one of `keys` keys.
 fn call<R: Wait, F: Form>(
     rt: &R,
     heap: &Budget<Global>,
     form: &F,
     pass: &mut F::Pass,
     draws: &mut Draws,
+    keys: u64,
     log: &mut Log,
 ) -> Result<(), AllocError>
     requires { F.of form.now pass.old }
@@ -74,11 +75,11 @@ fn call<R: Wait, F: Form>(
             heap.refuse_next(draws.below(4));
             Ok(())
         }
-        1..16 => match form.insert(rt, pass, draws.below(KEYS), draws.whole()) {
+        1..16 => match form.insert(rt, pass, draws.below(keys), draws.whole()) {
             Ok((entry, is_new)) => log.inserted(entry, is_new),
             Err(_) => Ok(()),
         },
-        _ => match form.at(rt, pass, draws.below(KEYS)) {
+        _ => match form.at(rt, pass, draws.below(keys)) {
             Some(entry) => log.saw(entry),
             None => Ok(()),
         },
@@ -132,8 +133,9 @@ fn work<R: Wait, F: Form>(
     ensures { F.of form.now pass.new }
 {
     let mut draws = Draws::new(seed, log.calls);
+    let keys = calls.max(KEYS);
     for _turn in 0..calls {
-        if call(rt, heap, form, pass, &mut draws, log).is_err() {
+        if call(rt, heap, form, pass, &mut draws, keys, log).is_err() {
             log.fails();
         }
     }

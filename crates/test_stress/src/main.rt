@@ -14,14 +14,20 @@ mod maps;
 mod names;
 mod recorded;
 mod script;
+mod shards;
 
 use crate::lists::{FreeList, LockedList};
 use crate::maps::{FreeMap, HashedMap, OrderedMap};
 use crate::names::Names;
 use crate::script::Script;
+use crate::shards::{FreeShards, LockedShards};
 use elsa::interner::SharedInterner;
-use elsa::sync::{FrozenBTreeMap, FrozenMap, FrozenVec, LockFreeFrozenMap, LockFreeFrozenVec};
+use elsa::sync::{
+    FrozenBTreeMap, FrozenMap, FrozenVec, LockFreeFrozenMap, LockFreeFrozenVec, LockFreeShardedMap,
+    ShardedMap,
+};
 use std::alloc::{AllocError, Global};
+use std::hash::BuildHasherDefault;
 use std::sync::Wait;
 use std::thread::Threads;
 use std::time::Instant;
@@ -30,13 +36,18 @@ use test_alloc::Budget;
 
 const USAGE: &str = "usage: test_stress SEED SECONDS PAIRS CALLS";
 
+/// The number of shards: few, so that threads meet in each.
+const SHARDS: usize = 3;
+
 /// The names of the collections.
-const FORMS: [&str; 7] = [
+const FORMS: [&str; 9] = [
     "LockFreeFrozenVec",
     "LockFreeFrozenMap",
     "FrozenVec",
     "FrozenMap",
     "FrozenBTreeMap",
+    "ShardedMap",
+    "LockFreeShardedMap",
     "SharedInterner",
     "Recorder",
 ];
@@ -69,6 +80,14 @@ fn of_form<R: Threads + Wait + Sync>(
         "FrozenBTreeMap" => {
             let map = FrozenBTreeMap::new(heap);
             form::runs_well(rt, alloc, heap, &OrderedMap { map }, script)
+        }
+        "ShardedMap" => {
+            let map = ShardedMap::with_shards(heap, SHARDS, BuildHasherDefault::new())?;
+            form::runs_well(rt, alloc, heap, &LockedShards { map }, script)
+        }
+        "LockFreeShardedMap" => {
+            let map = LockFreeShardedMap::with_shards(heap, SHARDS, BuildHasherDefault::new())?;
+            form::runs_well(rt, alloc, heap, &FreeShards { map: &map }, script)
         }
         "SharedInterner" => {
             let names = SharedInterner::new(alloc)?;

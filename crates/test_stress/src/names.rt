@@ -2,7 +2,7 @@
 //! entry's key.
 ghost use Rattle.std.specs.Prelude.{◌≡◌};
 
-use crate::form::{Form, KEYS};
+use crate::form::Form;
 use crate::script::Entry;
 use elsa::interner::{Name, NamePass, SharedInterner};
 use itoa::Buffer;
@@ -63,7 +63,7 @@ impl Form for Names {
     }
 
     fn has<R: Wait>(&self, rt: &R, pass: &mut NamePass, _new: u64) -> bool {
-        for number in 0..KEYS {
+        for number in 0..u64::MAX {
             match self.at(rt, pass, number) {
                 Some(there) => if there.number != number {
                     return false;
@@ -71,7 +71,7 @@ impl Form for Names {
                 None => return true,
             }
         }
-        self.names.at(pass, KEYS as usize).is_none()
+        false
     }
 
     fn meet(&self, one: &mut NamePass, other: &mut NamePass) -> bool {
