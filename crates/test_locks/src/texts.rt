@@ -3,8 +3,10 @@
 use elsa_hash::seeded::SeededState;
 use elsa_locks::map::{FrozenBTreeMap, FrozenMap};
 use std::alloc::{AllocError, Global};
+use std::hash::{BuildHasherDefault, FoldHasher};
 use std::sync::{Arc, Wait};
 use std::test::Fail;
+use test_alloc::Budget;
 
 type Texts = FrozenMap<String, u64, SeededState>;
 
@@ -112,5 +114,47 @@ fn a_text_that_lives_shorter_than_the_keys_is_not_found(rt: HostRuntime) -> Resu
     let ordered: FrozenBTreeMap<&'static str, u64> = FrozenBTreeMap::new(rt.alloc());
     ordered.insert(&rt, "five", 5)?;
     assert!(rt; is_asked_in_order(&rt, &ordered, key.as_str())?);
+    Ok(())
+}
+
+type Heap<'b> = &'b Budget<Global>;
+
+type Budgeted<'b> = FrozenMap<String<Heap<'b>>, u64, BuildHasherDefault<FoldHasher>, Heap<'b>>;
+
+// The texts of the map, and their number.
+const TEXTS: [&str; 9] = ["a", "b", "c", "d", "e", "f", "g", "h", ""];
+
+// Returns whether the text has this value, and an insertion of another one keeps it.
+fn keeps_a_present_text(rt: &impl Wait, map: &Budgeted<'_>, text: &str, value: u64) -> bool {
+    let kept = matches!(map.insert_text(rt, text, 99), Ok(there) if *there == value);
+    kept && map.get_copy(rt, text) == Some(value)
+}
+
+// Inserts the texts, each with its index.
+fn inserts_texts(rt: &impl Wait, map: &Budgeted<'_>) -> Result<(), AllocError> {
+    for (index, text) in TEXTS.iter().enumerate() {
+        let _ = map.insert_text(rt, *text, index as u64)?;
+    }
+    Ok(())
+}
+
+// Returns whether calls with present texts return the values while each request fails.
+fn present_texts_take_no_memory(rt: &impl Wait, heap: Heap<'_>) -> Result<bool, AllocError> {
+    let map: Budgeted<'_> = FrozenMap::new(heap);
+    inserts_texts(rt, &map)?;
+    heap.refuse_next(u64::MAX);
+    let asked = heap.asked();
+    for (index, text) in TEXTS.iter().enumerate() {
+        if !keeps_a_present_text(rt, &map, *text, index as u64) {
+            return Ok(false);
+        }
+    }
+    Ok(heap.asked() == asked)
+}
+
+#[test]
+fn a_present_text_is_copied(rt: HostRuntime) -> Result<(), Fail> {
+    let heap = Budget::new(rt.alloc());
+    assert!(rt; present_texts_take_no_memory(&rt, &heap)?);
     Ok(())
 }

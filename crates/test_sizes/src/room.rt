@@ -1,0 +1,121 @@
+//! Reserved capacity: it is there, it is at most eight times the capacity that was requested, and
+//! insertions in it make no request.
+use crate::grows::Grows;
+use crate::kinds::Hasher;
+use elsa::interner::Interner;
+use elsa::{FrozenIndexMap, FrozenIndexSet, FrozenMap, FrozenSet, FrozenVec, Own};
+use std::alloc::{AllocError, Allocator, Global};
+use test_alloc::Budget;
+
+/// A collection whose capacity can be reserved.
+pub trait Roomy: Grows {
+    fn reserve(&mut self, additional: usize) -> Result<(), AllocError>;
+
+    fn capacity(&self) -> usize;
+}
+
+impl<A: Allocator + Copy> Roomy for FrozenVec<'_, Own<u64>, A> {
+    fn reserve(&mut self, additional: usize) -> Result<(), AllocError> {
+        self.reserve(additional)
+    }
+
+    fn capacity(&self) -> usize {
+        self.capacity()
+    }
+}
+
+impl<A: Allocator + Copy> Roomy for FrozenMap<'_, u64, Own<u64>, Hasher, A> {
+    fn reserve(&mut self, additional: usize) -> Result<(), AllocError> {
+        self.reserve(additional)
+    }
+
+    fn capacity(&self) -> usize {
+        self.capacity()
+    }
+}
+
+impl<A: Allocator + Copy> Roomy for FrozenIndexMap<'_, u64, Own<u64>, Hasher, A> {
+    fn reserve(&mut self, additional: usize) -> Result<(), AllocError> {
+        self.reserve(additional)
+    }
+
+    fn capacity(&self) -> usize {
+        self.capacity()
+    }
+}
+
+impl<A: Allocator + Copy> Roomy for FrozenIndexSet<'_, Own<u64>, Hasher, A> {
+    fn reserve(&mut self, additional: usize) -> Result<(), AllocError> {
+        self.reserve(additional)
+    }
+
+    fn capacity(&self) -> usize {
+        self.capacity()
+    }
+}
+
+impl<A: Allocator + Copy> Roomy for FrozenSet<'_, u64, Hasher, A> {
+    fn reserve(&mut self, additional: usize) -> Result<(), AllocError> {
+        self.reserve(additional)
+    }
+
+    fn capacity(&self) -> usize {
+        self.capacity()
+    }
+}
+
+impl<A: Allocator + Copy> Roomy for Interner<'_, Hasher, A> {
+    fn reserve(&mut self, additional: usize) -> Result<(), AllocError> {
+        self.reserve(additional)
+    }
+
+    fn capacity(&self) -> usize {
+        self.capacity()
+    }
+}
+
+/// Inserts the keys from `from` to `to - 1` while each request of the table fails. Returns whether
+/// each insertion succeeded.
+fn inserts_without_memory<G: Grows>(
+    heap: &Budget<Global>,
+    grown: &mut G,
+    from: u64,
+    to: u64,
+) -> bool {
+    let asked = heap.asked();
+    heap.refuse(asked, u64::MAX);
+    for key in from..to {
+        if grown.insert(key, key) != Ok(key) {
+            return false;
+        }
+    }
+    heap.refuse_next(0);
+    heap.asked() == asked
+}
+
+/// Reserves room for `size` entries, twice. Returns whether the room is there, and at most eight
+/// times as large.
+///
+/// # Errors
+/// Fails if the room can't be allocated.
+pub fn has_room<G: Roomy>(
+    heap: &Budget<Global>,
+    grown: &mut G,
+    size: u64,
+) -> Result<bool, AllocError> {
+    for round in 0..2_u64 {
+        let (from, to) = (
+            round.wrapping_mul(size),
+            round.wrapping_add(1).wrapping_mul(size),
+        );
+        grown.reserve(size as usize)?;
+        let room = grown.capacity() as u64;
+        if room < to || room > to.wrapping_mul(8).wrapping_add(64) {
+            return Ok(false);
+        }
+        if !inserts_without_memory(heap, grown, from, to) {
+            return Ok(false);
+        }
+    }
+    Ok(true)
+}
