@@ -1,1 +1,2 @@
+pub mod MeetLemmas
 pub mod ShardLemmas

@@ -1,8 +1,8 @@
 //! [`LockFreeShardedMap`]: a map of shards whose look-ups take no lock.
-ghost use Rattle.std.specs.Prelude.{◌≡◌, ◌<◌, ◌≤◌, true, IfOk, IfErr, IfSome, IfNone, length, map};
+ghost use Rattle.std.specs.Prelude.{◌≡◌, ◌<◌, ◌≤◌, [], true, All, IfOk, IfErr, IfSome, IfNone, length, map};
 ghost use Rattle.elsa_lock_free.specs.SharedList.{Continues, IsLaterPass, items_of, mine};
 ghost use Rattle.elsa_lock_free_map.specs.Entries.{Has, InsertsOnce, Lacks};
-ghost use Rattle.elsa_shards.specs.Shards.{AllContinue, OnShard, seen_in_all, shard_of};
+ghost use Rattle.elsa_shards.specs.Shards.{AllContinue, AllMeet, IsSameMap, OnShard, seen_in_all, shard_of};
 
 use crate::map::{SHARDS, index_of};
 use elsa_lock_free_map::handle::MapHandle;
@@ -112,6 +112,7 @@ impl<K: Drop + Hash, V: Drop, S: BuildHasher + Copy + Drop, A: Allocator + Copy>
     pub fn handle(&self) -> Result<ShardedHandle<'_, K, V, S, A>, AllocError>
         ensures same_vectors { IfOk result (λ h. map (λ v. v.vector) h.0 ≡ self.now.0) }
         ensures same_hasher { IfOk result (λ h. h.1 ≡ self.now.1) }
+        ensures nothing_seen { IfOk result (λ h. All (λ v. (v.seen ≡ []) × (mine v ≡ [])) h.0) }
     {
         let mut handles = Vec::with_capacity(self.alloc, self.shards.len())?;
         for shard in &self.shards {
@@ -203,7 +204,7 @@ impl<'m, K: Drop + Hash, V: Drop, S: BuildHasher + Copy + Drop, A: Allocator + C
     /// # Cost
     /// The number of shards.
     pub fn len(&mut self) -> usize
-        ensures same_hasher { self.new.1 ≡ self.old.1 }
+        ensures same_map { IsSameMap self.old self.new }
         ensures continues { AllContinue self.old.0 self.new.0 }
         ensures length { result ≡ seen_in_all self.new.0 }
     {
@@ -211,6 +212,21 @@ impl<'m, K: Drop + Hash, V: Drop, S: BuildHasher + Copy + Drop, A: Allocator + C
             handle.len();
         }
         self.seen_len()
+    }
+
+    /// Merges what two handles of a map have observed: of each shard, both have then observed the
+    /// longer list. It takes no atomic step, allocates nothing and never blocks.
+    ///
+    /// # Cost
+    /// The number of shards.
+    pub fn meet(&mut self, other: &mut ShardedHandle<'_, K, V, S, A>)
+        requires same_vectors { map (λ v. v.vector) self.old.0 ≡ map (λ v. v.vector) other.old.0 }
+        ensures same_map { IsSameMap self.old self.new × IsSameMap other.old other.new }
+        ensures met { AllMeet self.old.0 self.new.0 other.old.0 other.new.0 }
+    {
+        for index in 0..self.handles.len() {
+            self.handles[index].meet(&mut other.handles[index]);
+        }
     }
 
     /// Returns a reference to the value of a key, or `None` if no entry of the key's shard that the
@@ -223,7 +239,7 @@ impl<'m, K: Drop + Hash, V: Drop, S: BuildHasher + Copy + Drop, A: Allocator + C
     /// # Cost
     /// Two hashes and one search.
     pub fn get_ref<Q: Equivalent<K>>(&mut self, query: Q) -> Option<&'m V>
-        ensures same_hasher { self.new.1 ≡ self.old.1 }
+        ensures same_map { IsSameMap self.old self.new }
         ensures on_shard { OnShard self.old.0 self.new.0
             (shard_of S.BuildHasher S.Hasher.Hasher self.old.1 (length self.old.0)
             (Q.hash_input query))
@@ -257,7 +273,7 @@ impl<'m, K: Drop + Hash, V: Drop, S: BuildHasher + Copy + Drop, A: Allocator + C
         key: K,
         value: V,
     ) -> Result<Inserted<&'m V>, AllocError>
-        ensures same_hasher { self.new.1 ≡ self.old.1 }
+        ensures same_map { IsSameMap self.old self.new }
         ensures on_shard { OnShard self.old.0 self.new.0
             (shard_of S.BuildHasher S.Hasher.Hasher self.old.1 (length self.old.0)
             (K.hash_input key))
@@ -285,7 +301,7 @@ impl<
     /// # Cost
     /// Two hashes and one search.
     pub fn get(&mut self, key: K) -> Option<V>
-        ensures same_hasher { self.new.1 ≡ self.old.1 }
+        ensures same_map { IsSameMap self.old self.new }
         ensures on_shard { OnShard self.old.0 self.new.0
             (shard_of S.BuildHasher S.Hasher.Hasher self.old.1 (length self.old.0)
             (K.hash_input key))
@@ -310,7 +326,7 @@ impl<
     /// # Cost
     /// Two hashes and one search.
     pub fn insert<R: Wait>(&mut self, rt: &R, key: K, value: V) -> Result<Inserted<V>, AllocError>
-        ensures same_hasher { self.new.1 ≡ self.old.1 }
+        ensures same_map { IsSameMap self.old self.new }
         ensures on_shard { OnShard self.old.0 self.new.0
             (shard_of S.BuildHasher S.Hasher.Hasher self.old.1 (length self.old.0)
             (K.hash_input key))
@@ -345,7 +361,7 @@ impl<
         make: F,
     ) -> Result<Inserted<V>, AllocError>
         requires callable { F.pre make }
-        ensures same_hasher { self.new.1 ≡ self.old.1 }
+        ensures same_map { IsSameMap self.old self.new }
         ensures on_shard { OnShard self.old.0 self.new.0
             (shard_of S.BuildHasher S.Hasher.Hasher self.old.1 (length self.old.0)
             (K.hash_input key))

@@ -167,3 +167,25 @@ fn a_failed_allocation_changed_the_lock_free_map(rt: HostRuntime) -> Result<(), 
     assert!(rt; keeps_its_content(&rt, &map, &budget)?);
     Ok(())
 }
+
+// Inserts two keys by each of two handles, and merges them. Returns whether each handle then has
+// observed the four entries, of which the first had observed two.
+fn observes_after_meeting(rt: &impl Wait, map: &Numbers) -> Result<bool, AllocError> {
+    let (mut one, mut two) = (map.handle()?, map.handle()?);
+    let _ = one.insert(rt, 1, 10)?;
+    let _ = one.insert(rt, 2, 20)?;
+    let _ = two.insert(rt, 3, 30)?;
+    let _ = two.insert(rt, 4, 40)?;
+    let before = one.seen_len();
+    one.meet(&mut two);
+    Ok(before == 2 && one.seen_len() == 4 && two.seen_len() == 4)
+}
+
+#[test]
+fn a_handle_lacks_what_another_had_observed(rt: HostRuntime) -> Result<(), Fail> {
+    for count in [1_usize, 7, 64] {
+        let map = with_shards(rt.alloc(), count)?;
+        assert!(rt; observes_after_meeting(&rt, &map)?, "{count} shards");
+    }
+    Ok(())
+}
