@@ -1,5 +1,5 @@
 -- What an insertion leaves of the entries, if a new entry is the last one.
-use Rattle.std.proofs.Common.{◌≡◌, ◌↔◌, Bool, is_some, true, false, true≢false, Result, Ok, Err, IfOk, OnErr, List, [], ◌∷◌, ◌++◌, None, Option, Some, refl, sym, ap, subst, ◌∙◌}
+use Rattle.std.proofs.Common.{◌≡◌, ◌↔◌, Bool, is_some, true, true≢false, Result, Ok, Err, IfOk, OnErr, List, [], ◌∷◌, ◌++◌, None, Option, Some, refl, sym, ap, subst, ◌∙◌}
 use Rattle.std.proofs.lemmas.List.{append-nil}
 use Rattle.elsa_tables.specs.Tables.{was_present}
 use Rattle.elsa_tables.specs.declared.put.Inserted.{Inserted}

@@ -1,6 +1,6 @@
 //! [`By`]: each [`Query`] as a query of code over any map implementation.
 use crate::map::AppendMap;
-use crate::query::Query;
+use elsa_buckets::query::Query;
 use elsa_tables::Seeks;
 use std::alloc::Allocator;
 use std::hash::{BuildHasher, Hash};

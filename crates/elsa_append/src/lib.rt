@@ -9,9 +9,8 @@
 mod by;
 mod frozen;
 mod map;
-mod query;
 
 pub use by::By;
+pub use elsa_buckets::query::Query;
 pub use frozen::{FrozenAppendMap, FrozenAppendMapIn, keeps_earlier_pairs};
 pub use map::{AppendMap, RoomFault};
-pub use query::Query;

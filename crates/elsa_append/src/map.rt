@@ -4,11 +4,12 @@ ghost use Rattle.std.specs.List.{IsDistinct};
 ghost use Rattle.std.specs.Map.{keys_of, lookup, lookup_key};
 ghost use Rattle.std.specs.Option.{option_map};
 ghost use Rattle.elsa_specs.specs.Insertions.{IsCloneOf};
-ghost use Rattle.elsa_append.specs.Placed.{key_hash, most_entries, IfRoomFault, IsFull, IsPlaced};
+ghost use Rattle.elsa_append.specs.Placed.{most_entries, IfRoomFault, IsFull};
+ghost use Rattle.elsa_buckets.specs.Placed.{key_hash, IsPlaced};
 ghost use Rattle.elsa_buckets.specs.Table.{IsVacancy};
 
-use crate::query::Query;
-use elsa_buckets::table::{PlaceTable, Vacancy};
+use elsa_buckets::query::{self, Missing, Query};
+use elsa_buckets::table::PlaceTable;
 use elsa_tables::{IntoPairs, Put, Refusal, Table};
 use std::alloc::{AllocError, Allocator, Global};
 use std::error::Error;
@@ -39,22 +40,6 @@ impl fmt::Display for RoomFault {
 
 impl Error for RoomFault {}
 
-/// Returns the 32 bits of hash under which the table has `key`.
-#[inline(always)]
-fn hash_of<Q: Hash + Copy, S: BuildHasher>(hash_builder: &S, key: Q) -> u32
-    ensures { result ≡ key_hash S.BuildHasher S.Hasher.Hasher hash_builder.now (Q.hash_input key) }
-{
-    let hash = hash_builder.hash_one(key);
-    ((hash ^ (hash >> 32)) & 0xFFFF_FFFF) as u32
-}
-
-/// The end of a search that found no key: the hash, and the bucket for a new index.
-#[derive(Clone, Copy)]
-struct Missing {
-    hash: u32,
-    end: Vacancy,
-}
-
 /// Returns the index of the entry that `query` finds, or `Err` with the end of the search.
 #[inline(always)]
 fn search<K: Eq + Hash, B, Q: Query<K>, S: BuildHasher, A: Allocator + Copy>(
@@ -65,7 +50,7 @@ fn search<K: Eq + Hash, B, Q: Query<K>, S: BuildHasher, A: Allocator + Copy>(
 ) -> Result<usize, Missing>
     requires { IsPlaced K.eq (λ k.
         key_hash S.BuildHasher S.Hasher.Hasher hash_builder.now (K.hash_input k))
-        table.now pairs.now }
+        table.now (keys_of pairs.now) }
 
     // The index of the first key that the query finds, and the entry there.
     ensures found { IfOk result (λ i. position (Q.finds query) (keys_of pairs.now) ≡ Some i) }
@@ -83,16 +68,12 @@ fn search<K: Eq + Hash, B, Q: Query<K>, S: BuildHasher, A: Allocator + Copy>(
     ensures hashed { IfErr result (λ m. m.hash
         ≡ key_hash S.BuildHasher S.Hasher.Hasher hash_builder.now (Q.hash_input query)) }
 {
-    let hash = hash_of(hash_builder, query);
     let is_it = |place|
         requires { place < length pairs.now }
         ensures { (d : K × B) →
             result ≡ Q.finds query (slice_index_or pairs.entry.now place d).0 }
     { query.finds(&pairs[place].0) };
-    match table.search(hash, is_it) {
-        Ok(place) => Ok(place),
-        Err(end) => Err(Missing { hash, end }),
-    }
+    query::search(table, hash_builder, query, is_it)
 }
 
 /// Clones each key, and copies each value.
@@ -138,11 +119,12 @@ impl<K: Eq + Hash, B, S: BuildHasher, A: Allocator + Copy> Model for AppendMap<K
 
     ghost view = { λ m. m.pairs.items };
 
-    ghost use Rattle.elsa_append.specs.Placed.{key_hash, IsPlaced};
+    ghost use Rattle.std.specs.Map.{keys_of};
+    ghost use Rattle.elsa_buckets.specs.Placed.{key_hash, IsPlaced};
 
     ghost invariant = { λ m. IsPlaced K.eq (λ k.
         key_hash S.BuildHasher S.Hasher.Hasher m.hash_builder (K.hash_input k))
-        m.table m.pairs.items };
+        m.table (keys_of m.pairs.items) };
 }
 
 impl<K: Eq + Hash, B, A: Allocator + Copy> AppendMap<K, B, BuildHasherDefault<FoldHasher>, A> {

@@ -5,7 +5,10 @@
 //! bits of hash, and the index. The table doesn't see the items: the caller of a search decides
 //! which index is the right one. A search that finds nothing ends at the bucket into which the
 //! item's index would go, so an item that is looked up and then added is searched for once.
+//!
+//! [`query`] has the values by which a collection looks its keys up in such a table.
 #![tactic(auto)]
 
+pub mod query;
 mod slots;
 pub mod table;

@@ -1,6 +1,7 @@
 use Rattle.std.proofs.Common.{◌≡◌, true, ap, subst, sym}
+use Rattle.std.specs.Map.{keys_of}
 use Rattle.elsa_specs.specs.Insertions.{IsCloneOf}
-use Rattle.elsa_append.specs.Placed.{key_hash, IsPlaced}
+use Rattle.elsa_buckets.specs.Placed.{key_hash, IsPlaced}
 use Rattle.elsa_append.proofs.PlacedLemmas.{placed_clones}
 use Rattle.elsa_append.proofs.map.AppendMap.clone.Goals as goal
 
@@ -12,5 +13,5 @@ invariant_of-result g c =
     let es = c.self.inside.pairs.items in
     let cs = c.in_ok-pairs.pairs.items in
     let clones = subst (λ l. IsCloneOf same g.K.Clone.is_clone l cs) c.as_slice.ensures.value c.in_ok-pairs.ensures in
-    subst (λ t. IsPlaced same hash t cs) (sym c.in_ok-table.ensures)
+    subst (λ t. IsPlaced same hash t (keys_of cs)) (sym c.in_ok-table.ensures)
     (placed_clones same g.met.K.Eq.laws hash g.K.Clone.is_clone c.self.inside.table es cs respects c.self.invariant clones)

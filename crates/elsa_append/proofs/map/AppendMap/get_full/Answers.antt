@@ -1,14 +1,15 @@
-use Rattle.std.proofs.Common.{Some, slice_get, ap, subst, sym, ◌∙◌}
+use Rattle.std.proofs.Common.{Some, List, slice_get, ap, subst, sym, ◌∙◌}
+use Rattle.std.specs.Map.{keys_of}
 use Rattle.std.specs.Prelude.{slice_index_or}
 use Rattle.std.proofs.lemmas.List.{get_or_default}
 use Rattle.std.proofs.lemmas.Option.{slice_get-get_or}
-use Rattle.elsa_append.specs.Placed.{key_hash, IsPlaced}
+use Rattle.elsa_buckets.specs.Placed.{key_hash, IsPlaced}
 use Rattle.elsa_append.proofs.map.AppendMap.get_full.Goals as goal
 
 pub search-requires : goal.search-requires
 search-requires g c =
     let hash = λ (k : g.row.K.Denot). key_hash g.S.BuildHasher g.S.Hasher.Hasher c.self.inside.hash_builder (g.K.Hash.hash_input k) in
-    subst (IsPlaced g.K.PartialEq.eq hash c.self.inside.table) (sym c.as_slice-pairs.ensures.value) c.self.invariant
+    subst (λ (l : List (g.row.K.Denot × g.row.B.Denot)). IsPlaced g.K.PartialEq.eq hash c.self.inside.table (keys_of l)) (sym c.as_slice-pairs.ensures.value) c.self.invariant
 
 pub returns-in-Ok-clause-entry : goal.returns-in-Ok-clause-entry
 returns-in-Ok-clause-entry g c =

@@ -1,4 +1,4 @@
-use Rattle.elsa_append.proofs.PlacedLemmas.{placed_none}
+use Rattle.elsa_buckets.proofs.PlacedLemmas.{placed_none}
 use Rattle.elsa_append.proofs.map.AppendMap.with_hasher.Goals as goal
 
 pub invariant_of-result : goal.invariant_of-result

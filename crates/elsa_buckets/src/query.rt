@@ -1,14 +1,18 @@
-//! The values by which a key is looked up.
-ghost use Rattle.std.specs.Prelude.{◌≡◌, Bool, IsTrue};
+//! The values by which a key is looked up ([`Query`]), and the search of a table for the index of a
+//! key.
+ghost use Rattle.std.specs.Prelude.{◌≡◌, ℕ, Bool, IsTrue, List, None, Some, IfErr, IfOk, OnErr, position};
 ghost use Rattle.std.proofs.Common.{ap};
 ghost use Rattle.std.specs.Cmp.Lexicographic.{bytes_decides, lists_equiv, nat_list_eq_equiv, pointwise};
 ghost use Rattle.std.specs.Hash as fed;
 ghost use Rattle.std.specs.Hash.{items_Alike};
 ghost use Rattle.std.specs.Str.{bytes_eq};
 ghost use Rattle.std.specs.String.{string_bytes};
+ghost use Rattle.elsa_buckets.specs.Placed.{key_hash, AreCompared, IsPlaced};
+ghost use Rattle.elsa_buckets.specs.Table.{Has, IsVacancy};
 
+use crate::table::{PlaceTable, Vacancy};
 use std::alloc::Allocator;
-use std::hash::Hash;
+use std::hash::{BuildHasher, Hash};
 
 /// A query of the maps with keys `K`: it is hashed like the keys that it finds.
 ///
@@ -92,5 +96,58 @@ impl<U: Eq + Hash, A: Allocator> Query<Vec<U, A>> for &[U] {
     #[inline(always)]
     fn finds(&self, key: &Vec<U, A>) -> bool {
         *self == key.as_slice()
+    }
+}
+
+/// Returns the 32 bits of hash under which a table has `key`.
+#[inline(always)]
+pub fn hash_of<Q: Hash + Copy, S: BuildHasher>(hash_builder: &S, key: Q) -> u32
+    ensures { result ≡ key_hash S.BuildHasher S.Hasher.Hasher hash_builder.now (Q.hash_input key) }
+{
+    let hash = hash_builder.hash_one(key);
+    ((hash ^ (hash >> 32)) & 0xFFFF_FFFF) as u32
+}
+
+/// The end of a search that found no key: the hash, and the bucket for a new index.
+#[derive(Clone, Copy)]
+pub struct Missing {
+    /// The hash of the query.
+    pub hash: u32,
+    /// The bucket, for [`PlaceTable::reserve`].
+    pub end: Vacancy,
+}
+
+/// Returns the index of the key that `query` finds, or `Err` with the end of the search, in a table
+/// that has the indices of a list of distinct keys.
+///
+/// `is_it` returns whether the query finds the key at an index. It is called only for indices that
+/// the table has under the query's hash. The search allocates nothing.
+///
+/// # Cost
+/// One hash, and `O(1)` if the hashes are well distributed.
+#[inline(always)]
+pub fn search<K: Eq + Hash, Q: Query<K>, S: BuildHasher, A: Allocator + Copy, F: Fn(usize) -> bool>(
+    table: &PlaceTable<A>,
+    hash_builder: &S,
+    query: Q,
+    is_it: F,
+) -> Result<usize, Missing>
+    requires { (hash place : ℕ) → Has table.now hash place → F.pre is_it place }
+
+    // If the table is for `keys`, and `is_it` compares them with the query.
+    ensures found { IfOk result (λ i. (keys : List K) → IsPlaced K.eq (λ k.
+        key_hash S.BuildHasher S.Hasher.Hasher hash_builder.now (K.hash_input k)) table.now keys
+        → AreCompared (F.post is_it) (Q.finds query) keys → position (Q.finds query) keys ≡ Some i) }
+    ensures absent { OnErr result ((keys : List K) → IsPlaced K.eq (λ k.
+        key_hash S.BuildHasher S.Hasher.Hasher hash_builder.now (K.hash_input k)) table.now keys
+        → AreCompared (F.post is_it) (Q.finds query) keys → position (Q.finds query) keys ≡ None) }
+    ensures vacancy { IfErr result (λ m. IsVacancy table.now m.hash m.end) }
+    ensures hashed { IfErr result (λ m. m.hash
+        ≡ key_hash S.BuildHasher S.Hasher.Hasher hash_builder.now (Q.hash_input query)) }
+{
+    let hash = hash_of(hash_builder, query);
+    match table.search(hash, is_it) {
+        Ok(place) => Ok(place),
+        Err(end) => Err(Missing { hash, end }),
     }
 }

@@ -1,8 +1,8 @@
 use Rattle.std.proofs.Common.{◌/◌, ◌%◌, ◌^◌, ap, ◌∙◌}
 use Rattle.std.specs.Prelude.{bit_xor}
 use Rattle.std.proofs.lemmas.Nat.{and_mask}
-use Rattle.elsa_append.specs.Placed.{key_hash}
-use Rattle.elsa_append.proofs.map.hash_of.Goals as goal
+use Rattle.elsa_buckets.specs.Placed.{key_hash}
+use Rattle.elsa_buckets.proofs.query.hash_of.Goals as goal
 
 pub returns : goal.returns
 unfolding key_hash

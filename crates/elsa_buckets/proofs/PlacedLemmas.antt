@@ -1,0 +1,123 @@
+-- What the hash table's indices show of the keys, and what an insertion leaves.
+use Rattle.std.proofs.Common.{◌≡◌, ℕ, ◌+◌, ◌<◌, ◌⊎◌, Bool, true, false, List, [], ◌∷◌, ◌++◌, cond, length, get_or, position, slice_get, None, Some, refl, ap, subst, sym, ◌∙◌, inl, inr, arith}
+use Rattle.std.proofs.lemmas.Bool.{both_ways, cases_Bool, cases_lt, lt-ltb, le-ltb}
+use Rattle.std.proofs.lemmas.List.{length-append, get_or_append_left, get_or_push}
+use Rattle.std.proofs.lemmas.List.Folds.{Any-from_list_any}
+use Rattle.std.proofs.lemmas.List.Sums.{fails_before_first, position_or_len_is}
+use Rattle.std.proofs.lemmas.Option.{none-some, slice_get_cases, slice_get_within, slice_get-get_or, get_or_from_slice_get}
+use Rattle.std.proofs.lemmas.Map.Keys.{IsDistinct-push, apart_from_distinct}
+use Rattle.std.specs.Cmp.{IsEquivalence}
+use Rattle.std.specs.Bool.{nat_lt}
+use Rattle.std.specs.List.{IsDistinct, list_any, position_or_len}
+use Rattle.std.specs.Map.{IsKeyTest}
+use Rattle.elsa_buckets.specs.Table.{Entries, places, Has, HasSame, AddsPlace}
+use Rattle.elsa_buckets.specs.Placed.{IsPlaced}
+
+-- After a push, an item of the list is an earlier item or the pushed one.
+split_last : {X : Type 0} (xs : List X) (x : X) (i : ℕ) (y : X) → slice_get (xs ++ x ∷ []) i ≡ Some y → (slice_get xs i ≡ Some y) ⊎ ((i ≡ length xs) × (x ≡ y))
+split_last xs x i y there = elim ((slice_get_cases xs i).1) [
+  | inl h ↦ inl (slice_get-get_or xs i y h.1 ∙ ap Some (sym (get_or_append_left xs (x ∷ []) y i h.1) ∙ get_or_from_slice_get (xs ++ x ∷ []) i y y there))
+  | inr h ↦
+      let within = slice_get_within (xs ++ x ∷ []) i y there in
+      let last : i ≡ length xs = omega (arith, h.0, within, length-append xs (x ∷ [])) in
+      inr (last, sym (get_or_push xs x y i (sym last)) ∙ get_or_from_slice_get (xs ++ x ∷ []) i y y there)
+]
+
+module _ {K : Type 0} (test : K → Bool) (keys : List K) where
+  -- The first index is that of `position`.
+  is_at : (i : ℕ) → position_or_len test keys ≡ i → i < length keys → position test keys ≡ Some i
+  is_at i e within = ap (λ n. cond (nat_lt n (length keys)) (Some n) None) e ∙ ap (λ b. cond b (Some i) None) (lt-ltb i _ within)
+
+  is_nowhere : position_or_len test keys ≡ length keys → position test keys ≡ None
+  is_nowhere e = ap (λ n. cond (nat_lt n (length keys)) (Some n) None) e ∙ ap (λ b. cond b (Some (length keys)) None) (le-ltb (length keys) (length keys) (omega arith))
+
+  -- If no key is found, none passes the test.
+  none_passes : position test keys ≡ None → list_any test keys ≡ false
+  none_passes none = elim (cases_Bool (list_any test keys)) [
+    | inl pass ↦ elim (cases_lt (position_or_len test keys) (length keys)) [
+      | inl within ↦ absurd (none-some _ (sym none ∙ is_at (position_or_len test keys) refl within))
+      | inr past ↦
+          let found = Any-from_list_any test keys pass in
+          let k = found.0 in let x = found.1 in
+          absurd (both_ways (test x) (ap test (sym found.3) ∙ fails_before_first test keys k x (omega (arith, found.2, past))) found.4)
+    ]
+    | inr fail ↦ fail
+  ]
+
+module _ {K : Type 0} (same : K → K → Bool) (laws : IsEquivalence same) (hash : K → ℕ) where
+  -- The accepted index is the index of the first key that the test finds.
+  pub found_here : (test : K → Bool) → IsKeyTest same test → (table : Entries) (keys : List K) (i : ℕ) (key : K) → IsPlaced same hash table keys → slice_get keys i ≡ Some key → test key ≡ true
+      → position test keys ≡ Some i
+  found_here test one table keys i key placed at passes =
+      let within = slice_get_within keys i key at in
+      let here : get_or keys i key ≡ key = get_or_from_slice_get keys i key key at in
+      is_at test keys i
+      (position_or_len_is test keys i key (omega (arith, within))
+      (λ j lt. elim (cases_Bool (test (get_or keys j key))) [
+        | inl pass ↦ absurd (both_ways (test key) (one (get_or keys j key) key pass ∙ (ap (same (get_or keys j key)) (sym here) ∙ apart_from_distinct same keys j i key placed.distinct lt within)) passes)
+        | inr fail ↦ fail
+      ])
+      (λ _. ap test here ∙ passes))
+      within
+
+  -- The table has the accepted index under some hash.
+  pub found_at : (test : K → Bool) → IsKeyTest same test → (table : Entries) (keys : List K) (h i : ℕ) → IsPlaced same hash table keys → Has table h i → ((k : K) → slice_get keys i ≡ Some k → test k ≡ true)
+      → position test keys ≡ Some i
+  found_at test one table keys h i placed has passes = elim ((slice_get_cases keys i).1) [
+    | inl here ↦ found_here test one table keys i here.0 placed here.2 (passes here.0 here.2)
+    | inr past ↦ absurd (omega (arith, past.0, placed.within h i has))
+  ]
+
+  -- If the search rejected each index with the hash, the test finds no key.
+  pub found_nowhere : (test : K → Bool) (table : Entries) (keys : List K) (h : ℕ) → IsPlaced same hash table keys → ((k : K) → test k ≡ true → h ≡ hash k)
+      → ((p : ℕ) (k : K) → Has table h p → slice_get keys p ≡ Some k → test k ≡ false) → position test keys ≡ None
+  found_nowhere test table [] h placed agrees rejected = refl
+  found_nowhere test table (x ∷ xs) h placed agrees rejected =
+      let keys = x ∷ xs in
+      is_nowhere test keys
+      (position_or_len_is test keys (length keys) x (omega arith)
+      (λ j lt.
+      let k = get_or keys j x in
+      let at = slice_get-get_or keys j x lt in
+      elim (cases_Bool (test k)) [
+        | inl pass ↦ rejected j k (subst (λ n. Has table n j) (sym (agrees k pass)) (placed.entered j k at)) at
+        | inr fail ↦ fail
+      ])
+      (λ lt. absurd (omega (arith, lt))))
+
+  -- The table has the index of a new last key.
+  pub placed_put : (before after : Entries) (keys : List K) (key : K) (h place : ℕ) → IsPlaced same hash before keys → h ≡ hash key → place ≡ places before
+      → places after ≡ places before + 1 → AddsPlace before h place after → position (same key) keys ≡ None → IsPlaced same hash after (keys ++ key ∷ [])
+  placed_put before after keys key h place old hashed placed more adds none = record {
+    distinct = IsDistinct-push laws keys key old.distinct (none_passes (same key) keys none);
+    counted = omega (arith, more, old.counted, length-append keys (key ∷ []));
+    entered = λ i k there. elim (split_last keys key i k there) [
+      | inl earlier ↦ adds.kept (hash k) i (old.entered i k earlier)
+      | inr last ↦
+          let at : place ≡ i = omega (arith, placed, old.counted, last.0) in
+          subst (λ n. Has after (hash k) n) at (subst (λ n. Has after n place) (hashed ∙ ap hash last.1) adds.added)
+    ];
+    within = λ x p has. elim (adds.only x p has) [
+      | inl earlier ↦ omega (arith, old.within x p earlier, length-append keys (key ∷ []))
+      | inr last ↦ omega (arith, last.1, placed, old.counted, length-append keys (key ∷ []))
+    ];
+  }
+
+  -- A table with the same indices is for the same keys.
+  pub placed_same : (before after : Entries) (keys : List K) → IsPlaced same hash before keys → places after ≡ places before → HasSame before after → IsPlaced same hash after keys
+  placed_same before after keys old count stays = record {
+    distinct = old.distinct;
+    counted = count ∙ old.counted;
+    entered = λ i k there. stays.kept (hash k) i (old.entered i k there);
+    within = λ h p has. old.within h p (stays.only h p has);
+  }
+
+  -- A table without indices is for no keys.
+  pub placed_none : (table : Entries) → places table ≡ 0 → ((h i : ℕ) → Has table h i → ⊥) → IsPlaced same hash table []
+  unfolding IsDistinct
+  placed_none table none empty = record {
+    distinct = tt;
+    counted = none;
+    entered = λ i k there. absurd (omega (arith, slice_get_within {A = K} [] i k there));
+    within = λ h i has. absurd (empty h i has);
+  }
