@@ -1,13 +1,19 @@
--- Entries as a map observes them, compared with the keys of its table.
-use Rattle.std.proofs.Common.{◌≡◌, ◌<◌, ℕ, zero, suc, arith, Bool, true, false, List, [], ◌∷◌, ◌++◌, map, length, position, slice_get, Option, None, Some, append_assoc, ap, sym, refl, ◌∙◌, cond}
+-- Entries as a map observes them, compared with the indices of its table.
+use Rattle.std.proofs.Common.{◌≡◌, ◌<◌, ◌+◌, ℕ, zero, suc, arith, Bool, true, false, List, [], ◌∷◌, ◌++◌, map, length, position, slice_get, Option, None, Some, append_assoc, ap, sym, subst, refl, ◌∙◌, cond, inl, inr}
+use Rattle.std.proofs.lemmas.Bool.{true≢false}
+use Rattle.std.proofs.lemmas.List.Quantifiers.{position-Some}
+use Rattle.std.proofs.lemmas.Option.{get_or_from_slice_get, none-some, same_Some, slice_get_cases}
+use Rattle.std.specs.Cmp.{IsEquivalence}
 use Rattle.std.specs.Map.{keys_of, lookup}
-use Rattle.std.specs.Option.{option_map, option_or, unwrap_or}
-use Rattle.indexmap.specs.IndexMap.{insert_entry}
-use Rattle.indexmap.proofs.MapLemmas.{Found-position, Missing-position, absent_from_lookup, insert_entry-absent}
+use Rattle.std.specs.Option.{option_map, option_or}
+use Rattle.indexmap.proofs.MapLemmas.{Found-position, Missing-position}
 use Rattle.std_collections.proofs.HashLookup.{get_value}
 use mathlib.Core.List.{IsPrefix}
+use Rattle.elsa_buckets.specs.Placed.{IsPlaced}
+use Rattle.elsa_buckets.specs.Table.{Entries as Table, places, HasSame, AddsPlace}
+use Rattle.elsa_buckets.proofs.PlacedLemmas.{placed_put, placed_same}
 use Rattle.elsa_cell.specs.declared.map.Entry.{Entry}
-use Rattle.elsa_cell.specs.Entries.{InsertsOnce, key_of, pair_of, pairs_of}
+use Rattle.elsa_cell.specs.Entries.{Inserts, entries_of, InsertsOnce, key_of, pair_of, pairs_of}
 
 -- An item of a mapped list.
 get_map : {X Y : Type 0} (f : X → Y) (xs : List X) (i : ℕ) → slice_get (map f xs) i ≡ option_map f (slice_get xs i)
@@ -22,10 +28,6 @@ map_map f g (Some x) = refl
 map_append : {X Y : Type 0} (f : X → Y) (xs ys : List X) → map f (xs ++ ys) ≡ map f xs ++ map f ys
 map_append f [] ys = refl
 map_append f (x ∷ xs) ys = ap (λ l. f x ∷ l) (map_append f xs ys)
-
-keys_map : {K X : Type 0} (es : List (K × X)) → keys_of es ≡ map (λ (e : K × X). e.0) es
-keys_map [] = refl
-keys_map (e ∷ es) = ap (λ l. e.0 ∷ l) (keys_map es)
 
 -- The keys of the pairs are the keys of the entries.
 keys_pairs : {K V : Type 0} (es : List (Entry K V)) → keys_of (pairs_of es) ≡ map key_of es
@@ -42,13 +44,20 @@ value_at test es i at =
 pub absent_at : {K V : Type 0} (test : K → Bool) (es : List (Entry K V)) → position test (map key_of es) ≡ None → lookup test (pairs_of es) ≡ None
 absent_at test es none = (Missing-position test (pairs_of es) (ap (position test) (keys_pairs es) ∙ none)).value
 
--- A new key goes last among the keys of the table.
-pub keys_grow : {K V X : Type 0} (equal : K → K → Bool) (table : List (K × X)) (es : List (Entry K V)) (e : Entry K V) (k : K) (x : X) → position (equal k) (keys_of table) ≡ None → keys_of table ≡ map key_of es → key_of e ≡ k
-    → keys_of (insert_entry equal table k x) ≡ map key_of (es ++ e ∷ [])
-keys_grow equal table es e k x none same is =
-    let absent = absent_from_lookup (equal k) table (Missing-position (equal k) table none).value in
-    ap keys_of (insert_entry-absent equal k x table absent) ∙ (keys_map (table ++ (k, x) ∷ []) ∙ (map_append (λ p. p.0) table ((k, x) ∷ []) ∙ (ap (λ l. l ++ k ∷ []) (sym (keys_map table) ∙ same)
-    ∙ (ap (λ z. map key_of es ++ z ∷ []) (sym is) ∙ sym (map_append key_of es (e ∷ []))))))
+-- What a comparison of the keys of entries, by index, says of each key.
+pub compared_entries : {K V : Type 0} (test : K → Bool) (es : List (Entry K V)) (i : ℕ) (b : Bool) (k : K) → slice_get (map key_of es) i ≡ Some k → ((e : Entry K V) → slice_get es i ≡ Some e → b ≡ test (key_of e)) → b ≡ test k
+compared_entries test es i b k at compared = elim ((slice_get_cases es i).1) [
+  | inl h ↦ compared h.0 h.2 ∙ ap test (same_Some (key_of h.0) k (sym (get_map key_of es i ∙ ap (option_map key_of) h.2) ∙ at))
+  | inr h ↦ absurd (none-some k (sym (get_map key_of es i ∙ ap (option_map key_of) h.1) ∙ at))
+]
+
+-- The table has the index of a new last entry.
+pub placed_last : {K V : Type 0} (same : K → K → Bool) (laws : IsEquivalence same) (hash : K → ℕ) (before wide after : Table) (es ns : List (Entry K V)) (e : Entry K V) (h place : ℕ) → IsPlaced same hash before (map key_of es)
+    → places wide ≡ places before → HasSame before wide → h ≡ hash (key_of e) → place ≡ places wide → places after ≡ places wide + 1 → AddsPlace wide h place after → position (same (key_of e)) (map key_of es) ≡ None
+    → ns ≡ es ++ e ∷ [] → IsPlaced same hash after (map key_of ns)
+placed_last same laws hash before wide after es ns e h place placed counts stays hashed at more adds none grown =
+    subst (IsPlaced same hash after) (sym (ap (map key_of) grown ∙ map_append key_of es (e ∷ [])))
+    (placed_put same laws hash wide after (map key_of es) (key_of e) h place (placed_same same laws hash before wide (map key_of es) placed counts stays) hashed at more adds none)
 
 -- Prefixes.
 pub prefix_trans : {A : Type 0} (xs ys zs : List A) → IsPrefix xs ys → IsPrefix ys zs → IsPrefix xs zs
@@ -99,8 +108,49 @@ last_item : {X : Type 0} (xs : List X) (x : X) → slice_get (xs ++ x ∷ []) (l
 last_item [] x = refl
 last_item (y ∷ xs) x = last_item xs x
 
--- The value at the last index is that of the last entry.
-pub value_last : {K V : Type 0} (es ns : List (Entry K V)) (e : Entry K V) (i : ℕ) (v : V) → ns ≡ es ++ e ∷ [] → i ≡ length es → option_map (λ e. e.value) (slice_get ns i) ≡ Some v → v ≡ e.value
-value_last es ns e i v grown at is =
-    let there : slice_get ns i ≡ Some e = ap (λ l. slice_get l i) grown ∙ (ap (slice_get (es ++ e ∷ [])) at ∙ last_item es e) in
-    ap (λ o. unwrap_or o v) (sym is ∙ ap (option_map (λ e. e.value)) there)
+-- The entry at the last index is the last one.
+pub entry_last : {K V : Type 0} (es ns : List (Entry K V)) (e f : Entry K V) (i : ℕ) → ns ≡ es ++ e ∷ [] → i ≡ length es → slice_get ns i ≡ Some f → f ≡ e
+entry_last es ns e f i grown at is = same_Some f e (sym is ∙ (ap (λ l. slice_get l i) grown ∙ (ap (slice_get (es ++ e ∷ [])) at ∙ last_item es e)))
+
+-- The pair at an index is that of the entry there.
+pub pair_at : {K V : Type 0} (es : List (Entry K V)) (i : ℕ) (e : Entry K V) → slice_get es i ≡ Some e → slice_get (pairs_of es) i ≡ Some (pair_of e)
+pair_at es i e at = get_map pair_of es i ∙ ap (option_map pair_of) at
+
+pub no_pair_at : {K V : Type 0} (es : List (Entry K V)) (i : ℕ) → slice_get es i ≡ None → slice_get (pairs_of es) i ≡ None
+no_pair_at es i none = get_map pair_of es i ∙ ap (option_map pair_of) none
+
+-- The key at the index that a test finds passes it.
+pub passes_at : {K V : Type 0} (test : K → Bool) (es : List (Entry K V)) (i : ℕ) (e : Entry K V) → position test (map key_of es) ≡ Some i → slice_get es i ≡ Some e → test (key_of e) ≡ true
+passes_at test es i e found at =
+    let p = position-Some test (map key_of es) i (key_of e) found in
+    ap test (sym (get_or_from_slice_get (map key_of es) i (key_of e) (key_of e) (get_map key_of es i ∙ ap (option_map key_of) at))) ∙ p.1
+
+-- Pairs as entries.
+pub entries_push : {K V : Type 0} (ps : List (K × V)) (p : K × V) → entries_of (ps ++ p ∷ []) ≡ entries_of ps ++ record { key = p.0; value = p.1 } ∷ []
+entries_push [] p = refl
+entries_push (q ∷ ps) p = ap (λ es. record { key = q.0; value = q.1 } ∷ es) (entries_push ps p)
+
+pub length_entries : {K V : Type 0} (ps : List (K × V)) → length (entries_of ps) ≡ length ps
+length_entries [] = refl
+length_entries (p ∷ ps) = ap suc (length_entries ps)
+
+-- As pairs they are the pairs again.
+pub pairs_back : {K V : Type 0} (ps : List (K × V)) → pairs_of (entries_of ps) ≡ ps
+pairs_back [] = refl
+pairs_back (p ∷ ps) = ap (λ qs. p ∷ qs) (pairs_back ps)
+
+-- Pairs begin with those of a prefix of their entries.
+pub pairs_begin : {K V : Type 0} (es : List (Entry K V)) (ps : List (K × V)) → IsPrefix es (entries_of ps) → IsPrefix (pairs_of es) ps
+pairs_begin es ps p = (pairs_of p.0, sym (map_append pair_of es p.0) ∙ (ap (map pair_of) p.1 ∙ pairs_back ps))
+
+-- The entry that a key has after an insertion has an equal key; a new one is the inserted entry.
+pub inserted_equal : {K V : Type 0} (equal : K → K → Bool) → IsEquivalence equal → (old new : List (Entry K V)) (key : K) (value kept : V) (index : ℕ) (is_new : Bool) (e : Entry K V) → Inserts equal old new key value kept index is_new → slice_get new index ≡ Some e
+    → equal key (key_of e) ≡ true
+inserted_equal equal laws old new key value kept index true e i at =
+    let last = entry_last old new i.1.0 e index i.1.2 i.3 at in
+    ap (equal key) (ap key_of last ∙ ap (λ p. p.0) i.1.1) ∙ laws.refl key
+inserted_equal equal laws old new key value kept index false e i at = passes_at (equal key) old index e i.1 (ap (λ l. slice_get l index) (sym i.2) ∙ at)
+
+pub inserted_own : {K V : Type 0} (equal : K → K → Bool) (old new : List (Entry K V)) (key : K) (value kept : V) (index : ℕ) (is_new : Bool) (e : Entry K V) → Inserts equal old new key value kept index is_new → slice_get new index ≡ Some e → is_new ≡ true → key_of e ≡ key
+inserted_own equal old new key value kept index true e i at new_key = ap key_of (entry_last old new i.1.0 e index i.1.2 i.3 at) ∙ ap (λ p. p.0) i.1.1
+inserted_own equal old new key value kept index false e i at new_key = absurd (true≢false (sym new_key))

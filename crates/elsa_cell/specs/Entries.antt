@@ -1,7 +1,9 @@
 -- What a handle of a map has observed: entries of a key and a value, each key once.
 use Rattle.std.specs.Prelude.{ℕ, ◌≡◌, Bool, true, false, Some, None, List, [], ◌∷◌, ◌++◌, length, map, position}
-use Rattle.std.specs.Map.{keys_of, lookup}
+use Rattle.std.specs.Map.{lookup}
 use mathlib.Core.List.{IsPrefix}
+use Rattle.elsa_buckets.specs.Placed.{IsPlaced}
+use Rattle.elsa_buckets.specs.Table.{Entries}
 use Rattle.elsa_cell.specs.Observed.{IsStateOf}
 use Rattle.elsa_cell.specs.declared.map.Entry.{Entry}
 use Rattle.elsa_cell.specs.declared.state.State.{State}
@@ -9,15 +11,20 @@ use Rattle.elsa_cell.specs.declared.state.State.{State}
 module _ {K V : Type 0} where
   -- the key of an entry
   abbrev pub key_of : Entry K V → K
-  key_of e = e.key.value
+  key_of e = e.key
 
   -- an entry as a pair
   abbrev pub pair_of : Entry K V → K × V
-  pair_of e = (e.key.value, e.value)
+  pair_of e = (e.key, e.value)
 
   -- entries as pairs
   abbrev pub pairs_of : List (Entry K V) → List (K × V)
   pairs_of es = map pair_of es
+
+  -- pairs as entries
+  abbrev pub entries_of : List (K × V) → List (Entry K V)
+  entries_of [] = []
+  entries_of (p ∷ ps) = record { key = p.0; value = p.1 } ∷ entries_of ps
 
   -- the entries of `old`, and then one with this key and value
   abbrev pub AppendsPair : List (Entry K V) → List (Entry K V) → K → V → Type 0
@@ -35,7 +42,7 @@ module _ {K V : Type 0} where
   abbrev pub InsertsOnce : (K → K → Bool) → List (Entry K V) → List (Entry K V) → K → V → V → ℕ → Bool → Type 0
   InsertsOnce equal before after key value kept index is_new = (all : List (Entry K V)) × IsPrefix before all × Inserts equal all after key value kept index is_new
 
--- The state of a map with these buffers: that of the list of its entries, and a table that has
--- their keys, in the same order.
-abbrev pub IsMapOf : {K V A U X : Type 0} → (X → List (K × U)) → List ℕ → State (Entry K V) A → X → Type 0
-IsMapOf entries buffers list table = IsStateOf buffers list × (keys_of (entries table) ≡ map key_of list.prefix.items)
+-- The state of a map with these buffers: that of the list of its entries, no two of which have
+-- equal keys, and a table that has the index of each under the hash of its key.
+abbrev pub IsMapOf : {K V A : Type 0} → (K → K → Bool) → (K → ℕ) → List ℕ → State (Entry K V) A → Entries → Type 0
+IsMapOf same hash buffers list table = IsStateOf buffers list × IsPlaced same hash table (map key_of list.prefix.items)

@@ -1,35 +1,42 @@
 //! [`FrozenMap`], its [`MapHandle`] and its lock guard [`MapHold`].
-ghost use Rattle.std.specs.Prelude.{◌≡◌, ◌⊎◌, ◌<◌, ◌^◌, Bool, List, true, None, Some, Ok, Err, length, map, position, slice_get, IfErr, IfOk};
+ghost use Rattle.std.specs.Prelude.{◌≡◌, ◌⊎◌, ◌<◌, ◌^◌, Bool, List, true, None, Some, Ok, Err, length, map, position, slice_get, IfErr, IfOk, IfSome};
 ghost use Rattle.std.specs.Map.{lookup};
 ghost use Rattle.std.specs.Option.{option_map};
 ghost use mathlib.Core.List.{IsPrefix};
-ghost use Rattle.elsa_cell.specs.Entries.{Inserts, InsertsOnce, key_of, pairs_of};
+ghost use Rattle.elsa_buckets.specs.Placed.{key_hash};
+ghost use Rattle.elsa_cell.specs.Entries.{Inserts, InsertsOnce, IsMapOf, key_of, pair_of, pairs_of};
 ghost use Rattle.elsa_cell.specs.declared.map.Entry.{Entry};
 ghost use Rattle.elsa_cell.specs.Observed.{Continues};
 
 use crate::fault::{CellFault, InUse, TryFault};
-use crate::observed::{Iter, Observed};
+use crate::map_state::{MapState, Pairs};
+use crate::observed::{Iter, Observed, Seen};
 use crate::shared::{OfSlots, Shared};
-use crate::state::{State, push_item};
+use crate::state::State;
 use boxcar::tag::Tag;
-use counted_slot::Fits;
+use elsa_buckets::query::Query;
+use elsa_buckets::table::PlaceTable;
 use elsa_slots::slots::Slots;
-use elsa_tables::{Inserted, SeeksIndex};
-use indexmap::IndexMap;
+use elsa_tables::Inserted;
 use std::alloc::{AllocError, Allocator, Global};
 use std::hash::{BuildHasher, BuildHasherDefault, FoldHasher, Hash};
 use std::marker::Model;
-use std::snapshot::Snapshot;
 
-/// An entry, as handles observe it: its value, and its key as proofs see it. At run time the key is
-/// in the table of the map alone.
+/// An entry, as handles observe it: its key and its value.
 #[derive(Drop)]
 pub struct Entry<K, V> {
-    value: V,
-    key: Snapshot<K>,
+    pub(crate) key: K,
+    pub(crate) value: V,
 }
 
 impl<K, V> Entry<K, V> {
+    /// Returns the key by reference.
+    pub fn key(&self) -> &K
+        ensures { result.now ≡ key_of self.now }
+    {
+        &self.key
+    }
+
     /// Returns the value by reference.
     pub fn value(&self) -> &V
         ensures { result.now ≡ self.now.value }
@@ -38,20 +45,17 @@ impl<K, V> Entry<K, V> {
     }
 }
 
-/// The list of a map's entries, and the table of their keys.
-#[derive(Drop)]
-pub(crate) struct MapState<K: Eq + Hash + Drop, V, S: BuildHasher + Drop, A: Allocator + Copy> {
-    list: State<Entry<K, V>, A>,
-    keys: IndexMap<K, (), S, A>,
-}
-
-impl<K: Eq + Hash + Drop, V, S: BuildHasher + Drop, A: Allocator + Copy> Fits
-    for MapState<K, V, S, A> {
-    ghost use Rattle.elsa_cell.specs.Entries.{IsMapOf};
-
-    type Tag = Tag;
-
-    ghost fits = { λ tag state. IsMapOf (λ t. t.entries) tag.numbers state.list state.keys };
+/// Returns references to the key and the value of the observed entry at an index.
+#[tactic(auto, using(crate::proofs::EntryLemmas::pair_at, crate::proofs::EntryLemmas::no_pair_at))]
+fn pair_at<'m, K, V, A: Allocator + Copy>(
+    entries: &Observed<'m, Entry<K, V>, A>,
+    index: usize,
+) -> Option<(&'m K, &'m V)>
+    ensures { option_map (λ r. (r.0.now, r.1.now)) result
+        ≡ slice_get (pairs_of entries.now.seen) index }
+{
+    let entry = entries.get(index)?;
+    Some((entry.key(), entry.value()))
 }
 
 /// A map that grows through `&self`, owns its keys and values, and keeps the first value of a key:
@@ -60,6 +64,10 @@ impl<K: Eq + Hash + Drop, V, S: BuildHasher + Drop, A: Allocator + Copy> Fits
 ///
 /// A [`MapHandle`] states which entries it has observed, and each of its calls which values come
 /// back. The calls on the map itself are short forms: each makes a handle.
+///
+/// Its entries keep the order of their insertion, and each has an index: it is also the map that
+/// [`FrozenIndexMap`] names. It has at most `2^32 - 1` entries. It drops each entry once, in that
+/// order: its key, then its value.
 pub struct FrozenMap<
     K: Eq + Hash + Drop,
     V,
@@ -81,21 +89,34 @@ impl<K: Eq + Hash + Drop, V, S: BuildHasher + Drop, A: Allocator + Copy> Model
     ghost invariant = { λ m. m.cell.numbers ≡ m.slots };
 }
 
-// Drops each value once, in the order of insertion, and then the keys.
 impl<K: Eq + Hash + Drop, V: Drop, S: BuildHasher + Drop, A: Allocator + Copy> Drop
     for FrozenMap<K, V, S, A> {
     fn drop(self) {
         let Self { slots, cell } = self;
         match cell.into_state() {
             Some(state) => {
-                let MapState { list, keys } = state;
+                let MapState {
+                    list,
+                    table,
+                    hash_builder,
+                } = state;
                 list.end(slots);
-                drop(keys);
+                drop(table);
+                drop(hash_builder);
             }
             None => drop(slots),
         }
     }
 }
+
+/// The [`FrozenMap`] by the name that Rust's elsa gives a map whose entries have an index
+/// ([`get_full`](FrozenMap::get_full), [`get_index`](FrozenMap::get_index)).
+pub type FrozenIndexMap<K, V, S = BuildHasherDefault<FoldHasher>, A = Global> = FrozenMap<
+    K,
+    V,
+    S,
+    A,
+>;
 
 /// A map, and the prefix of its entries that was observed. Contracts see the map, by the names of
 /// its buffers, and the entries of the prefix.
@@ -146,6 +167,7 @@ impl<'m, K: Eq + Hash + Drop, V, S: BuildHasher + Drop, A: Allocator + Copy> Mod
     for MapHold<'m, K, V, S, A> {
     ghost use Rattle.std.specs.Prelude.{◌≡◌};
     ghost use Rattle.elsa_cell.specs.Observed.{View};
+    ghost use Rattle.elsa_buckets.specs.Placed.{key_hash};
     ghost use Rattle.elsa_cell.specs.Entries.{IsMapOf};
     ghost use Rattle.elsa_cell.specs.declared.map.Entry.{Entry};
 
@@ -153,7 +175,9 @@ impl<'m, K: Eq + Hash + Drop, V, S: BuildHasher + Drop, A: Allocator + Copy> Mod
 
     ghost view = { λ h. record { vector = h.slots.now; seen = h.state.list.prefix.items } };
 
-    ghost invariant = { λ h. IsMapOf (λ t. t.entries) h.slots.now h.state.list h.state.keys × (h.cell.now.numbers ≡ h.slots.now) };
+    ghost invariant = { λ h. IsMapOf K.eq (λ k.
+        key_hash S.BuildHasher S.Hasher.Hasher h.state.hash_builder (K.hash_input k))
+        h.slots.now h.state.list h.state.table × (h.cell.now.numbers ≡ h.slots.now) };
 }
 
 impl<K: Eq + Hash + Drop, V, S: BuildHasher + Drop, A: Allocator + Copy> Drop
@@ -204,7 +228,8 @@ impl<K: Eq + Hash + Drop, V: Drop, S: BuildHasher + Drop, A: Allocator + Copy> F
         let tag = Tag::of::<Slots<Entry<K, V>, A>, OfSlots>(&slots);
         let state = MapState {
             list: State::first(further),
-            keys: IndexMap::with_hasher(alloc, hash_builder),
+            table: PlaceTable::new(alloc),
+            hash_builder,
         };
         let cell = Shared::new(state, &tag);
         Ok(FrozenMap { slots, cell })
@@ -250,8 +275,7 @@ impl<K: Eq + Hash + Drop, V: Drop, S: BuildHasher + Drop, A: Allocator + Copy> F
     /// Returns a reference to the value of the key that `query` finds, or `None` if the map has no
     /// such key. It allocates nothing.
     ///
-    /// A query is a reference to a key, a `&str` for `String` keys, or another value that
-    /// [`SeeksIndex`] accepts.
+    /// A query is a reference to a key, a `&str` for `String` keys, or another [`Query`].
     ///
     /// # Errors
     /// Fails with [`InUse`] if the call is made inside another call of the map, or while a
@@ -259,28 +283,57 @@ impl<K: Eq + Hash + Drop, V: Drop, S: BuildHasher + Drop, A: Allocator + Copy> F
     ///
     /// # Cost
     /// One hash and one search.
-    pub fn get<Q: SeeksIndex<K, (), IndexMap<K, (), S, A>>>(
-        &self,
-        query: Q,
-    ) -> Result<Option<&V>, InUse> {
+    pub fn get<Q: Query<K>>(&self, query: Q) -> Result<Option<&V>, InUse> {
         let hold = self.hold()?;
         Ok(hold.get(query))
+    }
+
+    /// Returns the index of the key that `query` finds, and references to the key and its value, or
+    /// `None` if the map has no such key. It allocates nothing.
+    ///
+    /// # Errors
+    /// Fails with [`InUse`] if the call is made inside another call of the map, or while a
+    /// [`MapHold`] of it exists.
+    ///
+    /// # Cost
+    /// One hash and one search.
+    pub fn get_full<Q: Query<K>>(&self, query: Q) -> Result<Option<(usize, &K, &V)>, InUse>
+        ensures found_key { IfOk result (λ found. IfSome found (λ r.
+            Q.finds query r.1.now ≡ true)) }
+    {
+        let hold = self.hold()?;
+        Ok(hold.get_full(query))
+    }
+
+    /// Returns references to the key and the value at an index, or `None` if the index is at or
+    /// above the number of keys. It allocates nothing.
+    ///
+    /// # Errors
+    /// Fails with [`InUse`] if the call is made inside another call of the map, or while a
+    /// [`MapHold`] of it exists.
+    ///
+    /// # Cost
+    /// `O(1)`.
+    pub fn get_index(&self, index: usize) -> Result<Option<(&K, &V)>, InUse> {
+        let handle = self.handle()?;
+        Ok(handle.get_index(index))
     }
 
     /// Inserts a value unless the map has an equal key, and returns the value that the key then
     /// has: [`insert_new`](Self::insert_new) with the value alone.
     ///
     /// # Errors
-    /// Fails with [`CellFault::Memory`] if an allocation fails, and with [`CellFault::InUse`] if
-    /// the call is made inside another call of the map, or while a [`MapHold`] of it exists. Both
-    /// contain `value`; the key is dropped.
+    /// Fails with [`CellFault::Memory`] if an allocation fails, or if the map has the greatest
+    /// number of entries, `2^32 - 1`, and with [`CellFault::InUse`] if the call is made inside
+    /// another call of the map, or while a [`MapHold`] of it exists. Both contain `value`; the key
+    /// is dropped.
     ///
     /// # Allocates
-    /// A buffer, four times as large as the one before, at the lengths where one begins, and room
-    /// in the table of keys.
+    /// A buffer, four times as large as the one before, at the lengths where one begins. When three
+    /// quarters of the table's buckets are taken: twice their number, of 8 bytes each.
     ///
     /// # Cost
-    /// One hash if the key is present, two if it is new.
+    /// One hash and one search.
     pub fn insert(&self, key: K, value: V) -> Result<&V, CellFault<V>>
         ensures given_back { IfErr result (λ f. (f ≡ CellFault.Memory value)
             ⊎ (f ≡ CellFault.InUse value)) }
@@ -294,16 +347,17 @@ impl<K: Eq + Hash + Drop, V: Drop, S: BuildHasher + Drop, A: Allocator + Copy> F
     /// value, and `key` and `value` are dropped.
     ///
     /// # Errors
-    /// Fails with [`CellFault::Memory`] if an allocation fails, and with [`CellFault::InUse`] if
-    /// the call is made inside another call of the map, or while a [`MapHold`] of it exists. Both
-    /// contain `value`; the key is dropped.
+    /// Fails with [`CellFault::Memory`] if an allocation fails, or if the map has the greatest
+    /// number of entries, `2^32 - 1`, and with [`CellFault::InUse`] if the call is made inside
+    /// another call of the map, or while a [`MapHold`] of it exists. Both contain `value`; the key
+    /// is dropped.
     ///
     /// # Allocates
-    /// A buffer, four times as large as the one before, at the lengths where one begins, and room
-    /// in the table of keys.
+    /// A buffer, four times as large as the one before, at the lengths where one begins. When three
+    /// quarters of the table's buckets are taken: twice their number, of 8 bytes each.
     ///
     /// # Cost
-    /// One hash if the key is present, two if it is new.
+    /// One hash and one search.
     pub fn insert_new(&self, key: K, value: V) -> Result<Inserted<&V, usize>, CellFault<V>>
         ensures own_value { IfOk result (λ r. r.is_new ≡ true → r.value.now ≡ value) }
         ensures given_back { IfErr result (λ f. (f ≡ CellFault.Memory value)
@@ -313,6 +367,65 @@ impl<K: Eq + Hash + Drop, V: Drop, S: BuildHasher + Drop, A: Allocator + Copy> F
             return Err(CellFault::InUse(value));
         };
         hold.insert_new(key, value)
+    }
+
+    /// Makes the map of its state again, which may be lost.
+    fn again(slots: Slots<Entry<K, V>, A>, state: Option<MapState<K, V, S, A>>) -> Self
+        requires { IfSome state (λ s. IsMapOf K.eq (λ k.
+            key_hash S.BuildHasher S.Hasher.Hasher s.hash_builder (K.hash_input k))
+            slots s.list s.table) }
+        ensures { result ≡ slots }
+    {
+        let tag = Tag::of::<Slots<Entry<K, V>, A>, OfSlots>(&slots);
+        let cell = match state {
+            Some(state) => Shared::new(state, &tag),
+            None => Shared::lost(&tag),
+        };
+        FrozenMap { slots, cell }
+    }
+
+    /// Moves all entries into a vector of `alloc`, in the order of insertion, and drops none.
+    /// `seen` is evidence of entries that the map has ([`Observed::evidence`]): the vector begins
+    /// with them.
+    ///
+    /// # Errors
+    /// Fails with [`CellFault::Memory`] if an allocation fails, and with [`CellFault::InUse`] if a
+    /// guard of the map was forgotten. Both contain the map.
+    ///
+    /// # Allocates
+    /// A block of `alloc` for the entries.
+    ///
+    /// # Cost
+    /// `O(n)`: one move of each entry.
+    pub fn into_tuple_vec<Z: Allocator>(
+        self,
+        alloc: Z,
+        seen: &Seen<Entry<K, V>, A>,
+    ) -> Result<Vec<(K, V), Z>, CellFault<Self>>
+        requires same_vector { seen.now.vector ≡ self }
+        ensures items { IfOk result (λ all. IsPrefix (pairs_of seen.now.seen) all.items) }
+        ensures given_back { IfErr result (λ f. (f ≡ CellFault.Memory self)
+            ⊎ (f ≡ CellFault.InUse self)) }
+    {
+        let Self { slots, cell } = self;
+        let Some(state) = cell.into_state() else {
+            return Err(CellFault::InUse(FrozenMap::again(slots, None)));
+        };
+        if !seen.is_behind(&state.list) {
+            return Err(CellFault::InUse(FrozenMap::again(slots, Some(state))));
+        }
+        let Ok(items) = Vec::with_capacity(alloc, state.list.count) else {
+            return Err(CellFault::Memory(FrozenMap::again(slots, Some(state))));
+        };
+        let MapState {
+            list,
+            table: _table,
+            hash_builder: _hash_builder,
+        } = state;
+        let mut all = Pairs { items };
+        list.move_items(slots, &mut all);
+        let Pairs { items } = all;
+        Ok(items)
     }
 
     /// Returns the number of keys. It allocates nothing.
@@ -364,26 +477,27 @@ impl<'m, K: Eq + Hash + Drop, V: Drop, S: BuildHasher + Drop, A: Allocator + Cop
         self.state.list.count
     }
 
-    /// Returns a reference to the value at an index.
-    fn value_at(&self, index: usize) -> &'m V
+    /// Returns a reference to the entry at an index.
+    fn entry_at(&self, index: usize) -> &'m Entry<K, V>
         requires { index < length self.now.seen }
-        ensures { option_map (λ e. e.value) (slice_get self.now.seen index) ≡ Some result.now }
+        ensures { slice_get self.now.seen index ≡ Some result.now }
     {
         let observed = self.observed();
-        observed.item(index).value()
+        observed.item(index)
     }
 
-    /// Returns the index of the key that `query` finds, and a reference to its value.
-    #[tactic(auto, using(crate::proofs::EntryLemmas::value_at, crate::proofs::EntryLemmas::absent_at, crate::proofs::EntryLemmas::within_at))]
-    fn find<Q: SeeksIndex<K, (), IndexMap<K, (), S, A>>>(&self, query: Q) -> Option<(usize, &'m V)>
+    /// Returns the index of the entry whose key `query` finds, and a reference to it.
+    #[tactic(auto, using(crate::proofs::EntryLemmas::absent_at, crate::proofs::EntryLemmas::within_at))]
+    fn find<Q: Query<K>>(&self, query: Q) -> Option<(usize, &'m Entry<K, V>)>
         ensures index { option_map (λ f. f.0) result
-            ≡ position (Q.Seeks.finds query) (map key_of self.now.seen) }
-        ensures value { option_map (λ f. f.1.now) result
-            ≡ lookup (Q.Seeks.finds query) (pairs_of self.now.seen) }
+            ≡ position (Q.finds query) (map key_of self.now.seen) }
+        ensures entry { IfSome result (λ f. slice_get self.now.seen f.0 ≡ Some f.1.now) }
+        ensures value { option_map (λ f. f.1.now.value) result
+            ≡ lookup (Q.finds query) (pairs_of self.now.seen) }
     {
-        match query.seek_full(&self.state.keys) {
-            Some((index, _, _)) => Some((index, self.value_at(index))),
-            None => None,
+        match self.state.seek(self.slots, query) {
+            Ok(index) => Some((index, self.entry_at(index))),
+            Err(_) => None,
         }
     }
 
@@ -392,12 +506,44 @@ impl<'m, K: Eq + Hash + Drop, V: Drop, S: BuildHasher + Drop, A: Allocator + Cop
     ///
     /// # Cost
     /// One hash and one search.
-    pub fn get<Q: SeeksIndex<K, (), IndexMap<K, (), S, A>>>(&self, query: Q) -> Option<&'m V>
+    pub fn get<Q: Query<K>>(&self, query: Q) -> Option<&'m V>
         ensures found { option_map (λ v. v.now) result
-            ≡ lookup (Q.Seeks.finds query) (pairs_of self.now.seen) }
+            ≡ lookup (Q.finds query) (pairs_of self.now.seen) }
     {
-        let (_, value) = self.find(query)?;
-        Some(value)
+        let (_, entry) = self.find(query)?;
+        Some(entry.value())
+    }
+
+    /// Returns the index of the key that `query` finds, and references to the key and its value, or
+    /// `None` exactly if the map has no such key. It allocates nothing.
+    ///
+    /// # Cost
+    /// One hash and one search.
+    #[tactic(auto, using(crate::proofs::EntryLemmas::pair_at, crate::proofs::EntryLemmas::passes_at))]
+    pub fn get_full<Q: Query<K>>(&self, query: Q) -> Option<(usize, &'m K, &'m V)>
+        ensures index { option_map (λ r. r.0) result
+            ≡ position (Q.finds query) (map key_of self.now.seen) }
+        ensures entry { IfSome result (λ r.
+            slice_get (pairs_of self.now.seen) r.0 ≡ Some (r.1.now, r.2.now)) }
+        ensures found_key { IfSome result (λ r. Q.finds query r.1.now ≡ true) }
+        ensures value { option_map (λ r. r.2.now) result
+            ≡ lookup (Q.finds query) (pairs_of self.now.seen) }
+    {
+        let (index, entry) = self.find(query)?;
+        Some((index, entry.key(), entry.value()))
+    }
+
+    /// Returns references to the key and the value at an index, or `None` exactly if the index is
+    /// at or above the number of keys. It allocates nothing.
+    ///
+    /// # Cost
+    /// `O(1)`.
+    pub fn get_index(&self, index: usize) -> Option<(&'m K, &'m V)>
+        ensures entry { option_map (λ r. (r.0.now, r.1.now)) result
+            ≡ slice_get (pairs_of self.now.seen) index }
+    {
+        let observed = self.observed();
+        pair_at(&observed, index)
     }
 
     /// Inserts a value unless the map has an equal key. Returns the value that the key then has,
@@ -405,15 +551,15 @@ impl<'m, K: Eq + Hash + Drop, V: Drop, S: BuildHasher + Drop, A: Allocator + Cop
     /// value, and `key` and `value` are dropped.
     ///
     /// # Errors
-    /// Fails with [`CellFault::Memory`] and `value` if an allocation fails. The map is unchanged;
-    /// the key is dropped.
+    /// Fails with [`CellFault::Memory`] and `value` if an allocation fails, or if the map has the
+    /// greatest number of entries, `2^32 - 1`. The map is unchanged; the key is dropped.
     ///
     /// # Allocates
-    /// A buffer, four times as large as the one before, at the lengths where one begins, and room
-    /// in the table of keys.
+    /// A buffer, four times as large as the one before, at the lengths where one begins. When three
+    /// quarters of the table's buckets are taken: twice their number, of 8 bytes each.
     ///
     /// # Cost
-    /// One hash if the key is present, two if it is new.
+    /// One hash and one search.
     pub fn insert_new(&mut self, key: K, value: V) -> Result<Inserted<&'m V, usize>, CellFault<V>>
         ensures continues { Continues self.old self.new }
         ensures inserted { IfOk result (λ r. Inserts K.eq self.old.seen self.new.seen key value
@@ -424,37 +570,59 @@ impl<'m, K: Eq + Hash + Drop, V: Drop, S: BuildHasher + Drop, A: Allocator + Cop
         ensures refused { IfErr result (λ _. (self.new ≡ self.old)
             × (lookup (K.eq key) (pairs_of self.old.seen) ≡ None)) }
     {
-        if let Some((index, value)) = self.find(&key) {
-            return Ok(Inserted {
-                value,
-                index,
-                is_new: false,
-            });
+        match self.insert_entry(key, value) {
+            Ok(inserted) => Ok(Inserted {
+                value: inserted.value.value(),
+                index: inserted.index,
+                is_new: inserted.is_new,
+            }),
+            Err(entry) => {
+                let Entry { key: _key, value } = entry;
+                Err(CellFault::Memory(value))
+            }
         }
-        if self.state.keys.reserve(1).is_err() {
-            return Err(CellFault::Memory(value));
-        }
-        let entry = Entry {
-            value,
-            key: Snapshot::of(&key),
+    }
+
+    /// Inserts an entry unless the map has an equal key, and returns the entry that the key then
+    /// has: [`insert_new`](Self::insert_new) with the whole entry.
+    ///
+    /// # Errors
+    /// Fails with the entry itself if an allocation fails, or if the map has the greatest number of
+    /// entries.
+    pub(crate) fn insert_entry(
+        &mut self,
+        key: K,
+        value: V,
+    ) -> Result<Inserted<&'m Entry<K, V>, usize>, Entry<K, V>>
+        ensures continues { Continues self.old self.new }
+        ensures inserted { IfOk result (λ r. Inserts K.eq self.old.seen self.new.seen key value
+            r.value.now.value r.index r.is_new) }
+        ensures entry { IfOk result (λ r. slice_get self.new.seen r.index ≡ Some r.value.now) }
+        ensures given_back { IfErr result (λ e. pair_of e ≡ (key, value)) }
+
+        // It fails only for an absent key.
+        ensures refused { IfErr result (λ _. (self.new ≡ self.old)
+            × (lookup (K.eq key) (pairs_of self.old.seen) ≡ None)) }
+    {
+        let missing = match self.state.seek(self.slots, &key) {
+            Ok(present) => {
+                return Ok(Inserted {
+                    value: self.entry_at(present),
+                    index: present,
+                    is_new: false,
+                });
+            }
+            Err(missing) => missing,
         };
         let slots = self.slots;
-        let index = match push_item(slots, &mut self.state.list, entry) {
-            Ok(index) => index,
-            Err(entry) => {
-                let Entry { value, key: _none } = entry;
-                return Err(CellFault::Memory(value));
-            }
-        };
-        let Ok(_none) = self.state.keys.insert(key, ()) else {
-            unreachable!()
-        };
-        let kept = self.value_at(index);
-        Ok(Inserted {
-            value: kept,
-            index,
-            is_new: true,
-        })
+        match self.state.add(slots, missing, Entry { key, value }) {
+            Ok(index) => Ok(Inserted {
+                value: self.entry_at(index),
+                index,
+                is_new: true,
+            }),
+            Err(entry) => Err(entry),
+        }
     }
 }
 
@@ -562,13 +730,10 @@ impl<'m, K: Eq + Hash + Drop, V: Drop, S: BuildHasher + Drop, A: Allocator + Cop
     ///
     /// # Cost
     /// One hash and one search.
-    pub fn get<Q: SeeksIndex<K, (), IndexMap<K, (), S, A>>>(
-        &mut self,
-        query: Q,
-    ) -> Result<Option<&'m V>, InUse>
+    pub fn get<Q: Query<K>>(&mut self, query: Q) -> Result<Option<&'m V>, InUse>
         ensures continues { Continues self.old self.new }
         ensures found { IfOk result (λ found. option_map (λ v. v.now) found
-            ≡ lookup (Q.Seeks.finds query) (pairs_of self.new.seen)) }
+            ≡ lookup (Q.finds query) (pairs_of self.new.seen)) }
         ensures refused { IfErr result (λ _. self.new ≡ self.old) }
     {
         let whole = self.hold()?;
@@ -582,16 +747,17 @@ impl<'m, K: Eq + Hash + Drop, V: Drop, S: BuildHasher + Drop, A: Allocator + Cop
     /// value, and `key` and `value` are dropped.
     ///
     /// # Errors
-    /// Fails with [`CellFault::Memory`] if an allocation fails, and with [`CellFault::InUse`] if
-    /// the call is made inside another call of the map, or while a [`MapHold`] of it exists. Both
-    /// contain `value`; the key is dropped.
+    /// Fails with [`CellFault::Memory`] if an allocation fails, or if the map has the greatest
+    /// number of entries, `2^32 - 1`, and with [`CellFault::InUse`] if the call is made inside
+    /// another call of the map, or while a [`MapHold`] of it exists. Both contain `value`; the key
+    /// is dropped.
     ///
     /// # Allocates
-    /// A buffer, four times as large as the one before, at the lengths where one begins, and room
-    /// in the table of keys.
+    /// A buffer, four times as large as the one before, at the lengths where one begins. When three
+    /// quarters of the table's buckets are taken: twice their number, of 8 bytes each.
     ///
     /// # Cost
-    /// One hash if the key is present, two if it is new.
+    /// One hash and one search.
     pub fn insert_new(&mut self, key: K, value: V) -> Result<Inserted<&'m V, usize>, CellFault<V>>
         ensures continues { Continues self.old self.new }
         ensures inserted { IfOk result (λ r. InsertsOnce K.eq self.old.seen self.new.seen key value
@@ -608,6 +774,48 @@ impl<'m, K: Eq + Hash + Drop, V: Drop, S: BuildHasher + Drop, A: Allocator + Cop
         inserted
     }
 
+    /// Returns the index of the key that `query` finds, and references to the key and its value, or
+    /// `None` only if no entry that the handle has then observed has such a key; it has then
+    /// observed all entries. It allocates nothing.
+    ///
+    /// # Errors
+    /// Fails with [`InUse`] if the call is made inside another call of the map, or while a
+    /// [`MapHold`] of it exists. The handle is unchanged.
+    ///
+    /// # Cost
+    /// One hash and one search.
+    pub fn get_full<Q: Query<K>>(
+        &mut self,
+        query: Q,
+    ) -> Result<Option<(usize, &'m K, &'m V)>, InUse>
+        ensures continues { Continues self.old self.new }
+        ensures index { IfOk result (λ found. option_map (λ r. r.0) found
+            ≡ position (Q.finds query) (map key_of self.new.seen)) }
+        ensures entry { IfOk result (λ found. IfSome found (λ r.
+            slice_get (pairs_of self.new.seen) r.0 ≡ Some (r.1.now, r.2.now))) }
+        ensures found_key { IfOk result (λ found. IfSome found (λ r.
+            Q.finds query r.1.now ≡ true)) }
+        ensures refused { IfErr result (λ _. self.new ≡ self.old) }
+    {
+        let all = self.hold()?;
+        let found = all.get_full(query);
+        self.release(all);
+        Ok(found)
+    }
+
+    /// Returns references to the key and the value at an index, or `None` exactly if the index is
+    /// at or above the number of keys that the handle has observed. It allocates nothing, and it
+    /// never fails.
+    ///
+    /// # Cost
+    /// `O(1)`.
+    pub fn get_index(&self, index: usize) -> Option<(&'m K, &'m V)>
+        ensures entry { option_map (λ r. (r.0.now, r.1.now)) result
+            ≡ slice_get (pairs_of self.now.seen) index }
+    {
+        pair_at(&self.observed, index)
+    }
+
     /// Finds a key in the whole map, and returns its index and the reference to its value.
     fn find(&mut self, key: &K) -> Result<Option<(usize, &'m V)>, InUse>
         ensures continues { Continues self.old self.new }
@@ -620,7 +828,10 @@ impl<'m, K: Eq + Hash + Drop, V: Drop, S: BuildHasher + Drop, A: Allocator + Cop
         let hold = self.hold()?;
         let found = hold.find(key);
         self.release(hold);
-        Ok(found)
+        match found {
+            Some((index, entry)) => Ok(Some((index, entry.value()))),
+            None => Ok(None),
+        }
     }
 
     /// Inserts a key with the value that `make` returns, unless the map has an equal key. `make` is
@@ -631,15 +842,16 @@ impl<'m, K: Eq + Hash + Drop, V: Drop, S: BuildHasher + Drop, A: Allocator + Cop
     /// `is_new = false`.
     ///
     /// # Errors
-    /// Fails with [`CellFault::Memory`] if an allocation fails, and with [`CellFault::InUse`] if
-    /// the call is made inside another call of the map, or while a [`MapHold`] of it exists. Both
-    /// contain the value if `make` had made it; the key is dropped.
+    /// Fails with [`CellFault::Memory`] if an allocation fails, or if the map has the greatest
+    /// number of entries, `2^32 - 1`, and with [`CellFault::InUse`] if the call is made inside
+    /// another call of the map, or while a [`MapHold`] of it exists. Both contain the value if
+    /// `make` had made it; the key is dropped.
     ///
     /// # Allocates
     /// As [`insert_new`](Self::insert_new) does.
     ///
     /// # Cost
-    /// One hash if the key is present, three if it is new.
+    /// One hash if the key is present, two if it is new.
     pub fn insert_with<F: FnOnce() -> V + Drop>(
         &mut self,
         key: K,
@@ -680,7 +892,7 @@ impl<'m, K: Eq + Hash + Drop, V: Drop, S: BuildHasher + Drop, A: Allocator + Cop
     /// As [`insert_new`](Self::insert_new) does.
     ///
     /// # Cost
-    /// One hash if the key is present, three if it is new.
+    /// One hash if the key is present, two if it is new.
     pub fn try_insert_with<E: Drop, F: FnOnce() -> Result<V, E> + Drop>(
         &mut self,
         key: K,

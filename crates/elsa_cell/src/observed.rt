@@ -1,4 +1,5 @@
-//! [`Observed`]: the prefix of a list that a handle has observed, and its iterator.
+//! [`Observed`]: the prefix of a list that a handle has observed, its iterator, and [`Seen`], which
+//! outlives the handle.
 ghost use Rattle.std.specs.Prelude.{◌≡◌, ◌<◌, ◌≤◌, ◌^◌, true, drop, length, slice_get, IfSome, Some};
 ghost use Rattle.std.specs.Iterator.{UpTo, YieldsFirstRef, item_count};
 ghost use Rattle.std.specs.Iterator.SizeHint.{IsWithinCount};
@@ -56,6 +57,17 @@ impl<'v, T, A: Allocator + Copy> Observed<'v, T, A> {
             slots,
             prefix: state.prefix.again(),
             count: state.count,
+        }
+    }
+
+    /// Returns evidence of the observed items, to cite after the list is moved. It allocates
+    /// nothing.
+    pub fn evidence(&self) -> Seen<T, A>
+        ensures same_view { result ≡ self.now }
+    {
+        Seen {
+            prefix: self.prefix.again(),
+            count: self.count,
         }
     }
 
@@ -167,6 +179,47 @@ impl<'v, T, A: Allocator + Copy> Observed<'v, T, A> {
             let seen = std::mem::replace(&mut other.prefix, self.prefix.again());
             seen.discard();
         }
+    }
+}
+
+/// Evidence of a prefix of a list that was observed, without a borrow of the list: a call that
+/// takes the list apart states by it what comes back. Contracts see the list, by the names of its
+/// buffers, and the items of the prefix. At run time it is the number of those items.
+pub struct Seen<T, A: Allocator = Global> {
+    prefix: WrittenPrefix<T, Buffer<T, A>>,
+    count: usize,
+}
+
+impl<T, A: Allocator> Model for Seen<T, A> {
+    ghost use Rattle.std.specs.Prelude.{◌≡◌, ◌<◌, ◌^◌, length};
+    ghost use Rattle.elsa_cell.specs.Observed.{View};
+
+    ghost Value = { View T };
+
+    ghost view = { λ s. record { vector = s.prefix.buffer_slots; seen = s.prefix.items } };
+
+    ghost invariant = { λ s. (s.count ≡ length s.prefix.items) × (s.count < 2 ^ 62) };
+}
+
+impl<T, A: Allocator> Drop for Seen<T, A> {
+    fn drop(self) {
+        let Self { prefix, count: _ } = self;
+        prefix.discard();
+    }
+}
+
+impl<T, A: Allocator> Seen<T, A> {
+    /// Returns whether a state has all observed items. It always has, as
+    /// [`Observed::is_behind`] says.
+    pub(crate) fn is_behind(&self, state: &State<T, A>) -> bool
+        requires { IsStateOf self.now.vector state.now }
+        ensures { result ≡ true → IsPrefix self.now.seen state.now.prefix.items }
+    {
+        if state.count < self.count {
+            return false;
+        }
+        begins(&self.prefix, &state.prefix);
+        true
     }
 }
 

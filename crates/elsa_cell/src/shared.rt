@@ -38,6 +38,15 @@ impl<S: Fits + Drop> Shared<S> {
         }
     }
 
+    /// Stores no state: each call then finds that another has it.
+    pub(crate) fn lost(tag: &S::Tag) -> Shared<S>
+        ensures { result ≡ tag.now }
+    {
+        Shared {
+            cell: Counted::new(None, tag),
+        }
+    }
+
     /// Takes the state out, or returns `None` if another call has it.
     pub(crate) fn take(&self) -> Option<S>
         ensures { IfSome result (λ s. S.fits self.now s) }

@@ -9,7 +9,9 @@ ghost use Rattle.elsa_slots.specs.Ahead.{GoesOn, IsClosedAt, IsOpenAt};
 use boxcar::tag::Tag;
 use counted_slot::Fits;
 use elsa_machine::geometry::{buffer_size, locate};
-use elsa_slots::slots::{Ahead, Buffer, HasSlots, Slots, WriteRights, Written, WrittenPrefix};
+use elsa_slots::slots::{
+    Ahead, Buffer, HasSlots, Sink, Slots, WriteRights, Written, WrittenPrefix,
+};
 use std::alloc::Allocator;
 
 /// The greatest number of items.
@@ -68,6 +70,20 @@ impl<T, A: Allocator> State<T, A> {
             ahead,
         } = self;
         (count, prefix, ahead)
+    }
+}
+
+impl<T, A: Allocator> State<T, A> {
+    /// Moves the items of the list to `to`, in order, and deallocates its buffers.
+    pub(crate) fn move_items<Z: Sink<T>>(self, slots: Slots<T, A>, to: &mut Z)
+        requires state { IsStateOf slots self }
+        requires room { (Z.received to.old ≡ []) × (self.count ≤ Z.capacity to.old) }
+        ensures received { Z.received to.new ≡ self.prefix.items }
+    {
+        let (count, prefix, ahead) = self.parts();
+        slots.move_items(count, &prefix, to);
+        prefix.discard();
+        discard(ahead);
     }
 }
 

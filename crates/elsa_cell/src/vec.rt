@@ -5,7 +5,7 @@ ghost use mathlib.Core.List.{IsPrefix};
 ghost use Rattle.elsa_cell.specs.Observed.{Appends, Continues, IsStateOf};
 
 use crate::fault::{CellFault, InUse};
-use crate::observed::{Iter, Observed};
+use crate::observed::{Iter, Observed, Seen};
 use crate::shared::{OfSlots, Shared};
 use crate::state::{State, push_item};
 use boxcar::tag::Tag;
@@ -171,6 +171,55 @@ impl<T, A: Allocator + Copy> FrozenVec<T, A> {
     pub fn len(&self) -> Result<usize, InUse> {
         let handle = self.handle()?;
         Ok(handle.seen_len())
+    }
+
+    /// Makes the list of its state again, which may be lost.
+    fn again(slots: Slots<T, A>, state: Option<State<T, A>>) -> Self
+        requires { IfSome state (IsStateOf slots) }
+        ensures { result ≡ slots }
+    {
+        let tag = Tag::of::<Slots<T, A>, OfSlots>(&slots);
+        let cell = match state {
+            Some(state) => Shared::new(state, &tag),
+            None => Shared::lost(&tag),
+        };
+        FrozenVec { slots, cell }
+    }
+
+    /// Moves all items into a vector of `alloc`, in order, and drops none. `seen` is evidence of
+    /// items that the list has ([`Observed::evidence`]): the vector begins with them.
+    ///
+    /// # Errors
+    /// Fails with [`CellFault::Memory`] if an allocation fails, and with [`CellFault::InUse`] if a
+    /// guard of the list was forgotten. Both contain the list.
+    ///
+    /// # Allocates
+    /// A block of `alloc` for the items.
+    ///
+    /// # Cost
+    /// `O(n)`: one move of each item.
+    pub fn into_vec<Z: Allocator>(
+        self,
+        alloc: Z,
+        seen: &Seen<T, A>,
+    ) -> Result<Vec<T, Z>, CellFault<Self>>
+        requires same_vector { seen.now.vector ≡ self }
+        ensures items { IfOk result (λ all. IsPrefix seen.now.seen all.items) }
+        ensures given_back { IfErr result (λ f. (f ≡ CellFault.Memory self)
+            ⊎ (f ≡ CellFault.InUse self)) }
+    {
+        let Self { slots, cell } = self;
+        let Some(state) = cell.into_state() else {
+            return Err(CellFault::InUse(FrozenVec::again(slots, None)));
+        };
+        if !seen.is_behind(&state) {
+            return Err(CellFault::InUse(FrozenVec::again(slots, Some(state))));
+        }
+        let Ok(mut all) = Vec::with_capacity(alloc, state.count) else {
+            return Err(CellFault::Memory(FrozenVec::again(slots, Some(state))));
+        };
+        state.move_items(slots, &mut all);
+        Ok(all)
     }
 
     /// Returns an iterator over the items, in order and each once. Others may be pushed while it

@@ -8,7 +8,11 @@ mod graph;
 #[cfg(test)]
 mod includes;
 #[cfg(test)]
+mod index_tests;
+#[cfg(test)]
 mod inside;
+#[cfg(test)]
+mod into_tests;
 #[cfg(test)]
 mod map_tests;
 #[cfg(test)]

@@ -9,6 +9,8 @@ mod fluent_resource;
 #[cfg(test)]
 mod look_ups;
 #[cfg(test)]
+mod owned_interner;
+#[cfg(test)]
 mod string_interner;
 #[cfg(test)]
 mod threads;

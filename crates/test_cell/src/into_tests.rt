@@ -1,0 +1,127 @@
+//! Collections that are taken apart: all items come back, in order and each once, none is dropped,
+//! and a denied allocation gives the collection back.
+use elsa_cell::{CellFault, FrozenMap, FrozenVec};
+use std::alloc::{AllocError, Allocator, Global};
+use std::sync::Arc;
+use std::test::*;
+use test_alloc::Budget;
+
+/// Pushes `count` items and takes the list apart. Returns whether each comes back at its index.
+fn items_come_back(alloc: Global, count: u64) -> Result<bool, AllocError> {
+    let list: FrozenVec<u64> = FrozenVec::new(alloc)?;
+    for number in 0..count {
+        if list.push(number.wrapping_mul(3)).is_err() {
+            return Ok(false);
+        }
+    }
+    let Ok(handle) = list.handle() else {
+        return Ok(false);
+    };
+    let seen = handle.observed().evidence();
+    drop(handle);
+    let Ok(all) = list.into_vec(alloc, &seen) else {
+        return Ok(false);
+    };
+    for (number, item) in all.iter().enumerate() {
+        if *item != (number as u64).wrapping_mul(3) {
+            return Ok(false);
+        }
+    }
+    Ok(all.len() as u64 == count)
+}
+
+#[test]
+fn an_item_did_not_come_back(rt: HostRuntime) -> Result<(), Fail> {
+    for count in [0, 1, 2, 3, 4, 15, 16, 63, 64, 255, 5000] {
+        assert!(rt; items_come_back(rt.alloc(), count)?, "{count}");
+    }
+    Ok(())
+}
+
+/// Returns whether a list with owners comes back without a drop, of which no handle had observed
+/// the last two.
+fn owners_come_back(alloc: Global) -> Result<bool, AllocError> {
+    let counted = Arc::new(alloc, 0_u64)?;
+    let list: FrozenVec<Arc<u64>> = FrozenVec::new(alloc)?;
+    let is_first = list.push(counted.clone()?).is_ok();
+    let Ok(handle) = list.handle() else {
+        return Ok(false);
+    };
+    let seen = handle.observed().evidence();
+    drop(handle);
+    let is_full = list.push(counted.clone()?).is_ok() && list.push(counted.clone()?).is_ok();
+    let Ok(all) = list.into_vec(alloc, &seen) else {
+        return Ok(false);
+    };
+    let held = Arc::strong_count(&counted);
+    let len = all.len();
+    drop(all);
+    Ok(is_first && is_full && held == 4 && len == 3 && Arc::strong_count(&counted) == 1)
+}
+
+/// Returns whether the entries of a map come back in the order of their insertion, and no owner is
+/// dropped.
+fn entries_come_back(alloc: Global) -> Result<bool, AllocError> {
+    let counted = Arc::new(alloc, 0_u64)?;
+    let map: FrozenMap<String, Arc<u64>> = FrozenMap::new(alloc)?;
+    for word in ["ann", "bob", "ann", "cat"] {
+        if map
+            .insert(String::from_str(alloc, word)?, counted.clone()?)
+            .is_err()
+        {
+            return Ok(false);
+        }
+    }
+    let Ok(handle) = map.handle() else {
+        return Ok(false);
+    };
+    let seen = handle.observed().evidence();
+    drop(handle);
+    let Ok(all) = map.into_tuple_vec(alloc, &seen) else {
+        return Ok(false);
+    };
+    for (entry, word) in all.iter().zip(["ann", "bob", "cat"]) {
+        if entry.0.as_str() != word {
+            return Ok(false);
+        }
+    }
+    let held = Arc::strong_count(&counted);
+    let len = all.len();
+    drop(all);
+    Ok(held == 4 && len == 3 && Arc::strong_count(&counted) == 1)
+}
+
+#[test]
+fn an_owner_was_dropped_on_its_way_back(rt: HostRuntime) -> Result<(), Fail> {
+    assert!(rt; owners_come_back(rt.alloc())?);
+    assert!(rt; entries_come_back(rt.alloc())?);
+    Ok(())
+}
+
+/// Takes a list apart with an allocator that denies the block. Returns whether the list comes back
+/// with its items, and then gives them to another allocator.
+fn comes_back_whole<A: Allocator + Copy>(alloc: Global, none: A) -> Result<bool, AllocError> {
+    let list: FrozenVec<u64> = FrozenVec::new(alloc)?;
+    let is_full = list.push(7).is_ok() && list.push(8).is_ok();
+    let Ok(handle) = list.handle() else {
+        return Ok(false);
+    };
+    let seen = handle.observed().evidence();
+    drop(handle);
+    let Err(CellFault::Memory(list)) = list.into_vec(none, &seen) else {
+        return Ok(false);
+    };
+    let is_kept = list.get(1) == Ok(Some(&8)) && matches!(list.push(9), Ok(2));
+    let Ok(all) = list.into_vec(alloc, &seen) else {
+        return Ok(false);
+    };
+    Ok(is_full && is_kept && all.as_slice() == [7, 8, 9].as_slice())
+}
+
+#[test]
+fn a_denied_block_lost_the_list(rt: HostRuntime) -> Result<(), Fail> {
+    let budget = Budget::new(rt.alloc());
+    budget.refuse(0, u64::MAX);
+    assert!(rt; comes_back_whole(rt.alloc(), &budget)?);
+    Ok(())
+}
