@@ -144,22 +144,61 @@ fn a_set_keeps_first_items(alloc: Global) -> Result<bool, AllocError> {
     Ok(again && found && by_index && absent && set.len() == Ok(4))
 }
 
-/// Returns whether the items that two insertions of one text return are the same string.
-fn equal_items_are_one(alloc: Global) -> Result<bool, AllocError> {
-    let set: FrozenIndexSet<String> = FrozenIndexSet::new(alloc)?;
-    let Ok(first) = set.insert(String::from_str(alloc, "ann")?) else {
-        return Ok(false);
-    };
-    let Ok(again) = set.insert(String::from_str(alloc, "ann")?) else {
-        return Ok(false);
-    };
-    Ok(first.as_str().as_ptr() == again.as_str().as_ptr())
+/// A number with a mark that `==` and the hash leave out.
+#[derive(Drop)]
+struct Marked {
+    number: u64,
+    mark: u64,
+}
+
+impl PartialEq for Marked {
+    ghost eq = { λ a b. a.number == b.number };
+
+    ghost laws = { partial_equiv_from_equiv (on_equiv (λ a. a.number) nat_eq_equiv) };
+
+    fn eq(&self, other: &Self) -> bool {
+        self.number == other.number
+    }
+}
+
+impl Eq for Marked {
+    ghost laws = { on_equiv (λ a. a.number) nat_eq_equiv };
+}
+
+impl Hash for Marked {
+    ghost hash_input = { λ a. fed.u64 a.number };
+
+    ghost respects_eq = { λ x y h. ap fed.u64 (eqb-true x.number y.number h) };
+
+    fn hash<H: Hasher>(&self, state: &mut H) {
+        state.write_u64(self.number);
+    }
+}
+
+/// Returns the marks of the items that four insertions return: two pairs of equal items, whose marks
+/// differ.
+fn marks(alloc: Global) -> Result<[u64; 4], AllocError> {
+    let set: FrozenIndexSet<Marked> = FrozenIndexSet::new(alloc)?;
+    let mut found = [0; 4];
+    let pairs = [(1, 10), (2, 20), (1, 11), (2, 21)];
+    for (step, (number, mark)) in pairs.iter().enumerate() {
+        let item = Marked {
+            number: *number,
+            mark: *mark,
+        };
+        if let Ok(kept) = set.insert(item) {
+            if step < 4 {
+                found[step] = kept.mark;
+            }
+        }
+    }
+    Ok(found)
 }
 
 #[test]
 fn a_set_replaced_an_item(rt: HostRuntime) -> Result<(), Fail> {
     assert!(rt; a_set_keeps_first_items(rt.alloc())?);
-    assert!(rt; equal_items_are_one(rt.alloc())?);
+    assert!(rt; marks(rt.alloc())? == [10, 20, 10, 20]);
     Ok(())
 }
 
