@@ -10,7 +10,8 @@ contain:
     NAME STAMP DIGEST
 
 STAMP is the toolchain's checksum of the library's sources, of its line of crates.txt and of all libraries below it.
-DIGEST is a sha256 over the files of NAME.rlib.
+DIGEST is a sha256 over the files of NAME.rlib. For the static library elsa_c, on which no crate depends, NAME.rlib has
+its archive alone.
 """
 import hashlib, lzma, pathlib, shutil, subprocess, tarfile, tempfile
 
@@ -18,6 +19,8 @@ from kit import toolchain
 from repository import root, stands_on
 
 DIGESTS = root / "proofs.sha256"
+# The static library whose archive is shipped.
+STATIC = "elsa_c"
 
 
 class Rejected(Exception):

@@ -41,8 +41,11 @@ impl Draws {
 
     /// Returns a size from 1 to 200,000. Each power of two is as likely as the others.
     pub fn size(&mut self) -> u64 {
-        let bits = self.below(18);
-        let drawn = self.next() & ((2 << bits) - 1);
+        let mut above = 2u64;
+        for _ in 0..self.below(18) {
+            above = above.wrapping_mul(2);
+        }
+        let drawn = self.below(above);
         drawn.max(1).min(MOST)
     }
 }
@@ -55,7 +58,7 @@ struct Known {
 }
 
 /// Returns the entry of a key in the list.
-fn known(list: &[Option<Known>], key: u64) -> Option<Known> {
+fn entry_of(list: &[Option<Known>], key: u64) -> Option<Known> {
     list.get(key as usize).copied().unwrap_or(None)
 }
 
@@ -113,7 +116,7 @@ pub fn is_right<G: Grows>(
     for _ in 0..size {
         let key = grown.next_key(draws.below(size));
         let value = draws.next();
-        let before = known(list.as_slice(), key);
+        let before = entry_of(list.as_slice(), key);
         if draws.below(BETWEEN_FAILURES) == 0 {
             heap.refuse_next(draws.below(3));
         }
@@ -131,7 +134,7 @@ pub fn is_right<G: Grows>(
         }
     }
     for key in 0..size {
-        if !shows(grown, key, known(list.as_slice(), key)) {
+        if !shows(grown, key, entry_of(list.as_slice(), key)) {
             return Ok(false);
         }
     }
