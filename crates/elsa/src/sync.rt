@@ -8,7 +8,7 @@ pub use elsa_history as history;
 pub use elsa_lock_free::lock_free::{Handle, LockFreeFrozenVec, Pass};
 pub use elsa_lock_free::{item_rule, lock_free};
 pub use elsa_lock_free_map::handle::MapHandle;
-pub use elsa_lock_free_map::iter::MapIter;
+pub use elsa_lock_free_map::iter::{MapIter, MapRefs};
 pub use elsa_lock_free_map::map::{Inserted, LockFreeFrozenMap, MapPass};
 pub use elsa_locks::map::{FrozenBTreeMap, FrozenMap};
 pub use elsa_locks::vec::{FrozenVec, Iter};

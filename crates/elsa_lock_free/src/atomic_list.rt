@@ -28,7 +28,7 @@ use crate::tokens::{Author, evidence, offer_read};
 use crossbeam_utils::CachePadded;
 use elsa_machine::geometry::locate;
 use elsa_slots::iter::{Iter, walk, walk_from};
-use elsa_slots::slots::{Beside, Buffer, Slots, WrittenPrefix};
+use elsa_slots::slots::{Beside, Buffer, Sink, Slots, WrittenPrefix};
 use logbook::{Gained, Offer, Seen, Word};
 pub(crate) use push::{LIMIT, Ready, wait_a_little};
 use std::alloc::Allocator;
@@ -96,6 +96,25 @@ impl<T: Drop, A: Allocator, K: ItemRule<T>, X: Beside<T> + Drop> Drop for Atomic
 }
 
 impl<T: Drop, A: Allocator + Copy, K: ItemRule<T>, X: Beside<T> + Drop> AtomicList<T, A, K, X> {
+    /// Moves all `len` items to `to`, in order, and deallocates all memory. `prefix` is the
+    /// evidence of a read of the length, after which no thread has pushed.
+    pub fn move_items<S: Sink<T>>(
+        self,
+        len: usize,
+        prefix: &WrittenPrefix<T, Buffer<T, A, X>>,
+        to: &mut S,
+    )
+        requires prefix { prefix.now.buffer_slots ≡ buffer_slots_of self.first.names }
+        requires length { (len ≡ length prefix.now.items) × (len < 2 ^ 62) }
+        requires room { (S.received to.old ≡ []) × (len ≤ S.capacity to.old) }
+        ensures received { S.received to.new ≡ prefix.now.items }
+    {
+        let Self { slots, word, first } = self;
+        slots.move_items(len, prefix, to);
+        drop(word);
+        drop(first);
+    }
+
     /// One item of what is known to be written. It takes no atomic step.
     pub fn item<'a>(&'a self, prefix: &WrittenPrefix<T, Buffer<T, A, X>>, place: usize) -> &'a T
         requires prefix { prefix.now.buffer_slots ≡ buffer_slots_of self.now.first.names }
@@ -152,7 +171,7 @@ impl<T: Drop, A: Allocator + Copy, K: ItemRule<T>, X: Beside<T> + Drop> AtomicLi
     }
 }
 
-impl<T: Copy + Drop, A: Allocator + Copy, K: ItemRule<T>> AtomicList<T, A, K> {
+impl<T: Drop, A: Allocator + Copy, K: ItemRule<T>> AtomicList<T, A, K> {
     /// A walk over the items that are known to be written. It takes no atomic step.
     pub fn items<'a>(&'a self, prefix: WrittenPrefix<T, Buffer<T, A>>, len: usize) -> Iter<'a, T, A>
         requires prefix { prefix.buffer_slots ≡ buffer_slots_of self.now.first.names }

@@ -268,6 +268,74 @@ impl<'v, T: Drop, A: Allocator + Copy, K: ItemRule<T>> Handle<'v, T, A, K> {
         hold.end_with(rt, self, item)?;
         Ok(place)
     }
+
+    /// Returns an iterator over the items that the handle has observed, each once and in order. It
+    /// yields copies of `Copy` items; for any items, its [`refs`](Iter::refs) yield references.
+    ///
+    /// It doesn't read the length: it takes no atomic step and no lock, and allocates nothing. It
+    /// doesn't yield pushes that the handle has not observed; [`len`](Self::len) observes them.
+    ///
+    /// # Cost
+    /// `O(1)`, also for each item.
+    pub fn iter(&self) -> Iter<'v, T, A>
+        ensures items { result ≡ items_of self.now.seen }
+    {
+        let list = self.list;
+        list.items(self.pass.evidence(), self.seen_len())
+    }
+
+    /// Reads the length once, and returns an iterator over the items that the handle had not
+    /// observed before, each once and in order. A handle observes its own pushes, so the iterator
+    /// yields neither them nor the items below them. It yields copies or references, as that of
+    /// [`iter`](Self::iter) does.
+    ///
+    /// It takes no lock, allocates nothing and never blocks.
+    ///
+    /// # Cost
+    /// `O(1)`, also for each item, which takes no atomic step.
+    pub fn news(&mut self) -> Iter<'v, T, A>
+        ensures continues { Continues self.old self.new }
+        ensures items { result ≡ drop (length self.old.seen) (items_of self.new.seen) }
+    {
+        let before = self.seen_len();
+        let len = self.len();
+        let list = self.list;
+        list.items_from(self.pass.evidence(), len, before)
+    }
+
+    /// Waits for items that the handle has not observed, and returns an iterator over them, as
+    /// [`news`](Self::news) does. It reads the length at most `tries` times, until there is such an
+    /// item. If none comes, the iterator is empty.
+    ///
+    /// # Blocks
+    /// Between two reads: the first 64 times by the processor's hint for waiting loops, and from
+    /// then on the thread yields its processor.
+    ///
+    /// # Cost
+    /// `O(1)` for each read and for each item.
+    pub fn wait_for_news<R: Wait>(&mut self, rt: &R, tries: usize) -> Iter<'v, T, A>
+        ensures continues { Continues self.old self.new }
+        ensures items { result ≡ drop (length self.old.seen) (items_of self.new.seen) }
+    {
+        let before = self.seen_len();
+        self.wait_for_length(rt, before, tries);
+        let list = self.list;
+        list.items_from(self.pass.evidence(), self.seen_len(), before)
+    }
+
+    /// Reads the length until it is above `before`, at most `tries` times, and waits a little
+    /// between two reads.
+    fn wait_for_length<R: Wait>(&mut self, _rt: &R, before: usize, tries: usize)
+        ensures continues { Continues self.old self.new }
+    {
+        let mut waits = 0;
+        for _ in 0..tries {
+            if self.len() > before {
+                break;
+            }
+            waits = wait_a_little(waits);
+        }
+    }
 }
 
 impl<'v, T: Copy + Drop, A: Allocator + Copy, K: ItemRule<T>> Handle<'v, T, A, K> {
@@ -335,71 +403,6 @@ impl<'v, T: Copy + Drop, A: Allocator + Copy, K: ItemRule<T>> Handle<'v, T, A, K
         ensures limit { IfSome result (λ _. place + 1 < 2 ^ 62) }
     {
         Some(*self.get_ref(place)?)
-    }
-
-    /// Returns an iterator over the items that the handle has observed, each once and in order. It
-    /// doesn't read the length: it takes no atomic step and no lock, and allocates nothing. It
-    /// doesn't yield pushes that the handle has not observed; [`len`](Self::len) observes them.
-    ///
-    /// # Cost
-    /// `O(1)`, also for each item.
-    pub fn iter(&self) -> Iter<'v, T, A>
-        ensures items { result ≡ items_of self.now.seen }
-    {
-        let list = self.list;
-        list.items(self.pass.evidence(), self.seen_len())
-    }
-
-    /// Reads the length once, and returns an iterator over the items that the handle had not
-    /// observed before, each once and in order. A handle observes its own pushes, so the iterator
-    /// yields neither them nor the items below them.
-    ///
-    /// It takes no lock, allocates nothing and never blocks.
-    ///
-    /// # Cost
-    /// `O(1)`, also for each item, which takes no atomic step.
-    pub fn news(&mut self) -> Iter<'v, T, A>
-        ensures continues { Continues self.old self.new }
-        ensures items { result ≡ drop (length self.old.seen) (items_of self.new.seen) }
-    {
-        let before = self.seen_len();
-        let len = self.len();
-        let list = self.list;
-        list.items_from(self.pass.evidence(), len, before)
-    }
-
-    /// Waits for items that the handle has not observed, and returns an iterator over them, as
-    /// [`news`](Self::news) does. It reads the length at most `tries` times, until there is such an
-    /// item. If none comes, the iterator is empty.
-    ///
-    /// # Blocks
-    /// Between two reads: the first 64 times by the processor's hint for waiting loops, and from
-    /// then on the thread yields its processor.
-    ///
-    /// # Cost
-    /// `O(1)` for each read and for each item.
-    pub fn wait_for_news<R: Wait>(&mut self, rt: &R, tries: usize) -> Iter<'v, T, A>
-        ensures continues { Continues self.old self.new }
-        ensures items { result ≡ drop (length self.old.seen) (items_of self.new.seen) }
-    {
-        let before = self.seen_len();
-        self.wait_for_length(rt, before, tries);
-        let list = self.list;
-        list.items_from(self.pass.evidence(), self.seen_len(), before)
-    }
-
-    /// Reads the length until it is above `before`, at most `tries` times, and waits a little
-    /// between two reads.
-    fn wait_for_length<R: Wait>(&mut self, _rt: &R, before: usize, tries: usize)
-        ensures continues { Continues self.old self.new }
-    {
-        let mut waits = 0;
-        for _ in 0..tries {
-            if self.len() > before {
-                break;
-            }
-            waits = wait_a_little(waits);
-        }
     }
 
     /// Makes an independent vector of the items that one load of the length observes, and a view

@@ -11,6 +11,7 @@
 ghost use Rattle.std.specs.Prelude.{◌≡◌, []};
 ghost use Rattle.elsa_lock_free.specs.SharedList.{mine};
 
+mod into_vec;
 mod short;
 
 use crate::atomic_list::AtomicList;
@@ -18,7 +19,7 @@ pub use crate::handle::{Handle, Observed};
 use crate::item_rule::{AnyItems, DistinctItems, ItemRule};
 pub use crate::pass::Pass;
 use crate::tokens::Author;
-pub use elsa_slots::iter::Iter;
+pub use elsa_slots::iter::{Iter, Refs};
 use elsa_slots::slots::Beside;
 use std::alloc::{AllocError, Allocator, Global};
 use std::fmt::{self, Debug, Formatter, Write};
@@ -27,8 +28,8 @@ use std::marker::Model;
 /// An append-only vector, which threads push to and read at once. A clause sees which vector it is.
 ///
 /// It owns its items: [`Handle::get_ref`] returns a reference that lives as long as the vector is
-/// borrowed, and each item is dropped once, with the vector. The calls that return items by value
-/// are for `Copy` items.
+/// borrowed, and each item is dropped once, with the vector. [`into_vec`](Self::into_vec) moves all
+/// items out. The calls that copy items are for `Copy` items.
 #[derive(Drop)]
 pub struct LockFreeFrozenVec<
     T,

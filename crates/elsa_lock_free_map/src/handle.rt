@@ -403,6 +403,22 @@ impl<'m, K: Drop + Hash, V: Drop, S: BuildHasher + Copy + Drop, A: Allocator + C
     {
         self.list.meet(&mut other.list)
     }
+
+    /// Returns an iterator over the entries that the handle has observed, each once, in the order
+    /// of their insertion. It yields copies of `Copy` keys and values; for any types, its
+    /// [`refs`](MapIter::refs) yield references.
+    ///
+    /// It doesn't read the length: it takes no atomic step and no lock, and
+    /// allocates nothing. It doesn't yield insertions that the handle has not observed;
+    /// [`len`](Self::len) observes them.
+    ///
+    /// # Cost
+    /// `O(1)`, also for each entry.
+    pub fn iter(&self) -> MapIter<'m, K, V, S, A>
+        ensures items { result ≡ pairs_of (items_of self.now.seen) }
+    {
+        walk(&self.list)
+    }
 }
 
 impl<
@@ -513,18 +529,5 @@ impl<
             return Some((entry.key, entry.value));
         }
         None
-    }
-
-    /// Returns an iterator over the entries that the handle has observed, each once, in the order
-    /// of their insertion. It doesn't read the length: it takes no atomic step and no lock, and
-    /// allocates nothing. It doesn't yield insertions that the handle has not observed;
-    /// [`len`](Self::len) observes them.
-    ///
-    /// # Cost
-    /// `O(1)`, also for each entry.
-    pub fn iter(&self) -> MapIter<'m, K, V, S, A>
-        ensures items { result ≡ pairs_of (items_of self.now.seen) }
-    {
-        walk(&self.list)
     }
 }

@@ -1,12 +1,13 @@
 //! An iterator over the entries of a map that a handle has observed, and the printed form of a map.
 ghost use Rattle.std.specs.Prelude.{◌≡◌, IfSome, Some, length};
-ghost use Rattle.std.specs.Iterator.{UpTo, YieldsFirst, item_count};
+ghost use Rattle.std.specs.Iterator.{UpTo, YieldsFirst, YieldsFirstBy, item_count};
 ghost use Rattle.std.specs.Iterator.SizeHint.{IsWithinCount};
 ghost use Rattle.elsa_lock_free.specs.SharedList.{items_of};
-ghost use Rattle.elsa_lock_free_map.specs.Entries.{pairs_of};
+ghost use Rattle.elsa_lock_free_map.specs.Entries.{pair_of, pairs_of};
 
 use crate::entries::{EntriesHandle, ObservedEntries};
 use crate::map::LockFreeFrozenMap;
+use elsa_hash_index::entry::Entry;
 use std::alloc::{Allocator, Global};
 use std::fmt::{self, Debug, Formatter, Write};
 use std::hash::{BuildHasher, BuildHasherDefault, FoldHasher, Hash};
@@ -20,8 +21,8 @@ use std::marker::Model;
 #[derive(Drop)]
 pub struct MapIter<
     'm,
-    K: Copy + Drop + Hash,
-    V: Copy + Drop,
+    K: Drop + Hash,
+    V: Drop,
     S: BuildHasher + Copy + Drop = BuildHasherDefault<FoldHasher>,
     A: Allocator + Copy = Global,
 > {
@@ -29,13 +30,8 @@ pub struct MapIter<
     place: usize,
 }
 
-impl<
-    'm,
-    K: Copy + Drop + Hash,
-    V: Copy + Drop,
-    S: BuildHasher + Copy + Drop,
-    A: Allocator + Copy,
-> Model for MapIter<'m, K, V, S, A> {
+impl<'m, K: Drop + Hash, V: Drop, S: BuildHasher + Copy + Drop, A: Allocator + Copy> Model
+    for MapIter<'m, K, V, S, A> {
     ghost use Rattle.std.specs.Prelude.{◌≤◌, List, drop, length};
     ghost use Rattle.elsa_lock_free_map.specs.Entries.{pairs_of};
 
@@ -47,18 +43,53 @@ impl<
 }
 
 /// An iterator over the entries that a handle of the list has observed.
-pub(crate) fn walk<
-    'm,
-    K: Copy + Drop + Hash,
-    V: Copy + Drop,
-    S: BuildHasher + Copy + Drop,
-    A: Allocator + Copy,
->(list: &EntriesHandle<'m, K, V, S, A>) -> MapIter<'m, K, V, S, A>
+pub(crate) fn walk<'m, K: Drop + Hash, V: Drop, S: BuildHasher + Copy + Drop, A: Allocator + Copy>(
+    list: &EntriesHandle<'m, K, V, S, A>,
+) -> MapIter<'m, K, V, S, A>
     ensures items { result ≡ pairs_of (items_of list.now.seen) }
 {
     MapIter {
         entries: list.observed(),
         place: 0,
+    }
+}
+
+impl<'m, K: Drop + Hash, V: Drop, S: BuildHasher + Copy + Drop, A: Allocator + Copy> MapIter<
+    'm,
+    K,
+    V,
+    S,
+    A,
+> {
+    /// Returns a reference to the next entry, which lives as long as the map is borrowed.
+    #[inline]
+    fn next_entry(&mut self) -> Option<&'m Entry<K, V, S>>
+        ensures { YieldsFirstBy (λ e. pair_of e.now) (λ left. left) self.old result self.new }
+    {
+        if self.place >= self.entries.len() {
+            return None;
+        }
+        let entry = self.entries.item(self.place);
+        self.place += 1;
+        Some(entry)
+    }
+
+    /// Returns the number of entries that are left.
+    fn left(&self) -> usize
+        ensures { result ≡ length self.now }
+    {
+        self.entries.len() - self.place
+    }
+
+    /// Returns an iterator over the entries that are left, each as references to its key and its
+    /// value, in order. They live as long as the map is borrowed.
+    ///
+    /// # Cost
+    /// `O(1)`, also for each entry.
+    pub fn refs(self) -> MapRefs<'m, K, V, S, A>
+        ensures items { result ≡ self.entry }
+    {
+        MapRefs { entries: self }
     }
 }
 
@@ -76,11 +107,7 @@ impl<
     ghost remaining = { item_count (λ left. left) };
 
     fn next(&mut self) -> Option<(K, V)> {
-        if self.place >= self.entries.len() {
-            return None;
-        }
-        let entry = self.entries.item(self.place);
-        self.place += 1;
+        let entry = self.next_entry()?;
         Some((entry.key, entry.value))
     }
 
@@ -89,7 +116,52 @@ impl<
         ensures upper { IfSome result.1 (UpTo (item_count (λ left. left) self.now)) }
         ensures exact { result ≡ (length self.now, Some (length self.now)) }
     {
-        let left = self.entries.len() - self.place;
+        let left = self.left();
+        (left, Some(left))
+    }
+}
+
+/// An iterator over the entries that a [`MapIter`] had left, each as references to its key and its
+/// value, in the order of their insertion. Contracts see the entries that are left.
+#[derive(Drop)]
+pub struct MapRefs<
+    'm,
+    K: Drop + Hash,
+    V: Drop,
+    S: BuildHasher + Copy + Drop = BuildHasherDefault<FoldHasher>,
+    A: Allocator + Copy = Global,
+> {
+    entries: MapIter<'m, K, V, S, A>,
+}
+
+impl<'m, K: Drop + Hash, V: Drop, S: BuildHasher + Copy + Drop, A: Allocator + Copy> Model
+    for MapRefs<'m, K, V, S, A> {
+    ghost use Rattle.std.specs.Prelude.{List};
+
+    ghost Value = { List (K × V) };
+
+    ghost view = { λ it. it.entries };
+}
+
+impl<'m, K: Drop + Hash, V: Drop, S: BuildHasher + Copy + Drop, A: Allocator + Copy> Iterator
+    for MapRefs<'m, K, V, S, A> {
+    type Item = (&'m K, &'m V);
+
+    ghost next_gives = { YieldsFirstBy (λ pair. (pair.0.now, pair.1.now)) (λ left. left) };
+
+    ghost remaining = { item_count (λ left. left) };
+
+    fn next(&mut self) -> Option<(&'m K, &'m V)> {
+        let entry = self.entries.next_entry()?;
+        Some((&entry.key, &entry.value))
+    }
+
+    fn size_hint(&self) -> (usize, Option<usize>)
+        ensures lower { IsWithinCount result.0 (item_count (λ left. left) self.now) }
+        ensures upper { IfSome result.1 (UpTo (item_count (λ left. left) self.now)) }
+        ensures exact { result ≡ (length self.now, Some (length self.now)) }
+    {
+        let left = self.entries.left();
         (left, Some(left))
     }
 }

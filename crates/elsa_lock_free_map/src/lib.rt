@@ -4,7 +4,9 @@
 
 pub mod entries;
 pub mod handle;
+mod into_pairs;
 pub mod iter;
 pub mod map;
+mod pairs;
 pub mod place_text;
 mod text;

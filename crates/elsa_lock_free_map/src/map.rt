@@ -47,8 +47,9 @@ pub(crate) fn copied<V: Copy + Drop>(inserted: Inserted<&V>) -> Inserted<V>
 /// is.
 ///
 /// It owns its keys and values: [`MapHandle::get_ref`] returns a reference that lives as long as
-/// the map is borrowed, and each is dropped once, with the map. The calls that return keys or
-/// values by value are for `Copy` types.
+/// the map is borrowed, and each is dropped once, with the map.
+/// [`into_tuple_vec`](Self::into_tuple_vec) moves all of them out. The calls that copy keys or
+/// values are for `Copy` types.
 #[derive(Drop)]
 pub struct LockFreeFrozenMap<
     K: Drop + Hash,

@@ -7,6 +7,8 @@ mod extend_tests;
 #[cfg(test)]
 mod geometry_tests;
 #[cfg(test)]
+mod into_vec_tests;
+#[cfg(test)]
 mod lock_free_tests;
 #[cfg(test)]
 mod machine_tests;

@@ -4,6 +4,8 @@
 #[cfg(test)]
 mod counted_tests;
 #[cfg(test)]
+mod into_pairs_tests;
+#[cfg(test)]
 mod made_tests;
 #[cfg(test)]
 mod owner_tests;

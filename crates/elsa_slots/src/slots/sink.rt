@@ -1,8 +1,8 @@
 // Where items go that are moved out of their slots.
-ghost use Rattle.std.specs.Prelude.{◌≡◌, ℕ, ◌^◌, ◌<◌, List, [], ◌∷◌, ◌++◌, length, vec_capacity};
+ghost use Rattle.std.specs.Prelude.{◌≡◌, ℕ, ◌^◌, ◌<◌, ◌≤◌, List, [], ◌∷◌, ◌++◌, IfOk, length, vec_capacity};
 ghost use base.Fml.{ftrue};
 
-use std::alloc::Allocator;
+use std::alloc::{AllocError, Allocator};
 use std::marker::{Model, PhantomData};
 
 /// A receiver of items that are moved out of their slots.
@@ -20,29 +20,39 @@ pub trait Sink<T> {
         ensures capacity { capacity self.new ≡ capacity self.old };
 }
 
-/// A receiver that drops each item. Contracts see the items that it dropped, in order. It has no
-/// bytes.
-pub struct Dropped<T> {
+/// A receiver that is made with capacity for a number of items.
+pub trait Collection<T, A>: Sink<T> + Sized {
+    /// Makes an empty receiver with capacity for `count` items.
+    ///
+    /// # Errors
+    /// Fails if the allocation fails.
+    fn with_capacity(alloc: A, count: usize) -> Result<Self, AllocError>
+        ensures empty { IfOk result (λ s. Self.received s ≡ []) }
+        ensures capacity { IfOk result (λ s. count ≤ Self.capacity s) };
+}
+
+/// The items that a receiver has received, in order, for contracts. It has no bytes.
+pub struct Received<T> {
     marker: PhantomData<T>,
     pub ghost items: { List T },
 }
 
-impl<T> Model for Dropped<T> {
+impl<T> Model for Received<T> {
     ghost also_owns = { λ _. ftrue };
 }
 
-impl<T> Dropped<T> {
-    /// Makes a receiver that has dropped no item.
-    pub(super) fn none() -> Dropped<T>
+impl<T> Received<T> {
+    /// Makes the record of no item.
+    pub fn none() -> Received<T>
         ensures { result.items ≡ [] }
     {
-        Dropped {
+        Received {
             marker: PhantomData,
         }
     }
 
-    /// Records the item, which the caller drops next. It does nothing when it runs.
-    fn record(&mut self, _item: &T)
+    /// Adds an item at the end. It does nothing when it runs.
+    pub fn record(&mut self, _item: &T)
         ensures { self.new.items ≡ self.old.items ++ _item.now ∷ [] }
     {}
 
@@ -52,13 +62,44 @@ impl<T> Dropped<T> {
     }
 }
 
+/// A receiver that drops each item. Contracts see the items that it dropped, in order. It has no
+/// bytes.
+pub struct Dropped<T> {
+    received: Received<T>,
+}
+
+impl<T> Model for Dropped<T> {
+    ghost use Rattle.std.specs.Prelude.{List};
+
+    ghost Value = { List T };
+
+    ghost view = { λ d. d.received.items };
+}
+
+impl<T> Dropped<T> {
+    /// Makes a receiver that has dropped no item.
+    pub(super) fn none() -> Dropped<T>
+        ensures { result ≡ [] }
+    {
+        Dropped {
+            received: Received::none(),
+        }
+    }
+
+    /// Discards the record.
+    pub fn discard(self) {
+        let Self { received } = self;
+        received.discard();
+    }
+}
+
 impl<T: Drop> Sink<T> for Dropped<T> {
-    ghost received = { λ d. d.items };
+    ghost received = { λ d. d };
 
     ghost capacity = { λ _. 2 ^ 62 };
 
     fn receive(&mut self, item: T) {
-        self.record(&item);
+        self.received.record(&item);
         drop(item);
     }
 }
@@ -70,5 +111,11 @@ impl<T, B: Allocator> Sink<T> for Vec<T, B> {
 
     fn receive(&mut self, item: T) {
         self.push_reserved(item);
+    }
+}
+
+impl<T, B: Allocator> Collection<T, B> for Vec<T, B> {
+    fn with_capacity(alloc: B, count: usize) -> Result<Vec<T, B>, AllocError> {
+        Vec::with_capacity(alloc, count)
     }
 }

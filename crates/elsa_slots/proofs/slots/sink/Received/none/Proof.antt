@@ -1,17 +1,17 @@
 -- `none` makes an empty record.
 use Rattle.elsa_slots.proofs.ByHand.{SProp, emp, fact, fact_i, tables, param, layouts, RattleType, owns, types_at, nothing, Stays, walk_of, inst_fn, a_type, Val, alloc_all, pass_all, free_all, look_at, get, sets, ‵, raw, ◌⊛◌, ◌$◌, ◌∵◌, !, qed, by, keep, use0, use1, split, agg, returns, enter, no_more, and_then, leaves, proved, List, [], ◌∷◌, refl, ◌≡◌}
-use Rattle.elsa_slots.specs.contracts.slots.sink.Dropped as Dropped
+use Rattle.elsa_slots.specs.contracts.slots.sink.Received as Received
 use Rattle.elsa_slots.proofs.SlotLemmas.Tokens.{token_val}
 use Rattle.elsa_slots.proofs.SlotLemmas.Records.{record_made}
-use Rattle.elsa_slots.specs.contracts.slots.sink.Dropped.none.{ended, clauses}
-use Rattle.elsa_slots.specs.contracts.slots.sink.Dropped.none.Key.{name as #self}
-use Rattle.elsa_slots.proofs.slots.sink.Dropped.none.Statement.{statement}
-use Rattle.elsa_slots.proofs.slots.sink.Dropped.none.Code as code
+use Rattle.elsa_slots.specs.contracts.slots.sink.Received.none.{ended, clauses}
+use Rattle.elsa_slots.specs.contracts.slots.sink.Received.none.Key.{name as #self}
+use Rattle.elsa_slots.proofs.slots.sink.Received.none.Statement.{statement}
+use Rattle.elsa_slots.proofs.slots.sink.Received.none.Code as code
 
 -- The record of no item owns nothing.
 pub none_spec : {M : Type 1} → statement M
 none_spec 𝓤 𝓛 𝓜 𝓡 wired T L =
-    let H = 𝓛.H in let 𝓣 = tables 𝓤 H 𝓜 𝓡 𝓡.env in let R : RattleType = param 0 T in let En = ended T in let S : RattleType = Dropped.the_row R in
+    let H = 𝓛.H in let 𝓣 = tables 𝓤 H 𝓜 𝓡 𝓡.env in let R : RattleType = param 0 T in let En = ended T in let S : RattleType = Received.the_row R in
     let inst = layouts (a_type ∷ []) (T, tt) in let fn = inst_fn inst code.function in let c = clauses T 𝓛 𝓜.mem 𝓡.returns in
     let hs : Stays En.signature.params En.kept = tt in
     proved 𝓛 En hs c 𝓜 𝓡 tt (#self inst) fn (code.unfolded 𝓤 H 𝓜 𝓡 wired (T, tt))

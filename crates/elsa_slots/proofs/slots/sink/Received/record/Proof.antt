@@ -1,15 +1,15 @@
 -- `record` appends an item to the record.
 use Rattle.elsa_slots.proofs.ByHand.{Fml, ftrue, fsep, flft, SProp, emp, fact, fact_i, tables, RefOf, yes, param, layouts, RattleType, owns, mut_vals, mut_Tells, shr_vals, shr_Tells, types_at, plain, nothing, opens, closes, Stays, stay_dropped, walk_of, Goes-dropped, stay_ref, Goes-ref, inst_fn, named, a_type, Val, vptr, vunit, alloc_all, pass_all, free_all, look_at, sets, ‵, raw, ◌⊛◌, ◌$◌, ◌∵◌, !, qed, by, move, keep, use0, split, join, fsplit, fjoin, feq_i, fsplit3, fjoin3, of_opd, returns, enter, unit_lit, leaves, proved, ℕ, List, [], ◌∷◌, ◌++◌, refl, ◌≡◌}
-use Rattle.elsa_slots.specs.contracts.slots.sink.Dropped as Dropped
-use Rattle.elsa_slots.specs.contracts.slots.sink.Dropped.record.{ended, clauses}
-use Rattle.elsa_slots.specs.contracts.slots.sink.Dropped.record.Key.{name as #self}
-use Rattle.elsa_slots.proofs.slots.sink.Dropped.record.Statement.{statement}
-use Rattle.elsa_slots.proofs.slots.sink.Dropped.record.Code as code
+use Rattle.elsa_slots.specs.contracts.slots.sink.Received as Received
+use Rattle.elsa_slots.specs.contracts.slots.sink.Received.record.{ended, clauses}
+use Rattle.elsa_slots.specs.contracts.slots.sink.Received.record.Key.{name as #self}
+use Rattle.elsa_slots.proofs.slots.sink.Received.record.Statement.{statement}
+use Rattle.elsa_slots.proofs.slots.sink.Received.record.Code as code
 
 -- A record owns nothing, so it may have any items.
 pub record_spec : {M : Type 1} → statement M
 record_spec 𝓤 𝓛 𝓜 𝓡 wired T L =
-    let H = 𝓛.H in let 𝓣 = tables 𝓤 H 𝓜 𝓡 𝓡.env in let R : RattleType = param 0 T in let En = ended T in let S : RattleType = Dropped.the_row R in
+    let H = 𝓛.H in let 𝓣 = tables 𝓤 H 𝓜 𝓡 𝓡.env in let R : RattleType = param 0 T in let En = ended T in let S : RattleType = Received.the_row R in
     let inst = layouts (a_type ∷ []) (T, tt) in let fn = inst_fn inst code.function in let c = clauses T 𝓛 𝓜.mem 𝓡.returns in
     let item = RefOf (1 ∷ []) tt (plain (λ _. R)) (λ _. tt) in let hs : Stays En.signature.params En.kept = (stay_ref (0 ∷ []) tt (plain (λ _. S)), (stay_dropped item yes, tt)) in
     proved 𝓛 En hs c 𝓜 𝓡 (Goes-ref 𝓛 3 0 tt (plain (λ _. S)), (Goes-dropped 𝓛 3 item yes (λ κs x f. refl), tt)) (#self inst) fn (code.unfolded 𝓤 H 𝓜 𝓡 wired (T, tt))
