@@ -21,6 +21,8 @@ mod handle_tests;
 #[cfg(test)]
 mod index_form_tests;
 #[cfg(test)]
+mod into_vec_tests;
+#[cfg(test)]
 mod job_tests;
 #[cfg(test)]
 mod locked_form_tests;
