@@ -1,6 +1,10 @@
 //! Vectors whose items are moved out: each item comes out once, in order, also if threads pushed
 //! while allocations failed; and a vector whose items can't be moved out is returned whole.
-use elsa_lock_free::lock_free::{Handle, LockFreeFrozenVec};
+ghost use Rattle.std.specs.Prelude.{◌≡◌, IfOk};
+ghost use mathlib.Core.List.{IsPrefix};
+ghost use Rattle.elsa_lock_free.specs.SharedList.{items_of};
+
+use elsa_lock_free::lock_free::{Handle, LockFreeFrozenVec, Pass};
 use std::alloc::{AllocError, AllocFailed, Allocator, Global};
 use std::process::Abort;
 use std::sync::{Arc, Wait};
@@ -354,5 +358,46 @@ fn an_iterator_over_references_missed_an_item(rt: HostRuntime) -> Result<(), Fai
             "{count} items"
         );
     }
+    Ok(())
+}
+
+/// Ends a vector by the views of two of its threads: what each of them has observed comes out, at
+/// its index.
+fn gathered(
+    vec: LockFreeFrozenVec<u64>,
+    one: Pass<u64>,
+    other: Pass<u64>,
+) -> Result<Vec<u64>, AllocError>
+    requires same_vector { (one.vector ≡ vec) × (other.vector ≡ vec) }
+    ensures one { IfOk result (λ v. IsPrefix (items_of one.seen) v.items) }
+    ensures other { IfOk result (λ v. IsPrefix (items_of other.seen) v.items) }
+{
+    let (mut one, mut other) = (one, other);
+    one.meet(&mut other);
+    Ok(vec.into_vec_as(&mut one)?)
+}
+
+/// Pushes a number by each of two views, which then end the vector. Returns whether both numbers
+/// come out.
+fn gathers_both<R: Wait>(rt: &R, alloc: Global) -> Result<bool, AllocError> {
+    let vec = LockFreeFrozenVec::<u64>::new(alloc)?;
+    let one = pushed(rt, &vec, 1);
+    let other = pushed(rt, &vec, 2);
+    let numbers = gathered(vec, one, other)?;
+    Ok(numbers.as_slice() == [1u64, 2].as_slice())
+}
+
+/// Pushes a number, and returns the view.
+fn pushed<R: Wait>(rt: &R, vec: &LockFreeFrozenVec<u64>, number: u64) -> Pass<u64>
+    ensures { result.vector ≡ vec.now }
+{
+    let mut handle = vec.handle();
+    let _ = handle.push(rt, number);
+    handle.into_pass()
+}
+
+#[test]
+fn a_number_of_two_merged_views_did_not_come_out(rt: HostRuntime) -> Result<(), Fail> {
+    assert!(rt; gathers_both(&rt, rt.alloc())?);
     Ok(())
 }
