@@ -23,6 +23,8 @@
 //!   `free_get_zipf`, `free_get_present` and `free_get_absent` (COUNT look-ups in all: of 65,535
 //!   keys by Zipf's law, of a million present keys, of a million absent ones). The look-ups may be
 //!   followed by `_beside`: another thread then inserts meanwhile.
+//! - The lock-free vector and map of values that own memory, read by reference: `owned_vec_arc`,
+//!   `owned_vec_text`, `owned_map_arc` and `owned_map_text` (COUNT reads in all).
 //! - `TypedArena`: `arena_alloc`, `arena_walk` (ten times) and `arena_drop`, of COUNT values that
 //!   own memory.
 #![tactic(auto)]
@@ -34,6 +36,7 @@ mod free_map;
 mod items;
 mod locked_map;
 mod names;
+mod owned;
 mod owners;
 mod recorded;
 mod tables;
@@ -49,7 +52,7 @@ use crate::tables::TableCall;
 use std::alloc::Global;
 use std::process::ExitCode;
 use std::rt::Clock;
-use std::sync::Wait;
+use std::sync::{Arc, Wait};
 use std::thread::Threads;
 use std::{env, io};
 use vector::Reads;
@@ -179,6 +182,26 @@ fn timed_free_map<R: Wait + Threads + Sync + Clock>(
     Ok(Some(free_map::timed_insertions(rt, alloc, words, threads, count)?))
 }
 
+/// Returns the nanoseconds that the reads of values that own memory took, and their sum. `None` for
+/// any other form.
+fn timed_owned<R: Wait + Threads + Sync + Clock>(
+    rt: &R,
+    alloc: Global,
+    form: &str,
+    threads: usize,
+    count: usize,
+) -> io::Result<Option<(u128, u64)>>
+    requires { 0 < threads }
+{
+    Ok(Some(match form {
+        "owned_vec_arc" => owned::timed_vector::<Arc<u64, Global>, R>(rt, alloc, threads, count)?,
+        "owned_vec_text" => owned::timed_vector::<String<Global>, R>(rt, alloc, threads, count)?,
+        "owned_map_arc" => owned::timed_map::<Arc<u64, Global>, R>(rt, alloc, threads, count)?,
+        "owned_map_text" => owned::timed_map::<String<Global>, R>(rt, alloc, threads, count)?,
+        _ => return Ok(None),
+    }))
+}
+
 fn main(rt: HostRuntime) -> io::Result<ExitCode> {
     let words: Vec<String> = env::args(&rt)?.skip(1).collect(rt.alloc())?;
     let [form, threads, count] = words.as_slice() else {
@@ -188,6 +211,10 @@ fn main(rt: HostRuntime) -> io::Result<ExitCode> {
     let threads = threads.as_str().parse::<usize>().unwrap_or(1).max(1);
     let count = count.as_str().parse::<usize>().unwrap_or(0);
     if let Some((nanos, sum)) = timed_alone(&rt, rt.alloc(), form.as_str(), count)? {
+        println!(rt; "{nanos} {sum}")?;
+        return Ok(ExitCode::SUCCESS);
+    }
+    if let Some((nanos, sum)) = timed_owned(&rt, rt.alloc(), form.as_str(), threads, count)? {
         println!(rt; "{nanos} {sum}")?;
         return Ok(ExitCode::SUCCESS);
     }

@@ -12,6 +12,7 @@ mod form;
 mod lists;
 mod maps;
 mod names;
+mod owned;
 mod recorded;
 mod script;
 mod shards;
@@ -19,6 +20,7 @@ mod shards;
 use crate::lists::{FreeList, LockedList};
 use crate::maps::{FreeMap, HashedMap, OrderedMap};
 use crate::names::Names;
+use crate::owned::{OwnedList, OwnedMap};
 use crate::script::Script;
 use crate::shards::{FreeShards, LockedShards};
 use elsa::interner::SharedInterner;
@@ -40,9 +42,11 @@ const USAGE: &str = "usage: test_stress SEED SECONDS PAIRS CALLS";
 const SHARDS: usize = 3;
 
 /// The names of the collections.
-const FORMS: [&str; 9] = [
+const FORMS: [&str; 11] = [
     "LockFreeFrozenVec",
     "LockFreeFrozenMap",
+    "LockFreeFrozenVec of owners",
+    "LockFreeFrozenMap of owners",
     "FrozenVec",
     "FrozenMap",
     "FrozenBTreeMap",
@@ -68,6 +72,14 @@ fn of_form<R: Threads + Wait + Sync>(
         "LockFreeFrozenMap" => {
             let map = LockFreeFrozenMap::new(heap)?;
             form::runs_well(rt, alloc, heap, &FreeMap { map }, script)
+        }
+        "LockFreeFrozenVec of owners" => {
+            let list = OwnedList::new(alloc, heap)?;
+            Ok(form::runs_well(rt, alloc, heap, &list, script)? && list.ends_well())
+        }
+        "LockFreeFrozenMap of owners" => {
+            let map = OwnedMap::new(alloc, heap)?;
+            Ok(form::runs_well(rt, alloc, heap, &map, script)? && map.ends_well())
         }
         "FrozenVec" => {
             let vector = FrozenVec::new(heap);
