@@ -1,9 +1,9 @@
 //! The effect of a turn as a text, computed from the worlds before and after it.
-use elsa_machine::machine::{Answer, Event, World};
+use elsa_machine::machine::{Answer, Event, Turn, World};
 use std::alloc::{AllocError, Global};
 
-/// The state of a pusher's column: the length that it read at its peek, until it has tried to
-/// acquire.
+/// The state of the column of a pusher or an extender: the length that it read at its peek, until
+/// it has tried to acquire.
 #[derive(Clone, Copy)]
 pub struct Column {
     pub peeked: Option<usize>,
@@ -16,8 +16,10 @@ pub struct Column {
 pub fn items_of(alloc: Global, world: &World) -> Result<String, AllocError> {
     let mut items = Vec::new(alloc);
     for event in world.events.as_slice() {
-        if let Event::Append { item, .. } = event {
-            items.push(*item)?;
+        match event {
+            Event::Append { item, .. } => items.push(*item)?,
+            Event::Extend { items: more, .. } => items.extend_from_slice(more.as_slice())?,
+            Event::Look { .. } => {}
         }
     }
     format!(in alloc; "{items:?}")
@@ -27,6 +29,9 @@ pub fn items_of(alloc: Global, world: &World) -> Result<String, AllocError> {
 fn told_answer(alloc: Global, answer: &Answer, length: usize) -> Result<String, AllocError> {
     match answer {
         Answer::Pushed { place, .. } => format!(in alloc; "publishes place {place}"),
+        Answer::Extended { place, count, .. } => {
+            format!(in alloc; "publishes {count} from {place}")
+        }
         Answer::Refused { .. } => format!(in alloc; "is refused"),
         Answer::Read { value: None, .. } => format!(in alloc; "looks: {length}, so None"),
         Answer::Read {
@@ -39,8 +44,21 @@ fn told_answer(alloc: Global, answer: &Answer, length: usize) -> Result<String, 
     }
 }
 
-/// Returns the text for a turn that changed nothing: a peek, an acquire that failed, or a wait.
-fn told_nothing(alloc: Global, world: &World, column: &mut Column) -> Result<String, AllocError> {
+/// Returns the text for a turn that changed nothing: a peek, an acquire that failed, a wait, or a
+/// reservation of memory by the thread that has the lock.
+fn told_nothing(
+    alloc: Global,
+    world: &World,
+    turn: Turn,
+    column: &mut Column,
+) -> Result<String, AllocError> {
+    if world.held == Some(turn.thread) {
+        return if turn.memory {
+            format!(in alloc; "reserves memory")
+        } else {
+            format!(in alloc; "is denied memory")
+        };
+    }
     if let Some(seen) = column.peeked {
         column.peeked = None;
         return format!(in alloc; "acquire at {seen} fails");
@@ -60,6 +78,7 @@ pub fn told(
     alloc: Global,
     before: &World,
     after: &World,
+    turn: Turn,
     column: &mut Column,
 ) -> Result<String, AllocError> {
     let (new, old) = (after.answers.as_slice(), before.answers.as_slice());
@@ -72,7 +91,8 @@ pub fn told(
         return format!(in alloc; "looks: {}", after.length);
     }
     if after.writes.as_slice().len() > before.writes.as_slice().len() {
-        return format!(in alloc; "writes place {}", after.length);
+        let place = after.writes.as_slice().last().map_or(0, |write| write.0);
+        return format!(in alloc; "writes place {place}");
     }
     if after.opened > before.opened {
         return format!(in alloc; "opens buffer {}", before.opened);
@@ -81,5 +101,5 @@ pub fn told(
         column.peeked = None;
         return format!(in alloc; "acquires at {}", after.length);
     }
-    told_nothing(alloc, after, column)
+    told_nothing(alloc, after, turn, column)
 }

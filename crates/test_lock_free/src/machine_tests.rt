@@ -1,14 +1,14 @@
 //! Examples of the step machine: whole worlds, compared with hand-written ones.
-use crate::schedule_rows::{AnswerRow, PlanRow, Row, plans_of, schedule_of, world_of, wrong_row};
-use elsa_machine::machine::{Event, Items, Plan, Turn, run};
+use crate::schedule_rows::{
+    AnswerRow, EventRow, PlanRow, Row, plans_of, schedule_of, world_of, wrong_row,
+};
+use elsa_machine::machine::{Items, Plan, Turn, run};
 use std::alloc::{AllocError, Allocator, Global};
 use test_alloc::Budget;
 
 #[test]
 fn turns_of_a_done_thread_and_of_no_thread_do_nothing(rt: HostRuntime) -> Result<(), AllocError> {
     let alloc = rt.alloc();
-    let append = |thread, item| Event::Append { thread, item };
-    let look = |thread, length| Event::Look { thread, length };
     let rows = [
         Row {
             name: "a cloner of the empty list, and a turn after it is done",
@@ -17,7 +17,7 @@ fn turns_of_a_done_thread_and_of_no_thread_do_nothing(rt: HostRuntime) -> Result
             refused: 99,
             opened: 0,
             items: &[],
-            events: &[look(0, 0)],
+            events: &[EventRow::Look(0, 0)],
             answers: &[AnswerRow::Cloned(0, &[])],
         },
         Row {
@@ -37,7 +37,7 @@ fn turns_of_a_done_thread_and_of_no_thread_do_nothing(rt: HostRuntime) -> Result
             refused: 99,
             opened: 1,
             items: &[7],
-            events: &[append(0, 7)],
+            events: &[EventRow::Append(0, 7)],
             answers: &[AnswerRow::Pushed(0, 0)],
         },
     ];
@@ -50,8 +50,6 @@ fn readers_and_clones_beside_a_push_see_the_list_before_it(
     rt: HostRuntime,
 ) -> Result<(), AllocError> {
     let alloc = rt.alloc();
-    let append = |thread, item| Event::Append { thread, item };
-    let look = |thread, length| Event::Look { thread, length };
     let rows = [
         Row {
             name: "a reader amid two pushers",
@@ -65,11 +63,11 @@ fn readers_and_clones_beside_a_push_see_the_list_before_it(
             opened: 1,
             items: &[7, 9],
             events: &[
-                look(2, 0),
-                look(2, 0),
-                append(0, 7),
-                look(2, 1),
-                append(1, 9),
+                EventRow::Look(2, 0),
+                EventRow::Look(2, 0),
+                EventRow::Append(0, 7),
+                EventRow::Look(2, 1),
+                EventRow::Append(1, 9),
             ],
             answers: &[
                 AnswerRow::Read(2, 0, None),
@@ -86,7 +84,12 @@ fn readers_and_clones_beside_a_push_see_the_list_before_it(
             refused: 99,
             opened: 1,
             items: &[7, 9],
-            events: &[append(0, 7), look(1, 1), append(0, 9), look(1, 2)],
+            events: &[
+                EventRow::Append(0, 7),
+                EventRow::Look(1, 1),
+                EventRow::Append(0, 9),
+                EventRow::Look(1, 2),
+            ],
             answers: &[
                 AnswerRow::Pushed(0, 0),
                 AnswerRow::Pushed(0, 1),
@@ -101,7 +104,7 @@ fn readers_and_clones_beside_a_push_see_the_list_before_it(
             refused: 99,
             opened: 1,
             items: &[7],
-            events: &[look(1, 0), append(0, 7)],
+            events: &[EventRow::Look(1, 0), EventRow::Append(0, 7)],
             answers: &[AnswerRow::Cloned(1, &[]), AnswerRow::Pushed(0, 0)],
         },
     ];
@@ -112,7 +115,6 @@ fn readers_and_clones_beside_a_push_see_the_list_before_it(
 #[test]
 fn pushers_take_places_one_after_the_other(rt: HostRuntime) -> Result<(), AllocError> {
     let alloc = rt.alloc();
-    let append = |thread, item| Event::Append { thread, item };
     let rows = [
         Row {
             name: "an acquire at an old length",
@@ -121,7 +123,7 @@ fn pushers_take_places_one_after_the_other(rt: HostRuntime) -> Result<(), AllocE
             refused: 99,
             opened: 1,
             items: &[4, 5],
-            events: &[append(0, 4), append(1, 5)],
+            events: &[EventRow::Append(0, 4), EventRow::Append(1, 5)],
             answers: &[AnswerRow::Pushed(0, 0), AnswerRow::Pushed(1, 1)],
         },
         Row {
@@ -131,7 +133,7 @@ fn pushers_take_places_one_after_the_other(rt: HostRuntime) -> Result<(), AllocE
             refused: 99,
             opened: 1,
             items: &[7, 9],
-            events: &[append(0, 7), append(1, 9)],
+            events: &[EventRow::Append(0, 7), EventRow::Append(1, 9)],
             answers: &[AnswerRow::Pushed(0, 0), AnswerRow::Pushed(1, 1)],
         },
         Row {
@@ -141,7 +143,12 @@ fn pushers_take_places_one_after_the_other(rt: HostRuntime) -> Result<(), AllocE
             refused: 99,
             opened: 2,
             items: &[9, 8, 6, 7],
-            events: &[append(1, 9), append(1, 8), append(1, 6), append(0, 7)],
+            events: &[
+                EventRow::Append(1, 9),
+                EventRow::Append(1, 8),
+                EventRow::Append(1, 6),
+                EventRow::Append(0, 7),
+            ],
             answers: &[
                 AnswerRow::Pushed(1, 0),
                 AnswerRow::Pushed(1, 1),
@@ -155,10 +162,88 @@ fn pushers_take_places_one_after_the_other(rt: HostRuntime) -> Result<(), AllocE
 }
 
 #[test]
+fn an_extension_is_seen_whole_or_not_at_all(rt: HostRuntime) -> Result<(), AllocError> {
+    let alloc = rt.alloc();
+    let rows = [
+        Row {
+            name: "two extenders and a reader, turn by turn",
+            plans: &[
+                PlanRow::Extender(&[7, 8]),
+                PlanRow::Extender(&[9, 6, 5]),
+                PlanRow::Reader(&[0, 1, 1, 4, 4]),
+            ],
+            turns: &[
+                0, 1, 0, 1, 0, 0, 0, 2, 1, 0, 2, 0, 1, 2, 1, 1, 2, 1, 1, 1, 2, 1, 1, 2, 2, 0, 1,
+            ],
+            refused: 99,
+            opened: 2,
+            items: &[7, 8, 9, 6, 5],
+            events: &[
+                EventRow::Look(2, 0),
+                EventRow::Look(2, 0),
+                EventRow::Extend(0, &[7, 8]),
+                EventRow::Look(2, 2),
+                EventRow::Look(2, 2),
+                EventRow::Extend(1, &[9, 6, 5]),
+                EventRow::Look(2, 5),
+            ],
+            answers: &[
+                AnswerRow::Read(2, 0, None),
+                AnswerRow::Read(2, 1, None),
+                AnswerRow::Extended(0, 0, 2),
+                AnswerRow::Read(2, 1, Some(8)),
+                AnswerRow::Read(2, 4, None),
+                AnswerRow::Extended(1, 2, 3),
+                AnswerRow::Read(2, 4, Some(5)),
+            ],
+        },
+        Row {
+            name: "an extension of no items",
+            plans: &[PlanRow::Extender(&[])],
+            turns: &[0, 0, 0, 0, 0],
+            refused: 2,
+            opened: 0,
+            items: &[],
+            events: &[EventRow::Extend(0, &[])],
+            answers: &[AnswerRow::Extended(0, 0, 0)],
+        },
+    ];
+    assert_eq!(rt; wrong_row(alloc, &rows)?, None);
+    Ok(())
+}
+
+#[test]
+fn an_extension_without_memory_writes_nothing(rt: HostRuntime) -> Result<(), AllocError> {
+    let alloc = rt.alloc();
+    let rows = [
+        Row {
+            name: "an extension refused before a push",
+            plans: &[PlanRow::Extender(&[1, 2, 3, 4]), PlanRow::Pusher(&[9])],
+            turns: &[0, 0, 0, 0, 1, 1, 1, 1, 1],
+            refused: 2,
+            opened: 1,
+            items: &[9],
+            events: &[EventRow::Append(1, 9)],
+            answers: &[AnswerRow::Refused(0), AnswerRow::Pushed(1, 0)],
+        },
+        Row {
+            name: "an extension into an open buffer, which needs no memory",
+            plans: &[PlanRow::Pusher(&[7]), PlanRow::Extender(&[8, 9])],
+            turns: &[0, 0, 0, 0, 0, 1, 1, 1, 1, 1, 1],
+            refused: 7,
+            opened: 1,
+            items: &[7, 8, 9],
+            events: &[EventRow::Append(0, 7), EventRow::Extend(1, &[8, 9])],
+            answers: &[AnswerRow::Pushed(0, 0), AnswerRow::Extended(1, 1, 2)],
+        },
+    ];
+    assert_eq!(rt; wrong_row(alloc, &rows)?, None);
+    Ok(())
+}
+
+#[test]
 fn a_thread_without_memory_is_told_so(rt: HostRuntime) -> Result<(), AllocError> {
     let alloc = rt.alloc();
-    let append = |thread, item| Event::Append { thread, item };
-    let look = |thread, length| Event::Look { thread, length };
     let rows = [
         Row {
             name: "a buffer refused once",
@@ -167,7 +252,7 @@ fn a_thread_without_memory_is_told_so(rt: HostRuntime) -> Result<(), AllocError>
             refused: 2,
             opened: 1,
             items: &[5],
-            events: &[append(0, 5)],
+            events: &[EventRow::Append(0, 5)],
             answers: &[AnswerRow::Refused(0), AnswerRow::Pushed(0, 0)],
         },
         Row {
@@ -177,7 +262,11 @@ fn a_thread_without_memory_is_told_so(rt: HostRuntime) -> Result<(), AllocError>
             refused: 11,
             opened: 1,
             items: &[1, 2],
-            events: &[append(0, 1), append(0, 2), look(1, 2)],
+            events: &[
+                EventRow::Append(0, 1),
+                EventRow::Append(0, 2),
+                EventRow::Look(1, 2),
+            ],
             answers: &[
                 AnswerRow::Pushed(0, 0),
                 AnswerRow::Pushed(0, 1),
@@ -192,8 +281,6 @@ fn a_thread_without_memory_is_told_so(rt: HostRuntime) -> Result<(), AllocError>
 #[test]
 fn a_clone_has_what_was_published_when_it_looked(rt: HostRuntime) -> Result<(), AllocError> {
     let alloc = rt.alloc();
-    let append = |thread, item| Event::Append { thread, item };
-    let look = |thread, length| Event::Look { thread, length };
     let rows = [
         Row {
             name: "a clone amid pushes",
@@ -202,7 +289,11 @@ fn a_clone_has_what_was_published_when_it_looked(rt: HostRuntime) -> Result<(), 
             refused: 99,
             opened: 1,
             items: &[1, 2],
-            events: &[append(0, 1), look(1, 1), append(0, 2)],
+            events: &[
+                EventRow::Append(0, 1),
+                EventRow::Look(1, 1),
+                EventRow::Append(0, 2),
+            ],
             answers: &[
                 AnswerRow::Pushed(0, 0),
                 AnswerRow::Pushed(0, 1),
@@ -219,11 +310,11 @@ fn a_clone_has_what_was_published_when_it_looked(rt: HostRuntime) -> Result<(), 
             opened: 2,
             items: &[0, 1, 2, 3],
             events: &[
-                append(0, 0),
-                append(0, 1),
-                append(0, 2),
-                look(1, 3),
-                append(0, 3),
+                EventRow::Append(0, 0),
+                EventRow::Append(0, 1),
+                EventRow::Append(0, 2),
+                EventRow::Look(1, 3),
+                EventRow::Append(0, 3),
             ],
             answers: &[
                 AnswerRow::Pushed(0, 0),
@@ -265,16 +356,7 @@ fn every_plan_is_done_in_rounds_without_memory(rt: HostRuntime) -> Result<(), Al
         refused: 0,
         opened: 0,
         items: &[],
-        events: &[
-            Event::Look {
-                thread: 1,
-                length: 0,
-            },
-            Event::Look {
-                thread: 2,
-                length: 0,
-            },
-        ],
+        events: &[EventRow::Look(1, 0), EventRow::Look(2, 0)],
         answers: &[
             AnswerRow::Read(1, 0, None),
             AnswerRow::Cloned(2, &[]),
@@ -294,6 +376,7 @@ fn growing_plans<A: Allocator + Copy>(alloc: A) -> Result<Vec<Plan<A>, A>, Alloc
     plans.push(Plan::Pusher(items))?;
     plans.push(Plan::Reader(indexes))?;
     plans.push(Plan::Cloner)?;
+    plans.push(Plan::Extender(Items::from_vec(vec![in alloc; 6]?)))?;
     Ok(plans)
 }
 
@@ -308,7 +391,7 @@ fn grown<A: Allocator + Copy>(
         world.events.as_slice().len(),
         world.answers.as_slice().len(),
     );
-    Ok(world.length == 5 && world.writes.as_slice().len() == 5 && lists == (8, 8))
+    Ok(world.length == 6 && world.writes.as_slice().len() == 6 && lists == (9, 9))
 }
 
 /// Returns whether the run fails if the request with this number is denied, and ends in the right
@@ -330,7 +413,7 @@ fn is_refused_once<'a>(
 fn a_run_of_the_machine_survived_a_denied_request(rt: HostRuntime) -> Result<(), AllocError> {
     let budget = Budget::<Global>::new(rt.alloc());
     let mut turns = Vec::new(rt.alloc());
-    for (thread, count) in [(0, 22), (1, 4), (2, 6)] {
+    for (thread, count) in [(0, 22), (1, 4), (2, 6), (3, 5)] {
         for _ in 0..count {
             turns.push(thread)?;
         }

@@ -6,14 +6,24 @@ use std::alloc::{AllocError, Allocator, Global};
 #[derive(Clone, Copy)]
 pub enum PlanRow<'a> {
     Pusher(&'a [u64]),
+    Extender(&'a [u64]),
     Reader(&'a [usize]),
     Cloner,
+}
+
+/// The effect of an atomic step: the thread, then the item, the items or the length.
+#[derive(Clone, Copy)]
+pub enum EventRow<'a> {
+    Append(usize, u64),
+    Extend(usize, &'a [u64]),
+    Look(usize, usize),
 }
 
 /// A result of a thread's call: the thread, then its index or items.
 #[derive(Clone, Copy)]
 pub enum AnswerRow<'a> {
     Pushed(usize, usize),
+    Extended(usize, usize, usize),
     Refused(usize),
     Read(usize, usize, Option<u64>),
     Cloned(usize, &'a [u64]),
@@ -30,7 +40,7 @@ pub struct Row<'a> {
     pub refused: usize,
     pub opened: usize,
     pub items: &'a [u64],
-    pub events: &'a [Event],
+    pub events: &'a [EventRow<'a>],
     pub answers: &'a [AnswerRow<'a>],
 }
 
@@ -43,6 +53,9 @@ pub fn plans_of(alloc: Global, rows: &[PlanRow]) -> Result<Vec<Plan>, AllocError
     for row in rows {
         plans.push(match *row {
             PlanRow::Pusher(items) => Plan::Pusher(Items::from_vec(Vec::from_slice(alloc, items)?)),
+            PlanRow::Extender(items) => {
+                Plan::Extender(Items::from_vec(Vec::from_slice(alloc, items)?))
+            }
             PlanRow::Reader(indexes) => Plan::Reader(Items::from_vec(Vec::from_slice(
                 alloc, indexes,
             )?)),
@@ -76,6 +89,11 @@ fn answers_of(alloc: Global, rows: &[AnswerRow]) -> Result<Vec<Answer>, AllocErr
     for row in rows {
         answers.push(match *row {
             AnswerRow::Pushed(thread, place) => Answer::Pushed { thread, place },
+            AnswerRow::Extended(thread, place, count) => Answer::Extended {
+                thread,
+                place,
+                count,
+            },
             AnswerRow::Refused(thread) => Answer::Refused { thread },
             AnswerRow::Read(thread, index, value) => Answer::Read {
                 thread,
@@ -101,8 +119,19 @@ fn writes_of(alloc: Global, items: &[u64]) -> Result<Items<(usize, u64)>, AllocE
     Ok(writes)
 }
 
-fn events_of(alloc: Global, events: &[Event]) -> Result<Items<Event>, AllocError> {
-    Ok(Items::from_vec(Vec::from_slice(alloc, events)?))
+fn events_of(alloc: Global, rows: &[EventRow]) -> Result<Vec<Event>, AllocError> {
+    let mut events = Vec::new(alloc);
+    for row in rows {
+        events.push(match *row {
+            EventRow::Append(thread, item) => Event::Append { thread, item },
+            EventRow::Extend(thread, items) => Event::Extend {
+                thread,
+                items: Items::from_vec(Vec::from_slice(alloc, items)?),
+            },
+            EventRow::Look(thread, length) => Event::Look { thread, length },
+        })?;
+    }
+    Ok(events)
 }
 
 /// Makes the world of a row. No thread has the lock, and each write was published.
@@ -111,7 +140,7 @@ fn events_of(alloc: Global, events: &[Event]) -> Result<Items<Event>, AllocError
 /// Fails if an allocation fails.
 pub fn world_of(alloc: Global, row: &Row) -> Result<World, AllocError> {
     let writes = writes_of(alloc, row.items)?;
-    let events = events_of(alloc, row.events)?;
+    let events = Items::from_vec(events_of(alloc, row.events)?);
     let answers = Items::from_vec(answers_of(alloc, row.answers)?);
     Ok(World {
         length: row.items.len(),
