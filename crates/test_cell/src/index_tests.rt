@@ -175,8 +175,8 @@ impl Hash for Marked {
     }
 }
 
-/// Returns the marks of the items that four insertions return: two pairs of equal items, whose marks
-/// differ.
+/// Returns the marks of the items that four insertions return: two pairs of equal items, whose
+/// marks differ.
 fn marks(alloc: Global) -> Result<[u64; 4], AllocError> {
     let set: FrozenIndexSet<Marked> = FrozenIndexSet::new(alloc)?;
     let mut found = [0; 4];
