@@ -63,7 +63,7 @@ impl<'m, K: Drop + Hash, V: Drop, S: BuildHasher + Copy + Drop, A: Allocator + C
 > {
     /// Returns a reference to the next entry, which lives as long as the map is borrowed.
     #[inline]
-    fn next_entry(&mut self) -> Option<&'m Entry<K, V, S>>
+    pub(crate) fn next_entry(&mut self) -> Option<&'m Entry<K, V, S>>
         ensures { YieldsFirstBy (λ e. pair_of e.now) (λ left. left) self.old result self.new }
     {
         if self.place >= self.entries.len() {
