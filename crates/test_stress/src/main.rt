@@ -99,7 +99,7 @@ fn of_form<R: Threads + Wait + Sync>(
         }
         "LockFreeShardedMap" => {
             let map = LockFreeShardedMap::with_shards(heap, SHARDS, BuildHasherDefault::new())?;
-            form::runs_well(rt, alloc, heap, &FreeShards { map: &map }, script)
+            form::runs_well(rt, alloc, heap, &FreeShards { map }, script)
         }
         "SharedInterner" => {
             let names = SharedInterner::new(alloc)?;

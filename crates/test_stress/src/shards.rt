@@ -30,10 +30,10 @@ pub struct LockedShards<'h> {
     pub map: ShardedMap<u64, u64, BuildHasherDefault<FoldHasher>, &'h Budget<Global>>,
 }
 
-/// The map of lock-free shards, by reference, since the handles of threads borrow it.
+/// The map of lock-free shards.
 #[derive(Drop)]
-pub struct FreeShards<'m, 'h> {
-    pub map: &'m FreeMap<'h>,
+pub struct FreeShards<'h> {
+    pub map: FreeMap<'h>,
 }
 
 /// Makes the entry of a key.
@@ -45,24 +45,17 @@ fn entry(key: u64, value: u64) -> Entry {
     }
 }
 
-/// Returns the thread's handle, and makes it at its first call.
+/// Makes a handle.
 ///
 /// # Errors
 /// Fails if each attempt fails.
-fn opened<'p, 'm, 'h>(
-    map: &'m FreeMap<'h>,
-    pass: &'p mut Option<FreeHandle<'m, 'h>>,
-) -> Result<&'p mut FreeHandle<'m, 'h>, AllocError> {
+fn opened<'m, 'h>(map: &'m FreeMap<'h>) -> Result<FreeHandle<'m, 'h>, AllocError> {
     for _attempt in 0..ATTEMPTS {
-        if pass.is_some() {
-            break;
+        if let Ok(handle) = map.handle() {
+            return Ok(handle);
         }
-        *pass = map.handle().ok();
     }
-    match pass {
-        Some(handle) => Ok(handle),
-        None => Err(AllocError),
-    }
+    Err(AllocError)
 }
 
 impl<'h> Form for LockedShards<'h> {
@@ -99,52 +92,42 @@ impl<'h> Form for LockedShards<'h> {
     }
 }
 
-impl<'m, 'h> Form for FreeShards<'m, 'h> {
-    type Pass = Option<FreeHandle<'m, 'h>>;
+/// Each call makes a handle of its own, which has observed nothing.
+impl<'h> Form for FreeShards<'h> {
+    type Pass = ();
 
     ghost use Rattle.std.specs.Prelude.{⊤};
 
     ghost of = { λ form pass. ⊤ };
 
-    fn pass(&self) -> Option<FreeHandle<'m, 'h>> {
-        None
-    }
+    fn pass(&self) {}
 
     fn insert<R: Wait>(
         &self,
         rt: &R,
-        pass: &mut Option<FreeHandle<'m, 'h>>,
+        _pass: &mut (),
         key: u64,
         value: u64,
     ) -> Result<(Entry, bool), AllocError> {
-        let handle = opened(self.map, pass)?;
+        let mut handle = opened(&self.map)?;
         let done = handle.insert(rt, key, value)?;
         Ok((entry(key, done.value), done.is_new))
     }
 
-    fn at<R: Wait>(
-        &self,
-        _rt: &R,
-        pass: &mut Option<FreeHandle<'m, 'h>>,
-        number: u64,
-    ) -> Option<Entry> {
-        let handle = opened(self.map, pass).ok()?;
+    fn at<R: Wait>(&self, _rt: &R, _pass: &mut (), number: u64) -> Option<Entry> {
+        let mut handle = opened(&self.map).ok()?;
         let value = handle.get(number)?;
         Some(entry(number, value))
     }
 
-    fn has<R: Wait>(&self, _rt: &R, pass: &mut Option<FreeHandle<'m, 'h>>, new: u64) -> bool {
-        match opened(self.map, pass) {
-            Ok(handle) => handle.len() as u64 == new,
+    fn has<R: Wait>(&self, _rt: &R, _pass: &mut (), new: u64) -> bool {
+        match opened(&self.map) {
+            Ok(mut handle) => handle.len() as u64 == new,
             Err(_) => false,
         }
     }
 
-    fn meet(
-        &self,
-        _one: &mut Option<FreeHandle<'m, 'h>>,
-        _other: &mut Option<FreeHandle<'m, 'h>>,
-    ) -> bool {
+    fn meet(&self, _one: &mut (), _other: &mut ()) -> bool {
         true
     }
 }
