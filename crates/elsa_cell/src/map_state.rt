@@ -106,6 +106,8 @@ impl<K: Eq + Hash + Drop, V, S: BuildHasher + Drop, A: Allocator + Copy> MapStat
         requires vacancy { IsVacancy self.old.table missing.hash missing.end }
         requires hashed { missing.hash ≡ key_hash S.BuildHasher S.Hasher.Hasher
             self.old.hash_builder (K.hash_input entry.key) }
+
+        // The entry is the last one, or the list is unchanged.
         ensures state { IsMapOf K.eq (λ k.
             key_hash S.BuildHasher S.Hasher.Hasher self.new.hash_builder (K.hash_input k))
             slots.now self.new.list self.new.table }

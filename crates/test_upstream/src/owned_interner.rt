@@ -36,8 +36,8 @@ impl StringInterner {
     }
 
     /// Returns the text of a number.
-    fn resolve(&self, index: usize) -> Option<&str> {
-        match self.set.get_index(index) {
+    fn text_of(&self, number: usize) -> Option<&str> {
+        match self.set.get_index(number) {
             Ok(Some(text)) => Some(text.as_str()),
             _ => None,
         }
@@ -77,7 +77,7 @@ fn are_numbered(alloc: Global) -> Result<bool, AllocError> {
         are_distinct(&numbers)
             && again == best_friend
             && interner.get("best friend") == Some(best_friend)
-            && interner.resolve(best_friend) == Some("best friend")
+            && interner.text_of(best_friend) == Some("best friend")
             && interner.get("nobody").is_none(),
     )
 }
@@ -86,7 +86,7 @@ fn are_numbered(alloc: Global) -> Result<bool, AllocError> {
 fn stays(alloc: Global) -> Result<bool, AllocError> {
     let interner = StringInterner::new(alloc)?;
     let first = interner.get_or_intern("lonely")?;
-    let text = interner.resolve(first);
+    let text = interner.text_of(first);
     for word in [
         "best friend",
         "threes a crowd",
@@ -96,7 +96,7 @@ fn stays(alloc: Global) -> Result<bool, AllocError> {
     ] {
         interner.get_or_intern(word)?;
     }
-    Ok(text == Some("lonely") && interner.resolve(first) == text)
+    Ok(text == Some("lonely") && interner.text_of(first) == text)
 }
 
 #[test]
