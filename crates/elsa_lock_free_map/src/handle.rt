@@ -5,7 +5,7 @@
 //!
 //! A look-up reads through the handle itself: the entries that it has observed, and the row of
 //! index entries next to each buffer of them.
-ghost use Rattle.std.specs.Prelude.{◌≡◌, ◌+◌, ◌≤◌, ◌<◌, ◌^◌, true, false, IfOk, IfErr, IfSome, IfNone, Some, length, slice_get};
+ghost use Rattle.std.specs.Prelude.{◌≡◌, ◌↔◌, ◌+◌, ◌≤◌, ◌<◌, ◌^◌, true, false, IsTrue, IfOk, IfErr, IfSome, IfNone, Some, length, slice_get};
 ghost use Rattle.elsa_lock_free.specs.SharedList.{Continues, IsLaterPass, IsSamePass, Meet, SeesAlike, items_of, mine};
 ghost use Rattle.elsa_lock_free.specs.Distinct.{AgreeOnPlaces, IsOneToOne};
 ghost use Rattle.elsa_hash_index.specs.declared.entry.Entry.{Entry};
@@ -217,6 +217,19 @@ impl<'m, K: Drop + Hash, V: Drop, S: BuildHasher + Copy + Drop, A: Allocator + C
         ensures fresh { length self.old.seen ≤ result }
     {
         self.list.len()
+    }
+
+    /// Returns whether the map has `2^32 - 1` entries, the greatest number, by one load of the
+    /// length. An insertion of a new key then fails. It takes no lock, allocates nothing and never
+    /// blocks.
+    ///
+    /// # Cost
+    /// `O(1)`.
+    pub fn is_full(&mut self) -> bool
+        ensures continues { Continues self.old self.new }
+        ensures full { IsTrue result ↔ (2 ^ 32 ≤ length self.new.seen + 1) }
+    {
+        self.list.len() >= LIMIT
     }
 
     /// Ends a hold with an entry at the end, if its memory can be allocated. Where a buffer begins,

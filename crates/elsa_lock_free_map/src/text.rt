@@ -1,7 +1,7 @@
 //! A map whose keys are borrowed texts. Its queries are texts of any lifetime.
-ghost use Rattle.std.specs.Prelude.{◌≡◌, ◌<◌, true, false, IfOk, IfErr, IfSome, IfNone, Some, length};
-ghost use Rattle.elsa_lock_free.specs.SharedList.{Continues, IsLaterPass, items_of, mine};
-ghost use Rattle.elsa_lock_free_map.specs.Entries.{Has, HasAt, InsertsOnce, Lacks, is_text};
+ghost use Rattle.std.specs.Prelude.{◌≡◌, true, IfOk, IfErr};
+ghost use Rattle.elsa_lock_free.specs.SharedList.{IsLaterPass, mine};
+ghost use Rattle.elsa_lock_free_map.specs.Entries.{InsertsOnce, is_text};
 
 use crate::handle::MapHandle;
 use crate::map::{Inserted, copied};
@@ -17,37 +17,6 @@ impl<'m, 'a, V: Copy + Drop, S: BuildHasher + Copy + Drop, A: Allocator + Copy> 
     S,
     A,
 > {
-    /// Returns the index of a text of any lifetime in the order of insertion, or `None` if no entry
-    /// that the handle has then observed has the text.
-    ///
-    /// # Cost
-    /// That of [`find`](Self::find).
-    pub fn find_text(&mut self, text: &str) -> Option<usize>
-        ensures continues { Continues self.old self.new }
-        ensures found { IfSome result (λ i. (v : V) ×
-            HasAt is_text (items_of self.new.seen) i text.now v) }
-        ensures within { IfSome result (λ i. i < length self.new.seen) }
-        ensures absent { IfNone result (Lacks is_text (items_of self.new.seen) text.now) }
-    {
-        self.find(text)
-    }
-
-    /// Returns the value of a text of any lifetime, or `None` if no entry that the handle has then
-    /// observed has the text.
-    ///
-    /// # Cost
-    /// That of [`find`](Self::find).
-    pub fn get_text(&mut self, text: &str) -> Option<V>
-        ensures continues { Continues self.old self.new }
-        ensures found { IfSome result (λ v. Has is_text (items_of self.new.seen) text.now v) }
-        ensures absent { IfNone result (Lacks is_text (items_of self.new.seen) text.now) }
-    {
-        if let Some(place) = self.find_text(text) {
-            return Some(self.entry(place).value);
-        }
-        None
-    }
-
     /// Inserts a text of any lifetime with its value, unless a thread has inserted an equal text.
     /// If the handle doesn't find the text, it copies the text into `arena`. If another thread
     /// inserts the text after that look-up, the copy stays unused in the arena, and the call
@@ -71,7 +40,7 @@ impl<'m, 'a, V: Copy + Drop, S: BuildHasher + Copy + Drop, A: Allocator + Copy> 
         ensures own_value { IfOk result (λ r. r.is_new ≡ true → r.value ≡ value) }
         ensures refused { IfErr result (λ e. mine self.new ≡ mine self.old) }
     {
-        if let Some(place) = self.find_text(text) {
+        if let Some(place) = self.find(text) {
             self.one_to_one();
             return Ok(Inserted {
                 value: self.entry(place).value,

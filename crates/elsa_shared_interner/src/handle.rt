@@ -2,16 +2,17 @@
 //!
 //! A handle belongs to its interner by its type, so only the calls that take two handles, or a
 //! view, have a condition. Each call of the interner is written here, once.
-ghost use Rattle.std.specs.Prelude.{◌≡◌, ◌≤◌, IfOk, IfErr, IfSome, IfNone, length, slice_get};
+ghost use Rattle.std.specs.Prelude.{◌≡◌, ◌↔◌, ◌+◌, ◌≤◌, ◌^◌, IsTrue, IfOk, IfErr, IfSome, IfNone, length, slice_get};
 ghost use Rattle.std.specs.Str.{bytes_eq};
 ghost use Rattle.elsa_lock_free.specs.SharedList.{Continues, IsLaterPass, Meet, items_of, mine};
 ghost use Rattle.elsa_lock_free.specs.Distinct.{AgreeOnPlaces, IsOneToOne};
-ghost use Rattle.elsa_shared_interner.specs.Names.{HasAt, HasTextAt, Lacks, PutsName, PutsText};
+ghost use Rattle.elsa_shared_interner.specs.Names.{HasAt, Lacks, PutsName, PutsText};
 
 use crate::name::Name;
 use crate::shared::{NamePass, SharedInterner};
 use elsa_lock_free_map::handle::MapHandle;
 use elsa_lock_free_map::place_text::PlaceText;
+use indexmap::Equivalent;
 use std::alloc::{AllocError, Allocator, Global};
 use std::hash::{BuildHasher, BuildHasherDefault, FoldHasher, Hash};
 use std::marker::Model;
@@ -99,20 +100,21 @@ impl<'i, T: Copy + Drop + Hash, S: BuildHasher + Copy + Drop, A: Allocator + Cop
         Ok(put.place)
     }
 
-    /// Returns the index of a name, or `None` if no name that the handle has then observed equals
-    /// it.
+    /// Returns the index of the name that `query` finds, or `None` if the handle has then observed
+    /// no such name. A query is a reference to a name, a `&str` if the names are texts, or another
+    /// value that is [`Equivalent`] to names.
     ///
     /// A name that the handle had observed is found without a read of the length. Otherwise the
     /// call reads the length, by one load. It takes no lock, allocates nothing and never blocks.
     ///
     /// # Cost
     /// `O(1)` if the hashes differ.
-    pub fn find(&mut self, name: T) -> Option<usize>
+    pub fn find<Q: Equivalent<T>>(&mut self, query: Q) -> Option<usize>
         ensures continues { Continues self.old self.new }
-        ensures found { IfSome result (λ i. HasAt T.eq (items_of self.new.seen) i name) }
-        ensures absent { IfNone result (Lacks (T.eq name) (items_of self.new.seen)) }
+        ensures found { IfSome result (λ i. HasAt Q.equivalent (items_of self.new.seen) i query) }
+        ensures absent { IfNone result (Lacks (Q.equivalent query) (items_of self.new.seen)) }
     {
-        self.names.find(&name)
+        self.names.find(query)
     }
 
     /// Returns the name at an index, or `None` if the index is not below the number of names that
@@ -145,6 +147,18 @@ impl<'i, T: Copy + Drop + Hash, S: BuildHasher + Copy + Drop, A: Allocator + Cop
         ensures fresh { length self.old.seen ≤ result }
     {
         self.names.len()
+    }
+
+    /// Returns whether there are `2^32 - 1` names, the greatest number, by one load of their number.
+    /// `put` then fails for a new name. It takes no lock, allocates nothing and never blocks.
+    ///
+    /// # Cost
+    /// `O(1)`.
+    pub fn is_full(&mut self) -> bool
+        ensures continues { Continues self.old self.new }
+        ensures full { IsTrue result ↔ (2 ^ 32 ≤ length self.new.seen + 1) }
+    {
+        self.names.is_full()
     }
 
     /// Returns the number of names that the handle has observed, without an atomic step.
@@ -188,16 +202,6 @@ impl<'i, T: Copy + Drop + Hash, S: BuildHasher + Copy + Drop, A: Allocator + Cop
 }
 
 impl<'i, 'a, S: BuildHasher + Copy + Drop, A: Allocator + Copy> NameHandle<'i, &'a str, S, A> {
-    /// Returns the index of a text of any lifetime, as [`find`](Self::find) does for a name.
-    pub fn find_text(&mut self, text: &str) -> Option<usize>
-        ensures continues { Continues self.old self.new }
-        ensures found { IfSome result (λ i. HasTextAt (items_of self.new.seen) i text.now) }
-        ensures absent { IfNone result (Lacks (λ name. bytes_eq text.now name.now)
-            (items_of self.new.seen)) }
-    {
-        self.names.find_text(text)
-    }
-
     /// Returns the index of a text of any lifetime and length. If no thread has added the text, it
     /// copies the text into `arena` and adds the copy.
     ///

@@ -76,7 +76,7 @@ fn find<A: Allocator + Copy>(
 {
     let name = Name::new(text).ok()?;
     let mut handle = NameHandle::of(interner, std::mem::replace(names, interner.pass()));
-    let found = handle.find(name);
+    let found = handle.find(&name);
     *names = handle.into_pass();
     found
 }
@@ -301,7 +301,7 @@ fn by_handles<R: Wait>(rt: &R, interner: &SharedInterner, name: Name, other: Nam
     let mut one = interner.handle();
     let mut two = interner.handle();
     let put = one.put(rt, name) == Ok(0) && one.put(rt, name) == Ok(0);
-    let found = two.find(name) == Some(0) && two.find(other).is_none();
+    let found = two.find(&name) == Some(0) && two.find(&other).is_none();
     put && found && two.at(0) == Some(name) && two.len() == 1
 }
 

@@ -24,7 +24,7 @@ fn takes_many<R: Wait>(rt: &R, names: &mut NameHandle<'_, u64>) -> bool {
 
 /// Returns whether another handle finds the last of them.
 fn is_found(names: &mut NameHandle<'_, u64>) -> bool {
-    names.find(MANY - 1) == Some((MANY - 1) as usize)
+    names.find(&(MANY - 1)) == Some((MANY - 1) as usize)
 }
 
 #[test]
@@ -56,7 +56,7 @@ fn takes_long<'a>(
     let mut names = interner.handle();
     let first = names.put_text(rt, arena, fox.as_str())? == 0;
     let second = names.put_text(rt, &mut buffer, owl.as_str())? == 1;
-    let found = names.find_text(owl.as_str()) == Some(1);
+    let found = names.find(owl.as_str()) == Some(1);
     Ok(first && second && found && names.at(0) == Some(fox.as_str()))
 }
 

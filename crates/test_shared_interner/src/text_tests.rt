@@ -63,9 +63,9 @@ fn finds_without_a_put<'a, R: Wait>(
     let mut q = interner.handle();
     let first = twice(rt, &mut p, arena, "best friend")? == (0, 0)
         && twice(rt, &mut p, arena, "")? == (1, 1);
-    let found = q.find_text("") == Some(1);
-    let absent = q.find_text("best").is_none();
-    Ok(first && found && absent && q.find_text("best friend") == Some(0))
+    let found = q.find("") == Some(1);
+    let absent = q.find("best").is_none();
+    Ok(first && found && absent && q.find("best friend") == Some(0))
 }
 
 #[test]

@@ -15,8 +15,8 @@ fn puts<'a>(rt: &impl Wait, words: &Words<'a>, arena: &'a Bump) -> Result<bool, 
     let mut one = words.handle();
     let first = one.put(rt, "fox")? == 0 && one.put(rt, "fox")? == 0;
     let text = one.put_text(rt, arena, "owl")? == 1 && one.put_text(rt, arena, "fox")? == 0;
-    let found = one.find("fox") == Some(0) && one.find_text("owl") == Some(1);
-    let absent = one.find("hen").is_none() && one.find_text("hen").is_none();
+    let found = one.find("fox") == Some(0) && one.find(&"owl") == Some(1);
+    let absent = one.find("hen").is_none();
     Ok(first && text && found && absent && one.at(1) == Some("owl") && one.at(2).is_none())
 }
 
@@ -54,8 +54,8 @@ fn keeps_the_first<'a>(
     let placed = arena.allocated_bytes();
     let old = handle.insert_text(rt, arena, "ann", 40)?;
     let first = new.is_new && !old.is_new && old.value == 30 && arena.allocated_bytes() == placed;
-    let found = handle.find_text("ann") == Some(0) && handle.get_text("ann") == Some(30);
-    Ok(first && found && handle.get_text("zoe").is_none())
+    let found = handle.find("ann") == Some(0) && handle.get_ref("ann") == Some(&30);
+    Ok(first && found && handle.get_ref("zoe").is_none())
 }
 
 /// Returns whether a handle of a map with one text does the same.
@@ -67,13 +67,8 @@ fn asks_by_a_handle<'a>(
     let mut handle: MapHandle<'_, &'a str, u64> = ages.handle();
     let kept = handle.insert_text(rt, arena, "ann", 50)?.value == 30;
     let new = handle.insert_text(rt, arena, "bob", 20)?.place == 1;
-    let absent = handle.find_text("zoe").is_none();
-    Ok(
-        kept && new
-            && absent
-            && handle.find_text("bob") == Some(1)
-            && handle.get_text("bob") == Some(20),
-    )
+    let absent = handle.find("zoe").is_none();
+    Ok(kept && new && absent && handle.find("bob") == Some(1) && handle.get_ref("bob") == Some(&20))
 }
 
 #[test]

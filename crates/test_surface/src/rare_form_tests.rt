@@ -86,7 +86,7 @@ fn meets(rt: &impl Wait, alloc: Global, name: Name) -> Result<bool, AllocError> 
     let nothing = other.seen_len() == 0;
     other.meet(&mut one);
     let mut other = NameHandle::of(&names, other);
-    let found = other.find(name);
+    let found = other.find(&name);
     Ok(nothing && other.seen_len() == 1 && found == Some(number))
 }
 
@@ -108,7 +108,7 @@ fn puts_of_a_text<'a>(
     let names: SharedInterner<&'a str> = SharedInterner::new(alloc)?;
     let mut handle = names.handle();
     let first = handle.put_text(rt, &mut buffer, text)?;
-    let second = handle.find_text(text).unwrap_or(100);
+    let second = handle.find(text).unwrap_or(100);
     Ok((first, second, buffer.room()))
 }
 

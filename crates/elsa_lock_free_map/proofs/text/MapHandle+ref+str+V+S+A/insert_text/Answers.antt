@@ -9,13 +9,13 @@ use Rattle.elsa_lock_free_map.proofs.text.MapHandle+ref+str+V+S+A.insert_text.Go
 
 pub returns-in-Some-clause-inserted : goal.returns-in-Some-clause-inserted
 returns-in-Some-clause-inserted g c =
-    let f = c.in-Some.ensures.found.1 in
+    let f = c.in-Some.ensures.found in
     let old = items_of c.args.self.now.seen in
-    let new = items_of c.find_text.new.self.seen in (
+    let new = items_of c.find.new.self.seen in (
       stands_at is_text new c.in-Some.place c.args.text.now c.entry.result.now (f.0, f.1, f.2) c.entry.ensures,
-      c.find_text.ensures.continues.2,
+      c.find.ensures.continues.2,
       λ j v h.
-          let kept = later_at old new j h.0 (items_prefix c.args.self.now.seen c.find_text.new.self.seen c.find_text.ensures.continues.1) h.1 in
+          let kept = later_at old new j h.0 (items_prefix c.args.self.now.seen c.find.new.self.seen c.find.ensures.continues.1) h.1 in
           let same = sym (nat_list_eq_equiv.congr c.args.text.now f.0.key.now h.0.key.now f.2) ∙ h.2 in
           (c.one_to_one.ensures c.in-Some.place j f.0.key h.0.key (key_at new c.in-Some.place f.0 f.1) (key_at new j h.0 kept) same, refl),
     )
@@ -23,10 +23,10 @@ returns-in-Some-clause-inserted g c =
 pub returns-clause-inserted : goal.returns-clause-inserted
 returns-clause-inserted g c =
     let old = items_of c.args.self.now.seen in
-    let p = items_prefix c.args.self.now.seen c.find_text.new.self.seen c.find_text.ensures.continues.1 in
-    let lacks = lacks_before is_text old (items_of c.find_text.new.self.seen) c.args.text.now p c.in_default.ensures.absent in
+    let p = items_prefix c.args.self.now.seen c.find.new.self.seen c.find.ensures.continues.1 in
+    let lacks = lacks_before is_text old (items_of c.find.new.self.seen) c.args.text.now p c.in_default.ensures.absent in
     let after = c.insert_absent.new.self in
     let r = c.copied.result in
-    let s = subst (λ r. InsertsOnce (λ a b. bytes_eq a.now b.now) c.find_text.new.self after c.in_ok-key.key r) (sym c.copied.ensures) c.in_ok-insert_absent.ensures.inserted in
+    let s = subst (λ r. InsertsOnce (λ a b. bytes_eq a.now b.now) c.find.new.self after c.in_ok-key.key r) (sym c.copied.ensures) c.in_ok-insert_absent.ensures.inserted in
     let here = text_stands (items_of after.seen) c.args.text.now c.in_ok-key.key c.in_ok-key.ensures r.place r.value s.0 in
-    inserts_since is_text c.args.self.now c.find_text.new.self after c.args.text.now r c.find_text.ensures.continues lacks here s.1
+    inserts_since is_text c.args.self.now c.find.new.self after c.args.text.now r c.find.ensures.continues lacks here s.1

@@ -6,7 +6,7 @@ pub returns-clause-continues : goal.returns-clause-continues
 returns-clause-continues g c = continues c.self.inside.names c.find.new.self c.args.self.now c.self.view_is c.find.ensures.continues
 
 pub returns-clause-found : goal.returns-clause-found
-returns-clause-found g c = some_weaker c.find.result _ _ (λ i h. has_name g.T.PartialEq.eq c.find.new.self i c.args.name h) c.find.ensures.found
+returns-clause-found g c = some_weaker c.find.result _ _ (λ i h. has_name g.Q.Equivalent.equivalent c.find.new.self i c.args.query h) c.find.ensures.found
 
 pub returns-clause-absent : goal.returns-clause-absent
-returns-clause-absent g c = none_weaker c.find.result _ _ (lacks_name (g.T.PartialEq.eq c.args.name) c.find.new.self) c.find.ensures.absent
+returns-clause-absent g c = none_weaker c.find.result _ _ (lacks_name (g.Q.Equivalent.equivalent c.args.query) c.find.new.self) c.find.ensures.absent
