@@ -1,12 +1,12 @@
 -- What the last entry's evidence finds, and what is still found when other keys are entered.
 use Rattle.std.proofs.Common.{◌≡◌, ◌⊎◌, ℕ, zero, suc, ◌+◌, ◌<◌, inl, inr, Bool, true, false, List, [], ◌∷◌, ◌++◌, length, refl, ap, sym, ◌∙◌, subst, arith, take, slice_get, Some, None}
 use Rattle.std.specs.Prelude.{Option, IfSome, IfNone}
-use Rattle.std.proofs.lemmas.List.{length-map, map-append}
+use Rattle.std.proofs.lemmas.List.{length-append, length-map, map-append}
 use Rattle.std.proofs.lemmas.Option.{slice_get_within}
 use mathlib.Core.List.{IsPrefix}
 use Rattle.elsa_hash_index.specs.declared.row.Event.{Event}
 use Rattle.elsa_hash_index.specs.declared.entry.Entry.{Entry}
-use Rattle.elsa_hash_index.specs.Entries.{EachIsNew, key_of, keys_of, Indexes, IndexesKeys, IsBehind}
+use Rattle.elsa_hash_index.specs.Entries.{EachIsNew, HasLoad, key_of, keys_of, Indexes, IndexesKeys, IsBehind}
 use Rattle.elsa_hash_index.specs.Row.{word_at, count_of, builder_of}
 use Rattle.elsa_hash_index.specs.Words.{IsIndexed, IsLater}
 use Rattle.elsa_hash_index.proofs.RowLemmas.{later_at, count_prefix, builder_prefix}
@@ -40,6 +40,13 @@ module _ {K V S : Type 0} (equal : K → K → Bool) (hash : S → K → ℕ) wh
   last_indexes es n e rule len at =
       let all : keys_of (take n es) ++ e.key ∷ [] ≡ keys_of es = sym (map-append key_of (take n es) (e ∷ [])) ∙ ap keys_of (take_last es n e (omega (arith, len)) at) in
       subst (Indexes hash e.seen.log) all (rule n e at).indexes
+
+  -- The last entry's row has a load for all entries.
+  pub last_load : (es : List (Entry K V S)) (n : ℕ) (e : Entry K V S) → EachIsNew (IsBehind equal hash) es → length es ≡ n + 1 → slice_get es n ≡ Some e
+      → HasLoad (count_of e.seen.log) (length es)
+  last_load es n e rule len at =
+      let all : length (take n es) + 1 ≡ length es = sym (length-append (take n es) (e ∷ [])) ∙ ap length (take_last es n e (omega (arith, len)) at) in
+      subst (HasLoad (count_of e.seen.log)) all (rule n e at).load
 
 module _ {K S : Type 0} (hash : S → K → ℕ) where
   -- By a later history, each key is found too.

@@ -1,6 +1,6 @@
 -- Lists of entries, each with evidence of a row that finds its key and those of all entries before
 -- it.
-use Rattle.std.specs.Prelude.{◌≡◌, ℕ, Bool, false, List, [], ◌∷◌, ◌++◌, map, take, slice_get, Some}
+use Rattle.std.specs.Prelude.{◌≡◌, ℕ, ◌+◌, ◌*◌, ◌/◌, ◌≤◌, Bool, false, List, [], ◌∷◌, ◌++◌, length, map, take, slice_get, Some}
 use Rattle.elsa_hash_index.specs.declared.entry.Entry.{Entry}
 use Rattle.elsa_hash_index.specs.declared.row.Event.{Event}
 use Rattle.elsa_hash_index.specs.Row.{word_at, count_of, builder_of}
@@ -26,6 +26,11 @@ module _ {K : Type 0} where
     pub built : builder_of log ≡ Some builder
     pub all : IndexesKeys (hash builder) (count_of log) (λ k. word_at k log) keys
 
+-- A row of `count` index entries has a load for `n` entries: a third of them stays 0, so that a
+-- probe soon ends, and there are at most six for each entry.
+abbrev pub HasLoad : ℕ → ℕ → Type 0
+HasLoad count n = (n + count / 3 ≤ count) × (count ≤ 6 * n)
+
 module _ {K V S : Type 0} where
   -- The key of an entry.
   abbrev pub key_of : Entry K V S → K
@@ -35,8 +40,9 @@ module _ {K V S : Type 0} where
   abbrev pub keys_of : List (Entry K V S) → List K
   keys_of es = map key_of es
 
-  -- An entry may follow these entries: its key equals none of their keys, and by its evidence all
-  -- their keys and its own are found.
+  -- An entry may follow these entries: its key equals none of their keys; by its evidence all
+  -- their keys and its own are found, and their row has a load for them.
   pub record IsBehind (equal : K → K → Bool) (hash : S → K → ℕ) (es : List (Entry K V S)) (e : Entry K V S) : Type 0 where
     pub absent : IsAbsent equal (keys_of es) e.key
     pub indexes : Indexes hash e.seen.log (keys_of es ++ e.key ∷ [])
+    pub load : HasLoad (count_of e.seen.log) (length es + 1)

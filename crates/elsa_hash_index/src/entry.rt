@@ -2,9 +2,9 @@
 //! and entered by them.
 ghost use Rattle.std.specs.Prelude.{◌≡◌, ℕ, Bool, List, ◌+◌, ◌-◌, ◌<◌, ◌^◌, true, length, slice_get, Some, IfOk, IfSome, IfNone};
 ghost use Rattle.elsa_hash_index.specs.declared.entry.Entry.{Entry};
-ghost use Rattle.elsa_hash_index.specs.Entries.{EachIsNew, IsAbsent, IsBehind, keys_of};
+ghost use Rattle.elsa_hash_index.specs.Entries.{EachIsNew, HasLoad, IsAbsent, IsBehind, keys_of};
 
-use crate::probe::{enter, enter_all, find};
+use crate::probe::{Words, enter, enter_all, find};
 use crate::row::{Row, RowSeen, RowView};
 use std::alloc::{AllocError, Allocator};
 
@@ -106,7 +106,7 @@ pub fn lookup<
 /// Enters a new key in the row of the last entry, and returns the key's entry.
 ///
 /// # Errors
-/// Fails if that row is full.
+/// Fails if fewer than a third of that row's index entries would stay 0.
 pub fn entered<K: Eq + Drop, V: Drop, S: Copy + Drop, A: Allocator, L: Shelf<K, V, S, A>>(
     list: &L,
     key: K,
@@ -128,6 +128,10 @@ pub fn entered<K: Eq + Drop, V: Drop, S: Copy + Drop, A: Allocator, L: Shelf<K, 
     list.obeys_rule();
     let last = list.item(n - 1);
     let mut view = RowView::of(list.row(n - 1), &last.seen);
+    let count = view.len();
+    if n + 1 + count / 3 > count {
+        return Err(AllocError);
+    }
     let builder = view.builder();
     enter(&mut view, list.hash_of(builder, &key), n)?;
     Ok(Entry {
@@ -158,6 +162,7 @@ pub fn regrown<K: Eq + Drop, V: Drop, S: Copy + Drop, A: Allocator + Copy, L: Sh
 ) -> Result<(Row<S, A>, Entry<K, V, S>), AllocError>
     requires room { length (L.seen list.now) + 1 < 2 ^ 32 }
     requires absent_key { IsAbsent K.eq (keys_of (L.seen list.now)) key }
+    requires load { HasLoad count (length (L.seen list.now) + 1) }
     ensures same_row { IfOk result (λ r. r.1.seen.book ≡ r.0.first.book) }
     ensures same_pair { IfOk result (λ r. (r.1.key ≡ key) × (r.1.value ≡ value)) }
     ensures behind { IfOk result (λ r. IsBehind K.eq L.hash (L.seen list.now) r.1) }

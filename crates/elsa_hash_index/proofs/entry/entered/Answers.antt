@@ -1,7 +1,8 @@
-use Rattle.std.proofs.Common.{◌≡◌, ◌-◌, ◌∷◌, ◌++◌, [], Some, length, slice_get, ap, subst, sym, ◌∙◌, arith}
-use Rattle.elsa_hash_index.specs.Entries.{keys_of, IndexesKeys}
+use Rattle.std.proofs.Common.{◌≡◌, ◌+◌, ◌-◌, ◌∷◌, ◌++◌, [], Some, length, slice_get, ap, subst, sym, ◌∙◌, arith}
+use Rattle.elsa_hash_index.specs.Entries.{keys_of, HasLoad, IndexesKeys}
 use Rattle.elsa_hash_index.specs.Row.{word_at, count_of, builder_of}
-use Rattle.elsa_hash_index.proofs.EntryLemmas.{indexed_by, last_indexes, later_indexes, grown_by}
+use Rattle.elsa_hash_index.proofs.EntryLemmas.{indexed_by, last_indexes, last_load, later_indexes, grown_by}
+use Rattle.elsa_hash_index.proofs.RowLemmas.{count_prefix}
 use Rattle.elsa_hash_index.proofs.entry.entered.Goals as goal
 
 pub returns-clause-same_row : goal.returns-clause-same_row
@@ -28,8 +29,17 @@ returns-clause-behind g c =
     let builder = view.row.now.builder in
     let all = indexed_by g.L.Shelf.hash (keys_of es) view.seen.log builder (length view.row.now.words.items) view.built view.opened now in
     let same = ap (λ r. r.1) c.enter.ensures.same.1 in
+    let counted = ap (λ s. count_of s.log) c.into_seen.ensures ∙ (after.opened ∙ c.enter.ensures.same.0) in
+    let kept = last_load g.K.PartialEq.eq g.L.Shelf.hash es (n - 1) last c.obeys_rule.ensures (omega (arith, len, some)) c.item-last.ensures in
+    let least = kept.0 in
+    let most = kept.1 in
+    let opened = view.opened in
+    let free = c.if-n-count.false in
+    let read = c.len-count.ensures in
+    let same_count = count_prefix last.seen.log view.seen.log c.of-view.ensures.known (omega (arith, least, some)) in
     record {
       absent = c.requires.absent_key;
+      load = subst (λ k. HasLoad k (length es + 1)) (sym counted) (omega (arith, free, read, len), omega (arith, most, same_count, opened));
       indexes = record {
         builder = builder;
         built = ap (λ s. builder_of s.log) c.into_seen.ensures ∙ (after.built ∙ ap Some same);
