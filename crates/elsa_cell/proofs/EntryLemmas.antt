@@ -13,7 +13,7 @@ use Rattle.elsa_buckets.specs.Placed.{IsPlaced}
 use Rattle.elsa_buckets.specs.Table.{Entries as Table, places, HasSame, AddsPlace}
 use Rattle.elsa_buckets.proofs.PlacedLemmas.{placed_put, placed_same}
 use Rattle.elsa_cell.specs.declared.map.Entry.{Entry}
-use Rattle.elsa_cell.specs.Entries.{Inserts, entries_of, InsertsOnce, key_of, pair_of, pairs_of}
+use Rattle.elsa_cell.specs.Entries.{Inserts, alone, entries_of, InsertsOnce, key_of, pair_of, pairs_of}
 
 -- An item of a mapped list.
 get_map : {X Y : Type 0} (f : X → Y) (xs : List X) (i : ℕ) → slice_get (map f xs) i ≡ option_map f (slice_get xs i)
@@ -138,6 +138,23 @@ length_entries (p ∷ ps) = ap suc (length_entries ps)
 pub pairs_back : {K V : Type 0} (ps : List (K × V)) → pairs_of (entries_of ps) ≡ ps
 pairs_back [] = refl
 pairs_back (p ∷ ps) = ap (λ qs. p ∷ qs) (pairs_back ps)
+
+-- Keys as entries without values.
+pub alone_push : {K : Type 0} (ks : List K) (k : K) → alone (ks ++ k ∷ []) ≡ alone ks ++ record { key = k; value = tt } ∷ []
+alone_push [] k = refl
+alone_push (j ∷ ks) k = ap (λ es. record { key = j; value = tt } ∷ es) (alone_push ks k)
+
+pub length_alone : {K : Type 0} (ks : List K) → length (alone ks) ≡ length ks
+length_alone [] = refl
+length_alone (k ∷ ks) = ap suc (length_alone ks)
+
+keys_back : {K : Type 0} (ks : List K) → map key_of (alone ks) ≡ ks
+keys_back [] = refl
+keys_back (k ∷ ks) = ap (λ js. k ∷ js) (keys_back ks)
+
+-- Keys begin with those of a prefix of their entries.
+pub keys_begin : {K : Type 0} (es : List (Entry K (Unit {0}))) (ks : List K) → IsPrefix es (alone ks) → IsPrefix (map key_of es) ks
+keys_begin es ks p = (map key_of p.0, sym (map_append key_of es p.0) ∙ (ap (map key_of) p.1 ∙ keys_back ks))
 
 -- Pairs begin with those of a prefix of their entries.
 pub pairs_begin : {K V : Type 0} (es : List (Entry K V)) (ps : List (K × V)) → IsPrefix es (entries_of ps) → IsPrefix (pairs_of es) ps

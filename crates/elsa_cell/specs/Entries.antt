@@ -42,6 +42,11 @@ module _ {K V : Type 0} where
   abbrev pub InsertsOnce : (K → K → Bool) → List (Entry K V) → List (Entry K V) → K → V → V → ℕ → Bool → Type 0
   InsertsOnce equal before after key value kept index is_new = (all : List (Entry K V)) × IsPrefix before all × Inserts equal all after key value kept index is_new
 
+-- Keys as entries without values.
+abbrev pub alone : {K : Type 0} → List K → List (Entry K (Unit {0}))
+alone [] = []
+alone (k ∷ ks) = record { key = k; value = tt {0} } ∷ alone ks
+
 -- The state of a map with these buffers: that of the list of its entries, no two of which have
 -- equal keys, and a table that has the index of each under the hash of its key.
 abbrev pub IsMapOf : {K V A : Type 0} → (K → K → Bool) → (K → ℕ) → List ℕ → State (Entry K V) A → Entries → Type 0

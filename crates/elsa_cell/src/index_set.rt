@@ -1,8 +1,11 @@
 //! [`FrozenIndexSet`]: a map whose values are `()`.
-ghost use Rattle.std.specs.Prelude.{◌≡◌, ◌⊎◌, true, IfErr, IfOk, IfSome};
+ghost use Rattle.std.specs.Prelude.{◌≡◌, ◌⊎◌, true, map, IfErr, IfOk, IfSome};
+ghost use mathlib.Core.List.{IsPrefix};
+ghost use Rattle.elsa_cell.specs.Entries.{key_of};
 
 use crate::fault::{CellFault, InUse};
 use crate::map::{Entry, FrozenMap, MapHandle, MapHold};
+use crate::observed::Seen;
 use elsa_buckets::query::Query;
 use elsa_tables::Inserted;
 use std::alloc::{AllocError, Allocator, Global};
@@ -227,6 +230,37 @@ impl<T: Eq + Hash + Drop, S: BuildHasher + Drop, A: Allocator + Copy> FrozenInde
         match self.map.get_index(index)? {
             Some((item, _)) => Ok(Some(item)),
             None => Ok(None),
+        }
+    }
+
+    /// Moves all items into a vector of `alloc`, in the order of insertion, and drops none. `seen` is
+    /// evidence of items that the set has, each as the key of an entry ([`Observed::evidence`]): the
+    /// vector begins with them.
+    ///
+    /// # Errors
+    /// Fails with [`CellFault::Memory`] if an allocation fails, and with [`CellFault::InUse`] if a
+    /// guard of the set was forgotten. Both contain the set.
+    ///
+    /// # Allocates
+    /// A block of `alloc` for the items.
+    ///
+    /// # Cost
+    /// `O(n)`: one move of each item.
+    pub fn into_vec<Z: Allocator>(
+        self,
+        alloc: Z,
+        seen: &Seen<Entry<T, ()>, A>,
+    ) -> Result<Vec<T, Z>, CellFault<Self>>
+        requires same_vector { seen.now.vector ≡ self }
+        ensures items { IfOk result (λ all. IsPrefix (map key_of seen.now.seen) all.items) }
+        ensures given_back { IfErr result (λ f. (f ≡ CellFault.Memory self)
+            ⊎ (f ≡ CellFault.InUse self)) }
+    {
+        let Self { map } = self;
+        match map.into_key_vec(alloc, seen) {
+            Ok(items) => Ok(items),
+            Err(CellFault::Memory(map)) => Err(CellFault::Memory(FrozenIndexSet { map })),
+            Err(CellFault::InUse(map)) => Err(CellFault::InUse(FrozenIndexSet { map })),
         }
     }
 

@@ -9,7 +9,7 @@ ghost use Rattle.elsa_cell.specs.declared.map.Entry.{Entry};
 ghost use Rattle.elsa_cell.specs.Observed.{Continues};
 
 use crate::fault::{CellFault, InUse, TryFault};
-use crate::map_state::{MapState, Pairs};
+use crate::map_state::{Keys, MapState, Pairs};
 use crate::observed::{Iter, Observed, Seen};
 use crate::shared::{OfSlots, Shared};
 use crate::state::State;
@@ -407,6 +407,32 @@ impl<K: Eq + Hash + Drop, V: Drop, S: BuildHasher + Drop, A: Allocator + Copy> F
         ensures given_back { IfErr result (λ f. (f ≡ CellFault.Memory self)
             ⊎ (f ≡ CellFault.InUse self)) }
     {
+        let (slots, state) = self.into_parts(seen)?;
+        let Ok(items) = Vec::with_capacity(alloc, state.list.count) else {
+            return Err(CellFault::Memory(FrozenMap::again(slots, Some(state))));
+        };
+        let mut all = Pairs { items };
+        state.into_list().move_items(slots, &mut all);
+        let Pairs { items } = all;
+        Ok(items)
+    }
+
+    /// Takes the map apart. `seen` is evidence of entries that the map has.
+    ///
+    /// # Errors
+    /// Fails with the map if a guard of it was forgotten.
+    fn into_parts(
+        self,
+        seen: &Seen<Entry<K, V>, A>,
+    ) -> Result<(Slots<Entry<K, V>, A>, MapState<K, V, S, A>), CellFault<Self>>
+        requires same_vector { seen.now.vector ≡ self }
+        ensures state { IfOk result (λ parts. IsMapOf K.eq (λ k. key_hash S.BuildHasher
+            S.Hasher.Hasher parts.1.hash_builder (K.hash_input k))
+            parts.0 parts.1.list parts.1.table) }
+        ensures same_slots { IfOk result (λ parts. parts.0 ≡ self) }
+        ensures items { IfOk result (λ parts. IsPrefix seen.now.seen parts.1.list.prefix.items) }
+        ensures given_back { IfErr result (λ f. f ≡ CellFault.InUse self) }
+    {
         let Self { slots, cell } = self;
         let Some(state) = cell.into_state() else {
             return Err(CellFault::InUse(FrozenMap::again(slots, None)));
@@ -414,18 +440,7 @@ impl<K: Eq + Hash + Drop, V: Drop, S: BuildHasher + Drop, A: Allocator + Copy> F
         if !seen.is_behind(&state.list) {
             return Err(CellFault::InUse(FrozenMap::again(slots, Some(state))));
         }
-        let Ok(items) = Vec::with_capacity(alloc, state.list.count) else {
-            return Err(CellFault::Memory(FrozenMap::again(slots, Some(state))));
-        };
-        let MapState {
-            list,
-            table: _table,
-            hash_builder: _hash_builder,
-        } = state;
-        let mut all = Pairs { items };
-        list.move_items(slots, &mut all);
-        let Pairs { items } = all;
-        Ok(items)
+        Ok((slots, state))
     }
 
     /// Returns the number of keys. It allocates nothing.
@@ -439,6 +454,30 @@ impl<K: Eq + Hash + Drop, V: Drop, S: BuildHasher + Drop, A: Allocator + Copy> F
     pub fn len(&self) -> Result<usize, InUse> {
         let hold = self.hold()?;
         Ok(hold.len())
+    }
+}
+
+impl<K: Eq + Hash + Drop, S: BuildHasher + Drop, A: Allocator + Copy> FrozenMap<K, (), S, A> {
+    /// Moves all keys into a vector of `alloc`, as [`into_tuple_vec`](Self::into_tuple_vec) moves
+    /// all entries.
+    pub(crate) fn into_key_vec<Z: Allocator>(
+        self,
+        alloc: Z,
+        seen: &Seen<Entry<K, ()>, A>,
+    ) -> Result<Vec<K, Z>, CellFault<Self>>
+        requires same_vector { seen.now.vector ≡ self }
+        ensures items { IfOk result (λ all. IsPrefix (map key_of seen.now.seen) all.items) }
+        ensures given_back { IfErr result (λ f. (f ≡ CellFault.Memory self)
+            ⊎ (f ≡ CellFault.InUse self)) }
+    {
+        let (slots, state) = self.into_parts(seen)?;
+        let Ok(items) = Vec::with_capacity(alloc, state.list.count) else {
+            return Err(CellFault::Memory(FrozenMap::again(slots, Some(state))));
+        };
+        let mut all = Keys { items };
+        state.into_list().move_items(slots, &mut all);
+        let Keys { items } = all;
+        Ok(items)
     }
 }
 

@@ -38,6 +38,27 @@ impl<K, V, Z: Allocator> Sink<Entry<K, V>> for Pairs<K, V, Z> {
     }
 }
 
+/// A receiver of entries without values, as their keys.
+#[derive(Drop)]
+pub(crate) struct Keys<K, Z: Allocator> {
+    pub(crate) items: Vec<K, Z>,
+}
+
+#[tactic(auto, using(crate::proofs::EntryLemmas::alone_push))]
+impl<K, Z: Allocator> Sink<Entry<K, ()>> for Keys<K, Z> {
+    ghost use Rattle.std.specs.Prelude.{vec_capacity};
+    ghost use Rattle.elsa_cell.specs.Entries.{alone};
+
+    ghost received = { λ p. alone p.items.items };
+
+    ghost capacity = { λ p. vec_capacity p.items };
+
+    fn receive(&mut self, item: Entry<K, ()>) {
+        let Entry { key, value: _ } = item;
+        self.items.push_reserved(key);
+    }
+}
+
 /// The list of a map's entries, and the table of their indices.
 #[derive(Drop)]
 pub(crate) struct MapState<K: Eq + Hash + Drop, V, S: BuildHasher + Drop, A: Allocator + Copy> {
@@ -59,6 +80,18 @@ impl<K: Eq + Hash + Drop, V, S: BuildHasher + Drop, A: Allocator + Copy> Fits
 }
 
 impl<K: Eq + Hash + Drop, V, S: BuildHasher + Drop, A: Allocator + Copy> MapState<K, V, S, A> {
+    /// Returns the list, and drops the table.
+    pub(crate) fn into_list(self) -> State<Entry<K, V>, A>
+        ensures { result ≡ self.list }
+    {
+        let MapState {
+            list,
+            table: _table,
+            hash_builder: _hash_builder,
+        } = self;
+        list
+    }
+
     /// Returns the index of the key that `query` finds, or `Err` with the end of the search. It
     /// allocates nothing.
     #[inline(always)]

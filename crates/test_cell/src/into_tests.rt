@@ -1,6 +1,6 @@
 //! Collections that are taken apart: all items come back, in order and each once, none is dropped,
 //! and a denied allocation gives the collection back.
-use elsa_cell::{CellFault, FrozenMap, FrozenVec};
+use elsa_cell::{CellFault, FrozenIndexSet, FrozenMap, FrozenVec};
 use std::alloc::{AllocError, Allocator, Global};
 use std::sync::Arc;
 use std::test::*;
@@ -91,10 +91,35 @@ fn entries_come_back(alloc: Global) -> Result<bool, AllocError> {
     Ok(held == 4 && len == 3 && Arc::strong_count(&counted) == 1)
 }
 
+/// Returns whether the items of a set come back in the order of their insertion, each once.
+fn set_items_come_back(alloc: Global) -> Result<bool, AllocError> {
+    let set: FrozenIndexSet<String> = FrozenIndexSet::new(alloc)?;
+    for word in ["bob", "ann", "bob", "cat", "ann"] {
+        if set.insert(String::from_str(alloc, word)?).is_err() {
+            return Ok(false);
+        }
+    }
+    let Ok(handle) = set.handle() else {
+        return Ok(false);
+    };
+    let seen = handle.observed().evidence();
+    drop(handle);
+    let Ok(all) = set.into_vec(alloc, &seen) else {
+        return Ok(false);
+    };
+    for (item, word) in all.iter().zip(["bob", "ann", "cat"]) {
+        if item.as_str() != word {
+            return Ok(false);
+        }
+    }
+    Ok(all.len() == 3)
+}
+
 #[test]
 fn an_owner_was_dropped_on_its_way_back(rt: HostRuntime) -> Result<(), Fail> {
     assert!(rt; owners_come_back(rt.alloc())?);
     assert!(rt; entries_come_back(rt.alloc())?);
+    assert!(rt; set_items_come_back(rt.alloc())?);
     Ok(())
 }
 
