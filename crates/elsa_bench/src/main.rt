@@ -25,12 +25,16 @@
 //!   followed by `_beside`: another thread then inserts meanwhile.
 //! - The lock-free vector and map of values that own memory, read by reference: `owned_vec_arc`,
 //!   `owned_vec_text`, `owned_map_arc` and `owned_map_text` (COUNT reads in all).
+//! - `cell::FrozenVec`: `cell_vec_push`, `cell_vec_get` and `cell_vec_walk` (ten times), and
+//!   `cell::FrozenMap`: `cell_map_insert` and `cell_map_get`, as those of the collections of one
+//!   thread.
 //! - `TypedArena`: `arena_alloc`, `arena_walk` (ten times) and `arena_drop`, of COUNT values that
 //!   own memory.
 #![tactic(auto)]
 
 ghost use Rattle.std.specs.Prelude.{◌<◌};
 
+mod cells;
 mod draws;
 mod free_map;
 mod items;
@@ -43,6 +47,7 @@ mod tables;
 mod vector;
 mod whole_maps;
 
+use crate::cells::CellCall;
 use crate::draws::Words;
 use crate::free_map::Sought;
 use crate::items::ItemCall;
@@ -101,6 +106,19 @@ fn owner_call_of(form: &str) -> Option<OwnerCall> {
     }
 }
 
+/// Returns what this form times of a collection that grows through `&self`. `None` for any other
+/// form.
+fn cell_call_of(form: &str) -> Option<CellCall> {
+    match form {
+        "cell_vec_push" => Some(CellCall::Push),
+        "cell_vec_get" => Some(CellCall::At),
+        "cell_vec_walk" => Some(CellCall::Walk),
+        "cell_map_insert" => Some(CellCall::Insert),
+        "cell_map_get" => Some(CellCall::Get),
+        _ => None,
+    }
+}
+
 /// Returns what this form times of a `FrozenVec`. `None` for any other form.
 fn item_call_of(form: &str) -> Option<ItemCall> {
     match form {
@@ -152,6 +170,9 @@ fn timed_alone<R: Clock>(
 ) -> io::Result<Option<(u128, u64)>> {
     if let Some(call) = owner_call_of(form) {
         return Ok(Some(owners::timed(rt, alloc, call, count)?));
+    }
+    if let Some(call) = cell_call_of(form) {
+        return Ok(Some(cells::timed(rt, alloc, call, count)?));
     }
     match item_call_of(form) {
         Some(call) => Ok(Some(items::timed(rt, alloc, call, count)?)),
