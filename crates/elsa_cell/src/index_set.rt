@@ -233,9 +233,9 @@ impl<T: Eq + Hash + Drop, S: BuildHasher + Drop, A: Allocator + Copy> FrozenInde
         }
     }
 
-    /// Moves all items into a vector of `alloc`, in the order of insertion, and drops none. `seen` is
-    /// evidence of items that the set has, each as the key of an entry ([`Observed::evidence`]): the
-    /// vector begins with them.
+    /// Moves all items into a vector of `alloc`, in the order of insertion, and drops none. `seen`
+    /// is evidence of items that the set has, each as the key of an entry
+    /// ([`Observed::evidence`]): the vector begins with them.
     ///
     /// # Errors
     /// Fails with [`CellFault::Memory`] if an allocation fails, and with [`CellFault::InUse`] if a

@@ -149,8 +149,9 @@ impl<'i, T: Copy + Drop + Hash, S: BuildHasher + Copy + Drop, A: Allocator + Cop
         self.names.len()
     }
 
-    /// Returns whether there are `2^32 - 1` names, the greatest number, by one load of their number.
-    /// `put` then fails for a new name. It takes no lock, allocates nothing and never blocks.
+    /// Returns whether there are `2^32 - 1` names, the greatest number, by one load of their
+    /// number. `put` then fails for a new name. It takes no lock, allocates nothing and never
+    /// blocks.
     ///
     /// # Cost
     /// `O(1)`.

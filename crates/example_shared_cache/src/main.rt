@@ -75,8 +75,8 @@ fn load<'c, R: Files + AllocGlobal + Wait>(
     Ok(inserted.value)
 }
 
-/// What a worker has found: the number of values, their bytes, and the number of requests whose file
-/// could not be loaded.
+/// What a worker has found: the number of values, their bytes, and the number of requests whose
+/// file could not be loaded.
 #[derive(Clone, Copy)]
 struct Found {
     values: usize,
