@@ -91,6 +91,13 @@ def example_pages():
     return {"examples/index.md": "\n".join([*head, *listed]), **pages}
 
 
+def license_page():
+    """A page with both licences, of which a user chooses one."""
+    texts = [(it, (root / it).read_text()) for it in ("LICENSE-MIT", "LICENSE-APACHE")]
+    parts = [f"## {name}\n\n```text\n{text.strip()}\n```\n" for name, text in texts]
+    return "# License\n\nUse elsa under the MIT license or under the Apache license 2.0.\n\n" + "\n".join(parts)
+
+
 def all_pages():
     """The text of each page of the site, by its path there."""
     sources = [*FURTHER, "bench/RESULTS.md"]
@@ -99,7 +106,8 @@ def all_pages():
     cited = set(re.findall(r"\]\(\.\./\.\./(crates/\w+/specs/[^)]*\.antt)\)", "\n".join(texts.values())))
     made = {site_path(it): page_of(it, text) for it, text in texts.items()}
     made["bench/RESULTS.md"] = WIDE + made["bench/RESULTS.md"]
-    return made | {site_path(it): definition_page(it) for it in sorted(cited)} | example_pages()
+    made |= {site_path(it): definition_page(it) for it in sorted(cited)}
+    return {**made, **example_pages(), "license.md": license_page()}
 
 
 def guide_pages():
@@ -123,16 +131,34 @@ def reference_pages():
     return [{"Index": "reference/README.md"}, *groups, {"Seldom named": seldom}, *others]
 
 
+def rare_pages():
+    """The pages whose texts the search leaves out, so that they don't come before the guide: those of which it finds
+    the title alone, and those of which it also finds the headings."""
+    seldom = next(it["Seldom named"] for it in reference_pages() if "Seldom named" in it)
+    titles = {page for group in seldom for part in group.values() for it in part for page in it.values()}
+    titles |= {"reference/README.md", "reference/faults.md", "reference/tests.md"}
+    pages = all_pages()
+    titles |= {it for it in pages if it.startswith("definitions/")}
+    return titles, {it for it in pages if it.startswith(("internals/", "changes", "contributing", "license"))}
+
+
+def main_types():
+    """The pages of the types that have an example, with their names: a search for the name finds these pages first."""
+    found = sorted((root / "examples" / "reference").glob("*.rt.txt"))
+    names = [it.name.removesuffix(".rt.txt") for it in found]
+    return {f"reference/{it}.md": it.split("-")[-1] for it in names}
+
+
 def navigation(pages):
     """The pages in the order of the site's menus."""
     below = {it: sorted(page for page in pages if page.startswith(it + "/")) for it in ("internals", "definitions")}
     examples = [it for it in pages if it.startswith("examples/")]
     maintainers = [*below["internals"], {"Contributing": "contributing.md"}, {"Definitions": below["definitions"]}]
     return [
-        {"Start": "index.md"},
+        {"Start": [{"elsa": "index.md"}, {"Licence": "license.md"}]},
         {"Guide": guide_pages()},
         {"Reference": reference_pages()},
-        {"Examples": [{it.split("/")[1].removesuffix(".md").replace("index", "All"): it} for it in examples]},
+        {"Examples": [{"All": it} if it.endswith("/index.md") else it for it in examples]},
         {"Measurements": ["bench/RESULTS.md"]},
         {"Changes": ["changes.md"]},
         {"For maintainers": maintainers},
