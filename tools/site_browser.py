@@ -1,17 +1,17 @@
 """What Debian's chromium shows of the built site. Without chromium there is nothing to see, and nothing is checked."""
-import functools, html, http.server, json, queue, re, shutil, subprocess, tempfile, threading
+import functools, html, http.server, json, queue, re, shutil, subprocess, sys, tempfile, threading
 
 # How the browser is started, without a window.
 HEADLESS = ("--headless", "--no-sandbox", "--disable-gpu")
 # A page that starts the theme's own search, and sends the pages that each query finds, in order.
 SEARCH_PAGE = """<script>
 const queries = QUERIES, found = {}, worker = new Worker("WORKER");
-const ask = () => queries.length ? worker.postMessage({type: 2, data: queries[0]}) : fetch("hits", {
+const send = () => queries.length ? worker.postMessage({type: 2, data: queries[0]}) : fetch("hits", {
   method: "POST", body: JSON.stringify(found)
 });
 worker.onmessage = ({data}) => {
   if (data.type == 3) found[queries.shift()] = data.data.items.map(it => it[0].location.split("#")[0]);
-  ask();
+  send();
 };
 fetch("search/search_index.json").then(it => it.json()).then(({config, docs}) => worker.postMessage({
   type: 0, data: {config, docs, options: {pipeline: ["trimmer", "stopWordFilter"], suggestions: false}}
@@ -30,7 +30,7 @@ def shown_text(page):
 
 
 class Pages(http.server.SimpleHTTPRequestHandler):
-    """The files of the site, one more page, and what that page sends."""
+    """The files of the site, the page that searches, and what that page sends."""
 
     def __init__(self, *given, page, sent, **more):
         self.page, self.sent = page, sent
@@ -71,6 +71,8 @@ def browser_hits(site, queries):
         running = subprocess.Popen(words, stdout=subprocess.DEVNULL, stderr=subprocess.DEVNULL)
         try:
             return sent.get(timeout=120)
+        except queue.Empty:
+            sys.exit("site_browser: the search in the browser did not end in two minutes")
         finally:
             running.terminate()
             running.wait()

@@ -3,8 +3,8 @@ is the twin of the lunr.js in the theme material.
 
 The theme's search (version 8) builds an index of the tags, which count 1,000,000 times, of the titles, which count
 1,000 times, and of the texts. It leaves out common English words and stems nothing. The last word of a query may be the
-beginning of a word. A section counts once, a page twice, and either once more if it has all words of the query. The hits
-are then grouped by page. tools/site --check compares this with the browser, if there is one.
+beginning of a word. A section counts once, a page twice, and each counts another time if it has all words of the query.
+The hits are then grouped by page. tools/site --check compares this with the browser, if there is one.
 
 Input: one query for each line. Output: for each query, the pages in the order in which the browser shows them, as JSON.
 
