@@ -119,7 +119,7 @@ def guide_pages():
 def reference_pages():
     """The reference's pages, grouped by the modules of its index."""
     text, groups, seldom = (root / "docs/reference/README.md").read_text(), [], []
-    heading, types = r"^(###?) .*: `([\w:]+)`\n\n", r"((?:- .*\n)+)"
+    heading, types = r"^(###?) .*: `([\w:]+)`\n\n", r"((?:(?:- |  ).*\n)+)"
     for level, module, part in re.findall(heading + types, text, re.M):
         pages = {}
         for label, page in re.findall(r"^- \[([^\]]+)\]\(([\w-]+\.md)[^)]*\)", part, re.M):

@@ -31,7 +31,7 @@ class Search:
     def __init__(self, site):
         written = json.loads((site / "search" / "search_index.json").read_text())
         shown = re.search(r'<script id="__config"[^>]*>(.*?)</script>', (site / "index.html").read_text())[1]
-        if json.loads(shown)["translations"]["search.config.pipeline"] != "trimmer, stopWordFilter":
+        if json.loads(shown)["translations"].get("search.config.pipeline") != "trimmer, stopWordFilter":
             sys.exit("site_search: the theme treats words in another way than this program")
         separator = re.compile(written["config"]["separator"])
         lunr.builder.Tokenizer = lambda text: Tokenizer(text, separator=separator)
