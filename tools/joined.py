@@ -12,6 +12,8 @@ import re, shutil, subprocess
 from repository import lines, root, stands_on
 
 HANDLES = "pub fn main<R: std::rt::Runtime + Alloc<A = std::alloc::Global> + std::random::RandomSource + std::thread::Threads + std::sync::Wait + Sync + Copy>(rt: R, host: HostRuntime)"
+# The libraries that the programs of pages use.
+PAGE_LIBRARIES = ("bumpalo", "elsa", "elsa_serde", "serde_json")
 MAIN = """
 use std::process::ExitCode;
 use std::{env, io};
@@ -68,13 +70,12 @@ def copy(name, source):
 def joined(names, folder, tests, pages={}):
     """Makes the repository in this empty folder; returns the folder of its crate `joined`, which has these crates'
     tests, or these programs and those of pages, by their names."""
-    known, below = lines(), [it for it in stands_on(*names, *(["elsa"] if pages else [])) if it not in names]
+    known, used = lines(), PAGE_LIBRARIES if pages else ()
+    below = [it for it in stands_on(*names, *(it for it in used if it in known)) if it not in names]
     subprocess.run(["git", "init", "-q", "."], cwd=folder, check=True)
     for name in below:
         shutil.copytree(root / "crates" / name / "src", folder / "crates" / name / "src")
-    words = {word for name in names for word in known[name].split(":")[1].split()} | (
-        {"bumpalo", "elsa"} if pages else set()
-    )
+    words = {word for name in names for word in known[name].split(":")[1].split()} | set(used)
     (folder / "crates.txt").write_text(
         "".join(f"{known[it]}\n" for it in below) + f"joined: {' '.join(sorted(words))}\n"
     )

@@ -1,36 +1,51 @@
-"""The programs of the pages, each with its output: the reference's examples (examples/reference/*.rt.txt) and the first
-program of README.md."""
+"""The programs of the pages, each with its output: the reference's examples (examples/reference/*.rt.txt), the recipes
+(examples/recipes/*.rt.txt) and the first program of README.md."""
 import re, sys
 
 from repository import root
 
-
-def found_in(page, what, pattern):
-    """The first match of the pattern on the page."""
-    place = re.search(pattern, page, re.M | re.S)
-    return place.group(1) if place else sys.exit(f"page_programs: README.md has no {what}")
+# The page that has the text and the output of each recipe.
+RECIPES = root / "docs" / "guide" / "recipes.md"
+PRINTS = re.compile(r"^// prints: (.*)\n", re.M)
+# A block of code of a page, and the output after it, if there is one.
+BLOCK = re.compile(r"^```rust\n(.*?)^```$(?:\n\n```text\n(.*?)^```$)?", re.M | re.S)
 
 
 def front_program():
     """The first program of README.md, and its output on the page."""
-    page = (root / "README.md").read_text()
-    text = found_in(page, "program", r"^```rust\n(.*?)^```$")
-    return text, found_in(page, "output of its program", r"^```rust\n.*?^```\n\n```text\n(.*?)^```$")
+    found = BLOCK.search((root / "README.md").read_text())
+    if not found or found[2] is None:
+        sys.exit("page_programs: README.md has no program, or none with its output after it")
+    return found[1], found[2]
 
 
-def reference_programs():
-    """The examples of the reference by the name of a module: the file, its text, and its output from its last lines."""
+def programs_in(folder):
+    """The programs of a folder of examples/ by the name of a module: the file's name, its text without the last lines,
+    and its output, which these lines have."""
     found = {}
-    for file in sorted((root / "examples" / "reference").glob("*.rt.txt")):
+    for file in sorted((root / "examples" / folder).glob("*.rt.txt")):
         text = file.read_text()
-        prints = "".join(f"{line}\n" for line in re.findall(r"^// prints: (.*)$", text, re.M))
+        prints = "".join(f"{line}\n" for line in PRINTS.findall(text))
         if not prints:
             sys.exit(f"page_programs: {file.name} has no line '// prints: ..' with its output")
-        found[f"of_{file.name.removesuffix('.rt.txt').replace('-', '_').lower()}"] = (file, text, prints)
+        name = file.name.removesuffix(".rt.txt").replace("-", "_").lower()
+        found[f"{folder}_{name}"] = (f"{folder}/{file.name}", PRINTS.sub("", text), prints)
     return found
 
 
 def page_programs():
     """All programs by the name of a module: the name to show, its text and its output."""
-    examples = {name: (file.name, text, prints) for name, (file, text, prints) in reference_programs().items()}
-    return {"of_readme": ("README.md", *front_program()), **examples}
+    readme = {"of_readme": ("README.md", *front_program())}
+    return readme | programs_in("reference") | programs_in("recipes")
+
+
+def recipes_fault():
+    """How docs/guide/recipes.md differs from the files of the recipes, or an empty text. The page has each program with
+    its output, and no other program."""
+    shown = BLOCK.findall(RECIPES.read_text())
+    kept = {name: (text, prints) for name, text, prints in programs_in("recipes").values()}
+    changed = [name for name, it in kept.items() if it not in shown]
+    if changed:
+        return f"docs/guide/recipes.md doesn't have the text and the output of examples/{', '.join(changed)}"
+    unknown = [text for text, prints in shown if "fn main(" in text and (text, prints) not in kept.values()]
+    return f"docs/guide/recipes.md has a program that is not in examples/recipes:\n{unknown[0]}" if unknown else ""
