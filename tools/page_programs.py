@@ -1,11 +1,14 @@
 """The programs of the pages, each with its output: the reference's examples (examples/reference/*.rt.txt), the recipes
-(examples/recipes/*.rt.txt) and the first program of README.md."""
+(examples/recipes/*.rt.txt), the first program of README.md, and one that makes the imports of docs/guide/errors.md."""
 import re, sys
 
 from repository import root
 
 # The page that has the text and the output of each recipe.
 RECIPES = root / "docs" / "guide" / "recipes.md"
+# The page that has a table of names and of the paths from which they are imported.
+ERRORS = root / "docs" / "guide" / "errors.md"
+IMPORTS = re.compile(r"^\| ((?:`\w+`,? ?)+)(?:\(.*\) )?\| ((?:`[\w:]+`,? ?)+)\|$", re.M)
 PRINTS = re.compile(r"^// prints: (.*)\n", re.M)
 # A block of code of a page, and the output after it, if there is one.
 BLOCK = re.compile(r"^```rust\n(.*?)^```$(?:\n\n```text\n(.*?)^```$)?", re.M | re.S)
@@ -33,10 +36,28 @@ def programs_in(folder):
     return found
 
 
+def imports_program():
+    """A program that imports each name of the table of docs/guide/errors.md from each path of its row."""
+    rows = IMPORTS.findall(ERRORS.read_text())
+    if not rows:
+        sys.exit("page_programs: docs/guide/errors.md has no table of imports")
+    uses = [
+        f"{path}::{{{', '.join(re.findall(r'[A-Za-z]+', names))}}}"
+        for names, paths in rows
+        for path in re.findall(r"[\w:]+", paths)
+    ]
+    modules = "".join(f"mod row_{number} {{\n    use {it};\n}}\n\n" for number, it in enumerate(uses))
+    main = 'fn main(rt: HostRuntime) -> io::Result<()> {\n    println!(rt; "found")\n}\n'
+    return f"use std::io;\n\n{modules}{main}"
+
+
 def page_programs():
     """All programs by the name of a module: the name to show, its text and its output."""
-    readme = {"of_readme": ("README.md", *front_program())}
-    return readme | programs_in("reference") | programs_in("recipes")
+    pages = {
+        "of_readme": ("README.md", *front_program()),
+        "of_errors": ("docs/guide/errors.md", imports_program(), "found\n"),
+    }
+    return pages | programs_in("reference") | programs_in("recipes")
 
 
 def recipes_fault():
