@@ -26,8 +26,8 @@ module _ {K : Type 0} where
     pub built : builder_of log ≡ Some builder
     pub all : IndexesKeys (hash builder) (count_of log) (λ k. word_at k log) keys
 
--- A row of `count` index entries has a load for `n` entries: a third of them stays 0, so that a
--- probe soon ends, and there are at most six for each entry.
+-- A row of `count` index entries is long enough for `n` keys, if a third of it is to stay 0 so that
+-- a probe soon ends; and it has at most six index entries for each key.
 abbrev pub HasLoad : ℕ → ℕ → Type 0
 HasLoad count n = (n + count / 3 ≤ count) × (count ≤ 6 * n)
 

@@ -163,6 +163,8 @@ pub fn regrown<K: Eq + Drop, V: Drop, S: Copy + Drop, A: Allocator + Copy, L: Sh
     requires room { length (L.seen list.now) + 1 < 2 ^ 32 }
     requires absent_key { IsAbsent K.eq (keys_of (L.seen list.now)) key }
     requires load { HasLoad count (length (L.seen list.now) + 1) }
+
+    // The entry has the key and the value, is of the new row, and may be appended to the list.
     ensures same_row { IfOk result (λ r. r.1.seen.book ≡ r.0.first.book) }
     ensures same_pair { IfOk result (λ r. (r.1.key ≡ key) × (r.1.value ≡ value)) }
     ensures behind { IfOk result (λ r. IsBehind K.eq L.hash (L.seen list.now) r.1) }

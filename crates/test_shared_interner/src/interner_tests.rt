@@ -302,7 +302,7 @@ fn by_handles<R: Wait>(rt: &R, interner: &SharedInterner, name: Name, other: Nam
     let mut two = interner.handle();
     let put = one.put(rt, name) == Ok(0) && one.put(rt, name) == Ok(0);
     let found = two.find(&name) == Some(0) && two.find(&other).is_none();
-    put && found && two.at(0) == Some(name) && two.len() == 1
+    put && found && two.at(0) == Some(name) && two.len() == 1 && !two.is_full()
 }
 
 #[test]
