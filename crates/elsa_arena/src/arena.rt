@@ -14,6 +14,7 @@ use boxcar::tag::Tag;
 use std::alloc::{AllocError, Allocator, Global};
 use std::cell::Cell;
 use std::marker::{Model, PhantomData};
+use std::slice;
 
 /// A property that every value stored in an arena must have, and that every read may rely on.
 ///
@@ -330,19 +331,40 @@ impl<T, A: Allocator, Q: ValueRule<T>> TypedArena<T, A, Q> {
     pub fn iter(&self) -> Iter<'_, T, A, Q> {
         Iter {
             arena: self,
-            number: 0,
-            end: self.len(),
+            row: None,
+            rows: 0,
+            left: self.len(),
         }
     }
 }
 
 /// An iterator over the values of an arena, in the order in which they were stored. Each has the
 /// arena's rule.
+///
+/// It goes over the slots of one row after another.
 #[derive(Drop)]
 pub struct Iter<'a, T, A: Allocator = Global, Q: ValueRule<T> = AnyValue> {
     arena: &'a TypedArena<T, A, Q>,
-    number: usize,
-    end: usize,
+    // The rest of the row that it walks.
+    row: Option<slice::Iter<'a, OnceSlot<T, Slots<Q>>>>,
+    // The number of rows that it has begun.
+    rows: usize,
+    left: usize,
+}
+
+impl<'a, T, A: Allocator, Q: ValueRule<T>> Iter<'a, T, A, Q> {
+    // Begins the next row, and returns its first value.
+    fn first_of_row(&mut self) -> Option<&'a T>
+        ensures keeps { IfSome result (λ r. Q.holds r.now) }
+        ensures left { self.new.left ≡ self.old.left }
+    {
+        let arena = self.arena;
+        let mut row = arena.rows.get(self.rows)?.get()?.iter();
+        let first = row.next();
+        self.row = Some(row);
+        self.rows += 1;
+        first?.get()
+    }
 }
 
 impl<'a, T, A: Allocator, Q: ValueRule<T>> Iterator for Iter<'a, T, A, Q> {
@@ -350,14 +372,18 @@ impl<'a, T, A: Allocator, Q: ValueRule<T>> Iterator for Iter<'a, T, A, Q> {
 
     ghost next_gives = { λ _ item _. IfSome item (λ r. Q.holds r.now) };
 
-    ghost remaining = { λ it. at_most (it.end - it.number) };
+    ghost remaining = { λ it. at_most it.left };
 
     fn next(&mut self) -> Option<&'a T> {
-        if self.number >= self.end {
+        if self.left == 0 {
             return None;
         }
-        let number = self.number;
-        self.number += 1;
-        self.arena.get(number)
+        self.left -= 1;
+        if let Some(row) = &mut self.row
+            && let Some(slot) = row.next()
+        {
+            return slot.get();
+        }
+        self.first_of_row()
     }
 }
