@@ -1,5 +1,4 @@
 """The calls of elsa_proved against plain models in Python."""
-import ctypes
 import random
 import unittest
 

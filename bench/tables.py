@@ -1,0 +1,70 @@
+"""The tables of bench/RESULTS.md, from measured rows."""
+import re
+
+from job import NAMES_GROWTH
+from programs import FLOODS, here
+
+
+def ratio_text(ratio):
+    return "" if ratio is None else f"**{ratio:.2f}**"
+
+
+def time_text(seconds, job):
+    if seconds is None:
+        return ""
+    return f"{seconds / job.entries * 1e9:.1f} ns" if job.entries else f"{seconds * 1000:.1f} ms"
+
+
+def table(jobs):
+    rows = [
+        "| Job | vs upstream | Goal | vs best peer | Goal | elsa | upstream 1.11.2 | Best peer | Peak memory vs upstream, vs peer | Spread |",
+        "| --- | --- | --- | --- | --- | --- | --- | --- | --- | --- |",
+    ]
+    for job in jobs:
+        best = job.best_peer()
+        memory = ", ".join(f"{job.ratio(side, 'memory'):.2f}" for side in ("upstream", best) if side in job.memory)
+        memory += f", goal {job.memory_goal}" if job.memory_goal else ""
+        peer = f"{time_text(job.times[best], job)} ({best})" if best else ""
+        other = job.best_other()
+        peer += f"; {time_text(job.times[other], job)}, **{job.ratio(other):.2f}** ({other})" if other else ""
+        references = "".join(
+            f"; {side}: {time_text(job.times[side], job)}, ratio **{job.ratio(side):.2f}**" for side in job.references
+        )
+        rows.append(
+            f"| {job.name}{references} | {ratio_text(job.ratio('upstream'))} | {job.goal} | {ratio_text(job.ratio(best))} | {job.peer_goal} | {time_text(job.times['elsa'], job)} | "
+            f"{time_text(job.times.get('upstream'), job)} | {peer} | {memory} ({job.memory['elsa'] / 1024:.0f} MiB) | {job.spread:.0%}{' (noisy)' if job.noisy else ''} |"
+        )
+    return "\n".join(rows)
+
+
+def tables(jobs):
+    groups = list(dict.fromkeys(job.group for job in jobs))
+    return "\n\n".join(
+        f"### {group[0].upper()}{group[1:]}\n\n" + table([job for job in jobs if job.group == group])
+        for group in groups
+    )
+
+
+def without_start(jobs):
+    """Subtracts the start of the program from the time of a new name."""
+    start = next((job for job in jobs if job.group == NAMES_GROWTH and not job.entries), None)
+    for job in jobs:
+        if start and job.group == NAMES_GROWTH and job.entries:
+            job.times = {side: max(seconds - start.times[side], 0) for side, seconds in job.times.items()}
+
+
+def flood_note(jobs):
+    plain, *crafted = (
+        {job.name: job.times for job in jobs}.get(f"400,000 of 48 bytes, {title}") for title in FLOODS.values()
+    )
+    if not plain or not all(crafted):
+        return ""
+    ratios = ", ".join(f"{side} {max(job[side] for job in crafted) / plain[side]:.2f}" for side in plain)
+    return f"\nTime for crafted names, compared with random names of the same length (goal: at most 2): {ratios}.\n"
+
+
+def write_between(mark, text):
+    """Writes a text between the two marks of this name in RESULTS.md."""
+    page = here / "RESULTS.md"
+    begin, end = f"<!-- {mark}: begin -->\n", f"<!-- {mark}: end -->"
+    page.write_text(re.sub(rf"({begin}).*?({end})", lambda m: m[1] + text + m[2], page.read_text(), flags=re.S))

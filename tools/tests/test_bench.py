@@ -1,0 +1,126 @@
+"""Tables, pictures and goals of bench/run, from rows with known times."""
+import pathlib, re, unittest
+import xml.etree.ElementTree
+
+from scripts import root
+
+import pictures, tables
+from job import ALONE, NAMES, NAMES_GROWTH, Job
+from jobs import all_jobs
+from measuring import spread_of
+from programs import FLOODS
+
+
+def measured(group, name, times, memory=(), **more):
+    """A row whose sides took these times."""
+    job = Job(group, name, {side: [side] for side in times}, **more)
+    job.times, job.memory = dict(times), {side: 1024 for side in times} | dict(memory)
+    return job
+
+
+class TestRows(unittest.TestCase):
+    def test_the_best_peer_is_neither_upstream_nor_a_reference(self):
+        times = {"elsa": 2.0, "upstream": 4.0, "fast": 1.0, "slow": 3.0, "part": 0.5}
+        job = measured(ALONE, "push", times, references=("part",))
+        self.assertEqual(job.best_peer(), "fast")
+        self.assertEqual(job.ratio("upstream"), 0.5)
+        self.assertIsNone(job.ratio("nothing"))
+
+    def test_the_best_peer_begins_with_the_name_that_is_compared_with(self):
+        times = {"elsa": 2.0, "dashmap": 4.0, "dashmap, by entries": 3.0, "std's lock": 1.0}
+        job = measured(ALONE, "insert", times, compared_with="dashmap")
+        self.assertEqual((job.best_peer(), job.best_other()), ("dashmap, by entries", "std's lock"))
+
+    def test_a_ratio_above_its_goal_is_reported_and_one_at_the_goal_is_not(self):
+        times = {"elsa": 1.0, "upstream": 2.0, "peer": 1.0}
+        self.assertEqual(measured(ALONE, "a", times, goal="0.5", peer_goal="1").above(), [])
+        self.assertEqual(measured(ALONE, "a", times, goal="0.4", peer_goal="0.9").above(), [0.5, 1.0])
+
+    def test_one_thread_counts_the_minimum_and_several_the_median(self):
+        self.assertEqual(spread_of([3.0, 1.0, 2.0], 1), (1.0, 1.0))
+        self.assertEqual(spread_of([1.0, 2.0, 3.0], 4)[1], 2.0)
+
+    def test_no_two_rows_have_one_name(self):
+        names = [(it.group, it.name) for it in all_jobs(pathlib.Path("peers"), "cli", "bench")]
+        self.assertEqual(len(names), len(set(names)))
+
+
+class TestTables(unittest.TestCase):
+    def test_a_row_has_the_cells_of_its_head(self):
+        job = measured(ALONE, "push", {"elsa": 0.001, "upstream": 0.004}, {"elsa": 2048, "upstream": 4096}, goal="1")
+        head, rule, row = tables.table([job]).split("\n")
+        self.assertEqual(head.count("|"), rule.count("|"))
+        self.assertEqual(head.count("|"), row.count("|"))
+        self.assertIn("| **0.25** | 1 |", row)
+        self.assertIn("| 1.0 ms | 4.0 ms |", row)
+        self.assertIn("| 0.50 (2 MiB) |", row)
+
+    def test_a_row_of_entries_has_the_time_of_one(self):
+        self.assertEqual(tables.time_text(0.5, measured(ALONE, "growth", {"elsa": 0.5}, entries=1_000_000)), "500.0 ns")
+
+    def test_a_group_is_one_table(self):
+        jobs = [measured(group, name, {"elsa": 1.0}) for group, name in ((ALONE, "a"), (NAMES, "b"), (ALONE, "c"))]
+        text = tables.tables(jobs)
+        self.assertEqual(re.findall(r"^### (.*)$", text, re.M), ["One thread", "Names"])
+        self.assertLess(text.index("| c |"), text.index("### Names"))
+
+    def test_the_start_of_the_program_is_subtracted_once(self):
+        start = measured(NAMES_GROWTH, "no line", {"elsa": 0.25})
+        many = measured(NAMES_GROWTH, "10,000", {"elsa": 1.0}, entries=10_000)
+        few = measured(NAMES_GROWTH, "1", {"elsa": 0.125}, entries=1)
+        tables.without_start([start, many, few])
+        self.assertEqual((many.times["elsa"], few.times["elsa"], start.times["elsa"]), (0.75, 0, 0.25))
+
+    def test_the_note_on_crafted_names_has_the_worse_of_both(self):
+        jobs = [
+            measured(NAMES, f"400,000 of 48 bytes, {title}", {"elsa": time, "upstream": 10 * time})
+            for title, time in zip(FLOODS.values(), (1.0, 1.5, 2.0))
+        ]
+        self.assertIn("elsa 2.00, upstream 2.00", tables.flood_note(jobs))
+        self.assertEqual(tables.flood_note(jobs[:2]), "")
+
+
+def growth():
+    """Rows of the growth of the names, with a known time of a name."""
+    sides = {"elsa": 100, "upstream": 400, "hand-written": 90}
+    for entries in (10_000, 1_000_000):
+        times = {it: entries * nanos / 1e9 for it, nanos in sides.items()}
+        yield measured(NAMES_GROWTH, f"{entries:,}", times, entries=entries)
+
+
+# The width of each letter of "hand-written, for this job only" in DejaVu Sans Bold, which is wide, in parts of 2048.
+WIDE_LABEL = 204
+
+
+class TestPictures(unittest.TestCase):
+    def test_the_longest_label_ends_inside_of_the_picture(self):
+        for text in (pictures.lines(list(growth())), (root / "bench" / "growth.svg").read_text()):
+            width = int(re.search(r'<svg [^>]*width="(\d+)"', text)[1])
+            start = float(re.search(r'<text x="([\d.]+)"[^>]*>hand-written, for this job only', text)[1])
+            self.assertLessEqual(start + WIDE_LABEL, width)
+
+    def test_a_time_is_drawn_at_its_height(self):
+        text = pictures.lines(list(growth()))
+        at = {label: float(y) - 4 for y, label in re.findall(r'y="([\d.]+)" text-anchor="end">(\d+)</text>', text)}
+        elsa = re.search(r'<polyline points="([^"]+)" fill="none" stroke="#2e7d32"', text)[1]
+        self.assertEqual({float(it.split(",")[1]) for it in elsa.split()}, {at["100"]})
+
+    def test_a_bar_is_as_long_as_its_ratio(self):
+        text = pictures.bars([measured(ALONE, "push", {"elsa": 1.0, "upstream": 4.0, "peer": 2.0})])
+        quarter, half = (float(it) for it in re.findall(r'<rect [^>]*width="([\d.]+)" height="10" fill', text)[2:])
+        self.assertAlmostEqual(2 * quarter, half, delta=0.2)
+        self.assertIn(">0.25</text>", text)
+
+    def test_rows_of_several_threads_and_of_growth_have_no_bar(self):
+        rows = [measured(ALONE, "a", {"elsa": 1.0, "upstream": 2.0}, threads=2), *growth()]
+        self.assertNotIn('height="10" fill="#5f6b7a"/>\n<text', pictures.bars(rows))
+
+    def test_each_picture_is_well_formed(self):
+        # a name as `&self` must not end the picture
+        row = measured(ALONE, "`&self`, a < b", {"elsa": 1.0, "upstream": 2.0})
+        for text in (pictures.lines(list(growth())), pictures.bars([row])):
+            xml.etree.ElementTree.fromstring(text)
+
+
+if __name__ == "__main__":
+    unittest.main()
