@@ -5,7 +5,7 @@ from scripts import script
 
 reference = script("tools/reference")
 
-SOURCE = '''//! A module.
+SOURCE = """//! A module.
 
 pub use crate::{one, two::{Three, Four as Five}};
 
@@ -39,7 +39,7 @@ impl<T> List<T> {
         self.items.len()
     }
 }
-'''
+"""
 
 
 def module(text):

@@ -21,7 +21,9 @@ class TestWording(unittest.TestCase):
         self.assertEqual(found(wording.comment_lines(source, "//")), [1])
 
     def test_comments_and_texts_of_a_script_are_read_but_no_names(self):
-        script_ = '#!/usr/bin/env python3\n"""It now\nlends."""\nlends = "lends"  # it lends\nprint(f"it lends {lends}")'
+        script_ = (
+            '#!/usr/bin/env python3\n"""It now\nlends."""\nlends = "lends"  # it lends\nprint(f"it lends {lends}")'
+        )
         self.assertEqual(found(wording.script_lines(script_)), [3, 4, 5])
 
     def test_a_lock_is_under_and_not_after(self):
