@@ -41,7 +41,9 @@ def page_of(path, text):
         if re.match(r"[a-z]+:", target) or not target:
             return found[0]
         place = posixpath.normpath(posixpath.join(posixpath.dirname(path), target))
-        there = site_path(place, label.strip("`").split(".")[-1])
+        name = label.strip("`")
+        # the label is the name of a definition, or of its file
+        there = site_path(place, "" if "/" in name else name.split(".")[-1])
         if there is None:
             return label
         return f"[{label}]({posixpath.relpath(there, posixpath.dirname(own) or '.')}{mark or ''})"
