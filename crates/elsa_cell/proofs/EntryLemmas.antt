@@ -9,14 +9,11 @@ use Rattle.std.specs.Option.{option_map, option_or}
 use Rattle.indexmap.proofs.MapLemmas.{Found-position, Missing-position}
 use Rattle.std_collections.proofs.HashLookup.{get_value}
 use mathlib.Core.List.{IsPrefix}
-use Rattle.elsa_buckets.specs.Placed.{IsPlaced}
-use Rattle.elsa_buckets.specs.Table.{Entries as Table, places, HasSame, AddsPlace}
-use Rattle.elsa_buckets.proofs.PlacedLemmas.{placed_put, placed_same}
 use Rattle.elsa_cell.specs.declared.map.Entry.{Entry}
 use Rattle.elsa_cell.specs.Entries.{Inserts, alone, entries_of, InsertsOnce, key_of, pair_of, pairs_of}
 
 -- An item of a mapped list.
-get_map : {X Y : Type 0} (f : X → Y) (xs : List X) (i : ℕ) → slice_get (map f xs) i ≡ option_map f (slice_get xs i)
+pub get_map : {X Y : Type 0} (f : X → Y) (xs : List X) (i : ℕ) → slice_get (map f xs) i ≡ option_map f (slice_get xs i)
 get_map f [] i = refl
 get_map f (x ∷ xs) zero = refl
 get_map f (x ∷ xs) (suc i) = get_map f xs i
@@ -44,20 +41,9 @@ value_at test es i at =
 pub absent_at : {K V : Type 0} (test : K → Bool) (es : List (Entry K V)) → position test (map key_of es) ≡ None → lookup test (pairs_of es) ≡ None
 absent_at test es none = (Missing-position test (pairs_of es) (ap (position test) (keys_pairs es) ∙ none)).value
 
--- What a comparison of the keys of entries, by index, says of each key.
-pub compared_entries : {K V : Type 0} (test : K → Bool) (es : List (Entry K V)) (i : ℕ) (b : Bool) (k : K) → slice_get (map key_of es) i ≡ Some k → ((e : Entry K V) → slice_get es i ≡ Some e → b ≡ test (key_of e)) → b ≡ test k
-compared_entries test es i b k at compared = elim ((slice_get_cases es i).1) [
-  | inl h ↦ compared h.0 h.2 ∙ ap test (same_Some (key_of h.0) k (sym (get_map key_of es i ∙ ap (option_map key_of) h.2) ∙ at))
-  | inr h ↦ absurd (none-some k (sym (get_map key_of es i ∙ ap (option_map key_of) h.1) ∙ at))
-]
-
--- The table has the index of a new last entry.
-pub placed_last : {K V : Type 0} (same : K → K → Bool) (laws : IsEquivalence same) (hash : K → ℕ) (before wide after : Table) (es ns : List (Entry K V)) (e : Entry K V) (h place : ℕ) → IsPlaced same hash before (map key_of es)
-    → places wide ≡ places before → HasSame before wide → h ≡ hash (key_of e) → place ≡ places wide → places after ≡ places wide + 1 → AddsPlace wide h place after → position (same (key_of e)) (map key_of es) ≡ None
-    → ns ≡ es ++ e ∷ [] → IsPlaced same hash after (map key_of ns)
-placed_last same laws hash before wide after es ns e h place placed counts stays hashed at more adds none grown =
-    subst (IsPlaced same hash after) (sym (ap (map key_of) grown ∙ map_append key_of es (e ∷ [])))
-    (placed_put same laws hash wide after (map key_of es) (key_of e) h place (placed_same same laws hash before wide (map key_of es) placed counts stays) hashed at more adds none)
+-- The keys after a push.
+pub keys_push : {K V : Type 0} (es ns : List (Entry K V)) (e : Entry K V) → ns ≡ es ++ e ∷ [] → map key_of ns ≡ map key_of es ++ key_of e ∷ []
+keys_push es ns e grown = ap (map key_of) grown ∙ map_append key_of es (e ∷ [])
 
 -- Prefixes.
 pub prefix_trans : {A : Type 0} (xs ys zs : List A) → IsPrefix xs ys → IsPrefix ys zs → IsPrefix xs zs

@@ -1,2 +1,4 @@
 pub mod Beginnings
 pub mod EntryLemmas
+pub mod OrderLemmas
+pub mod WalkLemmas

@@ -2,8 +2,6 @@
 use Rattle.std.specs.Prelude.{ℕ, ◌≡◌, Bool, true, false, Some, None, List, [], ◌∷◌, ◌++◌, length, map, position}
 use Rattle.std.specs.Map.{lookup}
 use mathlib.Core.List.{IsPrefix}
-use Rattle.elsa_buckets.specs.Placed.{IsPlaced}
-use Rattle.elsa_buckets.specs.Table.{Entries}
 use Rattle.elsa_cell.specs.Observed.{IsStateOf}
 use Rattle.elsa_cell.specs.declared.map.Entry.{Entry}
 use Rattle.elsa_cell.specs.declared.state.State.{State}
@@ -47,7 +45,6 @@ abbrev pub alone : {K : Type 0} → List K → List (Entry K (Unit {0}))
 alone [] = []
 alone (k ∷ ks) = record { key = k; value = tt {0} } ∷ alone ks
 
--- The state of a map with these buffers: that of the list of its entries, no two of which have
--- equal keys, and a table that has the index of each under the hash of its key.
-abbrev pub IsMapOf : {K V A : Type 0} → (K → K → Bool) → (K → ℕ) → List ℕ → State (Entry K V) A → Entries → Type 0
-IsMapOf same hash buffers list table = IsStateOf buffers list × IsPlaced same hash table (map key_of list.prefix.items)
+-- The state of a map with these buffers: that of the list of its entries, and a table for their keys.
+abbrev pub IsMapOf : {K V A T : Type 0} → (T → List K → Type 0) → List ℕ → State (Entry K V) A → T → Type 0
+IsMapOf is_for buffers list table = IsStateOf buffers list × is_for table (map key_of list.prefix.items)

@@ -1,2 +1,4 @@
 pub mod Entries
 pub mod Observed
+pub mod Ordered
+pub mod Queries

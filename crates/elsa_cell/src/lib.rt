@@ -3,17 +3,27 @@
 #![tactic(auto)]
 
 mod fault;
+mod hashed;
 pub mod index_set;
 pub mod map;
+mod map_handle;
+mod map_hold;
 mod map_state;
 pub mod observed;
+mod ordered;
+mod places;
 mod shared;
 mod state;
 pub mod vec;
 
 pub use elsa_buckets::query::Query;
 pub use fault::{CellFault, InUse, TryFault};
+pub use hashed::{FrozenIndexMap, FrozenMap, Hashed, MapHandle, MapHold};
 pub use index_set::{FrozenIndexSet, FrozenSet};
-pub use map::{FrozenIndexMap, FrozenMap, MapHandle, MapHold};
+pub use map::{Entry, Frozen};
+pub use map_handle::FrozenHandle;
+pub use map_hold::FrozenHold;
 pub use observed::{Iter, Observed, Seen};
+pub use ordered::{Ascending, BTreeHandle, BTreeHold, FrozenBTreeMap, OrderQuery, Ordered};
+pub use places::{KeyList, Places, Seeks};
 pub use vec::{FrozenVec, Handle, Hold};

@@ -16,6 +16,8 @@ mod into_tests;
 #[cfg(test)]
 mod map_tests;
 #[cfg(test)]
+mod ordered_tests;
+#[cfg(test)]
 mod rules;
 #[cfg(test)]
 mod vec_tests;

@@ -1,0 +1,161 @@
+//! [`Hashed`]: the hash table that finds the keys of a map.
+ghost use Rattle.std.specs.Prelude.{◌≡◌, ◌<◌, Some, length, slice_get};
+ghost use Rattle.elsa_buckets.specs.Placed.{key_hash, IsPlaced};
+ghost use Rattle.elsa_buckets.specs.Table.{IsRoom, IsVacancy, most_places, places};
+
+use crate::map::Frozen;
+use crate::map_handle::FrozenHandle;
+use crate::map_hold::FrozenHold;
+use crate::places::{KeyList, Places, Seeks};
+use elsa_buckets::query::{Missing, Query, search};
+use elsa_buckets::table::PlaceTable;
+use std::alloc::{AllocError, Allocator, Global};
+use std::hash::{BuildHasher, BuildHasherDefault, FoldHasher, Hash};
+
+/// A hash table that has the index of each key of a map under the key's hash: the table of a
+/// [`FrozenMap`](crate::FrozenMap).
+#[derive(Drop)]
+pub struct Hashed<S: BuildHasher + Drop, A: Allocator + Copy> {
+    pub(crate) table: PlaceTable<A>,
+    pub(crate) hash_builder: S,
+}
+
+/// The map that finds its keys by their hash. It is also the map that [`FrozenIndexMap`] names.
+///
+/// Keys need `Eq` and `Hash`. The table has 8 bytes for each bucket.
+pub type FrozenMap<K, V, S = BuildHasherDefault<FoldHasher>, A = Global> = Frozen<
+    K,
+    V,
+    Hashed<S, A>,
+    A,
+>;
+
+/// The [`FrozenMap`] by the name that Rust's elsa gives a map whose entries have an index
+/// ([`get_full`](Frozen::get_full), [`get_index`](Frozen::get_index)).
+pub type FrozenIndexMap<K, V, S = BuildHasherDefault<FoldHasher>, A = Global> = FrozenMap<
+    K,
+    V,
+    S,
+    A,
+>;
+
+/// The handle of a [`FrozenMap`].
+pub type MapHandle<'m, K, V, S = BuildHasherDefault<FoldHasher>, A = Global> = FrozenHandle<
+    'm,
+    K,
+    V,
+    Hashed<S, A>,
+    A,
+>;
+
+/// The lock guard of a [`FrozenMap`].
+pub type MapHold<'m, K, V, S = BuildHasherDefault<FoldHasher>, A = Global> = FrozenHold<
+    'm,
+    K,
+    V,
+    Hashed<S, A>,
+    A,
+>;
+
+impl<K: Eq + Hash + Drop, V: Drop, A: Allocator + Copy> FrozenMap<
+    K,
+    V,
+    BuildHasherDefault<FoldHasher>,
+    A,
+> {
+    /// Makes an empty map that hashes by the default hasher.
+    ///
+    /// # Errors
+    /// Fails if an allocation fails.
+    ///
+    /// # Allocates
+    /// The directory of its buffers.
+    pub fn new(alloc: A) -> Result<Self, AllocError> {
+        FrozenMap::with_hasher(alloc, BuildHasherDefault::default())
+    }
+}
+
+impl<K: Eq + Hash + Drop, V: Drop, S: BuildHasher + Drop, A: Allocator + Copy> FrozenMap<
+    K,
+    V,
+    S,
+    A,
+> {
+    /// Makes an empty map that hashes by `hash_builder`.
+    ///
+    /// # Errors
+    /// Fails if an allocation fails.
+    ///
+    /// # Allocates
+    /// The directory of its buffers.
+    pub fn with_hasher(alloc: A, hash_builder: S) -> Result<Self, AllocError> {
+        let table = PlaceTable::new(alloc);
+        Frozen::over(
+            alloc,
+            Hashed {
+                table,
+                hash_builder,
+            },
+        )
+    }
+}
+
+impl<K: Eq + Hash, S: BuildHasher + Drop, A: Allocator + Copy> Places<K> for Hashed<S, A> {
+    ghost use Rattle.std.specs.Prelude.{◌≡◌, ◌<◌};
+    ghost use Rattle.elsa_buckets.specs.Placed.{key_hash, IsPlaced};
+    ghost use Rattle.elsa_buckets.specs.Table.{IsRoom, IsVacancy, most_places, places};
+
+    ghost same = { K.eq };
+
+    ghost is_for = { λ t keys. IsPlaced K.eq
+        (λ k. key_hash S.BuildHasher S.Hasher.Hasher t.hash_builder (K.hash_input k)) t.table keys };
+
+    type End = Missing;
+
+    ghost ends = { λ t _ key m. IsVacancy t.table m.hash m.end × (m.hash
+        ≡ key_hash S.BuildHasher S.Hasher.Hasher t.hash_builder (K.hash_input key)) };
+
+    ghost has_room = { λ t _ key m. IsRoom t.table m.hash m.end × (m.hash
+        ≡ key_hash S.BuildHasher S.Hasher.Hasher t.hash_builder (K.hash_input key))
+        × (places t.table < most_places) };
+
+    #[inline(always)]
+    fn seek<L: KeyList<K>>(&self, keys: &L, key: &K) -> Result<usize, Missing> {
+        let is_it = |place|
+            requires { place < length (L.keys keys.now) }
+            ensures { (k : K) → slice_get (L.keys keys.entry.now) place ≡ Some k → result ≡ K.eq key.entry.now k }
+        { key.eq(keys.key_at(place)) };
+        search(&self.table, &self.hash_builder, key, is_it)
+    }
+
+    #[inline(always)]
+    fn reserve(&mut self, end: Missing) -> Result<Missing, AllocError> {
+        let room = self.table.reserve(end.hash, end.end)?;
+        Ok(Missing {
+            hash: end.hash,
+            end: room,
+        })
+    }
+
+    #[inline(always)]
+    fn add(&mut self, end: Missing) {
+        self.table.add(end.hash, end.end);
+    }
+}
+
+impl<K: Eq + Hash, Q: Query<K>, S: BuildHasher + Drop, A: Allocator + Copy> Seeks<K, Hashed<S, A>>
+    for Q {
+    ghost finds = { Q.finds };
+
+    #[inline(always)]
+    fn seek<L: KeyList<K>>(self, table: &Hashed<S, A>, keys: &L) -> Option<usize> {
+        let is_it = |place|
+            requires { place < length (L.keys keys.now) }
+            ensures { (k : K) → slice_get (L.keys keys.entry.now) place ≡ Some k → result ≡ Q.finds self k }
+        { self.finds(keys.key_at(place)) };
+        match search(&table.table, &table.hash_builder, self, is_it) {
+            Ok(index) => Some(index),
+            Err(_) => None,
+        }
+    }
+}

@@ -1,0 +1,248 @@
+//! [`FrozenHold`]: the lock guard of a map.
+ghost use Rattle.std.specs.Prelude.{◌≡◌, ◌<◌, ◌^◌, true, None, Some, length, map, position, slice_get, IfErr, IfOk, IfSome};
+ghost use Rattle.std.specs.Map.{lookup};
+ghost use Rattle.std.specs.Option.{option_map};
+ghost use Rattle.elsa_cell.specs.Entries.{Inserts, key_of, pair_of, pairs_of};
+ghost use Rattle.elsa_cell.specs.Observed.{Continues};
+
+use crate::fault::CellFault;
+use crate::map::{Entry, pair_at};
+use crate::map_handle::FrozenHandle;
+use crate::map_state::MapState;
+use crate::observed::Observed;
+use crate::places::{Places, Seeks};
+use crate::shared::Shared;
+use elsa_slots::slots::Slots;
+use elsa_tables::Inserted;
+use std::alloc::{Allocator, Global};
+use std::marker::Model;
+
+/// A lock guard of a map: its caller alone inserts, and each other call fails with [`InUse`].
+/// Contracts see the map, by the names of its buffers, and all its entries.
+///
+/// It is the form for a loop of insertions, and for what needs the whole map unchanged.
+pub struct FrozenHold<'m, K: Drop, V, T: Places<K> + Drop, A: Allocator + Copy = Global> {
+    pub(crate) slots: &'m Slots<Entry<K, V>, A>,
+    pub(crate) cell: &'m Shared<MapState<K, V, T, A>>,
+    pub(crate) state: MapState<K, V, T, A>,
+}
+
+impl<'m, K: Drop, V, T: Places<K> + Drop, A: Allocator + Copy> Model
+    for FrozenHold<'m, K, V, T, A> {
+    ghost use Rattle.std.specs.Prelude.{◌≡◌};
+    ghost use Rattle.elsa_cell.specs.Observed.{View};
+    ghost use Rattle.elsa_cell.specs.Entries.{IsMapOf};
+    ghost use Rattle.elsa_cell.specs.declared.map.Entry.{Entry};
+
+    ghost Value = { View (Entry K V) };
+
+    ghost view = { λ h. record { vector = h.slots.now; seen = h.state.list.prefix.items } };
+
+    ghost invariant = { λ h. IsMapOf T.is_for
+        h.slots.now h.state.list h.state.table × (h.cell.now.numbers ≡ h.slots.now) };
+}
+
+impl<K: Drop, V, T: Places<K> + Drop, A: Allocator + Copy> Drop for FrozenHold<'_, K, V, T, A> {
+    fn drop(self) {
+        let Self {
+            slots: _,
+            cell,
+            state,
+        } = self;
+        cell.put(state);
+    }
+}
+
+impl<'m, K: Drop, V: Drop, T: Places<K> + Drop, A: Allocator + Copy> FrozenHold<'m, K, V, T, A> {
+    /// Returns all entries, to read them after the guard is dropped.
+    pub fn observed(&self) -> Observed<'m, Entry<K, V>, A>
+        ensures same_view { result ≡ self.now }
+    {
+        Observed::of(self.slots, &self.state.list)
+    }
+
+    /// Makes a handle that has observed all entries. It allocates nothing.
+    pub fn handle(&self) -> FrozenHandle<'m, K, V, T, A>
+        ensures same_view { result ≡ self.now }
+    {
+        FrozenHandle {
+            cell: self.cell,
+            observed: self.observed(),
+        }
+    }
+
+    /// Returns the number of keys.
+    ///
+    /// # Cost
+    /// `O(1)`.
+    pub fn len(&self) -> usize
+        ensures length { result ≡ length self.now.seen }
+        ensures limit { result < 2 ^ 62 }
+    {
+        self.state.list.count
+    }
+
+    /// Returns a reference to the entry at an index.
+    pub(crate) fn entry_at(&self, index: usize) -> &'m Entry<K, V>
+        requires { index < length self.now.seen }
+        ensures { slice_get self.now.seen index ≡ Some result.now }
+    {
+        let observed = self.observed();
+        observed.item(index)
+    }
+
+    /// Returns the index of the entry whose key `query` finds, and a reference to it.
+    #[tactic(auto, using(crate::proofs::EntryLemmas::absent_at, crate::proofs::EntryLemmas::within_at))]
+    fn find<Q: Seeks<K, T>>(&self, query: Q) -> Option<(usize, &'m Entry<K, V>)>
+        ensures index { option_map (λ f. f.0) result
+            ≡ position (Q.finds query) (map key_of self.now.seen) }
+        ensures entry { IfSome result (λ f. slice_get self.now.seen f.0 ≡ Some f.1.now) }
+        ensures value { option_map (λ f. f.1.now.value) result
+            ≡ lookup (Q.finds query) (pairs_of self.now.seen) }
+    {
+        let index = self.state.find(self.slots, query)?;
+        Some((index, self.entry_at(index)))
+    }
+
+    /// Returns the index of the entry whose key equals `key`, and a reference to it.
+    #[tactic(auto, using(crate::proofs::EntryLemmas::absent_at, crate::proofs::EntryLemmas::within_at))]
+    pub(crate) fn find_key(&self, key: &K) -> Option<(usize, &'m Entry<K, V>)>
+        ensures index { option_map (λ f. f.0) result
+            ≡ position (T.same key.now) (map key_of self.now.seen) }
+        ensures entry { IfSome result (λ f. slice_get self.now.seen f.0 ≡ Some f.1.now) }
+        ensures value { option_map (λ f. f.1.now.value) result
+            ≡ lookup (T.same key.now) (pairs_of self.now.seen) }
+    {
+        match self.state.seek(self.slots, key) {
+            Ok(present) => Some((present, self.entry_at(present))),
+            Err(_) => None,
+        }
+    }
+
+    /// Returns a reference to the value of the key that `query` finds, or `None` exactly if the map
+    /// has no such key. It allocates nothing.
+    ///
+    /// # Cost
+    /// One search: one hash and `O(1)` comparisons if the table hashes, `O(log n)` comparisons if
+    /// it is ordered.
+    pub fn get<Q: Seeks<K, T>>(&self, query: Q) -> Option<&'m V>
+        ensures found { option_map (λ v. v.now) result
+            ≡ lookup (Q.finds query) (pairs_of self.now.seen) }
+    {
+        let (_, entry) = self.find(query)?;
+        Some(entry.value())
+    }
+
+    /// Returns the index of the key that `query` finds, and references to the key and its value, or
+    /// `None` exactly if the map has no such key. It allocates nothing.
+    ///
+    /// # Cost
+    /// One search: one hash and `O(1)` comparisons if the table hashes, `O(log n)` comparisons if
+    /// it is ordered.
+    #[tactic(auto, using(crate::proofs::EntryLemmas::pair_at, crate::proofs::EntryLemmas::passes_at))]
+    pub fn get_full<Q: Seeks<K, T>>(&self, query: Q) -> Option<(usize, &'m K, &'m V)>
+        ensures index { option_map (λ r. r.0) result
+            ≡ position (Q.finds query) (map key_of self.now.seen) }
+        ensures entry { IfSome result (λ r.
+            slice_get (pairs_of self.now.seen) r.0 ≡ Some (r.1.now, r.2.now)) }
+        ensures found_key { IfSome result (λ r. Q.finds query r.1.now ≡ true) }
+        ensures value { option_map (λ r. r.2.now) result
+            ≡ lookup (Q.finds query) (pairs_of self.now.seen) }
+    {
+        let (index, entry) = self.find(query)?;
+        Some((index, entry.key(), entry.value()))
+    }
+
+    /// Returns references to the key and the value at an index, or `None` exactly if the index is
+    /// at or above the number of keys. It allocates nothing.
+    ///
+    /// # Cost
+    /// `O(1)`.
+    pub fn get_index(&self, index: usize) -> Option<(&'m K, &'m V)>
+        ensures entry { option_map (λ r. (r.0.now, r.1.now)) result
+            ≡ slice_get (pairs_of self.now.seen) index }
+    {
+        let observed = self.observed();
+        pair_at(&observed, index)
+    }
+
+    /// Inserts a value unless the map has an equal key. Returns the value that the key then has,
+    /// its index in the order of insertion, and whether the key was new. A present key keeps its
+    /// value, and `key` and `value` are dropped.
+    ///
+    /// # Errors
+    /// Fails with [`CellFault::Memory`] and `value` if an allocation fails, or if the map has the
+    /// greatest number of entries, `2^32 - 1`. The map is unchanged; the key is dropped.
+    ///
+    /// # Allocates
+    /// A buffer, four times as large as the one before, at the lengths where one begins. When the
+    /// table is full, one of twice the size: of 8 bytes for each bucket if it hashes, of which
+    /// three quarters are taken, and of 4 bytes for each key if it is ordered.
+    ///
+    /// # Cost
+    /// One search. An ordered table then moves the 4 bytes of each greater key: `O(n)`.
+    pub fn insert_new(&mut self, key: K, value: V) -> Result<Inserted<&'m V, usize>, CellFault<V>>
+        ensures continues { Continues self.old self.new }
+        ensures inserted { IfOk result (λ r. Inserts T.same self.old.seen self.new.seen key value
+            r.value.now r.index r.is_new) }
+        ensures given_back { IfErr result (λ f. f ≡ CellFault.Memory value) }
+
+        // It fails only for an absent key.
+        ensures refused { IfErr result (λ _. (self.new ≡ self.old)
+            × (lookup (T.same key) (pairs_of self.old.seen) ≡ None)) }
+    {
+        match self.insert_entry(key, value) {
+            Ok(inserted) => Ok(Inserted {
+                value: inserted.value.value(),
+                index: inserted.index,
+                is_new: inserted.is_new,
+            }),
+            Err(entry) => {
+                let Entry { key: _key, value } = entry;
+                Err(CellFault::Memory(value))
+            }
+        }
+    }
+
+    /// Inserts an entry unless the map has an equal key, and returns the entry that the key then
+    /// has: [`insert_new`](Self::insert_new) with the whole entry.
+    ///
+    /// # Errors
+    /// Fails with the entry itself if an allocation fails, or if the map has the greatest number of
+    /// entries.
+    pub(crate) fn insert_entry(
+        &mut self,
+        key: K,
+        value: V,
+    ) -> Result<Inserted<&'m Entry<K, V>, usize>, Entry<K, V>>
+        ensures continues { Continues self.old self.new }
+        ensures inserted { IfOk result (λ r. Inserts T.same self.old.seen self.new.seen key value
+            r.value.now.value r.index r.is_new) }
+        ensures entry { IfOk result (λ r. slice_get self.new.seen r.index ≡ Some r.value.now) }
+        ensures given_back { IfErr result (λ e. pair_of e ≡ (key, value)) }
+
+        // It fails only for an absent key.
+        ensures refused { IfErr result (λ _. (self.new ≡ self.old)
+            × (lookup (T.same key) (pairs_of self.old.seen) ≡ None)) }
+    {
+        let missing = match self.state.seek(self.slots, &key) {
+            Ok(present) => {
+                return Ok(Inserted {
+                    value: self.entry_at(present),
+                    index: present,
+                    is_new: false,
+                });
+            }
+            Err(missing) => missing,
+        };
+        let slots = self.slots;
+        match self.state.add(slots, missing, Entry { key, value }) {
+            Ok(index) => Ok(Inserted {
+                value: self.entry_at(index),
+                index,
+                is_new: true,
+            }),
+            Err(entry) => Err(entry),
+        }
+    }
+}
