@@ -24,10 +24,11 @@ module _ {K : Type 0} where
     pub below : (r : ℕ) (x : K) → r < low → HasAt order keys r x → against x ≡ Greater
     pub above : (r : ℕ) (x : K) → high ≤ r → HasAt order keys r x → against x ≡ Less
 
-  -- No key is less; no key is greater.
+  -- no key is less
   abbrev pub IsLeast : (K → K → Ordering) → K → List K → Type 0
   IsLeast cmp x keys = (i : ℕ) (y : K) → slice_get keys i ≡ Some y → is_gt (cmp x y) ≡ false
 
+  -- no key is greater
   abbrev pub IsGreatest : (K → K → Ordering) → K → List K → Type 0
   IsGreatest cmp x keys = (i : ℕ) (y : K) → slice_get keys i ≡ Some y → is_lt (cmp x y) ≡ false
 
