@@ -5,6 +5,7 @@ use elsa_cell::{BTreeHandle, CellFault, FrozenBTreeMap, InUse};
 use std::alloc::{AllocError, Allocator, Global};
 use std::sync::Arc;
 use std::test::*;
+use std::time::{SystemTime, UNIX_EPOCH};
 use test_alloc::Budget;
 
 /// Returns the key that is inserted as the `n`th of `count`: rising, falling, or in a mixed order
@@ -295,5 +296,67 @@ fn each_refusal_gives_back(alloc: Global) -> bool {
 #[test]
 fn a_failed_insertion_of_the_ordered_map_lost_its_value(rt: HostRuntime) -> Result<(), Fail> {
     assert!(rt; each_refusal_gives_back(rt.alloc()));
+    Ok(())
+}
+
+/// Returns the value of a key in a plain list.
+fn value_in(plain: &[(u64, u64)], key: u64) -> Option<u64> {
+    for entry in plain {
+        if entry.0 == key {
+            return Some(entry.1);
+        }
+    }
+    None
+}
+
+/// Returns whether the walk over a map has the entries of a list.
+fn walks_over(map: &FrozenBTreeMap<u64, u64>, sorted: &[(u64, u64)]) -> bool {
+    let Ok(hold) = map.hold() else {
+        return false;
+    };
+    for (entry, wanted) in hold.ascending().zip(sorted) {
+        if *entry.key() != wanted.0 || *entry.value() != wanted.1 {
+            return false;
+        }
+    }
+    hold.len() == sorted.len()
+}
+
+/// Inserts `count` random keys into a map and into a plain list. Returns whether each insertion
+/// returned what the list has, and the walk has the sorted list.
+fn equals_a_plain_list(alloc: Global, seed: u64, count: u64) -> Result<bool, AllocError> {
+    let map: FrozenBTreeMap<u64, u64> = FrozenBTreeMap::new(alloc)?;
+    let mut plain: Vec<(u64, u64)> = Vec::new(alloc);
+    let mut state = seed;
+    for n in 0..count {
+        state = state
+            .wrapping_mul(6_364_136_223_846_793_005)
+            .wrapping_add(1_442_695_040_888_963_407);
+        let key = (state >> 33) % 2000;
+        let known = value_in(plain.as_slice(), key);
+        let Ok(done) = map.insert_new(key, n) else {
+            return Ok(false);
+        };
+        if done.is_new != known.is_none() || *done.value != known.unwrap_or(n) {
+            return Ok(false);
+        }
+        if known.is_none() {
+            plain.push((key, n))?;
+        }
+    }
+    plain.sort()?;
+    Ok(walks_over(&map, plain.as_slice()))
+}
+
+#[test]
+fn an_ordered_map_differs_from_a_plain_list(rt: HostRuntime) -> Result<(), Fail> {
+    let since = SystemTime::now(&rt)?.duration_since(UNIX_EPOCH)?;
+    let seed = (since.subsec_nanos() as u64) ^ (since.as_secs() << 30);
+    for count in [1, 7, 100, 1500] {
+        assert!(rt;
+            equals_a_plain_list(rt.alloc(), seed, count)?,
+            "seed {seed}, size {count}"
+        );
+    }
     Ok(())
 }
