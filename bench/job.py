@@ -1,18 +1,21 @@
 """One row of the measurements, and the groups of rows."""
 
-NAMES, ALONE, CELLS, OWNERS, LOCKED, FREE, FREE_MAP, OWNED, SHARED, WORKERS = (
+NAMES, ALONE, CELLS, OWNERS, LOCKED, SHARDS, FREE, FREE_MAP, FREE_SHARDS, OWNED, SHARED, WORKERS = (
     "names",
     "one thread",
     "growing through `&self`",
     "typed arena",
     "locked map",
+    "locked map of shards",
     "concurrent vector",
     "lock-free map",
+    "lock-free map of shards",
     "values that own memory, without locks",
     "shared interner",
     "workers",
 )
 NAMES_GROWTH, MAP_GROWTH = "growth of the names, time per new name", "growth of `FrozenMap`, time per new key"
+APPEND_GROWTH, LONGEST = "growth of `FrozenAppendMap`, time per new key", "longest insertion"
 
 
 class Job:

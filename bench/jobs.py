@@ -1,15 +1,19 @@
 """The rows that are measured: what each side runs, and the goals."""
 from job import (
     ALONE,
+    APPEND_GROWTH,
     CELLS,
     FREE,
     FREE_MAP,
+    FREE_SHARDS,
     LOCKED,
+    LONGEST,
     MAP_GROWTH,
     NAMES,
     NAMES_GROWTH,
     OWNED,
     OWNERS,
+    SHARDS,
     SHARED,
     WORKERS,
     Job,
@@ -45,6 +49,10 @@ def names_jobs(peers, cli):
             often={10_000: 3, 10_000_000: 0.4}.get(size, 1),
             entries=size,
         )
+
+
+def of_threads(title, threads):
+    return f"{title}, {threads} threads" if threads != "1" else f"{title}, 1 thread"
 
 
 def calls(peers, bench, form, best, count):
@@ -89,6 +97,55 @@ def alone_jobs(peers, bench):
         )
 
 
+def append_jobs(peers, bench):
+    """The map for large collections. The other sides are the maps of any size."""
+
+    def sides(call, size):
+        others = calls(peers, bench, f"map_{call}", "arena and hashbrown", str(size))
+        return others | {"elsa": [bench, f"append_map_{call}", "1", str(size)]}
+
+    often = {10_000: 3, 100_000: 2, 10_000_000: 0.4}
+    for size in SIZES:
+        goal, memory = ("0.75", "0.8") if size == 10_000_000 else ("", "")
+        yield Job(
+            APPEND_GROWTH,
+            f"{size:,}",
+            sides("insert", size),
+            "",
+            goal,
+            by="inside",
+            often=often.get(size, 1),
+            entries=size,
+            memory_goal=memory,
+        )
+    for size in (1_000_000, 10_000_000):
+        yield Job(
+            APPEND_GROWTH,
+            f"{size:,}, get",
+            sides("get", size),
+            "",
+            "1.3",
+            by="inside",
+            often=often.get(size, 1),
+            entries=size,
+        )
+
+
+def longest_jobs(peers, bench):
+    """The longest of some insertions by one thread: a table grows in it."""
+    for size in (1_000_000, 10_000_000):
+        often = 0.4 if size == 10_000_000 else 1
+        count = str(size)
+        alone = calls(peers, bench, "map_longest", "arena and hashbrown", count)
+        yield Job(LONGEST, f"`FrozenMap`, of {size:,}", alone, by="inside", often=often)
+        append = alone | {"elsa": [bench, "append_map_longest", "1", count]}
+        yield Job(LONGEST, f"`FrozenAppendMap`, of {size:,}", append, by="inside", often=often)
+    for form, title in (("free_longest", "lock-free map"), ("shards_free_longest", "lock-free map of shards")):
+        sides = {"elsa": [bench, form, "1", "1000000"]}
+        sides["dashmap"] = [peers / "free_map", "dashmap", "free_longest", "1", "1000000"]
+        yield Job(LONGEST, f"{title}, of 1,000,000", sides, by="inside")
+
+
 def cell_jobs(peers, bench):
     """The collections that grow through `&self`, as all of upstream's do."""
     for form, title, count in (
@@ -117,20 +174,23 @@ def owners_jobs(peers, bench):
 
 def locked_jobs(peers, bench):
     others = {"upstream": "upstream", "dashmap": "dashmap", "parking_lot": "parking_lot", "std's lock": "std"}
-    for form, title, goal, rows in (
-        ("copy", "copies", "1", ("1", "2", "4")),
-        ("copy_few", "copies at 256 keys", "", ("1",)),
-        ("owner", "owners", "1.5", ("1", "2", "4")),
+    for group, form, title, goal, rows in (
+        (LOCKED, "copy", "copies", "1", ("1", "2", "4")),
+        (LOCKED, "copy_few", "copies at 256 keys", "", ("1",)),
+        (LOCKED, "owner", "owners", "1.5", ("1", "2", "4")),
+        (SHARDS, "shards_copy", "copies", "", ("1", "2", "4")),
+        (SHARDS, "shards_owner", "owners", "", ("1", "2", "4")),
     ):
         for threads in rows:
             sides = {"elsa": [bench, form, threads, "2000000"]}
             same = form.removeprefix("shards_")
             sides |= {side: [peers / "sync_map", word, same, threads, "2000000"] for side, word in others.items()}
             yield Job(
-                LOCKED,
-                f"{title}, {threads} threads" if threads != "1" else f"{title}, 1 thread",
+                group,
+                of_threads(title, threads),
                 sides,
                 goal,
+                "0.7" if group == SHARDS and threads == "4" else "",
                 by="inside",
                 threads=int(threads),
             )
@@ -206,19 +266,16 @@ def free_jobs(peers, bench):
     yield job("ten walks over a million items", "walk", "1", "1000000", "0.4")
 
 
-def of_threads(title, threads):
-    return f"{title}, {threads} threads" if threads != "1" else f"{title}, 1 thread"
-
-
 def free_map_jobs(peers, bench):
     """The goals are compared with dashmap, with or without a look-up before the insertion; a lock around a map is shown."""
     locks = {"parking_lot's lock": "parking_lot", "std's lock": "std"}
 
-    def job(title, form, threads, count, goal, memory_goal, others):
+    def job(title, form, threads, count, goal, memory_goal, others, group=FREE_MAP):
         sides = {"elsa": [bench, form, threads, count]}
-        sides |= {side: [peers / "free_map", word, form, threads, count] for side, word in others.items()}
+        same = form.removeprefix("shards_")
+        sides |= {side: [peers / "free_map", word, same, threads, count] for side, word in others.items()}
         return Job(
-            FREE_MAP,
+            group,
             of_threads(title, threads),
             sides,
             "",
@@ -257,6 +314,19 @@ def free_map_jobs(peers, bench):
                 )
                 row.threads += 1 if ending else 0
                 yield row
+    for form, title, goals in (
+        ("shards_free_insert_zipf", "insertions by Zipf", {"4": "0.6"}),
+        ("shards_free_insert_distinct", "insertions, all distinct", {"4": "0.6"}),
+    ):
+        for threads in ("1", "2", "4"):
+            yield job(title, form, threads, "1000000", goals.get(threads, ""), "", insertions, FREE_SHARDS)
+    for form, title, goal in (
+        ("shards_free_get_present", "look-ups of a million present keys", "1.1"),
+        ("shards_free_get_absent", "look-ups of absent keys, of a million", "1.5"),
+    ):
+        for threads in ("1", "4"):
+            others = {"dashmap": "dashmap"} | locks
+            yield job(title, form, threads, "2000000", goal if threads == "1" else "", "", others, FREE_SHARDS)
 
 
 def owned_jobs(peers, bench):
@@ -328,6 +398,8 @@ def all_jobs(peers, cli, bench):
     return [
         *names_jobs(peers, cli),
         *alone_jobs(peers, bench),
+        *append_jobs(peers, bench),
+        *longest_jobs(peers, bench),
         *cell_jobs(peers, bench),
         *owners_jobs(peers, bench),
         *locked_jobs(peers, bench),

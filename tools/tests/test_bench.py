@@ -4,7 +4,7 @@ import xml.etree.ElementTree
 
 from scripts import root
 
-import pictures, tables
+import pictures, tables, uses
 from job import ALONE, NAMES, NAMES_GROWTH, Job
 from jobs import all_jobs
 from measuring import spread_of
@@ -78,6 +78,46 @@ class TestTables(unittest.TestCase):
         ]
         self.assertIn("elsa 2.00, upstream 2.00", tables.flood_note(jobs))
         self.assertEqual(tables.flood_note(jobs[:2]), "")
+
+
+class TestUses(unittest.TestCase):
+    page = "### One thread\n\n" + tables.table(
+        [
+            measured(
+                ALONE,
+                "`FrozenVec`, push",
+                {"elsa": 0.01, "upstream": 0.04, "arena and `Vec`": 0.02},
+                {"elsa": 16384, "upstream": 32768, "arena and `Vec`": 65536},
+                memory_goal="1",
+            )
+        ]
+    )
+
+    def test_a_row_of_the_page_is_read_as_it_was_written(self):
+        row = uses.rows_of(self.page)["One thread", "`FrozenVec`, push"]
+        self.assertEqual(row.times, {"elsa": 10.0, "upstream": 40.0, "peer": 20.0})
+        self.assertEqual(row.memory, {"elsa": 16.0, "upstream": 32.0, "peer": 64.0})
+        self.assertEqual(row.peer, "arena and `Vec`")
+
+    def test_a_use_has_the_figures_of_its_row(self):
+        self.assertIn(
+            "| append items | `FrozenVec` | 10 / 40 / 20 | 17 / 34 / 67 | arena and `Vec` |", uses.uses(self.page)
+        )
+        self.assertEqual(len(uses.uses(self.page).strip().split("\n")), 3)
+
+    def test_the_longest_calls_have_a_column_if_they_were_measured(self):
+        page = (
+            self.page
+            + "\n### Longest insertion\n\n"
+            + tables.table([measured("longest", "`FrozenMap`, of 1,000,000", {"elsa": 0.25})])
+        )
+        self.assertIn("longest call in ms", uses.uses(page))
+        self.assertNotIn("longest call in ms", uses.uses(self.page))
+
+    def test_the_published_uses_are_those_of_the_published_rows(self):
+        page = (root / "bench" / "RESULTS.md").read_text()
+        self.assertIn(uses.uses(page), page)
+        self.assertEqual(len(uses.uses(page).strip().split("\n")), 2 + len(uses.USES))
 
 
 def growth():

@@ -6,7 +6,7 @@
 //!
 //! - The locked map: `copy` and `owner` (COUNT calls in all, a tenth of them insertions, with
 //!   65,536 keys), `copy_few` (`copy` with 256 keys), `recorded` (the calls of `copy` through a
-//!   recorder).
+//!   recorder). `shards_copy` and `shards_owner` are the same for the locked map of shards.
 //! - `LockFreeFrozenVec`: `push` (COUNT pushes in all), `extend` (the same in batches of 64),
 //!   `seen`, `plain` and `growing` (COUNT reads in all), `walk` (ten walks over COUNT items),
 //!   `exchange` (COUNT times two exchanges of one word). `seen` and `plain` may be followed by
@@ -14,15 +14,18 @@
 //! - The collections of one thread, which ignore THREADS: `vec_push`, `vec_get`, `vec_walk`,
 //!   `vec_clone`, `vec_collect`; `map_insert`, `map_get`, `tree_insert`, `tree_get`,
 //!   `index_map_insert`, `index_map_get`, `index_map_at`; the same with `_text` before the call,
-//!   for texts as keys (except for `index_map_at`); `map_clone`, `map_collect`. Walks, clones and
-//!   collections are made ten times.
+//!   for texts as keys (except for `index_map_at`); `append_map_insert`, `append_map_get`;
+//!   `map_longest` and `append_map_longest` (the longest of COUNT insertions); `map_clone`,
+//!   `map_collect`. Walks, clones and collections are made ten times.
 //! - Interners: `names_zipf` and `names_distinct` (COUNT puts of names in all, into a shared
 //!   interner), `texts_zipf` and `texts_distinct` (short-lived texts, put into a shared interner by
 //!   one thread), `alone_zipf` and `alone_distinct` (into the interner of one thread).
 //! - `LockFreeFrozenMap`: `free_insert_zipf` and `free_insert_distinct` (COUNT insertions in all),
 //!   `free_get_zipf`, `free_get_present` and `free_get_absent` (COUNT look-ups in all: of 65,535
 //!   keys by Zipf's law, of a million present keys, of a million absent ones). The look-ups may be
-//!   followed by `_beside`: another thread then inserts meanwhile.
+//!   followed by `_beside`: another thread then inserts meanwhile. `free_longest` is the longest of
+//!   COUNT insertions by one thread. All of them after `shards_` are for the lock-free map of
+//!   shards.
 //! - The lock-free vector and map of values that own memory, read by reference: `owned_vec_arc`,
 //!   `owned_vec_text`, `owned_map_arc` and `owned_map_text` (COUNT reads in all).
 //! - `cell::FrozenVec`: `cell_vec_push`, `cell_vec_get` and `cell_vec_walk` (ten times), and
@@ -49,11 +52,12 @@ mod whole_maps;
 
 use crate::cells::CellCall;
 use crate::draws::Words;
-use crate::free_map::Sought;
+use crate::free_map::{Free, Sought};
 use crate::items::ItemCall;
-use crate::locked_map::{LAST, LAST_OF_FEW};
+use crate::locked_map::{LAST, LAST_OF_FEW, Locked};
 use crate::owners::OwnerCall;
 use crate::tables::TableCall;
+use elsa::sync::{FrozenMap, LockFreeFrozenMap, LockFreeShardedMap, ShardedMap};
 use std::alloc::Global;
 use std::process::ExitCode;
 use std::rt::Clock;
@@ -143,6 +147,10 @@ fn timed_map_calls<R: Clock>(
     Ok(Some(match form {
         "map_insert" => tables::timed_map(rt, alloc, insert, count)?,
         "map_get" => tables::timed_map(rt, alloc, get, count)?,
+        "map_longest" => tables::timed_map(rt, alloc, TableCall::Longest, count)?,
+        "append_map_insert" => tables::timed_append_map(rt, alloc, insert, count)?,
+        "append_map_get" => tables::timed_append_map(rt, alloc, get, count)?,
+        "append_map_longest" => tables::timed_append_map(rt, alloc, TableCall::Longest, count)?,
         "map_text_insert" => tables::timed_map_text(rt, alloc, insert, count)?,
         "map_text_get" => tables::timed_map_text(rt, alloc, get, count)?,
         "tree_insert" => tables::timed_tree(rt, alloc, insert, count)?,
@@ -180,9 +188,55 @@ fn timed_alone<R: Clock>(
     }
 }
 
-/// Returns the nanoseconds that the calls on the lock-free map took, and their sum. `None` for any
-/// other form.
-fn timed_free_map<R: Wait + Threads + Sync + Clock>(
+/// Returns the nanoseconds that the calls on a lock-free map took, which is empty before, and their
+/// sum. `None` for any other form.
+fn timed_free_map<R: Wait + Threads + Sync + Clock, M: Free + Sync>(
+    rt: &R,
+    alloc: Global,
+    map: &M,
+    form: &str,
+    threads: usize,
+    count: usize,
+) -> io::Result<Option<(u128, u64)>>
+    requires { 0 < threads }
+{
+    if let Some((sought, beside)) = sought_of(form) {
+        let answer = free_map::timed_look_ups(rt, alloc, map, sought, beside, threads, count)?;
+        return Ok(Some(answer));
+    }
+    let words = match form {
+        "free_insert_zipf" => Words::Zipf,
+        "free_insert_distinct" => Words::Distinct,
+        "free_longest" => return Ok(Some(map.longest(rt, count)?)),
+        _ => return Ok(None),
+    };
+    let answer = free_map::timed_insertions(rt, alloc, map, words, threads, count)?;
+    Ok(Some(answer))
+}
+
+/// Returns the nanoseconds that the calls on a locked map took, which is empty before, and their
+/// sum. `None` for any other form.
+fn timed_locked_map<R: Wait + Threads + Sync + Clock, M: Locked + Sync>(
+    rt: &R,
+    alloc: Global,
+    map: &M,
+    form: &str,
+    threads: usize,
+    count: usize,
+) -> io::Result<Option<(u128, u64)>>
+    requires { 0 < threads }
+{
+    Ok(Some(match form {
+        "copy" => locked_map::timed_copies(rt, alloc, map, LAST, threads, count)?,
+        "copy_few" => locked_map::timed_copies(rt, alloc, map, LAST_OF_FEW, threads, count)?,
+        "owner" => locked_map::timed_owners(rt, alloc, map, threads, count)?,
+        _ => return Ok(None),
+    }))
+}
+
+/// Returns the nanoseconds that the calls on a locked or lock-free map took, of shards or not, and
+/// their sum. `None` for any other form.
+fn timed_shared_map<R: Wait + Threads + Sync + Clock>(
     rt: &R,
     alloc: Global,
     form: &str,
@@ -191,16 +245,20 @@ fn timed_free_map<R: Wait + Threads + Sync + Clock>(
 ) -> io::Result<Option<(u128, u64)>>
     requires { 0 < threads }
 {
-    if let Some((sought, beside)) = sought_of(form) {
-        let answer = free_map::timed_look_ups(rt, alloc, sought, beside, threads, count)?;
+    if let Some(form) = form.strip_prefix("shards_") {
+        let map = LockFreeShardedMap::new(alloc)?;
+        if let Some(answer) = timed_free_map(rt, alloc, &map, form, threads, count)? {
+            return Ok(Some(answer));
+        }
+        let map = ShardedMap::new(alloc)?;
+        return timed_locked_map(rt, alloc, &map, form, threads, count);
+    }
+    let map = LockFreeFrozenMap::new(alloc)?;
+    if let Some(answer) = timed_free_map(rt, alloc, &map, form, threads, count)? {
         return Ok(Some(answer));
     }
-    let words = match form {
-        "free_insert_zipf" => Words::Zipf,
-        "free_insert_distinct" => Words::Distinct,
-        _ => return Ok(None),
-    };
-    Ok(Some(free_map::timed_insertions(rt, alloc, words, threads, count)?))
+    let map = FrozenMap::new(alloc);
+    timed_locked_map(rt, alloc, &map, form, threads, count)
 }
 
 /// Returns the nanoseconds that the reads of values that own memory took, and their sum. `None` for
@@ -239,7 +297,7 @@ fn main(rt: HostRuntime) -> io::Result<ExitCode> {
         println!(rt; "{nanos} {sum}")?;
         return Ok(ExitCode::SUCCESS);
     }
-    if let Some((nanos, sum)) = timed_free_map(&rt, rt.alloc(), form.as_str(), threads, count)? {
+    if let Some((nanos, sum)) = timed_shared_map(&rt, rt.alloc(), form.as_str(), threads, count)? {
         println!(rt; "{nanos} {sum}")?;
         return Ok(ExitCode::SUCCESS);
     }
@@ -255,11 +313,6 @@ fn main(rt: HostRuntime) -> io::Result<ExitCode> {
         ("texts_distinct", None) => names::timed_texts(&rt, rt.alloc(), Words::Distinct, count)?,
         ("alone_zipf", None) => names::timed_alone(&rt, rt.alloc(), Words::Zipf, count)?,
         ("alone_distinct", None) => names::timed_alone(&rt, rt.alloc(), Words::Distinct, count)?,
-        ("copy", None) => locked_map::timed_copies(&rt, rt.alloc(), LAST, threads, count)?,
-        ("copy_few", None) => {
-            locked_map::timed_copies(&rt, rt.alloc(), LAST_OF_FEW, threads, count)?
-        }
-        ("owner", None) => locked_map::timed_owners(&rt, rt.alloc(), threads, count)?,
         ("recorded", None) => recorded::timed_recorded(&rt, rt.alloc(), threads, count)?,
         ("walk", None) => vector::timed_walks(&rt, rt.alloc(), count)?,
         ("exchange", None) => vector::timed_exchanges(&rt, count)?,

@@ -1,8 +1,9 @@
 //! The maps of one thread: COUNT insertions of new keys, and COUNT reads of random present keys or
-//! at random indices.
+//! at random indices; and the longest of COUNT insertions.
 use crate::draws::{Draws, key};
 use bumpalo::Bump;
-use elsa::{FrozenBTreeMap, FrozenIndexMap, FrozenMap, Own};
+use elsa::append_map::AppendMap;
+use elsa::{FrozenAppendMap, FrozenBTreeMap, FrozenIndexMap, FrozenMap, Own};
 use std::alloc::{AllocError, Global};
 use std::io;
 use std::rt::Clock;
@@ -14,6 +15,8 @@ pub enum TableCall {
     Insert,
     Get,
     At,
+    /// The longest insertion alone.
+    Longest,
 }
 
 /// A map whose keys are made from indices.
@@ -42,6 +45,22 @@ struct Texts<'t, M> {
 }
 
 impl<'a> Table for Numbers<FrozenMap<'a, u64, Own<u64>>> {
+    #[inline(always)]
+    fn insert(&mut self, place: usize) -> Result<u64, AllocError> {
+        Ok(*self.map.insert(key(place), Own(place as u64))?)
+    }
+
+    #[inline(always)]
+    fn get(&self, place: usize) -> Option<u64> {
+        self.map.get(&key(place)).copied()
+    }
+
+    fn at(&self, _place: usize) -> Option<u64> {
+        None
+    }
+}
+
+impl<'a> Table for Numbers<FrozenAppendMap<'a, u64, Own<u64>>> {
     #[inline(always)]
     fn insert(&mut self, place: usize) -> Result<u64, AllocError> {
         Ok(*self.map.insert(key(place), Own(place as u64))?)
@@ -183,12 +202,28 @@ fn read_at<T: Table>(table: &T, count: usize) -> u64 {
     sum
 }
 
+/// Returns the nanoseconds of the longest insertion, and the sum of the values.
+fn longest<R: Clock, T: Table>(rt: &R, table: T, count: usize) -> io::Result<(u128, u64)> {
+    let mut table = table;
+    let mut most = 0u128;
+    let mut sum = 0u64;
+    for place in 0..count {
+        let start = Instant::now(rt)?;
+        sum = sum.wrapping_add(table.insert(place)?);
+        most = most.max(start.elapsed(rt)?.as_nanos());
+    }
+    Ok((most, sum))
+}
+
 fn timed<R: Clock, T: Table>(
     rt: &R,
     table: T,
     call: TableCall,
     count: usize,
 ) -> io::Result<(u128, u64)> {
+    if matches!(&call, TableCall::Longest) {
+        return longest(rt, table, count);
+    }
     let mut table = table;
     let mut start = Instant::now(rt)?;
     let mut sum = fill(&mut table, count)?;
@@ -240,6 +275,21 @@ pub fn timed_map_text<R: Clock>(
     let map = FrozenMap::new(alloc, &arena);
     let texts = texts.as_slice();
     timed(rt, Texts { map, texts }, call, count)
+}
+
+/// Returns the nanoseconds that the calls on a map for large collections took, and their sum.
+///
+/// # Errors
+/// Fails if the clock or an allocation fails.
+pub fn timed_append_map<R: Clock>(
+    rt: &R,
+    alloc: Global,
+    call: TableCall,
+    count: usize,
+) -> io::Result<(u128, u64)> {
+    let arena = Bump::new(alloc);
+    let map = FrozenAppendMap::over(alloc, &arena, AppendMap::new(alloc));
+    timed(rt, Numbers { map }, call, count)
 }
 
 /// Returns the nanoseconds that the calls on an ordered map took, and their sum.

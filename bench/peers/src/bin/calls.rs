@@ -2,7 +2,8 @@
 //! map, std's ordered map, or `indexmap`, the hashed ones with the same hash as ours.
 //!
 //! usage: calls SIDE FORM 1 COUNT. A form is a collection and a call, as `map_text_insert`; `forms` at the end of this file has them all. It prints the
-//! nanoseconds of COUNT calls (of `walk`, `clone` and `collect`: ten times over COUNT items) and a sum of what was read.
+//! nanoseconds of COUNT calls (of `walk`, `clone` and `collect`: ten times over COUNT items; of `longest`: of the longest of COUNT insertions) and a sum
+//! of what was read.
 use bumpalo::Bump;
 use elsa::{FrozenBTreeMap, FrozenIndexMap, FrozenMap, FrozenVec};
 use hashbrown::hash_map::RawEntryMut;
@@ -316,6 +317,16 @@ impl Keys<str> for Vec<String> {
 }
 
 fn table_calls<T: Table>(mut table: T, call: &str, count: usize, keys: &impl Keys<T::Key>) -> Answer {
+    if call == "longest" {
+        let mut most = 0;
+        let mut sum = 0u64;
+        for place in 0..count {
+            let start = Instant::now();
+            sum = sum.wrapping_add(keys.with(place, |key| table.insert(key, place as u64)));
+            most = most.max(start.elapsed().as_nanos());
+        }
+        return (most, sum);
+    }
     let mut fill = || (0..count).fold(0, |sum: u64, place| sum.wrapping_add(keys.with(place, |key| table.insert(key, place as u64))));
     if call == "insert" {
         return timed(fill);

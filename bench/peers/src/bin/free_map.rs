@@ -3,12 +3,14 @@
 //!
 //! usage: free_map SIDE FORM THREADS COUNT. `free_insert_zipf` (65,535 keys, each doubling of a key's rank as likely as the others) and
 //! `free_insert_distinct` make COUNT insertions in all, whose first value stays; `free_get_zipf`, `free_get_present` (of a million keys by chance) and
-//! `free_get_absent` (of a million others) COUNT look-ups in all, with `_beside` for a thread that inserts as long as they last. It prints the
+//! `free_get_absent` (of a million others) COUNT look-ups in all, with `_beside` for a thread that inserts as long as they last; `free_longest` the longest of COUNT
+//! insertions by one thread. It prints the
 //! nanoseconds between the start of the threads that are timed and the end of the last of them, and a sum.
 use dashmap::DashMap;
 use hashbrown::HashMap;
 use peers::{key, rank, timed, words_of, Draws, Fold};
 use std::sync::atomic::{AtomicBool, Ordering};
+use std::time::Instant;
 
 const RANKS: usize = 65_535;
 const KEYS: usize = 1_000_000;
@@ -119,6 +121,17 @@ fn look_up(map: &impl Shared, sought: Sought, thread: usize, each: usize) -> u64
     sum
 }
 
+fn longest(map: &impl Shared, count: usize) -> (u128, u64) {
+    let mut most = 0;
+    let mut sum = 0u64;
+    for number in 0..count {
+        let start = Instant::now();
+        sum = sum.wrapping_add(map.insert(key(number), number as u64));
+        most = most.max(start.elapsed().as_nanos());
+    }
+    (most, sum)
+}
+
 fn run(map: &impl Shared, form: &str, threads: usize, count: usize) -> (u128, u64) {
     let each = count / threads;
     let (looked, beside) = match form.strip_suffix("_beside") {
@@ -128,6 +141,7 @@ fn run(map: &impl Shared, form: &str, threads: usize, count: usize) -> (u128, u6
     let sought = match looked {
         "free_insert_zipf" => return timed(threads, |thread| insert(map, true, thread, each)),
         "free_insert_distinct" => return timed(threads, |thread| insert(map, false, thread, each)),
+        "free_longest" => return longest(map, count),
         "free_get_zipf" => Sought::Zipf,
         "free_get_present" => Sought::Present,
         "free_get_absent" => Sought::Absent,
