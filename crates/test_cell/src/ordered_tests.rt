@@ -254,15 +254,16 @@ fn refusals<A: Allocator + Copy>(alloc: A) -> Option<usize> {
     let mut refused = 0_usize;
     for n in 0..40 {
         let key = key_of(2, n, 40);
-        match map.insert(key, key + 100) {
+        let wanted = key.wrapping_add(100);
+        match map.insert(key, wanted) {
             Ok(kept) => {
-                if *kept != key + 100 {
+                if *kept != wanted {
                     return None;
                 }
             }
             Err(CellFault::Memory(value)) => {
                 refused = refused.wrapping_add(1_usize);
-                if value != key + 100 || map.get(&key) != Ok(None) {
+                if value != wanted || map.get(&key) != Ok(None) {
                     return None;
                 }
             }
