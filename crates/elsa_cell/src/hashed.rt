@@ -123,7 +123,8 @@ impl<K: Eq + Hash, S: BuildHasher + Drop, A: Allocator + Copy> Places<K> for Has
     fn seek<L: KeyList<K>>(&self, keys: &L, key: &K) -> Result<usize, Missing> {
         let is_it = |place|
             requires { place < length (L.keys keys.now) }
-            ensures { (k : K) → slice_get (L.keys keys.entry.now) place ≡ Some k → result ≡ K.eq key.entry.now k }
+            ensures { (k : K) → slice_get (L.keys keys.entry.now) place ≡ Some k →
+                result ≡ K.eq key.entry.now k }
         { key.eq(keys.key_at(place)) };
         search(&self.table, &self.hash_builder, key, is_it)
     }
@@ -151,7 +152,8 @@ impl<K: Eq + Hash, Q: Query<K>, S: BuildHasher + Drop, A: Allocator + Copy> Seek
     fn seek<L: KeyList<K>>(self, table: &Hashed<S, A>, keys: &L) -> Option<usize> {
         let is_it = |place|
             requires { place < length (L.keys keys.now) }
-            ensures { (k : K) → slice_get (L.keys keys.entry.now) place ≡ Some k → result ≡ Q.finds self k }
+            ensures { (k : K) → slice_get (L.keys keys.entry.now) place ≡ Some k →
+                result ≡ Q.finds self k }
         { self.finds(keys.key_at(place)) };
         match search(&table.table, &table.hash_builder, self, is_it) {
             Ok(index) => Some(index),

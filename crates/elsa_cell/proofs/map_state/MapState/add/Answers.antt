@@ -1,7 +1,5 @@
 use Rattle.std.proofs.Common.{◌++◌, ◌∷◌, [], List, length, map, subst, sym, ap, ◌∙◌}
 use Rattle.elsa_cell.specs.Entries.{key_of}
-use Rattle.elsa_cell.specs.declared.map.Entry.{Entry}
-use Rattle.elsa_cell.proofs.EntryLemmas.{keys_push}
 use Rattle.elsa_cell.proofs.map_state.MapState.add.Goals as goal
 
 pub reserve-requires : goal.reserve-requires
