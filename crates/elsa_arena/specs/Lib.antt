@@ -1,1 +1,3 @@
-pub mod Arena
+pub mod Kept
+pub mod Observed
+pub mod Ready

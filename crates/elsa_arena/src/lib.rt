@@ -1,5 +1,19 @@
-//! An arena of values that may own memory: each is stored once, borrowed for as long as the arena
-//! is, and dropped with it.
+//! [`FrozenVec`]: a list that grows through `&self` and owns its items. As an arena, its name is
+//! [`TypedArena`](arena::TypedArena).
+//!
+//! The maps and sets of `elsa_cell` are built on its state ([`state`]), which a call takes out of
+//! the collection and puts back ([`shared`]), and on what handles have observed ([`views`]).
 #![tactic(auto)]
 
 pub mod arena;
+pub mod fault;
+mod kept;
+pub mod observed;
+pub mod shared;
+pub mod state;
+pub mod vec;
+pub mod views;
+
+pub use fault::{CellFault, InUse};
+pub use observed::{Iter, Observed, Seen};
+pub use vec::{FrozenVec, Handle, Hold};

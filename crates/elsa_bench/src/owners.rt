@@ -49,8 +49,11 @@ fn fill(alloc: Global, arena: &TypedArena<Owner>, count: usize) -> Result<u64, A
 }
 
 fn walk(arena: &TypedArena<Owner>) -> u64 {
+    let Ok(owners) = arena.iter() else {
+        return 0;
+    };
     let mut sum = 0u64;
-    for owner in arena.iter() {
+    for owner in owners {
         sum = sum.wrapping_add(owner.number());
     }
     sum

@@ -1,4 +1,3 @@
-pub mod Beginnings
 pub mod EntryLemmas
 pub mod OrderLemmas
 pub mod WalkLemmas

@@ -2,9 +2,9 @@
 use Rattle.std.specs.Prelude.{ℕ, ◌≡◌, Bool, true, false, Some, None, List, [], ◌∷◌, ◌++◌, length, map, position}
 use Rattle.std.specs.Map.{lookup}
 use mathlib.Core.List.{IsPrefix}
-use Rattle.elsa_cell.specs.Observed.{IsStateOf}
+use Rattle.elsa_arena.specs.Observed.{IsStateOf}
 use Rattle.elsa_cell.specs.declared.map.Entry.{Entry}
-use Rattle.elsa_cell.specs.declared.state.State.{State}
+use Rattle.elsa_arena.specs.declared.state.State.{State}
 
 module _ {K V : Type 0} where
   -- the key of an entry

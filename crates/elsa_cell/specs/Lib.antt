@@ -1,4 +1,3 @@
 pub mod Entries
-pub mod Observed
 pub mod Ordered
 pub mod Queries

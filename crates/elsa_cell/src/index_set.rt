@@ -3,9 +3,9 @@ ghost use Rattle.std.specs.Prelude.{◌≡◌, ◌⊎◌, true, map, IfErr, IfOk
 ghost use mathlib.Core.List.{IsPrefix};
 ghost use Rattle.elsa_cell.specs.Entries.{key_of};
 
-use crate::fault::{CellFault, InUse};
 use crate::map::{Entry, FrozenMap, MapHandle, MapHold};
-use crate::observed::Seen;
+use elsa_arena::fault::{CellFault, InUse};
+use elsa_arena::observed::Seen;
 use elsa_buckets::query::Query;
 use elsa_tables::Inserted;
 use std::alloc::{AllocError, Allocator, Global};

@@ -6,17 +6,18 @@ ghost use mathlib.Core.List.{IsPrefix};
 ghost use Rattle.elsa_cell.specs.Entries.{IsMapOf, key_of, pairs_of};
 ghost use Rattle.elsa_cell.specs.declared.map.Entry.{Entry};
 
-use crate::fault::{CellFault, InUse};
 pub use crate::hashed::{FrozenIndexMap, FrozenMap, MapHandle, MapHold};
 use crate::map_handle::FrozenHandle;
 use crate::map_hold::FrozenHold;
 use crate::map_state::{Keys, MapState, Pairs};
-use crate::observed::{Observed, Seen};
 pub use crate::ordered::{BTreeHandle, BTreeHold, FrozenBTreeMap};
 use crate::places::{Places, Seeks};
-use crate::shared::{OfSlots, Shared};
-use crate::state::State;
 use boxcar::tag::Tag;
+use elsa_arena::fault::{CellFault, InUse};
+use elsa_arena::observed::{Observed, Seen};
+use elsa_arena::shared::{OfSlots, Shared};
+use elsa_arena::state::State;
+use elsa_arena::views::is_evidence_behind;
 use elsa_slots::slots::Slots;
 use elsa_tables::Inserted;
 use std::alloc::{AllocError, Allocator, Global};
@@ -111,7 +112,7 @@ impl<K: Drop, V: Drop, T: Places<K> + Drop, A: Allocator + Copy> Frozen<K, V, T,
         let (slots, further) = Slots::new(alloc)?;
         let tag = Tag::of::<Slots<Entry<K, V>, A>, OfSlots>(&slots);
         let state = MapState {
-            list: State::first(further),
+            list: State::first(alloc, further),
             table,
         };
         let cell = Shared::new(state, &tag);
@@ -325,7 +326,7 @@ impl<K: Drop, V: Drop, T: Places<K> + Drop, A: Allocator + Copy> Frozen<K, V, T,
         let Some(state) = cell.into_state() else {
             return Err(CellFault::InUse(Frozen::again(slots, None)));
         };
-        if !seen.is_behind(&state.list) {
+        if !is_evidence_behind(seen, &state.list) {
             return Err(CellFault::InUse(Frozen::again(slots, Some(state))));
         }
         Ok((slots, state))

@@ -4,15 +4,17 @@ ghost use Rattle.std.specs.Map.{lookup};
 ghost use Rattle.std.specs.Option.{option_map};
 ghost use mathlib.Core.List.{IsPrefix};
 ghost use Rattle.elsa_cell.specs.Entries.{InsertsOnce, key_of, pairs_of};
-ghost use Rattle.elsa_cell.specs.Observed.{Continues};
+ghost use Rattle.elsa_arena.specs.Observed.{Continues};
 
-use crate::fault::{CellFault, InUse, TryFault};
+use crate::fault::TryFault;
 use crate::map::{Entry, pair_at};
 use crate::map_hold::FrozenHold;
 use crate::map_state::MapState;
-use crate::observed::{Iter, Observed};
 use crate::places::{Places, Seeks};
-use crate::shared::Shared;
+use elsa_arena::fault::{CellFault, InUse};
+use elsa_arena::observed::{Iter, Observed};
+use elsa_arena::shared::Shared;
+use elsa_arena::views::{is_behind, slots_of};
 use elsa_tables::Inserted;
 use std::alloc::{Allocator, Global};
 use std::marker::Model;
@@ -30,7 +32,7 @@ pub struct FrozenHandle<'m, K: Drop, V, T: Places<K> + Drop, A: Allocator + Copy
 impl<'m, K: Drop, V, T: Places<K> + Drop, A: Allocator + Copy> Model
     for FrozenHandle<'m, K, V, T, A> {
     ghost use Rattle.std.specs.Prelude.{◌≡◌};
-    ghost use Rattle.elsa_cell.specs.Observed.{View};
+    ghost use Rattle.elsa_arena.specs.Observed.{View};
     ghost use Rattle.elsa_cell.specs.declared.map.Entry.{Entry};
 
     ghost Value = { View (Entry K V) };
@@ -90,12 +92,12 @@ impl<'m, K: Drop, V: Drop, T: Places<K> + Drop, A: Allocator + Copy> FrozenHandl
         let Some(state) = cell.take() else {
             return Err(InUse);
         };
-        if !self.observed.is_behind(&state.list) {
+        if !is_behind(&self.observed, &state.list) {
             cell.put(state);
             return Err(InUse);
         }
         Ok(FrozenHold {
-            slots: self.observed.slots(),
+            slots: slots_of(&self.observed),
             cell,
             state,
         })

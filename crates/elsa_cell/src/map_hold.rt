@@ -3,15 +3,16 @@ ghost use Rattle.std.specs.Prelude.{◌≡◌, ◌<◌, ◌^◌, true, None, Som
 ghost use Rattle.std.specs.Map.{lookup};
 ghost use Rattle.std.specs.Option.{option_map};
 ghost use Rattle.elsa_cell.specs.Entries.{Inserts, key_of, pair_of, pairs_of};
-ghost use Rattle.elsa_cell.specs.Observed.{Continues};
+ghost use Rattle.elsa_arena.specs.Observed.{Continues};
 
-use crate::fault::CellFault;
 use crate::map::{Entry, pair_at};
 use crate::map_handle::FrozenHandle;
 use crate::map_state::MapState;
-use crate::observed::Observed;
 use crate::places::{Places, Seeks};
-use crate::shared::Shared;
+use elsa_arena::fault::CellFault;
+use elsa_arena::observed::Observed;
+use elsa_arena::shared::Shared;
+use elsa_arena::views::observe;
 use elsa_slots::slots::Slots;
 use elsa_tables::Inserted;
 use std::alloc::{Allocator, Global};
@@ -30,7 +31,7 @@ pub struct FrozenHold<'m, K: Drop, V, T: Places<K> + Drop, A: Allocator + Copy =
 impl<'m, K: Drop, V, T: Places<K> + Drop, A: Allocator + Copy> Model
     for FrozenHold<'m, K, V, T, A> {
     ghost use Rattle.std.specs.Prelude.{◌≡◌};
-    ghost use Rattle.elsa_cell.specs.Observed.{View};
+    ghost use Rattle.elsa_arena.specs.Observed.{View};
     ghost use Rattle.elsa_cell.specs.Entries.{IsMapOf};
     ghost use Rattle.elsa_cell.specs.declared.map.Entry.{Entry};
 
@@ -58,7 +59,7 @@ impl<'m, K: Drop, V: Drop, T: Places<K> + Drop, A: Allocator + Copy> FrozenHold<
     pub fn observed(&self) -> Observed<'m, Entry<K, V>, A>
         ensures same_view { result ≡ self.now }
     {
-        Observed::of(self.slots, &self.state.list)
+        observe(self.slots, &self.state.list)
     }
 
     /// Makes a handle that has observed all entries. It allocates nothing.

@@ -4,11 +4,12 @@ ghost use Rattle.elsa_cell.specs.Entries.{IsMapOf, key_of};
 ghost use Rattle.elsa_cell.specs.declared.map.Entry.{Entry};
 
 use crate::map::Entry;
-use crate::observed::Observed;
 use crate::places::{KeyList, Places, Seeks};
-use crate::state::{State, push_item};
 use boxcar::tag::Tag;
 use counted_slot::Fits;
+use elsa_arena::observed::Observed;
+use elsa_arena::state::{State, push_item};
+use elsa_arena::views::observe;
 use elsa_slots::slots::{Sink, Slots};
 use std::alloc::Allocator;
 
@@ -104,7 +105,7 @@ impl<K: Drop, V, T: Places<K> + Drop, A: Allocator + Copy> MapState<K, V, T, A> 
         requires { IsMapOf T.is_for slots.now self.now.list self.now.table }
         ensures { result ≡ position (Q.finds query) (map key_of self.now.list.prefix.items) }
     {
-        query.seek(&self.table, &Observed::of(slots, &self.list))
+        query.seek(&self.table, &observe(slots, &self.list))
     }
 
     /// Returns the index of the key that equals `key`, or `Err` with the end of the search. It
@@ -119,7 +120,7 @@ impl<K: Drop, V, T: Places<K> + Drop, A: Allocator + Copy> MapState<K, V, T, A> 
         ensures end { IfErr result (λ e.
             T.ends self.now.table (map key_of self.now.list.prefix.items) key.now e) }
     {
-        self.table.seek(&Observed::of(slots, &self.list), key)
+        self.table.seek(&observe(slots, &self.list), key)
     }
 
     /// Appends an entry whose key the map lacks, and returns its index. `end` is the end of a

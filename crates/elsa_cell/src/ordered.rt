@@ -15,8 +15,8 @@ ghost use Rattle.elsa_cell.specs.Queries.{equal_alike, higher_stays, lower_stays
 use crate::map::{Entry, Frozen};
 use crate::map_handle::FrozenHandle;
 use crate::map_hold::FrozenHold;
-use crate::observed::Observed;
 use crate::places::{KeyList, Places, Seeks};
+use elsa_arena::observed::Observed;
 use std::alloc::{AllocError, Allocator, Global};
 use std::cmp::Ordering;
 use std::marker::Model;

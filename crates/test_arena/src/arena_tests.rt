@@ -1,6 +1,7 @@
 //! Values that count their drops, blocks that a budget counts, and requests that it denies.
-use crate::callers::two_values;
-use elsa_arena::arena::{Place, TypedArena};
+use crate::callers::{push_two, two_values};
+use elsa_arena::arena::TypedArena;
+use elsa_arena::fault::CellFault;
 use std::alloc::{AllocError, Allocator, Global};
 use std::cell::Cell;
 use std::test::*;
@@ -37,29 +38,35 @@ fn places<'c, A: Allocator + Copy>(
             return false;
         }
     }
-    first.number == 0 && arena.len() == count
+    first.number == 0 && arena.len() == Ok(count)
 }
 
 #[test]
 fn a_value_is_dropped_once_and_not_before_its_arena(rt: HostRuntime) -> Result<(), Fail> {
-    let drops = Cell::new(0);
-    let arena = TypedArena::new(rt.alloc())?;
-    let placed = places(&arena, &drops, 1000) && drops.get() == 0;
-    drop(arena);
-    assert!(rt; placed && drops.get() == 1000);
+    // The buffers end at the counts 3, 15, 63, 255 and 1023.
+    for count in [1, 3, 4, 15, 16, 100, 2000] {
+        let drops = Cell::new(0);
+        let arena = TypedArena::new(rt.alloc())?;
+        let placed = places(&arena, &drops, count) && drops.get() == 0;
+        drop(arena);
+        assert!(rt; placed && drops.get() == count, "{count}");
+    }
     Ok(())
 }
 
 /// Returns whether a walk visits the numbers below `count` in order, and `get` returns the same.
-fn walks<A: Allocator>(arena: &TypedArena<usize, A>, count: usize) -> bool {
+fn walks<A: Allocator + Copy>(arena: &TypedArena<usize, A>, count: usize) -> bool {
+    let Ok(numbers) = arena.iter() else {
+        return false;
+    };
     let mut next = 0usize;
-    for number in arena.iter() {
-        if *number != next || arena.get(next) != Some(&next) {
+    for number in numbers {
+        if *number != next || arena.get(next) != Ok(Some(&next)) {
             return false;
         }
         next = next.wrapping_add(1);
     }
-    next == count && arena.get(count).is_none() && arena.is_empty() == (count == 0)
+    next == count && arena.get(count) == Ok(None) && arena.is_empty() == Ok(count == 0)
 }
 
 /// Returns whether a walk visits the values in order if they are stored alternately by `alloc` and
@@ -81,8 +88,7 @@ fn is_walked(alloc: Global, count: usize) -> Result<bool, AllocError> {
 
 #[test]
 fn a_walk_gives_the_values_in_the_order_of_their_placing(rt: HostRuntime) -> Result<(), Fail> {
-    // The first row ends with eight values, the second with twenty-four.
-    for count in [0, 1, 8, 9, 24, 25, 500] {
+    for count in [0, 1, 3, 4, 15, 16, 500] {
         assert!(rt; is_walked(rt.alloc(), count)?, "{count}");
     }
     Ok(())
@@ -92,47 +98,22 @@ fn a_walk_gives_the_values_in_the_order_of_their_placing(rt: HostRuntime) -> Res
 fn walks_to_its_beginnings_end(alloc: Global) -> Result<bool, AllocError> {
     let arena = TypedArena::new(alloc)?;
     let placed = arena.alloc(0usize).is_ok();
+    let Ok(numbers) = arena.iter() else {
+        return Ok(false);
+    };
     let mut given = 0usize;
-    for _ in arena.iter() {
+    for _ in numbers {
         given = given.wrapping_add(1);
         if arena.alloc(given).is_err() {
             return Ok(false);
         }
     }
-    Ok(placed && given == 1 && arena.len() == 2)
+    Ok(placed && given == 1 && arena.len() == Ok(2))
 }
 
 #[test]
 fn a_walk_ends_though_values_are_placed_in_it(rt: HostRuntime) -> Result<(), Fail> {
     assert!(rt; walks_to_its_beginnings_end(rt.alloc())?);
-    Ok(())
-}
-
-/// Returns the places of the numbers below `count`.
-fn places_of(
-    alloc: Global,
-    arena: &TypedArena<usize>,
-    count: usize,
-) -> Result<Vec<Place<usize>>, AllocError> {
-    let mut places = Vec::new(alloc);
-    for number in 0..count {
-        if let Ok(place) = arena.push(number) {
-            places.push(place)?;
-        }
-    }
-    Ok(places)
-}
-
-#[test]
-fn a_place_has_the_number_of_its_value(rt: HostRuntime) -> Result<(), Fail> {
-    let arena = TypedArena::new(rt.alloc())?;
-    let places = places_of(rt.alloc(), &arena, 500)?;
-    let mut number = 0usize;
-    for place in places.as_slice() {
-        assert!(rt; place.number() == number && place.again().number() == number);
-        number = number.wrapping_add(1);
-    }
-    assert!(rt; number == 500);
     Ok(())
 }
 
@@ -146,7 +127,7 @@ fn places_owners(heap: &Budget<Global>) -> Result<bool, AllocError> {
             return Ok(false);
         }
     }
-    Ok(arena.len() == 300)
+    Ok(arena.len() == Ok(300))
 }
 
 #[test]
@@ -166,16 +147,17 @@ fn comes_back(heap: &Budget<Global>, drops: &Cell<usize>) -> Result<bool, AllocE
         let asked = heap.asked();
         let refused = match arena.alloc(Counted { drops, number }) {
             Ok(kept) => kept.number == number && heap.asked() == asked,
-            Err(value) => value.number == number && heap.asked() > asked,
+            Err(CellFault::Memory(value)) => value.number == number && heap.asked() > asked,
+            Err(CellFault::InUse(_value)) => false,
         };
         heap.refuse_next(0);
-        let is_there = arena.len() > number;
+        let is_there = matches!(arena.len(), Ok(len) if len > number);
         if !refused || !is_there && arena.alloc(Counted { drops, number }).is_err() {
             return Ok(false);
         }
     }
-    // Four rows were begun, and the first try of each failed.
-    Ok(arena.len() == 100 && drops.get() == 4)
+    // Four buffers were begun, and the first try of each failed.
+    Ok(arena.len() == Ok(100) && drops.get() == 4)
 }
 
 #[test]
@@ -196,19 +178,19 @@ fn placed_without_memory(heap: &Budget<Global>, capacity: usize) -> Result<usize
             return Ok(number);
         }
     }
-    Ok(arena.len())
+    Ok(100)
 }
 
 #[test]
 fn values_up_to_the_capacity_take_no_memory(rt: HostRuntime) -> Result<(), Fail> {
     for (capacity, wanted) in [
         (0, 0),
-        (1, 8),
-        (8, 8),
-        (9, 24),
-        (24, 24),
-        (25, 56),
-        (100, 100),
+        (1, 3),
+        (3, 3),
+        (4, 15),
+        (15, 15),
+        (16, 63),
+        (64, 100),
     ] {
         let heap = Budget::new(rt.alloc());
         let placed = placed_without_memory(&heap, capacity)?;
@@ -220,9 +202,104 @@ fn values_up_to_the_capacity_take_no_memory(rt: HostRuntime) -> Result<(), Fail>
     Ok(())
 }
 
+/// Returns the number of values, at most a hundred, that an arena of `count` values stores after a
+/// reservation, while all further requests are denied.
+fn placed_after_reserve(
+    heap: &Budget<Global>,
+    count: usize,
+    additional: usize,
+) -> Result<usize, AllocError> {
+    let arena = TypedArena::new(heap)?;
+    for number in 0..count {
+        let Ok(_index) = arena.push(number) else {
+            return Err(AllocError);
+        };
+    }
+    let Ok(()) = arena.reserve(additional) else {
+        return Err(AllocError);
+    };
+    heap.refuse(heap.asked(), u64::MAX);
+    for number in 0..100usize {
+        if arena.push(number).is_err() {
+            return Ok(number);
+        }
+    }
+    Ok(100)
+}
+
+#[test]
+fn values_that_were_reserved_take_no_memory(rt: HostRuntime) -> Result<(), Fail> {
+    for (count, additional, wanted) in [
+        (0, 0, 0),
+        (0, 1, 3),
+        (2, 1, 1),
+        (2, 2, 13),
+        (3, 12, 12),
+        (3, 13, 60),
+        (10, 0, 5),
+        (15, 100, 100),
+    ] {
+        let heap = Budget::new(rt.alloc());
+        let placed = placed_after_reserve(&heap, count, additional)?;
+        assert!(rt;
+            placed == wanted && heap.given() == heap.granted(),
+            "{count} {additional}"
+        );
+    }
+    Ok(())
+}
+
+/// Returns whether a denied reservation leaves the values, and the next one succeeds, also if it is
+/// for fewer values than are reserved.
+fn reserves_again(heap: &Budget<Global>) -> Result<bool, AllocError> {
+    let arena = TypedArena::new(heap)?;
+    let is_first = arena.alloc(7usize).is_ok();
+    heap.refuse_next(1);
+    let refused = matches!(arena.reserve(100), Err(CellFault::Memory(())));
+    heap.refuse_next(0);
+    let kept = refused && arena.len() == Ok(1) && arena.get(0) == Ok(Some(&7));
+    let reserved = arena.reserve(100).is_ok() && arena.reserve(50).is_ok();
+    heap.refuse(heap.asked(), u64::MAX);
+    for number in 0..100usize {
+        if arena.push(number).is_err() {
+            return Ok(false);
+        }
+    }
+    Ok(is_first && kept && reserved && arena.get(100) == Ok(Some(&99)))
+}
+
+#[test]
+fn a_denied_reservation_lost_a_value(rt: HostRuntime) -> Result<(), Fail> {
+    let heap = Budget::new(rt.alloc());
+    let again = reserves_again(&heap)?;
+    assert!(rt; again && heap.given() == heap.granted());
+    Ok(())
+}
+
+/// Returns whether two values are stored under a guard that has reserved capacity for them, while
+/// all further requests are denied.
+fn stores_what_it_reserved(heap: &Budget<Global>) -> Result<bool, AllocError> {
+    let arena = TypedArena::new(heap)?;
+    let Ok(mut hold) = arena.hold() else {
+        return Ok(false);
+    };
+    hold.reserve(2)?;
+    heap.refuse(heap.asked(), u64::MAX);
+    push_two(&mut hold, 7, 8);
+    Ok(hold.get(0) == Some(&7) && hold.get(1) == Some(&8) && hold.len() == 2)
+}
+
+#[test]
+fn a_guard_reserved_too_little(rt: HostRuntime) -> Result<(), Fail> {
+    let heap = Budget::new(rt.alloc());
+    let stored = stores_what_it_reserved(&heap)?;
+    assert!(rt; stored && heap.given() == heap.granted());
+    Ok(())
+}
+
 #[test]
 fn a_capacity_beyond_all_memory_is_refused(rt: HostRuntime) -> Result<(), Fail> {
-    for capacity in [usize::MAX, usize::MAX / 2] {
+    for capacity in [usize::MAX, usize::MAX / 2, 1 << 62] {
         let refused = TypedArena::<u64>::with_capacity(rt.alloc(), capacity).is_err();
         assert!(rt; refused, "{capacity}");
     }
@@ -231,18 +308,44 @@ fn a_capacity_beyond_all_memory_is_refused(rt: HostRuntime) -> Result<(), Fail> 
 
 #[test]
 fn a_refused_arena_leaves_no_block(rt: HostRuntime) -> Result<(), Fail> {
-    // The first request is for the table of the rows, and the next is for the longest row.
-    for number in 0..2 {
+    // The requests are for the directory, three buffers and the list of those that are ready.
+    for number in 0..5 {
         let heap = Budget::new(rt.alloc());
         heap.refuse(number, u64::MAX);
         let refused = TypedArena::<u64, _>::with_capacity(&heap, 25).is_err();
         assert!(rt; refused && heap.granted() == number && heap.given() == number);
     }
+    let heap = Budget::new(rt.alloc());
+    heap.refuse(5, u64::MAX);
+    assert!(rt; TypedArena::<u64, _>::with_capacity(&heap, 25).is_ok() && heap.given() == 5);
+    Ok(())
+}
+
+/// Returns whether an arena is taken apart whose last buffers were never opened.
+fn comes_apart(heap: &Budget<Global>) -> Result<bool, AllocError> {
+    let arena = TypedArena::with_capacity(heap, 100)?;
+    let is_full = arena.push(7usize).is_ok() && arena.push(8).is_ok();
+    let Ok(handle) = arena.handle() else {
+        return Ok(false);
+    };
+    let seen = handle.observed().evidence();
+    drop(handle);
+    let Ok(all) = arena.into_vec(heap, &seen) else {
+        return Ok(false);
+    };
+    Ok(is_full && all.as_slice() == [7, 8].as_slice())
+}
+
+#[test]
+fn a_buffer_that_was_ready_was_lost(rt: HostRuntime) -> Result<(), Fail> {
+    let heap = Budget::new(rt.alloc());
+    let apart = comes_apart(&heap)?;
+    assert!(rt; apart && heap.given() == heap.granted());
     Ok(())
 }
 
 #[test]
-fn each_place_shows_its_own_value(rt: HostRuntime) -> Result<(), Fail> {
+fn an_index_showed_the_value_of_another(rt: HostRuntime) -> Result<(), Fail> {
     let arena = TypedArena::new(rt.alloc())?;
     assert!(rt; two_values(&arena, 7, 8) == Some((7, 8)));
     Ok(())

@@ -1,10 +1,11 @@
 //! What callers can ensure by the contracts alone.
-ghost use Rattle.std.specs.Prelude.{◌≡◌, IfSome};
+ghost use Rattle.std.specs.Prelude.{◌≡◌, ◌≤◌, ◌+◌, ◌++◌, ◌∷◌, [], length, IfSome};
 
 use elsa_arena::arena::TypedArena;
+use elsa_arena::vec::Hold;
 use std::alloc::Allocator;
 
-/// Stores two values, and returns them as read at their places, or `None` if an allocation fails.
+/// Stores two values, and returns them as read at their indices, or `None` if a call failed.
 pub fn two_values<A: Allocator + Copy>(
     arena: &TypedArena<u64, A>,
     one: u64,
@@ -12,8 +13,21 @@ pub fn two_values<A: Allocator + Copy>(
 ) -> Option<(u64, u64)>
     ensures { IfSome result (λ r. (r.0 ≡ one) × (r.1 ≡ two)) }
 {
-    let first = arena.push(one).ok()?;
-    let second = arena.push(two).ok()?;
-    let copy = first.again();
-    Some((*arena.at(&copy), *arena.at(&second)))
+    let mut handle = arena.handle().ok()?;
+    let first = handle.push(one).ok()?;
+    let second = handle.push(two).ok()?;
+    Some((*handle.get(first)?, *handle.get(second)?))
+}
+
+/// Stores two values under a guard that has capacity for them. It can't fail.
+pub fn push_two<A: Allocator + Copy>(hold: &mut Hold<'_, u64, A>, one: u64, two: u64)
+    requires room { length hold.old.seen + 2 ≤ hold.old.capacity }
+    ensures { hold.new.seen ≡ hold.old.seen ++ one ∷ two ∷ [] }
+{
+    let Ok(_first) = hold.push(one) else {
+        unreachable!()
+    };
+    let Ok(_second) = hold.push(two) else {
+        unreachable!()
+    };
 }

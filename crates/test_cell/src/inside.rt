@@ -20,6 +20,8 @@ fn list_is_in_use(list: &FrozenVec<u64>) -> bool {
         && matches!(list.alloc(2), Err(CellFault::InUse(2)))
         && list.get(0) == Err(InUse)
         && list.len() == Err(InUse)
+        && list.is_empty() == Err(InUse)
+        && matches!(list.reserve(1), Err(CellFault::InUse(())))
         && list.iter().is_err()
 }
 

@@ -1,10 +1,8 @@
-//! Tests of the collections that grow through `&self`, used as by any other crate: many keys and
-//! items, values that own memory, calls from inside other calls, loaders, rules, a graph, and
-//! allocation failures over `test_alloc`.
+//! Tests of the collections that grow through `&self`, used as by any other crate: many keys,
+//! values that own memory, calls from inside other calls, loaders, rules, and allocation failures
+//! over `test_alloc`.
 #![tactic(auto)]
 
-#[cfg(test)]
-mod graph;
 #[cfg(test)]
 mod includes;
 #[cfg(test)]
@@ -19,5 +17,3 @@ mod map_tests;
 mod ordered_tests;
 #[cfg(test)]
 mod rules;
-#[cfg(test)]
-mod vec_tests;

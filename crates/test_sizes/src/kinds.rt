@@ -1,7 +1,6 @@
 //! The collections, each with the calls of the script.
 use crate::grows::Grows;
 use bumpalo::Bump;
-use elsa::arena::TypedArena;
 use elsa::interner::Interner;
 use elsa::{
     FrozenAppendMap, FrozenBTreeMap, FrozenBTreeSet, FrozenIndexMap, FrozenIndexSet, FrozenMap,
@@ -200,27 +199,6 @@ impl<A: Allocator + Copy> Grows for Interner<'_, Hasher, A> {
             Ok(name) => self.find(name) == Some(index),
             Err(_) => false,
         }
-    }
-}
-
-impl<A: Allocator + Copy> Grows for TypedArena<u64, A> {
-    fn next_key(&self, _drawn: u64) -> u64 {
-        self.len() as u64
-    }
-
-    fn insert(&mut self, _key: u64, value: u64) -> Result<u64, AllocError> {
-        match self.alloc(value) {
-            Ok(stored) => Ok(*stored),
-            Err(_) => Err(AllocError),
-        }
-    }
-
-    fn get(&self, key: u64) -> Option<u64> {
-        self.get(key as usize).copied()
-    }
-
-    fn count(&self) -> usize {
-        self.len()
     }
 }
 

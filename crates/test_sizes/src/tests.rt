@@ -4,7 +4,6 @@ use crate::room::has_room;
 use crate::script::{Draws, is_right};
 use bumpalo::Bump;
 use elsa::append_map::AppendMap;
-use elsa::arena::TypedArena;
 use elsa::interner::Interner;
 use elsa::{
     FrozenAppendMap, FrozenBTreeMap, FrozenBTreeSet, FrozenIndexMap, FrozenIndexSet, FrozenMap,
@@ -282,24 +281,6 @@ fn interner_has_room(alloc: Global, size: u64) -> Result<bool, AllocError> {
 fn an_interner_allocates_in_reserved_room(rt: HostRuntime) -> Result<(), Fail> {
     let (_seed, size) = drawn(&rt)?;
     assert!(rt; interner_has_room(rt.alloc(), size)?, "size {size}");
-    Ok(())
-}
-
-fn arena_is_right(alloc: Global, seed: u64, size: u64) -> Result<bool, AllocError> {
-    let heap = Budget::new(alloc);
-    let mut grown: TypedArena<u64, _> = TypedArena::new(&heap)?;
-    let right = is_right(alloc, &heap, &mut grown, seed, size)?;
-    drop(grown);
-    Ok(right && heap.given() == heap.granted())
-}
-
-#[test]
-fn an_arena_differs_from_a_list_at_a_random_size(rt: HostRuntime) -> Result<(), Fail> {
-    let (seed, size) = drawn(&rt)?;
-    assert!(rt;
-        arena_is_right(rt.alloc(), seed, size)?,
-        "seed {seed}, size {size}"
-    );
     Ok(())
 }
 

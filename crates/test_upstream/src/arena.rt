@@ -3,7 +3,8 @@
 //! can't borrow from its own arena.
 ghost use Rattle.std.specs.Prelude.{◌≡◌, IfOk};
 
-use elsa::arena::TypedArena;
+use elsa::TypedArena;
+use elsa::cell::CellFault;
 use std::alloc::{AllocError, Global};
 use std::test::Fail;
 
@@ -32,27 +33,31 @@ impl Things {
     /// Adds a thing through `&self`, and returns its number.
     fn add_thing(&self, name: &str, friends: Vec<usize>) -> Result<usize, AllocError> {
         let name = String::from_str(self.alloc, name)?;
-        match self.all.push(Thing { name, friends }) {
-            Ok(place) => Ok(place.number()),
-            Err(_thing) => Err(AllocError),
-        }
+        self.all
+            .push(Thing { name, friends })
+            .map_err(|_thing| AllocError)
     }
 
     /// Adds a thing through `&self`, and returns a reference to it with the arena's lifetime.
-    fn keep(&self, thing: Thing) -> Result<&Thing, Thing>
+    fn keep(&self, thing: Thing) -> Result<&Thing, CellFault<Thing>>
         ensures { IfOk result (λ kept. kept.now ≡ thing) }
     {
         self.all.alloc(thing)
     }
 
+    /// Returns the thing with a number.
+    fn thing(&self, number: usize) -> Option<&Thing> {
+        self.all.get(number).unwrap_or(None)
+    }
+
     /// Returns the names of a thing's friends, each followed by a space.
     fn friends_of(&self, number: usize) -> Result<String, AllocError> {
         let mut names = String::new(self.alloc);
-        let Some(thing) = self.all.get(number) else {
+        let Some(thing) = self.thing(number) else {
             return Ok(names);
         };
         for friend in &thing.friends {
-            if let Some(other) = self.all.get(*friend) {
+            if let Some(other) = self.thing(*friend) {
                 names.push_str(other.name.as_str())?;
                 names.push(' ')?;
             }
@@ -88,7 +93,7 @@ fn are_friends(alloc: Global) -> Result<bool, AllocError> {
             return Ok(false);
         }
     }
-    Ok(things.all.len() == 5)
+    Ok(things.all.len() == Ok(5))
 }
 
 /// Returns whether the borrow of a thing stays valid while others are added.
@@ -104,7 +109,7 @@ fn stays(alloc: Global) -> Result<bool, AllocError> {
     for _ in 0..100 {
         things.add_thing("rando", Vec::new(alloc))?;
     }
-    Ok(first.name.as_str() == "lonely" && things.all.len() == 101)
+    Ok(first.name.as_str() == "lonely" && things.all.len() == Ok(101))
 }
 
 #[test]

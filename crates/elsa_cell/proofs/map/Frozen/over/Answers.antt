@@ -1,6 +1,6 @@
 use Rattle.std.proofs.Common.{List, map, subst, sym, ◌∙◌}
 use Rattle.elsa_cell.specs.Entries.{key_of}
-use Rattle.elsa_cell.specs.Observed.{IsStateOf}
+use Rattle.elsa_arena.specs.Observed.{IsStateOf}
 use Rattle.elsa_cell.specs.declared.map.Entry.{Entry}
 use Rattle.elsa_cell.proofs.map.Frozen.over.Goals as goal
 

@@ -1,7 +1,7 @@
 use Rattle.std.proofs.Common.{◌≡◌, ◌++◌, ◌∷◌, [], length, map, position, refl, sym, ap, ◌∙◌, List}
 use Rattle.std.specs.Option.{option_map}
 use Rattle.elsa_cell.specs.Entries.{key_of}
-use Rattle.elsa_cell.specs.Observed.{View}
+use Rattle.elsa_arena.specs.Observed.{View}
 use Rattle.elsa_cell.specs.declared.map.Entry.{Entry}
 use Rattle.elsa_cell.proofs.EntryLemmas.{absent_at, entry_last, value_at}
 use Rattle.elsa_cell.proofs.map_hold.FrozenHold.insert_entry.Goals as goal

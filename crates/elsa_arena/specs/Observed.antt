@@ -1,0 +1,44 @@
+-- What a handle of a collection has observed: a prefix of its list, which only grows at its end.
+use Rattle.std.specs.Prelude.{ℕ, ◌≡◌, ◌<◌, ◌^◌, List, [], ◌∷◌, ◌++◌, length}
+use mathlib.Core.List.{IsPrefix}
+use Rattle.elsa_slots.specs.Ahead.{GoesOn}
+use Rattle.elsa_arena.specs.declared.state.State.{State}
+use Rattle.elsa_arena.specs.Ready.{AreReady}
+
+-- A handle: its collection, by the names of its buffers, and the prefix of the list that it has
+-- observed. A lock guard of a map or set: its collection, and the whole list.
+pub record View (T : Type 0) : Type 0 where
+  pub vector : List ℕ
+  pub seen : List T
+
+-- A lock guard of a list: the list, by the names of its buffers, all its items, and the number of
+-- items that it can have before a push needs memory.
+pub record Whole (T : Type 0) : Type 0 where
+  pub vector : List ℕ
+  pub seen : List T
+  pub capacity : ℕ
+
+module _ {T : Type 0} where
+  -- What a handle that is made under a lock guard has observed: all items.
+  abbrev pub view_of : Whole T → View T
+  view_of w = record { vector = w.vector; seen = w.seen }
+
+  -- The same handle later: it has observed as much or more.
+  pub record Continues (before after : View T) : Type 0 where
+    pub same : after.vector ≡ before.vector
+    pub seen : IsPrefix before.seen after.seen
+
+  -- The list was `old`, or longer by items of other handles; then `x` was appended at the index
+  -- `place`.
+  abbrev pub Appends : List T → List T → ℕ → T → Type 0
+  Appends old new place x = (before : List T) × IsPrefix old before × (length before ≡ place) × (new ≡ before ++ x ∷ [])
+
+-- The state of a collection with these buffers: its length, the evidence of all its items, the
+-- rights to the slots after them, and the buffers that are ready.
+pub record IsStateOf {T A : Type 0} (buffers : List ℕ) (s : State T A) : Type 0 where
+  pub names : s.prefix.buffer_slots ≡ buffers
+  pub all : length buffers ≡ 31
+  pub count : s.count ≡ length s.prefix.items
+  pub limit : s.count < 2 ^ 62
+  pub ahead : GoesOn buffers s.count s.ahead.opened s.ahead.slots.of s.ahead.further.of
+  pub ready : AreReady s.ahead.further.of s.ready.items

@@ -1,0 +1,608 @@
+//! [`FrozenVec`], its [`Handle`] and its lock guard [`Hold`].
+ghost use Rattle.std.specs.Prelude.{◌≡◌, ◌⊎◌, ◌+◌, ◌<◌, ◌≤◌, ◌^◌, ◌++◌, ◌∷◌, [], drop, length, slice_get, IfErr, IfOk, IfSome, OnErr, OnOk};
+ghost use Rattle.std.specs.Option.{option_map};
+ghost use mathlib.Core.List.{IsPrefix};
+ghost use Rattle.elsa_arena.specs.Observed.{Appends, Continues, IsStateOf, view_of};
+
+use crate::fault::{CellFault, InUse};
+use crate::observed::{Iter, Observed, Seen};
+use crate::shared::{OfSlots, Shared};
+use crate::state::{self, State, push_item};
+use crate::views::{is_behind, is_evidence_behind, observe, slots_of};
+use boxcar::tag::Tag;
+use elsa_slots::slots::Slots;
+use std::alloc::{AllocError, Allocator, Global};
+use std::marker::Model;
+
+/// A list that grows through `&self` and owns its items: references to them are valid as long as
+/// the list. Contracts see the names of its buffers, which no other list has.
+///
+/// A [`Handle`] states which items it has observed, and each of its calls which items come back.
+/// The calls on the list itself are short forms: each makes a handle.
+pub struct FrozenVec<T, A: Allocator + Copy = Global> {
+    slots: Slots<T, A>,
+    cell: Shared<State<T, A>>,
+}
+
+impl<T, A: Allocator + Copy> Model for FrozenVec<T, A> {
+    ghost use Rattle.std.specs.Prelude.{◌≡◌, ℕ, List};
+
+    ghost Value = { List ℕ };
+
+    ghost view = { λ v. v.slots };
+
+    ghost invariant = { λ v. v.cell.numbers ≡ v.slots };
+}
+
+// Drops each item once, in order.
+impl<T: Drop, A: Allocator + Copy> Drop for FrozenVec<T, A> {
+    fn drop(self) {
+        let Self { slots, cell } = self;
+        match cell.into_state() {
+            Some(state) => state.end(slots),
+            None => drop(slots),
+        }
+    }
+}
+
+impl<T, A: Allocator + Copy> FrozenVec<T, A> {
+    /// Makes an empty list.
+    ///
+    /// # Errors
+    /// Fails if an allocation fails.
+    ///
+    /// # Allocates
+    /// The directory of its buffers.
+    pub fn new(alloc: A) -> Result<Self, AllocError> {
+        let (slots, further) = Slots::new(alloc)?;
+        let tag = Tag::of::<Slots<T, A>, OfSlots>(&slots);
+        let cell = Shared::new(State::first(alloc, further), &tag);
+        Ok(FrozenVec { slots, cell })
+    }
+
+    /// Makes an empty list with capacity for `count` items: pushing that many allocates nothing.
+    ///
+    /// # Errors
+    /// Fails if an allocation fails, or if `count` is above the greatest number of items,
+    /// `2^62 - 1`.
+    ///
+    /// # Allocates
+    /// The directory of its buffers, and the buffers for `count` items.
+    ///
+    /// # Cost
+    /// `O(log count)`.
+    pub fn with_capacity(alloc: A, count: usize) -> Result<Self, AllocError> {
+        let (slots, further) = Slots::new(alloc)?;
+        let mut state = State::first(alloc, further);
+        state::reserve(&slots, &mut state, count)?;
+        let tag = Tag::of::<Slots<T, A>, OfSlots>(&slots);
+        let cell = Shared::new(state, &tag);
+        Ok(FrozenVec { slots, cell })
+    }
+
+    /// Reserves capacity for `additional` more items: pushing that many allocates nothing. A
+    /// guard's [`Hold::reserve`] promises it.
+    ///
+    /// # Errors
+    /// Fails with [`CellFault::Memory`] if an allocation fails, or if the list would have more
+    /// than the greatest number of items, `2^62 - 1`, and with [`CellFault::InUse`] if the call is
+    /// made inside another call of the list, or while a [`Hold`] of it exists. The items are
+    /// unchanged.
+    ///
+    /// # Allocates
+    /// The buffers for these items, and a list of them.
+    ///
+    /// # Cost
+    /// `O(log n)` in the number of items.
+    pub fn reserve(&self, additional: usize) -> Result<(), CellFault<()>> {
+        let Ok(mut hold) = self.hold() else {
+            return Err(CellFault::InUse(()));
+        };
+        match hold.reserve(additional) {
+            Ok(()) => Ok(()),
+            Err(_) => Err(CellFault::Memory(())),
+        }
+    }
+
+    /// Makes a handle that has observed all items. It allocates nothing.
+    ///
+    /// # Errors
+    /// Fails with [`InUse`] if the call is made inside another call of the list, or while a
+    /// [`Hold`] of it exists.
+    ///
+    /// # Cost
+    /// `O(1)`.
+    pub fn handle(&self) -> Result<Handle<'_, T, A>, InUse>
+        ensures same_vector { IfOk result (λ h. h.vector ≡ self.now) }
+    {
+        let hold = self.hold()?;
+        Ok(hold.handle())
+    }
+
+    /// Locks the list for one caller. Until the guard is dropped, each other call fails with
+    /// [`InUse`], except reads of what a handle has observed. It allocates nothing.
+    ///
+    /// # Errors
+    /// Fails with [`InUse`] if the call is made inside another call of the list, or while another
+    /// [`Hold`] of it exists.
+    ///
+    /// # Cost
+    /// `O(1)`.
+    pub fn hold(&self) -> Result<Hold<'_, T, A>, InUse>
+        ensures same_vector { IfOk result (λ h. h.vector ≡ self.now) }
+    {
+        let Some(state) = self.cell.take() else {
+            return Err(InUse);
+        };
+        Ok(Hold {
+            slots: &self.slots,
+            cell: &self.cell,
+            state,
+        })
+    }
+
+    /// Appends an item, and returns its index.
+    ///
+    /// # Errors
+    /// Fails with [`CellFault::Memory`] if an allocation fails, or if the list has the greatest
+    /// number of items, `2^62 - 1`, and with [`CellFault::InUse`] if the call is made inside
+    /// another call of the list, or while a [`Hold`] of it exists. Both contain `item`.
+    ///
+    /// # Allocates
+    /// A buffer, four times as large as the one before, at the lengths where one begins.
+    ///
+    /// # Cost
+    /// `O(1)`.
+    pub fn push(&self, item: T) -> Result<usize, CellFault<T>>
+        ensures given_back { IfErr result (λ f. (f ≡ CellFault.Memory item)
+            ⊎ (f ≡ CellFault.InUse item)) }
+    {
+        let Ok(mut hold) = self.hold() else {
+            return Err(CellFault::InUse(item));
+        };
+        hold.push(item)
+    }
+
+    /// Appends an item, and returns a reference to it: [`push`](Self::push) with the reference in
+    /// place of the index.
+    ///
+    /// # Errors
+    /// Fails with [`CellFault::Memory`] if an allocation fails, or if the list has the greatest
+    /// number of items, `2^62 - 1`, and with [`CellFault::InUse`] if the call is made inside
+    /// another call of the list, or while a [`Hold`] of it exists. Both contain `item`.
+    ///
+    /// # Allocates
+    /// A buffer, four times as large as the one before, at the lengths where one begins.
+    ///
+    /// # Cost
+    /// `O(1)`.
+    pub fn alloc(&self, item: T) -> Result<&T, CellFault<T>>
+        ensures pushed { IfOk result (λ r. r.now ≡ item) }
+        ensures given_back { IfErr result (λ f. (f ≡ CellFault.Memory item)
+            ⊎ (f ≡ CellFault.InUse item)) }
+    {
+        let Ok(mut hold) = self.hold() else {
+            return Err(CellFault::InUse(item));
+        };
+        let index = hold.push(item)?;
+        let Some(lent) = hold.get(index) else {
+            unreachable!()
+        };
+        Ok(lent)
+    }
+
+    /// Returns a reference to the item at an index, or `None` if the index is at or above the
+    /// number of items. It allocates nothing.
+    ///
+    /// # Errors
+    /// Fails with [`InUse`] if the call is made inside another call of the list, or while a
+    /// [`Hold`] of it exists.
+    ///
+    /// # Cost
+    /// `O(1)`.
+    pub fn get(&self, index: usize) -> Result<Option<&T>, InUse> {
+        let handle = self.handle()?;
+        Ok(handle.get(index))
+    }
+
+    /// Returns the number of items. It allocates nothing.
+    ///
+    /// # Errors
+    /// Fails with [`InUse`] if the call is made inside another call of the list, or while a
+    /// [`Hold`] of it exists.
+    ///
+    /// # Cost
+    /// `O(1)`.
+    pub fn len(&self) -> Result<usize, InUse> {
+        let handle = self.handle()?;
+        Ok(handle.seen_len())
+    }
+
+    /// Returns whether the list has no item. It allocates nothing.
+    ///
+    /// # Errors
+    /// Fails with [`InUse`] if the call is made inside another call of the list, or while a
+    /// [`Hold`] of it exists.
+    ///
+    /// # Cost
+    /// `O(1)`.
+    pub fn is_empty(&self) -> Result<bool, InUse> {
+        let handle = self.handle()?;
+        Ok(handle.seen_len() == 0)
+    }
+
+    /// Makes the list of its state again, which may be lost.
+    fn again(slots: Slots<T, A>, state: Option<State<T, A>>) -> Self
+        requires { IfSome state (IsStateOf slots) }
+        ensures { result ≡ slots }
+    {
+        let tag = Tag::of::<Slots<T, A>, OfSlots>(&slots);
+        let cell = match state {
+            Some(state) => Shared::new(state, &tag),
+            None => Shared::lost(&tag),
+        };
+        FrozenVec { slots, cell }
+    }
+
+    /// Moves all items into a vector of `alloc`, in order, and drops none. `seen` is evidence of
+    /// items that the list has ([`Observed::evidence`]): the vector begins with them.
+    ///
+    /// # Errors
+    /// Fails with [`CellFault::Memory`] if an allocation fails, and with [`CellFault::InUse`] if a
+    /// guard of the list was forgotten. Both contain the list.
+    ///
+    /// # Allocates
+    /// A block of `alloc` for the items.
+    ///
+    /// # Cost
+    /// `O(n)`: one move of each item.
+    pub fn into_vec<Z: Allocator>(
+        self,
+        alloc: Z,
+        seen: &Seen<T, A>,
+    ) -> Result<Vec<T, Z>, CellFault<Self>>
+        requires same_vector { seen.now.vector ≡ self }
+        ensures items { IfOk result (λ all. IsPrefix seen.now.seen all.items) }
+        ensures given_back { IfErr result (λ f. (f ≡ CellFault.Memory self)
+            ⊎ (f ≡ CellFault.InUse self)) }
+    {
+        let Self { slots, cell } = self;
+        let Some(state) = cell.into_state() else {
+            return Err(CellFault::InUse(FrozenVec::again(slots, None)));
+        };
+        if !is_evidence_behind(seen, &state) {
+            return Err(CellFault::InUse(FrozenVec::again(slots, Some(state))));
+        }
+        let Ok(mut all) = Vec::with_capacity(alloc, state.count) else {
+            return Err(CellFault::Memory(FrozenVec::again(slots, Some(state))));
+        };
+        state.move_items(slots, &mut all);
+        Ok(all)
+    }
+
+    /// Returns an iterator over the items, in order and each once. Others may be pushed while it
+    /// runs; they are not among its items. It allocates nothing.
+    ///
+    /// # Errors
+    /// Fails with [`InUse`] if the call is made inside another call of the list, or while a
+    /// [`Hold`] of it exists.
+    ///
+    /// # Cost
+    /// `O(1)`, and so is each item.
+    pub fn iter(&self) -> Result<Iter<'_, T, A>, InUse> {
+        let handle = self.handle()?;
+        Ok(handle.iter())
+    }
+}
+
+/// A list, and the prefix of its items that was observed. Contracts see the list, by the names of
+/// its buffers, and the items of the prefix.
+///
+/// What a handle has observed stays, whatever other calls append.
+#[derive(Drop)]
+pub struct Handle<'v, T, A: Allocator + Copy = Global> {
+    cell: &'v Shared<State<T, A>>,
+    observed: Observed<'v, T, A>,
+}
+
+impl<'v, T, A: Allocator + Copy> Model for Handle<'v, T, A> {
+    ghost use Rattle.std.specs.Prelude.{◌≡◌};
+    ghost use Rattle.elsa_arena.specs.Observed.{View};
+
+    ghost Value = { View T };
+
+    ghost view = { λ h. h.observed };
+
+    ghost invariant = { λ h. h.cell.now.numbers ≡ h.observed.vector };
+}
+
+impl<'v, T, A: Allocator + Copy> Handle<'v, T, A> {
+    /// Returns what the handle has observed, by reference.
+    pub fn observed(&self) -> &Observed<'v, T, A>
+        ensures same_view { result.now ≡ self.now }
+    {
+        &self.observed
+    }
+
+    /// Makes another handle that has observed the same. It allocates nothing.
+    pub fn again(&self) -> Handle<'v, T, A>
+        ensures same_view { result ≡ self.now }
+    {
+        Handle {
+            cell: self.cell,
+            observed: self.observed.again(),
+        }
+    }
+
+    /// Returns the number of items that the handle has observed.
+    pub fn seen_len(&self) -> usize
+        ensures length { result ≡ length self.now.seen }
+        ensures limit { result < 2 ^ 62 }
+    {
+        self.observed.len()
+    }
+
+    /// Returns a reference to the item at an index, or `None` exactly if the index is at or above
+    /// the number of items that the handle has observed. It allocates nothing, and it never fails.
+    ///
+    /// # Cost
+    /// `O(1)`.
+    pub fn get(&self, index: usize) -> Option<&'v T>
+        ensures item { option_map (λ r. r.now) result ≡ slice_get self.now.seen index }
+    {
+        self.observed.get(index)
+    }
+
+    /// Returns an iterator over the items that the handle has observed, in order and each once. It
+    /// allocates nothing.
+    ///
+    /// # Cost
+    /// `O(1)`, and so is each item.
+    pub fn iter(&self) -> Iter<'v, T, A>
+        ensures items { result ≡ self.now.seen }
+    {
+        self.observed.iter_from(0)
+    }
+
+    /// Locks the list for one caller, as [`FrozenVec::hold`] does.
+    ///
+    /// # Errors
+    /// Fails with [`InUse`] if the call is made inside another call of the list, or while another
+    /// [`Hold`] of it exists.
+    pub fn hold(&self) -> Result<Hold<'v, T, A>, InUse>
+        ensures same_vector { IfOk result (λ h. h.vector ≡ self.now.vector) }
+        ensures items { IfOk result (λ h. IsPrefix self.now.seen h.seen) }
+    {
+        let cell = self.cell;
+        let Some(state) = cell.take() else {
+            return Err(InUse);
+        };
+        if !is_behind(&self.observed, &state) {
+            cell.put(state);
+            return Err(InUse);
+        }
+        Ok(Hold {
+            slots: slots_of(&self.observed),
+            cell,
+            state,
+        })
+    }
+
+    /// Drops a guard of the list, and observes all that the guard has.
+    fn release(&mut self, hold: Hold<'v, T, A>)
+        requires same_vector { hold.vector ≡ self.old.vector }
+        ensures same { self.new.vector ≡ self.old.vector }
+        ensures seen { self.new.seen ≡ hold.entry.seen }
+    {
+        let _before = std::mem::replace(&mut self.observed, hold.observed());
+    }
+
+    /// Observes all items, and returns their number. It allocates nothing.
+    ///
+    /// # Errors
+    /// Fails with [`InUse`] if the call is made inside another call of the list, or while a
+    /// [`Hold`] of it exists. The handle is unchanged.
+    ///
+    /// # Cost
+    /// `O(1)`.
+    pub fn len(&mut self) -> Result<usize, InUse>
+        ensures continues { Continues self.old self.new }
+        ensures length { IfOk result (λ n. n ≡ length self.new.seen) }
+        ensures limit { IfOk result (λ n. n < 2 ^ 62) }
+        ensures refused { IfErr result (λ _. self.new ≡ self.old) }
+    {
+        let hold = self.hold()?;
+        self.release(hold);
+        Ok(self.seen_len())
+    }
+
+    /// Appends an item, and returns its index.
+    ///
+    /// # Errors
+    /// Fails with [`CellFault::Memory`] if an allocation fails, or if the list has the greatest
+    /// number of items, `2^62 - 1`, and with [`CellFault::InUse`] if the call is made inside
+    /// another call of the list, or while a [`Hold`] of it exists. Both contain `item`.
+    ///
+    /// # Allocates
+    /// A buffer, four times as large as the one before, at the lengths where one begins.
+    ///
+    /// # Cost
+    /// `O(1)`.
+    pub fn push(&mut self, item: T) -> Result<usize, CellFault<T>>
+        ensures continues { Continues self.old self.new }
+        ensures pushed { IfOk result (λ i. Appends self.old.seen self.new.seen i item) }
+        ensures limit { IfOk result (λ i. i + 1 < 2 ^ 62) }
+        ensures given_back { IfErr result (λ f. (f ≡ CellFault.Memory item)
+            ⊎ (f ≡ CellFault.InUse item)) }
+    {
+        let Ok(mut hold) = self.hold() else {
+            return Err(CellFault::InUse(item));
+        };
+        let pushed = hold.push(item);
+        self.release(hold);
+        pushed
+    }
+
+    /// Observes all items, and returns an iterator over those that the handle had not observed, in
+    /// order and each once. It allocates nothing.
+    ///
+    /// # Errors
+    /// Fails with [`InUse`] if the call is made inside another call of the list, or while a
+    /// [`Hold`] of it exists. The handle is unchanged.
+    ///
+    /// # Cost
+    /// `O(1)`, and so is each item.
+    pub fn news(&mut self) -> Result<Iter<'v, T, A>, InUse>
+        ensures continues { Continues self.old self.new }
+        ensures items { IfOk result (λ it. it ≡ drop (length self.old.seen) self.new.seen) }
+        ensures refused { IfErr result (λ _. self.new ≡ self.old) }
+    {
+        let before = self.seen_len();
+        self.len()?;
+        Ok(self.observed.iter_from(before))
+    }
+
+    /// Merges what two handles of a list have observed: both have then observed the longer prefix.
+    /// It allocates nothing, and it never fails.
+    ///
+    /// # Cost
+    /// `O(1)`.
+    pub fn merge(&mut self, other: &mut Handle<'_, T, A>)
+        requires same_vector { self.old.vector ≡ other.old.vector }
+        ensures continues { Continues self.old self.new }
+        ensures other_continues { Continues other.old other.new }
+        ensures same { self.new.seen ≡ other.new.seen }
+    {
+        self.observed.merge(&mut other.observed);
+    }
+}
+
+/// A lock guard of a list: its caller alone appends, and each other call fails with [`InUse`].
+/// Contracts see the list, by the names of its buffers, all its items, and its capacity.
+///
+/// It is the form for a loop of insertions, and for what needs the whole list unchanged.
+pub struct Hold<'v, T, A: Allocator + Copy = Global> {
+    slots: &'v Slots<T, A>,
+    cell: &'v Shared<State<T, A>>,
+    state: State<T, A>,
+}
+
+impl<'v, T, A: Allocator + Copy> Model for Hold<'v, T, A> {
+    ghost use Rattle.std.specs.Prelude.{◌≡◌};
+    ghost use Rattle.elsa_arena.specs.Observed.{Whole, IsStateOf};
+    ghost use Rattle.elsa_arena.specs.Ready.{capacity_of};
+
+    ghost Value = { Whole T };
+
+    ghost view = { λ h. record {
+      vector = h.slots.now;
+      seen = h.state.prefix.items;
+      capacity = capacity_of h.state;
+    } };
+
+    ghost invariant = { λ h. IsStateOf h.slots.now h.state × (h.cell.now.numbers ≡ h.slots.now) };
+}
+
+impl<T, A: Allocator + Copy> Drop for Hold<'_, T, A> {
+    fn drop(self) {
+        let Self {
+            slots: _,
+            cell,
+            state,
+        } = self;
+        cell.put(state);
+    }
+}
+
+impl<'v, T, A: Allocator + Copy> Hold<'v, T, A> {
+    /// Returns all items, to read them after the guard is dropped.
+    pub fn observed(&self) -> Observed<'v, T, A>
+        ensures same_view { result ≡ view_of self.now }
+    {
+        observe(self.slots, &self.state)
+    }
+
+    /// Makes a handle that has observed all items. It allocates nothing.
+    pub fn handle(&self) -> Handle<'v, T, A>
+        ensures same_view { result ≡ view_of self.now }
+    {
+        Handle {
+            cell: self.cell,
+            observed: self.observed(),
+        }
+    }
+
+    /// Returns the number of items.
+    ///
+    /// # Cost
+    /// `O(1)`.
+    pub fn len(&self) -> usize
+        ensures length { result ≡ length self.now.seen }
+        ensures limit { result < 2 ^ 62 }
+    {
+        self.state.count
+    }
+
+    /// Returns a reference to the item at an index, or `None` exactly if the index is at or above
+    /// the number of items. It allocates nothing.
+    ///
+    /// # Cost
+    /// `O(1)`.
+    pub fn get(&self, index: usize) -> Option<&'v T>
+        ensures item { option_map (λ r. r.now) result ≡ slice_get self.now.seen index }
+    {
+        let observed = self.observed();
+        observed.get(index)
+    }
+
+    /// Reserves capacity for `additional` more items: pushing that many allocates nothing, and
+    /// can't fail.
+    ///
+    /// # Errors
+    /// Fails if an allocation fails, or if the list would have more than the greatest number of
+    /// items, `2^62 - 1`. The items are unchanged.
+    ///
+    /// # Allocates
+    /// The buffers for these items, and a list of them.
+    ///
+    /// # Cost
+    /// `O(log n)` in the number of items.
+    pub fn reserve(&mut self, additional: usize) -> Result<(), AllocError>
+        ensures same { self.new.vector ≡ self.old.vector }
+        ensures items { self.new.seen ≡ self.old.seen }
+        ensures grows { self.old.capacity ≤ self.new.capacity }
+        ensures room { OnOk result (length self.old.seen + additional ≤ self.new.capacity) }
+    {
+        let slots = self.slots;
+        state::reserve(slots, &mut self.state, additional)
+    }
+
+    /// Appends an item, and returns its index.
+    ///
+    /// # Errors
+    /// Fails with [`CellFault::Memory`] and `item` if an allocation fails, or if the list has the
+    /// greatest number of items, `2^62 - 1`. The list is unchanged. It can't fail while the list
+    /// has fewer items than its capacity.
+    ///
+    /// # Allocates
+    /// A buffer, four times as large as the one before, at the lengths where one begins.
+    ///
+    /// # Cost
+    /// `O(1)`.
+    pub fn push(&mut self, item: T) -> Result<usize, CellFault<T>>
+        ensures same { (self.new.vector ≡ self.old.vector)
+            × (self.old.capacity ≤ self.new.capacity) }
+        ensures pushed { IfOk result (λ i. (i ≡ length self.old.seen)
+            × (self.new.seen ≡ self.old.seen ++ item ∷ [])) }
+        ensures limit { IfOk result (λ i. i + 1 < 2 ^ 62) }
+        ensures given_back { IfErr result (λ f. f ≡ CellFault.Memory item) }
+        ensures refused { OnErr result ((self.new ≡ self.old)
+            × (self.old.capacity ≤ length self.old.seen)) }
+    {
+        let slots = self.slots;
+        match push_item(slots, &mut self.state, item) {
+            Ok(index) => Ok(index),
+            Err(item) => Err(CellFault::Memory(item)),
+        }
+    }
+}
