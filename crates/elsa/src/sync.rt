@@ -2,8 +2,8 @@
 //!
 //! A locked collection is locked only during a call. A call that can block requires the permission
 //! to block (`Wait`). Reads of a [`LockFreeFrozenVec`] and look-ups of a [`LockFreeFrozenMap`]
-//! never block. [`history`] has the recorder, and [`machine`] the model of every schedule of the
-//! concurrent vector.
+//! never block. [`history`] has the recorder, [`machine`] the model of every schedule of the
+//! concurrent vector, and [`map_machine`] that of the concurrent map.
 pub use elsa_history as history;
 pub use elsa_lock_free::lock_free::{Handle, LockFreeFrozenVec, Pass};
 pub use elsa_lock_free::{item_rule, lock_free};
@@ -14,5 +14,6 @@ pub use elsa_locks::map::{FrozenBTreeMap, FrozenMap};
 pub use elsa_locks::vec::{FrozenVec, Iter};
 pub use elsa_locks::{map, vec};
 pub use elsa_machine::{geometry, machine};
+pub use elsa_map_machine::map_machine;
 pub use elsa_shards::{LockFreeShardedMap, ShardedHandle, ShardedMap, map as sharded};
 pub use elsa_slots::slots;

@@ -1,0 +1,4 @@
+pub mod Machine
+pub mod Progress
+pub mod Turns
+pub mod Worlds
