@@ -1,6 +1,6 @@
 """One row of the measurements, and the groups of rows."""
 
-NAMES, ALONE, CELLS, OWNERS, LOCKED, SHARDS, FREE, FREE_MAP, FREE_SHARDS, OWNED, SHARED, WORKERS = (
+NAMES, ALONE, CELLS, OWNERS, LOCKED, SHARDS, FREE, FREE_MAP, FREE_SHARDS, OWNED, SHARED, SHARED_SHARDS, WORKERS = (
     "names",
     "one thread",
     "growing through `&self`",
@@ -12,6 +12,7 @@ NAMES, ALONE, CELLS, OWNERS, LOCKED, SHARDS, FREE, FREE_MAP, FREE_SHARDS, OWNED,
     "lock-free map of shards",
     "values that own memory, without locks",
     "shared interner",
+    "interner of shards",
     "workers",
 )
 NAMES_GROWTH, MAP_GROWTH = "growth of the names, time per new name", "growth of `FrozenMap`, time per new key"

@@ -15,6 +15,7 @@ from job import (
     OWNERS,
     SHARDS,
     SHARED,
+    SHARED_SHARDS,
     WORKERS,
     Job,
 )
@@ -350,12 +351,12 @@ def shared_jobs(peers, bench):
     others = {"parking_lot's lock": "parking_lot", "std's lock": "std", "dashmap": "dashmap"}
     alone = "the interner of one thread"
 
-    def job(title, words, threads, count, goal, memory_goal):
+    def job(title, words, threads, count, goal, memory_goal, shards=""):
         form = f"names_{words}"
-        sides = {"elsa": [bench, form, threads, count]}
+        sides = {"elsa": [bench, shards + form, threads, count]}
         sides |= {side: [peers / "shared_names", word, form, threads, count] for side, word in others.items()}
         return Job(
-            SHARED,
+            SHARED_SHARDS if shards else SHARED,
             of_threads(title, threads),
             sides,
             "",
@@ -379,6 +380,10 @@ def shared_jobs(peers, bench):
         yield Job(SHARED, f"texts {title}, 1 thread", sides, by="inside", references=(alone,))
     # Just after a hash index was opened, by the `put` of index 262,143.
     yield job("names all distinct, 270,000", "distinct", "1", "270000", "", "1.2")
+    for words, title in (("zipf", "by Zipf"), ("distinct", "all distinct")):
+        for threads in ("1", "2", "4"):
+            goal = "0.8" if threads == "4" else ""
+            yield job(f"names {title}", words, threads, f"{threads}000000", goal, "", "shards_")
 
 
 def workers_jobs(peers, cli):

@@ -1,5 +1,5 @@
-// A cell for one thread whose value always fits the cell's tag. Nothing else of its content is known:
-// another call may have replaced it. It takes no atomic step.
+// A cell for one thread whose value always fits the cell's tag. Nothing else of its content is
+// known: another call may have replaced it. It takes no atomic step.
 ghost use Rattle.std.specs.Prelude.{◌≡◌};
 ghost use base.Fml.{fsep, fex};
 ghost use Rattle.elsa_arena.specs.Kept.{fact, kept_shares};

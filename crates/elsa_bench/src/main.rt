@@ -18,7 +18,8 @@
 //!   `map_longest` and `append_map_longest` (the longest of COUNT insertions); `map_clone`,
 //!   `map_collect`. Walks, clones and collections are made ten times.
 //! - Interners: `names_zipf` and `names_distinct` (COUNT puts of names in all, into a shared
-//!   interner), `texts_zipf` and `texts_distinct` (short-lived texts, put into a shared interner by
+//!   interner), `shards_names_zipf` and `shards_names_distinct` (the same into an interner of
+//!   shards), `texts_zipf` and `texts_distinct` (short-lived texts, put into a shared interner by
 //!   one thread), `alone_zipf` and `alone_distinct` (into the interner of one thread).
 //! - `LockFreeFrozenMap`: `free_insert_zipf` and `free_insert_distinct` (COUNT insertions in all),
 //!   `free_get_zipf`, `free_get_present` and `free_get_absent` (COUNT look-ups in all: of 65,535
@@ -281,6 +282,15 @@ fn timed_owned<R: Wait + Threads + Sync + Clock>(
     }))
 }
 
+/// Returns the names that are put into an interner of shards. `None` for any other form.
+fn words_in_shards(form: &str) -> Option<Words> {
+    match form {
+        "shards_names_zipf" => Some(Words::Zipf),
+        "shards_names_distinct" => Some(Words::Distinct),
+        _ => None,
+    }
+}
+
 fn main(rt: HostRuntime) -> io::Result<ExitCode> {
     let words: Vec<String> = env::args(&rt)?.skip(1).collect(rt.alloc())?;
     let [form, threads, count] = words.as_slice() else {
@@ -289,6 +299,11 @@ fn main(rt: HostRuntime) -> io::Result<ExitCode> {
     };
     let threads = threads.as_str().parse::<usize>().unwrap_or(1).max(1);
     let count = count.as_str().parse::<usize>().unwrap_or(0);
+    if let Some(words) = words_in_shards(form.as_str()) {
+        let (nanos, sum) = names::timed_shards(&rt, rt.alloc(), words, threads, count)?;
+        println!(rt; "{nanos} {sum}")?;
+        return Ok(ExitCode::SUCCESS);
+    }
     if let Some((nanos, sum)) = timed_alone(&rt, rt.alloc(), form.as_str(), count)? {
         println!(rt; "{nanos} {sum}")?;
         return Ok(ExitCode::SUCCESS);

@@ -4,7 +4,7 @@ ghost use Rattle.std.specs.Prelude.{◌≡◌, ◌<◌};
 
 use crate::draws::{Numbers, Words};
 use bumpalo::Bump;
-use elsa::interner::{Interner, Name, SharedInterner};
+use elsa::interner::{Interner, Name, ShardedInterner, SharedInterner};
 use itoa::Buffer;
 use std::alloc::Global;
 use std::rt::Clock;
@@ -47,6 +47,61 @@ pub fn timed_shared<R: Wait + Threads + Sync + Clock>(
     let each = count / threads;
     let start = Instant::now(rt)?;
     let sums = thread::map_indices(rt, alloc, threads, &|i| puts(rt, shared, words, i, each))?;
+    let nanos = start.elapsed(rt)?.as_nanos();
+    Ok((
+        nanos,
+        sums.iter().fold(0u64, |sum, one| sum.wrapping_add(*one)),
+    ))
+}
+
+/// Puts the names of one thread into an interner of shards, and returns the sum of their numbers.
+fn puts_in_shards<R: Wait>(
+    rt: &R,
+    names: &ShardedInterner,
+    words: Words,
+    thread: usize,
+    each: usize,
+) -> u64 {
+    let mut sum = 0u64;
+    let Ok(mut names) = names.handle() else {
+        return sum;
+    };
+    let mut numbers = Numbers::new(words, thread, each);
+    let mut digits = Buffer::new();
+    for _put in 0..each {
+        if let Ok(name) = Name::new(digits.format(numbers.next())) {
+            if let Ok(number) = names.put(rt, name) {
+                sum = sum.wrapping_add(number as u64);
+            }
+        }
+    }
+    sum
+}
+
+/// Returns the nanoseconds that the puts of all threads into an interner of shards took, and their
+/// sum.
+///
+/// # Errors
+/// Fails if the clock or an allocation fails, or if a thread can't be started.
+pub fn timed_shards<R: Wait + Threads + Sync + Clock>(
+    rt: &R,
+    alloc: Global,
+    words: Words,
+    threads: usize,
+    count: usize,
+) -> io::Result<(u128, u64)>
+    requires { 0 < threads }
+{
+    let names = ShardedInterner::new(alloc)?;
+    let shared = &names;
+    let each = count / threads;
+    let start = Instant::now(rt)?;
+    let sums = thread::map_indices(
+        rt,
+        alloc,
+        threads,
+        &|i| { puts_in_shards(rt, shared, words, i, each) },
+    )?;
     let nanos = start.elapsed(rt)?.as_nanos();
     Ok((
         nanos,

@@ -134,7 +134,9 @@ impl<'m, K: Drop + Hash, V: Drop, S: BuildHasher + Copy + Drop, A: Allocator + C
     /// `O(1)`.
     pub fn seen_len(&self) -> usize
         ensures length { result ≡ length self.now.seen }
+        ensures limit { result < 2 ^ 32 }
     {
+        self.list.obeys_rule();
         self.list.seen_len()
     }
 

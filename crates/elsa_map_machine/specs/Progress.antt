@@ -1,5 +1,5 @@
--- How far threads come, whatever the other threads do: the lock is released, a look-up ends,
--- an insertion that is not disturbed succeeds, and if each thread that continues keeps getting turns,
+-- How far threads come, whatever the other threads do: the lock is released, a look-up ends, an
+-- insertion that is not disturbed succeeds, and if each thread that continues keeps getting turns,
 -- each of these threads finishes its plan.
 use Rattle.std.specs.Prelude.{ℕ, ◌-◌, ◌^◌, ◌⊎◌, [], ◌∷◌, ◌+◌, ◌*◌, ◌<◌, ◌≤◌, ◌≡◌, List, ◌++◌, length, take, drop, Some, None, slice_get, zero, suc, Bool, true, All}
 use Rattle.elsa_machine.specs.declared.machine.Turn.{Turn}

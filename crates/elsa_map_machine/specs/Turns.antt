@@ -1,6 +1,6 @@
 -- What is true at each moment of every schedule, and for each possible next turn: which atomic step
 -- it is, which thread has the lock, and what a look-up finds.
-use Rattle.std.specs.Prelude.{ℕ, false, ◌+◌, ◌-◌, ◌^◌, ◌<◌, ◌≤◌, ◌≡◌, List, [], ◌∷◌, ◌++◌, length, Some, slice_get, is_some, ◌↔◌, ◌⊎◌}
+use Rattle.std.specs.Prelude.{ℕ, false, ◌+◌, ◌-◌, ◌^◌, ◌<◌, ◌≤◌, ◌≡◌, List, [], ◌∷◌, ◌++◌, length, Some, slice_get, is_some, ◌↔◌, ◌⊎◌, true, None}
 use Rattle.elsa_machine.specs.AtomicSteps.{Acquires, Publishes, Releases, Shared, Stays}
 use Rattle.elsa_machine.specs.declared.machine.Turn.{Turn}
 use Rattle.elsa_map_machine.specs.declared.map_machine.Answer.{Answer}
@@ -131,8 +131,9 @@ HasPassedAll w Denied = ⊥
 -- What one turn of a thread may do, so that it isn't larger than a step. It passes at most one
 -- index entry, and a walk ends only after the last one. It reads the length only after a walk, and
 -- observes no other length. It reads an entry only at the next index entry, at an index that the
--- thread has observed. It reports an absent key after its read of the length, or after the walk that
--- follows it. An insertion fails only if its allocation does, or at 2 ^ 32 - 1 observed entries.
+-- thread has observed. It reports an absent key after its read of the length, or after the walk
+-- that follows it. A thread that acquires the lock allocates in a turn of its own; an insertion
+-- fails only if that allocation does, or at 2 ^ 32 - 1 observed entries.
 pub record IsSingle {A : Type 0} (turn : Turn) (v : World A) (t : Thread) (w : World A) (u : Thread) : Type 0 where
   pub passes_one : passed_of u.phase ≤ passed_of t.phase + 1
   pub ends : u.phase ≡ Looking → (t.phase ≡ Looking) ⊎ HasPassedAll v t.phase
@@ -140,6 +141,8 @@ pub record IsSingle {A : Type 0} (turn : Turn) (v : World A) (t : Thread) (w : W
   pub observes : (u.seen ≡ t.seen) ⊎ ((u.seen ≡ w.length) × ((t.phase ≡ Looking) ⊎ (t.phase ≡ Written)))
   pub found : (index value : ℕ) → w.answers ≡ v.answers ++ Found turn.thread index value ∷ [] → (slice_get v.row (passed_of t.phase) ≡ Some index) × (index < t.seen)
   pub absent : (n : ℕ) → w.answers ≡ v.answers ++ Absent turn.thread n ∷ [] → (n ≡ t.seen) × (((t.phase ≡ Looking) × (n ≡ v.length)) ⊎ HasPassedAll v t.phase)
+  pub acquires : v.held ≡ None → w.held ≡ Some turn.thread → (t.phase ≡ Looking) × (u.phase ≡ Acquired)
+  pub allocates : (k : ℕ) → u.phase ≡ Entering k → ((t.phase ≡ Acquired) × (turn.memory ≡ true)) ⊎ ((j : ℕ) × (t.phase ≡ Entering j))
   pub denied : u.phase ≡ Denied → (t.phase ≡ Acquired) × (turn.memory ≡ false)
   pub refused : w.answers ≡ v.answers ++ Refused turn.thread ∷ [] → (t.phase ≡ Denied) ⊎ (2 ^ 32 - 1 ≤ t.seen)
 

@@ -6,13 +6,14 @@
 //! after a schedule, and its contract states what is true for the world of every schedule. So it is
 //! true at each moment of each run, since every prefix of a schedule is a schedule.
 //!
-//! The map is that of `elsa_lock_free_map`. A thread has observed a prefix of the list, and keeps it
-//! from one call to the next. A look-up follows the index entries, one per turn, and skips the
-//! indices that its thread has not observed; if it finds no entry with the key, it reads the length
-//! once, and follows the index entries again if the list is longer. An insertion looks its key up
-//! in the same way, and acquires the lock at the length that it has observed; if the list is
-//! longer, it looks among the new entries first. With the lock it allocates, sets the first free
-//! index entry, writes the slot, and publishes, which releases the lock.
+//! The map is that of `elsa_lock_free_map`. A thread has observed a prefix of the list, and keeps
+//! it from one call to the next. A look-up follows the index entries, one per turn, and skips the
+//! indices that its thread has not observed. If it finds no entry with the key, it reads the length
+//! once, and follows the index entries again if the list is longer. An insertion follows the index
+//! entries in the same way, and then acquires the lock at the length that it has observed. If the
+//! list is longer, it observes that length and follows the index entries again. With the lock it
+//! allocates, sets the first free index entry, writes the slot, and publishes, which releases the
+//! lock.
 //!
 //! All keys have one hash, so there is one probe sequence, `row`, and a look-up follows all its
 //! index entries. The machine has neither the larger row into which a row grows, nor a second probe

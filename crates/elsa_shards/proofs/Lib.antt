@@ -1,2 +1,3 @@
 pub mod MeetLemmas
+pub mod NumberLemmas
 pub mod ShardLemmas

@@ -21,7 +21,13 @@ fn spread(hash: u64, count: usize) -> usize
     ensures within { result < count }
     ensures chosen { result ≡ spread_over count hash }
 {
-    (hash.wrapping_mul(0x9E37_79B9_7F4A_7C15) >> 32) as usize % count
+    let upper = (hash.wrapping_mul(0x9E37_79B9_7F4A_7C15) >> 32) as usize;
+    // By a constant it is no division, which takes a tenth of a look-up.
+    if count == SHARDS {
+        upper % SHARDS
+    } else {
+        upper % count
+    }
 }
 
 /// Returns the index of the shard, of `count`, of the keys that are hashed like `query`.

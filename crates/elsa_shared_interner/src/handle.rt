@@ -2,7 +2,7 @@
 //!
 //! A handle belongs to its interner by its type, so only the calls that take two handles, or a
 //! view, have a condition. Each call of the interner is written here, once.
-ghost use Rattle.std.specs.Prelude.{◌≡◌, ◌↔◌, ◌+◌, ◌≤◌, ◌^◌, IsTrue, IfOk, IfErr, IfSome, IfNone, length, slice_get};
+ghost use Rattle.std.specs.Prelude.{◌≡◌, ◌↔◌, ◌+◌, ◌≤◌, ◌<◌, ◌^◌, IsTrue, IfOk, IfErr, IfSome, IfNone, length, slice_get};
 ghost use Rattle.std.specs.Str.{bytes_eq};
 ghost use Rattle.elsa_lock_free.specs.SharedList.{Continues, IsLaterPass, Meet, items_of, mine};
 ghost use Rattle.elsa_lock_free.specs.Distinct.{AgreeOnPlaces, IsOneToOne};
@@ -168,6 +168,7 @@ impl<'i, T: Copy + Drop + Hash, S: BuildHasher + Copy + Drop, A: Allocator + Cop
     /// `O(1)`.
     pub fn seen_len(&self) -> usize
         ensures length { result ≡ length self.now.seen }
+        ensures limit { result < 2 ^ 32 }
     {
         self.names.seen_len()
     }

@@ -13,6 +13,8 @@ mod name_tests;
 #[cfg(test)]
 mod push_at_tests;
 #[cfg(test)]
+mod shard_tests;
+#[cfg(test)]
 mod text_tests;
 #[cfg(test)]
 mod thread_tests;

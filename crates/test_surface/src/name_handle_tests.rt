@@ -1,6 +1,6 @@
 //! Handles of the shared interner, and a lock-free map with text keys, by `elsa` alone.
 use bumpalo::Bump;
-use elsa::interner::{NameHandle, SharedInterner};
+use elsa::interner::{NameHandle, ShardedInterner, SharedInterner};
 use elsa::sync::{LockFreeFrozenMap, MapHandle};
 use std::alloc::AllocError;
 use std::sync::Wait;
@@ -39,6 +39,22 @@ fn handles_of_an_interner_share_its_names(rt: HostRuntime) -> Result<(), Fail> {
     let arena = Bump::new(rt.alloc());
     let words = Words::new(rt.alloc())?;
     assert!(rt; puts(&rt, &words, &arena)? && meets(&words));
+    Ok(())
+}
+
+/// Returns whether two handles of an interner of shards give a name the same number.
+fn shards_agree(rt: &impl Wait, words: &ShardedInterner<&'static str>) -> Result<bool, AllocError> {
+    let mut one = words.handle()?;
+    let mut other = words.handle()?;
+    one.same_name_same_number(&other);
+    let fox = one.put(rt, "fox")?;
+    Ok(other.put(rt, "fox")? == fox && one.find("fox") == Some(fox) && other.seen_len() == 1)
+}
+
+#[test]
+fn handles_of_an_interner_of_shards_agree(rt: HostRuntime) -> Result<(), Fail> {
+    let words = ShardedInterner::new(rt.alloc())?;
+    assert!(rt; shards_agree(&rt, &words)?);
     Ok(())
 }
 

@@ -80,21 +80,27 @@ fresh_next : {A : Type 0} (least j me : ℕ) (plan : Plan A) (w : World A) (t : 
 fresh_next least j me plan w t after o r next f = elim f [
   | inl h ↦ elim (next h.1) [
     | inl s ↦ inl (s.1 ∙ h.0, s.2)
-    | inr s ↦ inr ((let a = s.next_is in let b = h.0 in omega (arith, a, b)), λ n e.
-        let all : answers_of me after.world.answers ≡ answers_of me w.answers ++ s.answer ∷ [] = ap (answers_of me) s.answers_are ∙ answers_mine me w.answers s.answer s.mine in
-        let last = get_last (answers_of me w.answers) s.answer j (sym h.0 ∙ sym o.count) in
-        let g : Some s.answer ≡ Some (Absent me n) = sym last ∙ ap (λ z. slice_get z j) (sym all) ∙ e in
-        let q : s.answer ≡ Absent me n = cc in
-        s.fresh n q)
+    | inr s ↦ inr (
+      (let a = s.next_is in let b = h.0 in omega (arith, a, b)),
+      λ n e.
+          let all : answers_of me after.world.answers ≡ answers_of me w.answers ++ s.answer ∷ [] = ap (answers_of me) s.answers_are ∙ answers_mine me w.answers s.answer s.mine in
+          let last = get_last (answers_of me w.answers) s.answer j (sym h.0 ∙ sym o.count) in
+          let g : Some s.answer ≡ Some (Absent me n) = sym last ∙ ap (λ z. slice_get z j) (sym all) ∙ e in
+          let q : s.answer ≡ Absent me n = cc in
+          s.fresh n q,
+    )
   ]
   | inr h ↦ elim r [
     | inl s ↦ inr (subst (λ z. j < z) (sym s.1) h.0, λ n e. h.1 n (ap (λ z. slice_get (answers_of me z) j) (sym s.0) ∙ e))
-    | inr s ↦ inr ((let a = s.next_is in omega (arith, a, h.0)), λ n e.
-        let all : answers_of me after.world.answers ≡ answers_of me w.answers ++ s.answer ∷ [] = ap (answers_of me) s.answers_are ∙ answers_mine me w.answers s.answer s.mine in
-        elim (get_push (answers_of me w.answers) s.answer j (Absent me n) (ap (λ z. slice_get z j) (sym all) ∙ e)) [
-          | inl x ↦ h.1 n x
-          | inr x ↦ absurd (omega (arith, x.0, o.count, h.0))
-        ])
+    | inr s ↦ inr (
+      (let a = s.next_is in omega (arith, a, h.0)),
+      λ n e.
+          let all : answers_of me after.world.answers ≡ answers_of me w.answers ++ s.answer ∷ [] = ap (answers_of me) s.answers_are ∙ answers_mine me w.answers s.answer s.mine in
+          elim (get_push (answers_of me w.answers) s.answer j (Absent me n) (ap (λ z. slice_get z j) (sym all) ∙ e)) [
+            | inl x ↦ h.1 n x
+            | inr x ↦ absurd (omega (arith, x.0, o.count, h.0))
+          ],
+    )
   ]
 ]
 
@@ -113,30 +119,32 @@ pub thread_cases : {A : Type 0} (P : World A → Thread → Type 0) (plans : Lis
     ((plan : Plan A) → slice_get plans me ≡ Some plan → P (thread_turn plan me turn.memory m.world t).world (thread_turn plan me turn.memory m.world t).thread) →
     (u : Thread) × (slice_get (turned plans m turn).threads me ≡ Some u) × P (turned plans m turn).world u
 thread_cases P plans m turn me t s e h others own = elim (same_or_not me turn.thread) [
-  | inr ne ↦
-      (t,
-      turned_cases (λ n. slice_get n.threads me ≡ Some t) plans m turn e (λ plan u pe ue. get_set_other m.threads turn.thread me _ ne ∙ e),
-      turned_cases (λ n. P n.world t) plans m turn h (λ plan u pe ue. others plan u ne pe ue))
+  | inr ne ↦ (
+    t,
+    turned_cases (λ n. slice_get n.threads me ≡ Some t) plans m turn e (λ plan u pe ue. get_set_other m.threads turn.thread me _ ne ∙ e),
+    turned_cases (λ n. P n.world t) plans m turn h (λ plan u pe ue. others plan u ne pe ue),
+  )
   | inl q ↦
       let f : slice_get m.threads turn.thread ≡ Some t = subst (λ j. slice_get m.threads j ≡ Some t) q e in
       let p = plan_of plans m turn.thread t s f in
       let a = thread_turn p.0 turn.thread turn.memory m.world t in
       let is = turned_is plans m turn p.0 t p.1 f in
-      let k : P a.world a.thread = subst (λ j. P (thread_turn p.0 j turn.memory m.world t).world (thread_turn p.0 j turn.memory m.world t).thread) q (own p.0 (subst (λ j. slice_get plans j ≡ Some p.0) (sym q) p.1)) in
-      (a.thread,
-      ap (λ n. slice_get n.threads me) is ∙ subst (λ j. slice_get (slice_set m.threads turn.thread a.thread) j ≡ Some a.thread) (sym q) (get_set_same m.threads turn.thread a.thread t f),
-      subst (λ n. P n.world a.thread) (sym is) k)
+      let k : P a.world a.thread = subst (λ j. P (thread_turn p.0 j turn.memory m.world t).world (thread_turn p.0 j turn.memory m.world t).thread) q (own p.0 (subst (λ j. slice_get plans j ≡ Some p.0) (sym q) p.1)) in (
+        a.thread,
+        ap (λ n. slice_get n.threads me) is ∙ subst (λ j. slice_get (slice_set m.threads turn.thread a.thread) j ≡ Some a.thread) (sym q) (get_set_same m.threads turn.thread a.thread t f),
+        subst (λ n. P n.world a.thread) (sym is) k,
+      )
 ]
 
 fresh_turn : {A : Type 0} (least j me : ℕ) (plans : List (Plan A)) (m : Machine A) (turn : Turn) (t : Thread) → Sound plans m → slice_get m.threads me ≡ Some t → least ≤ m.world.length → Fresh least j me m.world t → (u : Thread) × (slice_get (turned plans m turn).threads me ≡ Some u) × Fresh least j me (turned plans m turn).world u
 fresh_turn least j me plans m turn t s e l f = thread_cases (Fresh least j me) plans m turn me t s e f
     (λ plan u ne pe ue.
-        let o = s.threads turn.thread plan u pe ue in
-        fresh_rest least j me turn.thread plan m.world t u.next _ ne (replies turn.thread turn.memory m.world u plan _ s.world o.seen o.facts (transition plan turn.thread turn.memory m.world u)) f)
+    let o = s.threads turn.thread plan u pe ue in
+    fresh_rest least j me turn.thread plan m.world t u.next _ ne (replies turn.thread turn.memory m.world u plan _ s.world o.seen o.facts (transition plan turn.thread turn.memory m.world u)) f)
     (λ plan pe.
-        let o = s.threads me plan t pe e in
-        let r = transition plan me turn.memory m.world t in
-        fresh_next least j me plan m.world t _ o.told (replies me turn.memory m.world t plan _ s.world o.seen o.facts r) (λ h. fresh_own least me turn.memory m.world t plan _ l h r) f)
+    let o = s.threads me plan t pe e in
+    let r = transition plan me turn.memory m.world t in
+    fresh_next least j me plan m.world t _ o.told (replies me turn.memory m.world t plan _ s.world o.seen o.facts r) (λ h. fresh_own least me turn.memory m.world t plan _ l h r) f)
 
 fresh_run : {A : Type 0} (least j me : ℕ) (plans : List (Plan A)) (rest : List Turn) (m : Machine A) (t : Thread) → Sound plans m → slice_get m.threads me ≡ Some t → least ≤ m.world.length → Fresh least j me m.world t → (u : Thread) × (slice_get (fold (turned plans) m rest).threads me ≡ Some u) × Fresh least j me (fold (turned plans) m rest).world u
 fresh_run least j me plans [] m t s e l f = (t, e, f)

@@ -95,8 +95,8 @@ steps_atomic plans schedule = λ turn.
     let m = machine_of plans schedule in
     let s = sound plans schedule in
     turned_cases (λ n. IsOneStep turn.thread m.world n.world) plans m turn (inl (same_shared m.world m.world refl refl refl refl)) (λ plan t e f.
-        let o = s.threads turn.thread plan t e f in
-        one_step turn.thread turn.memory m.world t plan _ s.world o.facts (transition plan turn.thread turn.memory m.world t))
+    let o = s.threads turn.thread plan t e f in
+    one_step turn.thread turn.memory m.world t plan _ s.world o.facts (transition plan turn.thread turn.memory m.world t))
 
 holding : {A : Type 0} (w : World A) (me : ℕ) (call : Option (ℕ × ℕ)) (seen : ℕ) (phase : Phase) → Facts w me call seen phase → IsHolding phase → (w.held ≡ Some me) × (seen ≡ w.length)
 holding w me call seen (Seeking k) h q = absurd q

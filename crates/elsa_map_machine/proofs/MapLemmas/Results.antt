@@ -60,12 +60,18 @@ result_more list more (Finder keys) me k (Inserted by index) h = h
 result_more list more (Finder keys) me k (Found by index value) h = (h.0, h.1, pair_more list more index h.0 value h.2)
 result_more list more (Finder keys) me k (Refused by) h = h
 result_more list more (Finder keys) me k (Absent by n) h =
-    let l = length-append list more in
-    (h.0, h.1, (omega (arith, h.2.0, l), λ i entry b e q.
-        let d = entry_at list i (omega (arith, b, h.2.0)) in
-        let g : Some d.0 ≡ Some entry = sym (get_more list more i d.0 d.1) ∙ e in
-        let f : d.0 ≡ entry = cc in
-        h.2.1 i entry b (d.1 ∙ ap Some f) q))
+    let l = length-append list more in (
+      h.0,
+      h.1,
+      (
+        omega (arith, h.2.0, l),
+        λ i entry b e q.
+            let d = entry_at list i (omega (arith, b, h.2.0)) in
+            let g : Some d.0 ≡ Some entry = sym (get_more list more i d.0 d.1) ∙ e in
+            let f : d.0 ≡ entry = cc in
+            h.2.1 i entry b (d.1 ∙ ap Some f) q,
+      ),
+    )
 
 -- The results of a thread so far belong to its first pairs or keys, and agree with the list.
 pub record Told {A : Type 0} (plan : Plan A) (me : ℕ) (w : World A) (next : ℕ) : Type 0 where
@@ -227,7 +233,7 @@ entries_published : {A : Type 0} (me : ℕ) (w : World A) (seen : ℕ) (pair : �
 entries_published me w seen pair at own h i entry e =
     let x = take_get (seen + 1) w.slots i entry e in
     let mine : (j : ℕ) × (slice_get (answers_of me (w.answers ++ Inserted me seen ∷ [])) j ≡ Some (Inserted me seen)) =
-        (length (answers_of me w.answers), ap (λ z. slice_get z (length (answers_of me w.answers))) (answers_mine me w.answers (Inserted me seen) refl) ∙ get_last (answers_of me w.answers) (Inserted me seen) (length (answers_of me w.answers)) refl) in
+    (length (answers_of me w.answers), ap (λ z. slice_get z (length (answers_of me w.answers))) (answers_mine me w.answers (Inserted me seen) refl) ∙ get_last (answers_of me w.answers) (Inserted me seen) (length (answers_of me w.answers)) refl) in
     elim (last_or i seen x.0) [
       | inl l ↦
           let r = h i entry (get_take w.length w.slots i entry (omega (arith, l, at)) x.1) in

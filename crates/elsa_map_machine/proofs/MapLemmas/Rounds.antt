@@ -80,13 +80,13 @@ acquire_insert m me w t p l h =
     let P = InsertTurn m w t (look_most m t.seen) in
     by_test P _ _ _
     (λ a. by_test P (w.length == t.seen) _ (moved w (record t { seen = w.length; phase = Seeking 0 }))
-      (λ b. by_test P (is_none w.held) (moved (record w { held = Some me }) (record t { phase = Acquired })) (moved w t)
-        (λ c. inr (inl (refl, omega (arith, l, h))))
-        (λ c. inr (inr (refl, (λ x. let f : true ≡ false = sym (ap is_none x) ∙ c in cc), (λ x. subst IsHolding p x)))))
-      (λ b.
-          let s = equal_or_less t.seen w.length l b in
-          let q = look_less m t.seen w.length s h in
-          inr (inl (refl, omega (arith, q)))))
+    (λ b. by_test P (is_none w.held) (moved (record w { held = Some me }) (record t { phase = Acquired })) (moved w t)
+    (λ c. inr (inl (refl, omega (arith, l, h))))
+    (λ c. inr (inr (refl, (λ x. let f : true ≡ false = sym (ap is_none x) ∙ c in cc), (λ x. subst IsHolding p x)))))
+    (λ b.
+    let s = equal_or_less t.seen w.length l b in
+    let q = look_less m t.seen w.length s h in
+    inr (inl (refl, omega (arith, q)))))
     (λ a. inl (refl, refl))
 
 insert_turn : {A : Type 0} (m me : ℕ) (memory : Bool) (pair : ℕ × ℕ) (w : World A) (t : Thread) (call : Option (ℕ × ℕ)) (phase : Phase) → t.phase ≡ phase → Facts w me call t.seen phase → ((k : ℕ) → phase ≡ Again k → ⊥) → t.seen ≤ w.length → w.length ≤ m → length w.row ≤ m →
@@ -186,11 +186,11 @@ turn_goes plans mach turn s f =
     let m = pairs_in plans + 1 in
     let b = bounds plans mach s f in
     turned_cases (λ n. (all_left m plans n + 1 ≤ all_left m plans mach) ⊎ (n ≡ mach)) plans mach turn (inr refl) (λ plan t e g.
-        let a = thread_turn plan turn.thread turn.memory mach.world t in
-        elim (goes_own m turn.thread turn.memory plan mach.world t (s.threads turn.thread plan t e g) b.0 b.1) [
-          | inl x ↦ let y = sum_set (plan_left m) plans mach.threads turn.thread plan t a.thread e g in inl (omega (arith, x, y))
-          | inr x ↦ inr (ap (put turn.thread mach) x.same ∙ ap (machine mach.world) (set_same mach.threads turn.thread t g))
-        ])
+    let a = thread_turn plan turn.thread turn.memory mach.world t in
+    elim (goes_own m turn.thread turn.memory plan mach.world t (s.threads turn.thread plan t e g) b.0 b.1) [
+      | inl x ↦ let y = sum_set (plan_left m) plans mach.threads turn.thread plan t a.thread e g in inl (omega (arith, x, y))
+      | inr x ↦ inr (ap (put turn.thread mach) x.same ∙ ap (machine mach.world) (set_same mach.threads turn.thread t g))
+    ])
 
 -- A turn of a thread that has a call left decreases it, if the lock is free or the thread has it.
 turn_less : {A : Type 0} (plans : List (Plan A)) (mach : Machine A) (turn : Turn) (plan : Plan A) (t : Thread) → Sound plans mach → Fits plans mach → slice_get plans turn.thread ≡ Some plan → slice_get mach.threads turn.thread ≡ Some t → t.next < calls_of plan → (mach.world.held ≡ None) ⊎ IsHolding t.phase →

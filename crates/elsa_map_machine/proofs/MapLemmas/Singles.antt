@@ -1,5 +1,5 @@
 -- What a single turn may do.
-use Rattle.std.proofs.Common.{ℕ, ◌+◌, ◌-◌, ◌^◌, ◌<◌, ◌≤◌, ◌≡◌, ◌⊎◌, Bool, false, List, [], ◌∷◌, ◌++◌, length, Some, slice_get, refl, arith, inl, inr, ap, sym, ◌∙◌, subst, length-append}
+use Rattle.std.proofs.Common.{ℕ, ◌+◌, ◌-◌, ◌^◌, ◌<◌, ◌≤◌, ◌≡◌, ◌⊎◌, Bool, false, List, [], ◌∷◌, ◌++◌, length, Some, slice_get, refl, arith, inl, inr, ap, sym, ◌∙◌, subst, length-append, true, None}
 use Rattle.std.proofs.lemmas.Bool.{ltb-false}
 use Rattle.elsa_machine.specs.declared.machine.Turn.{Turn}
 use Rattle.elsa_map_machine.specs.declared.map_machine.Answer.{Answer}
@@ -7,7 +7,7 @@ use Rattle.elsa_map_machine.specs.declared.map_machine.Answer.TheVariants.{Found
 use Rattle.elsa_map_machine.specs.declared.map_machine.Plan.{Plan}
 use Rattle.elsa_map_machine.specs.declared.map_machine.Plan.TheVariants.{Inserter, Finder}
 use Rattle.elsa_map_machine.specs.declared.map_machine.World.{World}
-use Rattle.elsa_map_machine.specs.declared.map_machine.turns.Phase.TheVariants.{Looking, Acquired, Entered, Written, Denied}
+use Rattle.elsa_map_machine.specs.declared.map_machine.turns.Phase.TheVariants.{Looking, Acquired, Entering, Entered, Written, Denied}
 use Rattle.elsa_map_machine.specs.declared.map_machine.turns.Thread.{Thread}
 use Rattle.elsa_map_machine.specs.Machine.{Moved, Machine, thread_turn, machine_of, IsHolding}
 use Rattle.elsa_map_machine.specs.Worlds.{answers_of}
@@ -124,6 +124,48 @@ denied me memory w t plan _ o (writes p e) d = cc
 denied me memory w t plan _ o (publishes p e) d = cc
 denied me memory w t plan _ o (refuses p e) d = cc
 
+-- A turn that acquires the lock does nothing else.
+acquires_only : {A : Type 0} (me : ℕ) (memory : Bool) (w : World A) (t : Thread) (plan : Plan A) (after : Moved A) → Transition me memory w t plan after → w.held ≡ None → after.world.held ≡ Some me → (t.phase ≡ Looking) × (after.thread.phase ≡ Acquired)
+acquires_only me memory w t plan _ (stays i) h g = cc
+acquires_only me memory w t plan _ (ends p r) h g = cc
+acquires_only me memory w t plan _ (finds {word} {value} k n c r b a) h g = cc
+acquires_only me memory w t plan _ (passes p c r b) h g = cc
+acquires_only me memory w t plan _ (passes_again p c r b) h g = cc
+acquires_only me memory w t plan _ (misses p e r) h g = cc
+acquires_only me memory w t plan _ (misses_first p e s) h g = cc
+acquires_only me memory w t plan _ (looks p e) h g = cc
+acquires_only me memory w t plan _ (observes p e) h g = cc
+acquires_only me memory w t plan _ (fills_up p e b) h g = cc
+acquires_only me memory w t plan _ (acquires p e room at free) h g = (p, refl)
+acquires_only me memory w t plan _ (allocates p e m) h g = cc
+acquires_only me memory w t plan _ (lacks p e m) h g = cc
+acquires_only me memory w t plan _ (steps p e b) h g = cc
+acquires_only me memory w t plan _ (enters p e b) h g = cc
+acquires_only me memory w t plan _ (writes p e) h g = cc
+acquires_only me memory w t plan _ (publishes p e) h g = cc
+acquires_only me memory w t plan _ (refuses p e) h g = cc
+
+-- The thread that has the lock allocates before it passes index entries.
+allocates_first : {A : Type 0} (me : ℕ) (memory : Bool) (w : World A) (t : Thread) (plan : Plan A) (after : Moved A) (j : ℕ) → (IsHolding t.phase → HasPairLeft plan t.next) → Transition me memory w t plan after → after.thread.phase ≡ Entering j → ((t.phase ≡ Acquired) × (memory ≡ true)) ⊎ ((i : ℕ) × (t.phase ≡ Entering i))
+allocates_first me memory w t plan _ j o (stays i) d = inr (j, d)
+allocates_first me memory w t plan _ j o (ends p r) d = cc
+allocates_first me memory w t plan _ j o (finds {word} {value} k n c r b a) d = cc
+allocates_first me memory w t plan _ j o (passes p c r b) d = cc
+allocates_first me memory w t plan _ j o (passes_again p c r b) d = cc
+allocates_first me memory w t plan _ j o (misses p e r) d = cc
+allocates_first me memory w t plan _ j o (misses_first p e s) d = cc
+allocates_first me memory w t plan _ j o (looks p e) d = cc
+allocates_first me memory w t plan _ j o (observes p e) d = cc
+allocates_first me memory w t plan _ j o (fills_up p e b) d = cc
+allocates_first me memory w t plan _ j o (acquires p e room at free) d = cc
+allocates_first me memory w t plan _ j o (allocates p e m) d = inl (p, m)
+allocates_first me memory w t plan _ j o (lacks p e m) d = cc
+allocates_first me memory w t plan _ j o (steps {k} p e b) d = inr (k, p)
+allocates_first me memory w t plan _ j o (enters p e b) d = cc
+allocates_first me memory w t plan _ j o (writes p e) d = cc
+allocates_first me memory w t plan _ j o (publishes p e) d = cc
+allocates_first me memory w t plan _ j o (refuses p e) d = cc
+
 -- Equal lists of results end equally.
 last_is : (xs : List Answer) (a b : Answer) → xs ++ a ∷ [] ≡ xs ++ b ∷ [] → a ≡ b
 last_is xs a b e =
@@ -216,6 +258,8 @@ turns_single plans schedule = λ turn t u e.
       entered = λ d. walk_enters turn.thread turn.memory m.world t p.0 a o.due r d;
       absent = λ n d. absent_at turn.thread turn.memory m.world t p.0 a n r d;
       found = λ index value d. reads_observed turn.thread turn.memory m.world t p.0 a index value r d;
+      acquires = λ h g. acquires_only turn.thread turn.memory m.world t p.0 a r h g;
+      allocates = λ j d. allocates_first turn.thread turn.memory m.world t p.0 a j o.due r d;
       denied = λ d. denied turn.thread turn.memory m.world t p.0 a o.due r d;
       refused = λ d. refused turn.thread turn.memory m.world t p.0 a r d;
     }))

@@ -1,4 +1,4 @@
--- An inserter that runs alone, with memory, inserts its pair, or receives the value that the key has.
+-- An inserter that runs alone, with memory, inserts its pair, or receives the value of the key.
 use Rattle.std.proofs.Common.{ℕ, zero, suc, ◌+◌, ◌-◌, ◌*◌, ◌^◌, ◌<◌, ◌≤◌, ◌≡◌, ◌⊎◌, Bool, true, false, ◌==◌, List, [], ◌∷◌, ◌++◌, length, Option, Some, None, slice_get, take, refl, arith, inl, inr, ap, sym, ◌∙◌, subst}
 use Rattle.std.specs.List.{fold}
 use Rattle.std.specs.Prelude.{is_none}
@@ -103,16 +103,16 @@ acquire_solo me pair w t h room l =
     let P = SoloTurn me pair w t (look_left (w.length == t.seen) (length w.row) w.length) in
     by_test P _ _ _
     (λ a. by_test P _ _ _
-      (λ b.
-          let q : look_left (w.length == t.seen) (length w.row) w.length ≡ w.length + 5 = ap (λ z. look_left z (length w.row) w.length) b in
-          let s : w.length ≡ t.seen = equal_by _ _ b in
-          by_test P (is_none w.held) (moved (record w { held = Some me }) (record t { phase = Acquired })) (moved w t)
-          (λ c. inr (record { list_is = refl; answers_are = refl; length_is = refl; next_is = refl; free = inr tt; left = omega (arith, q, s) }))
-          (λ c. let f : true ≡ false = sym (ap is_none h) ∙ c in cc))
-      (λ b.
-          let q : look_left (w.length == t.seen) (length w.row) w.length ≡ length w.row + w.length + 7 = ap (λ z. look_left z (length w.row) w.length) b in
-          let s : look_left (w.length == w.length) (length w.row) w.length ≡ w.length + 5 = ap (λ z. look_left z (length w.row) w.length) (eqb_same w.length) in
-          inr (quiet w t (record t { seen = w.length; phase = Seeking 0 }) _ refl (inl h) (omega (arith, q, s)))))
+    (λ b.
+    let q : look_left (w.length == t.seen) (length w.row) w.length ≡ w.length + 5 = ap (λ z. look_left z (length w.row) w.length) b in
+    let s : w.length ≡ t.seen = equal_by _ _ b in
+    by_test P (is_none w.held) (moved (record w { held = Some me }) (record t { phase = Acquired })) (moved w t)
+    (λ c. inr (record { list_is = refl; answers_are = refl; length_is = refl; next_is = refl; free = inr tt; left = omega (arith, q, s) }))
+    (λ c. let f : true ≡ false = sym (ap is_none h) ∙ c in cc))
+    (λ b.
+    let q : look_left (w.length == t.seen) (length w.row) w.length ≡ length w.row + w.length + 7 = ap (λ z. look_left z (length w.row) w.length) b in
+    let s : look_left (w.length == w.length) (length w.row) w.length ≡ w.length + 5 = ap (λ z. look_left z (length w.row) w.length) (eqb_same w.length) in
+    inr (quiet w t (record t { seen = w.length; phase = Seeking 0 }) _ refl (inl h) (omega (arith, q, s)))))
     (λ a. let g : 2 ^ 32 - 1 ≤ t.seen = ltb-false _ _ a in absurd (omega (arith, g, l, room)))
 
 solo_turn : {A : Type 0} (me : ℕ) (pair : ℕ × ℕ) (w : World A) (t : Thread) (call : Option (ℕ × ℕ)) (phase : Phase) → call ≡ Some pair → Facts w me call t.seen phase → ((k : ℕ) → phase ≡ Again k → ⊥) → (w.held ≡ None) ⊎ IsOnItsWay phase → w.length < 2 ^ 32 - 1 → t.seen ≤ w.length →
@@ -184,8 +184,8 @@ solo_run (suc n) plans pairs pair m me t s pe e k h room l =
       | inl x ↦ (1, omega arith, subst (HasEnded me pair m.world) (sym w) x)
       | inr x ↦
           let r = solo_run n plans pairs pair (turned plans m turn) me a.thread (sound_turned plans m turn s) pe g (ap (slice_get pairs) x.next_is ∙ k)
-              (subst (λ z. (z.held ≡ None) ⊎ IsOnItsWay a.thread.phase) (sym w) x.free) (subst (λ z. z.length < 2 ^ 32 - 1) (sym w) (subst (λ z. z < 2 ^ 32 - 1) (sym x.length_is) room))
-              (subst (λ z. solo_left z a.thread.seen a.thread.phase ≤ n) (sym w) (let y = x.left in omega (arith, y, l))) in
+          (subst (λ z. (z.held ≡ None) ⊎ IsOnItsWay a.thread.phase) (sym w) x.free) (subst (λ z. z.length < 2 ^ 32 - 1) (sym w) (subst (λ z. z < 2 ^ 32 - 1) (sym x.length_is) room))
+          (subst (λ z. solo_left z a.thread.seen a.thread.phase ≤ n) (sym w) (let y = x.left in omega (arith, y, l))) in
           (suc r.0, omega (arith, r.1), ended_turned me pair plans m turn (turns_alone me r.0) t (solo_left m.world t.seen t.phase) a w x r.2)
     ]
 
