@@ -1,16 +1,17 @@
 -- The steps of a row preserve its rule, and an index entry that was set doesn't change.
-use Rattle.std.proofs.Common.{◌≡◌, ℕ, zero, suc, ◌+◌, ◌<◌, ◌==◌, inl, inr, Bool, true, false, List, [], ◌∷◌, ◌++◌, length, refl, ap, sym, ◌∙◌, subst, arith, if◌then◌else◌, slice_index_or, slice_set}
+use Rattle.std.proofs.Common.{◌≡◌, ℕ, zero, suc, ◌+◌, ◌*◌, ◌^◌, ◌<◌, ◌==◌, inl, inr, Bool, true, false, List, [], ◌∷◌, ◌++◌, length, refl, ap, sym, ◌∙◌, subst, arith, if◌then◌else◌, slice_index_or, slice_set}
 use Rattle.std.proofs.lemmas.Bool.{cases_eq}
 use Rattle.std.proofs.lemmas.Bool.Decides.{nat_tests}
-use Rattle.std.proofs.lemmas.List.{append-nil, get_or-set_same, get_or-set_other, length-set}
-use Rattle.std.specs.Prelude.{Option, Some, MatchBool}
+use Rattle.std.proofs.lemmas.List.{append-nil, append_assoc, get_or-set_same, get_or-set_other, length-set, set-get_or}
+use Rattle.std.specs.Prelude.{Option, Some}
 use mathlib.Core.List.{IsPrefix}
 use prog.Atomic.{either}
 use Rattle.logbook.specs.Pages.{Book, Named, Cell, cell, keeps, no_nib, step, Moves, Goes}
 use Rattle.elsa_hash_index.specs.declared.row.Event.{Event}
 use Rattle.elsa_hash_index.specs.declared.row.Event.TheVariants.{Filled}
-use Rattle.elsa_hash_index.specs.Row.{builder_of, first_not_0, filled_by, word_at, count_of, named_from, IsKept, Sees, Tries}
+use Rattle.elsa_hash_index.specs.Row.{bits_of, builder_of, digit, first_not_0, filled_by, word_at, words_of, count_of, named_from, IsKept, Sees, Shows, Tries}
 use Rattle.elsa_hash_index.specs.Words.{IsLater}
+use Rattle.elsa_hash_index.proofs.DigitLemmas.{set_other, set_same}
 
 first_none : (a : ℕ) → first_not_0 a 0 ≡ a
 first_none zero = refl
@@ -53,89 +54,99 @@ pub builder_prefix : {S : Type 0} (xs ys : List (Event S)) (s : S) → IsPrefix 
 builder_prefix [] ys s p e = absurd (cc e)
 builder_prefix (x ∷ xs) ys s p e = ap builder_of (sym p.1) ∙ e
 
--- If an index entry becomes n and the history defines it as n, the rule holds again.
-kept_step : {S : Type 0} (cs : List Cell) (log more : List (Event S)) (k n : ℕ) → IsKept cs log → k < length cs → word_at k (log ++ more) ≡ n
-    → ((j : ℕ) → (j ≡ k → ⊥) → word_at j (log ++ more) ≡ word_at j log) → count_of (log ++ more) ≡ count_of log → IsKept (slice_set cs k (n, true)) (log ++ more)
-kept_step cs log more k n kept lt here there same = record {
-  whole = length-set cs k (n, true) ∙ (kept.whole ∙ sym same);
-  words = λ j less. elim (cases_eq j k) [
-    | inl e ↦ ap (λ i. cell (slice_set cs k (n, true)) i) e ∙ (get_or-set_same cs k (n, true) (0, false) lt ∙ ap (λ m. (m, true)) (sym here ∙ ap (λ i. word_at i (log ++ more)) (sym e)))
-    | inr ne ↦ get_or-set_other cs k j (n, true) (0, false) ne
-        ∙ (kept.words j (subst (λ m. j < m) (length-set cs k (n, true)) less) ∙ ap (λ m. (m, true)) (sym (there j ne)))
-  ];
-}
-
 count_more : {S : Type 0} (k : ℕ) (xs ys : List (Event S)) → 0 < count_of xs → count_of (xs ++ ys) ≡ count_of xs
 count_more k [] ys h = absurd (omega (arith, h))
 count_more k (x ∷ xs) ys h = refl
 
-module _ {S A : Type 0} (moves : List (Event S) → List (Event S) → A → Type 0) (ask : Event S) (k : ℕ) (v : List (Event S)) (s : Option A) (lt : k < count_of v) where
+module _ {S A : Type 0} (moves : List (Event S) → List (Event S) → A → Type 0) (ask : Event S) (k : ℕ) (v : List (Event S)) (s : Option A) (some : 0 < count_of v) (lt : k < words_of (count_of v)) where
   abbrev shown : List (Event S) → List (Event S)
   shown log = []
 
-  -- A load leaves the index entry unchanged.
+  word_within : (cs : List Cell) (log : List (Event S)) → IsKept cs log → IsPrefix v log → k < length cs
+  word_within cs log kept pre = subst (λ n. k < n) (sym (kept.whole ∙ ap words_of (count_prefix v log pre some))) lt
+
+  -- A load leaves the word unchanged.
   pub read_moves : Moves IsKept shown moves k (v, (no_nib, s)) (λ n. n) (Sees (step k 0 0 ask) (v, (no_nib, s)))
   read_moves cs log kept pre away =
-      let count : count_of log ≡ count_of v = count_prefix v log pre (omega (arith, lt)) in
-      let within : k < length cs = let w = kept.whole in omega (arith, w, count, lt) in
-      let is : cell cs k ≡ (word_at k log, true) = kept.words k within in
-      let number : (cell cs k).0 ≡ word_at k log = ap (λ c. c.0) is in
-      let all : log ++ [] ≡ log = append-nil log in (
+      let within : k < length cs = word_within cs log kept pre in
+      let all : log ++ [] ≡ log = append-nil log in
+      let same : slice_set cs k ((cell cs k).0, true) ≡ cs = ap (λ b. slice_set cs k ((cell cs k).0, b)) (sym (kept.home k within)) ∙ set-get_or cs k (0, false) in (
         within,
-        ap (λ c. c.1) is,
+        kept.home k within,
         (
           keeps,
           [],
           s,
           tt,
-          kept_step cs log [] k (cell cs k).0 kept within (ap (word_at k) all ∙ sym number) (λ j ne. ap (word_at j) all) (ap count_of all),
+          subst (λ l. IsKept (slice_set cs k ((cell cs k).0, true)) l) (sym all) (subst (λ c. IsKept c log) (sym same) kept),
           inl (refl, refl),
-          number ∙ ap (word_at k) (sym all),
+          subst (Shows k (cell cs k).0) (sym all) (kept.digits k within),
         ),
       )
 
-  -- An exchange sets the index entry if it is 0.
-  module _ (w : ℕ) (pos : 0 < w) where
-    abbrev FillGoes : List Cell → List (Event S) → Type 0
-    FillGoes cs log = Goes IsKept shown moves k (v, (no_nib, s)) (λ n. either (n == 0) w n) (Tries (step k 0 w ask) (v, (no_nib, s))) cs log
+  -- An exchange sets a digit that is 0 if the word is as expected.
+  module _ (j x old new bits : ℕ) (pos : 0 < x) (jth : j < 8) (are : bits ≡ bits_of (count_of v) k) (free : digit bits j old ≡ 0) (fits : x < 2 ^ bits) (sum : new ≡ old + x * 2 ^ (j * bits)) where
+    abbrev SetGoes : List Cell → List (Event S) → Type 0
+    SetGoes cs log = Goes IsKept shown moves k (v, (no_nib, s)) (λ n. either (n == old) new n) (Tries (step k old new ask) (v, (no_nib, s))) cs log
 
-    fill_goes : (cs : List Cell) (log : List (Event S)) → IsKept cs log → k < length cs → 0 < count_of log → (n : ℕ) → (cell cs k).0 ≡ n → word_at k log ≡ n → FillGoes cs log
-    fill_goes cs log kept within some zero e is =
-        let more : List (Event S) = Filled k w ∷ [] in
-        let own : word_at k more ≡ w = ap (λ n. first_not_0 n 0) (own_word S k w) ∙ first_none w in
-        let now : word_at k (log ++ more) ≡ w = value_append k log more ∙ (ap (λ n. first_not_0 n (word_at k more)) is ∙ own) in
-        let f : either ((cell cs k).0 == 0) w (cell cs k).0 ≡ w = ap (λ n. either (n == 0) w n) e in (
+    set_goes : (cs : List Cell) (log : List (Event S)) → IsKept cs log → k < length cs → count_of log ≡ count_of v → (b : Bool) → ((cell cs k).0 == old) ≡ b → SetGoes cs log
+    set_goes cs log kept within count true is =
+        let e : (cell cs k).0 ≡ old = grind (arith, nat_tests, is) in
+        let more : List (Event S) = Filled (8 * k + j) x ∷ [] in
+        let counted : count_of (log ++ more) ≡ count_of log = count_more k log more (omega (arith, count, some)) in
+        let width : bits ≡ bits_of (count_of log) k = are ∙ ap (λ c. bits_of c k) (sym count) in
+        let width_after : bits_of (count_of (log ++ more)) k ≡ bits = ap (λ c. bits_of c k) counted ∙ sym width in
+        let shows : Shows k old log = subst (λ n. Shows k n log) e (kept.digits k within) in
+        let was : word_at (8 * k + j) log ≡ 0 = sym (shows j jth) ∙ (ap (λ b. digit b j old) (sym width) ∙ free) in
+        let own : word_at (8 * k + j) more ≡ x = ap (λ n. first_not_0 n 0) (own_word S (8 * k + j) x) ∙ first_none x in
+        let now : word_at (8 * k + j) (log ++ more) ≡ x = value_append (8 * k + j) log more ∙ (ap (λ n. first_not_0 n (word_at (8 * k + j) more)) was ∙ own) in
+        let others : (d : ℕ) → (d ≡ 8 * k + j → ⊥) → word_at d (log ++ more) ≡ word_at d log =
+            λ d ne. value_append d log more ∙ (ap (first_not_0 (word_at d log)) (ap (λ n. first_not_0 n 0) (other_word S (8 * k + j) d x (λ same. ne (sym same)))) ∙ first_none (word_at d log)) in
+        let set : (i : ℕ) → i < 8 → digit bits i new ≡ word_at (8 * k + i) (log ++ more) = λ i ith. elim (cases_eq i j) [
+          | inl same ↦ ap (λ m. digit bits m new) same ∙ (ap (digit bits j) sum ∙ (set_same bits j old x free fits ∙ (sym now ∙ ap (λ m. word_at (8 * k + m) (log ++ more)) (sym same))))
+          | inr ne ↦ ap (digit bits i) sum ∙ (set_other bits j i old x free fits ne ∙ (ap (λ b. digit b i old) width ∙ (shows i ith ∙ sym (others (8 * k + i) (λ same. ne (omega (arith, same)))))))
+        ] in
+        let after : Shows k new (log ++ more) = λ i ith. ap (λ b. digit b i new) width_after ∙ set i ith in
+        let f : either ((cell cs k).0 == old) new (cell cs k).0 ≡ new = ap (λ b. either b new (cell cs k).0) is in (
           keeps,
           more,
           s,
           tt,
           subst (λ n. IsKept (slice_set cs k (n, true)) (log ++ more)) (sym f)
-              (kept_step cs log more k w kept within now
-              (λ j ne. value_append j log more ∙ (ap (first_not_0 (word_at j log)) (ap (λ n. first_not_0 n 0) (other_word S k j w (λ same. ne (sym same)))) ∙ first_none (word_at j log)))
-              (count_more k log more some)),
+              (record {
+                whole = length-set cs k (new, true) ∙ (kept.whole ∙ ap words_of (sym counted));
+                home = λ i less. elim (cases_eq i k) [
+                  | inl same ↦ ap (λ m. (cell (slice_set cs k (new, true)) m).1) same ∙ ap (λ c. c.1) (get_or-set_same cs k (new, true) (0, false) within)
+                  | inr ne ↦ ap (λ c. c.1) (get_or-set_other cs k i (new, true) (0, false) ne) ∙ kept.home i (subst (λ m. i < m) (length-set cs k (new, true)) less)
+                ];
+                digits = λ i less. elim (cases_eq i k) [
+                  | inl same ↦ subst (λ m. Shows m (cell (slice_set cs k (new, true)) m).0 (log ++ more)) (sym same)
+                      (subst (λ n. Shows k n (log ++ more)) (sym (ap (λ c. c.0) (get_or-set_same cs k (new, true) (0, false) within))) after)
+                  | inr ne ↦ subst (λ n. Shows i n (log ++ more)) (sym (ap (λ c. c.0) (get_or-set_other cs k i (new, true) (0, false) ne)))
+                      (λ m mth. ap (λ c. digit (bits_of c i) m (cell cs i).0) counted
+                      ∙ (kept.digits i (subst (λ l. i < l) (length-set cs k (new, true)) less) m mth ∙ sym (others (8 * i + m) (λ same. ne (omega (arith, same, mth, jth))))))
+                ];
+              }),
           inl (refl, refl),
-          now ∙ sym (ap (λ n. first_not_0 n w) e),
+          λ found. after,
         )
-    fill_goes cs log kept within some (suc a) e is =
+    set_goes cs log kept within count false is =
         let all : log ++ [] ≡ log = append-nil log in
-        let unequal : (suc a == 0) ≡ false = grind (arith, nat_tests) in
-        let f : either ((cell cs k).0 == 0) w (cell cs k).0 ≡ suc a = ap (λ n. either (n == 0) w n) e ∙ ap (λ b. either b w (suc a)) unequal in (
+        let same : slice_set cs k ((cell cs k).0, true) ≡ cs = ap (λ b. slice_set cs k ((cell cs k).0, b)) (sym (kept.home k within)) ∙ set-get_or cs k (0, false) in
+        let f : either ((cell cs k).0 == old) new (cell cs k).0 ≡ (cell cs k).0 = ap (λ b. either b new (cell cs k).0) is in (
           keeps,
           [],
           s,
           tt,
-          subst (λ n. IsKept (slice_set cs k (n, true)) (log ++ [])) (sym f)
-              (kept_step cs log [] k (suc a) kept within (ap (word_at k) all ∙ is) (λ j ne. ap (word_at j) all) (ap count_of all)),
+          subst (λ n. IsKept (slice_set cs k (n, true)) (log ++ [])) (sym f) (subst (λ l. IsKept (slice_set cs k ((cell cs k).0, true)) l) (sym all) (subst (λ c. IsKept c log) (sym same) kept)),
           inl (refl, refl),
-          ap (word_at k) all ∙ (is ∙ sym (ap (λ n. first_not_0 n w) e)),
+          λ found. absurd (grind (arith, nat_tests, is, found)),
         )
 
-    pub fill_moves : Moves IsKept shown moves k (v, (no_nib, s)) (λ n. either (n == 0) w n) (Tries (step k 0 w ask) (v, (no_nib, s)))
-    fill_moves cs log kept pre away =
-        let count : count_of log ≡ count_of v = count_prefix v log pre (omega (arith, lt)) in
-        let within : k < length cs = let w = kept.whole in omega (arith, w, count, lt) in
-        let is : cell cs k ≡ (word_at k log, true) = kept.words k within in
-        (within, ap (λ c. c.1) is, fill_goes cs log kept within (omega (arith, count, lt)) (word_at k log) (ap (λ c. c.0) is) refl)
+    pub set_moves : Moves IsKept shown moves k (v, (no_nib, s)) (λ n. either (n == old) new n) (Tries (step k old new ask) (v, (no_nib, s)))
+    set_moves cs log kept pre away =
+        let within : k < length cs = word_within cs log kept pre in
+        (within, kept.home k within, set_goes cs log kept within (count_prefix v log pre some) ((cell cs k).0 == old) refl)
 
 -- The index entries of a row.
 abbrev pub named : Book → ℕ → Named
@@ -164,7 +175,6 @@ named_more b n k xs w all one here =
     let place : k ≡ 0 + n = omega (arith, here) in
     ap (λ (l : List Named). l ++ w ∷ []) all ∙ (ap (λ v. named_from b 0 n ++ v ∷ []) (one ∙ ap (named b) place) ∙ (sym (named_snoc b 0 n) ∙ ap (named_from b 0) e))
 
--- What the result of an exchange from 0 shows.
-pub tried : (found w v : ℕ) → 0 < w → v ≡ first_not_0 found w → MatchBool (found == 0) (v ≡ w) (0 < v)
-tried zero w v pos e = e
-tried (suc a) w v pos e = let no : (suc a == 0) ≡ false = grind (arith, nat_tests) in subst (λ b. MatchBool b (v ≡ w) (0 < v)) (sym no) (omega (arith, e))
+-- A beginning of a beginning is one of the list.
+pub prefix_prefix : {A : Type 0} (xs ys zs : List A) → IsPrefix xs ys → IsPrefix ys zs → IsPrefix xs zs
+prefix_prefix xs ys zs p q = (p.0 ++ q.0, sym (append_assoc xs p.0 q.0) ∙ (ap (λ l. l ++ q.0) p.1 ∙ q.1))

@@ -1,9 +1,10 @@
 -- What stays true of index entries that each change once, and what follows when a probe ends.
-use Rattle.std.proofs.Common.{◌≡◌, ℕ, ◌+◌, ◌*◌, ◌/◌, ◌%◌, ◌^◌, ◌<◌, ◌≤◌, inl, inr, ap, subst, sym, ◌∙◌, refl, arith}
+use Rattle.std.proofs.Common.{◌≡◌, ℕ, ◌+◌, ◌*◌, ◌/◌, ◌%◌, ◌^◌, ◌<◌, ◌≤◌, inl, inr, Bool, true, false, ◌==◌, if◌then◌else◌, ap, subst, sym, ◌∙◌, refl, arith}
 use Rattle.std.proofs.lemmas.Bool.{cases_eq, cases_lt}
+use Rattle.std.proofs.lemmas.Bool.Decides.{nat_tests}
 use Rattle.std.proofs.lemmas.Nat.{mod_below}
 use Rattle.std.proofs.Math.Nat.{mod-eq_of_lt}
-use Rattle.elsa_hash_index.specs.Words.{word_for, walk, IsLater, PassesFilled, IsIndexed}
+use Rattle.elsa_hash_index.specs.Words.{mixed, tag_of, number_of, walk, IsLater, PassesFilled, IsIndexed}
 
 -- A probe stays among the index entries.
 pub walk_within : (count hash step : ℕ) → step < count → walk count hash step < count
@@ -14,7 +15,16 @@ walk_within count hash step h = mod_below (((hash * count) % 2 ^ 64 / 2 ^ 32 + s
 pub small_mod : (n m : ℕ) → n < m → n % m ≡ n
 small_mod n m h = mod-eq_of_lt h
 
--- Unchanged index entries are later ones.
+-- No tag is 0.
+pub tag_positive : (hash : ℕ) → 0 < tag_of hash
+unfolding tag_of
+tag_positive hash = by_case (mixed hash == 0) refl
+  where
+    by_case : (b : Bool) → (mixed hash == 0) ≡ b → 0 < (if b then 1 else mixed hash)
+    by_case true e = omega arith
+    by_case false e = grind (arith, nat_tests, e)
+
+-- Unchanged digits are later ones.
 pub later_same : (f : ℕ → ℕ) → IsLater f f
 later_same f i h = refl
 
@@ -31,33 +41,51 @@ pub later_indexed : (count : ℕ) (f g : ℕ → ℕ) (hash place : ℕ) → IsL
 later_indexed count f g hash place later i = record {
   step = i.step;
   within = i.within;
-  there = later (walk count hash i.step) (let e = i.there in omega (arith, e)) ∙ i.there;
+  tagged = later (walk count hash i.step) (let e = i.tagged in let pos = tag_positive hash in omega (arith, e, pos)) ∙ i.tagged;
+  there = later (number_of count (walk count hash i.step)) (let e = i.there in omega (arith, e)) ∙ i.there;
   goes_on = later_goes_on count f g hash i.step later i.goes_on;
 }
 
--- M holds for each index with the hash that the first `step` steps of a probe reached.
+-- M holds for each index that one of the first `step` index entries of a probe had, with the tag of
+-- the hash.
 abbrev pub Missed : ℕ → (ℕ → ℕ) → ℕ → (ℕ → Type 0) → ℕ → Type 0
-Missed count words hash M step = (k : ℕ) → k < step → (place : ℕ) → words (walk count hash k) ≡ word_for hash place → M place
+Missed count words hash M step = (k : ℕ) → k < step → (place : ℕ) → words (walk count hash k) ≡ tag_of hash → words (number_of count (walk count hash k)) ≡ place + 1 → M place
 
 -- A probe that reaches 0 has passed each index that is entered under its hash.
 pub passed_at_zero : (count : ℕ) (words : ℕ → ℕ) (hash place step : ℕ) → words (walk count hash step) ≡ 0 → (i : IsIndexed count words hash place) → i.step < step
 passed_at_zero count words hash place step zero i = elim (cases_lt i.step step) [
   | inl lt ↦ lt
   | inr ge ↦ elim (cases_eq i.step step) [
-    | inl same ↦ let e = i.there in let z = ap (λ n. words (walk count hash n)) same ∙ zero in absurd (omega (arith, e, z))
+    | inl same ↦ let e = i.tagged in let z = ap (λ n. words (walk count hash n)) same ∙ zero in let pos = tag_positive hash in absurd (omega (arith, e, z, pos))
     | inr other ↦ let h = i.goes_on step (omega arith) in absurd (omega (arith, h, zero))
   ]
 ]
 
--- So M holds for each of these indices.
-pub absent_at_zero : (count : ℕ) (words : ℕ → ℕ) (hash step : ℕ) (M : ℕ → Type 0) → words (walk count hash step) ≡ 0 → Missed count words hash M step
-    → (place : ℕ) → IsIndexed count words hash place → M place
-absent_at_zero count words hash step M zero missed place i = missed i.step (passed_at_zero count words hash place step zero i) place i.there
+-- What is 0 later was 0 before.
+pub zero_before : (f g : ℕ → ℕ) (i : ℕ) → IsLater f g → g i ≡ 0 → f i ≡ 0
+zero_before f g i later zero = elim (cases_lt 0 (f i)) [
+  | inl pos ↦ let e = later i pos in absurd (omega (arith, e, zero, pos))
+  | inr none ↦ omega (arith, none)
+]
+
+-- So M holds for each of these indices, if a probe reaches 0 now or later.
+pub absent_at_zero : (count : ℕ) (before after : ℕ → ℕ) (hash step : ℕ) (M : ℕ → Type 0) → IsLater before after → after (walk count hash step) ≡ 0 → Missed count before hash M step
+    → (place : ℕ) → IsIndexed count before hash place → M place
+absent_at_zero count before after hash step M later zero missed place i =
+    missed i.step (passed_at_zero count before hash place step (zero_before before after (walk count hash step) later zero) i) place i.tagged i.there
 
 -- M also holds for each of them if the probe reached all index entries.
 pub absent_at_end : (count : ℕ) (words : ℕ → ℕ) (hash step : ℕ) (M : ℕ → Type 0) → count ≤ step → Missed count words hash M step
     → (place : ℕ) → IsIndexed count words hash place → M place
-absent_at_end count words hash step M all missed place i = missed i.step (let h = i.within in omega (arith, h)) place i.there
+absent_at_end count words hash step M all missed place i = missed i.step (let h = i.within in omega (arith, h)) place i.tagged i.there
+
+-- The probe passed another index entry.
+pub missed_more : (count : ℕ) (words : ℕ → ℕ) (hash step : ℕ) (M : ℕ → Type 0) → Missed count words hash M step
+    → ((place : ℕ) → words (walk count hash step) ≡ tag_of hash → words (number_of count (walk count hash step)) ≡ place + 1 → M place) → Missed count words hash M (step + 1)
+missed_more count words hash step M missed here k lt place tag there = elim (cases_eq k step) [
+  | inl same ↦ here place (ap (λ n. words (walk count hash n)) (sym same) ∙ tag) (ap (λ n. words (number_of count (walk count hash n))) (sym same) ∙ there)
+  | inr other ↦ missed k (omega arith) place tag there
+]
 
 -- Another index is entered, after the earlier ones.
 pub more_indexed : (Under : ℕ → ℕ → Type 0) (count after : ℕ) (f g : ℕ → ℕ) (n hash : ℕ) → after ≡ count → IsLater f g
@@ -67,3 +95,7 @@ more_indexed Under count after f g n hash same later all under last p lt = elim 
   | inl here ↦ (hash, subst (λ k. Under k hash) (sym here) under, subst (λ k. IsIndexed after g hash k) (sym here) last)
   | inr other ↦ let old = all p (omega arith) in (old.0, old.1, subst (λ c. IsIndexed c g old.0 p) (sym same) (later_indexed count f g old.0 p later old.2))
 ]
+
+-- A digit that was set has its value later.
+pub still : (f g : ℕ → ℕ) (i v : ℕ) → IsLater f g → f i ≡ v → 0 < v → g i ≡ v
+still f g i v later is pos = later i (omega (arith, is, pos)) ∙ is

@@ -1,16 +1,19 @@
 //! How an index is found among index entries that other threads set at the same time, and how it is
 //! entered.
-ghost use Rattle.std.specs.Prelude.{◌≡◌, ℕ, ◌+◌, ◌<◌, ◌≤◌, ◌^◌, true, false, IfSome, IfNone, OnOk, MatchBool};
+ghost use Rattle.std.specs.Prelude.{◌≡◌, ℕ, ◌+◌, ◌<◌, ◌≤◌, ◌^◌, true, false, IfSome, IfNone, OnOk};
 ghost use Rattle.logbook.specs.Pages.{Book};
-ghost use Rattle.elsa_hash_index.specs.Words.{walk, word_for, IsIndexed, IsLater};
+ghost use Rattle.elsa_hash_index.specs.Words.{walk, tag_of, number_of, IsIndexed, IsLater};
 
 use std::alloc::AllocError;
 
-/// The index entries of a row, and what a thread has observed of them. An index entry that it
-/// observed as 0 may have been set since.
+/// The number of indices for which [`enter_all`] loads words ahead.
+const AHEAD: usize = 16;
+
+/// The index entries of a row, and what a thread has observed of them. Each has a tag of 8 bits and
+/// a number of 32 bits. One that it observed as 0 may have been set since.
 pub trait Words<S> {
     // The row with the builder of its hashers, the number of index entries, and the observed value
-    // of each.
+    // of each tag, by its index entry, and of each number, by `number_of`.
     ghost whose: { Self → Book × S };
 
     ghost count: { Self → ℕ };
@@ -21,22 +24,52 @@ pub trait Words<S> {
     fn len(&self) -> usize
         ensures { result ≡ Self.count self.now };
 
-    /// Loads an index entry and returns its value, which the thread has then observed.
-    fn load(&mut self, at: usize) -> u64
+    /// Loads the tag of an index entry and returns it, which the thread has then observed.
+    fn tag(&mut self, at: usize) -> u64
         requires { at < Self.count self.old }
         ensures same { (Self.count self.new ≡ Self.count self.old) ×
             (Self.whose self.new ≡ Self.whose self.old) }
         ensures later { IsLater (Self.known self.old) (Self.known self.new) }
-        ensures word { result ≡ Self.known self.new at };
+        ensures tag { result ≡ Self.known self.new at };
 
-    /// Sets an index entry if it is 0, and returns whether it was 0.
-    fn fill(&mut self, at: usize, word: u64) -> bool
-        requires { (at < Self.count self.old) × (0 < word) }
+    /// Loads the number of an index entry and returns it, which the thread has then observed.
+    fn number(&mut self, at: usize) -> u64
+        requires { at < Self.count self.old }
         ensures same { (Self.count self.new ≡ Self.count self.old) ×
             (Self.whose self.new ≡ Self.whose self.old) }
         ensures later { IsLater (Self.known self.old) (Self.known self.new) }
-        ensures filled { MatchBool result (Self.known self.new at ≡ word)
-            (0 < Self.known self.new at) };
+        ensures number { result ≡ Self.known self.new (number_of (Self.count self.old) at) };
+
+    /// Sets the tag of an index entry if it is 0, and returns whether it did. It may also fail if
+    /// other threads set tags of the same word meanwhile.
+    fn set_tag(&mut self, at: usize, tag: u64) -> bool
+        requires { (at < Self.count self.old) × (0 < tag) × (tag < 256) }
+        ensures same { (Self.count self.new ≡ Self.count self.old) ×
+            (Self.whose self.new ≡ Self.whose self.old) }
+        ensures later { IsLater (Self.known self.old) (Self.known self.new) }
+        ensures set { result ≡ true → Self.known self.new at ≡ tag };
+
+    /// Sets the number of an index entry if it is 0, and returns whether it did. It may also fail
+    /// if other threads set numbers of the same word meanwhile.
+    fn set_number(&mut self, at: usize, number: u64) -> bool
+        requires { (at < Self.count self.old) × (0 < number) × (number < 2 ^ 32) }
+        ensures same { (Self.count self.new ≡ Self.count self.old) ×
+            (Self.whose self.new ≡ Self.whose self.old) }
+        ensures later { IsLater (Self.known self.old) (Self.known self.new) }
+        ensures set { result ≡ true →
+            Self.known self.new (number_of (Self.count self.old) at) ≡ number };
+}
+
+/// Returns the tag of a hash, which is never 0. All bits of the hash have an effect on it: the high
+/// ones choose where a probe begins, and the low ones may have chosen a shard.
+#[tactic(auto, unfolding(crate::specs::Words::tag_of, crate::specs::Words::mixed))]
+#[inline(always)]
+fn tagged(hash: u32) -> u64
+    ensures tag { result ≡ tag_of hash }
+    ensures within { (0 < result) × (result < 256) }
+{
+    let mixed = (hash as u64).wrapping_mul(0x9E37_79B1) / 0x100_0000 % 256;
+    if mixed == 0 { 1 } else { mixed }
 }
 
 /// Returns which of `count` index entries a probe for `hash` reaches after `step` steps.
@@ -44,16 +77,17 @@ pub trait Words<S> {
 #[inline(always)]
 fn walked(count: usize, hash: u32, step: usize) -> usize
     requires { step < count }
-    ensures slot { result ≡ walk count hash step }
+    ensures entry { result ≡ walk count hash step }
     ensures within { result < count }
 {
     let at = ((hash as usize).wrapping_mul(count) / 0x1_0000_0000).wrapping_add(step);
     if at < count { at } else { at % count }
 }
 
-/// Returns an index below `n` that `is_it` accepts, from an index entry with this hash. Returns
-/// `None` if `is_it` rejected each index below `n` that was known to be entered under this hash
-/// when the call began. It may also call `is_it` for indices that other threads entered since.
+/// Returns an index below `n` that `is_it` accepts, from an index entry with the tag of this hash.
+/// Returns `None` if `is_it` rejected each index below `n` that was known to be entered under this
+/// hash when the call began. It may also call `is_it` for indices that other threads entered since,
+/// and for those under other hashes with the same tag.
 ///
 /// # Cost
 /// `O(1)` if the hashes are well distributed.
@@ -77,25 +111,31 @@ pub fn find<S, W: Words<S>, F: Fn(usize) -> bool>(
         IsIndexed (W.count words.old) (W.known words.old) hash p → F.post is_it p false) }
 {
     let count = words.len();
+    let tag = tagged(hash);
     for step in 0..count {
-        let word = words.load(walked(count, hash, step));
-        if word == 0 {
+        let at = walked(count, hash, step);
+        let found = words.tag(at);
+        if found == 0 {
             return None;
         }
-        let number = word as usize % 0x1_0000_0000;
-        if word as usize / 0x1_0000_0000 == hash as usize && 0 < number && number <= n {
-            if is_it(number - 1) {
-                return Some(number - 1);
+        if found == tag {
+            let number = words.number(at) as usize;
+            if 0 < number && number <= n {
+                if is_it(number - 1) {
+                    return Some(number - 1);
+                }
             }
         }
     }
     None
 }
 
-/// Enters an index under a hash, in the first index entry of its probe that is 0.
+/// Enters an index under a hash, in the first index entry of its probe whose tag is 0. The tag is
+/// set before the number; a thread that has loaded only the tag continues with the next index entry.
 ///
 /// # Errors
-/// Fails if no index entry of the row is 0.
+/// Fails if no tag of the row is 0. It may also fail if other threads set tags or numbers of the
+/// same words meanwhile.
 pub fn enter<S, W: Words<S>>(words: &mut W, hash: u32, place: usize) -> Result<(), AllocError>
     requires limit { place + 1 < 2 ^ 32 }
     ensures same { (W.count words.new ≡ W.count words.old) × (W.whose words.new ≡ W.whose words.old) }
@@ -103,20 +143,30 @@ pub fn enter<S, W: Words<S>>(words: &mut W, hash: u32, place: usize) -> Result<(
     ensures entered { OnOk result (IsIndexed (W.count words.new) (W.known words.new) hash place) }
 {
     let count = words.len();
-    let word = hash as u64 * 0x1_0000_0000 + (place as u64 + 1);
+    let tag = tagged(hash);
     for step in 0..count {
         let at = walked(count, hash, step);
-        if words.load(at) == 0 && words.fill(at, word) {
-            return Ok(());
+        if words.tag(at) == 0 {
+            // The processor fetches both words at the same time.
+            if words.number(at) == 0 && words.set_tag(at, tag) {
+                if words.set_number(at, place as u64 + 1) {
+                    return Ok(());
+                }
+                return Err(AllocError);
+            }
+            if words.tag(at) == 0 {
+                return Err(AllocError);
+            }
         }
     }
     Err(AllocError)
 }
 
-/// Enters the indices below `n`, each under its hash.
+/// Enters the indices below `n`, each under its hash. It first loads the words at which the probes
+/// of the next 16 indices begin, so that the processor fetches them at the same time.
 ///
 /// # Errors
-/// Fails if no index entry of the row is 0. The indices so far remain entered.
+/// Fails as [`enter`] does. The indices so far remain entered.
 pub fn enter_all<S, W: Words<S>, H: Fn(usize) -> u32>(
     words: &mut W,
     n: usize,
@@ -129,7 +179,15 @@ pub fn enter_all<S, W: Words<S>, H: Fn(usize) -> u32>(
     ensures entered { OnOk result ((p : ℕ) → p < n → (h : ℕ) × H.post hash_of p h ×
         IsIndexed (W.count words.new) (W.known words.new) h p) }
 {
+    let count = words.len();
     for place in 0..n {
+        if place % AHEAD == 0 && 0 < count {
+            for next in place..n.min(place + AHEAD) {
+                let at = walked(count, hash_of(next), 0);
+                words.tag(at);
+                words.number(at);
+            }
+        }
         enter(words, hash_of(place), place)?;
     }
     Ok(())

@@ -1,8 +1,9 @@
-//! A row of index entries, in one book of `logbook`. The rule of the book states that each index
-//! entry has the value of the first event that set it.
-ghost use Rattle.std.specs.Prelude.{◌≡◌, ℕ, ◌<◌, [], ◌∷◌, length, IfOk, Some};
+//! A row of index entries, in one book of `logbook`: words with eight tags of 8 bits each, then
+//! words with two numbers of 32 bits each. A tag or a number is a digit of its word, and the rule of
+//! the book states that each digit has the value of the first event that set it.
+ghost use Rattle.std.specs.Prelude.{◌≡◌, ℕ, ◌+◌, ◌*◌, ◌^◌, ◌<◌, ◌≤◌, true, [], ◌∷◌, length, IfOk, Some};
 ghost use mathlib.Core.List.{IsPrefix};
-ghost use Rattle.elsa_hash_index.specs.Row.{builder_of, count_of, named_from};
+ghost use Rattle.elsa_hash_index.specs.Row.{Shows, bits_of, builder_of, count_of, digit, named_from, word_at, words_of};
 ghost use Rattle.elsa_hash_index.specs.declared.row.Event.TheVariants.{Opened};
 
 use crate::probe::Words;
@@ -14,11 +15,13 @@ pub enum Event<S> {
     /// The row was made, with this number of index entries, all of them 0, for the hashes of this
     /// builder.
     Opened(u64, S),
-    /// The index entry with this number was set to this value.
+    /// The digit with this number was set to this value. The word `k` has the digits from `8 * k`
+    /// on.
     Filled(u64, u64),
 }
 
-/// The rule of a row: each index entry has the value of the first event that set it, or is 0.
+/// The rule of a row: each tag and each number has the value of the first event that set it, or is
+/// 0.
 pub struct FilledOnce;
 
 impl<S> Rule<Event<S>, ()> for FilledOnce {
@@ -60,7 +63,7 @@ impl<S> Plain<(), Event<S>, ()> for Asks {
     ghost state = { λ n. None };
 }
 
-/// A load of an index entry.
+/// A load of a word.
 pub struct Reads;
 
 impl<S> Play<Event<S>, ()> for Reads {
@@ -69,7 +72,7 @@ impl<S> Play<Event<S>, ()> for Reads {
     ghost then = { Sees };
 }
 
-/// The exchange that sets an index entry.
+/// The exchange that sets a digit of a word.
 pub struct Fills;
 
 impl<S> Play<Event<S>, ()> for Fills {
@@ -81,11 +84,11 @@ impl<S> Play<Event<S>, ()> for Fills {
 /// The opening of a row, with its number of index entries and the builder of its hashers.
 pub struct Opens;
 
-impl<S> Opening<S, Event<S>> for Opens {
+impl<S> Opening<(usize, S), Event<S>> for Opens {
     ghost use Rattle.std.specs.Prelude.{[], ◌∷◌};
     ghost use Rattle.elsa_hash_index.specs.declared.row.Event.TheVariants.{Opened};
 
-    ghost log = { λ count about. Opened count about ∷ [] };
+    ghost log = { λ words about. Opened about.0 about.1 ∷ [] };
 }
 
 /// What was observed of a row's history.
@@ -96,10 +99,12 @@ pub type RowSeen<S> = Seen<Event<S>, (), FilledOnce>;
 #[derive(Drop)]
 pub struct Row<S: Copy + Drop, A: Allocator = Global> {
     words: Vec<Word<Event<S>, (), FilledOnce>, A>,
+    count: usize,
     builder: S,
     first: RowSeen<S>,
     ghost words_are: { words.items ≡ named_from first.book 0 (length words.items) },
-    ghost opened: { first.log ≡ Opened (length words.items) builder ∷ [] },
+    ghost whole: { length words.items ≡ words_of count },
+    ghost opened: { first.log ≡ Opened count builder ∷ [] },
 }
 
 impl<S: Copy + Drop, A: Allocator + Copy> Row<S, A> {
@@ -109,18 +114,25 @@ impl<S: Copy + Drop, A: Allocator + Copy> Row<S, A> {
     /// Fails if an allocation fails.
     ///
     /// # Cost
-    /// `O(count)`: it writes each index entry.
+    /// `O(count)`: it writes each word.
     pub fn new(alloc: A, count: usize, builder: S) -> Result<Row<S, A>, AllocError>
-        ensures { IfOk result (λ r. (length r.words.items ≡ count) × (r.builder ≡ builder)) }
+        ensures { IfOk result (λ r. (r.count ≡ count) × (r.builder ≡ builder)) }
     {
-        let mut words = Vec::with_capacity(alloc, count)?;
-        let (first, mut pens) = Seen::open_row::<S, Opens>(&builder, Start::alone(), count);
-        for _ in 0..count {
+        let tags = count / 8 + 1;
+        let number = tags + count / 2 + 1;
+        let mut words = Vec::with_capacity(alloc, number)?;
+        let (first, mut pens) = Seen::open_row::<(usize, S), Opens>(
+            &(count, builder),
+            Start::alone(),
+            number,
+        );
+        for _ in 0..number {
             let mut pen = pens.take();
             words.push_reserved(Word::tracked(0, &mut pen));
         }
         Ok(Row {
             words,
+            count,
             builder,
             first,
         })
@@ -144,7 +156,7 @@ pub struct RowView<'a, S: Copy + Drop, A: Allocator = Global> {
     row: &'a Row<S, A>,
     seen: RowSeen<S>,
     ghost of: { seen.book ≡ row.now.first.book },
-    ghost opened: { count_of seen.log ≡ length row.now.words.items },
+    ghost opened: { count_of seen.log ≡ row.now.count },
     ghost built: { builder_of seen.log ≡ Some row.now.builder },
 }
 
@@ -177,38 +189,114 @@ impl<'a, S: Copy + Drop, A: Allocator> RowView<'a, S, A> {
     }
 }
 
+impl<'a, S: Copy + Drop, A: Allocator> RowView<'a, S, A> {
+    /// Loads a word, whose digits the view has then observed.
+    #[inline(always)]
+    fn load_word(&mut self, word: usize) -> u64
+        requires { (word < words_of self.old.row.now.count) × (0 < self.old.row.now.count) }
+        ensures same { (self.new.row.now ≡ self.old.row.now) ×
+            (self.new.seen.book ≡ self.old.seen.book) }
+        ensures later { IsPrefix self.old.seen.log self.new.seen.log }
+        ensures shown { Shows word result self.new.seen.log }
+    {
+        let mut offer: Offer<Event<S>, (), FilledOnce, Nothing> = self
+            .seen
+            .plain::<Nothing, (), Asks>(&());
+        self.row.words[word].load::<Reads, Nothing>(&mut self.seen, &mut offer)
+    }
+
+    /// Sets the digit `j` of a word that has the value `old`, and returns whether it had it.
+    #[inline(always)]
+    fn exchange(&mut self, word: usize, old: u64, new: u64, j: usize, value: u64) -> bool
+        requires within { (word < words_of self.old.row.now.count) × (j < 8) ×
+            (0 < self.old.row.now.count) }
+        requires free { digit (bits_of self.old.row.now.count word) j old ≡ 0 }
+        requires fits { (0 < value) × (value < 2 ^ bits_of self.old.row.now.count word) }
+        requires sum { new ≡ old + value * 2 ^ (j * bits_of self.old.row.now.count word) }
+        ensures { (self.new.row.now ≡ self.old.row.now) ×
+            (self.new.seen.book ≡ self.old.seen.book) ×
+            IsPrefix self.old.seen.log self.new.seen.log ×
+            (result ≡ true → Shows word new self.new.seen.log) }
+    {
+        let _ = (j, value);
+        let mut offer: Offer<Event<S>, (), FilledOnce, Nothing> = self
+            .seen
+            .plain::<Nothing, (), Asks>(&());
+        let mut pen = self.seen.no_pen();
+        self.row.words[word].compare_exchange::<Fills, Nothing>(
+            old,
+            new,
+            &mut self.seen,
+            &mut offer,
+            &mut pen,
+        ) == old
+    }
+
+    /// Sets the digit `j` of a word if it is 0, and returns whether it did. It tries again as often
+    /// as the word has other digits, each of which another thread may set meanwhile.
+    #[inline(always)]
+    fn set(&mut self, word: usize, j: usize, shift: usize, base: u64, value: u64) -> bool
+        requires within { (word < words_of self.old.row.now.count) × (j < 8) ×
+            (0 < self.old.row.now.count) × (shift < 64) }
+        requires shifted { shift ≡ j * bits_of self.old.row.now.count word }
+        requires based { (base ≡ 2 ^ bits_of self.old.row.now.count word) ×
+            (shift + bits_of self.old.row.now.count word ≤ 64) }
+        requires fits { (0 < value) × (value < base) }
+        ensures { (self.new.row.now ≡ self.old.row.now) ×
+            (self.new.seen.book ≡ self.old.seen.book) ×
+            IsPrefix self.old.seen.log self.new.seen.log ×
+            (result ≡ true → word_at (8 * word + j) self.new.seen.log ≡ value) }
+    {
+        for _ in 0..8 {
+            let old = self.load_word(word);
+            if (old >> shift) % base != 0 {
+                return false;
+            }
+            if self.exchange(word, old, old.wrapping_add(value << shift), j, value) {
+                return true;
+            }
+        }
+        false
+    }
+}
+
 impl<'a, S: Copy + Drop, A: Allocator> Words<S> for RowView<'a, S, A> {
     ghost use Rattle.std.specs.Prelude.{length};
     ghost use Rattle.elsa_hash_index.specs.Row.{word_at};
 
     ghost whose = { λ v. (v.seen.book, v.row.now.builder) };
 
-    ghost count = { λ v. length v.row.now.words.items };
+    ghost count = { λ v. v.row.now.count };
 
     ghost known = { λ v k. word_at k v.seen.log };
 
     fn len(&self) -> usize {
-        self.row.words.len()
+        self.row.count
     }
 
-    fn load(&mut self, at: usize) -> u64 {
-        let mut offer: Offer<Event<S>, (), FilledOnce, Nothing> = self
-            .seen
-            .plain::<Nothing, (), Asks>(&());
-        self.row.words[at].load::<Reads, Nothing>(&mut self.seen, &mut offer)
+    #[inline(always)]
+    fn tag(&mut self, at: usize) -> u64 {
+        let word = self.load_word(at / 8);
+        (word >> (at % 8 * 8)) % 256
     }
 
-    fn fill(&mut self, at: usize, word: u64) -> bool {
-        let mut offer: Offer<Event<S>, (), FilledOnce, Nothing> = self
-            .seen
-            .plain::<Nothing, (), Asks>(&());
-        let mut pen = self.seen.no_pen();
-        self.row.words[at].compare_exchange::<Fills, Nothing>(
-            0,
-            word,
-            &mut self.seen,
-            &mut offer,
-            &mut pen,
-        ) == 0
+    #[inline(always)]
+    fn number(&mut self, at: usize) -> u64 {
+        let word = self.load_word(self.row.count / 8 + 1 + at / 2);
+        (word >> (at % 2 * 32)) % 0x1_0000_0000
+    }
+
+    fn set_tag(&mut self, at: usize, tag: u64) -> bool {
+        self.set(at / 8, at % 8, at % 8 * 8, 256, tag)
+    }
+
+    fn set_number(&mut self, at: usize, number: u64) -> bool {
+        self.set(
+            self.row.count / 8 + 1 + at / 2,
+            at % 2,
+            at % 2 * 32,
+            0x1_0000_0000,
+            number,
+        )
     }
 }

@@ -5,7 +5,7 @@
 //! So no number is drawn from a counter that all threads share.
 ghost use Rattle.std.specs.Hash.{str};
 ghost use Rattle.std.specs.Str.{bytes_eq};
-ghost use Rattle.std.specs.Prelude.{◌≡◌, ◌+◌, ◌*◌, ◌/◌, ◌%◌, ◌^◌, ◌<◌, ◌≤◌, ℕ, [], All, IfOk, IfErr, IfSome, IfNone, length, map, slice_get};
+ghost use Rattle.std.specs.Prelude.{◌≡◌, ◌/◌, ◌%◌, ◌^◌, ◌<◌, ◌≤◌, [], All, IfOk, IfErr, IfSome, IfNone, length, map, slice_get};
 ghost use Rattle.elsa_lock_free.specs.SharedList.{Continues, IsLaterPass, items_of, mine};
 ghost use Rattle.elsa_lock_free.specs.Distinct.{IsOneToOne};
 ghost use Rattle.elsa_shared_interner.specs.Names.{HasAt, Lacks, PutsName, PutsText};

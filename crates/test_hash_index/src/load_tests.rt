@@ -1,4 +1,4 @@
-//! The number of index entries that a look-up loads, in a row of which two thirds are set.
+//! The loads of a look-up, in a row of which two thirds are set: of tags, and of numbers.
 ghost use Rattle.std.specs.Prelude.{◌≡◌};
 
 use elsa_hash_index::probe::{Words, enter, find};
@@ -12,11 +12,12 @@ const COUNT: usize = 6_000;
 /// The number of indices that are entered.
 const ENTERED: usize = 4_000;
 
-/// The index entries of another view, and the number of loads.
+/// The index entries of another view, and the numbers of loads.
 #[derive(Drop)]
 struct Counting<W> {
     words: W,
-    loads: u64,
+    tags: u64,
+    numbers: u64,
 }
 
 impl<S, W: Words<S>> Words<S> for Counting<W> {
@@ -30,13 +31,22 @@ impl<S, W: Words<S>> Words<S> for Counting<W> {
         self.words.len()
     }
 
-    fn load(&mut self, at: usize) -> u64 {
-        self.loads = self.loads.wrapping_add(1);
-        self.words.load(at)
+    fn tag(&mut self, at: usize) -> u64 {
+        self.tags = self.tags.wrapping_add(1);
+        self.words.tag(at)
     }
 
-    fn fill(&mut self, at: usize, word: u64) -> bool {
-        self.words.fill(at, word)
+    fn number(&mut self, at: usize) -> u64 {
+        self.numbers = self.numbers.wrapping_add(1);
+        self.words.number(at)
+    }
+
+    fn set_tag(&mut self, at: usize, tag: u64) -> bool {
+        self.words.set_tag(at, tag)
+    }
+
+    fn set_number(&mut self, at: usize, number: u64) -> bool {
+        self.words.set_number(at, number)
     }
 }
 
@@ -49,23 +59,36 @@ fn hash_of(number: usize) -> u32 {
     (twice >> 32) as u32
 }
 
-/// Returns the number of loads of one look-up of each entered index, and of the same number of
-/// look-ups of absent indices.
-fn loads(alloc: Global) -> Result<(u64, u64), AllocError> {
+/// The loads of some look-ups.
+#[derive(Drop)]
+struct Loads {
+    tags: u64,
+    numbers: u64,
+}
+
+/// Returns the loads of one look-up of each entered index, and of the same number of look-ups of
+/// absent indices.
+fn count_loads(alloc: Global) -> Result<(Loads, Loads), AllocError> {
     let row = Row::new(alloc, COUNT, 7u64)?;
     let mut view = Counting {
         words: row.view(),
-        loads: 0,
+        tags: 0,
+        numbers: 0,
     };
     for place in 0..ENTERED {
         enter(&mut view, hash_of(place), place)?;
     }
-    view.loads = 0;
+    view.tags = 0;
+    view.numbers = 0;
     for place in 0..ENTERED {
         let _ = find(&mut view, hash_of(place), ENTERED, |p| p == place);
     }
-    let present = view.loads;
-    view.loads = 0;
+    let present = Loads {
+        tags: view.tags,
+        numbers: view.numbers,
+    };
+    view.tags = 0;
+    view.numbers = 0;
     for place in 0..ENTERED {
         let _ = find(
             &mut view,
@@ -74,19 +97,41 @@ fn loads(alloc: Global) -> Result<(u64, u64), AllocError> {
             |_p| false,
         );
     }
-    Ok((present, view.loads))
+    let absent = Loads {
+        tags: view.tags,
+        numbers: view.numbers,
+    };
+    Ok((present, absent))
 }
 
 #[test]
 fn a_look_up_walks_the_row(rt: HostRuntime) -> Result<(), Fail> {
-    let (present, absent) = loads(rt.alloc())?;
+    let (present, absent) = count_loads(rt.alloc())?;
     assert!(rt;
-        present <= 4 * ENTERED as u64,
-        "{present} loads for entered indices"
+        present.tags <= 4 * ENTERED as u64,
+        "{} tags for entered indices",
+        present.tags
     );
     assert!(rt;
-        absent <= 10 * ENTERED as u64,
-        "{absent} loads for absent indices"
+        absent.tags <= 10 * ENTERED as u64,
+        "{} tags for absent indices",
+        absent.tags
+    );
+    Ok(())
+}
+
+#[test]
+fn a_look_up_reads_the_number_of_another_key(rt: HostRuntime) -> Result<(), Fail> {
+    let (present, absent) = count_loads(rt.alloc())?;
+    assert!(rt;
+        present.numbers <= 41 * (ENTERED as u64 / 40),
+        "{} numbers for entered indices",
+        present.numbers
+    );
+    assert!(rt;
+        absent.numbers <= ENTERED as u64 / 20,
+        "{} numbers for absent indices",
+        absent.numbers
     );
     Ok(())
 }

@@ -1,7 +1,5 @@
 //! The interner of shards: one number for each name, whichever thread puts it and however the names
 //! are spread over the shards, also after a failed allocation.
-ghost use Rattle.std.specs.Prelude.{◌≡◌, ◌<◌, ◌≤◌, ◌^◌};
-
 use bumpalo::Bump;
 use elsa_shards::interner::{ShardedInterner, ShardedNameHandle};
 use elsa_shared_interner::name::Name;

@@ -27,7 +27,7 @@ returns-clause-behind g c =
     let now = later_indexes g.L.Shelf.hash (keys_of es) last.seen.log view.seen.log c.of-view.ensures.known before in
     let after = c.enter.new.words in
     let builder = view.row.now.builder in
-    let all = indexed_by g.L.Shelf.hash (keys_of es) view.seen.log builder (length view.row.now.words.items) view.built view.opened now in
+    let all = indexed_by g.L.Shelf.hash (keys_of es) view.seen.log builder view.row.now.count view.built view.opened now in
     let same = ap (λ r. r.1) c.enter.ensures.same.1 in
     let counted = ap (λ s. count_of s.log) c.into_seen.ensures ∙ (after.opened ∙ c.enter.ensures.same.0) in
     let kept = last_load g.K.PartialEq.eq g.L.Shelf.hash es (n - 1) last c.obeys_rule.ensures (omega (arith, len, some)) c.item-last.ensures in
@@ -44,7 +44,7 @@ returns-clause-behind g c =
         builder = builder;
         built = ap (λ s. builder_of s.log) c.into_seen.ensures ∙ (after.built ∙ ap Some same);
         all = subst (λ s. IndexesKeys (g.L.Shelf.hash builder) (count_of s.log) (λ k. word_at k s.log) (keys_of es ++ c.args.key ∷ [])) (sym c.into_seen.ensures)
-            (grown_by (g.L.Shelf.hash builder) es c.args.key (length view.row.now.words.items) (length after.row.now.words.items) (λ k. word_at k view.seen.log) after.seen.log c.hash_of.result n all c.enter.ensures.same.0 after.opened c.enter.ensures.later
+            (grown_by (g.L.Shelf.hash builder) es c.args.key view.row.now.count after.row.now.count (λ k. word_at k view.seen.log) after.seen.log c.hash_of.result n all c.enter.ensures.same.0 after.opened c.enter.ensures.later
             (c.hash_of.ensures ∙ ap (λ s. g.L.Shelf.hash s c.args.key) c.builder-builder.ensures) len c.in_ok-enter.ensures.entered);
       };
     }

@@ -17,7 +17,7 @@ returns-clause-behind g c =
     let builder = c.args.builder in
     let same = ap (λ r. r.1) c.enter.ensures.same.1 ∙ (ap (λ r. r.1) c.enter_all.ensures.same.1 ∙ (ap (λ r. r.builder) c.view-view.ensures.same_row ∙ c.in_ok-row.ensures.1)) in
     let all = all_keys (g.L.Shelf.hash builder) es n _ (λ k. word_at k c.enter_all.new.words.seen.log) len c.in_ok-enter_all.ensures.entered in
-    let counted = ap (λ s. count_of s.log) c.into_seen-seen.ensures ∙ (after.opened ∙ (c.enter.ensures.same.0 ∙ (c.enter_all.ensures.same.0 ∙ (ap (λ r. length r.words.items) c.view-view.ensures.same_row ∙ c.in_ok-row.ensures.0)))) in
+    let counted = ap (λ s. count_of s.log) c.into_seen-seen.ensures ∙ (after.opened ∙ (c.enter.ensures.same.0 ∙ (c.enter_all.ensures.same.0 ∙ (ap (λ r. r.count) c.view-view.ensures.same_row ∙ c.in_ok-row.ensures.0)))) in
     record {
       absent = c.requires.absent_key;
       load = subst (λ k. HasLoad k (length es + 1)) (sym counted) c.requires.load;

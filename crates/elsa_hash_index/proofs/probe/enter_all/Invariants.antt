@@ -6,3 +6,7 @@ abbrev pub invariant-loop-place : goal.invariant-loop-place
 invariant-loop-place g l =
     (g.W.Words.count l.words ≡ g.W.Words.count l.initial.words) × (g.W.Words.whose l.words ≡ g.W.Words.whose l.initial.words) × IsLater (g.W.Words.known l.initial.words) (g.W.Words.known l.words)
     × ((p : ℕ) → p < l.place → (h : ℕ) × goal.H-post g l.hash_of p h × IsIndexed (g.W.Words.count l.words) (g.W.Words.known l.words) h p)
+
+abbrev pub invariant-loop-next : goal.invariant-loop-next
+invariant-loop-next g l =
+    (g.W.Words.count l.words ≡ g.W.Words.count l.initial.words) × (g.W.Words.whose l.words ≡ g.W.Words.whose l.initial.words) × IsLater (g.W.Words.known l.initial.words) (g.W.Words.known l.words)

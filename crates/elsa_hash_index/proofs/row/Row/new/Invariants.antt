@@ -3,8 +3,8 @@ use Rattle.std.specs.Prelude.{vec_capacity}
 use Rattle.elsa_hash_index.specs.Row.{named_from}
 use Rattle.elsa_hash_index.proofs.row.Row.new.Given as goal
 
--- The index entries so far, the pens of the others, and capacity for all.
+-- The words so far, the pens of the others, and capacity for all.
 abbrev pub invariant-loop : goal.invariant-loop
 invariant-loop g l =
-    (l.pens.book ≡ l.first.book) × (l.pens.next ≡ l.counter) × (l.pens.left + l.counter ≡ l.count)
-    × (l.words.items ≡ named_from l.first.book 0 l.counter) × (length l.words.items ≡ l.counter) × (l.count ≤ vec_capacity l.words)
+    (l.pens.book ≡ l.first.book) × (l.pens.next ≡ l.counter) × (l.pens.left + l.counter ≡ l.number)
+    × (l.words.items ≡ named_from l.first.book 0 l.counter) × (length l.words.items ≡ l.counter) × (l.number ≤ vec_capacity l.words)

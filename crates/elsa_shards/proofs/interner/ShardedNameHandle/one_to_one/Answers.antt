@@ -1,4 +1,4 @@
-use Rattle.std.proofs.Common.{◌≡◌, ◌<◌, Some, length, ap, sym, ◌∙◌, arith}
+use Rattle.std.proofs.Common.{◌<◌, Some, length, ap, sym, ◌∙◌, arith}
 use Rattle.std.proofs.lemmas.Option.{slice_get-get_or}
 use Rattle.elsa_shards.proofs.NumberLemmas.{agree_more}
 use Rattle.elsa_shards.proofs.interner.ShardedNameHandle.one_to_one.Goals as goal
