@@ -101,7 +101,7 @@ module _ {S A : Type 0} (moves : List (Event S) → List (Event S) → A → Typ
         let own : word_at (8 * k + j) more ≡ x = ap (λ n. first_not_0 n 0) (own_word S (8 * k + j) x) ∙ first_none x in
         let now : word_at (8 * k + j) (log ++ more) ≡ x = value_append (8 * k + j) log more ∙ (ap (λ n. first_not_0 n (word_at (8 * k + j) more)) was ∙ own) in
         let others : (d : ℕ) → (d ≡ 8 * k + j → ⊥) → word_at d (log ++ more) ≡ word_at d log =
-            λ d ne. value_append d log more ∙ (ap (first_not_0 (word_at d log)) (ap (λ n. first_not_0 n 0) (other_word S (8 * k + j) d x (λ same. ne (sym same)))) ∙ first_none (word_at d log)) in
+        λ d ne. value_append d log more ∙ (ap (first_not_0 (word_at d log)) (ap (λ n. first_not_0 n 0) (other_word S (8 * k + j) d x (λ same. ne (sym same)))) ∙ first_none (word_at d log)) in
         let set : (i : ℕ) → i < 8 → digit bits i new ≡ word_at (8 * k + i) (log ++ more) = λ i ith. elim (cases_eq i j) [
           | inl same ↦ ap (λ m. digit bits m new) same ∙ (ap (digit bits j) sum ∙ (set_same bits j old x free fits ∙ (sym now ∙ ap (λ m. word_at (8 * k + m) (log ++ more)) (sym same))))
           | inr ne ↦ ap (digit bits i) sum ∙ (set_other bits j i old x free fits ne ∙ (ap (λ b. digit b i old) width ∙ (shows i ith ∙ sym (others (8 * k + i) (λ same. ne (omega (arith, same)))))))

@@ -1,6 +1,6 @@
 //! The hash index of a concurrent map whose lookups take no lock. An index entry is a tag, 8 bits
-//! of a key's hash, and a number, the key's index plus 1. Each of them changes once, from 0, so what
-//! a thread has observed of the index entries stays true forever.
+//! of a key's hash, and a number, the key's index plus 1. Each of them changes once, from 0, so
+//! what a thread has observed of the index entries stays true forever.
 //!
 //! A [`row`] is one hash index: an array of index entries. [`probe`] finds an index in a row and
 //! enters one, while other threads enter others. [`entry`] defines what an entry of a list contains

@@ -131,7 +131,8 @@ pub fn find<S, W: Words<S>, F: Fn(usize) -> bool>(
 }
 
 /// Enters an index under a hash, in the first index entry of its probe whose tag is 0. The tag is
-/// set before the number; a thread that has loaded only the tag continues with the next index entry.
+/// set before the number; a thread that has loaded only the tag continues with the next index
+/// entry.
 ///
 /// # Errors
 /// Fails if no tag of the row is 0. It may also fail if other threads set tags or numbers of the

@@ -1,6 +1,6 @@
 //! A row of index entries, in one book of `logbook`: words with eight tags of 8 bits each, then
-//! words with two numbers of 32 bits each. A tag or a number is a digit of its word, and the rule of
-//! the book states that each digit has the value of the first event that set it.
+//! words with two numbers of 32 bits each. A tag or a number is a digit of its word, and the rule
+//! of the book states that each digit has the value of the first event that set it.
 ghost use Rattle.std.specs.Prelude.{◌≡◌, ℕ, ◌+◌, ◌*◌, ◌^◌, ◌<◌, ◌≤◌, true, [], ◌∷◌, length, IfOk, Some};
 ghost use mathlib.Core.List.{IsPrefix};
 ghost use Rattle.elsa_hash_index.specs.Row.{Shows, bits_of, builder_of, count_of, digit, named_from, word_at, words_of};
@@ -261,7 +261,6 @@ impl<'a, S: Copy + Drop, A: Allocator> RowView<'a, S, A> {
 }
 
 impl<'a, S: Copy + Drop, A: Allocator> Words<S> for RowView<'a, S, A> {
-    ghost use Rattle.std.specs.Prelude.{length};
     ghost use Rattle.elsa_hash_index.specs.Row.{word_at};
 
     ghost whose = { λ v. (v.seen.book, v.row.now.builder) };

@@ -231,7 +231,7 @@ impl<'m, K: Drop + Hash, V: Drop, S: BuildHasher + Copy + Drop, A: Allocator + C
         ensures continues { Continues self.old self.new }
         ensures full { IsTrue result ↔ (2 ^ 32 ≤ length self.new.seen + 1) }
     {
-        self.list.len() >= LIMIT
+        LIMIT <= self.list.len()
     }
 
     /// Ends a hold with an entry at the end, if its memory can be allocated. Where a buffer begins,

@@ -17,7 +17,7 @@ loop-step-preserved g c =
     let mid = known c.tag-found.new.self in
     let later = later_later _ _ _ inv.2 t.later in
     let tagged : before slot ≡ tag_of hash → c.tag-found.result ≡ c.tagged-tag.result =
-        λ e. t.tag ∙ (ap mid c.walked-at.ensures.entry ∙ (still before mid slot (tag_of hash) later e (tag_positive hash) ∙ sym c.tagged-tag.ensures.tag)) in
+    λ e. t.tag ∙ (ap mid c.walked-at.ensures.entry ∙ (still before mid slot (tag_of hash) later e (tag_positive hash) ∙ sym c.tagged-tag.ensures.tag)) in
     let counted = t.same.0 ∙ inv.0 in
     let here : number_of (g.W.Words.count c.tag-found.new.self) c.walked-at.result ≡ number_of count slot = ap (λ n. number_of n c.walked-at.result) (counted ∙ sym c.len-count.ensures) ∙ ap (number_of count) c.walked-at.ensures.entry in
     elim c.if-found-tag.branch [
@@ -32,7 +32,7 @@ loop-step-preserved g c =
           let after = known w.number-number.new.self in
           let later_after = later_later before mid after later p.later in
           let number : (place : ℕ) → before (number_of count slot) ≡ place + 1 → w.number-number.result ≡ place + 1 =
-              λ place e. p.number ∙ (ap after here ∙ still before after (number_of count slot) (place + 1) later_after e (omega arith)) in (
+          λ place e. p.number ∙ (ap after here ∙ still before after (number_of count slot) (place + 1) later_after e (omega arith)) in (
             ap g.W.Words.count w.words-is ∙ (p.same.0 ∙ counted),
             ap g.W.Words.whose w.words-is ∙ (p.same.1 ∙ (t.same.1 ∙ inv.1)),
             subst (λ z. IsLater before (known z)) (sym w.words-is) later_after,
@@ -46,11 +46,11 @@ loop-step-preserved g c =
           let after = known w.number-number.new.self in
           let later_after = later_later before mid after later p.later in
           let number : (place : ℕ) → before (number_of count slot) ≡ place + 1 → w.number-number.result - 1 ≡ place =
-              λ place e. let n = p.number ∙ (ap after here ∙ still before after (number_of count slot) (place + 1) later_after e (omega arith)) in omega (arith, n) in (
+          λ place e. let n = p.number ∙ (ap after here ∙ still before after (number_of count slot) (place + 1) later_after e (omega arith)) in omega (arith, n) in (
             ap g.W.Words.count w.words-is ∙ (p.same.0 ∙ counted),
             ap g.W.Words.whose w.words-is ∙ (p.same.1 ∙ (t.same.1 ∙ inv.1)),
             subst (λ z. IsLater before (known z)) (sym w.words-is) later_after,
             missed_more count before hash step _ inv.3 (λ place tag there lt. subst (λ k. goal.F-post g c.args.is_it k false) (number place there)
-            (subst (goal.F-post g c.args.is_it (w.number-number.result - 1)) w.if-is_it.false w.is_it.ensures)),
+                (subst (goal.F-post g c.args.is_it (w.number-number.result - 1)) w.if-is_it.false w.is_it.ensures)),
           )
     ]
