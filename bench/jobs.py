@@ -380,8 +380,9 @@ def shared_jobs(peers, bench):
         yield Job(SHARED, f"texts {title}, 1 thread", sides, by="inside", references=(alone,))
     # Just after a hash index was opened, by the `put` of index 262,143.
     yield job("names all distinct, 270,000", "distinct", "1", "270000", "", "1.2")
+    # The numbers of an interner of shards have gaps, so with one thread their sum would not be that of the other sides.
     for words, title in (("zipf", "by Zipf"), ("distinct", "all distinct")):
-        for threads in ("1", "2", "4"):
+        for threads in ("2", "4"):
             goal = "0.8" if threads == "4" else ""
             yield job(f"names {title}", words, threads, f"{threads}000000", goal, "", "shards_")
 
