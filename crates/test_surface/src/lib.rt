@@ -31,6 +31,8 @@ mod locked_text_tests;
 #[cfg(test)]
 mod map_form_tests;
 #[cfg(test)]
+mod map_machine_tests;
+#[cfg(test)]
 mod name_handle_tests;
 #[cfg(test)]
 mod names;
