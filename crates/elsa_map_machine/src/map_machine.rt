@@ -20,11 +20,13 @@
 //! sequence, nor buffers: an allocation may fail in each insertion of a new key. Keys and values
 //! are numbers of 64 bits.
 //!
-//! In two cases a turn is larger than a step of the code. A turn that loads an index entry also
+//! In three cases a turn is larger than a step of the code. A turn that loads an index entry also
 //! compares the key of the observed entry at its index, which doesn't change. A turn that acquires
 //! the lock or sets an index entry is an exchange without the load before it; if the word has
-//! changed since that load, the exchange fails, and then it is a load. A thread that has observed
-//! no entry follows the index entries too; the code skips that walk.
+//! changed since that load, the exchange fails, and then it is a load. An index entry is loaded and
+//! set at once; the code sets its tag and then its number, and a look-up that finds the tag alone
+//! passes on. A thread that has observed no entry follows the index entries too; the code skips
+//! that walk.
 ghost use Rattle.std.specs.Prelude.{◌≡◌, ℕ, IfOk, drop, take};
 ghost use Rattle.elsa_map_machine.specs.Machine.{opening_threads, world_of};
 ghost use Rattle.elsa_map_machine.specs.Progress.{ThreadsEnd};
