@@ -19,11 +19,11 @@ mod shards;
 
 use crate::lists::{FreeList, LockedList};
 use crate::maps::{FreeMap, HashedMap, OrderedMap};
-use crate::names::Names;
+use crate::names::{Names, ShardedNames};
 use crate::owned::{OwnedList, OwnedMap};
 use crate::script::Script;
 use crate::shards::{FreeShards, LockedShards};
-use elsa::interner::SharedInterner;
+use elsa::interner::{ShardedInterner, SharedInterner};
 use elsa::sync::{
     FrozenBTreeMap, FrozenMap, FrozenVec, LockFreeFrozenMap, LockFreeFrozenVec, LockFreeShardedMap,
     ShardedMap,
@@ -42,7 +42,7 @@ const USAGE: &str = "usage: test_stress SEED SECONDS PAIRS CALLS";
 const SHARDS: usize = 3;
 
 /// The names of the collections.
-const FORMS: [&str; 11] = [
+const FORMS: [&str; 12] = [
     "LockFreeFrozenVec",
     "LockFreeFrozenMap",
     "LockFreeFrozenVec of owners",
@@ -53,6 +53,7 @@ const FORMS: [&str; 11] = [
     "ShardedMap",
     "LockFreeShardedMap",
     "SharedInterner",
+    "ShardedInterner",
     "Recorder",
 ];
 
@@ -104,6 +105,10 @@ fn of_form<R: Threads + Wait + Sync>(
         "SharedInterner" => {
             let names = SharedInterner::new(alloc)?;
             form::runs_well(rt, alloc, heap, &Names { names }, script)
+        }
+        "ShardedInterner" => {
+            let names = ShardedInterner::with_shards(heap, SHARDS, BuildHasherDefault::new())?;
+            form::runs_well(rt, alloc, heap, &ShardedNames { names }, script)
         }
         _ => recorded::runs_well(rt, alloc, heap, heap, script),
     }
