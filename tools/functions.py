@@ -23,25 +23,32 @@ def word(text):
     return kind if is_parameter else kind + word(target)
 
 
-def without_parameters(header):
-    """The text of an impl's header after `impl` and its parameters, up to `where` or the brace."""
-    rest, depth = header[len("impl") :].lstrip(), 0
+def parts_of_header(header):
+    """The parameters of an impl, and the text of its header after them, up to `where` or the brace."""
+    parameters, rest, depth = "", header[len("impl") :].lstrip(), 0
     if rest.startswith("<"):
         for at, letter in enumerate(rest):
             depth += (letter == "<") - (letter == ">" and rest[at - 1] not in "-=")
             if not depth:
-                rest = rest[at + 1 :]
+                parameters, rest = rest[: at + 1], rest[at + 1 :]
                 break
-    return re.split(r"\bwhere\b|\{", rest)[0].strip()
+    return parameters, re.split(r"\bwhere\b|\{", rest)[0].strip()
+
+
+def without_parameters(header):
+    """The text of an impl's header after `impl` and its parameters, up to `where` or the brace."""
+    return parts_of_header(header)[1]
 
 
 def impl_name(header):
     """The pattern of the checker's name of an impl: the type and the trait, and a suffix if several have that name; for
-    `Drop` only the type."""
-    plain = without_parameters(header)
+    `Drop` only the type. The type of an impl for each type, as `impl<Q: Query> Seeks for Q`, is named Any."""
+    parameters, plain = parts_of_header(header)
     trait, _, target = plain.rpartition(" for ")
     if trait == "Drop":
         return word(target) + r"(\+[\w+]*)?"
+    if trait and re.search(rf"[<,]\s*{re.escape(target)}\s*[:,=>]", parameters):
+        return "Any" + word(trait) + r"\w*(\+[\w+]*)?"
     arguments = r"\w*" if "<" in target else ""
     return word(target) + arguments + word(trait) + r"\w*(\+[\w+]*)?" if trait else word(plain) + r"(\+[\w+]*)?"
 
