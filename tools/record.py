@@ -34,7 +34,6 @@ STRESS = "test_stress"
 STRESS_MOST = 5
 # What runs the checks: a change makes all of them due.
 TOOLS = ("prove", "tools/mutants", "tools/functions.py", "tools/definition_faults", "tools/record.py", "tools/kit.py")
-MACHINE = "elsa_machine"
 
 Check = collections.namedtuple("Check", "kind name key")
 Line = collections.namedtuple("Line", "key landing")
@@ -105,10 +104,11 @@ def test_functions():
 
 
 def definition_faults():
-    crate = f"crates/{MACHINE}"
-    common = digest_of_files(f"{crate}/specs", f"{crate}/src")
-    for file in sorted((root / crate / "definition-faults").glob("*.fault")):
-        yield Check("fault", file.stem, digest(file.read_text(), common))
+    for name in lines():
+        common = None
+        for file in sorted((root / "crates" / name / "definition-faults").glob("*.fault")):
+            common = common or digest_of_files(f"crates/{name}/specs", f"crates/{name}/src")
+            yield Check("fault", f"{name}/{file.stem}", digest(file.read_text(), common))
 
 
 def checks():
