@@ -12,7 +12,7 @@ use Rattle.elsa_map_machine.specs.declared.map_machine.Plan.{Plan}
 use Rattle.elsa_map_machine.specs.declared.map_machine.Plan.TheVariants.{Inserter, Finder}
 use Rattle.elsa_map_machine.specs.declared.map_machine.World.{World}
 use Rattle.elsa_map_machine.specs.declared.map_machine.turns.Phase.{Phase}
-use Rattle.elsa_map_machine.specs.declared.map_machine.turns.Phase.TheVariants.{Seeking, Looking, Again, Acquired, Entering, Entered, Written, Denied}
+use Rattle.elsa_map_machine.specs.declared.map_machine.turns.Phase.TheVariants.{Seeking, Looking, Again, Acquired, Entering, Tagged, Entered, Written, Denied}
 use Rattle.elsa_map_machine.specs.declared.map_machine.turns.Thread.{Thread}
 
 -- The value of this entry, if it has the key.
@@ -24,6 +24,11 @@ hit_in key None = None
 -- and it has the key. A thread reads only entries that it has observed.
 abbrev pub hit : List Entry → ℕ → ℕ → ℕ → Option ℕ
 hit slots seen word key = if nat_lt word seen then hit_in key (slice_get slots word) else None
+
+-- The value that a walk finds at the index entry k, which has the index `word`. If only the tag of
+-- the index entry is set, and not its number, the walk finds nothing there.
+abbrev pub read_at : {A : Type 0} → World A → ℕ → ℕ → ℕ → ℕ → Option ℕ
+read_at w seen k word key = if nat_lt k w.numbers then hit w.slots seen word key else None
 
 -- The world and the thread after a turn.
 pub record Moved (A : Type 0) : Type 0 where
@@ -50,22 +55,22 @@ next_call t = record t { next = t.next + 1; phase = Seeking 0 }
 abbrev pub in_phase : Thread → Phase → Thread
 in_phase t phase = record t { phase = phase }
 
--- A turn of a walk at an index entry that is set, for an entry with the key or not: the call
+-- A turn of a walk at an index entry whose tag is set, for an entry with the key or not: the call
 -- returns, or the walk is in the phase `further`.
 abbrev pub walk_turn : {A : Type 0} → ℕ → ℕ → Option ℕ → Phase → World A → Thread → Moved A
 walk_turn me word (Some value) further w t = moved (replied w (Found me word value)) (next_call t)
 walk_turn me word None further w t = moved w (in_phase t further)
 
--- A turn of a walk that has passed k index entries; the next one is given, if it is set. At a free
--- one the walk ends: no observed entry has the key.
+-- A turn of a walk that has passed k index entries; the next one is given, if its tag is set. At a
+-- free one the walk ends: no observed entry has the key.
 abbrev pub seek_turn : {A : Type 0} → ℕ → ℕ → ℕ → Option ℕ → World A → Thread → Moved A
-seek_turn me key k (Some word) w t = walk_turn me word (hit w.slots t.seen word key) (Seeking (k + 1)) w t
+seek_turn me key k (Some word) w t = walk_turn me word (read_at w t.seen k word key) (Seeking (k + 1)) w t
 seek_turn me key k None w t = moved w (in_phase t Looking)
 
 -- A turn of a finder's second walk: at a free index entry the look-up returns that the key is
 -- absent.
 abbrev pub again_turn : {A : Type 0} → ℕ → ℕ → ℕ → Option ℕ → World A → Thread → Moved A
-again_turn me key k (Some word) w t = walk_turn me word (hit w.slots t.seen word key) (Again (k + 1)) w t
+again_turn me key k (Some word) w t = walk_turn me word (read_at w t.seen k word key) (Again (k + 1)) w t
 again_turn me key k None w t = moved (replied w (Absent me t.seen)) (next_call t)
 
 -- A turn of an inserter at the end of its walk. It acquires the lock at the observed length if the
@@ -90,9 +95,10 @@ look_turn me w t =
     else moved w (record t { seen = w.length; phase = Again 0 })
 
 -- An inserter's turn with its next pair. Seeking: it walks. Looking: it acquires. Acquired: it
--- allocates, or the insertion fails. Entering: it sets the first free index entry to the index of
--- the new entry. Entered: it writes the slot. Written: it publishes the entry and releases the
--- lock. Denied: it releases the lock, and the list is unchanged.
+-- allocates, or the insertion fails. Entering: it sets the tag of the first free index entry, which
+-- is that of the new entry. Tagged: it sets the number of that index entry. Entered: it writes the
+-- slot. Written: it publishes the entry and releases the lock. Denied: it releases the lock, and
+-- the list is unchanged.
 abbrev pub inserter_turn : {A : Type 0} → ℕ → Bool → Option (ℕ × ℕ) → World A → Thread → Phase → Moved A
 inserter_turn me memory (Some pair) w t (Seeking k) = seek_turn me pair.0 k (slice_get w.row k) w t
 inserter_turn me memory (Some pair) w t Looking = acquire_turn me w t
@@ -100,7 +106,8 @@ inserter_turn me memory (Some pair) w t Acquired = moved w (in_phase t (if memor
 inserter_turn me memory (Some pair) w t (Entering k) =
     if nat_lt k (length w.row)
     then moved w (in_phase t (Entering (k + 1)))
-    else moved (record w { row = w.row ++ t.seen ∷ [] }) (in_phase t Entered)
+    else moved (record w { row = w.row ++ t.seen ∷ [] }) (in_phase t Tagged)
+inserter_turn me memory (Some pair) w t Tagged = moved (record w { numbers = t.seen + 1 }) (in_phase t Entered)
 inserter_turn me memory (Some pair) w t Entered =
     moved (record w { slots = w.slots ++ (record { writer = me; key = pair.0; value = pair.1 }) ∷ [] }) (in_phase t Written)
 inserter_turn me memory (Some pair) w t Written =
@@ -117,6 +124,7 @@ finder_turn me (Some key) w t Looking = look_turn me w t
 finder_turn me (Some key) w t (Again k) = again_turn me key k (slice_get w.row k) w t
 finder_turn me (Some key) w t Acquired = moved w t
 finder_turn me (Some key) w t (Entering k) = moved w t
+finder_turn me (Some key) w t Tagged = moved w t
 finder_turn me (Some key) w t Entered = moved w t
 finder_turn me (Some key) w t Written = moved w t
 finder_turn me (Some key) w t Denied = moved w t
@@ -156,7 +164,7 @@ opening_thread plan = record { next = 0; seen = 0; phase = Seeking 0 }
 
 -- The world at the start: the length is 0, the lock is free, and the lists are empty.
 abbrev pub opening_world : {A : Type 0} → World A
-opening_world = record { length = 0; held = None; row = []; slots = []; answers = [] }
+opening_world = record { length = 0; held = None; row = []; numbers = 0; slots = []; answers = [] }
 
 -- The threads at the start, one for each plan.
 abbrev pub opening_threads : {A : Type 0} → List (Plan A) → List Thread
@@ -181,6 +189,7 @@ IsHolding Looking = ⊥
 IsHolding (Again k) = ⊥
 IsHolding Acquired = Unit {0}
 IsHolding (Entering k) = Unit {0}
+IsHolding Tagged = Unit {0}
 IsHolding Entered = Unit {0}
 IsHolding Written = Unit {0}
 IsHolding Denied = Unit {0}

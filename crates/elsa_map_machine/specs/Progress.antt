@@ -13,9 +13,10 @@ use Rattle.elsa_map_machine.specs.Machine.{world_of}
 use Rattle.elsa_map_machine.specs.Worlds.{answers_of, list_of, pairs_in}
 
 -- The greatest number of turns after which a thread that has the lock has released it: it
--- allocates, passes the index entries of the list, sets one, writes the slot and publishes.
+-- allocates, passes the index entries of the list, sets the tag and the number of one, writes the
+-- slot and publishes.
 abbrev pub hold_turns : ℕ → ℕ
-hold_turns length = length + 4
+hold_turns length = length + 5
 
 -- This thread releases the lock within the turns `rest`, after this number of its turns there at
 -- the latest, and receives a result.
@@ -54,11 +55,11 @@ pub record IsFound {A : Type 0} (thread : ℕ) (before after : World A) : Type 0
 
 -- If the lock is free and the length is below 2 ^ 32 - 1, an inserter that runs alone, with memory,
 -- has inserted its next pair, or received the value that its key has, after three turns for each
--- entry and eight more at the latest: two walks, and the passing of the index entries while it has
+-- entry and nine more at the latest: two walks, and the passing of the index entries while it has
 -- the lock.
 abbrev pub InsertionsEnd : {A : Type 0} → List (Plan A) → List Turn → Type 0
 InsertionsEnd plans front = (thread : ℕ) (pairs : List (ℕ × ℕ)) (pair : ℕ × ℕ) → slice_get plans thread ≡ Some (Inserter pairs) → slice_get pairs (length (answers_of thread (world_of plans front).answers)) ≡ Some pair →
-    (world_of plans front).held ≡ None → (world_of plans front).length < 2 ^ 32 - 1 → (turns : ℕ) × (turns ≤ 3 * (world_of plans front).length + 8) ×
+    (world_of plans front).held ≡ None → (world_of plans front).length < 2 ^ 32 - 1 → (turns : ℕ) × (turns ≤ 3 * (world_of plans front).length + 9) ×
     (IsInserted thread pair (world_of plans front) (world_of plans (front ++ turns_alone thread turns)) ⊎ IsFound thread (world_of plans front) (world_of plans (front ++ turns_alone thread turns)))
 
 -- In a round each thread that continues has a turn, in any order; other threads may have turns in
@@ -80,7 +81,7 @@ calls_of (Finder keys) = length keys
 -- the row has at most m index entries: at most one walk for each length that it observes, and a
 -- hold.
 abbrev pub call_rounds : ℕ → ℕ
-call_rounds m = m * (m + 2) + (2 * m + 6)
+call_rounds m = m * (m + 2) + (2 * m + 7)
 
 -- The greatest number of rounds that these plans take: in a round in which one call waits, another
 -- takes one of these turns.

@@ -10,7 +10,7 @@ use Rattle.elsa_map_machine.specs.declared.map_machine.Plan.{Plan}
 use Rattle.elsa_map_machine.specs.declared.map_machine.Plan.TheVariants.{Inserter, Finder}
 use Rattle.elsa_map_machine.specs.declared.map_machine.World.{World}
 use Rattle.elsa_map_machine.specs.declared.map_machine.turns.Phase.{Phase}
-use Rattle.elsa_map_machine.specs.declared.map_machine.turns.Phase.TheVariants.{Seeking, Looking, Again, Acquired, Entering, Entered, Written, Denied}
+use Rattle.elsa_map_machine.specs.declared.map_machine.turns.Phase.TheVariants.{Seeking, Looking, Again, Acquired, Entering, Tagged, Entered, Written, Denied}
 use Rattle.elsa_map_machine.specs.declared.map_machine.turns.Thread.{Thread}
 use Rattle.elsa_map_machine.specs.Machine.{Machine, machine_of, turned, world_of, IsHolding}
 use Rattle.elsa_map_machine.specs.Worlds.{answers_of, list_of}
@@ -24,15 +24,28 @@ pub record Leaves {A : Type 0} (v w : World A) : Type 0 where
   pub stays : Stays (shared_of v) (shared_of w)
   pub held_is : w.held ≡ v.held
   pub row_is : w.row ≡ v.row
+  pub numbers_is : w.numbers ≡ v.numbers
   pub slots_are : w.slots ≡ v.slots
 
--- A turn of the thread that has the lock sets one index entry, the first free one, to the index at
--- which the thread inserts, which is the length.
-pub record SetsOne {A : Type 0} (me : ℕ) (v w : World A) : Type 0 where
+-- A turn of the thread that has the lock sets one tag, that of the first free index entry. The
+-- index entry is that of the index at which the thread inserts, which is the length.
+pub record SetsTag {A : Type 0} (me : ℕ) (v w : World A) : Type 0 where
   pub holds : v.held ≡ Some me
   pub stays : Stays (shared_of v) (shared_of w)
   pub held_is : w.held ≡ v.held
   pub row_is : w.row ≡ v.row ++ v.length ∷ []
+  pub numbers_is : w.numbers ≡ v.numbers
+  pub slots_are : w.slots ≡ v.slots
+
+-- A turn of the thread that has the lock sets one number, that of the only index entry that has its
+-- tag alone.
+pub record SetsNumber {A : Type 0} (me : ℕ) (v w : World A) : Type 0 where
+  pub at : length v.row ≡ v.numbers + 1
+  pub holds : v.held ≡ Some me
+  pub stays : Stays (shared_of v) (shared_of w)
+  pub held_is : w.held ≡ v.held
+  pub row_is : w.row ≡ v.row
+  pub numbers_is : w.numbers ≡ v.numbers + 1
   pub slots_are : w.slots ≡ v.slots
 
 -- A turn of the thread that has the lock writes one slot, that of the length.
@@ -44,6 +57,7 @@ pub record WritesOne {A : Type 0} (me : ℕ) (v w : World A) : Type 0 where
   pub stays : Stays (shared_of v) (shared_of w)
   pub held_is : w.held ≡ v.held
   pub row_is : w.row ≡ v.row
+  pub numbers_is : w.numbers ≡ v.numbers
   pub slots_are : w.slots ≡ v.slots ++ entry ∷ []
 
 -- A turn acquires the lock for its thread.
@@ -51,6 +65,7 @@ pub record AcquiresOwn {A : Type 0} (me : ℕ) (v w : World A) : Type 0 where
   pub acquires : Acquires v.length (shared_of v) (shared_of w)
   pub holds : w.held ≡ Some me
   pub row_is : w.row ≡ v.row
+  pub numbers_is : w.numbers ≡ v.numbers
   pub slots_are : w.slots ≡ v.slots
 
 -- A turn of the thread that has the lock publishes that thread's entry and releases the lock.
@@ -60,6 +75,7 @@ pub record PublishesOwn {A : Type 0} (me : ℕ) (v w : World A) : Type 0 where
   pub holds : v.held ≡ Some me
   pub publishes : Publishes entry (shared_of v) (shared_of w)
   pub row_is : w.row ≡ v.row
+  pub numbers_is : w.numbers ≡ v.numbers
   pub slots_are : w.slots ≡ v.slots
 
 -- A turn of the thread that has the lock releases it, and the list is unchanged.
@@ -67,12 +83,13 @@ pub record ReleasesOwn {A : Type 0} (me : ℕ) (v w : World A) : Type 0 where
   pub holds : v.held ≡ Some me
   pub releases : Releases (shared_of v) (shared_of w)
   pub row_is : w.row ≡ v.row
+  pub numbers_is : w.numbers ≡ v.numbers
   pub slots_are : w.slots ≡ v.slots
 
 -- A turn of this thread is one step: it changes at most one thing that is shared. Only the thread
 -- that has the lock changes an index entry, a slot or the list.
 abbrev pub IsOneStep : {A : Type 0} → ℕ → World A → World A → Type 0
-IsOneStep me v w = Leaves v w ⊎ SetsOne me v w ⊎ WritesOne me v w ⊎ AcquiresOwn me v w ⊎ PublishesOwn me v w ⊎ ReleasesOwn me v w
+IsOneStep me v w = Leaves v w ⊎ SetsTag me v w ⊎ SetsNumber me v w ⊎ WritesOne me v w ⊎ AcquiresOwn me v w ⊎ PublishesOwn me v w ⊎ ReleasesOwn me v w
 
 -- Each possible next turn is one step.
 abbrev pub AreStepsAtomic : {A : Type 0} → List (Plan A) → Machine A → Type 0
@@ -113,6 +130,7 @@ passed_of Looking = 0
 passed_of (Again k) = k
 passed_of Acquired = 0
 passed_of (Entering k) = k
+passed_of Tagged = 0
 passed_of Entered = 0
 passed_of Written = 0
 passed_of Denied = 0
@@ -124,22 +142,25 @@ HasPassedAll w Looking = ⊥
 HasPassedAll w (Again k) = length w.row ≤ k
 HasPassedAll w Acquired = ⊥
 HasPassedAll w (Entering k) = length w.row ≤ k
+HasPassedAll w Tagged = ⊥
 HasPassedAll w Entered = ⊥
 HasPassedAll w Written = ⊥
 HasPassedAll w Denied = ⊥
 
 -- What one turn of a thread may do, so that it isn't larger than a step. It passes at most one
 -- index entry, and a walk ends only after the last one. It reads the length only after a walk, and
--- observes no other length. It reads an entry only at the next index entry, at an index that the
--- thread has observed. It reports an absent key after its read of the length, or after the walk
--- that follows it. A thread that acquires the lock allocates in a turn of its own; an insertion
--- fails only if that allocation does, or at 2 ^ 32 - 1 observed entries.
+-- observes no other length. It sets a number only in the turn after that of the tag. It reads an
+-- entry only at the next index entry, if its number is set, at an index that the thread has
+-- observed. It reports an absent key after its read of the length, or after the walk that follows
+-- it. A thread that acquires the lock allocates in a turn of its own; an insertion fails only if
+-- that allocation does, or at 2 ^ 32 - 1 observed entries.
 pub record IsSingle {A : Type 0} (turn : Turn) (v : World A) (t : Thread) (w : World A) (u : Thread) : Type 0 where
   pub passes_one : passed_of u.phase ≤ passed_of t.phase + 1
   pub ends : u.phase ≡ Looking → (t.phase ≡ Looking) ⊎ HasPassedAll v t.phase
-  pub entered : u.phase ≡ Entered → HasPassedAll v t.phase
+  pub tagged : u.phase ≡ Tagged → HasPassedAll v t.phase
+  pub entered : u.phase ≡ Entered → t.phase ≡ Tagged
   pub observes : (u.seen ≡ t.seen) ⊎ ((u.seen ≡ w.length) × ((t.phase ≡ Looking) ⊎ (t.phase ≡ Written)))
-  pub found : (index value : ℕ) → w.answers ≡ v.answers ++ Found turn.thread index value ∷ [] → (slice_get v.row (passed_of t.phase) ≡ Some index) × (index < t.seen)
+  pub found : (index value : ℕ) → w.answers ≡ v.answers ++ Found turn.thread index value ∷ [] → (slice_get v.row (passed_of t.phase) ≡ Some index) × (index < t.seen) × (passed_of t.phase < v.numbers)
   pub absent : (n : ℕ) → w.answers ≡ v.answers ++ Absent turn.thread n ∷ [] → (n ≡ t.seen) × (((t.phase ≡ Looking) × (n ≡ v.length)) ⊎ HasPassedAll v t.phase)
   pub acquires : v.held ≡ None → w.held ≡ Some turn.thread → (t.phase ≡ Looking) × (u.phase ≡ Acquired)
   pub allocates : (k : ℕ) → u.phase ≡ Entering k → ((t.phase ≡ Acquired) × (turn.memory ≡ true)) ⊎ ((j : ℕ) × (t.phase ≡ Entering j))
@@ -157,6 +178,7 @@ HasNotRead Looking = Unit {0}
 HasNotRead (Again k) = ⊥
 HasNotRead Acquired = Unit {0}
 HasNotRead (Entering k) = Unit {0}
+HasNotRead Tagged = Unit {0}
 HasNotRead Entered = Unit {0}
 HasNotRead Written = Unit {0}
 HasNotRead Denied = Unit {0}

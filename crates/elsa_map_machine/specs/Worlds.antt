@@ -16,23 +16,26 @@ abbrev pub list_of : {A : Type 0} → World A → List Entry
 list_of w = take w.length w.slots
 
 -- What the earlier world has is unchanged in the later one: the list, the slots that are written,
--- and the index entries that are set are prefixes of those of the later world.
+-- and the index entries whose tag or number is set are prefixes of those of the later world.
 pub record Grows {A : Type 0} (earlier later : World A) : Type 0 where
   pub list : (more : List Entry) × (list_of later ≡ list_of earlier ++ more)
   pub slots : (more : List Entry) × (later.slots ≡ earlier.slots ++ more)
   pub row : (more : List ℕ) × (later.row ≡ earlier.row ++ more)
+  pub numbers : earlier.numbers ≤ later.numbers
 
 -- Two entries with one key are one entry.
 abbrev pub AreKeysDistinct : List Entry → Type 0
 AreKeysDistinct entries = (i j : ℕ) (one other : Entry) → slice_get entries i ≡ Some one → slice_get entries j ≡ Some other → one.key ≡ other.key → i ≡ j
 
 -- The index entries that are set and the slots that are written: those of the list, and while a
--- thread has the lock, at most another one. An index entry is set before its slot is written.
+-- thread has the lock, at most another one. The tag of an index entry is set before its number, and
+-- its number before its slot is written.
 pub record IsAheadByOne {A : Type 0} (w : World A) : Type 0 where
   pub slots_written : w.length ≤ length w.slots
-  pub set_first : length w.slots ≤ length w.row
+  pub set_first : length w.slots ≤ w.numbers
+  pub tagged_first : w.numbers ≤ length w.row
   pub one_more : length w.row ≤ w.length + 1
-  pub none_ahead : w.held ≡ None → (length w.row ≡ w.length) × (length w.slots ≡ w.length)
+  pub none_ahead : w.held ≡ None → (length w.row ≡ w.length) × (length w.slots ≡ w.length) × (w.numbers ≡ w.length)
 
 -- The row has the index of each entry of the list, and each index once; an index in the row is that
 -- of an entry of the list, or the index at which the thread with the lock inserts.
@@ -44,7 +47,7 @@ pub record HasRightRow {A : Type 0} (w : World A) : Type 0 where
 
 -- The world before the first turn: no entry, a free lock, no index entry and no result.
 abbrev pub IsEmpty : {A : Type 0} → World A → Type 0
-IsEmpty w = w ≡ record { length = 0; held = None; row = []; slots = []; answers = [] }
+IsEmpty w = w ≡ record { length = 0; held = None; row = []; numbers = 0; slots = []; answers = [] }
 
 -- The thread to which a result is returned.
 abbrev pub answer_thread : Answer → ℕ

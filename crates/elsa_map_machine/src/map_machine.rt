@@ -12,21 +12,20 @@
 //! once, and follows the index entries again if the list is longer. An insertion follows the index
 //! entries in the same way, and then acquires the lock at the length that it has observed. If the
 //! list is longer, it observes that length and follows the index entries again. With the lock it
-//! allocates, sets the first free index entry, writes the slot, and publishes, which releases the
-//! lock.
+//! allocates, sets the tag of the first free index entry, then its number, writes the slot, and
+//! publishes, which releases the lock. A look-up that finds a tag without its number passes on.
 //!
 //! All keys have one hash, so there is one probe sequence, `row`, and a look-up follows all its
 //! index entries. The machine has neither the larger row into which a row grows, nor a second probe
 //! sequence, nor buffers: an allocation may fail in each insertion of a new key. Keys and values
 //! are numbers of 64 bits.
 //!
-//! In three cases a turn is larger than a step of the code. A turn that loads an index entry also
-//! compares the key of the observed entry at its index, which doesn't change. A turn that acquires
-//! the lock or sets an index entry is an exchange without the load before it; if the word has
-//! changed since that load, the exchange fails, and then it is a load. An index entry is loaded and
-//! set at once; the code sets its tag and then its number, and a look-up that finds the tag alone
-//! passes on. A thread that has observed no entry follows the index entries too; the code skips
-//! that walk.
+//! In two cases a turn is larger than a step of the code. A turn that loads an index entry loads
+//! its tag and its number, and compares the key of the observed entry at its index, which doesn't
+//! change. A turn that acquires the lock, or sets a tag or a number, is an exchange without the
+//! load before it; if the word has changed since that load, the exchange fails, and then it is a
+//! load. A thread that has observed no entry follows the index entries too; the code skips that
+//! walk.
 ghost use Rattle.std.specs.Prelude.{◌≡◌, ℕ, IfOk, drop, take};
 ghost use Rattle.elsa_map_machine.specs.Machine.{opening_threads, world_of};
 ghost use Rattle.elsa_map_machine.specs.Progress.{ThreadsEnd};
@@ -93,9 +92,11 @@ pub struct World<A: Allocator = Global> {
     pub length: usize,
     /// The thread that has the lock, if there is one.
     pub held: Option<usize>,
-    /// The index entries of the probe sequence that are set, in its order. Each is the index of an
-    /// entry.
+    /// The index entries of the probe sequence whose tag is set, in its order, each with the index
+    /// of its entry.
     pub row: Items<usize, A>,
+    /// The number of index entries whose number is set: the first ones.
+    pub numbers: usize,
     /// The slots that are written, in order. The first `length` of them are the list.
     pub slots: Items<Entry, A>,
     /// The results of the calls, in order.
@@ -148,6 +149,7 @@ fn world_after<A: Allocator + Copy>(
         length: 0,
         held: None,
         row: Items::new(alloc),
+        numbers: 0,
         slots: Items::new(alloc),
         answers: Items::new(alloc),
     };

@@ -10,9 +10,9 @@ use Rattle.elsa_map_machine.specs.declared.map_machine.Plan.{Plan}
 use Rattle.elsa_map_machine.specs.declared.map_machine.Plan.TheVariants.{Inserter, Finder}
 use Rattle.elsa_map_machine.specs.declared.map_machine.World.{World}
 use Rattle.elsa_map_machine.specs.declared.map_machine.turns.Phase.{Phase}
-use Rattle.elsa_map_machine.specs.declared.map_machine.turns.Phase.TheVariants.{Seeking, Looking, Again, Acquired, Entering, Entered, Written, Denied}
+use Rattle.elsa_map_machine.specs.declared.map_machine.turns.Phase.TheVariants.{Seeking, Looking, Again, Acquired, Entering, Tagged, Entered, Written, Denied}
 use Rattle.elsa_map_machine.specs.declared.map_machine.turns.Thread.{Thread}
-use Rattle.elsa_map_machine.specs.Machine.{Moved, Machine, hit, walk_turn, seek_turn, again_turn, inserter_turn, finder_turn, thread_turn, turned, machine_of, world_of, IsHolding}
+use Rattle.elsa_map_machine.specs.Machine.{Moved, Machine, read_at, walk_turn, seek_turn, again_turn, inserter_turn, finder_turn, thread_turn, turned, machine_of, world_of, IsHolding}
 use Rattle.elsa_map_machine.specs.Worlds.{answers_of}
 use Rattle.elsa_map_machine.specs.Progress.{HoldsEnd, LookUpsEnd}
 use Rattle.elsa_map_machine.proofs.MapLemmas.Lists.{entry_at, eqb_same, eqb_other, get_set_same, get_set_other, same_or_not}
@@ -28,18 +28,20 @@ abbrev pub hold_left : ℕ → Phase → ℕ
 hold_left seen (Seeking k) = 0
 hold_left seen Looking = 0
 hold_left seen (Again k) = 0
-hold_left seen Acquired = seen + 4
-hold_left seen (Entering k) = (seen - k) + 3
+hold_left seen Acquired = seen + 5
+hold_left seen (Entering k) = (seen - k) + 4
+hold_left seen Tagged = 3
 hold_left seen Entered = 2
 hold_left seen Written = 1
 hold_left seen Denied = 1
 
-hold_some : (seen : ℕ) (phase : Phase) → IsHolding phase → (0 < hold_left seen phase) × (hold_left seen phase ≤ seen + 4)
+hold_some : (seen : ℕ) (phase : Phase) → IsHolding phase → (0 < hold_left seen phase) × (hold_left seen phase ≤ seen + 5)
 hold_some seen (Seeking k) h = absurd h
 hold_some seen Looking h = absurd h
 hold_some seen (Again k) h = absurd h
 hold_some seen Acquired h = (omega arith, omega arith)
 hold_some seen (Entering k) h = (omega arith, omega arith)
+hold_some seen Tagged h = (omega arith, omega arith)
 hold_some seen Entered h = (omega arith, omega arith)
 hold_some seen Written h = (omega arith, omega arith)
 hold_some seen Denied h = (omega arith, omega arith)
@@ -56,7 +58,8 @@ hold_turn me true pair call w t Acquired f h = inr (tt, omega arith, refl)
 hold_turn me false pair call w t Acquired f h = inr (tt, omega arith, refl)
 hold_turn me memory pair call w t (Entering k) f h =
     let at = f.0.seen_is in
-    by_test (HoldsOn t ((t.seen - k) + 3)) _ _ _ (λ b. let l : k < length w.row = ltb-true _ _ b in inr (tt, omega (arith, l, f.1, at), refl)) (λ b. inr (tt, omega arith, refl))
+    by_test (HoldsOn t ((t.seen - k) + 4)) _ _ _ (λ b. let l : k < length w.row = ltb-true _ _ b in inr (tt, omega (arith, l, f.1, at), refl)) (λ b. inr (tt, omega arith, refl))
+hold_turn me memory pair call w t Tagged f h = inr (tt, omega arith, refl)
 hold_turn me memory pair call w t Entered f h = inr (tt, omega arith, refl)
 hold_turn me memory pair call w t Written f h = inl (refl, refl)
 hold_turn me memory pair call w t Denied f h = inl (refl, refl)
@@ -175,6 +178,7 @@ find_left row Looking = row + 2
 find_left row (Again k) = (row - k) + 1
 find_left row Acquired = 1
 find_left row (Entering k) = 1
+find_left row Tagged = 1
 find_left row Entered = 1
 find_left row Written = 1
 find_left row Denied = 1
@@ -185,6 +189,7 @@ find_some row Looking = (omega arith, omega arith)
 find_some row (Again k) = (omega arith, omega arith)
 find_some row Acquired = (omega arith, omega arith)
 find_some row (Entering k) = (omega arith, omega arith)
+find_some row Tagged = (omega arith, omega arith)
 find_some row Entered = (omega arith, omega arith)
 find_some row Written = (omega arith, omega arith)
 find_some row Denied = (omega arith, omega arith)
@@ -199,11 +204,11 @@ walk_on row left me word (Some value) further w t l = inl refl
 
 seek_on : {A : Type 0} (row me key k : ℕ) (o : Option ℕ) (w : World A) (t : Thread) → slice_get w.row k ≡ o → k ≤ row → length w.row ≤ row → FindsOn row t ((row - k) + (row + 3)) (seek_turn me key k o w t)
 seek_on row me key k None w t e l m = inr (refl, omega (arith, l))
-seek_on row me key k (Some word) w t e l m = let b = slice_get_within w.row k word e in walk_on row _ me word (hit w.slots t.seen word key) (Seeking (k + 1)) w t (omega (arith, b, m))
+seek_on row me key k (Some word) w t e l m = let b = slice_get_within w.row k word e in walk_on row _ me word (read_at w t.seen k word key) (Seeking (k + 1)) w t (omega (arith, b, m))
 
 again_on : {A : Type 0} (row me key k : ℕ) (o : Option ℕ) (w : World A) (t : Thread) → slice_get w.row k ≡ o → length w.row ≤ row → FindsOn row t ((row - k) + 1) (again_turn me key k o w t)
 again_on row me key k None w t e m = inl refl
-again_on row me key k (Some word) w t e m = let b = slice_get_within w.row k word e in walk_on row _ me word (hit w.slots t.seen word key) (Again (k + 1)) w t (omega (arith, b, m))
+again_on row me key k (Some word) w t e m = let b = slice_get_within w.row k word e in walk_on row _ me word (read_at w t.seen k word key) (Again (k + 1)) w t (omega (arith, b, m))
 
 find_turn : {A : Type 0} (row me key : ℕ) (w : World A) (t : Thread) (phase : Phase) → (IsHolding phase → ⊥) → HasWalked (length w.row) phase → length w.row ≤ row → FindsOn row t (find_left row phase) (finder_turn me (Some key) w t phase)
 find_turn row me key w t (Seeking k) n h l = seek_on row me key k (slice_get w.row k) w t refl (omega (arith, h, l)) l
@@ -211,6 +216,7 @@ find_turn row me key w t Looking n h l = by_test (FindsOn row t (row + 2)) _ _ _
 find_turn row me key w t (Again k) n h l = again_on row me key k (slice_get w.row k) w t refl l
 find_turn row me key w t Acquired n h l = absurd (n tt)
 find_turn row me key w t (Entering k) n h l = absurd (n tt)
+find_turn row me key w t Tagged n h l = absurd (n tt)
 find_turn row me key w t Entered n h l = absurd (n tt)
 find_turn row me key w t Written n h l = absurd (n tt)
 find_turn row me key w t Denied n h l = absurd (n tt)

@@ -12,13 +12,13 @@ use Rattle.elsa_map_machine.specs.declared.map_machine.Plan.{Plan}
 use Rattle.elsa_map_machine.specs.declared.map_machine.Plan.TheVariants.{Finder}
 use Rattle.elsa_map_machine.specs.declared.map_machine.World.{World}
 use Rattle.elsa_map_machine.specs.declared.map_machine.turns.Phase.{Phase}
-use Rattle.elsa_map_machine.specs.declared.map_machine.turns.Phase.TheVariants.{Seeking, Looking, Again, Acquired, Entering, Entered, Written, Denied}
+use Rattle.elsa_map_machine.specs.declared.map_machine.turns.Phase.TheVariants.{Seeking, Looking, Again, Acquired, Entering, Tagged, Entered, Written, Denied}
 use Rattle.elsa_map_machine.specs.declared.map_machine.turns.Thread.{Thread}
 use Rattle.elsa_map_machine.specs.Machine.{Moved, Machine, thread_turn, turned, opening, machine_of, world_of}
 use Rattle.elsa_map_machine.specs.Worlds.{answer_thread, answers_of, list_of, IsLookUp}
 use Rattle.elsa_map_machine.specs.Turns.{HasNotRead, AreLookUpsFresh, FindsKnownKeys}
 use Rattle.elsa_map_machine.proofs.MapLemmas.Lists.{get_more, get_push, get_last, take_get, get_set_same, get_set_other, same_or_not}
-use Rattle.elsa_map_machine.proofs.MapLemmas.Rules.{Transition, transition, equal_by, stays, ends, finds, passes, passes_again, misses, misses_first, looks, observes, fills_up, acquires, allocates, lacks, steps, enters, writes, publishes, refuses}
+use Rattle.elsa_map_machine.proofs.MapLemmas.Rules.{Transition, transition, equal_by, stays, ends, finds, passes, passes_again, misses, misses_first, looks, observes, fills_up, acquires, allocates, lacks, steps, enters, sets_number, writes, publishes, refuses}
 use Rattle.elsa_map_machine.proofs.MapLemmas.Kept.{Grown}
 use Rattle.elsa_map_machine.proofs.MapLemmas.Results.{answers_mine, answers_others, list_grows, Told, Replies, replies}
 use Rattle.elsa_map_machine.proofs.MapLemmas.Runs.{Sound, plan_of, turned_cases, sound_turned, sound_run, sound, turned_grows, run_grows, results_right}
@@ -31,6 +31,7 @@ HasReadAtLeast least seen Looking = Unit {0}
 HasReadAtLeast least seen (Again k) = least ≤ seen
 HasReadAtLeast least seen Acquired = Unit {0}
 HasReadAtLeast least seen (Entering k) = Unit {0}
+HasReadAtLeast least seen Tagged = Unit {0}
 HasReadAtLeast least seen Entered = Unit {0}
 HasReadAtLeast least seen Written = Unit {0}
 HasReadAtLeast least seen Denied = Unit {0}
@@ -71,6 +72,7 @@ fresh_own least me memory w t plan _ l h (allocates p e m) = inl (refl, refl, tt
 fresh_own least me memory w t plan _ l h (lacks p e m) = inl (refl, refl, tt)
 fresh_own least me memory w t plan _ l h (steps p e b) = inl (refl, refl, tt)
 fresh_own least me memory w t plan _ l h (enters p e b) = inl (refl, refl, tt)
+fresh_own least me memory w t plan _ l h (sets_number p e) = inl (refl, refl, tt)
 fresh_own least me memory w t plan _ l h (writes p e) = inl (refl, refl, tt)
 fresh_own least me memory w t plan _ l h (publishes p e) = inr (record { answer = Inserted me t.seen; mine = refl; answers_are = refl; next_is = refl; fresh = λ n e. cc })
 fresh_own least me memory w t plan _ l h (refuses p e) = inr (record { answer = Refused me; mine = refl; answers_are = refl; next_is = refl; fresh = λ n e. cc })
@@ -163,6 +165,7 @@ begins_fresh least seen Looking h = tt
 begins_fresh least seen (Again k) h = absurd h
 begins_fresh least seen Acquired h = tt
 begins_fresh least seen (Entering k) h = tt
+begins_fresh least seen Tagged h = tt
 begins_fresh least seen Entered h = tt
 begins_fresh least seen Written h = tt
 begins_fresh least seen Denied h = tt

@@ -10,11 +10,11 @@ use Rattle.elsa_map_machine.specs.declared.map_machine.Plan.{Plan}
 use Rattle.elsa_map_machine.specs.declared.map_machine.Plan.TheVariants.{Inserter, Finder}
 use Rattle.elsa_map_machine.specs.declared.map_machine.World.{World}
 use Rattle.elsa_map_machine.specs.declared.map_machine.turns.Thread.{Thread}
-use Rattle.elsa_map_machine.specs.Machine.{Moved, hit, hit_in}
+use Rattle.elsa_map_machine.specs.Machine.{Moved, hit, hit_in, read_at}
 use Rattle.elsa_map_machine.specs.Worlds.{answer_thread, answers_of, list_of, HasPair, IsResult}
 use Rattle.elsa_map_machine.proofs.MapLemmas.Lists.{same_or_not, get_last, get_more, get_push, entry_at, take_get, get_take, take_more, eqb_same, eqb_other, last_or}
 use Rattle.elsa_map_machine.proofs.MapLemmas.Kept.{Lacks, Facts, WorldOk, Grown, ended}
-use Rattle.elsa_map_machine.proofs.MapLemmas.Rules.{Transition, pair_of, call_of, equal_by, stays, ends, finds, passes, passes_again, misses, misses_first, looks, observes, fills_up, acquires, allocates, lacks, steps, enters, writes, publishes, refuses}
+use Rattle.elsa_map_machine.proofs.MapLemmas.Rules.{Transition, pair_of, call_of, equal_by, stays, ends, finds, passes, passes_again, misses, misses_first, looks, observes, fills_up, acquires, allocates, lacks, steps, enters, sets_number, writes, publishes, refuses}
 
 -- A result of this thread is appended to its earlier ones.
 pub answers_mine : (t : ℕ) (xs : List Answer) (a : Answer) → answer_thread a ≡ t → answers_of t (xs ++ a ∷ []) ≡ answers_of t xs ++ a ∷ []
@@ -110,6 +110,15 @@ hit_some slots seen word key value h =
           | false ↦ λ b x. cc
         ]) refl g
 
+-- A walk finds an entry only if the number of the index entry is set.
+pub read_some : {A : Type 0} (w : World A) (seen k word key value : ℕ) → read_at w seen k word key ≡ Some value → (k < w.numbers) × (hit w.slots seen word key ≡ Some value)
+read_some w seen k word key value h =
+    let F : Bool → Type 0 = λ b. nat_lt k w.numbers ≡ b → (if b then hit w.slots seen word key else None) ≡ Some value → (k < w.numbers) × (hit w.slots seen word key ≡ Some value) in
+    (elim (nat_lt k w.numbers) as F [
+      | true ↦ λ b g. (ltb-true _ _ b, g)
+      | false ↦ λ b g. cc
+    ]) refl h
+
 -- The key of a finder's call.
 finder_key : (o : Option ℕ) (call : ℕ × ℕ) → pair_of o ≡ Some call → o ≡ Some call.0
 finder_key None call e = cc
@@ -130,7 +139,7 @@ pub replies : {A : Type 0} (me : ℕ) (memory : Bool) (w : World A) (t : Thread)
 replies me memory w t plan _ ok l h (stays i) = inl (refl, refl)
 replies me memory w t plan _ ok l h (ends p r) = inl (refl, refl)
 replies me memory w t plan _ ok l h (finds {call} {word} {value} k n c r b a) =
-    let g = hit_some w.slots t.seen word call.0 value b in
+    let g = hit_some w.slots t.seen word call.0 value (read_some w t.seen k word call.0 value b).1 in
     inr (record {
       answer = Found me word value;
       mine = refl;
@@ -155,6 +164,7 @@ replies me memory w t plan _ ok l h (allocates p e m) = inl (refl, refl)
 replies me memory w t plan _ ok l h (lacks p e m) = inl (refl, refl)
 replies me memory w t plan _ ok l h (steps p e b) = inl (refl, refl)
 replies me memory w t plan _ ok l h (enters p e b) = inl (refl, refl)
+replies me memory w t plan _ ok l h (sets_number p e) = inl (refl, refl)
 replies me memory w t plan _ ok l h (writes p e) = inl (refl, refl)
 replies me memory w t plan _ ok l h (publishes {pairs} {pair} p e) =
     let f = subst (Facts w me (call_of plan t.next) t.seen) p h in
@@ -262,6 +272,7 @@ entries_step me memory w t plan _ ok f g (allocates p e m) h = h
 entries_step me memory w t plan _ ok f g (lacks p e m) h = h
 entries_step me memory w t plan _ ok f g (steps p e b) h = h
 entries_step me memory w t plan _ ok f g (enters p e b) h = entries_same w _ ok g refl (λ u j z x. x) h
+entries_step me memory w t plan _ ok f g (sets_number p e) h = entries_same w _ ok g refl (λ u j z x. x) h
 entries_step me memory w t plan _ ok f g (writes p e) h = entries_same w _ ok g refl (λ u j z x. x) h
 entries_step me memory w t plan _ ok f g (publishes {pairs} {pair} p e) h = let k = subst (Facts w me (call_of plan t.next) t.seen) p f in entries_published me w t.seen pair k.0.seen_is (k.3 pair e) h
 entries_step me memory w t plan _ ok f g (refuses p e) h = entries_same w _ ok g refl (λ u j z x. answers_more u w.answers (Refused me) z j x) h

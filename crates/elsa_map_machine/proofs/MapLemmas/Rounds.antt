@@ -13,9 +13,9 @@ use Rattle.elsa_map_machine.specs.declared.map_machine.Plan.{Plan}
 use Rattle.elsa_map_machine.specs.declared.map_machine.Plan.TheVariants.{Inserter, Finder}
 use Rattle.elsa_map_machine.specs.declared.map_machine.World.{World}
 use Rattle.elsa_map_machine.specs.declared.map_machine.turns.Phase.{Phase}
-use Rattle.elsa_map_machine.specs.declared.map_machine.turns.Phase.TheVariants.{Seeking, Looking, Again, Acquired, Entering, Entered, Written, Denied}
+use Rattle.elsa_map_machine.specs.declared.map_machine.turns.Phase.TheVariants.{Seeking, Looking, Again, Acquired, Entering, Tagged, Entered, Written, Denied}
 use Rattle.elsa_map_machine.specs.declared.map_machine.turns.Thread.{Thread}
-use Rattle.elsa_map_machine.specs.Machine.{Moved, moved, Machine, machine, put, hit, walk_turn, seek_turn, acquire_turn, inserter_turn, finder_turn, thread_turn, turned, machine_of, IsHolding}
+use Rattle.elsa_map_machine.specs.Machine.{Moved, moved, Machine, machine, put, read_at, walk_turn, seek_turn, acquire_turn, inserter_turn, finder_turn, thread_turn, turned, machine_of, IsHolding}
 use Rattle.elsa_map_machine.specs.Progress.{IsRound, HasRounds, calls_of, call_rounds, rounds_for, PlansEnd}
 use Rattle.elsa_map_machine.specs.Worlds.{pairs_in}
 use Rattle.elsa_map_machine.proofs.MapLemmas.Lists.{entry_at, past_end, equal_or_less, same_or_not, set_same}
@@ -30,7 +30,7 @@ use Rattle.elsa_map_machine.proofs.MapLemmas.Sums.{sum_of, sum_set, sum_part, pa
 -- The number of turns of an insertion that has this phase, apart from those in which it waits: m is
 -- at least the number of index entries.
 abbrev pub look_most : ℕ → ℕ → ℕ
-look_most m seen = (m - seen) * (m + 2) + (m + 5)
+look_most m seen = (m - seen) * (m + 2) + (m + 6)
 
 abbrev pub insert_left : ℕ → ℕ → Phase → ℕ
 insert_left m seen (Seeking k) = (m - k) + 1 + look_most m seen
@@ -38,6 +38,7 @@ insert_left m seen Looking = look_most m seen
 insert_left m seen (Again k) = 1
 insert_left m seen Acquired = hold_left seen Acquired
 insert_left m seen (Entering k) = hold_left seen (Entering k)
+insert_left m seen Tagged = hold_left seen Tagged
 insert_left m seen Entered = hold_left seen Entered
 insert_left m seen Written = hold_left seen Written
 insert_left m seen Denied = hold_left seen Denied
@@ -49,6 +50,7 @@ insert_some m seen Looking l = let b = mul-le-mul_right {m = m - seen} {n = m} (
 insert_some m seen (Again k) l = (omega arith, omega arith)
 insert_some m seen Acquired l = (omega arith, omega (arith, l))
 insert_some m seen (Entering k) l = (omega arith, omega (arith, l))
+insert_some m seen Tagged l = (omega arith, omega arith)
 insert_some m seen Entered l = (omega arith, omega arith)
 insert_some m seen Written l = (omega arith, omega arith)
 insert_some m seen Denied l = (omega arith, omega arith)
@@ -73,7 +75,7 @@ seek_insert m me key k None w t e l = inr (inl (refl, omega arith))
 seek_insert m me key k (Some word) w t e l =
     let b = slice_get_within w.row k word e in
     let F : Option ℕ → Type 0 = λ v. InsertTurn m w t (insert_left m t.seen (Seeking k)) (walk_turn me word v (Seeking (k + 1)) w t) in
-    elim (hit w.slots t.seen word key) as F [ None ↦ inr (inl (refl, omega (arith, b, l))) | Some value ↦ inl (refl, refl) ]
+    elim (read_at w t.seen k word key) as F [ None ↦ inr (inl (refl, omega (arith, b, l))) | Some value ↦ inl (refl, refl) ]
 
 acquire_insert : {A : Type 0} (m me : ℕ) (w : World A) (t : Thread) → t.phase ≡ Looking → t.seen ≤ w.length → w.length ≤ m → InsertTurn m w t (look_most m t.seen) (acquire_turn me w t)
 acquire_insert m me w t p l h =
@@ -98,7 +100,8 @@ insert_turn m me true pair w t call Acquired p f n l h r = inr (inl (refl, omega
 insert_turn m me false pair w t call Acquired p f n l h r = inr (inl (refl, omega arith))
 insert_turn m me memory pair w t call (Entering k) p f n l h r =
     let at = f.0.seen_is in
-    by_test (InsertTurn m w t ((t.seen - k) + 3)) _ _ _ (λ b. let x : k < length w.row = ltb-true _ _ b in inr (inl (refl, omega (arith, x, f.1, at)))) (λ b. inr (inl (refl, omega arith)))
+    by_test (InsertTurn m w t ((t.seen - k) + 4)) _ _ _ (λ b. let x : k < length w.row = ltb-true _ _ b in inr (inl (refl, omega (arith, x, f.1, at)))) (λ b. inr (inl (refl, omega arith)))
+insert_turn m me memory pair w t call Tagged p f n l h r = inr (inl (refl, omega arith))
 insert_turn m me memory pair w t call Entered p f n l h r = inr (inl (refl, omega arith))
 insert_turn m me memory pair w t call Written p f n l h r = inl (refl, refl)
 insert_turn m me memory pair w t call Denied p f n l h r = inl (refl, refl)

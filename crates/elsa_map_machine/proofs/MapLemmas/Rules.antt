@@ -8,9 +8,9 @@ use Rattle.elsa_map_machine.specs.declared.map_machine.Plan.TheVariants.{Inserte
 use Rattle.elsa_map_machine.specs.declared.map_machine.Answer.TheVariants.{Inserted, Found, Refused, Absent}
 use Rattle.elsa_map_machine.specs.declared.map_machine.World.{World}
 use Rattle.elsa_map_machine.specs.declared.map_machine.turns.Phase.{Phase}
-use Rattle.elsa_map_machine.specs.declared.map_machine.turns.Phase.TheVariants.{Seeking, Looking, Again, Acquired, Entering, Entered, Written, Denied}
+use Rattle.elsa_map_machine.specs.declared.map_machine.turns.Phase.TheVariants.{Seeking, Looking, Again, Acquired, Entering, Tagged, Entered, Written, Denied}
 use Rattle.elsa_map_machine.specs.declared.map_machine.turns.Thread.{Thread}
-use Rattle.elsa_map_machine.specs.Machine.{Moved, moved, hit, replied, released, next_call, in_phase, walk_turn, seek_turn, again_turn, inserter_turn, finder_turn, thread_turn, IsHolding}
+use Rattle.elsa_map_machine.specs.Machine.{Moved, moved, read_at, replied, released, next_call, in_phase, walk_turn, seek_turn, again_turn, inserter_turn, finder_turn, thread_turn, IsHolding}
 
 -- A key with the value 0.
 abbrev pub pair_of : Option ℕ → Option (ℕ × ℕ)
@@ -33,11 +33,11 @@ pub data Transition {A : Type 0} (me : ℕ) (memory : Bool) (w : World A) (t : T
   stays : {plan : Plan A} → (IsHolding t.phase → HasPairLeft plan t.next → ⊥) → Transition me memory w t plan (moved w t)
   ends : {plan : Plan A} {k : ℕ} → t.phase ≡ Seeking k → slice_get w.row k ≡ None →
       Transition me memory w t plan (moved w (in_phase t Looking))
-  finds : {plan : Plan A} {call : ℕ × ℕ} {word value : ℕ} (k : ℕ) → (IsHolding t.phase → ⊥) → call_of plan t.next ≡ Some call → slice_get w.row k ≡ Some word → hit w.slots t.seen word call.0 ≡ Some value → (t.phase ≡ Seeking k) ⊎ (t.phase ≡ Again k) →
+  finds : {plan : Plan A} {call : ℕ × ℕ} {word value : ℕ} (k : ℕ) → (IsHolding t.phase → ⊥) → call_of plan t.next ≡ Some call → slice_get w.row k ≡ Some word → read_at w t.seen k word call.0 ≡ Some value → (t.phase ≡ Seeking k) ⊎ (t.phase ≡ Again k) →
       Transition me memory w t plan (moved (replied w (Found me word value)) (next_call t))
-  passes : {plan : Plan A} {call : ℕ × ℕ} {k word : ℕ} → t.phase ≡ Seeking k → call_of plan t.next ≡ Some call → slice_get w.row k ≡ Some word → hit w.slots t.seen word call.0 ≡ None →
+  passes : {plan : Plan A} {call : ℕ × ℕ} {k word : ℕ} → t.phase ≡ Seeking k → call_of plan t.next ≡ Some call → slice_get w.row k ≡ Some word → read_at w t.seen k word call.0 ≡ None →
       Transition me memory w t plan (moved w (in_phase t (Seeking (k + 1))))
-  passes_again : {plan : Plan A} {call : ℕ × ℕ} {k word : ℕ} → t.phase ≡ Again k → call_of plan t.next ≡ Some call → slice_get w.row k ≡ Some word → hit w.slots t.seen word call.0 ≡ None →
+  passes_again : {plan : Plan A} {call : ℕ × ℕ} {k word : ℕ} → t.phase ≡ Again k → call_of plan t.next ≡ Some call → slice_get w.row k ≡ Some word → read_at w t.seen k word call.0 ≡ None →
       Transition me memory w t plan (moved w (in_phase t (Again (k + 1))))
   misses : {keys : List ℕ} {key k : ℕ} → t.phase ≡ Again k → slice_get keys t.next ≡ Some key → slice_get w.row k ≡ None →
       Transition me memory w t (Finder keys) (moved (replied w (Absent me t.seen)) (next_call t))
@@ -58,7 +58,9 @@ pub data Transition {A : Type 0} (me : ℕ) (memory : Bool) (w : World A) (t : T
   steps : {pairs : List (ℕ × ℕ)} {pair : ℕ × ℕ} {k : ℕ} → t.phase ≡ Entering k → slice_get pairs t.next ≡ Some pair → nat_lt k (length w.row) ≡ true →
       Transition me memory w t (Inserter pairs) (moved w (in_phase t (Entering (k + 1))))
   enters : {pairs : List (ℕ × ℕ)} {pair : ℕ × ℕ} {k : ℕ} → t.phase ≡ Entering k → slice_get pairs t.next ≡ Some pair → nat_lt k (length w.row) ≡ false →
-      Transition me memory w t (Inserter pairs) (moved (record w { row = w.row ++ t.seen ∷ [] }) (in_phase t Entered))
+      Transition me memory w t (Inserter pairs) (moved (record w { row = w.row ++ t.seen ∷ [] }) (in_phase t Tagged))
+  sets_number : {pairs : List (ℕ × ℕ)} {pair : ℕ × ℕ} → t.phase ≡ Tagged → slice_get pairs t.next ≡ Some pair →
+      Transition me memory w t (Inserter pairs) (moved (record w { numbers = t.seen + 1 }) (in_phase t Entered))
   writes : {pairs : List (ℕ × ℕ)} {pair : ℕ × ℕ} → t.phase ≡ Entered → slice_get pairs t.next ≡ Some pair →
       Transition me memory w t (Inserter pairs) (moved (record w { slots = w.slots ++ (record { writer = me; key = pair.0; value = pair.1 }) ∷ [] }) (in_phase t Written))
   publishes : {pairs : List (ℕ × ℕ)} {pair : ℕ × ℕ} → t.phase ≡ Written → slice_get pairs t.next ≡ Some pair →
@@ -82,10 +84,10 @@ free_by (Some n) e = cc
 
 -- A turn of a walk follows one of these rules.
 walk_transition : {A : Type 0} (me : ℕ) (memory : Bool) (plan : Plan A) (call : ℕ × ℕ) (k word : ℕ) (further : Phase) (w : World A) (t : Thread) → (t.phase ≡ Seeking k) ⊎ (t.phase ≡ Again k) → (IsHolding t.phase → ⊥) → call_of plan t.next ≡ Some call → slice_get w.row k ≡ Some word →
-    (hit w.slots t.seen word call.0 ≡ None → Transition me memory w t plan (moved w (in_phase t further))) → Transition me memory w t plan (walk_turn me word (hit w.slots t.seen word call.0) further w t)
+    (read_at w t.seen k word call.0 ≡ None → Transition me memory w t plan (moved w (in_phase t further))) → Transition me memory w t plan (walk_turn me word (read_at w t.seen k word call.0) further w t)
 walk_transition me memory plan call k word further w t a n c r next =
-    let F : Option ℕ → Type 0 = λ h. hit w.slots t.seen word call.0 ≡ h → Transition me memory w t plan (walk_turn me word h further w t) in
-    (elim (hit w.slots t.seen word call.0) as F [ None ↦ λ h. next h | Some value ↦ λ h. finds {call = call} k n c r h a ]) refl
+    let F : Option ℕ → Type 0 = λ h. read_at w t.seen k word call.0 ≡ h → Transition me memory w t plan (walk_turn me word h further w t) in
+    (elim (read_at w t.seen k word call.0) as F [ None ↦ λ h. next h | Some value ↦ λ h. finds {call = call} k n c r h a ]) refl
 
 seek_transition : {A : Type 0} (me : ℕ) (memory : Bool) (plan : Plan A) (call : ℕ × ℕ) (k : ℕ) (w : World A) (t : Thread) → t.phase ≡ Seeking k → call_of plan t.next ≡ Some call →
     Transition me memory w t plan (seek_turn me call.0 k (slice_get w.row k) w t)
@@ -120,6 +122,7 @@ inserter_transition me true pairs w t (Some pair) Acquired e p = allocates p e r
 inserter_transition me false pairs w t (Some pair) Acquired e p = lacks p e refl
 inserter_transition me memory pairs w t (Some pair) (Entering k) e p =
     by_test (Transition me memory w t (Inserter pairs)) _ _ _ (λ h. steps p e h) (λ h. enters p e h)
+inserter_transition me memory pairs w t (Some pair) Tagged e p = sets_number p e
 inserter_transition me memory pairs w t (Some pair) Entered e p = writes p e
 inserter_transition me memory pairs w t (Some pair) Written e p = publishes p e
 inserter_transition me memory pairs w t (Some pair) Denied e p = refuses p e
@@ -133,6 +136,7 @@ finder_transition me memory keys w t (Some key) Looking e p =
 finder_transition me memory keys w t (Some key) (Again k) e p = again_transition me memory keys key k w t p e
 finder_transition me memory keys w t (Some key) Acquired e p = stays (λ h x. x)
 finder_transition me memory keys w t (Some key) (Entering k) e p = stays (λ h x. x)
+finder_transition me memory keys w t (Some key) Tagged e p = stays (λ h x. x)
 finder_transition me memory keys w t (Some key) Entered e p = stays (λ h x. x)
 finder_transition me memory keys w t (Some key) Written e p = stays (λ h x. x)
 finder_transition me memory keys w t (Some key) Denied e p = stays (λ h x. x)

@@ -12,12 +12,12 @@ use Rattle.elsa_map_machine.specs.declared.map_machine.Plan.{Plan}
 use Rattle.elsa_map_machine.specs.declared.map_machine.Plan.TheVariants.{Inserter, Finder}
 use Rattle.elsa_map_machine.specs.declared.map_machine.World.{World}
 use Rattle.elsa_map_machine.specs.declared.map_machine.turns.Phase.{Phase}
-use Rattle.elsa_map_machine.specs.declared.map_machine.turns.Phase.TheVariants.{Seeking, Looking, Again, Acquired, Entering, Entered, Written, Denied}
+use Rattle.elsa_map_machine.specs.declared.map_machine.turns.Phase.TheVariants.{Seeking, Looking, Again, Acquired, Entering, Tagged, Entered, Written, Denied}
 use Rattle.elsa_map_machine.specs.declared.map_machine.turns.Thread.{Thread}
 use Rattle.elsa_map_machine.specs.Machine.{Moved, thread_turn, Machine, put, turn_at, turned, opening_thread, opening, machine_of, world_of, IsHolding, CanPublish}
 use Rattle.elsa_map_machine.specs.Worlds.{answer_thread, answers_of, Grows, IsAheadByOne, HasRightRow, AreResultsRight, AreAnswersOwned}
 use Rattle.elsa_map_machine.proofs.MapLemmas.Lists.{entry_at, get_push, get_set_same, get_set_other, same_or_not}
-use Rattle.elsa_map_machine.proofs.MapLemmas.Rules.{Transition, equal_by, HasPairLeft, call_of, transition, stays, ends, finds, passes, passes_again, misses, misses_first, looks, observes, fills_up, acquires, allocates, lacks, steps, enters, writes, publishes, refuses}
+use Rattle.elsa_map_machine.proofs.MapLemmas.Rules.{Transition, equal_by, HasPairLeft, call_of, transition, stays, ends, finds, passes, passes_again, misses, misses_first, looks, observes, fills_up, acquires, allocates, lacks, steps, enters, sets_number, writes, publishes, refuses}
 use Rattle.elsa_map_machine.proofs.MapLemmas.Kept.{Facts, WorldOk, Grown, Kept, kept}
 use Rattle.elsa_map_machine.proofs.MapLemmas.Results.{list_grows, Told, Replies, replies, told_own, told_other, AreEntriesTold, entries_step}
 
@@ -32,6 +32,7 @@ HasWalked row Looking = Unit {0}
 HasWalked row (Again k) = k ≤ row
 HasWalked row Acquired = Unit {0}
 HasWalked row (Entering k) = Unit {0}
+HasWalked row Tagged = Unit {0}
 HasWalked row Entered = Unit {0}
 HasWalked row Written = Unit {0}
 HasWalked row Denied = Unit {0}
@@ -43,6 +44,7 @@ walked_more row more Looking l h = tt
 walked_more row more (Again k) l h = omega (arith, l, h)
 walked_more row more Acquired l h = tt
 walked_more row more (Entering k) l h = tt
+walked_more row more Tagged l h = tt
 walked_more row more Entered l h = tt
 walked_more row more Written l h = tt
 walked_more row more Denied l h = tt
@@ -63,6 +65,7 @@ walked_own me memory w t plan _ h (allocates p e m) = tt
 walked_own me memory w t plan _ h (lacks p e m) = tt
 walked_own me memory w t plan _ h (steps p e b) = tt
 walked_own me memory w t plan _ h (enters p e b) = tt
+walked_own me memory w t plan _ h (sets_number p e) = tt
 walked_own me memory w t plan _ h (writes p e) = tt
 walked_own me memory w t plan _ h (publishes p e) = omega arith
 walked_own me memory w t plan _ h (refuses p e) = omega arith
@@ -83,6 +86,7 @@ due_own me memory w t plan _ h (allocates {pairs} {pair} p e m) = λ q. (pair, e
 due_own me memory w t plan _ h (lacks {pairs} {pair} p e m) = λ q. (pair, e)
 due_own me memory w t plan _ h (steps {pairs} {pair} p e b) = λ q. (pair, e)
 due_own me memory w t plan _ h (enters {pairs} {pair} p e b) = λ q. (pair, e)
+due_own me memory w t plan _ h (sets_number {pairs} {pair} p e) = λ q. (pair, e)
 due_own me memory w t plan _ h (writes {pairs} {pair} p e) = λ q. (pair, e)
 due_own me memory w t plan _ h (publishes p e) = λ q. absurd q
 due_own me memory w t plan _ h (refuses p e) = λ q. absurd q
@@ -111,6 +115,7 @@ again_own me memory w t plan _ h (allocates p e m) = λ j q. cc
 again_own me memory w t plan _ h (lacks p e m) = λ j q. cc
 again_own me memory w t plan _ h (steps p e b) = λ j q. cc
 again_own me memory w t plan _ h (enters p e b) = λ j q. cc
+again_own me memory w t plan _ h (sets_number p e) = λ j q. cc
 again_own me memory w t plan _ h (writes p e) = λ j q. cc
 again_own me memory w t plan _ h (publishes p e) = λ j q. cc
 again_own me memory w t plan _ h (refuses p e) = λ j q. cc
@@ -150,6 +155,7 @@ held_from plan me memory w t _ (allocates p e m) = λ i h. inl h
 held_from plan me memory w t _ (lacks p e m) = λ i h. inl h
 held_from plan me memory w t _ (steps p e b) = λ i h. inl h
 held_from plan me memory w t _ (enters p e b) = λ i h. inl h
+held_from plan me memory w t _ (sets_number p e) = λ i h. inl h
 held_from plan me memory w t _ (writes p e) = λ i h. inl h
 held_from plan me memory w t _ (publishes p e) = λ i h. cc
 held_from plan me memory w t _ (refuses p e) = λ i h. cc
@@ -226,7 +232,7 @@ opened_thread (plan ∷ plans) (suc i) t e = opened_thread plans i t e
 -- They are true at the start.
 pub sound_opening : {A : Type 0} (plans : List (Plan A)) → Sound plans (opening plans)
 sound_opening plans = record {
-  world = record { words = λ k word e. cc; distinct = λ i j one other e f q. cc; low = omega arith; mid = omega arith; high = omega arith; free = λ q. (refl, refl) };
+  world = record { words = λ k word e. cc; distinct = λ i j one other e f q. cc; low = omega arith; mid = omega arith; high = omega arith; numbered = omega arith; tagged = omega arith; free = λ q. (refl, refl, refl) };
   sizes = length-map plans opening_thread;
   holder = λ me h. cc;
   threads = λ i plan t pe te. subst (ThreadOk plan i (opening plans).world) (sym (opened_thread plans i t te)) (record {
@@ -257,6 +263,7 @@ can_publish w me call seen Looking h q = absurd q
 can_publish w me call seen (Again k) h q = absurd q
 can_publish w me call seen Acquired h q = let r = h.0.room in omega (arith, r)
 can_publish w me call seen (Entering k) h q = let r = h.0.room in omega (arith, r)
+can_publish w me call seen Tagged h q = let r = h.0.room in omega (arith, r)
 can_publish w me call seen Entered h q = let r = h.0.room in omega (arith, r)
 can_publish w me call seen Written h q = let r = h.0.room in omega (arith, r)
 can_publish w me call seen Denied h q = let r = h.0.room in omega (arith, r)
@@ -277,12 +284,13 @@ safe plans schedule = λ i d h q.
     can_publish m.world i (call_of p.0 t.next) t.seen t.phase o.facts q
 
 grown_same : {A : Type 0} (w : World A) → Grown w w
-grown_same w = record { up = omega arith; slots = ([], sym (append-nil w.slots)); row = ([], sym (append-nil w.row)) }
+grown_same w = record { up = omega arith; slots = ([], sym (append-nil w.slots)); row = ([], sym (append-nil w.row)); numbers = omega arith }
 
 grown_more : {A : Type 0} (u v w : World A) → Grown u v → Grown v w → Grown u w
 grown_more u v w g h = record {
   up = (let a = g.up in let b = h.up in omega (arith, a, b));
   slots = (g.slots.0 ++ h.slots.0, h.slots.1 ∙ ap (λ l. l ++ h.slots.0) g.slots.1 ∙ append_assoc u.slots g.slots.0 h.slots.0);
+  numbers = (let a = g.numbers in let b = h.numbers in omega (arith, a, b));
   row = (g.row.0 ++ h.row.0, h.row.1 ∙ ap (λ l. l ++ h.row.0) g.row.1 ∙ append_assoc u.row g.row.0 h.row.0);
 }
 
@@ -307,11 +315,11 @@ grows plans schedule k =
     let m = machine_of plans (take k schedule) in
     let s = sound plans (take k schedule) in
     let g : Grown m.world (world_of plans schedule) = subst (λ n. Grown m.world n.world) (sym (split plans schedule k)) (run_grows plans (drop k schedule) m s) in
-    record { list = list_grows m.world (world_of plans schedule) s.world g; slots = g.slots; row = g.row }
+    record { list = list_grows m.world (world_of plans schedule) s.world g; slots = g.slots; row = g.row; numbers = g.numbers }
 
 -- The index entries and the slots are those of the list, and at most another one.
 pub ahead : {A : Type 0} (plans : List (Plan A)) (schedule : List Turn) → IsAheadByOne (world_of plans schedule)
-ahead plans schedule = let s = sound plans schedule in record { slots_written = s.world.low; set_first = s.world.mid; one_more = s.world.high; none_ahead = s.world.free }
+ahead plans schedule = let s = sound plans schedule in record { slots_written = s.world.low; set_first = s.world.numbered; tagged_first = s.world.tagged; one_more = s.world.high; none_ahead = s.world.free }
 
 -- The row has each index once.
 pub right_row : {A : Type 0} (plans : List (Plan A)) (schedule : List Turn) → HasRightRow (world_of plans schedule)

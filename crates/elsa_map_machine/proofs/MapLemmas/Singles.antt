@@ -7,14 +7,14 @@ use Rattle.elsa_map_machine.specs.declared.map_machine.Answer.TheVariants.{Found
 use Rattle.elsa_map_machine.specs.declared.map_machine.Plan.{Plan}
 use Rattle.elsa_map_machine.specs.declared.map_machine.Plan.TheVariants.{Inserter, Finder}
 use Rattle.elsa_map_machine.specs.declared.map_machine.World.{World}
-use Rattle.elsa_map_machine.specs.declared.map_machine.turns.Phase.TheVariants.{Looking, Acquired, Entering, Entered, Written, Denied}
+use Rattle.elsa_map_machine.specs.declared.map_machine.turns.Phase.TheVariants.{Looking, Acquired, Entering, Tagged, Entered, Written, Denied}
 use Rattle.elsa_map_machine.specs.declared.map_machine.turns.Thread.{Thread}
 use Rattle.elsa_map_machine.specs.Machine.{Moved, Machine, thread_turn, machine_of, IsHolding}
 use Rattle.elsa_map_machine.specs.Worlds.{answers_of}
 use Rattle.elsa_map_machine.specs.Turns.{HasPassedAll, passed_of, IsSingle, AreTurnsSingle, InsertersHold}
 use Rattle.elsa_map_machine.proofs.MapLemmas.Lists.{past_end, entry_at, get_last}
-use Rattle.elsa_map_machine.proofs.MapLemmas.Rules.{Transition, HasPairLeft, call_of, transition, stays, ends, finds, passes, passes_again, misses, misses_first, looks, observes, fills_up, acquires, allocates, lacks, steps, enters, writes, publishes, refuses}
-use Rattle.elsa_map_machine.proofs.MapLemmas.Results.{hit_some}
+use Rattle.elsa_map_machine.proofs.MapLemmas.Rules.{Transition, HasPairLeft, call_of, transition, stays, ends, finds, passes, passes_again, misses, misses_first, looks, observes, fills_up, acquires, allocates, lacks, steps, enters, sets_number, writes, publishes, refuses}
+use Rattle.elsa_map_machine.proofs.MapLemmas.Results.{hit_some, read_some}
 use Rattle.elsa_map_machine.proofs.MapLemmas.Runs.{plan_of, sound}
 use Rattle.elsa_map_machine.proofs.MapLemmas.Moments.{turned_is, held_by}
 use Rattle.elsa_map_machine.proofs.MapLemmas.Ends.{own_turn, result_count}
@@ -36,6 +36,7 @@ passes_one me memory w t plan _ (allocates p e m) = omega arith
 passes_one me memory w t plan _ (lacks p e m) = omega arith
 passes_one me memory w t plan _ (steps p e b) = let q = ap passed_of p in omega (arith, q)
 passes_one me memory w t plan _ (enters p e b) = omega arith
+passes_one me memory w t plan _ (sets_number p e) = omega arith
 passes_one me memory w t plan _ (writes p e) = omega arith
 passes_one me memory w t plan _ (publishes p e) = omega arith
 passes_one me memory w t plan _ (refuses p e) = omega arith
@@ -57,6 +58,7 @@ observes_length me memory w t plan _ (allocates p e m) = inl refl
 observes_length me memory w t plan _ (lacks p e m) = inl refl
 observes_length me memory w t plan _ (steps p e b) = inl refl
 observes_length me memory w t plan _ (enters p e b) = inl refl
+observes_length me memory w t plan _ (sets_number p e) = inl refl
 observes_length me memory w t plan _ (writes p e) = inl refl
 observes_length me memory w t plan _ (publishes p e) = inr (refl, inr p)
 observes_length me memory w t plan _ (refuses p e) = inl refl
@@ -78,12 +80,13 @@ walk_ends me memory w t plan _ (allocates p e m) d = cc
 walk_ends me memory w t plan _ (lacks p e m) d = cc
 walk_ends me memory w t plan _ (steps p e b) d = cc
 walk_ends me memory w t plan _ (enters p e b) d = cc
+walk_ends me memory w t plan _ (sets_number p e) d = cc
 walk_ends me memory w t plan _ (writes p e) d = cc
 walk_ends me memory w t plan _ (publishes p e) d = cc
 walk_ends me memory w t plan _ (refuses p e) d = cc
 
--- The index entry that is set is the first that is free.
-walk_enters : {A : Type 0} (me : ℕ) (memory : Bool) (w : World A) (t : Thread) (plan : Plan A) (after : Moved A) → (IsHolding t.phase → HasPairLeft plan t.next) → Transition me memory w t plan after → after.thread.phase ≡ Entered → HasPassedAll w t.phase
+-- The index entry whose tag is set is the first that is free.
+walk_enters : {A : Type 0} (me : ℕ) (memory : Bool) (w : World A) (t : Thread) (plan : Plan A) (after : Moved A) → (IsHolding t.phase → HasPairLeft plan t.next) → Transition me memory w t plan after → after.thread.phase ≡ Tagged → HasPassedAll w t.phase
 walk_enters me memory w t plan _ o (stays i) d = let h = subst IsHolding (sym d) tt in absurd (i h (o h))
 walk_enters me memory w t plan _ o (ends p r) d = cc
 walk_enters me memory w t plan _ o (finds {word} {value} k n c r b a) d = cc
@@ -99,9 +102,32 @@ walk_enters me memory w t plan _ o (allocates p e m) d = cc
 walk_enters me memory w t plan _ o (lacks p e m) d = cc
 walk_enters me memory w t plan _ o (steps p e b) d = cc
 walk_enters me memory w t plan _ o (enters p e b) d = subst (HasPassedAll w) (sym p) (ltb-false _ _ b)
+walk_enters me memory w t plan _ o (sets_number p e) d = cc
 walk_enters me memory w t plan _ o (writes p e) d = cc
 walk_enters me memory w t plan _ o (publishes p e) d = cc
 walk_enters me memory w t plan _ o (refuses p e) d = cc
+
+-- A number is set in the turn after that of the tag.
+numbers_tagged : {A : Type 0} (me : ℕ) (memory : Bool) (w : World A) (t : Thread) (plan : Plan A) (after : Moved A) → (IsHolding t.phase → HasPairLeft plan t.next) → Transition me memory w t plan after → after.thread.phase ≡ Entered → t.phase ≡ Tagged
+numbers_tagged me memory w t plan _ o (stays i) d = let h = subst IsHolding (sym d) tt in absurd (i h (o h))
+numbers_tagged me memory w t plan _ o (ends p r) d = cc
+numbers_tagged me memory w t plan _ o (finds {word} {value} k n c r b a) d = cc
+numbers_tagged me memory w t plan _ o (passes p c r b) d = cc
+numbers_tagged me memory w t plan _ o (passes_again p c r b) d = cc
+numbers_tagged me memory w t plan _ o (misses p e r) d = cc
+numbers_tagged me memory w t plan _ o (misses_first p e s) d = cc
+numbers_tagged me memory w t plan _ o (looks p e) d = cc
+numbers_tagged me memory w t plan _ o (observes p e) d = cc
+numbers_tagged me memory w t plan _ o (fills_up p e b) d = cc
+numbers_tagged me memory w t plan _ o (acquires p e room at free) d = cc
+numbers_tagged me memory w t plan _ o (allocates p e m) d = cc
+numbers_tagged me memory w t plan _ o (lacks p e m) d = cc
+numbers_tagged me memory w t plan _ o (steps p e b) d = cc
+numbers_tagged me memory w t plan _ o (enters p e b) d = cc
+numbers_tagged me memory w t plan _ o (sets_number p e) d = p
+numbers_tagged me memory w t plan _ o (writes p e) d = cc
+numbers_tagged me memory w t plan _ o (publishes p e) d = cc
+numbers_tagged me memory w t plan _ o (refuses p e) d = cc
 
 -- A turn that denies an insertion has no memory.
 denied : {A : Type 0} (me : ℕ) (memory : Bool) (w : World A) (t : Thread) (plan : Plan A) (after : Moved A) → (IsHolding t.phase → HasPairLeft plan t.next) → Transition me memory w t plan after → after.thread.phase ≡ Denied → (t.phase ≡ Acquired) × (memory ≡ false)
@@ -120,6 +146,7 @@ denied me memory w t plan _ o (allocates p e m) d = cc
 denied me memory w t plan _ o (lacks p e m) d = (p, m)
 denied me memory w t plan _ o (steps p e b) d = cc
 denied me memory w t plan _ o (enters p e b) d = cc
+denied me memory w t plan _ o (sets_number p e) d = cc
 denied me memory w t plan _ o (writes p e) d = cc
 denied me memory w t plan _ o (publishes p e) d = cc
 denied me memory w t plan _ o (refuses p e) d = cc
@@ -141,6 +168,7 @@ acquires_only me memory w t plan _ (allocates p e m) h g = cc
 acquires_only me memory w t plan _ (lacks p e m) h g = cc
 acquires_only me memory w t plan _ (steps p e b) h g = cc
 acquires_only me memory w t plan _ (enters p e b) h g = cc
+acquires_only me memory w t plan _ (sets_number p e) h g = cc
 acquires_only me memory w t plan _ (writes p e) h g = cc
 acquires_only me memory w t plan _ (publishes p e) h g = cc
 acquires_only me memory w t plan _ (refuses p e) h g = cc
@@ -162,6 +190,7 @@ allocates_first me memory w t plan _ j o (allocates p e m) d = inl (p, m)
 allocates_first me memory w t plan _ j o (lacks p e m) d = cc
 allocates_first me memory w t plan _ j o (steps {k} p e b) d = inr (k, p)
 allocates_first me memory w t plan _ j o (enters p e b) d = cc
+allocates_first me memory w t plan _ j o (sets_number p e) d = cc
 allocates_first me memory w t plan _ j o (writes p e) d = cc
 allocates_first me memory w t plan _ j o (publishes p e) d = cc
 allocates_first me memory w t plan _ j o (refuses p e) d = cc
@@ -177,10 +206,10 @@ no_last : (xs : List Answer) (a : Answer) → xs ≡ xs ++ a ∷ [] → ⊥
 no_last xs a e = let l = ap length e in let k = length-append xs (a ∷ []) in omega (arith, l, k)
 
 -- A turn reads only the entry of the next index entry, which its thread has observed.
-reads_observed : {A : Type 0} (me : ℕ) (memory : Bool) (w : World A) (t : Thread) (plan : Plan A) (after : Moved A) (index value : ℕ) → Transition me memory w t plan after → after.world.answers ≡ w.answers ++ Found me index value ∷ [] → (slice_get w.row (passed_of t.phase) ≡ Some index) × (index < t.seen)
+reads_observed : {A : Type 0} (me : ℕ) (memory : Bool) (w : World A) (t : Thread) (plan : Plan A) (after : Moved A) (index value : ℕ) → Transition me memory w t plan after → after.world.answers ≡ w.answers ++ Found me index value ∷ [] → (slice_get w.row (passed_of t.phase) ≡ Some index) × (index < t.seen) × (passed_of t.phase < w.numbers)
 reads_observed me memory w t plan _ index found (stays i) d = absurd (no_last w.answers _ d)
 reads_observed me memory w t plan _ index found (ends p r) d = absurd (no_last w.answers _ d)
-reads_observed me memory w t plan _ index found (finds {word} {value} k n c r b a) d = let f = last_is w.answers _ _ d in let g : word ≡ index = cc in let q : passed_of t.phase ≡ k = elim a [ inl x ↦ ap passed_of x | inr x ↦ ap passed_of x ] in (ap (slice_get w.row) q ∙ r ∙ ap Some g, subst (λ z. z < t.seen) g (hit_some w.slots t.seen word _ value b).0)
+reads_observed me memory w t plan _ index found (finds {word} {value} k n c r b a) d = let f = last_is w.answers _ _ d in let g : word ≡ index = cc in let q : passed_of t.phase ≡ k = elim a [ inl x ↦ ap passed_of x | inr x ↦ ap passed_of x ] in let z = read_some w t.seen k word _ value b in (ap (slice_get w.row) q ∙ r ∙ ap Some g, subst (λ z. z < t.seen) g (hit_some w.slots t.seen word _ value z.1).0, subst (λ y. y < w.numbers) (sym q) z.0)
 reads_observed me memory w t plan _ index found (passes p c r b) d = absurd (no_last w.answers _ d)
 reads_observed me memory w t plan _ index found (passes_again p c r b) d = absurd (no_last w.answers _ d)
 reads_observed me memory w t plan _ index found (misses p e r) d = let f = last_is w.answers _ _ d in cc
@@ -193,6 +222,7 @@ reads_observed me memory w t plan _ index found (allocates p e m) d = absurd (no
 reads_observed me memory w t plan _ index found (lacks p e m) d = absurd (no_last w.answers _ d)
 reads_observed me memory w t plan _ index found (steps p e b) d = absurd (no_last w.answers _ d)
 reads_observed me memory w t plan _ index found (enters p e b) d = absurd (no_last w.answers _ d)
+reads_observed me memory w t plan _ index found (sets_number p e) d = absurd (no_last w.answers _ d)
 reads_observed me memory w t plan _ index found (writes p e) d = absurd (no_last w.answers _ d)
 reads_observed me memory w t plan _ index found (publishes p e) d = let f = last_is w.answers _ _ d in cc
 reads_observed me memory w t plan _ index found (refuses p e) d = let f = last_is w.answers _ _ d in cc
@@ -214,6 +244,7 @@ absent_at me memory w t plan _ n (allocates p e m) d = absurd (no_last w.answers
 absent_at me memory w t plan _ n (lacks p e m) d = absurd (no_last w.answers _ d)
 absent_at me memory w t plan _ n (steps p e b) d = absurd (no_last w.answers _ d)
 absent_at me memory w t plan _ n (enters p e b) d = absurd (no_last w.answers _ d)
+absent_at me memory w t plan _ n (sets_number p e) d = absurd (no_last w.answers _ d)
 absent_at me memory w t plan _ n (writes p e) d = absurd (no_last w.answers _ d)
 absent_at me memory w t plan _ n (publishes p e) d = let f = last_is w.answers _ _ d in cc
 absent_at me memory w t plan _ n (refuses p e) d = let f = last_is w.answers _ _ d in cc
@@ -235,6 +266,7 @@ refused me memory w t plan _ (allocates p e m) d = absurd (no_last w.answers _ d
 refused me memory w t plan _ (lacks p e m) d = absurd (no_last w.answers _ d)
 refused me memory w t plan _ (steps p e b) d = absurd (no_last w.answers _ d)
 refused me memory w t plan _ (enters p e b) d = absurd (no_last w.answers _ d)
+refused me memory w t plan _ (sets_number p e) d = absurd (no_last w.answers _ d)
 refused me memory w t plan _ (writes p e) d = absurd (no_last w.answers _ d)
 refused me memory w t plan _ (publishes p e) d = let f = last_is w.answers _ _ d in cc
 refused me memory w t plan _ (refuses p e) d = inl p
@@ -255,7 +287,8 @@ turns_single plans schedule = λ turn t u e.
       passes_one = passes_one turn.thread turn.memory m.world t p.0 a r;
       observes = observes_length turn.thread turn.memory m.world t p.0 a r;
       ends = λ d. walk_ends turn.thread turn.memory m.world t p.0 a r d;
-      entered = λ d. walk_enters turn.thread turn.memory m.world t p.0 a o.due r d;
+      tagged = λ d. walk_enters turn.thread turn.memory m.world t p.0 a o.due r d;
+      entered = λ d. numbers_tagged turn.thread turn.memory m.world t p.0 a o.due r d;
       absent = λ n d. absent_at turn.thread turn.memory m.world t p.0 a n r d;
       found = λ index value d. reads_observed turn.thread turn.memory m.world t p.0 a index value r d;
       acquires = λ h g. acquires_only turn.thread turn.memory m.world t p.0 a r h g;

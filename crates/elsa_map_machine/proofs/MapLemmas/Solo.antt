@@ -13,9 +13,9 @@ use Rattle.elsa_map_machine.specs.declared.map_machine.Plan.{Plan}
 use Rattle.elsa_map_machine.specs.declared.map_machine.Plan.TheVariants.{Inserter}
 use Rattle.elsa_map_machine.specs.declared.map_machine.World.{World}
 use Rattle.elsa_map_machine.specs.declared.map_machine.turns.Phase.{Phase}
-use Rattle.elsa_map_machine.specs.declared.map_machine.turns.Phase.TheVariants.{Seeking, Looking, Again, Acquired, Entering, Entered, Written, Denied}
+use Rattle.elsa_map_machine.specs.declared.map_machine.turns.Phase.TheVariants.{Seeking, Looking, Again, Acquired, Entering, Tagged, Entered, Written, Denied}
 use Rattle.elsa_map_machine.specs.declared.map_machine.turns.Thread.{Thread}
-use Rattle.elsa_map_machine.specs.Machine.{Moved, moved, Machine, hit, walk_turn, seek_turn, acquire_turn, inserter_turn, put, turned, machine_of, world_of}
+use Rattle.elsa_map_machine.specs.Machine.{Moved, moved, Machine, read_at, walk_turn, seek_turn, acquire_turn, inserter_turn, put, turned, machine_of, world_of}
 use Rattle.elsa_map_machine.specs.Worlds.{list_of}
 use Rattle.elsa_map_machine.specs.Progress.{IsInserted, IsFound, InsertionsEnd}
 use Rattle.elsa_map_machine.proofs.MapLemmas.Lists.{entry_at, eqb_same, get_set_same, take_snoc}
@@ -29,10 +29,10 @@ use Rattle.elsa_map_machine.proofs.MapLemmas.Ends.{hold_left, result_count}
 -- The number of turns that an inserter at the end of its walk needs, if it has observed all of the
 -- list or not.
 abbrev pub look_left : Bool → ℕ → ℕ → ℕ
-look_left true row len = len + 5
-look_left false row len = row + len + 7
+look_left true row len = len + 6
+look_left false row len = row + len + 8
 
-look_few : (b : Bool) (row len : ℕ) → (0 < look_left b row len) × (look_left b row len ≤ row + len + 7)
+look_few : (b : Bool) (row len : ℕ) → (0 < look_left b row len) × (look_left b row len ≤ row + len + 8)
 look_few true row len = (omega arith, omega arith)
 look_few false row len = (omega arith, omega arith)
 
@@ -43,6 +43,7 @@ solo_left w seen Looking = look_left (w.length == seen) (length w.row) w.length
 solo_left w seen (Again k) = 1
 solo_left w seen Acquired = hold_left seen Acquired
 solo_left w seen (Entering k) = hold_left seen (Entering k)
+solo_left w seen Tagged = hold_left seen Tagged
 solo_left w seen Entered = hold_left seen Entered
 solo_left w seen Written = hold_left seen Written
 solo_left w seen Denied = 1
@@ -53,6 +54,7 @@ solo_some w seen Looking = (look_few (w.length == seen) (length w.row) w.length)
 solo_some w seen (Again k) = omega arith
 solo_some w seen Acquired = omega arith
 solo_some w seen (Entering k) = omega arith
+solo_some w seen Tagged = omega arith
 solo_some w seen Entered = omega arith
 solo_some w seen Written = omega arith
 solo_some w seen Denied = omega arith
@@ -64,6 +66,7 @@ IsOnItsWay Looking = ⊥
 IsOnItsWay (Again k) = ⊥
 IsOnItsWay Acquired = Unit {0}
 IsOnItsWay (Entering k) = Unit {0}
+IsOnItsWay Tagged = Unit {0}
 IsOnItsWay Entered = Unit {0}
 IsOnItsWay Written = Unit {0}
 IsOnItsWay Denied = ⊥
@@ -93,7 +96,7 @@ seek_solo me k pair None w t h e = inr (quiet w t _ _ refl (inl h) (omega arith)
 seek_solo me k pair (Some word) w t h e =
     let b = slice_get_within w.row k word e in
     let F : Option ℕ → Type 0 = λ v. SoloTurn me pair w t (solo_left w t.seen (Seeking k)) (walk_turn me word v (Seeking (k + 1)) w t) in
-    elim (hit w.slots t.seen word pair.0) as F [
+    elim (read_at w t.seen k word pair.0) as F [
       | None ↦ inr (quiet w t _ _ refl (inl h) (omega (arith, b)))
       | Some value ↦ inl (inr (record { index = word; value = value; list_is = refl; answers_are = refl; is_free = h }))
     ]
@@ -104,14 +107,14 @@ acquire_solo me pair w t h room l =
     by_test P _ _ _
     (λ a. by_test P _ _ _
     (λ b.
-    let q : look_left (w.length == t.seen) (length w.row) w.length ≡ w.length + 5 = ap (λ z. look_left z (length w.row) w.length) b in
+    let q : look_left (w.length == t.seen) (length w.row) w.length ≡ w.length + 6 = ap (λ z. look_left z (length w.row) w.length) b in
     let s : w.length ≡ t.seen = equal_by _ _ b in
     by_test P (is_none w.held) (moved (record w { held = Some me }) (record t { phase = Acquired })) (moved w t)
     (λ c. inr (record { list_is = refl; answers_are = refl; length_is = refl; next_is = refl; free = inr tt; left = omega (arith, q, s) }))
     (λ c. let f : true ≡ false = sym (ap is_none h) ∙ c in cc))
     (λ b.
-    let q : look_left (w.length == t.seen) (length w.row) w.length ≡ length w.row + w.length + 7 = ap (λ z. look_left z (length w.row) w.length) b in
-    let s : look_left (w.length == w.length) (length w.row) w.length ≡ w.length + 5 = ap (λ z. look_left z (length w.row) w.length) (eqb_same w.length) in
+    let q : look_left (w.length == t.seen) (length w.row) w.length ≡ length w.row + w.length + 8 = ap (λ z. look_left z (length w.row) w.length) b in
+    let s : look_left (w.length == w.length) (length w.row) w.length ≡ w.length + 6 = ap (λ z. look_left z (length w.row) w.length) (eqb_same w.length) in
     inr (quiet w t (record t { seen = w.length; phase = Seeking 0 }) _ refl (inl h) (omega (arith, q, s)))))
     (λ a. let g : 2 ^ 32 - 1 ≤ t.seen = ltb-false _ _ a in absurd (omega (arith, g, l, room)))
 
@@ -123,9 +126,10 @@ solo_turn me pair w t call (Again k) e f n h room l = absurd (n k refl)
 solo_turn me pair w t call Acquired e f n h room l = inr (quiet w t _ _ refl (inr tt) (omega arith))
 solo_turn me pair w t call (Entering k) e f n h room l =
     let at = f.0.seen_is in
-    by_test (SoloTurn me pair w t ((t.seen - k) + 3)) _ _ _
+    by_test (SoloTurn me pair w t ((t.seen - k) + 4)) _ _ _
     (λ b. let s : k < length w.row = ltb-true _ _ b in inr (quiet w t _ _ refl (inr tt) (omega (arith, s, f.1, at))))
     (λ b. inr (record { list_is = refl; answers_are = refl; length_is = refl; next_is = refl; free = inr tt; left = omega arith }))
+solo_turn me pair w t call Tagged e f n h room l = inr (record { list_is = refl; answers_are = refl; length_is = refl; next_is = refl; free = inr tt; left = omega arith })
 solo_turn me pair w t call Entered e f n h room l =
     let entry : Entry = record { writer = me; key = pair.0; value = pair.1 } in
     inr (record {
@@ -193,12 +197,13 @@ solo_run (suc n) plans pairs pair m me t s pe e k h room l =
 ended_joined : {A : Type 0} (plans : List (Plan A)) (front rest : List Turn) (me : ℕ) (pair : ℕ × ℕ) → HasEnded me pair (world_of plans front) (fold (turned plans) (machine_of plans front) rest).world → HasEnded me pair (world_of plans front) (world_of plans (front ++ rest))
 ended_joined plans front rest me pair h = subst (λ (z : Machine _). HasEnded me pair (world_of plans front) z.world) (sym (joined plans front rest)) h
 
-solo_few : {A : Type 0} (w : World A) (me : ℕ) (call : Option (ℕ × ℕ)) (seen : ℕ) (phase : Phase) → Facts w me call seen phase → w.held ≡ None → length w.row ≡ w.length → solo_left w seen phase ≤ 3 * w.length + 8
+solo_few : {A : Type 0} (w : World A) (me : ℕ) (call : Option (ℕ × ℕ)) (seen : ℕ) (phase : Phase) → Facts w me call seen phase → w.held ≡ None → length w.row ≡ w.length → solo_left w seen phase ≤ 3 * w.length + 9
 solo_few w me call seen (Seeking k) f h r = let b = (look_few (w.length == seen) (length w.row) w.length).1 in omega (arith, b, r)
 solo_few w me call seen Looking f h r = let b = (look_few (w.length == seen) (length w.row) w.length).1 in omega (arith, b, r)
 solo_few w me call seen (Again k) f h r = omega arith
 solo_few w me call seen Acquired f h r = let y = f.0.held_is in cc
 solo_few w me call seen (Entering k) f h r = let y = f.0.held_is in cc
+solo_few w me call seen Tagged f h r = let y = f.0.held_is in cc
 solo_few w me call seen Entered f h r = let y = f.0.held_is in cc
 solo_few w me call seen Written f h r = let y = f.0.held_is in cc
 solo_few w me call seen Denied f h r = let y = f.0.held_is in cc
@@ -213,5 +218,5 @@ insertions_end plans front = λ me pairs pair pe e h room.
     let o = s.threads me (Inserter pairs) t.0 pe t.1 in
     let c = result_count plans m me t.0 s t.1 in
     let few = solo_few m.world me (slice_get pairs t.0.next) t.0.seen t.0.phase o.facts h (s.world.free h).0 in
-    let r = solo_run (3 * m.world.length + 8) plans pairs pair m me t.0 s pe t.1 (ap (slice_get pairs) (sym c) ∙ e) (inl h) room few in
+    let r = solo_run (3 * m.world.length + 9) plans pairs pair m me t.0 s pe t.1 (ap (slice_get pairs) (sym c) ∙ e) (inl h) room few in
     (r.0, r.1, ended_joined plans front (turns_alone me r.0) me pair r.2)

@@ -9,7 +9,7 @@ use Rattle.elsa_map_machine.specs.declared.map_machine.World.{World}
 use Rattle.elsa_map_machine.specs.declared.map_machine.turns.Thread.{Thread}
 use Rattle.elsa_map_machine.specs.Machine.{Moved, Machine, thread_turn, turned, opening, opening_thread, machine_of}
 use Rattle.elsa_map_machine.specs.Worlds.{pairs_in}
-use Rattle.elsa_map_machine.proofs.MapLemmas.Rules.{Transition, call_of, transition, stays, ends, finds, passes, passes_again, misses, misses_first, looks, observes, fills_up, acquires, allocates, lacks, steps, enters, writes, publishes, refuses}
+use Rattle.elsa_map_machine.proofs.MapLemmas.Rules.{Transition, call_of, transition, stays, ends, finds, passes, passes_again, misses, misses_first, looks, observes, fills_up, acquires, allocates, lacks, steps, enters, sets_number, writes, publishes, refuses}
 use Rattle.elsa_map_machine.proofs.MapLemmas.Kept.{Facts}
 use Rattle.elsa_map_machine.proofs.MapLemmas.Runs.{Sound, turned_cases, sound_turned, sound_opening}
 
@@ -72,6 +72,7 @@ length_step me memory w t plan _ h (allocates p e m) = omega arith
 length_step me memory w t plan _ h (lacks p e m) = omega arith
 length_step me memory w t plan _ h (steps p e b) = omega arith
 length_step me memory w t plan _ h (enters p e b) = omega arith
+length_step me memory w t plan _ h (sets_number p e) = omega arith
 length_step me memory w t plan _ h (writes p e) = omega arith
 length_step me memory w t plan _ h (publishes {pairs} {pair} p e) = let f = subst (Facts w me (call_of plan t.next) t.seen) p h in let b = slice_get_within pairs t.next pair e in let at = f.0.seen_is in omega (arith, b, at)
 length_step me memory w t plan _ h (refuses p e) = let l = pairs_less plan t.next in omega (arith, l)

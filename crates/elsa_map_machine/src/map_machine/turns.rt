@@ -3,7 +3,7 @@
 //! Each function follows its definition in `specs/Machine.antt` case by case, and its contract is
 //! that equation.
 ghost use Rattle.std.specs.Prelude.{◌≡◌, ◌+◌, ◌-◌, ◌^◌, ◌<◌, All, IsSome, OnOk, slice_get};
-ghost use Rattle.elsa_map_machine.specs.Machine.{CanPublish, acquire_turn, again_turn, finder_turn, hit, inserter_turn, machine, moved, next_call, released, replied, seek_turn, thread_turn, turned, walk_turn};
+ghost use Rattle.elsa_map_machine.specs.Machine.{CanPublish, acquire_turn, again_turn, finder_turn, hit, inserter_turn, machine, moved, next_call, read_at, released, replied, seek_turn, thread_turn, turned, walk_turn};
 
 use crate::map_machine::{Answer, Entry, Plan, World};
 use elsa_machine::machine::Turn;
@@ -27,7 +27,9 @@ pub enum Phase {
     /// An inserter that has the lock, and has passed this number of index entries in search of the
     /// first that is free.
     Entering(usize),
-    /// An inserter that has the lock, and has set the index entry.
+    /// An inserter that has the lock, and has set the tag of the index entry.
+    Tagged,
+    /// An inserter that has the lock, and has set the tag and the number of the index entry.
     Entered,
     /// An inserter that has the lock, and has set the index entry and written the slot.
     Written,
@@ -61,6 +63,18 @@ fn hit(slots: &[Entry], seen: usize, word: usize, key: u64) -> Option<u64>
 }
 
 impl<A: Allocator> World<A> {
+    /// Returns the value that a walk finds at the index entry `k`, which has the index `word`, if
+    /// the index entry has its number and the entry is observed and has the key.
+    fn read_at(&self, seen: usize, k: usize, word: usize, key: u64) -> Option<u64>
+        ensures { result ≡ read_at self.now seen k word key }
+    {
+        if k < self.numbers {
+            hit(self.slots.as_slice(), seen, word, key)
+        } else {
+            None
+        }
+    }
+
     /// Returns this result for the thread's next key.
     fn reply(&mut self, answer: Answer, thread: &mut Thread) -> Result<(), AllocError>
         requires counted { thread.old.next < 2 ^ 64 - 1 }
@@ -83,21 +97,22 @@ impl<A: Allocator> World<A> {
         self.reply(answer, thread)
     }
 
-    /// A turn of a walk at an index entry with the index `word`: the call returns the entry's value
-    /// if the entry has the key; otherwise the walk continues in the phase `further`.
+    /// A turn of a walk at the index entry `k`, which has the index `word`: the call returns the
+    /// entry's value if the entry has the key; otherwise the walk continues in the phase `further`.
     fn walk_turn(
         &mut self,
         me: usize,
         key: u64,
+        k: usize,
         word: usize,
         further: Phase,
         thread: &mut Thread,
     ) -> Result<(), AllocError>
         requires counted { thread.old.next < 2 ^ 64 - 1 }
         ensures { OnOk result (moved self.new thread.new ≡ walk_turn me word
-            (hit self.old.slots thread.old.seen word key) further self.old thread.old) }
+            (read_at self.old thread.old.seen k word key) further self.old thread.old) }
     {
-        if let Some(value) = hit(self.slots.as_slice(), thread.seen, word, key) {
+        if let Some(value) = self.read_at(thread.seen, k, word, key) {
             let answer = Answer::Found {
                 thread: me,
                 index: word,
@@ -125,7 +140,7 @@ impl<A: Allocator> World<A> {
             thread.phase = Phase::Looking;
             return Ok(());
         };
-        self.walk_turn(me, key, word, Phase::Seeking(k + 1), thread)
+        self.walk_turn(me, key, k, word, Phase::Seeking(k + 1), thread)
     }
 
     /// A turn of a finder's second walk that has passed `k` index entries.
@@ -144,7 +159,7 @@ impl<A: Allocator> World<A> {
             let length = thread.seen;
             return self.reply(Answer::Absent { thread: me, length }, thread);
         };
-        self.walk_turn(me, key, word, Phase::Again(k + 1), thread)
+        self.walk_turn(me, key, k, word, Phase::Again(k + 1), thread)
     }
 
     /// A turn of an inserter that found the key in none of the entries that it has observed: it
@@ -196,8 +211,12 @@ impl<A: Allocator> World<A> {
                     thread.phase = Phase::Entering(k + 1);
                 } else {
                     self.row.push(thread.seen)?;
-                    thread.phase = Phase::Entered;
+                    thread.phase = Phase::Tagged;
                 }
+            }
+            Phase::Tagged => {
+                self.numbers = thread.seen + 1;
+                thread.phase = Phase::Entered;
             }
             Phase::Entered => {
                 let entry = Entry {
