@@ -1,3 +1,4 @@
+pub mod AheadLemmas
 mod DigitLemmas
 pub mod EngineLemmas
 pub mod NameLemmas

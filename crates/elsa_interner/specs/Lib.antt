@@ -1,3 +1,4 @@
+pub mod Ahead
 pub mod Devices
 pub mod Engine
 pub mod Feeding

@@ -1,16 +1,19 @@
 //! The engine: it reads lines, each of which is a request about names, and writes one reply line
 //! for each.
-ghost use Rattle.std.specs.Prelude.{◌≡◌, ◌<◌, ◌^◌, ◌-◌, [], ◌∷◌, ◌++◌, ℕ, List, false, true, length, codes, IsTrue, OnOk, OnErr, MatchOption};
+ghost use Rattle.std.specs.Prelude.{◌≡◌, ◌<◌, ◌^◌, ◌-◌, [], ◌∷◌, ◌++◌, ℕ, List, false, true, length, codes, IsTrue, IfSome, OnOk, OnErr, MatchOption};
+ghost use Rattle.elsa_interner.specs.Ahead.{IsHashed};
 ghost use Rattle.elsa_interner.specs.Devices.{CountsFault};
 ghost use Rattle.elsa_interner.specs.Engine.{HasRun, CountsRun};
 ghost use Rattle.elsa_interner.specs.Feeding.{IsSoFar, IsFinished, Feeds, Ends};
 ghost use Rattle.elsa_interner.specs.Lines.{LacksNumber, Replies};
+ghost use Rattle.elsa_interner.specs.Names.{text_hash};
 ghost use Rattle.elsa_interner.specs.Replies.{asked, reply_text};
 
+use crate::ahead::{AHEAD, Held, cut_ahead, guesses};
 use crate::chunk::Chunk;
 use crate::devices::{Failed, Sink, Source};
+use crate::names::{Known, Names};
 use crate::pending::Pending;
-use crate::reader::InternerReader;
 use crate::reply::{Reply, push_reply};
 use crate::request::{Request, request_of};
 use bumpalo::Bump;
@@ -22,15 +25,9 @@ use std::hash::{BuildHasher, BuildHasherDefault, FoldHasher};
 /// The greatest number of bytes that one read returns.
 const PIECE: usize = 8192;
 
-/// The number of lines for which the table is read ahead.
-const AHEAD: usize = 16;
-
 /// The number of names from which on the table is read ahead. A smaller table fits in the
 /// processor's nearest caches.
 const MANY: usize = 1 << 16;
-
-/// A guess at which there is no name.
-const NO_GUESS: usize = usize::MAX;
 
 /// Why the engine stopped before the end of the input.
 #[derive(Clone, Copy, Debug, PartialEq, Eq)]
@@ -55,42 +52,47 @@ impl fmt::Display for EngineFault {
 
 impl Error for EngineFault {}
 
-/// Executes the request and returns its reply. For a name to put, the number `guess` is compared
-/// first.
+/// Executes the request and returns its reply. `known` is what is known of a name to put.
 #[tactic(auto, using(crate::proofs::ReplyLemmas::put_replies, crate::proofs::ReplyLemmas::full_replies))]
 #[inline(always)]
 fn answer_to<'a, S: BuildHasher, A: Allocator + Copy, P: Allocator>(
     arena: &'a Bump<P>,
-    names: &mut InternerReader<'a, S, A>,
+    names: &mut Names<'a, S, A>,
     request: Request<'_>,
-    guess: usize,
+    known: Option<Known>,
 ) -> Reply<'a>
-    ensures replies { Replies names.old (asked request.entry) (reply_text result) names.new }
+    requires hashed { IfSome known (λ k. IsHashed
+        (text_hash S.BuildHasher S.Hasher.Hasher names.old.1) (asked request) k.hash) }
+    ensures replies { Replies names.old.0 (asked request.entry) (reply_text result) names.new.0 }
+    ensures builder { names.new.1 ≡ names.old.1 }
 
     // If there are 2^32 - 1 names, the reply to a new one is `too many names`.
-    ensures limit { LacksNumber names.old (asked request.entry) →
+    ensures limit { LacksNumber names.old.0 (asked request.entry) →
         reply_text result ≡ codes "too many names" }
 {
     match request {
-        Request::Put(name) => match names.put_guessed(arena, name, guess) {
-            Ok(n) => Reply::Number(n),
-            Err(_) => {
-                if names.is_full() {
-                    Reply::Text("too many names")
-                } else {
-                    Reply::Text("no memory")
+        Request::Put(text) => {
+            let sought = names.sought(text, known);
+            match names.put(arena, sought, None) {
+                Ok(n) => Reply::Number(n),
+                Err(_) => {
+                    if names.is_full() {
+                        Reply::Text("too many names")
+                    } else {
+                        Reply::Text("no memory")
+                    }
                 }
             }
-        },
-        Request::Find(name) => match names.find(name) {
+        }
+        Request::Find(text) => match names.find(text) {
             Some(n) => Reply::Number(n),
             None => Reply::Text("none"),
         },
-        Request::At(n) => match names.at(n as usize) {
+        Request::At(n) => match names.as_slice().get(n as usize).copied() {
             Some(name) => Reply::Text(name),
             None => Reply::Text("none"),
         },
-        Request::Len => Reply::Number(names.len()),
+        Request::Len => Reply::Number(names.as_slice().len()),
         Request::Bad => Reply::Text("bad line"),
     }
 }
@@ -100,7 +102,7 @@ fn answer_to<'a, S: BuildHasher, A: Allocator + Copy, P: Allocator>(
 struct Session<'a, S: BuildHasher, A: Allocator + Copy, P: Allocator> {
     // The arena in which the names are stored, and the names.
     arena: &'a Bump<P>,
-    names: InternerReader<'a, S, A>,
+    names: Names<'a, S, A>,
     // The bytes read so far of a line that doesn't end in the piece in which it began.
     line: Vec<u8, A>,
     // Whether an allocation for that line failed. The rest of the line is then skipped.
@@ -108,39 +110,13 @@ struct Session<'a, S: BuildHasher, A: Allocator + Copy, P: Allocator> {
 }
 
 impl<'a, S: BuildHasher, A: Allocator + Copy, P: Allocator> Session<'a, S, A, P> {
-    /// Returns a guess for each of the next lines: if the line puts a name, a number that the name
-    /// may have.
-    ///
-    /// It reads the table in a separate loop, which is short enough that the processor starts all
-    /// sixteen loads before the first one ends. It is not inlined, so that the loop over the lines
-    /// stays short if there are few names.
-    #[inline(never)]
-    fn guesses<C: Chunk>(&self, chunk: C) -> [usize; AHEAD] {
-        let mut hashes = [0; AHEAD];
-        let mut rest = chunk;
-        for i in 0..AHEAD {
-            let Some((line, later)) = rest.cut() else {
-                break;
-            };
-            if let Request::Put(name) = line.request() {
-                hashes[i] = self.names.hash(name);
-            }
-            rest = later;
-        }
-        let mut guesses = [NO_GUESS; AHEAD];
-        for i in 0..AHEAD {
-            guesses[i] = self.names.guess(hashes[i]);
-        }
-        guesses
-    }
-
     /// Ends the line that began in an earlier piece, and returns the reply to it. The reply to a
     /// line that is skipped is `no memory`.
     #[cold]
     #[inline(never)]
     fn finish_begun(&mut self, end: &[u8]) -> Reply<'a>
-        ensures { IsFinished self.old.names self.old.line.items self.old.skips
-            end.now (reply_text result) self.new.names self.new.line.items self.new.skips }
+        ensures { IsFinished self.old.names.0 self.old.line.items self.old.skips
+            end.now (reply_text result) self.new.names.0 self.new.line.items self.new.skips }
     {
         if self.skips {
             self.skips = false;
@@ -152,7 +128,7 @@ impl<'a, S: BuildHasher, A: Allocator + Copy, P: Allocator> Session<'a, S, A, P>
             return Reply::Text("no memory");
         }
         let request = request_of(self.line.as_slice());
-        let answer = answer_to(self.arena, &mut self.names, request, NO_GUESS);
+        let answer = answer_to(self.arena, &mut self.names, request, None);
         self.line.clear();
         answer
     }
@@ -175,37 +151,66 @@ impl<'a, S: BuildHasher, A: Allocator + Copy, P: Allocator> Session<'a, S, A, P>
     }
 
     /// Writes the replies to the lines that end in the chunk. No line has begun before it.
-    ///
-    /// If `is_ahead` is true, the table is read for several lines at once. The function is inlined,
-    /// so that a call with `false` has none of that code.
     #[inline(always)]
     fn feed<C: Chunk, W: Sink>(
         &mut self,
         chunk: C,
-        is_ahead: bool,
         out: &mut Pending,
         writer: &mut W,
     ) -> Result<(), Failed>
         requires { (self.old.skips ≡ false) × (self.old.line.items ≡ []) }
-        ensures feeds { Feeds result self.old.names self.old.line.items self.old.skips
-            (C.bytes chunk) self.new.names self.new.line.items self.new.skips
+        ensures feeds { Feeds result self.old.names.0 self.old.line.items self.old.skips
+            (C.bytes chunk) self.new.names.0 self.new.line.items self.new.skips
             (W.held writer.old) out.old (W.held writer.new) out.new }
         ensures none { OnOk result (out.new ≡ []) }
         ensures counts { CountsFault result (W.failures writer.old) (W.failures writer.new) }
     {
         let mut rest = chunk;
-        let mut guesses = [NO_GUESS; AHEAD];
-        let mut turn = AHEAD;
         while let Some((line, later)) = rest.cut() {
-            if is_ahead && turn >= AHEAD {
-                guesses = self.guesses(rest);
-                turn = 0;
-            }
-            let guess = if is_ahead { guesses[turn] } else { NO_GUESS };
-            let answer = answer_to(self.arena, &mut self.names, line.request(), guess);
+            let answer = answer_to(self.arena, &mut self.names, line.request(), None);
             push_reply(out, writer, answer)?;
             rest = later;
-            turn = turn.wrapping_add(1);
+        }
+        self.keep(rest.as_bytes());
+        out.flush(writer)
+    }
+
+    /// Writes the replies to the lines that end in the text, as [`Session::feed`] does, and reads
+    /// the table ahead for sixteen lines at once.
+    ///
+    /// It is not inlined, so that the loop over the lines stays short if there are few names.
+    #[inline(never)]
+    fn feed_ahead<W: Sink>(
+        &mut self,
+        text: &str,
+        out: &mut Pending,
+        writer: &mut W,
+    ) -> Result<(), Failed>
+        requires { (self.old.skips ≡ false) × (self.old.line.items ≡ []) }
+        ensures feeds { Feeds result self.old.names.0 self.old.line.items self.old.skips
+            text.now self.new.names.0 self.new.line.items self.new.skips
+            (W.held writer.old) out.old (W.held writer.new) out.new }
+        ensures none { OnOk result (out.new ≡ []) }
+        ensures counts { CountsFault result (W.failures writer.old) (W.failures writer.new) }
+    {
+        let mut held = [Held::NONE; AHEAD];
+        let mut rest = text;
+        loop {
+            let (count, later) = cut_ahead(&self.names, rest, &mut held);
+            if count == 0 {
+                break;
+            }
+            let guesses = guesses(&self.names, &held);
+            for i in 0..count {
+                let Held { request, hash } = held[i];
+                let known = Known {
+                    hash,
+                    guess: guesses[i],
+                };
+                let answer = answer_to(self.arena, &mut self.names, request, Some(known));
+                push_reply(out, writer, answer)?;
+            }
+            rest = later;
         }
         self.keep(rest.as_bytes());
         out.flush(writer)
@@ -224,8 +229,8 @@ impl<'a, S: BuildHasher, A: Allocator + Copy, P: Allocator> Session<'a, S, A, P>
         out: &mut Pending,
         writer: &mut W,
     ) -> Result<(), Failed>
-        ensures feeds { Feeds result self.old.names self.old.line.items self.old.skips
-            piece.now self.new.names self.new.line.items self.new.skips
+        ensures feeds { Feeds result self.old.names.0 self.old.line.items self.old.skips
+            piece.now self.new.names.0 self.new.line.items self.new.skips
             (W.held writer.old) out.old (W.held writer.new) out.new }
         ensures none { OnOk result (out.new ≡ []) }
         ensures counts { CountsFault result (W.failures writer.old) (W.failures writer.new) }
@@ -240,18 +245,18 @@ impl<'a, S: BuildHasher, A: Allocator + Copy, P: Allocator> Session<'a, S, A, P>
             push_reply(out, writer, answer)?;
             rest = later;
         }
-        let is_ahead = self.names.len() >= MANY;
+        let is_ahead = self.names.as_slice().len() >= MANY;
         match str::from_utf8(rest) {
-            Ok(text) if is_ahead => self.feed(text, true, out, writer),
-            Ok(text) => self.feed(text, false, out, writer),
-            Err(_) => self.feed(rest, false, out, writer),
+            Ok(text) if is_ahead => self.feed_ahead(text, out, writer),
+            Ok(text) => self.feed(text, out, writer),
+            Err(_) => self.feed(rest, out, writer),
         }
     }
 
     /// Writes the reply to the last line, if it has no byte 10.
     fn end<W: Sink>(&mut self, out: &mut Pending, writer: &mut W) -> Result<(), Failed>
         requires { out.old ≡ [] }
-        ensures ends { Ends result self.old.names self.old.line.items self.old.skips
+        ensures ends { Ends result self.old.names.0 self.old.line.items self.old.skips
             (W.held writer.old) out.old (W.held writer.new) out.new }
         ensures none { OnOk result (out.new ≡ []) }
         ensures counts { CountsFault result (W.failures writer.old) (W.failures writer.new) }
@@ -351,7 +356,7 @@ pub fn intern_engine_with_hasher<
 {
     let mut session = Session {
         arena,
-        names: InternerReader::new(alloc, hash_builder),
+        names: Names::new(alloc, hash_builder),
         line: Vec::new(alloc),
         skips: false,
     };

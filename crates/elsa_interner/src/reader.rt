@@ -1,4 +1,4 @@
-//! [`InternerReader`]: the names and the table that finds them, without the arena.
+//! [`InternerReader`]: the names without the arena, as the public sees them.
 //!
 //! An interner is a reader and an arena. Since the reader has no arena, threads can share it. Each
 //! name is stored by [`InternerReader::put_in`].
@@ -10,84 +10,16 @@ ghost use Rattle.std.specs.Option.{option_map};
 ghost use Rattle.std.specs.Str.{bytes_eq};
 ghost use mathlib.Core.List.{IsPrefix};
 ghost use Rattle.std.specs.Slice.Iter.{iter_rest};
-ghost use Rattle.elsa_interner.specs.Names.{Puts, IsFull, IsOneToOne, text_hash};
-ghost use Rattle.elsa_buckets.specs.Table.{Has, IsVacancy};
+ghost use Rattle.elsa_interner.specs.Names.{Puts, IsFull, IsOneToOne};
 
+use crate::names::Names;
 use bumpalo::Bump;
-use elsa_buckets::table::{PlaceTable, Vacancy};
 use std::alloc::{AllocError, Allocator, Global};
 use std::fmt::{self, Debug, Formatter, Write};
-use std::hash::{BuildHasher, BuildHasherDefault, FoldHasher, Hasher};
+use std::hash::{BuildHasher, BuildHasherDefault, FoldHasher};
 use std::marker::Model;
 use std::ops::Index;
 use std::slice::Iter;
-
-/// Returns the hash of a text, as 32 bits.
-///
-/// The hasher receives only the bytes of the text. std's hash of a text adds a byte 255, which
-/// separates the text from what is hashed after it; here nothing is.
-#[inline(always)]
-fn name_hash<S: BuildHasher>(hash_builder: &S, text: &str) -> u32
-    ensures { result ≡ text_hash S.BuildHasher S.Hasher.Hasher hash_builder.now text.now }
-{
-    let mut hasher = hash_builder.build_hasher();
-    hasher.write(text.as_bytes());
-    let hash = hasher.finish();
-    ((hash ^ (hash >> 32)) & 0xFFFF_FFFF) as u32
-}
-
-/// Returns whether two texts of more than sixteen bytes are equal. It is not inlined, so that
-/// [`same_text`] stays short.
-#[inline(never)]
-fn same_long_text(a: &str, b: &str) -> bool
-    ensures { result ≡ bytes_eq a.now b.now }
-{
-    a == b
-}
-
-/// Returns whether two texts are equal. Most names are short, and for at most sixteen bytes the
-/// compiler compares two words instead of calling a function.
-#[inline(always)]
-fn same_text(a: &str, b: &str) -> bool
-    ensures { result ≡ bytes_eq a.now b.now }
-{
-    if a.len() <= 16 {
-        a == b
-    } else {
-        same_long_text(a, b)
-    }
-}
-
-/// Returns the number of the text, or `Err` with the bucket into which it would be added.
-#[inline(always)]
-fn search<A: Allocator + Copy>(
-    names: &[&str],
-    table: &PlaceTable<A>,
-    hash: u32,
-    text: &str,
-) -> Result<usize, Vacancy>
-    // The table has each index of the text under the hash, and no index that isn't below the number
-    // of names. No two names are equal.
-    requires entered { (i : ℕ) → slice_get (map (λ b. b.now) names.now) i ≡ Some text.now →
-        Has table.now hash i }
-    requires within { (h i : ℕ) → Has table.now h i → i < length names.now }
-    requires one_to_one { IsOneToOne (map (λ b. b.now) names.now) }
-
-    // The result is the number of the text; or the text isn't a name, and the bucket is a vacancy
-    // for the hash.
-    ensures found { IfOk result (λ i.
-        position (bytes_eq text.now) (map (λ b. b.now) names.now) ≡ Some i) }
-    ensures absent { OnErr result
-        (position (bytes_eq text.now) (map (λ b. b.now) names.now) ≡ None) }
-    ensures vacancy { IfErr result (IsVacancy table.now hash) }
-{
-    let is_it = |place|
-        requires { place < length names.now }
-        ensures { (d : Bor (List ℕ)) →
-            result ≡ bytes_eq text.entry.now (slice_index_or names.entry.now place d).now }
-    { same_text(text, names[place]) };
-    table.search(hash, is_it)
-}
 
 /// Distinct names with the numbers that an [`Interner`](crate::interner::Interner) gave them, for
 /// look-ups only.
@@ -101,22 +33,15 @@ pub struct InternerReader<
     S: BuildHasher = BuildHasherDefault<FoldHasher>,
     A: Allocator + Copy = Global,
 > {
-    names: Vec<&'a str, A>,
-    table: PlaceTable<A>,
-    hash_builder: S,
+    names: Names<'a, S, A>,
 }
 
 impl<'a, S: BuildHasher, A: Allocator + Copy> Model for InternerReader<'a, S, A> {
-    ghost use Rattle.std.specs.Prelude.{List, ℕ, map};
+    ghost use Rattle.std.specs.Prelude.{List, ℕ};
 
     ghost Value = { List (List ℕ) };
 
-    ghost view = { λ s. map (λ b. b.now) s.names.items };
-
-    ghost use Rattle.elsa_interner.specs.Names.{text_hash, IsNumbered};
-
-    ghost invariant = { λ s. IsNumbered (text_hash S.BuildHasher S.Hasher.Hasher s.hash_builder)
-        s.table (map (λ b. b.now) s.names.items) };
+    ghost view = { λ s. s.names.0 };
 }
 
 impl<'a, S: BuildHasher, A: Allocator + Copy> InternerReader<'a, S, A> {
@@ -125,9 +50,7 @@ impl<'a, S: BuildHasher, A: Allocator + Copy> InternerReader<'a, S, A> {
         ensures { result ≡ [] }
     {
         InternerReader {
-            names: Vec::new(alloc),
-            table: PlaceTable::new(alloc),
-            hash_builder,
+            names: Names::new(alloc, hash_builder),
         }
     }
 
@@ -140,8 +63,7 @@ impl<'a, S: BuildHasher, A: Allocator + Copy> InternerReader<'a, S, A> {
         ensures place { result ≡ position (bytes_eq text.now) self.now }
         ensures named { IfSome result (λ n. slice_get self.now n ≡ Some text.now) }
     {
-        let hash = name_hash(&self.hash_builder, text);
-        search(self.names.as_slice(), &self.table, hash, text).ok()
+        self.names.find(text)
     }
 
     /// Returns the name with this number, or `None` exactly if the number is at or above
@@ -154,7 +76,7 @@ impl<'a, S: BuildHasher, A: Allocator + Copy> InternerReader<'a, S, A> {
     pub fn at(&self, number: usize) -> Option<&'a str>
         ensures { option_map (λ b. b.now) result ≡ slice_get self.now number }
     {
-        self.names.get(number).copied()
+        self.names.as_slice().get(number).copied()
     }
 
     /// Returns the number of names. The names are one to one with the numbers below it. It
@@ -166,7 +88,7 @@ impl<'a, S: BuildHasher, A: Allocator + Copy> InternerReader<'a, S, A> {
         ensures length { result ≡ length self.now }
         ensures one_to_one { IsOneToOne self.now }
     {
-        self.names.len()
+        self.names.as_slice().len()
     }
 
     /// Returns whether there is no name. It allocates nothing.
@@ -186,7 +108,7 @@ impl<'a, S: BuildHasher, A: Allocator + Copy> InternerReader<'a, S, A> {
     pub fn is_full(&self) -> bool
         ensures { IsTrue result ↔ IsFull self.now }
     {
-        self.table.is_full()
+        self.names.is_full()
     }
 
     /// Returns whether the text is a name. It allocates nothing.
@@ -209,7 +131,7 @@ impl<'a, S: BuildHasher, A: Allocator + Copy> InternerReader<'a, S, A> {
         ensures runs { IterYieldsInOrder (Bor (List ℕ)) }
         ensures runs_back { IterYieldsInReverse (Bor (List ℕ)) }
     {
-        self.names.iter()
+        self.names.as_slice().iter()
     }
 
     /// Returns the number of names that there can be before the table or the list of names
@@ -217,7 +139,7 @@ impl<'a, S: BuildHasher, A: Allocator + Copy> InternerReader<'a, S, A> {
     pub(crate) fn capacity(&self) -> usize
         ensures { length self.now ≤ result }
     {
-        self.names.capacity().min(self.table.capacity())
+        self.names.capacity()
     }
 
     /// Reserves capacity in the list and in the table for `additional` more names. The names are
@@ -228,8 +150,7 @@ impl<'a, S: BuildHasher, A: Allocator + Copy> InternerReader<'a, S, A> {
     pub(crate) fn reserve(&mut self, additional: usize) -> Result<(), AllocError>
         ensures { self.new ≡ self.old }
     {
-        self.names.reserve(additional)?;
-        self.table.reserve_places(additional)
+        self.names.reserve(additional)
     }
 
     /// Returns the number of a text. A new text becomes a name: `placed` if it is given, otherwise
@@ -262,60 +183,8 @@ impl<'a, S: BuildHasher, A: Allocator + Copy> InternerReader<'a, S, A> {
         ensures kept_at { (word : List ℕ) (i : ℕ) → position (bytes_eq word) self.old ≡ Some i →
             position (bytes_eq word) self.new ≡ Some i }
     {
-        let hash = name_hash(&self.hash_builder, text);
-        let vacancy = match search(self.names.as_slice(), &self.table, hash, text) {
-            Ok(place) => return Ok(place),
-            Err(vacancy) => vacancy,
-        };
-        self.names.reserve(1)?;
-        let room = self.table.reserve(hash, vacancy)?;
-        let name = if let Some(name) = placed {
-            name
-        } else {
-            arena.try_alloc_str(text)?
-        };
-        let place = self.table.add(hash, room);
-        self.names.push_reserved(name);
-        Ok(place)
-    }
-
-    /// Returns the hash of a text, for [`InternerReader::guess`]. It allocates nothing.
-    #[inline(always)]
-    pub(crate) fn hash(&self, text: &str) -> u32 {
-        name_hash(&self.hash_builder, text)
-    }
-
-    /// Returns a number that a text with this hash may have, or any other number. It allocates
-    /// nothing.
-    #[inline(always)]
-    pub(crate) fn guess(&self, hash: u32) -> usize {
-        self.table.guess(hash)
-    }
-
-    /// Returns the number of a text, as [`InternerReader::put_in`] does with a copy. It compares
-    /// the name at the number `guess`, which may be any, before it searches.
-    ///
-    /// # Errors
-    /// Fails as [`InternerReader::put_in`] does.
-    #[inline(always)]
-    pub(crate) fn put_guessed<P: Allocator>(
-        &mut self,
-        arena: &'a Bump<P>,
-        text: &str,
-        guess: usize,
-    ) -> Result<usize, AllocError>
-        ensures numbered { IfOk result (λ n. Puts self.old text.now n self.new) }
-        ensures refused { OnErr result (self.new ≡ self.old) }
-        ensures only_new { OnErr result (position (bytes_eq text.now) self.old ≡ None) }
-        ensures limit { OnOk result (position (bytes_eq text.now) self.old ≡ None →
-            ¬ IsFull self.old) }
-    {
-        if let Some(name) = self.names.get(guess) {
-            if same_text(text, *name) {
-                return Ok(guess);
-            }
-        }
-        self.put_in(arena, text, None)
+        let sought = self.names.sought(text, None);
+        self.names.put(arena, sought, placed)
     }
 }
 
@@ -343,7 +212,7 @@ impl<'a, S: BuildHasher, A: Allocator + Copy> Index<usize> for InternerReader<'a
     ghost index_gives = { λ s n name. slice_get s n ≡ Some name.now };
 
     fn index(&self, number: usize) -> &&'a str {
-        &self.names[number]
+        &self.names.as_slice()[number]
     }
 }
 

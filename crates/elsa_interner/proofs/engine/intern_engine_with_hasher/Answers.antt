@@ -33,7 +33,7 @@ loop-turn-preserved g c =
       none = c.in-Ok-feed_bytes.ensures.none;
       so_far = further _ c.loop-turn._turn (g.R.Source.left c.args.reader.now) (g.R.Source.left c.loop-turn.reader) (g.R.Source.left c.read.new.self)
           (g.W.Sink.held c.args.writer.now) (g.W.Sink.held c.loop-turn.writer) (g.W.Sink.held c.feed_bytes.new.writer)
-          c.loop-turn.out c.feed_bytes.new.out l.line.items n.line.items (take c.in-Ok.n c.read.new.buf) l.names n.names l.skips n.skips
+          c.loop-turn.out c.feed_bytes.new.out l.line.items n.line.items (take c.in-Ok.n c.read.new.buf) l.names.0 n.names.0 l.skips n.skips
           i.so_far some c.in-Ok.ensures.bytes.0 c.in-Ok-feed_bytes.ensures.feeds i.none c.in-Ok-feed_bytes.ensures.none;
     }
 
@@ -42,7 +42,7 @@ returns-in_default-clause-answers g c =
     let l = c.loop-turn.session in
     has_answered 0 c.loop-turn._turn (g.R.Source.left c.args.reader.now) (g.R.Source.left c.loop-turn.reader) (g.R.Source.left c.read.new.self)
     (g.W.Sink.held c.args.writer.now) (g.W.Sink.held c.loop-turn.writer)
-    l.line.items l.names l.skips c.loop-turn.invariant.so_far (omega arith) c.in_default.ensures.bytes
+    l.line.items l.names.0 l.skips c.loop-turn.invariant.so_far (omega arith) c.in_default.ensures.bytes
 
 pub returns-in_default-end-clause-answers : goal.returns-in_default-end-clause-answers
 returns-in_default-end-clause-answers g c =
@@ -51,7 +51,7 @@ returns-in_default-end-clause-answers g c =
     let room : 0 < length c.read.new.buf = search rules in
     has_answered_last _ c.loop-turn._turn c.in-Ok.n (g.R.Source.left c.args.reader.now) (g.R.Source.left c.loop-turn.reader) (g.R.Source.left c.read.new.self)
     (g.W.Sink.held c.args.writer.now) (g.W.Sink.held c.loop-turn.writer) (g.W.Sink.held c.end.new.writer)
-    c.loop-turn.out c.end.new.out l.line.items c.read.new.buf l.names l.skips
+    c.loop-turn.out c.end.new.out l.line.items c.read.new.buf l.names.0 l.skips
     i.so_far c.if-n-eq0.true c.in-Ok.ensures.bytes.0 (c.in-Ok.ensures.bytes.1 c.if-n-eq0.true room) c.in_default-end.ensures.ends i.none
 
 pub returns-then-n-eq0-clause-answers : goal.returns-then-n-eq0-clause-answers
@@ -61,7 +61,7 @@ returns-then-n-eq0-clause-answers g c =
     let room : 0 < length c.read.new.buf = search rules in
     has_answered_all _ c.loop-turn._turn c.in-Ok.n (g.R.Source.left c.args.reader.now) (g.R.Source.left c.loop-turn.reader) (g.R.Source.left c.read.new.self)
     (g.W.Sink.held c.args.writer.now) (g.W.Sink.held c.loop-turn.writer) (g.W.Sink.held c.end.new.writer)
-    c.loop-turn.out c.end.new.out l.line.items c.read.new.buf l.names l.skips
+    c.loop-turn.out c.end.new.out l.line.items c.read.new.buf l.names.0 l.skips
     i.so_far c.if-n-eq0.true c.in-Ok.ensures.bytes.0 (c.in-Ok.ensures.bytes.1 c.if-n-eq0.true room) c.in-Ok-end.ensures.ends i.none c.in-Ok-end.ensures.none
 
 pub returns-in_default-feed_bytes-clause-answers : goal.returns-in_default-feed_bytes-clause-answers
@@ -71,7 +71,7 @@ returns-in_default-feed_bytes-clause-answers g c =
     let n = c.feed_bytes.new.self in
     has_answered_some _ c.loop-turn._turn (g.R.Source.left c.args.reader.now) (g.R.Source.left c.loop-turn.reader) (g.R.Source.left c.read.new.self)
     (g.W.Sink.held c.args.writer.now) (g.W.Sink.held c.loop-turn.writer) (g.W.Sink.held c.feed_bytes.new.writer)
-    c.loop-turn.out c.feed_bytes.new.out l.line.items n.line.items (take c.in-Ok.n c.read.new.buf) l.names n.names l.skips n.skips
+    c.loop-turn.out c.feed_bytes.new.out l.line.items n.line.items (take c.in-Ok.n c.read.new.buf) l.names.0 n.names.0 l.skips n.skips
     i.so_far c.in-Ok.ensures.bytes.0 c.in_default-feed_bytes.ensures.feeds i.none
 
 pub returns-clause-answers : goal.returns-clause-answers
@@ -79,4 +79,4 @@ returns-clause-answers g c =
     let l = c.loop-turn.session in
     let done = c.loop-turn-test.false in
     has_answered 18446744073709551615 c.loop-turn._turn (g.R.Source.left c.args.reader.now) (g.R.Source.left c.loop-turn.reader) (g.R.Source.left c.loop-turn.reader) (g.W.Sink.held c.args.writer.now) (g.W.Sink.held c.loop-turn.writer)
-    l.line.items l.names l.skips c.loop-turn.invariant.so_far (omega arith) (Keeps-refl _)
+    l.line.items l.names.0 l.skips c.loop-turn.invariant.so_far (omega arith) (Keeps-refl _)

@@ -10,8 +10,8 @@ invariant-loop-line g l = record {
   fresh : (l.self.skips ≡ false) × (l.self.line.items ≡ []);
   calm : g.W.Sink.failures l.writer ≡ g.W.Sink.failures l.fn.writer;
   feeds : (r : Result (Unit {0}) Failed) (names : List (List ℕ)) (line : List ℕ) (skips : Bool) (new : Option (List ℕ)) (waits : List ℕ)
-      → Feeds r l.self.names l.self.line.items l.self.skips (g.C.Chunk.bytes l.rest) names line skips (g.W.Sink.held l.writer) l.out new waits
-      → Feeds r l.fn.self.names l.fn.self.line.items l.fn.self.skips (g.C.Chunk.bytes l.fn.chunk) names line skips (g.W.Sink.held l.fn.writer) l.fn.out new waits;
+      → Feeds r l.self.names.0 l.self.line.items l.self.skips (g.C.Chunk.bytes l.rest) names line skips (g.W.Sink.held l.writer) l.out new waits
+      → Feeds r l.fn.self.names.0 l.fn.self.line.items l.fn.self.skips (g.C.Chunk.bytes l.fn.chunk) names line skips (g.W.Sink.held l.fn.writer) l.fn.out new waits;
 }
 
 abbrev pub decreases-loop-line : goal.decreases-loop-line

@@ -1,63 +1,14 @@
-use Rattle.std.proofs.Common.{◌≡◌, ℕ, List, length, map, position, IfSome, Some, None, ap, subst, sym, ◌∙◌, arith}
-use Rattle.std.proofs.lemmas.List.{length-map}
-use Rattle.std.specs.Borrow.{Bor}
+use Rattle.std.proofs.Common.{◌≡◌, Some, position, subst}
+use Rattle.std.proofs.lemmas.Result.{IfOk-weaker}
 use Rattle.std.specs.Str.{bytes_eq}
-use Rattle.elsa_interner.specs.Names.{IsNumbered, Puts, text_hash}
-use Rattle.elsa_interner.proofs.NameLemmas.{at_place, kept_put, numbered_put, numbered_same, put_new, shown_push, stands_put}
+use Rattle.elsa_interner.proofs.NameLemmas.{at_place, stands_put}
 use Rattle.elsa_interner.proofs.reader.InternerReader.put_in.Goals as goal
-use Rattle.elsa_interner.proofs.reader.InternerReader.put_in.Goals.{in-Some, in_default+in_ok-name}
-
-pub search-requires-clause-within : goal.search-requires-clause-within
-search-requires-clause-within g c h i has =
-    omega (arith, c.self.invariant.within h i has, length-map c.self.inside.names.items (λ (b : Bor (List ℕ)). b.now), ap length c.as_slice.ensures.value)
-
-pub returns-in-Ok-clause-value_after : goal.returns-in-Ok-clause-value_after
-returns-in-Ok-clause-value_after g c =
-    let text = c.args.text.now in
-    at_place c.args.self.now text c.in-Ok.place
-    (subst (λ l. position (bytes_eq text) l ≡ Some c.in-Ok.place) (ap (map (λ (b : Bor (List ℕ)). b.now)) c.as_slice.ensures.value ∙ c.self.view_is) c.in-Ok.ensures.found)
-
--- If the copy fails, the table has made room that is not used.
-pub invariant_of-self-in_err-name : goal.invariant_of-self-in_err-name
-invariant_of-self-in_err-name g c =
-    let reserved = c.in_ok-room.ensures in
-    let hash = text_hash g.S.BuildHasher g.S.Hasher.Hasher c.self.inside.hash_builder in
-    subst (λ l. IsNumbered hash c.reserve-2.new.self (map (λ (b : Bor (List ℕ)). b.now) l)) (sym c.in_ok-reserve.ensures.items)
-    (numbered_same hash c.self.inside.table c.reserve-2.new.self _ c.self.invariant reserved.places reserved.same)
-
-pub invariant_of-self-2 : goal.invariant_of-self-2
-invariant_of-self-2 g c =
-    let ks = c.self.inside.names.items in
-    let text = c.args.text.now in
-    let reserved = c.in_ok-room.ensures in
-    let named : c.match-placed.name.now ≡ text = elim c.match-placed.branch [
-      | in-Some w ↦ ap (λ (b : Bor (List ℕ)). b.now) w.name-is ∙ subst (λ o. IfSome o (λ (b : Bor (List ℕ)). b.now ≡ text)) w.in-Some.is c.requires.placed
-      | in_default+in_ok-name w ↦ ap (λ (b : Bor (List ℕ)). b.now) w.name-is ∙ w.in_ok-name.ensures
-    ] in
-    let last = shown_push ks c.reserve.new.self.items c.push_reserved.new.self.items text c.match-placed.name c.in_ok-reserve.ensures.items c.push_reserved.ensures.items named in
-    let none = subst (λ l. position (bytes_eq text) (map (λ (b : Bor (List ℕ)). b.now) l) ≡ None) c.as_slice.ensures.value c.in-Err.ensures.absent in
-    let before = numbered_same _ c.self.inside.table c.reserve-2.new.self (map (λ (b : Bor (List ℕ)). b.now) ks) c.self.invariant reserved.places reserved.same in
-    subst (IsNumbered _ c.add-place.new.self) (sym last)
-    (numbered_put _ c.reserve-2.new.self c.add-place.new.self _ text c.name_hash-hash.result c.add-place.result before c.name_hash-hash.ensures c.add-place.ensures.place c.add-place.ensures.places c.add-place.ensures.adds none)
-
-pub returns-clause-numbered : goal.returns-clause-numbered
-returns-clause-numbered g c =
-    let ks = c.self.inside.names.items in
-    let text = c.args.text.now in
-    let named : c.match-placed.name.now ≡ text = elim c.match-placed.branch [
-      | in-Some w ↦ ap (λ (b : Bor (List ℕ)). b.now) w.name-is ∙ subst (λ o. IfSome o (λ (b : Bor (List ℕ)). b.now ≡ text)) w.in-Some.is c.requires.placed
-      | in_default+in_ok-name w ↦ ap (λ (b : Bor (List ℕ)). b.now) w.name-is ∙ w.in_ok-name.ensures
-    ] in
-    let last = shown_push ks c.reserve.new.self.items c.push_reserved.new.self.items text c.match-placed.name c.in_ok-reserve.ensures.items c.push_reserved.ensures.items named in
-    let none = subst (λ l. position (bytes_eq text) (map (λ (b : Bor (List ℕ)). b.now) l) ≡ None) c.as_slice.ensures.value c.in-Err.ensures.absent in
-    let placed : c.add-place.result ≡ length (map (λ (b : Bor (List ℕ)). b.now) ks) = omega (arith, c.add-place.ensures.place, c.in_ok-room.ensures.places, c.self.invariant.counted) in
-    subst (λ l. Puts l text c.add-place.result (map (λ (b : Bor (List ℕ)). b.now) c.push_reserved.new.self.items)) c.self.view_is (put_new _ _ text c.add-place.result none placed last)
 
 pub returns-clause-index_after : goal.returns-clause-index_after
-returns-clause-index_after g c = stands_put c.args.self.now c.args.text.now c.add-place.result (map (λ (b : Bor (List ℕ)). b.now) c.push_reserved.new.self.items) (returns-clause-numbered g c)
+returns-clause-index_after g c =
+    IfOk-weaker c.put.result _ _ (λ n puts. subst (λ t. position (bytes_eq t) c.put.new.self.0 ≡ Some n) c.sought-sought.ensures.text
+    (stands_put c.self.inside.names.0 c.sought-sought.result.text.now n c.put.new.self.0 puts)) c.put.ensures.numbered
 
 pub returns-clause-value_after : goal.returns-clause-value_after
-returns-clause-value_after g c = at_place (map (λ (b : Bor (List ℕ)). b.now) c.push_reserved.new.self.items) c.args.text.now c.add-place.result (returns-clause-index_after g c)
-
-pub returns-clause-kept : goal.returns-clause-kept
-returns-clause-kept g c = kept_put c.args.self.now c.args.text.now c.add-place.result (map (λ (b : Bor (List ℕ)). b.now) c.push_reserved.new.self.items) (returns-clause-numbered g c)
+returns-clause-value_after g c =
+    IfOk-weaker c.put.result _ _ (λ n found. at_place c.put.new.self.0 c.args.text.now n found) (returns-clause-index_after g c)

@@ -3,15 +3,15 @@ use Rattle.std.proofs.lemmas.List.{length-map}
 use Rattle.std.specs.Borrow.{Bor}
 use Rattle.std.specs.Str.{bytes_eq}
 use Rattle.elsa_interner.proofs.NameLemmas.{named_place}
-use Rattle.elsa_interner.proofs.reader.InternerReader.find.Goals as goal
+use Rattle.elsa_interner.proofs.names.Names.find.Goals as goal
 
 pub search-requires-clause-within : goal.search-requires-clause-within
 search-requires-clause-within g c h i has =
-    omega (arith, c.self.invariant.within h i has, length-map c.self.inside.names.items (λ (b : Bor (List ℕ)). b.now), ap length c.as_slice.ensures.value)
+    omega (arith, c.self.invariant.within h i has, length-map c.self.inside.list.items (λ (b : Bor (List ℕ)). b.now), ap length c.as_slice.ensures.value)
 
 pub returns-clause-named : goal.returns-clause-named
 returns-clause-named g c =
-    let names = c.args.self.now in
+    let names = c.args.self.now.0 in
     let text = c.args.text.now in
     let found : position (bytes_eq text) names ≡ c.ok.result = search rules in
     subst (λ o. IfSome o (λ n. slice_get names n ≡ Some text)) found (named_place names text)

@@ -2,7 +2,7 @@ use Rattle.std.proofs.Common.{ℕ, List, map, subst, sym}
 use Rattle.std.specs.Borrow.{Bor}
 use Rattle.elsa_interner.specs.Names.{IsNumbered, text_hash}
 use Rattle.elsa_interner.proofs.NameLemmas.{numbered_same}
-use Rattle.elsa_interner.proofs.reader.InternerReader.reserve.Goals as goal
+use Rattle.elsa_interner.proofs.names.Names.reserve.Goals as goal
 
 pub invariant_of-self-2 : goal.invariant_of-self-2
 invariant_of-self-2 g c =

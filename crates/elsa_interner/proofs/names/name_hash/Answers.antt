@@ -1,6 +1,6 @@
 use Rattle.std.proofs.lemmas.Nat.{and_mask}
 use Rattle.elsa_interner.specs.Names.{text_hash}
-use Rattle.elsa_interner.proofs.reader.name_hash.Goals as goal
+use Rattle.elsa_interner.proofs.names.name_hash.Goals as goal
 
 pub returns : goal.returns
 unfolding text_hash
