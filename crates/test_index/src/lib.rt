@@ -3,6 +3,8 @@
 #![tactic(auto)]
 
 #[cfg(test)]
+mod ahead_tests;
+#[cfg(test)]
 mod by_closure;
 #[cfg(test)]
 mod cache_tests;
