@@ -27,7 +27,7 @@ cut_next hash held count i h text rest below within cut =
     let first = drop_more (take count held) i h (omega (arith, below, length-take-le count held within)) in
     subst (λ k. AreCut hash (k ∷ drop (i + 1) (take count held)) text rest) (get_or-take count held i h below) (subst (λ hs. AreCut hash hs text rest) first cut)
 
--- After the replies to all requests that are held, the text goes on with the rest.
+-- After the replies to all requests that are held, what is left of the text is the rest.
 pub cut_done : (hash : List ℕ → ℕ) (held : List Held) (count i : ℕ) (text rest : List ℕ) → count ≤ i → count ≤ length held → AreCut hash (drop i (take count held)) text rest → text ≡ rest
 cut_done hash held count i text rest above within cut =
     let none = drop_all i (take count held) (omega (arith, above, length-take-le count held within)) in

@@ -1,5 +1,5 @@
-//! [`Names`]: the names of an interner, the table that finds them, and the builder of their hashers.
-//! A text is looked for as a [`Sought`], which has its hash.
+//! [`Names`]: the names of an interner, the table that finds them, and the builder of their
+//! hashers. A text is looked for as a [`Sought`], which has its hash.
 ghost use Rattle.std.specs.Prelude.{◌≡◌, ◌↔◌, ℕ, [], List, length, None, Some, slice_get, position, map, slice_index_or, ◌<◌, ◌≤◌, IfErr, IfOk, IfSome, IsTrue, OnErr, OnOk};
 ghost use Rattle.std.specs.Borrow.{Bor};
 ghost use Rattle.std.specs.Str.{bytes_eq};
@@ -133,7 +133,8 @@ impl<'a, S: BuildHasher, A: Allocator + Copy> Model for Names<'a, S, A> {
 impl<'a, S: BuildHasher, A: Allocator + Copy> Names<'a, S, A> {
     /// Makes a list without names. `hash_builder` hashes the names. It allocates nothing.
     pub fn new(alloc: A, hash_builder: S) -> Self
-        ensures { result.0 ≡ [] }
+        ensures names { result.0 ≡ [] }
+        ensures builder { result.1 ≡ hash_builder }
     {
         Names {
             list: Vec::new(alloc),

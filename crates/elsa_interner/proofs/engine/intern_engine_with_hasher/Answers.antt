@@ -15,7 +15,7 @@ loop-turn-init g c = record {
     written = [];
     many = omega arith;
     consumed = Consumes-nil _;
-    reached = reached_new _ _ _ c.new.ensures c.new-2.ensures.items refl;
+    reached = reached_new _ _ _ c.new.ensures.names c.new-2.ensures.items refl;
     held = Appends-nil _;
   };
 }
