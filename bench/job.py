@@ -17,6 +17,7 @@ NAMES, ALONE, CELLS, OWNERS, LOCKED, SHARDS, FREE, FREE_MAP, FREE_SHARDS, OWNED,
 )
 NAMES_GROWTH, MAP_GROWTH = "growth of the names, time per new name", "growth of `FrozenMap`, time per new key"
 APPEND_GROWTH, LONGEST = "growth of `FrozenAppendMap`, time per new key", "longest insertion"
+CRAFTED = "crafted keys of `FrozenAppendMap`"
 
 
 class Job:

@@ -3,6 +3,7 @@ from job import (
     ALONE,
     APPEND_GROWTH,
     CELLS,
+    CRAFTED,
     FREE,
     FREE_MAP,
     FREE_SHARDS,
@@ -19,7 +20,7 @@ from job import (
     WORKERS,
     Job,
 )
-from programs import CORPORA, FLOODS, SIZES
+from programs import CORPORA, CRAFTED_KEYS, FLOODS, SIZES, crafted_name
 
 
 def names_jobs(peers, cli):
@@ -119,6 +120,9 @@ def append_jobs(peers, bench):
             entries=size,
             memory_goal=memory,
         )
+    for call, title, goal in (("clone", "clone", "1.6"), ("collect", "collecting", "")):
+        name = f"`FrozenAppendMap`, {title}, of 1,000,000"
+        yield Job(ALONE, name, sides(call, 1_000_000), "", goal, by="inside", often=0.4)
     for size in (1_000_000, 10_000_000):
         yield Job(
             APPEND_GROWTH,
@@ -130,6 +134,17 @@ def append_jobs(peers, bench):
             often=often.get(size, 1),
             entries=size,
         )
+
+
+def crafted_jobs(peers, bench):
+    """The map for large collections with texts as keys, which may be crafted to collide. Upstream's map hashes with the
+    hash of std, which has a secret; hashbrown's does so where ours has a secret too, and otherwise takes our default."""
+    for hasher, count, families in CRAFTED_KEYS:
+        best = "arena and hashbrown, hash of std" if hasher == "seeded" else "arena and hashbrown"
+        for family in families:
+            sides = calls(peers, bench, f"lines_{hasher}", best, str(count))
+            name = crafted_name(hasher, count, family)
+            yield Job(CRAFTED, name, sides, stdin=CORPORA / family, by="inside")
 
 
 def longest_jobs(peers, bench):
@@ -405,6 +420,7 @@ def all_jobs(peers, cli, bench):
         *names_jobs(peers, cli),
         *alone_jobs(peers, bench),
         *append_jobs(peers, bench),
+        *crafted_jobs(peers, bench),
         *longest_jobs(peers, bench),
         *cell_jobs(peers, bench),
         *owners_jobs(peers, bench),

@@ -1,7 +1,7 @@
 """The pictures bench/results.svg and bench/growth.svg, from measured rows."""
 import html
 
-from job import NAMES_GROWTH
+from job import CRAFTED, NAMES_GROWTH
 
 INK = {"elsa": "#2e7d32", "upstream": "#5f6b7a", "peer": "#b26a00"}
 # The width of a letter of a bold label of 12 pixels, on average; a browser's fonts differ a little.
@@ -9,11 +9,15 @@ LETTER = 8
 
 
 def bars(jobs):
-    """Two bars for each row: the time compared with upstream and with the best peer, whose time is the line at 1."""
+    """Two bars for each row: the time compared with upstream and with the best peer, whose time is the line at 1. Crafted
+    keys have none: the default hasher takes hundreds of times as long as upstream's, which has a secret."""
     jobs = [
         job
         for job in jobs
-        if job.threads == 1 and "growth" not in job.group and ("upstream" in job.times or job.best_peer())
+        if job.threads == 1
+        and "growth" not in job.group
+        and job.group != CRAFTED
+        and ("upstream" in job.times or job.best_peer())
     ]
     height, left, top, width = 30, 430, 56, 520
     longest = max([1.5, *(job.ratio(side) or 0 for job in jobs for side in ("upstream", job.best_peer()))])

@@ -11,7 +11,20 @@ QUICK = here / "target" / "quick"
 # 400,000 names of 48 bytes each, by `tools/crafted_names`: random ones, and names crafted against std's FoldHasher and
 # against the program's SeededHasher.
 FLOODS = {"random": "random", "fixed": "crafted against FoldHasher", "seeded": "crafted against SeededHasher"}
+# The rows of a map with these names as keys: its hasher, the number of keys, and the families of names, of which the first
+# is compared with the others. Against the default hasher, whose seed is fixed, only few crafted keys can be measured.
+HASHERS = {"seeded": "`SeededState`", "default": "the default hasher"}
+CRAFTED_KEYS = (
+    ("seeded", 400_000, ("random", "fixed", "seeded")),
+    ("default", 400_000, ("random", "seeded")),
+    ("default", 10_000, ("random", "fixed")),
+)
 SIZES = (10_000, 100_000, 1_000_000, 10_000_000)
+
+
+def crafted_name(hasher, count, family):
+    """The name of the row of a map with this hasher and this many keys of a family."""
+    return f"{HASHERS[hasher]}, {count:,} of 48 bytes, {FLOODS[family]}"
 
 
 def installed(package, program):

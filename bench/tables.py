@@ -1,8 +1,8 @@
 """The tables of bench/RESULTS.md, from measured rows."""
 import re
 
-from job import NAMES_GROWTH
-from programs import FLOODS, here
+from job import CRAFTED, NAMES_GROWTH
+from programs import CRAFTED_KEYS, FLOODS, HASHERS, crafted_name, here
 
 
 def ratio_text(ratio):
@@ -53,14 +53,34 @@ def without_start(jobs):
             job.times = {side: max(seconds - start.times[side], 0) for side, seconds in job.times.items()}
 
 
+def slowest(crafted, plain):
+    """The longest time for crafted keys compared with that for random ones, of each side."""
+    return ", ".join(f"{side} {max(it[side] for it in crafted) / plain[side]:.2f}" for side in plain)
+
+
+def crafted_note(jobs):
+    """The times of a map for crafted keys compared with random ones; of the rows that were measured."""
+    times = {job.name: job.times for job in jobs if job.group == CRAFTED}
+    parts = []
+    for hasher, count, families in CRAFTED_KEYS:
+        plain, *crafted = (times.get(crafted_name(hasher, count, family)) for family in families)
+        if plain and all(crafted):
+            families = " and ".join(FLOODS[family] for family in families[1:])
+            parts.append(f"{HASHERS[hasher]}, {count:,} keys {families}: {slowest(crafted, plain)}")
+    if not parts:
+        return ""
+    head = "Time for crafted keys of `FrozenAppendMap`, compared with random keys (goal at 400,000: at most 1.2)"
+    return f"\n{head}. {'; '.join(parts)}.\n"
+
+
 def flood_note(jobs):
     plain, *crafted = (
         {job.name: job.times for job in jobs}.get(f"400,000 of 48 bytes, {title}") for title in FLOODS.values()
     )
     if not plain or not all(crafted):
         return ""
-    ratios = ", ".join(f"{side} {max(job[side] for job in crafted) / plain[side]:.2f}" for side in plain)
-    return f"\nTime for crafted names, compared with random names of the same length (goal: at most 2): {ratios}.\n"
+    head = "Time for crafted names, compared with random names of the same length (goal: at most 2)"
+    return f"\n{head}: {slowest(crafted, plain)}.\n"
 
 
 def write_between(mark, text):

@@ -5,10 +5,10 @@ import xml.etree.ElementTree
 from scripts import root
 
 import pictures, tables, uses
-from job import ALONE, NAMES, NAMES_GROWTH, Job
+from job import ALONE, CRAFTED, NAMES, NAMES_GROWTH, Job
 from jobs import all_jobs
 from measuring import spread_of
-from programs import FLOODS
+from programs import CRAFTED_KEYS, FLOODS, crafted_name
 
 
 def measured(group, name, times, memory=(), **more):
@@ -78,6 +78,15 @@ class TestTables(unittest.TestCase):
         ]
         self.assertIn("elsa 2.00, upstream 2.00", tables.flood_note(jobs))
         self.assertEqual(tables.flood_note(jobs[:2]), "")
+
+    def test_the_note_on_crafted_keys_compares_each_hasher_with_itself(self):
+        jobs = [
+            measured(CRAFTED, crafted_name(hasher, count, family), {"elsa": time * (2 if hasher == "default" else 1)})
+            for hasher, count, families in CRAFTED_KEYS
+            for family, time in zip(families, (1.0, 1.5, 1.25))
+        ]
+        self.assertEqual(tables.crafted_note(jobs).count("elsa 1.50"), len(CRAFTED_KEYS))
+        self.assertEqual(tables.crafted_note(jobs[:2]), "")
 
 
 class TestUses(unittest.TestCase):
@@ -154,6 +163,10 @@ class TestPictures(unittest.TestCase):
     def test_rows_of_several_threads_and_of_growth_have_no_bar(self):
         rows = [measured(ALONE, "a", {"elsa": 1.0, "upstream": 2.0}, threads=2), *growth()]
         self.assertNotIn('height="10" fill="#5f6b7a"/>\n<text', pictures.bars(rows))
+
+    def test_crafted_keys_have_no_bar(self):
+        rows = [measured(ALONE, "a", {"elsa": 1.0, "upstream": 2.0}), measured(CRAFTED, "b", {"elsa": 9, "upstream": 1})]
+        self.assertEqual(pictures.bars(rows), pictures.bars(rows[:1]))
 
     def test_each_picture_is_well_formed(self):
         # a name as `&self` must not end the picture

@@ -120,6 +120,27 @@ fn half_word(bytes: &[u8], at: usize) -> u64 {
     u64::from(u32::from_le_bytes(bytes[at..at + 4].try_into().unwrap()))
 }
 
+/// The state after one write to a hasher; `begun` is the state before a text of more than 8 bytes.
+#[inline(always)]
+fn written(state: u64, factor: u64, begun: u64, bytes: &[u8]) -> u64 {
+    let len = bytes.len();
+    if len <= 8 {
+        let short = match len {
+            4.. => half_word(bytes, 0) | half_word(bytes, len - 4) << 32,
+            1.. => u64::from(bytes[0]) | u64::from(bytes[len / 2]) << 8 | u64::from(bytes[len - 1]) << 16,
+            0 => 0,
+        };
+        return folded(state ^ short, factor ^ (2 * len as u64));
+    }
+    let mut state = begun;
+    let mut at = 0;
+    while len - at > 16 {
+        state = folded(word(bytes, at) ^ state, word(bytes, at + 8) ^ factor);
+        at += 16;
+    }
+    folded(word(bytes, len.saturating_sub(16)) ^ state, word(bytes, len - 8) ^ factor)
+}
+
 impl std::hash::Hasher for FoldHasher {
     #[inline(always)]
     fn finish(&self) -> u64 {
@@ -137,32 +158,54 @@ impl std::hash::Hasher for FoldHasher {
 
     #[inline(always)]
     fn write(&mut self, bytes: &[u8]) {
-        let len = bytes.len();
-        if len <= 8 {
-            let short = match len {
-                4.. => half_word(bytes, 0) | half_word(bytes, len - 4) << 32,
-                1.. => u64::from(bytes[0]) | u64::from(bytes[len / 2]) << 8 | u64::from(bytes[len - 1]) << 16,
-                0 => 0,
-            };
-            self.0 = folded(self.0 ^ short, MULTIPLIER ^ (2 * len as u64));
-            return;
-        }
-        let mut state = self.0.wrapping_add(len as u64);
-        let mut at = 0;
-        while len - at > 16 {
-            state = folded(word(bytes, at) ^ state, word(bytes, at + 8) ^ MULTIPLIER);
-            at += 16;
-        }
-        self.0 = folded(word(bytes, len.saturating_sub(16)) ^ state, word(bytes, len - 8) ^ MULTIPLIER);
+        self.0 = written(self.0, MULTIPLIER, self.0.wrapping_add(bytes.len() as u64), bytes);
     }
 }
 
-/// The hash of a text.
-#[inline(always)]
-pub fn hash_of_text(text: &str) -> u64 {
-    let mut hasher = FoldHasher::default();
-    std::hash::Hasher::write(&mut hasher, text.as_bytes());
-    hasher.0
+/// The hash of `elsa intern` for texts, in Rust: two words of it are secret.
+pub struct SeededHasher {
+    state: u64,
+    factor: u64,
+}
+
+impl std::hash::Hasher for SeededHasher {
+    #[inline(always)]
+    fn finish(&self) -> u64 {
+        self.state
+    }
+
+    /// Only of the byte that ends a text, which a text that is hashed alone can do without.
+    #[inline(always)]
+    fn write_u8(&mut self, _end: u8) {}
+
+    #[inline(always)]
+    fn write(&mut self, bytes: &[u8]) {
+        let begun = self.state.wrapping_add((bytes.len() as u64).wrapping_mul(self.factor));
+        self.state = written(self.state, self.factor, begun, bytes);
+    }
+}
+
+/// Its builder, with the two secret words.
+pub struct Seeded {
+    start: u64,
+    factor: u64,
+}
+
+impl Default for Seeded {
+    fn default() -> Seeded {
+        let secret = std::collections::hash_map::RandomState::new();
+        let word = |number: u64| std::hash::BuildHasher::hash_one(&secret, number);
+        Seeded { start: word(0), factor: word(1) }
+    }
+}
+
+impl std::hash::BuildHasher for Seeded {
+    type Hasher = SeededHasher;
+
+    #[inline(always)]
+    fn build_hasher(&self) -> SeededHasher {
+        SeededHasher { state: self.start, factor: self.factor }
+    }
 }
 
 /// Calls each of so many pieces of work, the front half in a new thread and the back half in this one: as our side starts its threads.

@@ -16,7 +16,11 @@
 //!   `index_map_insert`, `index_map_get`, `index_map_at`; the same with `_text` before the call,
 //!   for texts as keys (except for `index_map_at`); `append_map_insert`, `append_map_get`;
 //!   `map_longest` and `append_map_longest` (the longest of COUNT insertions); `map_clone`,
-//!   `map_collect`. Walks, clones and collections are made ten times.
+//!   `map_collect`, `append_map_clone`, `append_map_collect`. Walks, clones and collections are made
+//!   ten times.
+//! - `FrozenAppendMap` with the first COUNT lines of standard input as keys, `put ` before each of
+//!   them left out: `lines_default` (insertions, with the default hasher), `lines_seeded` (with
+//!   `SeededState`).
 //! - Interners: `names_zipf` and `names_distinct` (COUNT puts of names in all, into a shared
 //!   interner), `shards_names_zipf` and `shards_names_distinct` (the same into an interner of
 //!   shards), `texts_zipf` and `texts_distinct` (short-lived texts, put into a shared interner by
@@ -42,6 +46,7 @@ mod cells;
 mod draws;
 mod free_map;
 mod items;
+mod lines;
 mod locked_map;
 mod names;
 mod owned;
@@ -55,9 +60,11 @@ use crate::cells::CellCall;
 use crate::draws::Words;
 use crate::free_map::{Free, Sought};
 use crate::items::ItemCall;
+use crate::lines::Hashed;
 use crate::locked_map::{LAST, LAST_OF_FEW, Locked};
 use crate::owners::OwnerCall;
 use crate::tables::TableCall;
+use crate::whole_maps::WholeMap;
 use elsa::sync::{FrozenMap, LockFreeFrozenMap, LockFreeShardedMap, ShardedMap};
 use std::alloc::Global;
 use std::process::ExitCode;
@@ -163,8 +170,10 @@ fn timed_map_calls<R: Clock>(
         "index_map_at" => tables::timed_index_map(rt, alloc, at, count)?,
         "index_map_text_insert" => tables::timed_index_map_text(rt, alloc, insert, count)?,
         "index_map_text_get" => tables::timed_index_map_text(rt, alloc, get, count)?,
-        "map_clone" => whole_maps::timed_clones(rt, alloc, count)?,
-        "map_collect" => whole_maps::timed_collections(rt, alloc, count)?,
+        "map_clone" => whole_maps::timed_clones(rt, alloc, WholeMap::Hashed, count)?,
+        "map_collect" => whole_maps::timed_collections(rt, alloc, WholeMap::Hashed, count)?,
+        "append_map_clone" => whole_maps::timed_clones(rt, alloc, WholeMap::Append, count)?,
+        "append_map_collect" => whole_maps::timed_collections(rt, alloc, WholeMap::Append, count)?,
         _ => return Ok(None),
     }))
 }
@@ -291,6 +300,15 @@ fn words_in_shards(form: &str) -> Option<Words> {
     }
 }
 
+/// Returns the hasher of the map whose keys are lines of standard input. `None` for any other form.
+fn hashed_of(form: &str) -> Option<Hashed> {
+    match form {
+        "lines_default" => Some(Hashed::Default),
+        "lines_seeded" => Some(Hashed::Seeded),
+        _ => None,
+    }
+}
+
 fn main(rt: HostRuntime) -> io::Result<ExitCode> {
     let words: Vec<String> = env::args(&rt)?.skip(1).collect(rt.alloc())?;
     let [form, threads, count] = words.as_slice() else {
@@ -301,6 +319,11 @@ fn main(rt: HostRuntime) -> io::Result<ExitCode> {
     let count = count.as_str().parse::<usize>().unwrap_or(0);
     if let Some(words) = words_in_shards(form.as_str()) {
         let (nanos, sum) = names::timed_shards(&rt, rt.alloc(), words, threads, count)?;
+        println!(rt; "{nanos} {sum}")?;
+        return Ok(ExitCode::SUCCESS);
+    }
+    if let Some(hashed) = hashed_of(form.as_str()) {
+        let (nanos, sum) = lines::timed(&rt, rt.alloc(), hashed, count)?;
         println!(rt; "{nanos} {sum}")?;
         return Ok(ExitCode::SUCCESS);
     }

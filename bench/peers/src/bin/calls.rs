@@ -1,15 +1,20 @@
 //! The collections of one thread: upstream's (`upstream`), and what an expert takes instead (`best`): a bump arena, and beside it a `Vec`, hashbrown's
-//! map, std's ordered map, or `indexmap`, the hashed ones with the same hash as ours.
+//! map, std's ordered map, or `indexmap`, the hashed ones with the same hash as ours. `upstream_folded` is upstream's `FrozenMap` with that hash, for
+//! `map_insert` and `map_get`.
 //!
-//! usage: calls SIDE FORM 1 COUNT. A form is a collection and a call, as `map_text_insert`; `forms` at the end of this file has them all. It prints the
+//! usage: calls SIDE FORM 1 COUNT. A form is a collection and a call, as `map_text_insert`; `main` at the end of this file has them all. It prints the
 //! nanoseconds of COUNT calls (of `walk`, `clone` and `collect`: ten times over COUNT items; of `longest`: of the longest of COUNT insertions) and a sum
-//! of what was read.
+//! of what was read. `lines_default` and `lines_seeded` are insertions of the first COUNT lines of standard input, `put ` before each of them left out:
+//! `best` takes the fixed hash for the former, and that of std, which has a secret, for the latter.
 use bumpalo::Bump;
 use elsa::{FrozenBTreeMap, FrozenIndexMap, FrozenMap, FrozenVec};
 use hashbrown::hash_map::RawEntryMut;
-use peers::{hash_of_text, key, text, Draws, Fold};
+use peers::{key, text, Draws, Fold};
+use std::collections::hash_map::RandomState;
 use std::collections::BTreeMap;
+use std::hash::BuildHasher;
 use std::hint::black_box;
+use std::io::BufRead;
 use std::time::Instant;
 
 const TIMES: usize = 10;
@@ -145,6 +150,8 @@ macro_rules! upstream_table {
 
 upstream_table!(FrozenMap<u64, Box<u64>>, u64, |key| *key, |map| map.len());
 upstream_table!(FrozenMap<String, Box<u64>>, str, |key| key.to_owned(), |map| map.len());
+// Upstream's map tells its length only with the hash of std.
+upstream_table!(FrozenMap<u64, Box<u64>, Fold>, u64, |key| *key, |_map| panic!("it has no length"));
 upstream_table!(FrozenBTreeMap<u64, Box<u64>>, u64, |key| *key, |map| map.len());
 upstream_table!(FrozenBTreeMap<String, Box<u64>>, str, |key| key.to_owned(), |map| map.len());
 // Upstream's index map tells no place for keys that are plain numbers.
@@ -176,12 +183,12 @@ impl<'a> Table for Best<'a, hashbrown::HashMap<u64, &'a u64, Fold>> {
     }
 }
 
-impl<'a> Table for Best<'a, hashbrown::HashMap<&'a str, &'a u64, Fold>> {
+impl<'a, S: BuildHasher + Clone> Table for Best<'a, hashbrown::HashMap<&'a str, &'a u64, S>> {
     type Key = str;
 
     #[inline(always)]
     fn insert(&mut self, key: &str, value: u64) -> u64 {
-        let hash = hash_of_text(key);
+        let hash = self.map.hasher().hash_one(key);
         match self.map.raw_entry_mut().from_hash(hash, |kept| *kept == key) {
             RawEntryMut::Occupied(entry) => **entry.get(),
             RawEntryMut::Vacant(entry) => {
@@ -193,7 +200,8 @@ impl<'a> Table for Best<'a, hashbrown::HashMap<&'a str, &'a u64, Fold>> {
 
     #[inline(always)]
     fn get(&self, key: &str) -> Option<u64> {
-        self.map.raw_entry().from_hash(hash_of_text(key), |kept| *kept == key).map(|(_, value)| **value)
+        let hash = self.map.hasher().hash_one(key);
+        self.map.raw_entry().from_hash(hash, |kept| *kept == key).map(|(_, value)| **value)
     }
 
     fn copy(&self) -> u64 {
@@ -357,25 +365,39 @@ fn map_collect(side: &str, count: usize) -> Answer {
     })
 }
 
+/// The first lines of standard input, `put ` before each of them left out.
+fn lines(count: usize) -> Vec<String> {
+    let lines = std::io::stdin().lock().lines().take(count).map(|line| line.expect("a line"));
+    lines.map(|line| line.strip_prefix("put ").unwrap_or(&line).to_owned()).collect()
+}
+
 fn main() {
     let arena = Bump::new();
     let arena = &arena;
     let mut words = std::env::args().skip(1);
-    let side = words.next().expect("upstream or best");
+    let side = words.next().expect("upstream, upstream_folded or best");
     let (form, _threads, count) = peers::words_of(words);
     let best = side == "best";
     let (collection, call) = form.rsplit_once('_').expect("a form");
-    let texts: Vec<String> = if collection.ends_with("text") { (0..count).map(text).collect() } else { Vec::new() };
+    let texts: Vec<String> = match collection {
+        "lines" => lines(count),
+        _ if collection.ends_with("text") => (0..count).map(text).collect(),
+        _ => Vec::new(),
+    };
     let (number, text) = (&Numbers, &texts);
     let (nanos, sum) = match (collection, call, best) {
         ("vec", "collect", _) => vec_collect(&side, count),
         ("map", "collect", _) => map_collect(&side, count),
         ("vec", _, false) => vec_calls(FrozenVec::<Box<u64>>::new(), call, count),
         ("vec", _, true) => vec_calls(BestItems { arena, items: Vec::new() }, call, count),
+        ("map", _, false) if side == "upstream_folded" => table_calls(FrozenMap::<u64, Box<u64>, Fold>::default(), call, count, number),
         ("map", _, false) => table_calls(FrozenMap::<u64, Box<u64>>::new(), call, count, number),
         ("map", _, true) => table_calls(Best { arena, map: hashbrown::HashMap::<u64, &u64, Fold>::default() }, call, count, number),
         ("map_text", _, false) => table_calls(FrozenMap::<String, Box<u64>>::new(), call, count, text),
         ("map_text", _, true) => table_calls(Best { arena, map: hashbrown::HashMap::<&str, &u64, Fold>::default() }, call, count, text),
+        ("lines", _, false) => table_calls(FrozenMap::<String, Box<u64>>::new(), "insert", texts.len(), text),
+        ("lines", "default", true) => table_calls(Best { arena, map: hashbrown::HashMap::<&str, &u64, Fold>::default() }, "insert", texts.len(), text),
+        ("lines", _, true) => table_calls(Best { arena, map: hashbrown::HashMap::<&str, &u64, RandomState>::default() }, "insert", texts.len(), text),
         ("tree", _, false) => table_calls(FrozenBTreeMap::<u64, Box<u64>>::new(), call, count, number),
         ("tree", _, true) => table_calls(Best { arena, map: BTreeMap::<u64, &u64>::new() }, call, count, number),
         ("tree_text", _, false) => table_calls(FrozenBTreeMap::<String, Box<u64>>::new(), call, count, text),
