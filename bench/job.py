@@ -19,6 +19,9 @@ NAMES_GROWTH, MAP_GROWTH = "growth of the names, time per new name", "growth of 
 APPEND_GROWTH, LONGEST = "growth of `FrozenAppendMap`, time per new key", "longest insertion"
 CRAFTED = "crafted keys of `FrozenAppendMap`"
 
+# The side that shows what is due to the hash alone: upstream's collection with the hash that our side has in this row.
+OUR_HASH = "upstream with our hash"
+
 
 class Job:
     """One row: its group and name; its goals compared with upstream and with the best peer, in time and in memory; and
@@ -42,7 +45,8 @@ class Job:
         memory_goal="",
     ):
         self.group, self.name, self.sides, self.goal, self.peer_goal = group, name, sides, goal, peer_goal
-        # `references` are sides that do less work than a peer; they are shown next to the name of the row.
+        # `references` are sides that are no peers, since they do less work or are upstream's; they are shown next to the
+        # name of the row.
         self.stdin, self.by, self.threads, self.often, self.entries, self.references = (
             stdin,
             by,

@@ -12,6 +12,7 @@ from job import (
     MAP_GROWTH,
     NAMES,
     NAMES_GROWTH,
+    OUR_HASH,
     OWNED,
     OWNERS,
     SHARDS,
@@ -37,8 +38,9 @@ def names_jobs(peers, cli):
         "symbols": "1,000,000 lines, identifiers of source code",
         "long": "1,500,000 lines, long distinct words",
     }
+    with_our_hash = sides | {OUR_HASH: [peers / "names_upstream", "seeded"]}
     for name, title in titles.items():
-        yield Job(NAMES, title, sides, "0.55", "1", stdin=CORPORA / name)
+        yield Job(NAMES, title, with_our_hash, "0.55", "1", stdin=CORPORA / name, references=(OUR_HASH,))
     for name, title in FLOODS.items():
         yield Job(NAMES, f"400,000 of 48 bytes, {title}", sides, stdin=CORPORA / name)
     yield Job(NAMES_GROWTH, "no line", sides, stdin=CORPORA / "empty", often=3)
@@ -65,6 +67,13 @@ def calls(peers, bench, form, best, count):
     }
 
 
+def our_hash(peers, form, count):
+    """Upstream's map with our default hash, in the rows in which the first table shows it."""
+    if form not in ("map_insert", "map_get"):
+        return {}
+    return {OUR_HASH: [peers / "calls", "upstream_folded", form, "1", count]}
+
+
 def alone_jobs(peers, bench):
     rows = [
         ("vec_push", "`FrozenVec`, push", "arena and `Vec`", 1_000_000),
@@ -87,7 +96,9 @@ def alone_jobs(peers, bench):
         ("map_collect", "`FrozenMap`, collecting", "arena and hashbrown", 100_000),
     ]
     for form, title, best, count in rows:
-        yield Job(ALONE, title, calls(peers, bench, form, best, str(count)), "", "1", by="inside")
+        hashed = our_hash(peers, form, str(count))
+        sides = calls(peers, bench, form, best, str(count)) | hashed
+        yield Job(ALONE, title, sides, "", "1", by="inside", references=tuple(hashed))
     for size in SIZES:
         yield Job(
             MAP_GROWTH,
@@ -171,9 +182,10 @@ def cell_jobs(peers, bench):
         ("map_insert", "`cell::FrozenMap`, insert, u64 keys", "1000000"),
         ("map_get", "`cell::FrozenMap`, get, u64 keys", "1000000"),
     ):
+        hashed = our_hash(peers, form, count)
         sides = {"elsa": [bench, f"cell_{form}", "1", count]}
         sides["upstream"] = [peers / "calls", "upstream", form, "1", count]
-        yield Job(CELLS, title, sides, "1", by="inside")
+        yield Job(CELLS, title, sides | hashed, "1", by="inside", references=tuple(hashed))
 
 
 def owners_jobs(peers, bench):

@@ -2,6 +2,7 @@
 import re
 from typing import NamedTuple
 
+from job import OUR_HASH
 from tables import here
 
 
@@ -84,7 +85,8 @@ USES = (
 
 
 class Row(NamedTuple):
-    """A row of a table: the milliseconds of each side, and its peak of memory in MiB, if the page has it."""
+    """A row of a table: the milliseconds of each side, and its peak of memory in MiB, if the page has it. `hashed` is the
+    side of upstream with our hash."""
 
     times: dict
     memory: dict
@@ -101,7 +103,9 @@ def rows_of(page):
         if len(cells) != 10 or not cells[5].endswith((" ms", " ns")):
             continue
         peer = re.match(r"([\d.]+) (?:ms|ns) \((.+?)\)", cells[7])
+        hashed = re.search(rf"; {OUR_HASH}: ([\d.]+) (?:ms|ns)", cells[0])
         times = {"elsa": cells[5], "upstream": cells[6], "peer": f"{peer[1]} ms" if peer else ""}
+        times["hashed"] = f"{hashed[1]} ms" if hashed else ""
         ratios = re.match(r"([\d., ]+?)(?:, goal [\d.]+)? \((\d+) MiB\)", cells[8])
         shares = [float(it) for it in ratios[1].split(", ")] if ratios else []
         sides = [side for side in ("upstream", "peer") if times[side]]
@@ -115,7 +119,7 @@ def rows_of(page):
 
 
 def figure(sides, row, scale, digits=0):
-    """One figure for each side: elsa, upstream, the peer; `scale` makes it of what the row has."""
+    """One figure for each side; `scale` makes it of what the row has."""
     return " / ".join(f"{row[side] * scale:.{digits}f}" if side in row else "–" for side in sides)
 
 
@@ -123,6 +127,7 @@ def uses(page):
     """The table of uses, from the rows of a page; a use without a row is left out."""
     rows = rows_of(page)
     sides = "elsa", "upstream", "peer"
+    timed = "elsa", "upstream", "hashed", "peer"
     # the column of the longest calls is there as soon as a row of it was measured
     longest = any(group == LONGEST for group, _name in rows)
     head = ["You", "With", "ns a call", "bytes an entry", *["longest call in ms"] * longest, "The other choice"]
@@ -133,7 +138,7 @@ def uses(page):
             continue
         peak, pause = rows.get(use.memory), rows.get((LONGEST, use.longest))
         cells = [
-            figure(sides, row.times, 1e6 / use.calls),
+            figure(timed, row.times, 1e6 / use.calls),
             figure(sides, peak.memory, 2**20 / use.entries) if peak and use.entries else "",
             *[figure(sides, pause.times, 1, 1) if pause else ""] * longest,
         ]

@@ -5,7 +5,7 @@ import xml.etree.ElementTree
 from scripts import root
 
 import pictures, tables, uses
-from job import ALONE, CRAFTED, NAMES, NAMES_GROWTH, Job
+from job import ALONE, CRAFTED, NAMES, NAMES_GROWTH, OUR_HASH, Job
 from jobs import all_jobs
 from measuring import spread_of
 from programs import CRAFTED_KEYS, FLOODS, crafted_name
@@ -108,9 +108,16 @@ class TestUses(unittest.TestCase):
         self.assertEqual(row.memory, {"elsa": 16.0, "upstream": 32.0, "peer": 64.0})
         self.assertEqual(row.peer, "arena and `Vec`")
 
+    def test_upstream_with_our_hash_has_the_third_figure(self):
+        times = {"elsa": 0.1, "upstream": 0.3, OUR_HASH: 0.2, "peer": 0.4}
+        row = measured(ALONE, "`FrozenMap`, get, u64 keys", times, references=(OUR_HASH,))
+        page = "### One thread\n\n" + tables.table([row])
+        self.assertEqual(list(uses.rows_of(page)), [("One thread", "`FrozenMap`, get, u64 keys")])
+        self.assertIn("| 100 / 300 / 200 / 400 |", uses.uses(page))
+
     def test_a_use_has_the_figures_of_its_row(self):
         self.assertIn(
-            "| append items | `FrozenVec` | 10 / 40 / 20 | 17 / 34 / 67 | arena and `Vec` |", uses.uses(self.page)
+            "| append items | `FrozenVec` | 10 / 40 / – / 20 | 17 / 34 / 67 | arena and `Vec` |", uses.uses(self.page)
         )
         self.assertEqual(len(uses.uses(self.page).strip().split("\n")), 3)
 
