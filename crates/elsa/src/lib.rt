@@ -1,8 +1,9 @@
-//! Append-only collections. The borrows that their reads return are valid as long as the arena that
-//! the caller passes in.
+//! Append-only collections, whose references stay valid while the collection grows.
 //!
-//! The paths are those of Rust's `elsa`: the single-threaded collections are at the root, each
-//! module is under its name, and the collections that threads share are in [`sync`].
+//! The paths are those of Rust's `elsa`. The single-threaded collections are at the root: the
+//! borrows that their reads return are valid as long as the arena that the caller passes in. The
+//! collections in [`cell`] grow through `&self` and own their values, and threads share those in
+//! [`sync`]. [`interner`] has the interners.
 #![tactic(auto)]
 
 pub use elsa_append as append_map;

@@ -2,7 +2,8 @@
 //!
 //! A locked collection is locked only during a call. A call that can block requires the permission
 //! to block (`Wait`). Reads of a [`LockFreeFrozenVec`] and look-ups of a [`LockFreeFrozenMap`]
-//! never block. [`history`] has the recorder, [`machine`] the model of every schedule of the
+//! never block. A [`ShardedMap`] and a [`LockFreeShardedMap`] are maps of shards, for many threads
+//! that insert. [`history`] has the recorder, [`machine`] the model of every schedule of the
 //! concurrent vector, and [`map_machine`] that of the concurrent map.
 pub use elsa_history as history;
 pub use elsa_lock_free::lock_free::{Handle, LockFreeFrozenVec, Pass};
