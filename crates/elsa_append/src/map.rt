@@ -94,10 +94,9 @@ fn cloned_pairs<K: Eq + Clone, B: Copy, A: Allocator>(
 
 /// A map whose entries keep the order of their insertion, and from which none is removed.
 ///
-/// It is for large collections: above some 100,000 entries, an insertion into it is faster than
-/// into an `IndexMap`, and it takes less memory. It has at most 2^32 - 1 entries. `alloc` allocates
-/// the list of pairs and the buckets, 11 to 21 bytes an entry. Contracts see the map as the list of
-/// its entries.
+/// It is for millions of entries: when its buckets double, no key is read or hashed again. It has
+/// at most 2^32 - 1 entries. `alloc` allocates the list of pairs and the buckets, 11 to 21 bytes an
+/// entry. Contracts see the map as the list of its entries.
 ///
 /// [`Table`] has its insertion.
 #[derive(Drop)]

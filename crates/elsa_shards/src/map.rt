@@ -107,7 +107,7 @@ impl<K: Eq + Hash + Drop, V: Drop, S: BuildHasher + Clone + Drop, A: Allocator +
 > {
     /// Makes an empty map with `count` shards that hashes its keys by `hash_builder`.
     ///
-    /// More shards let more threads insert at the same time; an empty shard takes some 100 bytes.
+    /// More shards let more threads insert at the same time; an empty shard takes some 170 bytes.
     ///
     /// # Errors
     /// Fails if an allocation fails, or if `hash_builder` can't be cloned.
