@@ -350,7 +350,7 @@ impl<'m, K: Drop + Hash, V: Drop, S: BuildHasher + Copy + Drop, A: Allocator + C
     /// the order of insertion, and whether it is new. The reference lives as long as the map is
     /// borrowed. If the key isn't new, `key` and `value` are dropped.
     ///
-    /// A key that the handle has observed is found without an atomic step.
+    /// A key that the handle has observed is found without a read of the length.
     ///
     /// # Errors
     /// Fails if an allocation fails, or if the map has `2^32 - 1` entries. Then nothing is
