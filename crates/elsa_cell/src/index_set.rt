@@ -109,7 +109,7 @@ impl<T: Eq + Hash + Drop, S: BuildHasher + Drop, A: Allocator + Copy> FrozenInde
     /// another call of the set, or while a [`MapHold`] of it exists. Both contain `item`.
     ///
     /// # Allocates
-    /// As [`FrozenMap::insert`] does.
+    /// As [`FrozenIndexMap::insert`](crate::FrozenIndexMap::insert) does.
     ///
     /// # Cost
     /// One hash and one search.
@@ -129,7 +129,7 @@ impl<T: Eq + Hash + Drop, S: BuildHasher + Drop, A: Allocator + Copy> FrozenInde
     /// Fails as [`insert`](Self::insert) does, with a [`CellFault`] that contains `item`.
     ///
     /// # Allocates
-    /// As [`FrozenMap::insert`] does.
+    /// As [`FrozenIndexMap::insert`](crate::FrozenIndexMap::insert) does.
     ///
     /// # Cost
     /// One hash and one search.
@@ -150,7 +150,7 @@ impl<T: Eq + Hash + Drop, S: BuildHasher + Drop, A: Allocator + Copy> FrozenInde
     /// Fails as [`insert`](Self::insert) does, with a [`CellFault`] that contains `item`.
     ///
     /// # Allocates
-    /// As [`FrozenMap::insert`] does.
+    /// As [`FrozenIndexMap::insert`](crate::FrozenIndexMap::insert) does.
     ///
     /// # Cost
     /// One hash and one search.

@@ -49,14 +49,15 @@ pub(crate) fn index_of<Q: Hash + Copy, S: BuildHasher>(
 /// that have a lock each.
 ///
 /// A key belongs to one shard, which its hash chooses. A call with a key makes the call of the same
-/// name on the [`FrozenMap`] of that shard, and waits only for calls on the same shard.
+/// name on the [`FrozenMap`](elsa_locks::map::FrozenMap) of that shard, and waits only for calls on
+/// the same shard.
 ///
 /// [`shards`](ShardedMap::shards) returns the shards, to visit all entries. A visit locks one shard
 /// at a time. Entries are never removed, so it sees each entry that the map had when it began. It
 /// may also see entries that other threads insert meanwhile.
 ///
-/// Take a [`FrozenMap`] instead if a call must see the whole map at one moment. `S` builds the
-/// hasher. If the keys are untrusted input, use a `SeededState` of `elsa`.
+/// Take a [`FrozenMap`](elsa_locks::map::FrozenMap) instead if a call must see the whole map at one
+/// moment. `S` builds the hasher. If the keys are untrusted input, use a `SeededState` of `elsa`.
 #[derive(Drop)]
 pub struct ShardedMap<
     K: Eq + Hash + Drop,
