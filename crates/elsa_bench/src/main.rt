@@ -16,8 +16,8 @@
 //!   `index_map_insert`, `index_map_get`, `index_map_at`; the same with `_text` before the call,
 //!   for texts as keys (except for `index_map_at`); `append_map_insert`, `append_map_get`;
 //!   `map_longest` and `append_map_longest` (the longest of COUNT insertions); `map_clone`,
-//!   `map_collect`, `append_map_clone`, `append_map_collect`. Walks, clones and collections are made
-//!   ten times.
+//!   `map_collect`, `append_map_clone`, `append_map_collect`. Walks, clones and collections are
+//!   made ten times.
 //! - `FrozenAppendMap` with the first COUNT lines of standard input as keys, `put ` before each of
 //!   them left out: `lines_default` (insertions, with the default hasher), `lines_seeded` (with
 //!   `SeededState`).
