@@ -16,7 +16,7 @@
 //!   `index_map_insert`, `index_map_get`, `index_map_at`; the same with `_text` before the call,
 //!   for texts as keys (except for `index_map_at`); `append_map_insert`, `append_map_get`;
 //!   `map_longest` and `append_map_longest` (the longest of COUNT insertions); `map_clone`,
-//!   `map_collect`, `append_map_clone`, `append_map_collect`. Walks, clones and collections are
+//!   `map_collect`, `append_map_clone` and `append_map_collect`. Walks, clones and collections are
 //!   made ten times.
 //! - `FrozenAppendMap` with the first COUNT lines of standard input as keys, `put ` before each of
 //!   them left out: `lines_default` (insertions, with the default hasher), `lines_seeded` (with
@@ -151,7 +151,7 @@ fn timed_map_calls<R: Clock>(
     form: &str,
     count: usize,
 ) -> io::Result<Option<(u128, u64)>> {
-    let (insert, get, at) = (TableCall::Insert, TableCall::Get, TableCall::At);
+    let (insert, get) = (TableCall::Insert, TableCall::Get);
     Ok(Some(match form {
         "map_insert" => tables::timed_map(rt, alloc, insert, count)?,
         "map_get" => tables::timed_map(rt, alloc, get, count)?,
@@ -167,7 +167,7 @@ fn timed_map_calls<R: Clock>(
         "tree_text_get" => tables::timed_tree_text(rt, alloc, get, count)?,
         "index_map_insert" => tables::timed_index_map(rt, alloc, insert, count)?,
         "index_map_get" => tables::timed_index_map(rt, alloc, get, count)?,
-        "index_map_at" => tables::timed_index_map(rt, alloc, at, count)?,
+        "index_map_at" => tables::timed_index_map_at(rt, alloc, count)?,
         "index_map_text_insert" => tables::timed_index_map_text(rt, alloc, insert, count)?,
         "index_map_text_get" => tables::timed_index_map_text(rt, alloc, get, count)?,
         "map_clone" => whole_maps::timed_clones(rt, alloc, WholeMap::Hashed, count)?,

@@ -3,6 +3,7 @@
 use crate::draws::{Draws, key};
 use bumpalo::Bump;
 use elsa::append_map::AppendMap;
+use elsa::map::Frozen;
 use elsa::{FrozenAppendMap, FrozenBTreeMap, FrozenIndexMap, FrozenMap, Own};
 use std::alloc::{AllocError, Global};
 use std::io;
@@ -14,7 +15,6 @@ use std::time::Instant;
 pub enum TableCall {
     Insert,
     Get,
-    At,
     /// The longest insertion alone.
     Longest,
 }
@@ -26,9 +26,6 @@ trait Table: Drop {
 
     /// Returns the value of the key of the index.
     fn get(&self, place: usize) -> Option<u64>;
-
-    /// Returns the value of the entry at the index, if the map has indices.
-    fn at(&self, place: usize) -> Option<u64>;
 }
 
 /// A map with numbers as keys.
@@ -44,7 +41,10 @@ struct Texts<'t, M> {
     texts: &'t [String],
 }
 
-impl<'a> Table for Numbers<FrozenMap<'a, u64, Own<u64>>> {
+impl<'a, T> Table for Numbers<Frozen<&'a Bump, u64, Own<u64>, T>>
+where
+    T: elsa::tables::Table<u64, &'a u64> + Drop,
+{
     #[inline(always)]
     fn insert(&mut self, place: usize) -> Result<u64, AllocError> {
         Ok(*self.map.insert(key(place), Own(place as u64))?)
@@ -53,60 +53,6 @@ impl<'a> Table for Numbers<FrozenMap<'a, u64, Own<u64>>> {
     #[inline(always)]
     fn get(&self, place: usize) -> Option<u64> {
         self.map.get(&key(place)).copied()
-    }
-
-    fn at(&self, _place: usize) -> Option<u64> {
-        None
-    }
-}
-
-impl<'a> Table for Numbers<FrozenAppendMap<'a, u64, Own<u64>>> {
-    #[inline(always)]
-    fn insert(&mut self, place: usize) -> Result<u64, AllocError> {
-        Ok(*self.map.insert(key(place), Own(place as u64))?)
-    }
-
-    #[inline(always)]
-    fn get(&self, place: usize) -> Option<u64> {
-        self.map.get(&key(place)).copied()
-    }
-
-    fn at(&self, _place: usize) -> Option<u64> {
-        None
-    }
-}
-
-impl<'a> Table for Numbers<FrozenBTreeMap<'a, u64, Own<u64>>> {
-    #[inline(always)]
-    fn insert(&mut self, place: usize) -> Result<u64, AllocError> {
-        Ok(*self.map.insert(key(place), Own(place as u64))?)
-    }
-
-    #[inline(always)]
-    fn get(&self, place: usize) -> Option<u64> {
-        self.map.get(&key(place)).copied()
-    }
-
-    fn at(&self, _place: usize) -> Option<u64> {
-        None
-    }
-}
-
-impl<'a> Table for Numbers<FrozenIndexMap<'a, u64, Own<u64>>> {
-    #[inline(always)]
-    fn insert(&mut self, place: usize) -> Result<u64, AllocError> {
-        Ok(*self.map.insert(key(place), Own(place as u64))?)
-    }
-
-    #[inline(always)]
-    fn get(&self, place: usize) -> Option<u64> {
-        self.map.get(&key(place)).copied()
-    }
-
-    #[inline(always)]
-    fn at(&self, place: usize) -> Option<u64> {
-        let (_key, value) = self.map.get_index(place)?;
-        Some(*value)
     }
 }
 
@@ -124,10 +70,6 @@ impl<'a, 't> Table for Texts<'t, FrozenMap<'a, &'a str, Own<u64>>> {
         let text = self.texts.get(place)?;
         self.map.get(text.as_str()).copied()
     }
-
-    fn at(&self, _place: usize) -> Option<u64> {
-        None
-    }
 }
 
 impl<'a, 't> Table for Texts<'t, FrozenBTreeMap<'a, &'a str, Own<u64>>> {
@@ -144,10 +86,6 @@ impl<'a, 't> Table for Texts<'t, FrozenBTreeMap<'a, &'a str, Own<u64>>> {
         let text = self.texts.get(place)?;
         self.map.get(text.as_str()).copied()
     }
-
-    fn at(&self, _place: usize) -> Option<u64> {
-        None
-    }
 }
 
 impl<'a, 't> Table for Texts<'t, FrozenIndexMap<'a, &'a str, Own<u64>>> {
@@ -163,12 +101,6 @@ impl<'a, 't> Table for Texts<'t, FrozenIndexMap<'a, &'a str, Own<u64>>> {
     fn get(&self, place: usize) -> Option<u64> {
         let text = self.texts.get(place)?;
         self.map.get(text.as_str()).copied()
-    }
-
-    #[inline(always)]
-    fn at(&self, place: usize) -> Option<u64> {
-        let (_key, value) = self.map.get_index(place)?;
-        Some(*value)
     }
 }
 
@@ -191,12 +123,12 @@ fn read<T: Table>(table: &T, count: usize) -> u64 {
     sum
 }
 
-fn read_at<T: Table>(table: &T, count: usize) -> u64 {
+fn read_at(map: &FrozenIndexMap<'_, u64, Own<u64>>, count: usize) -> u64 {
     let mut draws = Draws::new(0);
     let mut sum = 0u64;
     for _turn in 0..count {
-        if let Some(value) = table.at(draws.below(count)) {
-            sum = sum.wrapping_add(value);
+        if let Some((_key, value)) = map.get_index(draws.below(count)) {
+            sum = sum.wrapping_add(*value);
         }
     }
     sum
@@ -229,10 +161,7 @@ fn timed<R: Clock, T: Table>(
     let mut sum = fill(&mut table, count)?;
     if !matches!(&call, TableCall::Insert) {
         start = Instant::now(rt)?;
-        sum = match call {
-            TableCall::Get => read(&table, count),
-            _ => read_at(&table, count),
-        };
+        sum = read(&table, count);
     }
     Ok((start.elapsed(rt)?.as_nanos(), sum))
 }
@@ -354,4 +283,23 @@ pub fn timed_index_map_text<R: Clock>(
     let map = FrozenIndexMap::new(alloc, &arena);
     let texts = texts.as_slice();
     timed(rt, Texts { map, texts }, call, count)
+}
+
+/// Returns the nanoseconds that reads of an index map at random indices took, and their sum.
+///
+/// # Errors
+/// Fails if the clock or an allocation fails.
+pub fn timed_index_map_at<R: Clock>(
+    rt: &R,
+    alloc: Global,
+    count: usize,
+) -> io::Result<(u128, u64)> {
+    let arena = Bump::new(alloc);
+    let mut table = Numbers {
+        map: FrozenIndexMap::new(alloc, &arena),
+    };
+    fill(&mut table, count)?;
+    let start = Instant::now(rt)?;
+    let sum = read_at(&table.map, count);
+    Ok((start.elapsed(rt)?.as_nanos(), sum))
 }
