@@ -8,7 +8,7 @@ PACKAGES = "indexmap stable-deref-trait dashmap parking-lot bumpalo hashbrown me
 CORPORA = here / "target" / "corpora"
 QUICK = here / "target" / "quick"
 
-# 400,000 names of 48 bytes each, by `tools/crafted_names`: random ones, and names crafted against std's FoldHasher and
+# 400,000 names of 48 bytes each, by `tools/program_checks names`: random ones, and names crafted against std's FoldHasher and
 # against the program's SeededHasher.
 FLOODS = {"random": "random", "fixed": "crafted against FoldHasher", "seeded": "crafted against SeededHasher"}
 # The rows of a map with these names as keys: its hasher, the number of keys, and the families of names, of which the first
@@ -84,5 +84,5 @@ def write_corpora():
     (CORPORA / "empty").write_bytes(b"")
     for name in FLOODS:
         if not (CORPORA / name).exists():
-            made = subprocess.run([root / "tools" / "crafted_names", name, "400000"], capture_output=True, check=True)
+            made = subprocess.run([root / "tools" / "program_checks", "names", name, "400000"], capture_output=True, check=True)
             (CORPORA / name).write_bytes(made.stdout)

@@ -85,12 +85,14 @@ USES = (
 
 
 class Row(NamedTuple):
-    """A row of a table: the milliseconds of each side, and its peak of memory in MiB, if the page has it. `hashed` is the
-    side of upstream with our hash."""
+    """A row of a table: the milliseconds of each side (of growth: the nanoseconds), its peak of memory in MiB, if the page
+    has it, and the ratios to upstream and to the peer as the page has them. `hashed` is the side of upstream with our
+    hash."""
 
     times: dict
     memory: dict
     peer: str
+    ratios: dict
 
 
 def rows_of(page):
@@ -114,6 +116,7 @@ def rows_of(page):
             {side: float(text.split()[0]) for side, text in times.items() if text},
             {"elsa": float(ratios[2]), **peaks} if ratios else {},
             peer[2] if peer else "",
+            {side: float(cells[at].strip("*")) for side, at in (("upstream", 1), ("peer", 3)) if cells[at]},
         )
     return rows
 

@@ -1,10 +1,11 @@
-"""Writes bindings/c/elsa.h from the exports of elsa_c: its functions, the struct that they take, and the faults."""
+"""Writes bindings/c/elsa.h and border.c from the exports of elsa_c: its functions, the structs that they take, and the faults."""
 import re, textwrap
 
 from repository import root
 
 SOURCES = root / "crates" / "elsa_c" / "src"
 HEADER = root / "bindings" / "c" / "elsa.h"
+BORDER = root / "bindings" / "c" / "border.c"
 EXPORT = re.compile(
     r'((?:^///[^\n]*\n)+)#\[unsafe\(no_mangle\)\]\npub extern "C" fn (\w+)\(([^)]*)\)(?: -> (\w+))?', re.M
 )
@@ -12,8 +13,8 @@ TYPES = {"usize": "size_t", "u32": "uint32_t", "bool": "bool", None: "void"}
 TOP = """/* Numbers for texts, and a dictionary that is kept. tools/bindings writes this file from crates/elsa_c.
  *
  * Each call is total in its data: any bytes, ends and codes may be passed. The caller owes that each pointer is valid
- * for the length that is passed with it (also for length 0, where it may be any address but null), that what is written
- * overlaps nothing else that is passed, and that one dictionary is used by one thread at a time. */
+ * for the length that is passed with it (any address and null for the length 0), that what is written overlaps nothing
+ * else that is passed, and that one dictionary is used by one thread at a time. */
 #ifndef ELSA_H
 #define ELSA_H
 
@@ -25,15 +26,30 @@ TOP = """/* Numbers for texts, and a dictionary that is kept. tools/bindings wri
 extern "C" {
 #endif
 
-/* Texts that are kept, each with its code. One that is zeroed has none; calls fill it. Never copy one that has texts. */
+/* The secret of the hash that finds texts: fill it with random bytes, as of getrandom. A seed of zeros, or any that
+ * is public, is only for texts that are not crafted: 20,000 crafted texts under a known seed take seconds. */
+typedef struct elsa_seed {
+    uint64_t start, factor;
+} elsa_seed;
+
+/* Texts that are kept, each with its code. One that is zeroed has none; calls fill it. Never copy one that has texts.
+ * The seed may be set while it has none. */
 typedef struct elsa_dictionary {
     void *texts;
     bool kept;
+    elsa_seed seed;
 } elsa_dictionary;
 
-#define ELSA_EMPTY {0, false}
+#define ELSA_EMPTY {0, false, {0, 0}}
+#define ELSA_SEEDED(start, factor) {0, false, {start, factor}}
 
 /* What a call returns that may fail. */
+"""
+BORDER_TOP = """/* The calls of elsa.h. The proved code takes no null pointer, so these pass it an address where a caller passes null with
+ * the length 0. tools/bindings writes this file from crates/elsa_c. */
+#include "elsa.h"
+
+static uint64_t nothing; /* no byte of it is read or written */
 """
 END = """
 #ifdef __cplusplus
@@ -64,6 +80,7 @@ def parameter(text):
         (r"&mut usize", f"size_t *{name}"),
         (r"&mut \*const u8", f"const uint8_t **{name}"),
         (r"&mut Dictionary", f"elsa_dictionary *{name}"),
+        (r"&Seed", f"const elsa_seed *{name}"),
         (r"usize", f"size_t {name}"),
         (r"Global", ""),
     ]:
@@ -90,8 +107,23 @@ def exports():
 
 def header():
     numbers = [(0, "ELSA_OK", "The call succeeded."), *faults()]
-    values = "".join(f"    {name} = {number}, /* {sentence} */\n" for number, name, sentence in numbers)
+    values = "".join(
+        f"    {name} = {number}{',' if name != numbers[-1][1] else ''} /* {sentence} */\n" for number, name, sentence in numbers
+    )
     calls = "".join(
         f"\n{comment(sentence)}\n{result} {name}({', '.join(given)});\n" for sentence, name, given, result in exports()
     )
     return f"{TOP}enum {{\n{values}}};\n{calls}{END}"
+
+
+def border():
+    """The functions of the header in C, each of which calls the proved one, whose name begins with `proved_`."""
+    text = BORDER_TOP
+    for _, name, given, result in exports():
+        names = [re.search(r"\w+$", it)[0] for part in given for it in part.split(", ")]
+        passed = [f"{it} ? {it} : (void *)&nothing" if f"{it}_len" in names else it for it in names]
+        returned = "return " if result != "void" else ""
+        taken = ", ".join(given)
+        text += f"\n{result} proved_{name}({taken});\n{result} {name}({taken}) {{\n"
+        text += f"    {returned}proved_{name}({', '.join(passed)});\n}}\n"
+    return text

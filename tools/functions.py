@@ -1,5 +1,5 @@
 """Where the functions of a source file are, and which of them a mutant of crates/NAME/must-fail/ changes."""
-import collections, pathlib, re
+import collections, re
 
 # A function: its source file, the type or trait that it belongs to, its name, the pattern of the name that a check
 # prints, and its first and last line, counted from 0.
@@ -108,17 +108,3 @@ def pairs_of(file):
             old = text
         elif key in ("new", "new:"):
             yield path, old, text
-
-
-def edited_functions(file):
-    """The texts of the functions that a mutant changes; where it changes a text outside of functions, the whole source
-    file."""
-    folder, found = file.parent.parent, {}
-    for path, old, _ in pairs_of(file):
-        text = (folder / path).read_text() if (folder / path).is_file() else ""
-        at = text.count("\n", 0, max(text.find(old), 0))
-        items = functions_of(pathlib.Path(path), text) if path.startswith("src/") else []
-        inside = [it for it in items if it.first <= at <= it.last and old in text]
-        rows = text.split("\n")
-        found.update({(path, it.path): "\n".join(rows[it.first : it.last + 1]) for it in inside} or {(path, ""): text})
-    return [found[it] for it in sorted(found)]

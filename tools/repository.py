@@ -13,30 +13,30 @@ def tell_help(page):
         sys.exit(0)
 
 
-def lines():
+def lines(top=root):
     """The line of crates.txt of each crate, by its name, in the file's order."""
     found = {}
-    for line in (root / "crates.txt").read_text().splitlines():
+    for line in (top / "crates.txt").read_text().splitlines():
         line = line.split("#")[0].strip()
         if line:
             found[line.split(":")[0].split()[0]] = line
     return found
 
 
-def libraries(name):
+def libraries(name, crates=None):
     """The repository's own libraries that the crate's line names."""
-    crates = lines()
+    crates = crates or lines()
     return [it for it in crates[name].split(":")[1].split() if it in crates]
 
 
-def stands_on(*names):
+def stands_on(*names, top=root):
     """These crates and the repository's own libraries below them, each after those that it depends on."""
-    found = []
+    found, crates = [], lines(top)
 
     def add(name):
-        for it in libraries(name):
-            add(it)
         if name not in found:
+            for it in libraries(name, crates):
+                add(it)
             found.append(name)
 
     for name in names:
@@ -69,6 +69,25 @@ def tests_in(name):
 def processors():
     """The number of processors that this process may run on."""
     return len(os.sched_getaffinity(0))
+
+
+def descendants(process, is_last=lambda _: False):
+    """The processes that this one has started, directly or through others, each with the processor seconds that it and
+    the children that it has waited for have used. Those below a process with `is_last` are added to it."""
+    children, spent, found, left = {}, {}, {}, [(process, process)]
+    for it in pathlib.Path("/proc").glob("[0-9]*/stat"):
+        try:
+            words = it.read_text().rpartition(")")[2].split()
+        except OSError:
+            continue
+        children.setdefault(int(words[1]), []).append(int(it.parent.name))
+        spent[int(it.parent.name)] = sum(map(int, words[11:15])) / os.sysconf("SC_CLK_TCK")
+    while left:
+        it, owner = left.pop()
+        owner = it if not is_last(owner) else owner
+        found[owner] = found.get(owner, 0) + spent.get(it, 0)
+        left += [(child, owner) for child in children.get(it, [])]
+    return found
 
 
 def seconds(count):

@@ -103,7 +103,7 @@ def license_page():
 def all_pages():
     """The text of each page of the site, by its path there."""
     sources = [*FURTHER, "bench/RESULTS.md"]
-    sources += [str(it.relative_to(root)) for it in sorted((root / "docs").glob("*/*.md"))]
+    sources += [str(it.relative_to(root)) for it in sorted((root / "docs").rglob("*.md"))]
     texts = {it: (root / it).read_text() for it in sources}
     cited = set(re.findall(r"\]\(\.\./\.\./(crates/\w+/specs/[^)]*\.antt)\)", "\n".join(texts.values())))
     made = {site_path(it): page_of(it, text) for it, text in texts.items()}
@@ -114,8 +114,9 @@ def all_pages():
 
 def guide_pages():
     """The guide's pages with their names, in the order of its table."""
-    table = re.findall(r"^\| \[([^\]]+)\]\(([\w-]+\.md)\) \|", (root / "docs/guide/README.md").read_text(), re.M)
-    return [{"Overview": "guide/README.md"}, *({name: f"guide/{page}"} for name, page in table)]
+    table = re.findall(r"^\| \[([^\]]+)\]\(((?:\.\./)?[\w-]+\.md)\) \|", (root / "docs/guide/README.md").read_text(), re.M)
+    places = ((name, f"guide/{page}".replace("guide/../", "")) for name, page in table)
+    return [{"Overview": "guide/README.md"}, *({name: place} for name, place in places)]
 
 
 def reference_pages():
@@ -133,29 +134,12 @@ def reference_pages():
     return [{"Index": "reference/README.md"}, *groups, {"Seldom named": seldom}, *others]
 
 
-def rare_pages():
-    """The pages whose texts the search leaves out, so that they don't come before the guide: those of which it finds
-    the title alone, and those of which it also finds the headings."""
-    seldom = next(it["Seldom named"] for it in reference_pages() if "Seldom named" in it)
-    titles = {page for group in seldom for part in group.values() for it in part for page in it.values()}
-    titles |= {"reference/README.md", "reference/faults.md", "reference/tests.md"}
-    pages = all_pages()
-    titles |= {it for it in pages if it.startswith("definitions/")}
-    return titles, {it for it in pages if it.startswith(("internals/", "changes", "contributing", "license"))}
-
-
-def main_types():
-    """The pages of the types that have an example, with their names: a search for the name finds these pages first."""
-    found = sorted((root / "examples" / "reference").glob("*.rt.txt"))
-    names = [it.name.removesuffix(".rt.txt") for it in found]
-    return {f"reference/{it}.md": it.split("-")[-1] for it in names}
-
-
 def navigation(pages):
     """The pages in the order of the site's menus."""
     below = {it: sorted(page for page in pages if page.startswith(it + "/")) for it in ("internals", "definitions")}
     examples = [it for it in pages if it.startswith("examples/")]
-    maintainers = [*below["internals"], {"Contributing": "contributing.md"}, {"Definitions": below["definitions"]}]
+    maintainers = [*below["internals"], {"Decisions": "DECISIONS.md"}, {"Contributing": "contributing.md"}]
+    maintainers += [{"Definitions": below["definitions"]}]
     return [
         {"Start": [{"elsa": "index.md"}, {"Licence": "license.md"}]},
         {"Guide": guide_pages()},

@@ -1,9 +1,11 @@
 /* Random calls against a plain model: texts of 0 to 100,000 bytes, bytes that are not UTF-8, ends out of order, too few
- * codes, and allocations that fail. Prints the calls of each kind; ends with 1 at the first difference. */
+ * codes, null pointers with the length 0, and allocations that fail. Then texts that are crafted against a seed. Prints the
+ * calls of each kind; ends with 1 at the first difference. */
 #include "elsa.h"
 #include <stdio.h>
 #include <stdlib.h>
 #include <string.h>
+#include <time.h>
 
 void *__real_malloc(size_t n);
 void *__real_realloc(void *p, size_t n);
@@ -64,6 +66,9 @@ static size_t random_text(uint8_t *p) {
     return n;
 }
 
+/* The pointer, or null in half of the cases in which nothing is there. */
+#define SOME(p, n) ((n) == 0 && below(2) == 0 ? NULL : (p))
+
 typedef struct { uint8_t *p; size_t n; } name;
 static name *names;
 static size_t count;
@@ -80,10 +85,40 @@ static void add(const uint8_t *p, size_t n) {
     names[count++].n = n;
 }
 
+/* The processor time of numbering 3,000 texts that have one hash under the seed which sets the factor of their bytes 24 to 31
+ * to zero. */
+static clock_t crafted(elsa_seed seed) {
+    static uint8_t texts[3000 * 48];
+    static size_t ends[3000], codes[3000];
+    size_t done = 0, call = 0;
+    for (size_t i = 0; i < 3000; i++) {
+        char text[49];
+        snprintf(text, sizeof text, "%024zuelsaseed%016d", i, 0);
+        memcpy(texts + 48 * i, text, 48);
+        ends[i] = 48 * (i + 1);
+    }
+    clock_t begun = clock();
+    MUST(elsa_factorize(texts, sizeof texts, ends, 3000, codes, 3000, &done, &seed) == ELSA_OK && codes[2999] == 2999);
+    elsa_dictionary words = ELSA_SEEDED(seed.start, seed.factor);
+    MUST(elsa_dictionary_put_many(&words, texts, sizeof texts, ends, 3000, codes, 3000, &done) == ELSA_OK && done == 3000);
+    MUST(words.seed.start == seed.start && words.seed.factor == seed.factor);
+    elsa_dictionary_free(&words);
+    MUST(words.seed.start == seed.start && words.seed.factor == seed.factor);
+    return clock() - begun;
+}
+
+static void try_seeds(void) {
+    size_t call = 0;
+    const uint64_t zero = 0x9E3779B97F4A7C15, letters = 0x6465657361736c65; /* "elsaseed" */
+    elsa_seed known = {5, letters ^ zero}, other = {5, letters ^ zero ^ 1};
+    MUST(crafted(other) * 5 < crafted(known));
+}
+
 int main(int argc, char **argv) {
     size_t calls = argc > 1 ? (size_t)atol(argv[1]) : 10000, kinds[6] = {0};
     names = __real_malloc((calls * 30 + 1) * sizeof *names);
     elsa_dictionary words = ELSA_EMPTY;
+    try_seeds();
     for (size_t call = 0; call < calls; call++) {
         size_t kind = below(6), code = 77, n = random_text(block);
         kinds[kind]++;
@@ -92,7 +127,7 @@ int main(int argc, char **argv) {
             size_t at = place(block, n);
             failing = below(3) == 0 ? (long)below(4) : -1;
             long before = refused;
-            uint32_t fault = elsa_dictionary_put(&words, block, n, &code);
+            uint32_t fault = elsa_dictionary_put(&words, SOME(block, n), n, &code);
             failing = -1;
             if (!valid) MUST(fault == ELSA_NOT_UTF8 && code == 77);
             else if (refused > before) MUST(fault == ELSA_MEMORY && code == 77 && at == count);
@@ -101,7 +136,7 @@ int main(int argc, char **argv) {
                 if (at == count) add(block, n);
             }
         } else if (kind == 1) {
-            bool found = elsa_dictionary_find(&words, block, n, &code);
+            bool found = elsa_dictionary_find(&words, SOME(block, n), n, &code);
             MUST(found == (valid && place(block, n) < count));
             MUST(code == (found ? place(block, n) : 77));
         } else if (kind == 2) {
@@ -122,8 +157,12 @@ int main(int argc, char **argv) {
             uint32_t expected = room < texts ? ELSA_TOO_FEW_CODES : ELSA_OK;
             failing = kind == 3 && below(3) == 0 ? (long)below(8) : -1;
             long before = refused;
-            uint32_t fault = kind == 3 ? elsa_dictionary_put_many(&words, block, bytes, ends, texts, codes, room, &done)
-                                       : elsa_factorize(block, bytes, ends, texts, codes, room, &done);
+            elsa_seed seed = {below(SIZE_MAX), below(SIZE_MAX)};
+            const uint8_t *at = SOME(block, bytes);
+            const size_t *ended = SOME(ends, texts);
+            size_t *written = SOME(codes, room);
+            uint32_t fault = kind == 3 ? elsa_dictionary_put_many(&words, at, bytes, ended, texts, written, room, &done)
+                                       : elsa_factorize(at, bytes, ended, texts, written, room, &done, &seed);
             failing = -1;
             bool out = refused > before;
             if (expected == ELSA_TOO_FEW_CODES) wanted = 0;
@@ -151,10 +190,11 @@ int main(int argc, char **argv) {
             if (out && done < wanted) MUST(fault == ELSA_MEMORY);
             else if (out) MUST(fault == expected || (fault == ELSA_MEMORY && done == 0));
             else MUST(fault == expected && done == wanted);
+            if (fault == ELSA_TOO_FEW_CODES) MUST(done == 0);
             for (size_t i = done; i < 20; i++) MUST(codes[i] == 77);
             if (kind > 3 && fault == ELSA_OK) {
                 size_t found[20], slots = below(3) == 0 ? below(20) : 20, least = slots < distinct ? slots : distinct;
-                MUST(elsa_firsts(codes, done, found, slots) == least);
+                MUST(elsa_firsts(SOME(codes, done), done, SOME(found, slots), slots) == least);
                 MUST(memcmp(found, first, least * sizeof *found) == 0);
             }
             MUST(kind == 3 || count == kept);
@@ -162,6 +202,8 @@ int main(int argc, char **argv) {
         MUST(elsa_dictionary_len(&words) == count);
         if (below(2000) == 0) {
             elsa_dictionary_free(&words);
+            words.seed.start = below(SIZE_MAX);
+            words.seed.factor = below(SIZE_MAX);
             while (count > 0) free(names[--count].p);
         }
     }

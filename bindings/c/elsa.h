@@ -1,8 +1,8 @@
 /* Numbers for texts, and a dictionary that is kept. tools/bindings writes this file from crates/elsa_c.
  *
  * Each call is total in its data: any bytes, ends and codes may be passed. The caller owes that each pointer is valid
- * for the length that is passed with it (also for length 0, where it may be any address but null), that what is written
- * overlaps nothing else that is passed, and that one dictionary is used by one thread at a time. */
+ * for the length that is passed with it (any address and null for the length 0), that what is written overlaps nothing
+ * else that is passed, and that one dictionary is used by one thread at a time. */
 #ifndef ELSA_H
 #define ELSA_H
 
@@ -14,13 +14,22 @@
 extern "C" {
 #endif
 
-/* Texts that are kept, each with its code. One that is zeroed has none; calls fill it. Never copy one that has texts. */
+/* The secret of the hash that finds texts: fill it with random bytes, as of getrandom. A seed of zeros, or any that
+ * is public, is only for texts that are not crafted: 20,000 crafted texts under a known seed take seconds. */
+typedef struct elsa_seed {
+    uint64_t start, factor;
+} elsa_seed;
+
+/* Texts that are kept, each with its code. One that is zeroed has none; calls fill it. Never copy one that has texts.
+ * The seed may be set while it has none. */
 typedef struct elsa_dictionary {
     void *texts;
     bool kept;
+    elsa_seed seed;
 } elsa_dictionary;
 
-#define ELSA_EMPTY {0, false}
+#define ELSA_EMPTY {0, false, {0, 0}}
+#define ELSA_SEEDED(start, factor) {0, false, {start, factor}}
 
 /* What a call returns that may fail. */
 enum {
@@ -29,17 +38,17 @@ enum {
     ELSA_NOT_UTF8 = 2, /* A text is not UTF-8. */
     ELSA_ENDS_OUT_OF_ORDER = 3, /* An end is before the end of the text before it, or past the bytes. */
     ELSA_FULL = 4, /* There are 2^32 - 1 texts, and this one is new. */
-    ELSA_TOO_FEW_CODES = 5, /* The caller's array of codes has fewer elements than there are texts. */
+    ELSA_TOO_FEW_CODES = 5 /* The array of codes has fewer elements than there are texts, so no text was coded. */
 };
 
 /* Writes the code of each text of a block to codes: equal texts have equal codes, from 0 on in the order of first
  * texts. Text i ends before ends[i] and begins where the one before it ends.
  *
- * done receives the number of texts that have their codes. The codes after them are unchanged. Returns 0 if all
- * texts have theirs, and else the number of a fault.
+ * done receives the number of texts that have their codes. The codes after them are unchanged. seed is the secret
+ * of the hash. Returns 0 if all texts have theirs, and else the number of a fault.
  *
  * Cost: O(1) hashed for each text, and a copy of each new one, which is freed at the end. */
-uint32_t elsa_factorize(const uint8_t *bytes, size_t bytes_len, const size_t *ends, size_t ends_len, size_t *codes, size_t codes_len, size_t *done);
+uint32_t elsa_factorize(const uint8_t *bytes, size_t bytes_len, const size_t *ends, size_t ends_len, size_t *codes, size_t codes_len, size_t *done, const elsa_seed *seed);
 
 /* Writes to firsts the index at which each code occurs first, for codes as elsa_factorize writes them: the text
  * with code c is text firsts[c].

@@ -2,13 +2,17 @@
 #include "elsa.h"
 #include <stdio.h>
 #include <string.h>
+#include <sys/random.h>
 
 int main(void) {
     /* "pear", "apple", "pear", "fig" in one block of bytes, with their ends */
     const char *block = "pearapplepearfig";
     const size_t ends[] = {4, 9, 13, 16};
     size_t codes[4], firsts[4], done;
-    uint32_t fault = elsa_factorize((const uint8_t *)block, strlen(block), ends, 4, codes, 4, &done);
+    /* the secret of the hash, against texts that are crafted to collide */
+    elsa_seed seed;
+    if (getrandom(&seed, sizeof seed, 0) != sizeof seed) return 1;
+    uint32_t fault = elsa_factorize((const uint8_t *)block, strlen(block), ends, 4, codes, 4, &done, &seed);
     if (fault != ELSA_OK) {
         fprintf(stderr, "factorize: fault %u at text %zu\n", (unsigned)fault, done);
         return 1;
@@ -18,7 +22,7 @@ int main(void) {
     for (size_t i = 0; i < 4; i++) printf(" %zu", codes[i]);
     printf("\n");
 
-    elsa_dictionary words = ELSA_EMPTY;
+    elsa_dictionary words = ELSA_SEEDED(seed.start, seed.factor);
     size_t code, len;
     const uint8_t *text;
     fault = elsa_dictionary_put(&words, (const uint8_t *)"fig", 3, &code);

@@ -1,4 +1,4 @@
-"""Compares factorize with dict.setdefault, and with pandas.factorize if pandas is installed.
+"""Compares factorize and an Interner with dict.setdefault, and with pandas.factorize if pandas is installed.
 
 usage: PYTHONPATH=DIR/python python3 compare.py [TEXTS [DISTINCT]]
 """
@@ -45,6 +45,8 @@ def main(count=1_000_000, distinct=50_000):
     rows = [
         ("factorize, with packing", lambda given: elsa_proved.factorize(given)[0]),
         ("factorize_block", lambda _: elsa_proved.factorize_block(*packed)),
+        ("Interner.put_many", lambda given: elsa_proved.Interner().put_many(given)),
+        ("Interner.put, one by one", lambda given: list(map(elsa_proved.Interner().put, given))),
     ]
     for name, call in rows:
         taken, codes = least(call, texts)

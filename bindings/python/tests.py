@@ -1,9 +1,24 @@
 """The calls of elsa_proved against plain models in Python."""
+import copy
+import pickle
 import random
+import subprocess
+import sys
+import threading
+import time
 import unittest
+from array import array
 
 import elsa_proved
-from elsa_proved import Fault, Interner, factorize, factorize_block, firsts
+from elsa_proved import Fault, Interner, OutOfMemory, factorize, factorize_block, firsts
+
+numpy = elsa_proved.numpy
+try:
+    import pandas
+except ImportError:
+    pandas = None
+needs_numpy = unittest.skipIf(numpy is None, "NumPy is not installed")
+needs_pandas = unittest.skipIf(pandas is None, "pandas is not installed")
 
 
 def model(block, ends):
@@ -28,7 +43,26 @@ def codes_of(call, *given):
         return list(fault.codes), fault.number
 
 
-class Calls(unittest.TestCase):
+def at_once(calls):
+    """Runs the calls in one thread each. An exception of one is raised here."""
+    raised = []
+
+    def run(call):
+        try:
+            call()
+        except BaseException as why:
+            raised.append(why)
+
+    threads = [threading.Thread(target=run, args=(it,)) for it in calls]
+    for it in threads:
+        it.start()
+    for it in threads:
+        it.join()
+    if raised:
+        raise raised[0]
+
+
+class TestCalls(unittest.TestCase):
     def setUp(self):
         self.random = random.Random(2026)
 
@@ -47,8 +81,6 @@ class Calls(unittest.TestCase):
                 self.assertEqual(names[known[text]], text)
             self.assertEqual(len(names), len(known))
         self.assertEqual(list(names), list(known))
-        with self.assertRaises(IndexError):
-            names[len(known)]
 
     def test_factorize_differs_from_a_dict_on_hostile_blocks(self):
         for _ in range(3_000):
@@ -71,15 +103,281 @@ class Calls(unittest.TestCase):
             self.assertEqual(list(Interner().put_many(texts)), list(codes))
         self.assertEqual(list(firsts([0, 1, 0, 2])), [0, 1, 3])
 
-    @unittest.skipIf(elsa_proved.numpy is None, "NumPy is not installed")
-    def test_an_array_is_copied(self):
-        numpy = elsa_proved.numpy
-        block, ends = numpy.frombuffer(b"aabab", numpy.uint8), numpy.array([1, 2, 3, 5], numpy.uintp)
-        self.assertIs(elsa_proved._numbers(ends), ends)
-        self.assertEqual(elsa_proved._bytes_at(block)[0], block.ctypes.data)
-        codes = factorize_block(block, ends)
-        self.assertIsInstance(codes, numpy.ndarray)
-        self.assertEqual(codes.tolist(), [0, 0, 1, 2])
+
+class TestThreads(unittest.TestCase):
+    def test_threads_that_share_an_interner_get_wrong_texts(self):
+        names = Interner()
+
+        def put(thread):
+            for number in range(20_000):
+                text = f"{thread}-{number}"
+                self.assertEqual(names[names.put(text)], text)
+
+        switch = sys.getswitchinterval()
+        sys.setswitchinterval(1e-6)
+        try:
+            at_once([lambda it=it: put(it) for it in range(4)])
+        finally:
+            sys.setswitchinterval(switch)
+        self.assertEqual(len(names), 80_000)
+        self.assertEqual(len(set(names)), 80_000)
+
+    def test_threads_that_put_the_same_texts_get_different_codes(self):
+        names, texts, got = Interner(), [f"text {it}" for it in range(5_000)], []
+        at_once([lambda: got.append(list(names.put_many(texts)))] * 4)
+        self.assertEqual(got, [list(range(5_000))] * 4)
+
+    def test_a_call_inside_a_call_hangs(self):
+        names = Interner()
+
+        def texts():
+            yield "a"
+            names.put("b")
+            yield "b"
+
+        self.assertEqual(list(names.put_many(texts())), [1, 0])
+
+
+class TestCopies(unittest.TestCase):
+    def test_the_end_of_a_copy_empties_the_original(self):
+        for copied in (copy.copy, copy.deepcopy, lambda it: pickle.loads(pickle.dumps(it))):
+            names = Interner(["fig", "plum"])
+            other = copied(names)
+            self.assertEqual(list(other), ["fig", "plum"])
+            other.put("pear")
+            del other
+            self.assertEqual((len(names), list(names)), (2, ["fig", "plum"]))
+
+    def test_a_subclass_loses_its_attributes(self):
+        names = Named(["fig"])
+        names.label = "fruit"
+        self.assertEqual((list(copy.copy(names)), copy.copy(names).label), (["fig"], "fruit"))
+
+
+class Named(Interner):
+    pass
+
+
+class TestIterables(unittest.TestCase):
+    def test_a_generator_is_read_twice(self):
+        for made in (lambda: (it for it in "aba"), lambda: map(str, "aba"), lambda: iter("aba"), lambda: "aba"):
+            codes, distinct = factorize(made())
+            self.assertEqual((list(codes), distinct), ([0, 1, 0], ["a", "b"]))
+            self.assertEqual(list(Interner().put_many(made())), [0, 1, 0])
+        self.assertEqual(sorted(factorize({"a", "b"})[1]), ["a", "b"])
+        self.assertEqual(factorize({"a": 1, "b": 2})[1], ["a", "b"])
+
+    def test_none_and_nan_are_texts(self):
+        for texts in ([None, "a", float("nan"), "b", "a"], (it for it in [None, "a", None, "b", "a"])):
+            codes, distinct = factorize(texts)
+            self.assertEqual((list(codes), distinct), ([-1, 0, -1, 1, 0], ["a", "b"]))
+        self.assertEqual(list(Interner().put_many(["a", None])), [0, -1])
+        self.assertEqual((list(factorize([None])[0]), factorize([None])[1]), ([-1], []))
+
+    def test_a_str_that_lies_about_its_length_shifts_the_others(self):
+        class Liar(str):
+            def __len__(self):
+                return 1
+
+            def encode(self, *_):
+                return b""
+
+        codes, distinct = factorize([Liar("aaa"), "a", "é", "aaa"])
+        self.assertEqual((list(codes), distinct), ([0, 1, 2, 0], ["aaa", "a", "é"]))
+        self.assertEqual(Interner([Liar("aé")])[0], "aé")
+        self.assertEqual(Interner().put(Liar("aé")), 0)
+
+    def test_an_array_of_arrow_is_read_by_its_scalars(self):
+        class Strings:  # what pyarrow.StringArray has; Debian has no pyarrow
+            def to_pylist(self):
+                return ["b", None, "a", "b"]
+
+            def __iter__(self):
+                return iter([object()] * 4)
+
+        codes, distinct = factorize(Strings())
+        self.assertEqual((list(codes), distinct), ([0, -1, 1, 0], ["b", "a"]))
+
+    def test_the_codes_are_not_int64(self):
+        for codes in (factorize(["a"])[0], factorize(["a", None])[0], firsts([0]), Interner().put_many(["a"])):
+            kind = codes.typecode if numpy is None else codes.dtype.char
+            self.assertEqual((kind, codes.itemsize), ("q" if numpy is None else "l", 8))
+
+
+class TestWrongArguments(unittest.TestCase):
+    """What is no text, no code and no block."""
+
+    def test_an_index_is_taken_modulo_2_to_the_64(self):
+        names = Interner(["fig", "plum"])
+        for code in (2**64, 2**64 + 1, -(2**64), 2, -3, 2**200):
+            with self.assertRaises(IndexError):
+                names[code]
+        self.assertEqual((names[-1], names[-2], names[True], names[::-1]), ("plum", "fig", "plum", ["plum", "fig"]))
+        for code in (1.0, "1", None):
+            with self.assertRaises(TypeError):
+                names[code]
+
+    def test_no_text_is_found_or_put(self):
+        names = Interner(["fig"])
+        for it in (None, 3, b"fig", ["fig"], object()):
+            self.assertNotIn(it, names)
+            for call in (names.put, names.get):
+                with self.assertRaises(TypeError):
+                    call(it)
+        for texts in ([b"fig"], ["fig", 3], [["fig"]], 3, None, [object()]):
+            for call in (factorize, names.put_many, Interner):
+                with self.assertRaises(TypeError):
+                    call(texts)
+        self.assertEqual(list(names), ["fig"])
+
+    def test_a_lone_surrogate_is_put(self):
+        names = Interner(["fig"])
+        self.assertEqual((names.get("\ud800"), "\ud800" in names), (None, False))
+        for call in (names.put, lambda it: names.put_many([it]), lambda it: factorize([it])):
+            with self.assertRaises(UnicodeEncodeError):
+                call("\ud800")
+
+    def test_a_buffer_is_read_as_what_it_is_not(self):
+        names, ends = Interner(), array("q", [1, 3])
+        blocks = ["abc", 3, None, array("H", [97, 98]), memoryview(b"abcd").cast("B", (2, 2)), [97]]
+        for block in blocks:
+            for call in (factorize_block, names.put_block):
+                with self.assertRaises(TypeError):
+                    call(block, ends)
+        square = memoryview(bytes(32)).cast("q", (2, 2))
+        for wrong in (array("d", [1.5, 3.0]), [1.5, 3], "13", None, 3, square, memoryview(bytes(2)).cast("?")):
+            for call in (lambda it: factorize_block(b"abc", it), lambda it: names.put_block(b"abc", it), firsts):
+                with self.assertRaises(TypeError):
+                    call(wrong)
+        self.assertEqual(len(names), 0)
+
+    def test_a_buffer_is_read_otherwise_than_by_its_values(self):
+        for kind in "bBhHiIlLqQ":
+            self.assertEqual(list(factorize_block(b"abca", array(kind, [1, 2, 3, 4]))), [0, 1, 2, 0])
+        every_other = memoryview(array("q", [1, 9, 2, 9, 3]))[::2]
+        self.assertEqual(list(factorize_block(bytearray(b"aba"), every_other)), [0, 1, 0])
+        self.assertEqual(list(factorize_block(memoryview(b"a-b-a")[::2], [1, 2, 3])), [0, 1, 0])
+        self.assertEqual(list(factorize_block(b"aba", (it for it in (1, 2, 3)))), [0, 1, 0])
+        self.assertEqual((list(factorize_block(b"", [])), list(factorize_block(b"", [0, 0]))), ([], [0, 0]))
+        for far in (-1, 2**63 - 1):
+            self.assertEqual(codes_of(factorize_block, b"ab", [1, far]), ([0], 3))
+        self.assertEqual(list(firsts([])), [])
+
+    def test_an_array_that_is_passed_is_written(self):
+        given = array("q", [1, 2])
+        codes = factorize_block(b"aa", given)
+        codes[0] = 77
+        self.assertEqual(given.tolist(), [1, 2])
+
+    @needs_numpy
+    def test_an_array_of_numpy_is_read_otherwise_than_by_its_values(self):
+        block = numpy.frombuffer(b"aabab", numpy.uint8)
+        for kind in (numpy.int8, numpy.uint16, numpy.int32, numpy.int64, numpy.uint64):
+            codes = factorize_block(block, numpy.array([1, 2, 3, 5], kind))
+            self.assertIsInstance(codes, numpy.ndarray)
+            self.assertEqual(codes.tolist(), [0, 0, 1, 2])
+        backwards = numpy.array([5, 3, 2, 1])[::-1]
+        self.assertEqual(factorize_block(block, backwards).tolist(), [0, 0, 1, 2])
+        locked = numpy.array([1, 2, 3, 5])
+        locked.flags.writeable = False
+        self.assertEqual(factorize_block(block, locked).tolist(), [0, 0, 1, 2])
+        for wrong in (numpy.array([1.0, 5.0]), numpy.array([[1, 2], [3, 5]]), numpy.array([1, 5], ">i8"), numpy.array(5)):
+            for call in (lambda it: factorize_block(block, it), firsts):
+                with self.assertRaises(TypeError):
+                    call(wrong)
+        for wrong in (numpy.zeros((2, 2), numpy.uint8), numpy.zeros(2, numpy.uint16), numpy.zeros(2)):
+            with self.assertRaises(TypeError):
+                factorize_block(wrong, [1, 2])
+
+    def test_memory_that_runs_out_is_no_memory_error(self):
+        text = """
+import resource, elsa_proved
+block, names = b"x" * 200_000_000, elsa_proved.Interner(["fig"])
+used = int(open("/proc/self/statm").read().split()[0]) * resource.getpagesize()
+resource.setrlimit(resource.RLIMIT_AS, (used + 100_000_000, -1))
+try:
+    names.put_block(block, [1, 1, len(block)])
+except MemoryError as fault:
+    print(type(fault).__name__, fault.number, list(fault.codes), list(names))
+"""
+        done = subprocess.run([sys.executable, "-c", text], capture_output=True, text=True)
+        self.assertEqual(done.stdout, "OutOfMemory 1 [1, 2] ['fig', 'x', '']\n", done.stderr)
+
+
+class TestSeeds(unittest.TestCase):
+    def test_crafted_texts_slow_it_down(self):
+        # Under a known seed, the texts with these 8 bytes at index 24 have one hash: a factor of the hash is zero.
+        texts = [f"{it:024d}elsaseed{0:016d}" for it in range(3_000)]
+        ordinary = [f"{it:048d}" for it in range(3_000)]
+        zero = 0x9E3779B97F4A7C15
+        known = Interner()
+        known._raw.seed.factor = int.from_bytes(b"elsaseed", "little") ^ zero
+
+        def took(call):
+            begun = time.process_time()
+            call()
+            return time.process_time() - begun
+
+        slow = took(lambda: known.put_many(texts))
+        for call in (factorize, Interner):
+            fast = min(took(lambda: call(texts)) for _ in range(3))
+            self.assertLess(fast * 5, slow)
+        known = Interner()
+        known._raw.seed.factor = int.from_bytes(b"elsaseed", "little") ^ zero
+        self.assertLess(took(lambda: known.put_many(ordinary)) * 5, slow)
+
+
+class TestPandas(unittest.TestCase):
+    """The codes and texts of pandas.factorize."""
+
+    def same(self, texts):
+        wanted, unique = pandas.factorize(texts)
+        codes, distinct = factorize(texts)
+        self.assertEqual((codes.tolist(), distinct), (wanted.tolist(), list(unique)))
+        self.assertEqual(codes.dtype, wanted.dtype)
+
+    @needs_pandas
+    def test_a_series_is_read_by_its_labels(self):
+        self.same(pandas.Series(["a", "b", "c", "a"], index=[3, 2, 1, 0]))
+        series = pandas.Series(["a", "b", "c", "a", "b"])
+        self.same(series[series != "a"])
+        self.same(pandas.Index(["b", "a", "b"]))
+
+    @needs_pandas
+    def test_what_is_missing_differs(self):
+        self.same(numpy.array(["b", None, "a", float("nan"), "b", pandas.NA, pandas.NaT], object))
+        self.same(pandas.Series(["b", None, "a", "b"]))
+        wanted, unique = pandas.factorize(pandas.array(["b", None, "a", "b"], dtype="string"))
+        codes, distinct = factorize(pandas.array(["b", None, "a", "b"], dtype="string"))
+        self.assertEqual((codes.tolist(), distinct), (wanted.tolist(), list(unique)))
+
+    @needs_pandas
+    def test_random_lists_differ(self):
+        choose = random.Random(2026)
+        for count in [*range(20), 5_000]:
+            texts = [choose.choice(["a", "b", "é", "", "語語", "a\0", None, float("nan")]) for _ in range(count)]
+            self.same(numpy.array(texts, object))
+            index = list(range(count))
+            choose.shuffle(index)
+            self.same(pandas.Series(texts, index=index, dtype=object))
+
+    @needs_pandas
+    def test_a_generator_differs(self):
+        texts = ["b", None, "a", "b"]
+        wanted, unique = pandas.factorize(numpy.array(texts, object))
+        codes, distinct = factorize(it for it in texts)
+        self.assertEqual((codes.tolist(), distinct), (wanted.tolist(), list(unique)))
+
+
+class TestSurface(unittest.TestCase):
+    def test_names_are_missing(self):
+        self.assertTrue(all(hasattr(elsa_proved, it) for it in elsa_proved.__all__))
+        self.assertRegex(elsa_proved.__version__, r"^\d+\.\d+\.\d+$")
+        for it in (factorize, factorize_block, firsts, Interner.put, Interner.get, Interner.put_many, Interner.put_block):
+            self.assertIn("return", it.__annotations__)
+        self.assertEqual(repr(Interner(["fig"])), "Interner(['fig'])")
+        self.assertEqual(repr(Interner(map(str, range(11)))), "<Interner of 11 texts>")
+        self.assertTrue(issubclass(OutOfMemory, MemoryError) and issubclass(OutOfMemory, Fault))
 
 
 if __name__ == "__main__":

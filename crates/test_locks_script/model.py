@@ -1,13 +1,16 @@
 """A plain model of the locked collections: writes the script (`stdin`) and what it must print (`stdout`).
 
 A map is a dict whose `setdefault` is the insertion, a list is a list, and a walk is a place. It shares no code with the
-collections. Each locked call stands with its key or place there and absent, and each collection has over 100 calls.
+collections. Each locked call stands with its key or place there and absent, and each collection has over 100 calls, but
+for the map of texts, which has `insert_text` alone. A map of shards is a map.
 """
 
 INSERTIONS = ["insert", "insert_new", "insert_with", "insert_with_key", "get_copy_or_insert",
               "get_copy_or_insert_with", "get_copy_or_insert_with_key"]
-READS = ["get", "map_get", "get_copy", "keys_cloned", "len", "is_empty", "clone", "equals"]
-TREE_READS = ["get", "map_get", "len", "is_empty", "clone", "equals"]
+READS = ["get", "map_get", "get_copy", "keys_cloned", "for_each", "len", "is_empty", "clone", "equals"]
+TREE_READS = READS + ["for_each_in_range", "first_key_value_cloned", "last_key_value_cloned"]
+SHARD_INSERTIONS = ["insert", "insert_new", "insert_with", "get_copy_or_insert", "get_copy_or_insert_with"]
+SHARD_READS = ["get", "map_get", "get_copy", "len", "is_empty"]
 LIST_READS = ["get", "len", "is_empty", "next", "clone", "equals"]
 PUSHES = ["push", "push_get", "push_get_index"]
 
@@ -38,17 +41,36 @@ def tree_script():
     for read in TREE_READS:
         yield read, 3, 5
     value = 400
-    for n, key in enumerate([5, 2, 7, 0, 3, 1, 6, 4, 5, 0, 2, 3]):
+    for n, key in enumerate([5, 2, 7, 0, 3, 1, 6, 4, 5, 0, 2, 3, 9, 10]):
         for _ in range(2):
-            yield ["insert", "insert_new"][n % 2], key, value
+            yield INSERTIONS[n % 7], key, value
             value += 3
-        for k, read in enumerate(TREE_READS[n % 2 :: 2]):
+        for k, read in enumerate(TREE_READS[n % 3 :: 3]):
             yield read, (2 * n + k) % 9, value
-    for n in range(24):
-        yield ["insert", "insert_new"][n % 2], n % 9, 500 + n
-    for key in (8, 9):
+    for n in range(28):
+        yield INSERTIONS[n % 7], n % 11, 500 + n
+    for key in (8, 11):
         for read in TREE_READS:
             yield read, key, 9
+
+
+def shards_script():
+    for read in SHARD_READS:
+        yield read, 3, 5
+    for n, key in enumerate([3, 1, 6, 0, 7, 2, 5, 9, 11, 10]):
+        for more in (0, 1):
+            yield SHARD_INSERTIONS[n % 5], key, 10 * n + more
+        for k, read in enumerate(SHARD_READS):
+            yield read, (key + k) % 12, 40 + n
+    for n in range(30):
+        yield SHARD_INSERTIONS[n % 5], n % 12, 900 + n
+
+
+def text_script():
+    for n in range(30):
+        key = 5 * n % 13
+        yield "get", key, 0
+        yield "insert_text", key, 700 + n
 
 
 def list_script():
@@ -82,6 +104,9 @@ class Map:
     def at(self, key):
         return self.content.get(key)
 
+    def walk(self, _first):
+        return sum((key + 1) * value for key, value in self.content.items()) % 2**64
+
     def answer(self, name, key, value):
         given = key + value if name.endswith("_key") else value
         if name == "insert_new":
@@ -89,17 +114,34 @@ class Map:
             return f"{self.content.setdefault(key, given)} {truth(new)}"
         if name in INSERTIONS:
             return str(self.content.setdefault(key, given))
+        if name == "insert_text":
+            return str(self.content.setdefault(key, given))
         if name == "map_get":
             return found(self.content[key] + value if key in self.content else None)
+        if name in ("first_key_value_cloned", "last_key_value_cloned"):
+            ends = sorted(self.content)
+            place = 0 if name.startswith("first") else -1
+            return f"entry {ends[place]} {self.content[ends[place]]}" if ends else "no entry"
         return {
             "get": lambda: found(self.at(key)),
             "get_copy": lambda: found(self.at(key)),
             "keys_cloned": lambda: f"keys {sorted(self.content)}",
+            "for_each": lambda: str(self.walk(0)),
+            "for_each_in_range": lambda: str(self.walk(key)),
             "len": lambda: f"count {len(self.content)}",
             "is_empty": lambda: truth(not self.content),
             "clone": lambda: f"count {len(set(self.content) | {key})}",
             "equals": lambda: truth(key in self.content),
         }[name]()
+
+
+class Tree(Map):
+    def walk(self, first):
+        walked = 0
+        for key in sorted(self.content):
+            if key >= first:
+                walked = (walked * 31 + (key + 1) * self.content[key]) % 2**64
+        return walked
 
 
 class List:
@@ -133,7 +175,9 @@ def shown(item):
 
 def main():
     lines, answers = [], []
-    for family, script, model in [("map", map_script(), Map()), ("tree", tree_script(), Map()), ("vec", list_script(), List())]:
+    families = [("map", map_script(), Map()), ("tree", tree_script(), Tree()), ("shards", shards_script(), Map())]
+    families += [("text", text_script(), Map()), ("vec", list_script(), List())]
+    for family, script, model in families:
         for name, key, value in script:
             line = f"{family} {name} {key} {value}"
             answer = model.answer(name, key, value)

@@ -136,6 +136,11 @@ class TestUses(unittest.TestCase):
         self.assertEqual(len(uses.uses(page).strip().split("\n")), 2 + len(uses.USES))
 
 
+def page_of(*rows):
+    """A page with the tables of these rows."""
+    return tables.tables(rows)
+
+
 def growth():
     """Rows of the growth of the names, with a known time of a name."""
     sides = {"elsa": 100, "upstream": 400, "hand-written": 90}
@@ -144,41 +149,45 @@ def growth():
         yield measured(NAMES_GROWTH, f"{entries:,}", times, entries=entries)
 
 
-# The width of each letter of "hand-written, for this job only" in DejaVu Sans Bold, which is wide, in parts of 2048.
-WIDE_LABEL = 204
+# The width of a letter of a label of 12 pixels in DejaVu Sans Bold, which is wide.
+WIDE = 12 * 0.7
 
 
 class TestPictures(unittest.TestCase):
-    def test_the_longest_label_ends_inside_of_the_picture(self):
-        for text in (pictures.lines(list(growth())), (root / "bench" / "growth.svg").read_text()):
-            width = int(re.search(r'<svg [^>]*width="(\d+)"', text)[1])
-            start = float(re.search(r'<text x="([\d.]+)"[^>]*>hand-written, for this job only', text)[1])
-            self.assertLessEqual(start + WIDE_LABEL, width)
+    def test_both_pictures_are_those_of_the_published_tables(self):
+        page = (root / "bench" / "RESULTS.md").read_text()
+        for name, text in (("results", pictures.bars(page)), ("growth", pictures.lines(page))):
+            self.assertEqual(text, (root / "bench" / f"{name}.svg").read_text(), "run bench/run --pictures")
+
+    def test_the_picture_of_growth_is_readable_on_a_phone(self):
+        text = pictures.lines(page_of(*growth()))
+        self.assertLessEqual(int(re.search(r'<svg [^>]*width="(\d+)"', text)[1]), pictures.PHONE)
+        self.assertGreaterEqual(min(int(it) for it in re.findall(r'font-size="(\d+)"', text)), pictures.LEAST)
+        for start, title in re.findall(r'<text x="(\d+)"[^>]*font-weight="bold">(.*?)</text>', text)[1:]:
+            self.assertLessEqual(int(start) + WIDE * len(title), pictures.PHONE)
 
     def test_a_time_is_drawn_at_its_height(self):
-        text = pictures.lines(list(growth()))
+        text = pictures.lines(page_of(*growth()))
         at = {label: float(y) - 4 for y, label in re.findall(r'y="([\d.]+)" text-anchor="end">(\d+)</text>', text)}
         elsa = re.search(r'<polyline points="([^"]+)" fill="none" stroke="#2e7d32"', text)[1]
         self.assertEqual({float(it.split(",")[1]) for it in elsa.split()}, {at["100"]})
 
     def test_a_bar_is_as_long_as_its_ratio(self):
-        text = pictures.bars([measured(ALONE, "push", {"elsa": 1.0, "upstream": 4.0, "peer": 2.0})])
-        quarter, half = (float(it) for it in re.findall(r'<rect [^>]*width="([\d.]+)" height="10" fill', text)[2:])
+        text = pictures.bars(page_of(measured(ALONE, "push", {"elsa": 1.0, "upstream": 4.0, "peer": 2.0})))
+        quarter, half = (float(it) for it in re.findall(r'width="([\d.]+)" height="10" fill="#[^"]+"/>\n<rect', text))
         self.assertAlmostEqual(2 * quarter, half, delta=0.2)
         self.assertIn(">0.25</text>", text)
 
-    def test_rows_of_several_threads_and_of_growth_have_no_bar(self):
-        rows = [measured(ALONE, "a", {"elsa": 1.0, "upstream": 2.0}, threads=2), *growth()]
-        self.assertNotIn('height="10" fill="#5f6b7a"/>\n<text', pictures.bars(rows))
-
-    def test_crafted_keys_have_no_bar(self):
-        rows = [measured(ALONE, "a", {"elsa": 1.0, "upstream": 2.0}), measured(CRAFTED, "b", {"elsa": 9, "upstream": 1})]
-        self.assertEqual(pictures.bars(rows), pictures.bars(rows[:1]))
+    def test_rows_of_several_threads_of_growth_and_of_crafted_keys_have_no_bar(self):
+        times = {"elsa": 1.0, "upstream": 2.0}
+        shown = measured(ALONE, "push, 1 thread", times)
+        hidden = [measured(ALONE, "push, 16 threads", times), measured(CRAFTED, "b", times), *growth()]
+        self.assertEqual(pictures.bars(page_of(shown, *hidden)), pictures.bars(page_of(shown)))
 
     def test_each_picture_is_well_formed(self):
         # a name as `&self` must not end the picture
         row = measured(ALONE, "`&self`, a < b", {"elsa": 1.0, "upstream": 2.0})
-        for text in (pictures.lines(list(growth())), pictures.bars([row])):
+        for text in (pictures.lines(page_of(*growth())), pictures.bars(page_of(row))):
             xml.etree.ElementTree.fromstring(text)
 
 

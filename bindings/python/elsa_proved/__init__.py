@@ -1,44 +1,78 @@
 """Numbers for texts, by the proved code of elsa_c: `factorize(texts)` and `Interner`.
 
-The shared object libelsa_c.so is next to this file, or at the path in ELSA_SO. NumPy is used if it is installed: then codes
-are its arrays, and blocks of bytes with their ends are passed without a copy.
+Codes are arrays of int64: of NumPy if it is installed, and else of the module `array`. Hashes have a secret, as those of
+str have: the wrapper takes it from os.urandom. The shared object libelsa_c.so is next to this file, or at the path in
+ELSA_SO.
 """
 import ctypes
+import numbers
+import operator
 import os
 import pathlib
+import sys
+import threading
 from array import array
 from itertools import accumulate
+from typing import Any, Iterable, Iterator, List, Optional, Sequence, Tuple, Union, overload
 
 try:
     import numpy
 except ImportError:
     numpy = None
 
-_FOLDER = pathlib.Path(__file__).resolve().parent
-_so = ctypes.CDLL(os.environ.get("ELSA_SO", str(_FOLDER / "libelsa_c.so")))
-_size, _bytes, _sizes = ctypes.c_size_t, ctypes.c_char_p, ctypes.c_void_p
+__version__ = "0.4.0"
+__all__ = ["Fault", "Interner", "OutOfMemory", "factorize", "factorize_block", "firsts"]
+
+Block = Union[bytes, bytearray, memoryview, Any]
+Codes = Sequence[int]
+
+# A PyDLL keeps the GIL during a call. So no two calls are inside the library at once, and nothing that a call reads changes;
+# in a Python without a GIL each dictionary has a lock, and what others could write is copied before it is passed.
+_so = ctypes.PyDLL(os.environ.get("ELSA_SO", str(pathlib.Path(__file__).resolve().parent / "libelsa_c.so")))
+_size, _numbers_at = ctypes.c_size_t, ctypes.c_void_p
 
 FAULTS = {
     1: "an allocation failed",
     2: "a text is not UTF-8",
     3: "an end is before the one before it, or past the bytes",
     4: "there are 2^32 - 1 texts",
-    5: "there are fewer codes than texts",
 }
 
 
+class _Seed(ctypes.Structure):
+    _fields_ = [("start", ctypes.c_uint64), ("factor", ctypes.c_uint64)]
+
+
+def _secret() -> _Seed:
+    return _Seed.from_buffer_copy(os.urandom(16))
+
+
 class _Dictionary(ctypes.Structure):
-    _fields_ = [("texts", ctypes.c_void_p), ("kept", ctypes.c_bool)]
+    """The struct of C. It frees its texts at its own end: ctypes refuses to copy a struct that has a pointer."""
+
+    _fields_ = [("texts", ctypes.c_void_p), ("kept", ctypes.c_bool), ("seed", _Seed)]
+
+    def __del__(self, free=_so.elsa_dictionary_free, at=ctypes.byref):
+        free(at(self))
 
 
 _held = ctypes.POINTER(_Dictionary)
+_found = ctypes.POINTER(_size)
 for _name, _result, _given in [
-    ("elsa_factorize", ctypes.c_uint32, [_sizes, _size, _sizes, _size, _sizes, _size, _sizes]),
-    ("elsa_firsts", _size, [_sizes, _size, _sizes, _size]),
-    ("elsa_dictionary_put", ctypes.c_uint32, [_held, _bytes, _size, _sizes]),
-    ("elsa_dictionary_put_many", ctypes.c_uint32, [_held, _sizes, _size, _sizes, _size, _sizes, _size, _sizes]),
-    ("elsa_dictionary_find", ctypes.c_bool, [_held, _bytes, _size, _sizes]),
-    ("elsa_dictionary_at", ctypes.c_bool, [_held, _size, _sizes, _sizes]),
+    (
+        "elsa_factorize",
+        ctypes.c_uint32,
+        [ctypes.c_char_p, _size, _numbers_at, _size, _numbers_at, _size, _found, ctypes.POINTER(_Seed)],
+    ),
+    ("elsa_firsts", _size, [_numbers_at, _size, _numbers_at, _size]),
+    ("elsa_dictionary_put", ctypes.c_uint32, [_held, ctypes.c_char_p, _size, _found]),
+    (
+        "elsa_dictionary_put_many",
+        ctypes.c_uint32,
+        [_held, ctypes.c_char_p, _size, _numbers_at, _size, _numbers_at, _size, _found],
+    ),
+    ("elsa_dictionary_find", ctypes.c_bool, [_held, ctypes.c_char_p, _size, _found]),
+    ("elsa_dictionary_at", ctypes.c_bool, [_held, _size, ctypes.POINTER(ctypes.c_void_p), _found]),
     ("elsa_dictionary_len", _size, [_held]),
     ("elsa_dictionary_free", None, [_held]),
 ]:
@@ -48,129 +82,226 @@ for _name, _result, _given in [
 class Fault(ValueError):
     """Why a call stopped. `done` is the number of texts that have their codes, and `codes` has these."""
 
-    def __init__(self, number, codes):
+    def __init__(self, number: int, codes: Codes) -> None:
         super().__init__(f"{FAULTS[number]}, at text {len(codes)}")
         self.number, self.done, self.codes = number, len(codes), codes
 
 
-def _places(count):
-    """Room for `count` numbers: an array of NumPy, or of the module array."""
-    return numpy.empty(count, numpy.uintp) if numpy is not None else array("Q", bytes(8 * count))
+class OutOfMemory(Fault, MemoryError):
+    """The fault of an allocation that failed. It is a MemoryError too."""
 
 
-def _address(numbers):
-    if numpy is not None and isinstance(numbers, numpy.ndarray):
-        return numbers.ctypes.data
-    return numbers.buffer_info()[0]
+def _fault(number: int, codes: Codes) -> Fault:
+    return OutOfMemory(number, codes) if number == 1 else Fault(number, codes)
 
 
-def _numbers(values):
-    """Numbers of 64 bits at one place in memory. An array of NumPy that has this form is not copied."""
-    if numpy is not None:
-        return numpy.ascontiguousarray(values, numpy.uintp)
-    return values if isinstance(values, array) and values.typecode == "Q" else array("Q", values)
+def _room(count: int) -> Any:
+    """An array of `count` numbers that nobody else has."""
+    return numpy.empty(count, numpy.int64) if numpy is not None else array("q", bytes(8 * count))
 
 
-def _block(texts):
-    """The texts as one block of bytes and their ends."""
+def _address(own: Any) -> int:
+    return own.ctypes.data if numpy is not None and isinstance(own, numpy.ndarray) else own.buffer_info()[0]
+
+
+def _integers(values: Any) -> array:
+    """The integers of an iterable, or of a buffer of one dimension, as an array of 64 bits that nobody else has."""
+    try:
+        view = memoryview(values)
+    except TypeError:
+        return array("q", values)
+    with view:
+        if view.ndim != 1 or view.format not in tuple("bBhHiIlLqQnN"):
+            raise TypeError(f"not a list of integers: {view.ndim} dimensions of the format {view.format!r}")
+        if view.itemsize == 8 and view.c_contiguous:
+            return array("q", view.tobytes())
+        return array("q", view.tolist())
+
+
+def _bytes(block: Any) -> bytes:
+    """The bytes of a block. Those that others could write are copied."""
+    if type(block) is bytes:
+        return block
+    with memoryview(block) as view:
+        if view.ndim != 1 or view.itemsize != 1 or view.format not in ("B", "b", "c"):
+            raise TypeError(f"not a block of bytes: {view.ndim} dimensions of the format {view.format!r}")
+        return view.tobytes()
+
+
+def _block(texts: List[str]) -> Tuple[bytes, Any]:
+    """The texts as one block of bytes and their ends. Each is a str, and of no other class."""
     joined = "".join(texts)
     if joined.isascii():
-        block, lengths = joined.encode(), map(len, texts)
+        block, parts = joined.encode(), texts
     else:
         parts = [it.encode() for it in texts]
-        block, lengths = b"".join(parts), map(len, parts)
+        block = b"".join(parts)
     if numpy is not None:
-        return block, numpy.frombuffer(array("Q", accumulate(lengths)), numpy.uintp)
-    return block, array("Q", accumulate(lengths))
+        return block, numpy.fromiter(map(len, parts), numpy.int64, len(parts)).cumsum()
+    return block, array("q", accumulate(map(len, parts)))
 
 
-def _bytes_at(block):
-    """The address and the length of a block, and what keeps it alive."""
-    if numpy is not None:
-        view = numpy.frombuffer(block, numpy.uint8) if len(block) else numpy.zeros(1, numpy.uint8)
-        return view.ctypes.data, len(block), view
-    kept = ctypes.c_char_p(bytes(block))
-    return ctypes.cast(kept, ctypes.c_void_p).value, len(block), kept
-
-
-def _codes(call, block, ends, *handle):
-    """The codes that a call writes for a block."""
-    ends, codes, done = _numbers(ends), _places(len(ends)), _size()
-    at, count, _kept = _bytes_at(block)
-    number = call(*handle, at, count, _address(ends), len(ends), _address(codes), len(codes), ctypes.byref(done))
+def _codes(call: Any, block: bytes, ends: Any, *handle: Any, seed: Tuple[Any, ...] = ()) -> Any:
+    """The codes that a call writes for a block. `ends` is an array that nobody else has."""
+    codes, done = _room(len(ends)), _size()
+    room = _address(codes)
+    number = call(*handle, block, len(block), _address(ends), len(ends), room, len(codes), done, *seed)
     if number:
-        raise Fault(number, codes[: done.value])
+        raise _fault(number, codes[: done.value])
     return codes
 
 
-def factorize_block(block, ends):
+def _is_missing(it: Any) -> bool:
+    """Whether it is None or NaN, or what pandas has for them."""
+    if it is None or isinstance(it, numbers.Real) and it != it:
+        return True
+    pandas = sys.modules.get("pandas")
+    return pandas is not None and (it is getattr(pandas, "NA", None) or it is getattr(pandas, "NaT", None))
+
+
+def _listed(texts: Iterable[Any]) -> List[Any]:
+    """The texts by their order, as a list that nobody else has: of Arrow's arrays by their own call."""
+    made = getattr(texts, "to_pylist", None)
+    return list(texts if made is None else made())
+
+
+def _numbered(texts: List[Any], block_codes: Any) -> Tuple[Any, List[Any], Any]:
+    """The codes of a list in which None and NaN have -1, the texts without these, and their codes."""
+    if set(map(type, texts)) <= {str}:
+        codes = block_codes(*_block(texts))
+        return codes, texts, codes
+    at, plain = [], []
+    for index, it in enumerate(texts):
+        if isinstance(it, str):
+            at.append(index)
+            plain.append(str.__str__(it))
+        elif not _is_missing(it):
+            raise TypeError(f"text {index} is no str, None or NaN: {type(it).__name__}")
+    known = block_codes(*_block(plain))
+    codes = array("q", [-1]) * len(texts)
+    for index, code in zip(at, known):
+        codes[index] = code
+    if numpy is not None:
+        codes = numpy.array(codes, numpy.int64)
+    return codes, [texts[it] for it in at], known
+
+
+def _factorized(block: bytes, ends: Any) -> Any:
+    return _codes(_so.elsa_factorize, block, ends, seed=(_secret(),))
+
+
+def factorize_block(block: Block, ends: Iterable[int]) -> Codes:
     """Returns the code of each text of a block of bytes, in which text i ends before ends[i].
 
     Equal texts have equal codes, from 0 on in the order of first texts. Raises Fault at the first text that has none.
     """
-    return _codes(_so.elsa_factorize, block, ends)
+    return _factorized(_bytes(block), _integers(ends))
 
 
-def firsts(codes):
+def firsts(codes: Iterable[int]) -> Codes:
     """Returns the index at which each code occurs first, for codes of a factorize call."""
-    codes = _numbers(codes)
-    found = _places(len(codes))
-    return found[: _so.elsa_firsts(_address(codes), len(codes), _address(found), len(found))]
+    given = _integers(codes)
+    found = _room(len(given))
+    return found[: _so.elsa_firsts(_address(given), len(given), _address(found), len(found))]
 
 
-def factorize(texts):
-    """Returns the codes of a list of str and the distinct texts in the order of their codes, as pandas.factorize does."""
-    codes = factorize_block(*_block(texts))
-    return codes, [texts[it] for it in firsts(codes)]
+def factorize(texts: Iterable[Optional[str]]) -> Tuple[Codes, List[str]]:
+    """Returns the codes of some texts and the distinct texts in the order of their codes, as pandas.factorize does.
+
+    None and NaN have the code -1, and are not among the texts.
+    """
+    codes, present, known = _numbered(_listed(texts), _factorized)
+    return codes, [present[it] for it in firsts(known).tolist()]
 
 
 class Interner:
-    """Texts, each with a code: the first has 0, the next 1, and so on. One thread at a time may use it."""
+    """Texts, each with a code: the first has 0, the next 1, and so on. Threads may share it; their calls take turns.
 
-    def __init__(self):
-        self._raw = _Dictionary(None, False)
-        self._held = ctypes.pointer(self._raw)
-        self._code, self._text = _size(), ctypes.c_void_p()
+    It is a sequence of its texts. A copy, and one that was pickled, has the same texts with the same codes.
+    """
 
-    def __del__(self):
-        if hasattr(self, "_held"):
-            _so.elsa_dictionary_free(self._held)
+    __slots__ = ("_raw", "_lock", "__weakref__")
 
-    def __len__(self):
-        return _so.elsa_dictionary_len(self._held)
+    def __new__(cls, *_given: Any, **_named: Any) -> "Interner":
+        made = super().__new__(cls)
+        made._raw = _Dictionary(None, False, _secret())
+        made._lock = threading.RLock()
+        return made
 
-    def put(self, text):
+    def __init__(self, texts: Iterable[str] = ()) -> None:
+        self.put_many(texts)
+
+    def __reduce__(self) -> Any:
+        return type(self), (list(self),), getattr(self, "__dict__", None)
+
+    def __len__(self) -> int:
+        with self._lock:
+            return _so.elsa_dictionary_len(self._raw)
+
+    def __repr__(self) -> str:
+        count = len(self)
+        return f"Interner({self[:]})" if count <= 10 else f"<Interner of {count} texts>"
+
+    def put(self, text: str) -> int:
         """Returns the code of a text, which is kept if it is new."""
-        given = text.encode()
-        number = _so.elsa_dictionary_put(self._held, given, len(given), ctypes.byref(self._code))
+        if not isinstance(text, str):
+            raise TypeError(f"a text is a str, not {type(text).__name__}")
+        given, code = str.encode(text), _size()
+        with self._lock:
+            number = _so.elsa_dictionary_put(self._raw, given, len(given), code)
         if number:
-            raise Fault(number, [])
-        return self._code.value
+            raise _fault(number, [])
+        return code.value
 
-    def put_many(self, texts):
-        """Returns the codes of a list of str, which are kept if they are new."""
-        return self.put_block(*_block(texts))
+    def put_many(self, texts: Iterable[Optional[str]]) -> Codes:
+        """Returns the codes of some texts, which are kept if they are new. None and NaN have the code -1."""
+        return _numbered(_listed(texts), self._put)[0]
 
-    def put_block(self, block, ends):
-        """Returns the codes of the texts of a block, in which text i ends before ends[i]."""
-        return _codes(_so.elsa_dictionary_put_many, block, ends, self._held)
+    def put_block(self, block: Block, ends: Iterable[int]) -> Codes:
+        """Returns the codes of the texts of a block, in which text i ends before ends[i].
 
-    def get(self, text):
-        """Returns the code of a text, or None if it was never put."""
-        given = text.encode()
-        found = _so.elsa_dictionary_find(self._held, given, len(given), ctypes.byref(self._code))
-        return self._code.value if found else None
+        Raises Fault at the first text that has none; the texts before it are kept.
+        """
+        return self._put(_bytes(block), _integers(ends))
 
-    def __contains__(self, text):
-        return self.get(text) is not None
+    def _put(self, block: bytes, ends: Any) -> Any:
+        with self._lock:
+            return _codes(_so.elsa_dictionary_put_many, block, ends, self._raw)
 
+    def get(self, text: str, default: Optional[int] = None) -> Optional[int]:
+        """Returns the code of a text, or `default` if it was never put."""
+        if not isinstance(text, str):
+            raise TypeError(f"a text is a str, not {type(text).__name__}")
+        try:
+            given, code = str.encode(text), _size()
+        except UnicodeEncodeError:
+            return default
+        with self._lock:
+            found = _so.elsa_dictionary_find(self._raw, given, len(given), code)
+        return code.value if found else default
+
+    def __contains__(self, text: object) -> bool:
+        return isinstance(text, str) and self.get(text) is not None
+
+    @overload
+    def __getitem__(self, code: int) -> str: ...
+    @overload
+    def __getitem__(self, code: slice) -> List[str]: ...
     def __getitem__(self, code):
-        """Returns the text with this code. Raises IndexError if there is none."""
-        if code < 0 or not _so.elsa_dictionary_at(
-            self._held, code, ctypes.byref(self._text), ctypes.byref(self._code)
-        ):
-            raise IndexError(code)
-        return ctypes.string_at(self._text, self._code.value).decode() if self._code.value else ""
+        """Returns the text with this code; one below 0 counts from the end. Raises IndexError if there is none."""
+        if isinstance(code, slice):
+            return [self[it] for it in range(*code.indices(len(self)))]
+        wanted = operator.index(code)
+        count = len(self)
+        if not -count <= wanted < count:
+            raise IndexError(f"there is no text {wanted}: {count} texts")
+        at, length = ctypes.c_void_p(), _size()
+        with self._lock:
+            # The texts are copied under the lock, so that none is freed meanwhile.
+            if not _so.elsa_dictionary_at(self._raw, wanted % count, at, length):
+                raise IndexError(f"there is no text {wanted}")
+            copied = ctypes.string_at(at, length.value) if length.value else b""
+        return copied.decode()
 
-    def __iter__(self):
+    def __iter__(self) -> Iterator[str]:
         return (self[code] for code in range(len(self)))

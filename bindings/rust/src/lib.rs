@@ -1,31 +1,61 @@
 //! Numbers for texts, by the proved code of `elsa_c`.
 //!
 //! [`Interner`] gives each distinct text a [`Symbol`]. [`factorize`] numbers a whole list at once. The code that compares,
-//! hashes and stores the texts is proved to meet its contracts; this crate passes it valid pointers.
+//! hashes and stores the texts is proved to meet its contracts; this crate passes it valid pointers. Each hash has a secret
+//! of `RandomState`.
 //!
 //! ```
+//! # fn main() -> Result<(), Box<dyn std::error::Error>> {
 //! let mut names = elsa_proved::Interner::new();
 //! let pear = names.get_or_intern("pear");
-//! assert_eq!(names.get_or_intern("pear"), pear);
 //! assert_eq!(names.resolve(pear), Some("pear"));
+//! let symbols = elsa_proved::factorize(["pear", "apple", "pear"])?;
+//! assert_eq!(symbols[0], symbols[2]);
+//! # Ok(())
+//! # }
 //! ```
 
-use std::cell::UnsafeCell;
+use std::collections::hash_map::RandomState;
 use std::fmt::{self, Debug, Display, Formatter};
+use std::hash::{BuildHasher, Hasher};
 use std::os::raw::c_void;
 use std::ptr;
+use std::sync::{Mutex, MutexGuard, PoisonError};
 
-/// The dictionary of C: a pointer that `elsa_c` owns. All zero is one without texts.
+/// The secret of a hash, as C has it.
+#[repr(C)]
+struct Seed {
+    start: u64,
+    factor: u64,
+}
+
+impl Seed {
+    fn new() -> Seed {
+        let state = RandomState::new();
+        let word = |number| {
+            let mut hasher = state.build_hasher();
+            hasher.write_u8(number);
+            hasher.finish()
+        };
+        Seed { start: word(0), factor: word(1) }
+    }
+}
+
+/// The dictionary of C: a pointer that `elsa_c` owns. All zero but for the seed is one without texts.
 #[repr(C)]
 struct Raw {
     texts: *mut c_void,
     kept: bool,
+    seed: Seed,
 }
+
+// Proved of the dictionary's type: it owns plain memory of the C allocator.
+unsafe impl Send for Raw {}
 
 extern "C" {
     fn elsa_factorize(
         bytes: *const u8, bytes_len: usize, ends: *const usize, ends_len: usize, codes: *mut usize, codes_len: usize,
-        done: *mut usize,
+        done: *mut usize, seed: *const Seed,
     ) -> u32;
     fn elsa_firsts(codes: *const usize, codes_len: usize, firsts: *mut usize, firsts_len: usize) -> usize;
     fn elsa_dictionary_put(dictionary: *mut Raw, text: *const u8, text_len: usize, code: *mut usize) -> u32;
@@ -50,8 +80,6 @@ pub enum Fault {
     EndsOutOfOrder,
     /// There are 2^32 - 1 texts, and this one is new.
     Full,
-    /// There are fewer codes than texts.
-    TooFewCodes,
 }
 
 impl Display for Fault {
@@ -61,7 +89,6 @@ impl Display for Fault {
             Fault::NotUtf8 => "a text is not UTF-8",
             Fault::EndsOutOfOrder => "an end is before the one before it, or past the bytes",
             Fault::Full => "there are 2^32 - 1 texts",
-            Fault::TooFewCodes => "there are fewer codes than texts",
         })
     }
 }
@@ -76,8 +103,52 @@ fn checked(status: u32) -> Result<(), Fault> {
         2 => Fault::NotUtf8,
         3 => Fault::EndsOutOfOrder,
         4 => Fault::Full,
-        _ => Fault::TooFewCodes,
+        // The arrays of this crate have as many codes as texts.
+        other => unreachable!("the fault {other}"),
     })
+}
+
+/// Why the texts of a list or a block did not all get their symbols: the fault at the first that has none, and the symbols
+/// of the texts before it.
+#[derive(Clone, Debug, PartialEq, Eq)]
+pub struct BlockError {
+    /// Why the text has no symbol.
+    pub fault: Fault,
+    /// The symbols of the texts before it.
+    pub symbols: Vec<Symbol>,
+}
+
+impl Display for BlockError {
+    fn fmt(&self, out: &mut Formatter<'_>) -> fmt::Result {
+        write!(out, "{}, at text {}", self.fault, self.symbols.len())
+    }
+}
+
+impl std::error::Error for BlockError {
+    fn source(&self) -> Option<&(dyn std::error::Error + 'static)> {
+        Some(&self.fault)
+    }
+}
+
+/// What a call of C wrote for a block of `count` texts.
+fn symbols_of(count: usize, call: impl FnOnce(*mut usize, &mut usize) -> u32) -> Result<Vec<Symbol>, BlockError> {
+    let (mut codes, mut done) = (vec![0; count], 0);
+    let status = call(codes.as_mut_ptr(), &mut done);
+    let symbols = codes[..done].iter().map(|it| Symbol(*it as u32)).collect();
+    match checked(status) {
+        Ok(()) => Ok(symbols),
+        Err(fault) => Err(BlockError { fault, symbols }),
+    }
+}
+
+/// The texts in one block of bytes, with their ends.
+fn block_of(texts: impl IntoIterator<Item = impl AsRef<str>>) -> (Vec<u8>, Vec<usize>) {
+    let (mut bytes, mut ends) = (Vec::new(), Vec::new());
+    for text in texts {
+        bytes.extend_from_slice(text.as_ref().as_bytes());
+        ends.push(bytes.len());
+    }
+    (bytes, ends)
 }
 
 /// The number of a text in its [`Interner`]: the first text has 0, the next 1, and so on.
@@ -97,13 +168,12 @@ impl Symbol {
 }
 
 /// Texts, each with a [`Symbol`]. It only grows, so a text stays at its address until the interner is dropped.
+///
+/// Threads may share it for reading; their reads take turns.
 pub struct Interner {
-    // `elsa_c` takes the texts out of the dictionary and restores them in each call, reads too.
-    raw: UnsafeCell<Raw>,
+    // `elsa_c` takes the texts out of the dictionary and restores them in each call, reads too. So a read has the lock.
+    raw: Mutex<Raw>,
 }
-
-// Proved of the dictionary's type: it owns plain memory of the C allocator. The cell keeps it from being shared.
-unsafe impl Send for Interner {}
 
 impl Default for Interner {
     fn default() -> Interner {
@@ -113,14 +183,24 @@ impl Default for Interner {
 
 impl Drop for Interner {
     fn drop(&mut self) {
-        unsafe { elsa_dictionary_free(self.raw.get()) }
+        unsafe { elsa_dictionary_free(self.own()) }
     }
 }
 
 impl Interner {
     /// Makes an interner without texts. It allocates nothing.
-    pub const fn new() -> Interner {
-        Interner { raw: UnsafeCell::new(Raw { texts: ptr::null_mut(), kept: false }) }
+    pub fn new() -> Interner {
+        Interner { raw: Mutex::new(Raw { texts: ptr::null_mut(), kept: false, seed: Seed::new() }) }
+    }
+
+    /// The dictionary, to which nobody else has access.
+    fn own(&mut self) -> &mut Raw {
+        self.raw.get_mut().unwrap_or_else(PoisonError::into_inner)
+    }
+
+    /// The dictionary, while this thread reads it.
+    fn read(&self) -> MutexGuard<'_, Raw> {
+        self.raw.lock().unwrap_or_else(PoisonError::into_inner)
     }
 
     /// Returns the symbol of a text, which is copied if it is new.
@@ -141,34 +221,37 @@ impl Interner {
     #[inline]
     pub fn try_get_or_intern(&mut self, text: &str) -> Result<Symbol, Fault> {
         let mut code = 0;
-        checked(unsafe { elsa_dictionary_put(self.raw.get(), text.as_ptr(), text.len(), &mut code) })?;
+        checked(unsafe { elsa_dictionary_put(self.own(), text.as_ptr(), text.len(), &mut code) })?;
         Ok(Symbol(code as u32))
+    }
+
+    /// Returns the symbols of some texts. New texts are copied.
+    ///
+    /// # Errors
+    /// Fails at the first text that has no symbol. The texts before it stay interned.
+    pub fn intern_all<T: AsRef<str>>(&mut self, texts: impl IntoIterator<Item = T>) -> Result<Vec<Symbol>, BlockError> {
+        let (bytes, ends) = block_of(texts);
+        self.intern_block(&bytes, &ends)
     }
 
     /// Returns the symbols of the texts of one block, in which text `i` ends before `ends[i]`. New texts are copied.
     ///
     /// # Errors
-    /// Fails at the first text that has no symbol, with the symbols of the texts before it, which stay interned.
-    pub fn intern_block(&mut self, bytes: &[u8], ends: &[usize]) -> Result<Vec<usize>, (Fault, Vec<usize>)> {
-        let (mut codes, mut done) = (vec![0; ends.len()], 0);
-        let status = unsafe {
+    /// Fails at the first text that has no symbol. The texts before it stay interned.
+    pub fn intern_block(&mut self, bytes: &[u8], ends: &[usize]) -> Result<Vec<Symbol>, BlockError> {
+        let raw = self.own();
+        symbols_of(ends.len(), |codes, done| unsafe {
             elsa_dictionary_put_many(
-                self.raw.get(), bytes.as_ptr(), bytes.len(), ends.as_ptr(), ends.len(), codes.as_mut_ptr(),
-                codes.len(), &mut done,
+                raw, bytes.as_ptr(), bytes.len(), ends.as_ptr(), ends.len(), codes, ends.len(), done,
             )
-        };
-        codes.truncate(done);
-        match checked(status) {
-            Ok(()) => Ok(codes),
-            Err(fault) => Err((fault, codes)),
-        }
+        })
     }
 
     /// Returns the symbol of a text, or `None` if it was never interned.
     #[inline]
     pub fn get(&self, text: &str) -> Option<Symbol> {
         let mut code = 0;
-        let found = unsafe { elsa_dictionary_find(self.raw.get(), text.as_ptr(), text.len(), &mut code) };
+        let found = unsafe { elsa_dictionary_find(&mut *self.read(), text.as_ptr(), text.len(), &mut code) };
         found.then_some(Symbol(code as u32))
     }
 
@@ -176,7 +259,7 @@ impl Interner {
     #[inline]
     pub fn resolve(&self, symbol: Symbol) -> Option<&str> {
         let (mut text, mut len) = (ptr::null(), 0);
-        if !unsafe { elsa_dictionary_at(self.raw.get(), symbol.index(), &mut text, &mut len) } {
+        if !unsafe { elsa_dictionary_at(&mut *self.read(), symbol.index(), &mut text, &mut len) } {
             return None;
         }
         if len == 0 {
@@ -188,7 +271,7 @@ impl Interner {
 
     /// Returns the number of texts.
     pub fn len(&self) -> usize {
-        unsafe { elsa_dictionary_len(self.raw.get()) }
+        unsafe { elsa_dictionary_len(&mut *self.read()) }
     }
 
     /// Returns whether there are no texts.
@@ -208,19 +291,23 @@ impl Debug for Interner {
     }
 }
 
-impl<'t> Extend<&'t str> for Interner {
-    fn extend<Texts>(&mut self, texts: Texts)
-    where
-        Texts: IntoIterator<Item = &'t str>,
-    {
+impl Clone for Interner {
+    /// Makes an interner with the same texts and symbols.
+    fn clone(&self) -> Interner {
+        self.iter().map(|(_, text)| text).collect()
+    }
+}
+
+impl<T: AsRef<str>> Extend<T> for Interner {
+    fn extend<Texts: IntoIterator<Item = T>>(&mut self, texts: Texts) {
         for text in texts {
-            self.get_or_intern(text);
+            self.get_or_intern(text.as_ref());
         }
     }
 }
 
-impl<'a> FromIterator<&'a str> for Interner {
-    fn from_iter<T: IntoIterator<Item = &'a str>>(texts: T) -> Interner {
+impl<T: AsRef<str>> FromIterator<T> for Interner {
+    fn from_iter<Texts: IntoIterator<Item = T>>(texts: Texts) -> Interner {
         let mut made = Interner::new();
         made.extend(texts);
         made
@@ -262,29 +349,43 @@ impl<'a> Iterator for Iter<'a> {
 
 impl ExactSizeIterator for Iter<'_> {}
 
-/// Returns the code of each text of one block, in which text `i` ends before `ends[i]`: equal texts have equal codes, from
-/// 0 on in the order of first texts.
+/// Returns the symbol of each text: equal texts have equal symbols, from 0 on in the order of first texts.
 ///
 /// # Errors
-/// Fails at the first text that has no code, with the codes of the texts before it.
-pub fn factorize(bytes: &[u8], ends: &[usize]) -> Result<Vec<usize>, (Fault, Vec<usize>)> {
-    let (mut codes, mut done) = (vec![0; ends.len()], 0);
-    let status = unsafe {
-        elsa_factorize(
-            bytes.as_ptr(), bytes.len(), ends.as_ptr(), ends.len(), codes.as_mut_ptr(), codes.len(), &mut done,
-        )
-    };
-    codes.truncate(done);
-    match checked(status) {
-        Ok(()) => Ok(codes),
-        Err(fault) => Err((fault, codes)),
-    }
+/// Fails at the first text that has no symbol.
+pub fn factorize<T: AsRef<str>>(texts: impl IntoIterator<Item = T>) -> Result<Vec<Symbol>, BlockError> {
+    let (bytes, ends) = block_of(texts);
+    factorize_block(&bytes, &ends)
 }
 
-/// Returns the index at which each code occurs first, for codes of [`factorize`].
-pub fn firsts(codes: &[usize]) -> Vec<usize> {
-    let mut found = vec![0; codes.iter().max().map_or(0, |it| it.saturating_add(1)).min(codes.len())];
+/// Returns the symbol of each text of one block, in which text `i` ends before `ends[i]`, as [`factorize`] does.
+///
+/// # Errors
+/// Fails at the first text that has no symbol.
+pub fn factorize_block(bytes: &[u8], ends: &[usize]) -> Result<Vec<Symbol>, BlockError> {
+    let seed = Seed::new();
+    symbols_of(ends.len(), |codes, done| unsafe {
+        elsa_factorize(bytes.as_ptr(), bytes.len(), ends.as_ptr(), ends.len(), codes, ends.len(), done, &seed)
+    })
+}
+
+/// Returns the index at which each symbol occurs first, for symbols of [`factorize`].
+pub fn firsts(symbols: &[Symbol]) -> Vec<usize> {
+    let codes: Vec<usize> = symbols.iter().map(|it| it.index()).collect();
+    let mut found = vec![0; codes.iter().max().map_or(0, |it| it + 1).min(codes.len())];
     let count = unsafe { elsa_firsts(codes.as_ptr(), codes.len(), found.as_mut_ptr(), found.len()) };
     found.truncate(count);
     found
+}
+
+#[cfg(test)]
+mod tests {
+    use super::*;
+
+    #[test]
+    fn two_interners_have_one_seed() {
+        let words = |it: &Interner| { let raw = it.read(); (raw.seed.start, raw.seed.factor) };
+        let (one, other) = (words(&Interner::new()), words(&Interner::new()));
+        assert!(one.0 != other.0 && one.1 != other.1 && one.0 != one.1, "{one:?} {other:?}");
+    }
 }

@@ -1,7 +1,8 @@
 //! The calls against a plain model, on random texts, blocks that are no texts, and ends out of order.
 
-use elsa_proved::{factorize, firsts, Fault, Interner};
+use elsa_proved::{factorize, factorize_block, firsts, BlockError, Fault, Interner, Symbol};
 use std::collections::HashMap;
+use std::error::Error;
 
 struct Random(u64);
 
@@ -20,16 +21,20 @@ impl Random {
 }
 
 /// What a factorize call does, in plain Rust.
-fn model(bytes: &[u8], ends: &[usize]) -> Result<Vec<usize>, (Fault, Vec<usize>)> {
-    let (mut seen, mut codes, mut start) = (HashMap::new(), Vec::new(), 0);
+fn model(bytes: &[u8], ends: &[usize]) -> Result<Vec<Symbol>, BlockError> {
+    let (mut seen, mut symbols, mut start) = (HashMap::new(), Vec::new(), 0);
     for &end in ends {
-        let Some(piece) = bytes.get(start..end) else { return Err((Fault::EndsOutOfOrder, codes)) };
-        let Ok(text) = std::str::from_utf8(piece) else { return Err((Fault::NotUtf8, codes)) };
-        let next = seen.len();
-        codes.push(*seen.entry(text).or_insert(next));
+        let Some(piece) = bytes.get(start..end) else { return Err(BlockError { fault: Fault::EndsOutOfOrder, symbols }) };
+        let Ok(text) = std::str::from_utf8(piece) else { return Err(BlockError { fault: Fault::NotUtf8, symbols }) };
+        let next = Symbol::from_index(seen.len()).unwrap();
+        symbols.push(*seen.entry(text).or_insert(next));
         start = end;
     }
-    Ok(codes)
+    Ok(symbols)
+}
+
+fn indices(symbols: &[Symbol]) -> Vec<usize> {
+    symbols.iter().map(|it| it.index()).collect()
 }
 
 #[test]
@@ -69,11 +74,11 @@ fn factorize_differs_from_a_map_on_hostile_blocks() {
         if random.below(4) != 0 {
             ends.sort();
         }
-        let codes = factorize(&bytes, &ends);
-        assert_eq!(codes, model(&bytes, &ends));
-        assert_eq!(Interner::new().intern_block(&bytes, &ends), codes);
-        if let Ok(codes) = codes {
-            let first = firsts(&codes);
+        let symbols = factorize_block(&bytes, &ends);
+        assert_eq!(symbols, model(&bytes, &ends));
+        assert_eq!(Interner::new().intern_block(&bytes, &ends), symbols);
+        if let Ok(symbols) = symbols {
+            let (first, codes) = (firsts(&symbols), indices(&symbols));
             assert!((0..first.len()).all(|it| codes.iter().position(|code| *code == it) == Some(first[it])));
             assert_eq!(first.len(), codes.iter().max().map_or(0, |it| it + 1));
         }
@@ -85,7 +90,7 @@ fn a_text_moves_when_the_interner_grows() {
     let mut names = Interner::new();
     let first = names.get_or_intern("first");
     let at = names.resolve(first).unwrap().as_ptr();
-    names.extend((0..10_000).map(|it| it.to_string()).collect::<Vec<_>>().iter().map(|it| it.as_str()));
+    names.extend((0..10_000).map(|it| it.to_string()));
     assert_eq!(names.resolve(first).unwrap().as_ptr(), at);
 }
 
@@ -109,4 +114,50 @@ fn an_interner_is_lost_when_it_moves_to_a_thread() {
     });
     let names = moved.join().unwrap();
     assert_eq!((names.len(), names.resolve(pear)), (2, Some("pear")));
+}
+
+#[test]
+fn a_list_differs_from_a_block() -> Result<(), Box<dyn Error>> {
+    let texts: &[&str] = &["pear", "apple", "", "pear"];
+    assert_eq!(indices(&factorize(texts)?), [0, 1, 2, 0]);
+    assert_eq!(indices(&factorize(texts.iter().map(|it| it.to_string()))?), [0, 1, 2, 0]);
+    assert_eq!(factorize(Vec::<String>::new())?, []);
+    let mut names = Interner::from_iter(["fig"]);
+    assert_eq!(indices(&names.intern_all(texts)?), [1, 2, 3, 1]);
+    let copy = names.clone();
+    names.get_or_intern("plum");
+    assert_eq!((copy.len(), names.len(), copy.resolve(Symbol::from_index(1).unwrap())), (4, 5, Some("pear")));
+    Ok(())
+}
+
+#[test]
+fn an_error_has_no_cause_or_loses_the_symbols() {
+    fn of(bytes: &[u8], ends: &[usize]) -> Result<Vec<Symbol>, Box<dyn Error>> {
+        Ok(factorize_block(bytes, ends)?)
+    }
+    let error = of(b"ab\xff", &[1, 2, 3]).unwrap_err();
+    assert_eq!(error.to_string(), "a text is not UTF-8, at text 2");
+    assert_eq!(error.source().unwrap().to_string(), "a text is not UTF-8");
+    let error = error.downcast::<BlockError>().unwrap();
+    assert_eq!((error.fault, indices(&error.symbols)), (Fault::NotUtf8, vec![0, 1]));
+}
+
+#[test]
+fn threads_that_read_one_interner_differ() {
+    let names = Interner::from_iter((0..500).map(|it| it.to_string()));
+    std::thread::scope(|scope| {
+        for thread in 0..4 {
+            let names = &names;
+            scope.spawn(move || {
+                for round in 0..20 {
+                    for it in 0..500 {
+                        let text = ((it + 31 * thread + round) % 500).to_string();
+                        let symbol = names.get(&text).unwrap();
+                        assert_eq!((symbol.index().to_string(), names.resolve(symbol)), (text.clone(), Some(text.as_str())));
+                    }
+                    assert_eq!((names.len(), names.get("x")), (500, None));
+                }
+            });
+        }
+    });
 }

@@ -2,7 +2,7 @@
 //! [`SharedInterner`], for several threads, copies its names or stores them in an arena.
 //! [`ShardedInterner`] does the same in shards, for threads that often add names.
 pub use elsa_interner::interner::{
-    Counted, EngineFault, Failed, Interner, InternerReader, Sink, Source, intern_engine,
+    Counted, EngineFault, Failed, Interner, InternerReader, Sink, Source, Symbol, intern_engine,
     intern_engine_with_hasher,
 };
 pub use elsa_lock_free_map::place_text::{PlaceText, TextBuffer};

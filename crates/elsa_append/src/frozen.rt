@@ -6,7 +6,6 @@ ghost use Rattle.elsa_specs.specs.Insertions.{Grows};
 use crate::map::AppendMap;
 use bumpalo::Bump;
 use elsa_maps::map::Frozen;
-use elsa_tables::Inserted;
 use elsa_vec::stable::StableDeref;
 use std::alloc::{AllocError, Allocator, Global};
 use std::hash::{BuildHasher, BuildHasherDefault, FoldHasher, Hash};
@@ -44,11 +43,11 @@ pub fn keeps_earlier_pairs<
     map: &mut FrozenAppendMapIn<R, K, V, S, A>,
     key: K,
     value: V,
-) -> Result<Inserted<V::Borrow>, AllocError>
+) -> Result<(V::Borrow, bool), AllocError>
     ensures kept { Grows map.old map.new }
-    ensures found_after { IfOk result (λ r. value_at K.eq map.new key ≡ Some r.value) }
-    ensures flag { IfOk result (λ r. IsTrue r.is_new ↔ (value_at K.eq map.old key ≡ None)) }
-    ensures grows { IfOk result (λ r. IsTrue r.is_new → map.new ≡ map.old ++ (key, r.value) ∷ []) }
+    ensures found_after { IfOk result (λ r. value_at K.eq map.new key ≡ Some r.0) }
+    ensures flag { IfOk result (λ r. IsTrue r.1 ↔ (value_at K.eq map.old key ≡ None)) }
+    ensures grows { IfOk result (λ r. IsTrue r.1 → map.new ≡ map.old ++ (key, r.0) ∷ []) }
     ensures refused { OnErr result (map.new ≡ map.old) }
 {
     map.insert_new(key, value)

@@ -10,10 +10,11 @@ pub mod fault;
 mod kept;
 pub mod observed;
 pub mod shared;
+pub mod shown;
 pub mod state;
 pub mod vec;
 pub mod views;
 
-pub use fault::{CellFault, InUse};
+pub use fault::{CellFault, Fault, InUse};
 pub use observed::{Iter, Observed, Seen};
 pub use vec::{FrozenVec, Handle, Hold};

@@ -1,6 +1,6 @@
 //! [`Observed`]: the prefix of a list that a handle has observed, its iterator, and [`Seen`], which
 //! outlives the handle.
-ghost use Rattle.std.specs.Prelude.{◌≡◌, ◌<◌, ◌≤◌, ◌^◌, drop, length, slice_get, Some};
+ghost use Rattle.std.specs.Prelude.{◌≡◌, ◌<◌, ◌≤◌, ◌-◌, ◌^◌, ℕ, drop, length, slice_get, Some};
 ghost use Rattle.std.specs.Option.{option_map};
 ghost use Rattle.elsa_arena.specs.Observed.{Continues};
 
@@ -92,6 +92,24 @@ impl<'v, T, A: Allocator + Copy> Observed<'v, T, A> {
         Some(self.item(index))
     }
 
+    /// Returns a reference to the first observed item, or `None` exactly if none was observed.
+    pub fn first(&self) -> Option<&'v T>
+        ensures item { option_map (λ r. r.now) result ≡ slice_get self.now.seen 0 }
+    {
+        self.get(0)
+    }
+
+    /// Returns a reference to the last observed item, or `None` exactly if none was observed.
+    pub fn last(&self) -> Option<&'v T>
+        ensures item { option_map (λ r. r.now) result
+            ≡ slice_get self.now.seen (length self.now.seen - 1) }
+    {
+        if self.count == 0 {
+            return None;
+        }
+        self.get(self.count - 1)
+    }
+
     /// Returns a reference to the item at an index that was observed. It allocates nothing.
     ///
     /// # Cost
@@ -133,6 +151,8 @@ impl<'v, T, A: Allocator + Copy> Observed<'v, T, A> {
         ensures continues { Continues self.old self.new }
         ensures other_continues { Continues other.old other.new }
         ensures same { self.new.seen ≡ other.new.seen }
+        ensures limit { (most : ℕ) → length self.old.seen ≤ most → length other.old.seen ≤ most →
+            length self.new.seen ≤ most }
     {
         if self.count < other.count {
             begins(&self.prefix, &other.prefix);

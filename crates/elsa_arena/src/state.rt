@@ -16,7 +16,7 @@ use elsa_slots::slots::{
 use std::alloc::{AllocError, Allocator};
 
 /// The greatest number of items.
-const MOST: usize = (1 << 62) - 1;
+pub const MOST: usize = (1 << 62) - 1;
 
 /// A buffer that isn't open yet, and the rights to its slots.
 pub struct Fresh<T, A: Allocator + Copy> {

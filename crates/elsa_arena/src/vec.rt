@@ -1,13 +1,15 @@
 //! [`FrozenVec`], its [`Handle`] and its lock guard [`Hold`].
-ghost use Rattle.std.specs.Prelude.{◌≡◌, ◌⊎◌, ◌+◌, ◌<◌, ◌≤◌, ◌^◌, ◌++◌, ◌∷◌, [], drop, length, slice_get, IfErr, IfOk, IfSome, OnErr, OnOk};
+ghost use Rattle.std.specs.Prelude.{◌≡◌, ◌⊎◌, ◌+◌, ◌-◌, ◌<◌, ◌≤◌, ◌^◌, ◌++◌, ◌∷◌, [], drop, length, slice_get, IfErr, IfOk, IfSome, OnErr, OnOk};
 ghost use Rattle.std.specs.Option.{option_map};
 ghost use mathlib.Core.List.{IsPrefix};
+ghost use Rattle.elsa_arena.specs.Faults.{GivesBack, Refuses};
 ghost use Rattle.elsa_arena.specs.Observed.{Appends, Continues, IsStateOf, view_of};
 
-use crate::fault::{CellFault, InUse};
+use crate::fault::{CellFault, Fault, InUse};
 use crate::observed::{Iter, Observed, Seen};
 use crate::shared::{OfSlots, Shared};
-use crate::state::{self, State, push_item};
+use crate::shown::{Shown, observed_since};
+use crate::state::{self, MOST, State, push_item};
 use crate::views::{is_behind, is_evidence_behind, observe, slots_of};
 use boxcar::tag::Tag;
 use elsa_slots::slots::Slots;
@@ -22,6 +24,7 @@ use std::marker::Model;
 pub struct FrozenVec<T, A: Allocator + Copy = Global> {
     slots: Slots<T, A>,
     cell: Shared<State<T, A>>,
+    shown: Shown<T, A>,
 }
 
 impl<T, A: Allocator + Copy> Model for FrozenVec<T, A> {
@@ -31,13 +34,14 @@ impl<T, A: Allocator + Copy> Model for FrozenVec<T, A> {
 
     ghost view = { λ v. v.slots };
 
-    ghost invariant = { λ v. v.cell.numbers ≡ v.slots };
+    ghost invariant = { λ v. (v.cell.numbers ≡ v.slots) × (v.shown ≡ v.slots) };
 }
 
 // Drops each item once, in order.
 impl<T: Drop, A: Allocator + Copy> Drop for FrozenVec<T, A> {
     fn drop(self) {
-        let Self { slots, cell } = self;
+        let Self { slots, cell, shown } = self;
+        drop(shown);
         match cell.into_state() {
             Some(state) => state.end(slots),
             None => drop(slots),
@@ -56,8 +60,9 @@ impl<T, A: Allocator + Copy> FrozenVec<T, A> {
     pub fn new(alloc: A) -> Result<Self, AllocError> {
         let (slots, further) = Slots::new(alloc)?;
         let tag = Tag::of::<Slots<T, A>, OfSlots>(&slots);
+        let shown = Shown::first(&further, &tag);
         let cell = Shared::new(State::first(alloc, further), &tag);
-        Ok(FrozenVec { slots, cell })
+        Ok(FrozenVec { slots, cell, shown })
     }
 
     /// Makes an empty list with capacity for `count` items: pushing that many allocates nothing.
@@ -73,54 +78,80 @@ impl<T, A: Allocator + Copy> FrozenVec<T, A> {
     /// `O(log count)`.
     pub fn with_capacity(alloc: A, count: usize) -> Result<Self, AllocError> {
         let (slots, further) = Slots::new(alloc)?;
+        let tag = Tag::of::<Slots<T, A>, OfSlots>(&slots);
+        let shown = Shown::first(&further, &tag);
         let mut state = State::first(alloc, further);
         state::reserve(&slots, &mut state, count)?;
-        let tag = Tag::of::<Slots<T, A>, OfSlots>(&slots);
         let cell = Shared::new(state, &tag);
-        Ok(FrozenVec { slots, cell })
+        Ok(FrozenVec { slots, cell, shown })
     }
 
     /// Reserves capacity for `additional` more items: pushing that many allocates nothing. A
     /// guard's [`Hold::reserve`] promises it.
     ///
     /// # Errors
-    /// Fails with [`CellFault::Memory`] if an allocation fails, or if the list would have more
-    /// than the greatest number of items, `2^62 - 1`, and with [`CellFault::InUse`] if the call is
-    /// made inside another call of the list, or while a [`Hold`] of it exists. The items are
-    /// unchanged.
+    /// Fails with [`Fault::Memory`] if an allocation fails, with [`Fault::Full`] if the list would
+    /// have more than the greatest number of items, `2^62 - 1`, and with [`Fault::InUse`] if the
+    /// call is made inside another call of the list, or while a [`Hold`] of it exists. The items
+    /// are unchanged.
     ///
     /// # Allocates
     /// The buffers for these items, and a list of them.
     ///
     /// # Cost
     /// `O(log n)` in the number of items.
-    pub fn reserve(&self, additional: usize) -> Result<(), CellFault<()>> {
-        let Ok(mut hold) = self.hold() else {
-            return Err(CellFault::InUse(()));
-        };
-        match hold.reserve(additional) {
-            Ok(()) => Ok(()),
-            Err(_) => Err(CellFault::Memory(())),
-        }
+    pub fn reserve(&self, additional: usize) -> Result<(), Fault> {
+        let mut hold = self.hold()?;
+        hold.reserve(additional)
     }
 
     /// Makes a handle that has observed all items. It allocates nothing.
     ///
-    /// # Errors
-    /// Fails with [`InUse`] if the call is made inside another call of the list, or while a
-    /// [`Hold`] of it exists.
+    /// # Cost
+    /// `O(1)`.
+    pub fn handle(&self) -> Handle<'_, T, A>
+        ensures same_vector { result.vector ≡ self.now }
+    {
+        Handle {
+            cell: &self.cell,
+            shown: &self.shown,
+            observed: self.observed(),
+        }
+    }
+
+    /// Makes a handle that has observed all items, those of which `seen` is evidence among them: a
+    /// caller that keeps the evidence finds its items by each call of the handle. It allocates
+    /// nothing.
     ///
     /// # Cost
     /// `O(1)`.
-    pub fn handle(&self) -> Result<Handle<'_, T, A>, InUse>
-        ensures same_vector { IfOk result (λ h. h.vector ≡ self.now) }
+    pub fn handle_since(&self, seen: &Seen<T, A>) -> Handle<'_, T, A>
+        requires same_vector { seen.now.vector ≡ self.now }
+        ensures same_vector { result.vector ≡ self.now }
+        ensures items { IsPrefix seen.now.seen result.seen }
     {
-        let hold = self.hold()?;
-        Ok(hold.handle())
+        let mut observed = observed_since(&self.slots, seen);
+        let mut all = self.observed();
+        observed.merge(&mut all);
+        Handle {
+            cell: &self.cell,
+            shown: &self.shown,
+            observed,
+        }
     }
 
-    /// Locks the list for one caller. Until the guard is dropped, each other call fails with
-    /// [`InUse`], except reads of what a handle has observed. It allocates nothing.
+    /// Returns what the list has so far, to read it while the list grows. It allocates nothing.
+    ///
+    /// # Cost
+    /// `O(1)`.
+    pub fn observed(&self) -> Observed<'_, T, A>
+        ensures same_vector { result.vector ≡ self.now }
+    {
+        self.shown.observe(&self.slots)
+    }
+
+    /// Locks the list for one caller: until the guard is dropped, each other insertion fails with
+    /// [`InUse`], and reads answer as before. It allocates nothing.
     ///
     /// # Errors
     /// Fails with [`InUse`] if the call is made inside another call of the list, or while another
@@ -137,6 +168,7 @@ impl<T, A: Allocator + Copy> FrozenVec<T, A> {
         Ok(Hold {
             slots: &self.slots,
             cell: &self.cell,
+            shown: &self.shown,
             state,
         })
     }
@@ -144,9 +176,10 @@ impl<T, A: Allocator + Copy> FrozenVec<T, A> {
     /// Appends an item, and returns its index.
     ///
     /// # Errors
-    /// Fails with [`CellFault::Memory`] if an allocation fails, or if the list has the greatest
-    /// number of items, `2^62 - 1`, and with [`CellFault::InUse`] if the call is made inside
-    /// another call of the list, or while a [`Hold`] of it exists. Both contain `item`.
+    /// Fails with [`CellFault::Memory`] if an allocation fails, with [`CellFault::Full`] if the
+    /// list has the greatest number of items, `2^62 - 1`, and with [`CellFault::InUse`] if the call
+    /// is made inside another call of the list, or while a [`Hold`] of it exists. Each contains
+    /// `item`.
     ///
     /// # Allocates
     /// A buffer, four times as large as the one before, at the lengths where one begins.
@@ -154,8 +187,8 @@ impl<T, A: Allocator + Copy> FrozenVec<T, A> {
     /// # Cost
     /// `O(1)`.
     pub fn push(&self, item: T) -> Result<usize, CellFault<T>>
-        ensures given_back { IfErr result (λ f. (f ≡ CellFault.Memory item)
-            ⊎ (f ≡ CellFault.InUse item)) }
+        ensures limit { IfOk result (λ i. i + 1 < 2 ^ 62) }
+        ensures given_back { IfErr result (GivesBack item) }
     {
         let Ok(mut hold) = self.hold() else {
             return Err(CellFault::InUse(item));
@@ -167,9 +200,10 @@ impl<T, A: Allocator + Copy> FrozenVec<T, A> {
     /// place of the index.
     ///
     /// # Errors
-    /// Fails with [`CellFault::Memory`] if an allocation fails, or if the list has the greatest
-    /// number of items, `2^62 - 1`, and with [`CellFault::InUse`] if the call is made inside
-    /// another call of the list, or while a [`Hold`] of it exists. Both contain `item`.
+    /// Fails with [`CellFault::Memory`] if an allocation fails, with [`CellFault::Full`] if the
+    /// list has the greatest number of items, `2^62 - 1`, and with [`CellFault::InUse`] if the call
+    /// is made inside another call of the list, or while a [`Hold`] of it exists. Each contains
+    /// `item`.
     ///
     /// # Allocates
     /// A buffer, four times as large as the one before, at the lengths where one begins.
@@ -178,8 +212,7 @@ impl<T, A: Allocator + Copy> FrozenVec<T, A> {
     /// `O(1)`.
     pub fn alloc(&self, item: T) -> Result<&T, CellFault<T>>
         ensures pushed { IfOk result (λ r. r.now ≡ item) }
-        ensures given_back { IfErr result (λ f. (f ≡ CellFault.Memory item)
-            ⊎ (f ≡ CellFault.InUse item)) }
+        ensures given_back { IfErr result (GivesBack item) }
     {
         let Ok(mut hold) = self.hold() else {
             return Err(CellFault::InUse(item));
@@ -194,46 +227,54 @@ impl<T, A: Allocator + Copy> FrozenVec<T, A> {
     /// Returns a reference to the item at an index, or `None` if the index is at or above the
     /// number of items. It allocates nothing.
     ///
-    /// # Errors
-    /// Fails with [`InUse`] if the call is made inside another call of the list, or while a
-    /// [`Hold`] of it exists.
+    /// # Cost
+    /// `O(1)`.
+    pub fn get(&self, index: usize) -> Option<&T> {
+        let observed = self.observed();
+        observed.get(index)
+    }
+
+    /// Returns a reference to the first item, or `None` if the list is empty. It allocates nothing.
     ///
     /// # Cost
     /// `O(1)`.
-    pub fn get(&self, index: usize) -> Result<Option<&T>, InUse> {
-        let handle = self.handle()?;
-        Ok(handle.get(index))
+    pub fn first(&self) -> Option<&T> {
+        let observed = self.observed();
+        observed.first()
+    }
+
+    /// Returns a reference to the last item, or `None` if the list is empty. It allocates nothing.
+    ///
+    /// # Cost
+    /// `O(1)`.
+    pub fn last(&self) -> Option<&T> {
+        let observed = self.observed();
+        observed.last()
     }
 
     /// Returns the number of items. It allocates nothing.
     ///
-    /// # Errors
-    /// Fails with [`InUse`] if the call is made inside another call of the list, or while a
-    /// [`Hold`] of it exists.
-    ///
     /// # Cost
     /// `O(1)`.
-    pub fn len(&self) -> Result<usize, InUse> {
-        let handle = self.handle()?;
-        Ok(handle.seen_len())
+    pub fn len(&self) -> usize
+        ensures limit { result < 2 ^ 62 }
+    {
+        let observed = self.observed();
+        observed.len()
     }
 
     /// Returns whether the list has no item. It allocates nothing.
     ///
-    /// # Errors
-    /// Fails with [`InUse`] if the call is made inside another call of the list, or while a
-    /// [`Hold`] of it exists.
-    ///
     /// # Cost
     /// `O(1)`.
-    pub fn is_empty(&self) -> Result<bool, InUse> {
-        let handle = self.handle()?;
-        Ok(handle.seen_len() == 0)
+    pub fn is_empty(&self) -> bool {
+        self.len() == 0
     }
 
     /// Makes the list of its state again, which may be lost.
-    fn again(slots: Slots<T, A>, state: Option<State<T, A>>) -> Self
-        requires { IfSome state (IsStateOf slots) }
+    fn again(slots: Slots<T, A>, shown: Shown<T, A>, state: Option<State<T, A>>) -> Self
+        requires state { IfSome state (IsStateOf slots) }
+        requires shown { shown ≡ slots }
         ensures { result ≡ slots }
     {
         let tag = Tag::of::<Slots<T, A>, OfSlots>(&slots);
@@ -241,7 +282,7 @@ impl<T, A: Allocator + Copy> FrozenVec<T, A> {
             Some(state) => Shared::new(state, &tag),
             None => Shared::lost(&tag),
         };
-        FrozenVec { slots, cell }
+        FrozenVec { slots, cell, shown }
     }
 
     /// Moves all items into a vector of `alloc`, in order, and drops none. `seen` is evidence of
@@ -266,16 +307,17 @@ impl<T, A: Allocator + Copy> FrozenVec<T, A> {
         ensures given_back { IfErr result (λ f. (f ≡ CellFault.Memory self)
             ⊎ (f ≡ CellFault.InUse self)) }
     {
-        let Self { slots, cell } = self;
+        let Self { slots, cell, shown } = self;
         let Some(state) = cell.into_state() else {
-            return Err(CellFault::InUse(FrozenVec::again(slots, None)));
+            return Err(CellFault::InUse(FrozenVec::again(slots, shown, None)));
         };
         if !is_evidence_behind(seen, &state) {
-            return Err(CellFault::InUse(FrozenVec::again(slots, Some(state))));
+            return Err(CellFault::InUse(FrozenVec::again(slots, shown, Some(state))));
         }
         let Ok(mut all) = Vec::with_capacity(alloc, state.count) else {
-            return Err(CellFault::Memory(FrozenVec::again(slots, Some(state))));
+            return Err(CellFault::Memory(FrozenVec::again(slots, shown, Some(state))));
         };
+        drop(shown);
         state.move_items(slots, &mut all);
         Ok(all)
     }
@@ -283,15 +325,11 @@ impl<T, A: Allocator + Copy> FrozenVec<T, A> {
     /// Returns an iterator over the items, in order and each once. Others may be pushed while it
     /// runs; they are not among its items. It allocates nothing.
     ///
-    /// # Errors
-    /// Fails with [`InUse`] if the call is made inside another call of the list, or while a
-    /// [`Hold`] of it exists.
-    ///
     /// # Cost
     /// `O(1)`, and so is each item.
-    pub fn iter(&self) -> Result<Iter<'_, T, A>, InUse> {
-        let handle = self.handle()?;
-        Ok(handle.iter())
+    pub fn iter(&self) -> Iter<'_, T, A> {
+        let observed = self.observed();
+        observed.iter_from(0)
     }
 }
 
@@ -302,6 +340,7 @@ impl<T, A: Allocator + Copy> FrozenVec<T, A> {
 #[derive(Drop)]
 pub struct Handle<'v, T, A: Allocator + Copy = Global> {
     cell: &'v Shared<State<T, A>>,
+    shown: &'v Shown<T, A>,
     observed: Observed<'v, T, A>,
 }
 
@@ -313,7 +352,7 @@ impl<'v, T, A: Allocator + Copy> Model for Handle<'v, T, A> {
 
     ghost view = { λ h. h.observed };
 
-    ghost invariant = { λ h. h.cell.now.numbers ≡ h.observed.vector };
+    ghost invariant = { λ h. (h.cell.now.numbers ≡ h.observed.vector) × (h.shown.now ≡ h.observed.vector) };
 }
 
 impl<'v, T, A: Allocator + Copy> Handle<'v, T, A> {
@@ -330,6 +369,7 @@ impl<'v, T, A: Allocator + Copy> Handle<'v, T, A> {
     {
         Handle {
             cell: self.cell,
+            shown: self.shown,
             observed: self.observed.again(),
         }
     }
@@ -384,6 +424,7 @@ impl<'v, T, A: Allocator + Copy> Handle<'v, T, A> {
         Ok(Hold {
             slots: slots_of(&self.observed),
             cell,
+            shown: self.shown,
             state,
         })
     }
@@ -399,29 +440,25 @@ impl<'v, T, A: Allocator + Copy> Handle<'v, T, A> {
 
     /// Observes all items, and returns their number. It allocates nothing.
     ///
-    /// # Errors
-    /// Fails with [`InUse`] if the call is made inside another call of the list, or while a
-    /// [`Hold`] of it exists. The handle is unchanged.
-    ///
     /// # Cost
     /// `O(1)`.
-    pub fn len(&mut self) -> Result<usize, InUse>
+    pub fn len(&mut self) -> usize
         ensures continues { Continues self.old self.new }
-        ensures length { IfOk result (λ n. n ≡ length self.new.seen) }
-        ensures limit { IfOk result (λ n. n < 2 ^ 62) }
-        ensures refused { IfErr result (λ _. self.new ≡ self.old) }
+        ensures length { result ≡ length self.new.seen }
+        ensures limit { result < 2 ^ 62 }
     {
-        let hold = self.hold()?;
-        self.release(hold);
-        Ok(self.seen_len())
+        let mut all = self.shown.observe(slots_of(&self.observed));
+        self.observed.merge(&mut all);
+        self.seen_len()
     }
 
     /// Appends an item, and returns its index.
     ///
     /// # Errors
-    /// Fails with [`CellFault::Memory`] if an allocation fails, or if the list has the greatest
-    /// number of items, `2^62 - 1`, and with [`CellFault::InUse`] if the call is made inside
-    /// another call of the list, or while a [`Hold`] of it exists. Both contain `item`.
+    /// Fails with [`CellFault::Memory`] if an allocation fails, with [`CellFault::Full`] if the
+    /// list has the greatest number of items, `2^62 - 1`, and with [`CellFault::InUse`] if the call
+    /// is made inside another call of the list, or while a [`Hold`] of it exists. Each contains
+    /// `item`.
     ///
     /// # Allocates
     /// A buffer, four times as large as the one before, at the lengths where one begins.
@@ -432,8 +469,7 @@ impl<'v, T, A: Allocator + Copy> Handle<'v, T, A> {
         ensures continues { Continues self.old self.new }
         ensures pushed { IfOk result (λ i. Appends self.old.seen self.new.seen i item) }
         ensures limit { IfOk result (λ i. i + 1 < 2 ^ 62) }
-        ensures given_back { IfErr result (λ f. (f ≡ CellFault.Memory item)
-            ⊎ (f ≡ CellFault.InUse item)) }
+        ensures given_back { IfErr result (GivesBack item) }
     {
         let Ok(mut hold) = self.hold() else {
             return Err(CellFault::InUse(item));
@@ -446,20 +482,15 @@ impl<'v, T, A: Allocator + Copy> Handle<'v, T, A> {
     /// Observes all items, and returns an iterator over those that the handle had not observed, in
     /// order and each once. It allocates nothing.
     ///
-    /// # Errors
-    /// Fails with [`InUse`] if the call is made inside another call of the list, or while a
-    /// [`Hold`] of it exists. The handle is unchanged.
-    ///
     /// # Cost
     /// `O(1)`, and so is each item.
-    pub fn news(&mut self) -> Result<Iter<'v, T, A>, InUse>
+    pub fn news(&mut self) -> Iter<'v, T, A>
         ensures continues { Continues self.old self.new }
-        ensures items { IfOk result (λ it. it ≡ drop (length self.old.seen) self.new.seen) }
-        ensures refused { IfErr result (λ _. self.new ≡ self.old) }
+        ensures items { result ≡ drop (length self.old.seen) self.new.seen }
     {
         let before = self.seen_len();
-        self.len()?;
-        Ok(self.observed.iter_from(before))
+        self.len();
+        self.observed.iter_from(before)
     }
 
     /// Merges what two handles of a list have observed: both have then observed the longer prefix.
@@ -477,13 +508,14 @@ impl<'v, T, A: Allocator + Copy> Handle<'v, T, A> {
     }
 }
 
-/// A lock guard of a list: its caller alone appends, and each other call fails with [`InUse`].
+/// A lock guard of a list: its caller alone appends, and each other push fails with [`InUse`].
 /// Contracts see the list, by the names of its buffers, all its items, and its capacity.
 ///
 /// It is the form for a loop of insertions, and for what needs the whole list unchanged.
 pub struct Hold<'v, T, A: Allocator + Copy = Global> {
     slots: &'v Slots<T, A>,
     cell: &'v Shared<State<T, A>>,
+    shown: &'v Shown<T, A>,
     state: State<T, A>,
 }
 
@@ -500,7 +532,7 @@ impl<'v, T, A: Allocator + Copy> Model for Hold<'v, T, A> {
       capacity = capacity_of h.state;
     } };
 
-    ghost invariant = { λ h. IsStateOf h.slots.now h.state × (h.cell.now.numbers ≡ h.slots.now) };
+    ghost invariant = { λ h. IsStateOf h.slots.now h.state × (h.cell.now.numbers ≡ h.slots.now) × (h.shown.now ≡ h.slots.now) };
 }
 
 impl<T, A: Allocator + Copy> Drop for Hold<'_, T, A> {
@@ -508,6 +540,7 @@ impl<T, A: Allocator + Copy> Drop for Hold<'_, T, A> {
         let Self {
             slots: _,
             cell,
+            shown: _,
             state,
         } = self;
         cell.put(state);
@@ -528,6 +561,7 @@ impl<'v, T, A: Allocator + Copy> Hold<'v, T, A> {
     {
         Handle {
             cell: self.cell,
+            shown: self.shown,
             observed: self.observed(),
         }
     }
@@ -559,30 +593,38 @@ impl<'v, T, A: Allocator + Copy> Hold<'v, T, A> {
     /// can't fail.
     ///
     /// # Errors
-    /// Fails if an allocation fails, or if the list would have more than the greatest number of
-    /// items, `2^62 - 1`. The items are unchanged.
+    /// Fails with [`Fault::Memory`] if an allocation fails, and with [`Fault::Full`] if the list
+    /// would have more than the greatest number of items, `2^62 - 1`. The items are unchanged.
     ///
     /// # Allocates
     /// The buffers for these items, and a list of them.
     ///
     /// # Cost
     /// `O(log n)` in the number of items.
-    pub fn reserve(&mut self, additional: usize) -> Result<(), AllocError>
+    pub fn reserve(&mut self, additional: usize) -> Result<(), Fault>
         ensures same { self.new.vector ≡ self.old.vector }
         ensures items { self.new.seen ≡ self.old.seen }
         ensures grows { self.old.capacity ≤ self.new.capacity }
         ensures room { OnOk result (length self.old.seen + additional ≤ self.new.capacity) }
+        ensures full { IfErr result (λ f. f ≡ Fault.Full →
+            2 ^ 62 ≤ length self.old.seen + additional) }
     {
+        if additional > MOST - self.state.count {
+            return Err(Fault::Full);
+        }
         let slots = self.slots;
-        state::reserve(slots, &mut self.state, additional)
+        match state::reserve(slots, &mut self.state, additional) {
+            Ok(()) => Ok(()),
+            Err(_) => Err(Fault::Memory),
+        }
     }
 
     /// Appends an item, and returns its index.
     ///
     /// # Errors
-    /// Fails with [`CellFault::Memory`] and `item` if an allocation fails, or if the list has the
-    /// greatest number of items, `2^62 - 1`. The list is unchanged. It can't fail while the list
-    /// has fewer items than its capacity.
+    /// Fails with [`CellFault::Memory`] and `item` if an allocation fails, and with
+    /// [`CellFault::Full`] and `item` if the list has the greatest number of items, `2^62 - 1`. The
+    /// list is unchanged. It can't fail while the list has fewer items than its capacity.
     ///
     /// # Allocates
     /// A buffer, four times as large as the one before, at the lengths where one begins.
@@ -595,14 +637,18 @@ impl<'v, T, A: Allocator + Copy> Hold<'v, T, A> {
         ensures pushed { IfOk result (λ i. (i ≡ length self.old.seen)
             × (self.new.seen ≡ self.old.seen ++ item ∷ [])) }
         ensures limit { IfOk result (λ i. i + 1 < 2 ^ 62) }
-        ensures given_back { IfErr result (λ f. f ≡ CellFault.Memory item) }
+        ensures given_back { IfErr result (Refuses (2 ^ 62 - 1) (length self.old.seen) item) }
         ensures refused { OnErr result ((self.new ≡ self.old)
             × (self.old.capacity ≤ length self.old.seen)) }
     {
         let slots = self.slots;
         match push_item(slots, &mut self.state, item) {
-            Ok(index) => Ok(index),
-            Err(item) => Err(CellFault::Memory(item)),
+            Ok(index) => {
+                self.shown.set(&self.state);
+                Ok(index)
+            }
+            Err(item) if self.state.count < MOST => Err(CellFault::Memory(item)),
+            Err(item) => Err(CellFault::Full(item)),
         }
     }
 }

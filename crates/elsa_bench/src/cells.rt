@@ -1,8 +1,8 @@
 //! The collections that grow through `&self`: COUNT insertions of new keys or pushes, COUNT reads
 //! of random present keys or at random indices, and ten walks over COUNT items.
 use crate::draws::{Draws, key};
-use elsa::cell::{FrozenMap, FrozenVec};
-use std::alloc::{AllocError, Global};
+use elsa::cell::{Fault, FrozenMap, FrozenVec};
+use std::alloc::Global;
 use std::io;
 use std::rt::Clock;
 use std::time::Instant;
@@ -20,23 +20,18 @@ pub enum CellCall {
     Get,
 }
 
-fn pushes(items: &FrozenVec<u64>, count: u64) -> Result<u64, AllocError> {
+fn pushes(items: &FrozenVec<u64>, count: u64) -> Result<u64, Fault> {
     for item in 0..count {
-        if items.push(item).is_err() {
-            return Err(AllocError);
-        }
+        let _index = items.push(item)?;
     }
-    match items.get((count as usize).saturating_sub(1)) {
-        Ok(Some(last)) => Ok(*last),
-        _ => Ok(0),
-    }
+    Ok(items.last().copied().unwrap_or(0))
 }
 
 fn reads(items: &FrozenVec<u64>, count: usize) -> u64 {
     let mut draws = Draws::new(0);
     let mut sum = 0u64;
     for _turn in 0..count {
-        if let Ok(Some(item)) = items.get(draws.below(count)) {
+        if let Some(item) = items.get(draws.below(count)) {
             sum = sum.wrapping_add(*item);
         }
     }
@@ -44,9 +39,7 @@ fn reads(items: &FrozenVec<u64>, count: usize) -> u64 {
 }
 
 fn walks(items: &FrozenVec<u64>) -> u64 {
-    let Ok(seen) = items.handle() else {
-        return 0;
-    };
+    let seen = items.handle();
     let mut sum = 0u64;
     for _turn in 0..TIMES {
         for item in seen.iter() {
@@ -56,13 +49,11 @@ fn walks(items: &FrozenVec<u64>) -> u64 {
     sum
 }
 
-fn insertions(map: &FrozenMap<u64, u64>, count: usize) -> Result<u64, AllocError> {
+fn insertions(map: &FrozenMap<u64, u64>, count: usize) -> Result<u64, Fault> {
     let mut sum = 0u64;
     for place in 0..count {
-        match map.insert(key(place), place as u64) {
-            Ok(value) => sum = sum.wrapping_add(*value),
-            Err(_) => return Err(AllocError),
-        }
+        let value = map.insert(key(place), place as u64)?;
+        sum = sum.wrapping_add(*value);
     }
     Ok(sum)
 }
@@ -71,7 +62,7 @@ fn look_ups(map: &FrozenMap<u64, u64>, count: usize) -> u64 {
     let mut draws = Draws::new(0);
     let mut sum = 0u64;
     for _turn in 0..count {
-        if let Ok(Some(value)) = map.get(&key(draws.below(count))) {
+        if let Some(value) = map.get(&key(draws.below(count))) {
             sum = sum.wrapping_add(*value);
         }
     }

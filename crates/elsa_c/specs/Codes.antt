@@ -65,10 +65,11 @@ IsRefused names text NotUtf8 = ⊥
 IsRefused names text EndsOutOfOrder = ⊥
 IsRefused names text TooFewCodes = ⊥
 
--- The call ended after `count` texts: after all of them, or at the first that is no text or did not get a number.
+-- The call ended after `count` texts: after all of them, or at the first that is no text or did not get a number. With
+-- too few codes it ended before the first.
 abbrev pub IsEnd : List ℕ → List ℕ → ℕ → List (List ℕ) → ℕ → Option Fault → Type 0
 IsEnd bytes ends room names count None = count ≡ length ends
-IsEnd bytes ends room names count (Some TooFewCodes) = room < length ends
+IsEnd bytes ends room names count (Some TooFewCodes) = (room < length ends) × (count ≡ 0)
 IsEnd bytes ends room names count (Some fault) = (count < length ends)
     × (IsNoText bytes (start_of ends count) (slice_index ends count) fault ⊎ IsRefused names (text_of bytes ends count) fault)
 

@@ -1,3 +1,4 @@
 pub mod Codes
 pub mod Dictionary
 pub mod Kept
+pub mod Seed

@@ -8,20 +8,23 @@ use crate::fault::Fault;
 use crate::handle::{Dictionary, Handle, Parts};
 use crate::kept::Kept;
 use crate::names::Progress;
+use crate::seed::Seed;
 use std::alloc::{AllocError, Global};
 use std::mem::replace;
 use std::ptr::null_mut;
 
 impl Dictionary {
-    /// Makes a dictionary without names.
-    pub fn new(alloc: Global) -> Dictionary
-        ensures { result.handle.value ≡ None }
+    /// Makes a dictionary without names, with this seed.
+    pub fn new(alloc: Global, seed: Seed) -> Dictionary
+        ensures empty { result.handle.value ≡ None }
+        ensures seed { result.seed ≡ seed }
     {
         let ptr = null_mut();
         let handle = Handle::none(ptr, alloc);
         Dictionary {
             handle,
             kept: false,
+            seed,
         }
     }
 
@@ -30,9 +33,11 @@ impl Dictionary {
         ensures taken { MatchOption result (self.old.handle.value ≡ None)
             (λ names. self.old.handle.value ≡ Some names.value) }
         ensures empty { self.new.handle.value ≡ None }
+        ensures seed { self.new.seed ≡ self.old.seed }
     {
-        let old = replace(self, Dictionary::new(alloc));
-        let Dictionary { handle, kept } = old;
+        let seed = self.seed;
+        let old = replace(self, Dictionary::new(alloc, seed));
+        let Dictionary { handle, kept, .. } = old;
         if !kept {
             return None;
         }
@@ -41,11 +46,14 @@ impl Dictionary {
 
     /// Puts names in.
     pub fn restore(&mut self, names: Box<Kept>)
-        ensures { self.new.handle.value ≡ Some names.value }
+        ensures names { self.new.handle.value ≡ Some names.value }
+        ensures seed { self.new.seed ≡ self.old.seed }
     {
+        let seed = self.seed;
         *self = Dictionary {
             handle: Handle::of_parts(Parts::of(names)),
             kept: true,
+            seed,
         };
     }
 
@@ -57,9 +65,10 @@ impl Dictionary {
         ensures names { IfOk result (λ names. names.value ≡ names_of self.old) }
         ensures empty { OnErr result (names_of self.old ≡ []) }
         ensures emptied { self.new.handle.value ≡ None }
+        ensures seed { self.new.seed ≡ self.old.seed }
     {
         let Some(names) = self.take(alloc) else {
-            let Ok(made) = Box::new(alloc, Kept::new(alloc)) else {
+            let Ok(made) = Box::new(alloc, Kept::new(alloc, self.seed)) else {
                 return Err(AllocError);
             };
             return Ok(made);
@@ -69,7 +78,8 @@ impl Dictionary {
 
     /// Writes the code of a text to `code`. A new text is copied, and has the next code.
     pub fn put(&mut self, alloc: Global, text: &[u8], code: &mut usize) -> Option<Fault>
-        ensures { IsPutEnd text.now (names_of self.old) (names_of self.new) code.old code.new result }
+        ensures end { IsPutEnd text.now (names_of self.old) (names_of self.new) code.old code.new result }
+        ensures seed { self.new.seed ≡ self.old.seed }
     {
         let Ok(text) = str::from_utf8(text) else {
             return Some(Fault::NotUtf8);
@@ -102,6 +112,7 @@ impl Dictionary {
         ensures within { (result.done ≤ length ends.now) × (result.done ≤ length codes.old) }
         ensures ended { IsEnd bytes.now ends.now (length codes.old) (names_of self.new)
             result.done result.fault }
+        ensures seed { self.new.seed ≡ self.old.seed }
     {
         if ends.len() == 0 {
             return Progress {
@@ -124,6 +135,7 @@ impl Dictionary {
     pub fn find(&mut self, alloc: Global, text: &[u8]) -> Option<usize>
         ensures found { IsFound text.now (names_of self.old) result }
         ensures same { names_of self.new ≡ names_of self.old }
+        ensures seed { self.new.seed ≡ self.old.seed }
     {
         let Ok(text) = str::from_utf8(text) else {
             return None;
@@ -140,6 +152,7 @@ impl Dictionary {
     pub fn at(&mut self, alloc: Global, code: usize) -> Option<(*const u8, usize)>
         ensures read { IsRead (names_of self.old) code result }
         ensures same { names_of self.new ≡ names_of self.old }
+        ensures seed { self.new.seed ≡ self.old.seed }
     {
         let Some(names) = self.take(alloc) else {
             return None;
@@ -153,6 +166,7 @@ impl Dictionary {
     pub fn len(&mut self, alloc: Global) -> usize
         ensures length { result ≡ length (names_of self.old) }
         ensures same { names_of self.new ≡ names_of self.old }
+        ensures seed { self.new.seed ≡ self.old.seed }
     {
         let Some(names) = self.take(alloc) else {
             return 0;

@@ -13,7 +13,7 @@ pub enum Fault {
     EndsOutOfOrder,
     /// There are 2^32 - 1 texts, and this one is new.
     Full,
-    /// The caller's array of codes has fewer elements than there are texts.
+    /// The array of codes has fewer elements than there are texts, so no text was coded.
     TooFewCodes,
 }
 

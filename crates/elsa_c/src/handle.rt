@@ -2,6 +2,7 @@
 ghost use Rattle.std.specs.Prelude.{◌≡◌, ℕ, List, Option, Some, None, is_some, true};
 
 use crate::kept::Kept;
+use crate::seed::Seed;
 use std::alloc::{Allocator, Global};
 use std::marker::Model;
 
@@ -76,11 +77,13 @@ impl Handle {
 
 unsafe impl Send for Handle {}
 
-/// Names that C keeps: the pointer to them, if there are any. A zeroed dictionary has no names.
+/// Names that C keeps: the pointer to them, if there are any, and the seed of their hash. A zeroed
+/// dictionary has no names. C may set the seed of one that has none.
 #[repr(C)]
 #[derive(Drop)]
 pub struct Dictionary {
     pub handle: Handle,
     pub kept: bool,
+    pub seed: Seed,
     pub ghost agrees: { kept ≡ is_some handle.value },
 }

@@ -6,15 +6,16 @@ ghost use Rattle.elsa_c.specs.Codes.{IsEnd, IsRead, IsRefused, PutsAll, text_of}
 
 use crate::fault::Fault;
 use crate::names::{Names, Progress};
+use crate::seed::Seed;
+use elsa_hash::seeded::SeededState;
 use std::alloc::Global;
-use std::hash::{BuildHasherDefault, FoldHasher};
 use std::marker::Model;
 use std::ptr::{from_ref, null};
 
 /// The names of a dictionary. A handle of C points to it.
 #[derive(Drop)]
 pub struct Kept {
-    pub(crate) names: Names<BuildHasherDefault<FoldHasher>>,
+    pub(crate) names: Names<SeededState>,
 }
 
 impl Model for Kept {
@@ -26,12 +27,13 @@ impl Model for Kept {
 }
 
 impl Kept {
-    /// Makes names without a text. It allocates nothing.
-    pub fn new(alloc: Global) -> Self
+    /// Makes names without a text, which it will find by a hash with this seed. It allocates
+    /// nothing.
+    pub fn new(alloc: Global, seed: Seed) -> Self
         ensures { result ≡ [] }
     {
         Kept {
-            names: Names::new(alloc, BuildHasherDefault::new()),
+            names: Names::new(alloc, seed.state()),
         }
     }
 

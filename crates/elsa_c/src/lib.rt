@@ -2,7 +2,7 @@
 //!
 //! Every call is total: any bytes, ends and codes may be passed, and a failure is a number
 //! ([`Fault`](fault::Fault)). What C owes is that each pointer is valid for its length, and that a
-//! dictionary is zeroed before its first call and used by one thread at a time.
+//! dictionary is zeroed before its first call, but for its seed, and used by one thread at a time.
 #![tactic(auto)]
 
 ghost use Rattle.std.specs.Prelude.{◌≡◌, ◌≤◌, ℕ, List, [], length, slice_get, false};
@@ -16,10 +16,12 @@ mod fault;
 mod handle;
 mod kept;
 mod names;
+mod seed;
 
 use fault::status_of;
 use handle::Dictionary;
 use kept::Kept;
+use seed::Seed;
 use std::alloc::Global;
 
 /// Writes the code of each text of a block to `codes`: equal texts have equal codes, from 0 on in
@@ -27,7 +29,8 @@ use std::alloc::Global;
 /// ends.
 ///
 /// `done` receives the number of texts that have their codes. The codes after them are unchanged.
-/// Returns 0 if all texts have theirs, and else the number of a fault.
+/// `seed` is the secret of the hash. Returns 0 if all texts have theirs, and else the number of a
+/// fault.
 ///
 /// # Cost
 /// `O(1)` hashed for each text, and a copy of each new one, which is freed at the end.
@@ -38,6 +41,7 @@ pub extern "C" fn elsa_factorize(
     ends: &[usize],
     codes: &mut [usize],
     done: &mut usize,
+    seed: &Seed,
 ) -> u32
     ensures factorized { IsFactorized (text_of bytes.now ends.now) done.new codes.old codes.new }
     ensures length { length codes.new ≡ length codes.old }
@@ -45,7 +49,7 @@ pub extern "C" fn elsa_factorize(
     ensures status { (names : List (List ℕ)) × IsStatus bytes.now ends.now (length codes.old) names
         done.new result }
 {
-    let mut kept = Kept::new(alloc);
+    let mut kept = Kept::new(alloc, *seed);
     let progress = kept.put_all(bytes, ends, codes);
     *done = progress.done;
     progress.status()
@@ -84,8 +88,9 @@ pub extern "C" fn elsa_dictionary_put(
     text: &[u8],
     code: &mut usize,
 ) -> u32
-    ensures { IsPutStatus text.now (names_of dictionary.old) (names_of dictionary.new)
+    ensures status { IsPutStatus text.now (names_of dictionary.old) (names_of dictionary.new)
         code.old code.new result }
+    ensures seed { dictionary.new.seed ≡ dictionary.old.seed }
 {
     let fault = dictionary.put(alloc, text, code);
     status_of(fault)
@@ -112,6 +117,7 @@ pub extern "C" fn elsa_dictionary_put_many(
     ensures within { done.new ≤ length ends.now }
     ensures status { IsStatus bytes.now ends.now (length codes.old) (names_of dictionary.new)
         done.new result }
+    ensures seed { dictionary.new.seed ≡ dictionary.old.seed }
 {
     let progress = dictionary.put_many(alloc, bytes, ends, codes);
     *done = progress.done;
@@ -129,6 +135,7 @@ pub extern "C" fn elsa_dictionary_find(
     ensures found { IsFound text.now (names_of dictionary.old) (found_code result code.new) }
     ensures absent { result ≡ false → code.new ≡ code.old }
     ensures same { names_of dictionary.new ≡ names_of dictionary.old }
+    ensures seed { dictionary.new.seed ≡ dictionary.old.seed }
 {
     let Some(found) = dictionary.find(alloc, text) else {
         return false;
@@ -151,6 +158,7 @@ pub extern "C" fn elsa_dictionary_at(
         ≡ option_map length (slice_get (names_of dictionary.old) code) }
     ensures absent { result ≡ false → len.new ≡ len.old }
     ensures same { names_of dictionary.new ≡ names_of dictionary.old }
+    ensures seed { dictionary.new.seed ≡ dictionary.old.seed }
 {
     let Some((at, count)) = dictionary.at(alloc, code) else {
         return false;
@@ -165,6 +173,7 @@ pub extern "C" fn elsa_dictionary_at(
 pub extern "C" fn elsa_dictionary_len(alloc: Global, dictionary: &mut Dictionary) -> usize
     ensures length { result ≡ length (names_of dictionary.old) }
     ensures same { names_of dictionary.new ≡ names_of dictionary.old }
+    ensures seed { dictionary.new.seed ≡ dictionary.old.seed }
 {
     dictionary.len(alloc)
 }
@@ -172,7 +181,8 @@ pub extern "C" fn elsa_dictionary_len(alloc: Global, dictionary: &mut Dictionary
 /// Frees all texts. The dictionary then has none, and may be used again or freed again.
 #[unsafe(no_mangle)]
 pub extern "C" fn elsa_dictionary_free(alloc: Global, dictionary: &mut Dictionary)
-    ensures { names_of dictionary.new ≡ [] }
+    ensures empty { names_of dictionary.new ≡ [] }
+    ensures seed { dictionary.new.seed ≡ dictionary.old.seed }
 {
     let _names = dictionary.take(alloc);
 }

@@ -46,9 +46,9 @@ impl<'a> Resource<'a> {
 #[derive(Clone, Copy, Debug, PartialEq, Eq)]
 pub enum LoadFault {
     /// The loader found no text. Nothing has changed.
-    NotFound,
+    NotFound = 1,
     /// An allocation failed. The resources are unchanged, and the path may have gained its text.
-    Memory,
+    Memory = 2,
 }
 
 impl fmt::Display for LoadFault {

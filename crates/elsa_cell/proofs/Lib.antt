@@ -1,3 +1,4 @@
 pub mod EntryLemmas
 pub mod OrderLemmas
 pub mod WalkLemmas
+pub mod ScanLemmas

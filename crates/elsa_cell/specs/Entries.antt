@@ -1,5 +1,5 @@
 -- What a handle of a map has observed: entries of a key and a value, each key once.
-use Rattle.std.specs.Prelude.{ℕ, ◌≡◌, Bool, true, false, Some, None, List, [], ◌∷◌, ◌++◌, length, map, position}
+use Rattle.std.specs.Prelude.{ℕ, ◌≡◌, ◌-◌, ◌^◌, ◌≤◌, ◌⊎◌, Bool, true, false, Some, None, List, [], ◌∷◌, ◌++◌, length, map, position}
 use Rattle.std.specs.Map.{lookup}
 use mathlib.Core.List.{IsPrefix}
 use Rattle.elsa_arena.specs.Observed.{IsStateOf}
@@ -40,11 +40,17 @@ module _ {K V : Type 0} where
   abbrev pub InsertsOnce : (K → K → Bool) → List (Entry K V) → List (Entry K V) → K → V → V → ℕ → Bool → Type 0
   InsertsOnce equal before after key value kept index is_new = (all : List (Entry K V)) × IsPrefix before all × Inserts equal all after key value kept index is_new
 
+  -- The effect of a look-up that inserts an absent key with what was made: the entry that the test
+  -- finds has the value and the index, or else an entry that was made was inserted.
+  abbrev pub GetsOrInserts : (K → K → Bool) → (K → Bool) → (K → V → Type 0) → List (Entry K V) → List (Entry K V) → V → ℕ → Bool → Type 0
+  GetsOrInserts equal test made before after kept index is_new = ((is_new ≡ false) × (lookup test (pairs_of after) ≡ Some kept) × (position test (map key_of after) ≡ Some index)) ⊎ ((k : K) × (v : V) × made k v × InsertsOnce equal before after k v kept index is_new)
+
 -- Keys as entries without values.
 abbrev pub alone : {K : Type 0} → List K → List (Entry K (Unit {0}))
 alone [] = []
 alone (k ∷ ks) = record { key = k; value = tt {0} } ∷ alone ks
 
--- The state of a map with these buffers: that of the list of its entries, and a table for their keys.
+-- The state of a map with these buffers: that of the list of its entries, and a table for their keys,
+-- which has 32 bits for an index plus 1.
 abbrev pub IsMapOf : {K V A T : Type 0} → (T → List K → Type 0) → List ℕ → State (Entry K V) A → T → Type 0
-IsMapOf is_for buffers list table = IsStateOf buffers list × is_for table (map key_of list.prefix.items)
+IsMapOf is_for buffers list table = IsStateOf buffers list × is_for table (map key_of list.prefix.items) × (length list.prefix.items ≤ 2 ^ 32 - 1)

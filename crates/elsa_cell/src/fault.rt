@@ -1,5 +1,5 @@
 //! Why a call on a map that grows through `&self` failed. The errors of all collections are
-//! [`InUse`](elsa_arena::fault::InUse) and [`CellFault`].
+//! [`InUse`](elsa_arena::fault::InUse), [`CellFault`] and [`Fault`](elsa_arena::fault::Fault).
 use elsa_arena::fault::CellFault;
 use std::error::Error;
 use std::fmt;

@@ -69,9 +69,25 @@ impl<K: Eq + Hash + Drop, V: Drop, A: Allocator + Copy> FrozenMap<
     /// Fails if an allocation fails.
     ///
     /// # Allocates
-    /// The directory of its buffers.
+    /// The directory of its buffers, and a block for what insertions change.
     pub fn new(alloc: A) -> Result<Self, AllocError> {
         FrozenMap::with_hasher(alloc, BuildHasherDefault::default())
+    }
+
+    /// Makes an empty map with room for `count` entries, as [`reserve`](Frozen::reserve) makes it.
+    ///
+    /// # Errors
+    /// Fails if an allocation fails, or if `count` is above the greatest number of entries,
+    /// `2^32 - 1`.
+    ///
+    /// # Allocates
+    /// As [`new`](Self::new) and [`reserve`](Frozen::reserve) do.
+    pub fn with_capacity(alloc: A, count: usize) -> Result<Self, AllocError> {
+        let map = FrozenMap::new(alloc)?;
+        match map.reserve(count) {
+            Ok(()) => Ok(map),
+            Err(_) => Err(AllocError),
+        }
     }
 }
 
@@ -87,7 +103,7 @@ impl<K: Eq + Hash + Drop, V: Drop, S: BuildHasher + Drop, A: Allocator + Copy> F
     /// Fails if an allocation fails.
     ///
     /// # Allocates
-    /// The directory of its buffers.
+    /// The directory of its buffers, and a block for what insertions change.
     pub fn with_hasher(alloc: A, hash_builder: S) -> Result<Self, AllocError> {
         let table = PlaceTable::new(alloc);
         Frozen::over(
@@ -138,6 +154,10 @@ impl<K: Eq + Hash, S: BuildHasher + Drop, A: Allocator + Copy> Places<K> for Has
         })
     }
 
+    fn reserve_more(&mut self, more: usize) -> Result<(), AllocError> {
+        self.table.reserve_places(more)
+    }
+
     #[inline(always)]
     fn add(&mut self, end: Missing) {
         self.table.add(end.hash, end.end);
@@ -159,5 +179,10 @@ impl<K: Eq + Hash, Q: Query<K>, S: BuildHasher + Drop, A: Allocator + Copy> Seek
             Ok(index) => Some(index),
             Err(_) => None,
         }
+    }
+
+    #[inline(always)]
+    fn matches(&self, key: &K) -> bool {
+        self.finds(key)
     }
 }

@@ -1,11 +1,13 @@
 //! [`FrozenIndexSet`]: a map whose values are `()`.
-ghost use Rattle.std.specs.Prelude.{◌≡◌, ◌⊎◌, true, map, IfErr, IfOk, IfSome};
+ghost use Rattle.std.specs.Prelude.{◌≡◌, ◌⊎◌, ◌-◌, ◌<◌, ◌≤◌, ◌^◌, true, length, map, IfErr, IfOk, IfSome};
 ghost use mathlib.Core.List.{IsPrefix};
+ghost use Rattle.elsa_arena.specs.Faults.{GivesBack};
 ghost use Rattle.elsa_cell.specs.Entries.{key_of};
 
 use crate::map::{Entry, FrozenMap, MapHandle, MapHold};
-use elsa_arena::fault::{CellFault, InUse};
-use elsa_arena::observed::Seen;
+use crate::map_state::MOST;
+use elsa_arena::fault::{CellFault, Fault, InUse};
+use elsa_arena::observed::{Iter, Seen};
 use elsa_buckets::query::Query;
 use elsa_tables::Inserted;
 use std::alloc::{AllocError, Allocator, Global};
@@ -17,7 +19,8 @@ use std::marker::Model;
 /// buffers, which no other set has.
 ///
 /// It is a [`FrozenMap`] from items to `()`: a [`MapHandle`] states which items it has observed,
-/// and a [`MapHold`] all of them. The calls on the set itself are short forms: each makes a guard.
+/// and a [`MapHold`] all of them. The calls on the set itself are short forms, which state less.
+/// Reads never fail.
 #[derive(Drop)]
 pub struct FrozenIndexSet<
     T: Eq + Hash + Drop,
@@ -50,9 +53,23 @@ impl<T: Eq + Hash + Drop, A: Allocator + Copy> FrozenIndexSet<
     /// Fails if an allocation fails.
     ///
     /// # Allocates
-    /// The directory of its buffers.
+    /// The directory of its buffers, and a block for what insertions change.
     pub fn new(alloc: A) -> Result<Self, AllocError> {
         FrozenIndexSet::with_hasher(alloc, BuildHasherDefault::default())
+    }
+
+    /// Makes an empty set with room for `count` items, as [`reserve`](Self::reserve) makes it.
+    ///
+    /// # Errors
+    /// Fails if an allocation fails, or if `count` is above the greatest number of items,
+    /// `2^32 - 1`.
+    ///
+    /// # Allocates
+    /// As [`new`](Self::new) and [`reserve`](Self::reserve) do.
+    pub fn with_capacity(alloc: A, count: usize) -> Result<Self, AllocError> {
+        Ok(FrozenIndexSet {
+            map: FrozenMap::with_capacity(alloc, count)?,
+        })
     }
 }
 
@@ -63,7 +80,7 @@ impl<T: Eq + Hash + Drop, S: BuildHasher + Drop, A: Allocator + Copy> FrozenInde
     /// Fails if an allocation fails.
     ///
     /// # Allocates
-    /// The directory of its buffers.
+    /// The directory of its buffers, and a block for what insertions change.
     pub fn with_hasher(alloc: A, hash_builder: S) -> Result<Self, AllocError> {
         Ok(FrozenIndexSet {
             map: FrozenMap::with_hasher(alloc, hash_builder)?,
@@ -73,20 +90,16 @@ impl<T: Eq + Hash + Drop, S: BuildHasher + Drop, A: Allocator + Copy> FrozenInde
     /// Makes a handle that has observed all items, each as the key of an entry. It allocates
     /// nothing.
     ///
-    /// # Errors
-    /// Fails with [`InUse`] if the call is made inside another call of the set, or while a
-    /// [`MapHold`] of it exists.
-    ///
     /// # Cost
     /// `O(1)`.
-    pub fn handle(&self) -> Result<MapHandle<'_, T, (), S, A>, InUse>
-        ensures same_vector { IfOk result (λ h. h.vector ≡ self.now) }
+    pub fn handle(&self) -> MapHandle<'_, T, (), S, A>
+        ensures same_vector { result.vector ≡ self.now }
     {
         self.map.handle()
     }
 
-    /// Locks the set for one caller. Until the guard is dropped, each other call fails with
-    /// [`InUse`], except reads of what a handle has observed. It allocates nothing.
+    /// Locks the set for one caller: until the guard is dropped, each other insertion fails with
+    /// [`InUse`], and a look-up by item compares one item after the other. It allocates nothing.
     ///
     /// # Errors
     /// Fails with [`InUse`] if the call is made inside another call of the set, or while another
@@ -104,9 +117,10 @@ impl<T: Eq + Hash + Drop, S: BuildHasher + Drop, A: Allocator + Copy> FrozenInde
     /// the set then has: [`insert_new`](Self::insert_new) with the item alone.
     ///
     /// # Errors
-    /// Fails with [`CellFault::Memory`] if an allocation fails, or if the set has the greatest
-    /// number of items, `2^32 - 1`, and with [`CellFault::InUse`] if the call is made inside
-    /// another call of the set, or while a [`MapHold`] of it exists. Both contain `item`.
+    /// Fails with [`CellFault::Memory`] if an allocation fails, with [`CellFault::Full`] if the set
+    /// has the greatest number of items, `2^32 - 1`, and with [`CellFault::InUse`] if the call is
+    /// made inside another call of the set, or while a [`MapHold`] of it exists. Each contains
+    /// `item`.
     ///
     /// # Allocates
     /// As [`FrozenIndexMap::insert`](crate::FrozenIndexMap::insert) does.
@@ -115,8 +129,7 @@ impl<T: Eq + Hash + Drop, S: BuildHasher + Drop, A: Allocator + Copy> FrozenInde
     /// One hash and one search.
     pub fn insert(&self, item: T) -> Result<&T, CellFault<T>>
         ensures equal { IfOk result (λ r. T.eq item r.now ≡ true) }
-        ensures given_back { IfErr result (λ f. (f ≡ CellFault.Memory item)
-            ⊎ (f ≡ CellFault.InUse item)) }
+        ensures given_back { IfErr result (GivesBack item) }
     {
         let inserted = self.insert_new(item)?;
         Ok(inserted.value)
@@ -135,8 +148,8 @@ impl<T: Eq + Hash + Drop, S: BuildHasher + Drop, A: Allocator + Copy> FrozenInde
     /// One hash and one search.
     pub fn insert_full(&self, item: T) -> Result<(usize, &T), CellFault<T>>
         ensures equal { IfOk result (λ r. T.eq item r.1.now ≡ true) }
-        ensures given_back { IfErr result (λ f. (f ≡ CellFault.Memory item)
-            ⊎ (f ≡ CellFault.InUse item)) }
+        ensures limit { IfOk result (λ r. r.0 < 2 ^ 32 - 1) }
+        ensures given_back { IfErr result (GivesBack item) }
     {
         let inserted = self.insert_new(item)?;
         Ok((inserted.index, inserted.value))
@@ -157,8 +170,8 @@ impl<T: Eq + Hash + Drop, S: BuildHasher + Drop, A: Allocator + Copy> FrozenInde
     pub fn insert_new(&self, item: T) -> Result<Inserted<&T, usize>, CellFault<T>>
         ensures equal { IfOk result (λ r. T.eq item r.value.now ≡ true) }
         ensures own_value { IfOk result (λ r. r.is_new ≡ true → r.value.now ≡ item) }
-        ensures given_back { IfErr result (λ f. (f ≡ CellFault.Memory item)
-            ⊎ (f ≡ CellFault.InUse item)) }
+        ensures limit { IfOk result (λ r. r.index < 2 ^ 32 - 1) }
+        ensures given_back { IfErr result (GivesBack item) }
     {
         let Ok(mut hold) = self.hold() else {
             return Err(CellFault::InUse(item));
@@ -174,7 +187,11 @@ impl<T: Eq + Hash + Drop, S: BuildHasher + Drop, A: Allocator + Copy> FrozenInde
                     key: item,
                     value: _,
                 } = entry;
-                Err(CellFault::Memory(item))
+                Err(if hold.len() < MOST {
+                    CellFault::Memory(item)
+                } else {
+                    CellFault::Full(item)
+                })
             }
         }
     }
@@ -182,55 +199,49 @@ impl<T: Eq + Hash + Drop, S: BuildHasher + Drop, A: Allocator + Copy> FrozenInde
     /// Returns a reference to the item that `query` finds, or `None` if the set has no such item.
     /// It allocates nothing.
     ///
-    /// # Errors
-    /// Fails with [`InUse`] if the call is made inside another call of the set, or while a
-    /// [`MapHold`] of it exists.
+    /// # Cost
+    /// One hash and one search. Inside another call of the set, or while a guard exists, one
+    /// comparison for each item: `O(n)`.
+    pub fn get<Q: Query<T>>(&self, query: Q) -> Option<&T>
+        ensures found_key { IfSome result (λ r. Q.finds query r.now ≡ true) }
+    {
+        let (_, item, _) = self.map.get_full(query)?;
+        Some(item)
+    }
+
+    /// Returns whether the set has an item that `query` finds. It allocates nothing.
     ///
     /// # Cost
-    /// One hash and one search.
-    pub fn get<Q: Query<T>>(&self, query: Q) -> Result<Option<&T>, InUse>
-        ensures found_key { IfOk result (λ found. IfSome found (λ r.
-            Q.finds query r.now ≡ true)) }
+    /// As [`get`](Self::get).
+    pub fn contains<Q: Query<T>>(&self, query: Q) -> bool
+        ensures found_key { result ≡ true → (item : T) × (Q.finds query item ≡ true) }
     {
-        match self.map.get_full(query)? {
-            Some((_, item, _)) => Ok(Some(item)),
-            None => Ok(None),
-        }
+        self.map.contains_key(query)
     }
 
     /// Returns the index of the item that `query` finds and a reference to it, or `None` if the set
     /// has no such item. It allocates nothing.
     ///
-    /// # Errors
-    /// Fails with [`InUse`] if the call is made inside another call of the set, or while a
-    /// [`MapHold`] of it exists.
-    ///
     /// # Cost
-    /// One hash and one search.
-    pub fn get_full<Q: Query<T>>(&self, query: Q) -> Result<Option<(usize, &T)>, InUse>
-        ensures found_key { IfOk result (λ found. IfSome found (λ r.
-            Q.finds query r.1.now ≡ true)) }
+    /// As [`get`](Self::get).
+    pub fn get_full<Q: Query<T>>(&self, query: Q) -> Option<(usize, &T)>
+        ensures found_key { IfSome result (λ r. Q.finds query r.1.now ≡ true) }
+        ensures limit { IfSome result (λ r. r.0 < 2 ^ 32 - 1) }
     {
-        match self.map.get_full(query)? {
-            Some((index, item, _)) => Ok(Some((index, item))),
-            None => Ok(None),
-        }
+        let (index, item, _) = self.map.get_full(query)?;
+        Some((index, item))
     }
 
     /// Returns a reference to the item at an index, or `None` if the index is at or above the
     /// number of items. It allocates nothing.
     ///
-    /// # Errors
-    /// Fails with [`InUse`] if the call is made inside another call of the set, or while a
-    /// [`MapHold`] of it exists.
-    ///
     /// # Cost
     /// `O(1)`.
-    pub fn get_index(&self, index: usize) -> Result<Option<&T>, InUse> {
-        match self.map.get_index(index)? {
-            Some((item, _)) => Ok(Some(item)),
-            None => Ok(None),
-        }
+    pub fn get_index(&self, index: usize) -> Option<&T>
+        ensures limit { IfSome result (λ _. index < 2 ^ 32 - 1) }
+    {
+        let (item, _) = self.map.get_index(index)?;
+        Some(item)
     }
 
     /// Moves all items into a vector of `alloc`, in the order of insertion, and drops none. `seen`
@@ -261,18 +272,54 @@ impl<T: Eq + Hash + Drop, S: BuildHasher + Drop, A: Allocator + Copy> FrozenInde
             Ok(items) => Ok(items),
             Err(CellFault::Memory(map)) => Err(CellFault::Memory(FrozenIndexSet { map })),
             Err(CellFault::InUse(map)) => Err(CellFault::InUse(FrozenIndexSet { map })),
+            Err(CellFault::Full(map)) => Err(CellFault::Full(FrozenIndexSet { map })),
         }
     }
 
     /// Returns the number of items. It allocates nothing.
     ///
-    /// # Errors
-    /// Fails with [`InUse`] if the call is made inside another call of the set, or while a
-    /// [`MapHold`] of it exists.
+    /// # Cost
+    /// `O(1)`.
+    pub fn len(&self) -> usize
+        ensures limit { result ≤ 2 ^ 32 - 1 }
+    {
+        self.map.len()
+    }
+
+    /// Returns whether the set has no item. It allocates nothing.
     ///
     /// # Cost
     /// `O(1)`.
-    pub fn len(&self) -> Result<usize, InUse> {
-        self.map.len()
+    pub fn is_empty(&self) -> bool {
+        self.map.is_empty()
+    }
+
+    /// Returns whether the set has the greatest number of items, `2^32 - 1`. It allocates nothing.
+    ///
+    /// # Cost
+    /// `O(1)`.
+    pub fn is_full(&self) -> bool {
+        self.map.is_full()
+    }
+
+    /// Reserves room for `additional` more items, as [`FrozenMap::reserve`](crate::Frozen::reserve)
+    /// does for entries.
+    ///
+    /// # Errors
+    /// Fails with a [`Fault`], as [`FrozenMap::reserve`](crate::Frozen::reserve) does.
+    pub fn reserve(&self, additional: usize) -> Result<(), Fault> {
+        self.map.reserve(additional)
+    }
+
+    /// Returns an iterator over the items so far, each as the key of an entry, in the order of
+    /// their insertion and each once. Others may be inserted while it runs; they are not among its
+    /// items. It allocates nothing.
+    ///
+    /// # Cost
+    /// `O(1)`, and so is each item.
+    pub fn iter(&self) -> Iter<'_, Entry<T, ()>, A>
+        ensures limit { length result ≤ 2 ^ 32 - 1 }
+    {
+        self.map.iter()
     }
 }

@@ -11,8 +11,9 @@ mod map_hold;
 mod map_state;
 mod ordered;
 mod places;
+mod scan;
 
-pub use elsa_arena::fault::{CellFault, InUse};
+pub use elsa_arena::fault::{CellFault, Fault, InUse};
 pub use elsa_arena::observed::{Iter, Observed, Seen};
 pub use elsa_arena::vec::{FrozenVec, Handle, Hold};
 pub use elsa_arena::{observed, vec};

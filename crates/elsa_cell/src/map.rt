@@ -1,21 +1,27 @@
 //! [`Frozen`]: a map that grows through `&self`, over any table that finds its keys.
-ghost use Rattle.std.specs.Prelude.{◌≡◌, ◌⊎◌, [], Bool, List, true, Some, map, slice_get, IfErr, IfOk, IfSome};
+ghost use Rattle.std.specs.Prelude.{◌≡◌, ◌⊎◌, ◌-◌, ◌<◌, ◌≤◌, ◌^◌, [], Bool, List, true, Err, Ok, Some, length, map, position, slice_get, IfErr, IfOk, IfSome};
+ghost use Rattle.std.specs.Fn.{FnOnceReturnsAt};
 ghost use Rattle.std.specs.Map.{lookup};
 ghost use Rattle.std.specs.Option.{option_map};
 ghost use mathlib.Core.List.{IsPrefix};
+ghost use Rattle.elsa_arena.specs.Faults.{GivesBack};
+ghost use Rattle.elsa_arena.specs.declared.fault.Fault.{Fault};
 ghost use Rattle.elsa_cell.specs.Entries.{IsMapOf, key_of, pairs_of};
 ghost use Rattle.elsa_cell.specs.declared.map.Entry.{Entry};
 
+use crate::fault::TryFault;
 pub use crate::hashed::{FrozenIndexMap, FrozenMap, MapHandle, MapHold};
 use crate::map_handle::FrozenHandle;
 use crate::map_hold::FrozenHold;
-use crate::map_state::{Keys, MapState, Pairs};
+use crate::map_state::{Keys, MOST, MapState, OfMap, Pairs, Parked, park};
 pub use crate::ordered::{BTreeHandle, BTreeHold, FrozenBTreeMap};
 use crate::places::{Places, Seeks};
+use crate::scan::scan;
 use boxcar::tag::Tag;
-use elsa_arena::fault::{CellFault, InUse};
-use elsa_arena::observed::{Observed, Seen};
+use elsa_arena::fault::{CellFault, Fault, InUse};
+use elsa_arena::observed::{Iter, Observed, Seen};
 use elsa_arena::shared::{OfSlots, Shared};
+use elsa_arena::shown::{Shown, observed_since};
 use elsa_arena::state::State;
 use elsa_arena::views::is_evidence_behind;
 use elsa_slots::slots::Slots;
@@ -59,6 +65,28 @@ pub(crate) fn pair_at<'m, K, V, A: Allocator + Copy>(
     Some((entry.key(), entry.value()))
 }
 
+/// Returns the index of the observed entry whose key `query` finds, and a reference to it, by a
+/// walk over all: for a read inside another call that has the table.
+#[cold]
+#[tactic(auto, using(crate::proofs::EntryLemmas::passes_at, crate::proofs::EntryLemmas::within_at, crate::proofs::EntryLemmas::absent_at, crate::proofs::ScanLemmas::length_keys))]
+pub(crate) fn find_beside<'m, K, V, T: Places<K>, Q: Seeks<K, T>, A: Allocator + Copy>(
+    entries: &Observed<'m, Entry<K, V>, A>,
+    query: Q,
+) -> Option<(usize, &'m Entry<K, V>)>
+    requires limit { length entries.now.seen ≤ 2 ^ 32 - 1 }
+    ensures index { option_map (λ f. f.0) result
+        ≡ position (Q.finds query) (map key_of entries.now.seen) }
+    ensures entry { IfSome result (λ f. slice_get entries.now.seen f.0 ≡ Some f.1.now) }
+    ensures value { option_map (λ f. f.1.now.value) result
+        ≡ lookup (Q.finds query) (pairs_of entries.now.seen) }
+    ensures found_key { IfSome result (λ f. Q.finds query (key_of f.1.now) ≡ true) }
+    ensures limit { IfSome result (λ f. f.0 < 2 ^ 32 - 1) }
+{
+    let count = entries.len();
+    let index = scan::<K, T, Q, Observed<'m, Entry<K, V>, A>>(entries, count, query)?;
+    Some((index, entries.item(index)))
+}
+
 /// A map that grows through `&self`, owns its keys and values, and keeps the first value of a key:
 /// references to its values are valid as long as the map. Contracts see the names of its buffers,
 /// which no other map has.
@@ -67,14 +95,15 @@ pub(crate) fn pair_at<'m, K, V, A: Allocator + Copy>(
 /// [`FrozenBTreeMap`](crate::FrozenBTreeMap) over an ordered one.
 ///
 /// A [`FrozenHandle`] states which entries it has observed, and each of its calls which values come
-/// back. The calls on the map itself are short forms: each makes a handle.
+/// back. The calls on the map itself are short forms, which state less. Reads never fail.
 ///
 /// Its entries keep the order of their insertion, and each has an index: it is also the map that
 /// [`FrozenIndexMap`](crate::FrozenIndexMap) names. It has at most `2^32 - 1` entries. It drops
 /// each entry once, in that order: its key, then its value.
 pub struct Frozen<K: Drop, V, T: Places<K> + Drop, A: Allocator + Copy = Global> {
     slots: Slots<Entry<K, V>, A>,
-    cell: Shared<MapState<K, V, T, A>>,
+    cell: Shared<Parked<K, V, T, A>>,
+    shown: Shown<Entry<K, V>, A, OfMap>,
 }
 
 impl<K: Drop, V, T: Places<K> + Drop, A: Allocator + Copy> Model for Frozen<K, V, T, A> {
@@ -84,15 +113,16 @@ impl<K: Drop, V, T: Places<K> + Drop, A: Allocator + Copy> Model for Frozen<K, V
 
     ghost view = { λ m. m.slots };
 
-    ghost invariant = { λ m. m.cell.numbers ≡ m.slots };
+    ghost invariant = { λ m. (m.cell.numbers ≡ m.slots) × (m.shown ≡ m.slots) };
 }
 
 impl<K: Drop, V: Drop, T: Places<K> + Drop, A: Allocator + Copy> Drop for Frozen<K, V, T, A> {
     fn drop(self) {
-        let Self { slots, cell } = self;
+        let Self { slots, cell, shown } = self;
+        drop(shown);
         match cell.into_state() {
-            Some(state) => {
-                let MapState { list, table } = state;
+            Some(Parked { state }) => {
+                let MapState { list, table } = Box::into_inner(state);
                 list.end(slots);
                 drop(table);
             }
@@ -111,18 +141,19 @@ impl<K: Drop, V: Drop, T: Places<K> + Drop, A: Allocator + Copy> Frozen<K, V, T,
     {
         let (slots, further) = Slots::new(alloc)?;
         let tag = Tag::of::<Slots<Entry<K, V>, A>, OfSlots>(&slots);
+        let shown = Shown::first(&further, &tag);
         let state = MapState {
             list: State::first(alloc, further),
             table,
         };
-        let cell = Shared::new(state, &tag);
-        Ok(Frozen { slots, cell })
+        let cell = park(alloc, state, &tag)?;
+        Ok(Frozen { slots, cell, shown })
     }
 }
 
 impl<K: Drop, V: Drop, T: Places<K> + Drop, A: Allocator + Copy> Frozen<K, V, T, A> {
-    /// Locks the map for one caller. Until the guard is dropped, each other call fails with
-    /// [`InUse`], except reads of what a handle has observed. It allocates nothing.
+    /// Locks the map for one caller: until the guard is dropped, each other insertion fails with
+    /// [`InUse`], and a look-up by key compares one key after the other. It allocates nothing.
     ///
     /// # Errors
     /// Fails with [`InUse`] if the call is made inside another call of the map, or while another
@@ -133,100 +164,216 @@ impl<K: Drop, V: Drop, T: Places<K> + Drop, A: Allocator + Copy> Frozen<K, V, T,
     pub fn hold(&self) -> Result<FrozenHold<'_, K, V, T, A>, InUse>
         ensures same_vector { IfOk result (λ h. h.vector ≡ self.now) }
     {
-        let Some(state) = self.cell.take() else {
+        let Some(Parked { state }) = self.cell.take() else {
             return Err(InUse);
         };
         Ok(FrozenHold {
             slots: &self.slots,
             cell: &self.cell,
+            shown: &self.shown,
             state,
         })
     }
 
     /// Makes a handle that has observed all entries. It allocates nothing.
     ///
-    /// # Errors
-    /// Fails with [`InUse`] if the call is made inside another call of the map, or while a
-    /// [`FrozenHold`] of it exists.
+    /// # Cost
+    /// `O(1)`.
+    pub fn handle(&self) -> FrozenHandle<'_, K, V, T, A>
+        ensures same_vector { result.vector ≡ self.now }
+    {
+        FrozenHandle {
+            cell: &self.cell,
+            shown: &self.shown,
+            observed: self.observed(),
+        }
+    }
+
+    /// Makes a handle that has observed all entries, those of which `seen` is evidence among them:
+    /// a caller that keeps the evidence finds its entries by each call of the handle. It allocates
+    /// nothing.
     ///
     /// # Cost
     /// `O(1)`.
-    pub fn handle(&self) -> Result<FrozenHandle<'_, K, V, T, A>, InUse>
-        ensures same_vector { IfOk result (λ h. h.vector ≡ self.now) }
+    pub fn handle_since(&self, seen: &Seen<Entry<K, V>, A>) -> FrozenHandle<'_, K, V, T, A>
+        requires same_vector { seen.now.vector ≡ self.now }
+        requires limit { length seen.now.seen ≤ 2 ^ 32 - 1 }
+        ensures same_vector { result.vector ≡ self.now }
+        ensures entries { IsPrefix seen.now.seen result.seen }
     {
-        let hold = self.hold()?;
-        Ok(hold.handle())
+        let mut observed = observed_since(&self.slots, seen);
+        let mut all = self.observed();
+        observed.merge(&mut all);
+        FrozenHandle {
+            cell: &self.cell,
+            shown: &self.shown,
+            observed,
+        }
+    }
+
+    /// Returns what the map has so far, to read it while the map grows. It allocates nothing.
+    ///
+    /// # Cost
+    /// `O(1)`.
+    pub fn observed(&self) -> Observed<'_, Entry<K, V>, A>
+        ensures same_vector { result.vector ≡ self.now }
+        ensures limit { length result.seen ≤ 2 ^ 32 - 1 }
+    {
+        self.shown.observe(&self.slots)
+    }
+
+    /// Returns an iterator over the entries so far, in the order of their insertion and each once.
+    /// Others may be inserted while it runs; they are not among its entries. It allocates nothing.
+    ///
+    /// # Cost
+    /// `O(1)`, and so is each entry.
+    pub fn iter(&self) -> Iter<'_, Entry<K, V>, A>
+        ensures limit { length result ≤ 2 ^ 32 - 1 }
+    {
+        let observed = self.observed();
+        observed.iter_from(0)
+    }
+
+    /// Returns the index of the entry whose key `query` finds, and a reference to it.
+    #[inline(always)]
+    fn find<Q: Seeks<K, T>>(&self, query: Q) -> Option<(usize, &Entry<K, V>)>
+        ensures found_key { IfSome result (λ f. Q.finds query (key_of f.1.now) ≡ true) }
+        ensures limit { IfSome result (λ f. f.0 < 2 ^ 32 - 1) }
+    {
+        match self.hold() {
+            Ok(hold) => hold.find(query),
+            Err(_) => find_beside(&self.observed(), query),
+        }
     }
 
     /// Returns a reference to the value of the key that `query` finds, or `None` if the map has no
-    /// such key. It allocates nothing.
+    /// such key. It allocates nothing. Which value comes back is not proved: a handle's
+    /// [`get`](FrozenHandle::get) promises it.
     ///
     /// A query is a reference to a key, a `&str` for `String` keys, or another that [`Seeks`]
     /// names.
     ///
-    /// # Errors
-    /// Fails with [`InUse`] if the call is made inside another call of the map, or while a
-    /// [`FrozenHold`] of it exists.
-    ///
     /// # Cost
     /// One search: one hash and `O(1)` comparisons if the table hashes, `O(log n)` comparisons if
-    /// it is ordered.
-    pub fn get<Q: Seeks<K, T>>(&self, query: Q) -> Result<Option<&V>, InUse> {
-        let hold = self.hold()?;
-        Ok(hold.get(query))
+    /// it is ordered. Inside another call of the map, or while a guard exists, one comparison for
+    /// each key: `O(n)`.
+    pub fn get<Q: Seeks<K, T>>(&self, query: Q) -> Option<&V> {
+        let (_, entry) = self.find(query)?;
+        Some(entry.value())
     }
 
     /// Returns the index of the key that `query` finds, and references to the key and its value, or
     /// `None` if the map has no such key. It allocates nothing.
     ///
-    /// # Errors
-    /// Fails with [`InUse`] if the call is made inside another call of the map, or while a
-    /// [`FrozenHold`] of it exists.
+    /// # Cost
+    /// As [`get`](Self::get).
+    pub fn get_full<Q: Seeks<K, T>>(&self, query: Q) -> Option<(usize, &K, &V)>
+        ensures found_key { IfSome result (λ r. Q.finds query r.1.now ≡ true) }
+        ensures limit { IfSome result (λ r. r.0 < 2 ^ 32 - 1) }
+    {
+        let (index, entry) = self.find(query)?;
+        Some((index, entry.key(), entry.value()))
+    }
+
+    /// Returns whether the map has a key that `query` finds. It allocates nothing.
     ///
     /// # Cost
-    /// One search: one hash and `O(1)` comparisons if the table hashes, `O(log n)` comparisons if
-    /// it is ordered.
-    pub fn get_full<Q: Seeks<K, T>>(&self, query: Q) -> Result<Option<(usize, &K, &V)>, InUse>
-        ensures found_key { IfOk result (λ found. IfSome found (λ r.
-            Q.finds query r.1.now ≡ true)) }
+    /// As [`get`](Self::get).
+    pub fn contains_key<Q: Seeks<K, T>>(&self, query: Q) -> bool
+        ensures found_key { result ≡ true → (key : K) × (Q.finds query key ≡ true) }
     {
-        let hold = self.hold()?;
-        Ok(hold.get_full(query))
+        match self.find(query) {
+            Some((_, entry)) => {
+                let _key = entry.key();
+                true
+            }
+            None => false,
+        }
+    }
+
+    /// Returns what `f` returns for the value of the key that `query` finds, or `None` if the map
+    /// has no such key. While `f` runs, no call has the map.
+    ///
+    /// # Cost
+    /// As [`get`](Self::get), and one call of `f` for a key that is found.
+    pub fn map_get<Q: Seeks<K, T>, X, F: FnOnce(&V) -> X + Drop>(&self, query: Q, f: F) -> Option<X>
+        requires callable { F.IsAlwaysCallable f }
+        ensures mapped { IfSome result (λ x. (value : V) × FnOnceReturnsAt F.FnOnce f value x) }
+    {
+        let value = self.get(query)?;
+        Some(f(value))
     }
 
     /// Returns references to the key and the value at an index, or `None` if the index is at or
     /// above the number of keys. It allocates nothing.
     ///
-    /// # Errors
-    /// Fails with [`InUse`] if the call is made inside another call of the map, or while a
-    /// [`FrozenHold`] of it exists.
+    /// # Cost
+    /// `O(1)`.
+    pub fn get_index(&self, index: usize) -> Option<(&K, &V)>
+        ensures limit { IfSome result (λ _. index < 2 ^ 32 - 1) }
+    {
+        pair_at(&self.observed(), index)
+    }
+
+    /// Returns the number of keys. It allocates nothing.
     ///
     /// # Cost
     /// `O(1)`.
-    pub fn get_index(&self, index: usize) -> Result<Option<(&K, &V)>, InUse> {
-        let handle = self.handle()?;
-        Ok(handle.get_index(index))
+    pub fn len(&self) -> usize
+        ensures limit { result ≤ 2 ^ 32 - 1 }
+    {
+        let observed = self.observed();
+        observed.len()
+    }
+
+    /// Returns whether the map has no key. It allocates nothing.
+    ///
+    /// # Cost
+    /// `O(1)`.
+    pub fn is_empty(&self) -> bool {
+        self.len() == 0
+    }
+
+    /// Returns whether the map has the greatest number of entries, `2^32 - 1`. It allocates
+    /// nothing.
+    ///
+    /// # Cost
+    /// `O(1)`.
+    pub fn is_full(&self) -> bool {
+        self.len() == MOST
+    }
+
+    /// Reserves room for `additional` more entries, as a guard's [`FrozenHold::reserve`] does.
+    ///
+    /// # Errors
+    /// Fails with [`Fault::Memory`] if an allocation fails, with [`Fault::Full`] if the map would
+    /// have more than the greatest number of entries, `2^32 - 1`, and with [`Fault::InUse`] if the
+    /// call is made inside another call of the map, or while a [`FrozenHold`] of it exists. The
+    /// entries are unchanged.
+    ///
+    /// # Allocates
+    /// The buffers for these entries and a list of them, and one larger table.
+    ///
+    /// # Cost
+    /// `O(n)` in the number of entries if the table grows.
+    pub fn reserve(&self, additional: usize) -> Result<(), Fault> {
+        let mut hold = self.hold()?;
+        hold.reserve(additional)
     }
 
     /// Inserts a value unless the map has an equal key, and returns the value that the key then
     /// has: [`insert_new`](Self::insert_new) with the value alone.
     ///
     /// # Errors
-    /// Fails with [`CellFault::Memory`] if an allocation fails, or if the map has the greatest
-    /// number of entries, `2^32 - 1`, and with [`CellFault::InUse`] if the call is made inside
-    /// another call of the map, or while a [`FrozenHold`] of it exists. Both contain `value`; the
-    /// key is dropped.
+    /// Fails as [`insert_new`](Self::insert_new) does.
     ///
     /// # Allocates
-    /// A buffer, four times as large as the one before, at the lengths where one begins. When the
-    /// table is full, one of twice the size: of 8 bytes for each bucket if it hashes, of which
-    /// three quarters are taken, and of 4 bytes for each key if it is ordered.
+    /// As [`insert_new`](Self::insert_new) does.
     ///
     /// # Cost
-    /// One search. An ordered table then moves the 4 bytes of each greater key: `O(n)`.
+    /// As [`insert_new`](Self::insert_new).
     pub fn insert(&self, key: K, value: V) -> Result<&V, CellFault<V>>
-        ensures given_back { IfErr result (λ f. (f ≡ CellFault.Memory value)
-            ⊎ (f ≡ CellFault.InUse value)) }
+        ensures given_back { IfErr result (GivesBack value) }
     {
         let inserted = self.insert_new(key, value)?;
         Ok(inserted.value)
@@ -234,13 +381,14 @@ impl<K: Drop, V: Drop, T: Places<K> + Drop, A: Allocator + Copy> Frozen<K, V, T,
 
     /// Inserts a value unless the map has an equal key. Returns the value that the key then has,
     /// its index in the order of insertion, and whether the key was new. A present key keeps its
-    /// value, and `key` and `value` are dropped.
+    /// value, and `key` and `value` are dropped. Which value a present key has is not proved: a
+    /// handle's [`insert_new`](FrozenHandle::insert_new) promises it.
     ///
     /// # Errors
-    /// Fails with [`CellFault::Memory`] if an allocation fails, or if the map has the greatest
-    /// number of entries, `2^32 - 1`, and with [`CellFault::InUse`] if the call is made inside
-    /// another call of the map, or while a [`FrozenHold`] of it exists. Both contain `value`; the
-    /// key is dropped.
+    /// Fails with [`CellFault::Memory`] if an allocation fails, with [`CellFault::Full`] if the map
+    /// has the greatest number of entries, `2^32 - 1`, and with [`CellFault::InUse`] if the call is
+    /// made inside another call of the map, or while a [`FrozenHold`] of it exists. Each contains
+    /// `value`; the key is dropped.
     ///
     /// # Allocates
     /// A buffer, four times as large as the one before, at the lengths where one begins. When the
@@ -251,8 +399,8 @@ impl<K: Drop, V: Drop, T: Places<K> + Drop, A: Allocator + Copy> Frozen<K, V, T,
     /// One search. An ordered table then moves the 4 bytes of each greater key: `O(n)`.
     pub fn insert_new(&self, key: K, value: V) -> Result<Inserted<&V, usize>, CellFault<V>>
         ensures own_value { IfOk result (λ r. r.is_new ≡ true → r.value.now ≡ value) }
-        ensures given_back { IfErr result (λ f. (f ≡ CellFault.Memory value)
-            ⊎ (f ≡ CellFault.InUse value)) }
+        ensures limit { IfOk result (λ r. r.index < 2 ^ 32 - 1) }
+        ensures given_back { IfErr result (GivesBack value) }
     {
         let Ok(mut hold) = self.hold() else {
             return Err(CellFault::InUse(value));
@@ -260,18 +408,126 @@ impl<K: Drop, V: Drop, T: Places<K> + Drop, A: Allocator + Copy> Frozen<K, V, T,
         hold.insert_new(key, value)
     }
 
+    /// Inserts a key with the value that `make` returns, unless the map has an equal key, as a
+    /// handle's [`insert_with`](FrozenHandle::insert_with) does. While `make` runs, no call has the
+    /// map.
+    ///
+    /// # Errors
+    /// Fails as [`insert_new`](Self::insert_new) does. Each error contains the value if `make` had
+    /// made it; the key is dropped.
+    ///
+    /// # Allocates
+    /// As [`insert_new`](Self::insert_new) does.
+    ///
+    /// # Cost
+    /// One search if the key is present; two, and one insertion, if it is new.
+    pub fn insert_with<F: FnOnce() -> V + Drop>(
+        &self,
+        key: K,
+        make: F,
+    ) -> Result<Inserted<&V, usize>, CellFault<Option<V>>>
+        requires callable { F.pre make }
+        ensures made { IfOk result (λ r. r.is_new ≡ true → F.post make r.value.now) }
+        ensures limit { IfOk result (λ r. r.index < 2 ^ 32 - 1) }
+    {
+        let mut handle = self.handle();
+        handle.insert_with(key, make)
+    }
+
+    /// Inserts a key with the value that `make` returns, as [`insert_with`](Self::insert_with)
+    /// does, if `make` may fail.
+    ///
+    /// # Errors
+    /// Fails with [`TryFault::Value`] and the error of `make`, and with [`TryFault::Map`] as
+    /// [`insert_with`](Self::insert_with) does. The key is dropped.
+    ///
+    /// # Allocates
+    /// As [`insert_new`](Self::insert_new) does.
+    ///
+    /// # Cost
+    /// One search if the key is present; two, and one insertion, if it is new.
+    pub fn try_insert_with<E: Drop, F: FnOnce() -> Result<V, E> + Drop>(
+        &self,
+        key: K,
+        make: F,
+    ) -> Result<Inserted<&V, usize>, TryFault<V, E>>
+        requires callable { F.pre make }
+        ensures made { IfOk result (λ r. r.is_new ≡ true → F.post make (Ok r.value.now)) }
+        ensures limit { IfOk result (λ r. r.index < 2 ^ 32 - 1) }
+        ensures cause { IfErr result (λ f. (e : E) → f ≡ TryFault.Value e → F.post make (Err e)) }
+    {
+        let mut handle = self.handle();
+        handle.try_insert_with(key, make)
+    }
+
+    /// Looks up the key that `query` finds, and inserts the entry that `make` returns if the map
+    /// has no such key, as a handle's [`insert_by`](FrozenHandle::insert_by) does. While `make`
+    /// runs, no call has the map.
+    ///
+    /// # Errors
+    /// Fails with the error of `make`, and with one that is made of a [`Fault`] as
+    /// [`insert_new`](Self::insert_new) fails. The key and the value are dropped.
+    ///
+    /// # Allocates
+    /// Nothing if the map has the key, otherwise as [`insert_new`](Self::insert_new) does.
+    ///
+    /// # Cost
+    /// One search if the key is present; two, and one insertion, if it is new.
+    pub fn insert_by<Q: Seeks<K, T>, E: From<Fault>, F: FnOnce() -> Result<(K, V), E> + Drop>(
+        &self,
+        query: Q,
+        make: F,
+    ) -> Result<Inserted<&V, usize>, E>
+        requires callable { F.pre make }
+        ensures cause { IfErr result (λ e. F.post make (Err e) ⊎ ((f : Fault) × E.from_gives f e)) }
+        ensures limit { IfOk result (λ r. r.index < 2 ^ 32 - 1) }
+    {
+        let mut handle = self.handle();
+        handle.insert_by(query, make)
+    }
+
+    /// Returns the value of the key that `query` finds, or inserts the entry that `make` returns:
+    /// [`insert_by`](Self::insert_by) with the value alone.
+    ///
+    /// # Errors
+    /// Fails as [`insert_by`](Self::insert_by) does.
+    ///
+    /// # Allocates
+    /// As [`insert_by`](Self::insert_by) does.
+    ///
+    /// # Cost
+    /// As [`insert_by`](Self::insert_by).
+    pub fn get_or_try_insert<
+        Q: Seeks<K, T>,
+        E: From<Fault>,
+        F: FnOnce() -> Result<(K, V), E> + Drop,
+    >(&self, query: Q, make: F) -> Result<&V, E>
+        requires callable { F.pre make }
+        ensures cause { IfErr result (λ e. F.post make (Err e) ⊎ ((f : Fault) × E.from_gives f e)) }
+    {
+        match self.insert_by(query, make) {
+            Ok(inserted) => Ok(inserted.value),
+            Err(error) => Err(error),
+        }
+    }
+
     /// Makes the map of its state again, which may be lost.
-    fn again(slots: Slots<Entry<K, V>, A>, state: Option<MapState<K, V, T, A>>) -> Self
-        requires { IfSome state (λ s. IsMapOf T.is_for
-            slots s.list s.table) }
+    fn again(
+        slots: Slots<Entry<K, V>, A>,
+        shown: Shown<Entry<K, V>, A, OfMap>,
+        state: Option<Box<MapState<K, V, T, A>, A>>,
+    ) -> Self
+        requires state { IfSome state (λ s. IsMapOf T.is_for
+            slots s.value.list s.value.table) }
+        requires shown { shown ≡ slots }
         ensures { result ≡ slots }
     {
         let tag = Tag::of::<Slots<Entry<K, V>, A>, OfSlots>(&slots);
         let cell = match state {
-            Some(state) => Shared::new(state, &tag),
+            Some(state) => Shared::new(Parked { state }, &tag),
             None => Shared::lost(&tag),
         };
-        Frozen { slots, cell }
+        Frozen { slots, cell, shown }
     }
 
     /// Moves all entries into a vector of `alloc`, in the order of insertion, and drops none.
@@ -297,12 +553,15 @@ impl<K: Drop, V: Drop, T: Places<K> + Drop, A: Allocator + Copy> Frozen<K, V, T,
         ensures given_back { IfErr result (λ f. (f ≡ CellFault.Memory self)
             ⊎ (f ≡ CellFault.InUse self)) }
     {
-        let (slots, state) = self.into_parts(seen)?;
+        let (slots, shown, state) = self.into_parts(seen)?;
         let Ok(items) = Vec::with_capacity(alloc, state.list.count) else {
-            return Err(CellFault::Memory(Frozen::again(slots, Some(state))));
+            return Err(CellFault::Memory(Frozen::again(slots, shown, Some(state))));
         };
+        drop(shown);
         let mut all = Pairs { items };
-        state.into_list().move_items(slots, &mut all);
+        Box::into_inner(state)
+            .into_list()
+            .move_items(slots, &mut all);
         let Pairs { items } = all;
         Ok(items)
     }
@@ -314,35 +573,29 @@ impl<K: Drop, V: Drop, T: Places<K> + Drop, A: Allocator + Copy> Frozen<K, V, T,
     fn into_parts(
         self,
         seen: &Seen<Entry<K, V>, A>,
-    ) -> Result<(Slots<Entry<K, V>, A>, MapState<K, V, T, A>), CellFault<Self>>
+    ) -> Result<
+        (
+            Slots<Entry<K, V>, A>,
+            Shown<Entry<K, V>, A, OfMap>,
+            Box<MapState<K, V, T, A>, A>,
+        ),
+        CellFault<Self>,
+    >
         requires same_vector { seen.now.vector ≡ self }
         ensures state { IfOk result (λ parts. IsMapOf T.is_for
-            parts.0 parts.1.list parts.1.table) }
-        ensures same_slots { IfOk result (λ parts. parts.0 ≡ self) }
-        ensures items { IfOk result (λ parts. IsPrefix seen.now.seen parts.1.list.prefix.items) }
+            parts.0 parts.2.value.list parts.2.value.table) }
+        ensures same_slots { IfOk result (λ parts. (parts.0 ≡ self) × (parts.1 ≡ self)) }
+        ensures items { IfOk result (λ parts. IsPrefix seen.now.seen parts.2.value.list.prefix.items) }
         ensures given_back { IfErr result (λ f. f ≡ CellFault.InUse self) }
     {
-        let Self { slots, cell } = self;
-        let Some(state) = cell.into_state() else {
-            return Err(CellFault::InUse(Frozen::again(slots, None)));
+        let Self { slots, cell, shown } = self;
+        let Some(Parked { state }) = cell.into_state() else {
+            return Err(CellFault::InUse(Frozen::again(slots, shown, None)));
         };
         if !is_evidence_behind(seen, &state.list) {
-            return Err(CellFault::InUse(Frozen::again(slots, Some(state))));
+            return Err(CellFault::InUse(Frozen::again(slots, shown, Some(state))));
         }
-        Ok((slots, state))
-    }
-
-    /// Returns the number of keys. It allocates nothing.
-    ///
-    /// # Errors
-    /// Fails with [`InUse`] if the call is made inside another call of the map, or while a
-    /// [`FrozenHold`] of it exists.
-    ///
-    /// # Cost
-    /// `O(1)`.
-    pub fn len(&self) -> Result<usize, InUse> {
-        let hold = self.hold()?;
-        Ok(hold.len())
+        Ok((slots, shown, state))
     }
 }
 
@@ -359,12 +612,15 @@ impl<K: Drop, T: Places<K> + Drop, A: Allocator + Copy> Frozen<K, (), T, A> {
         ensures given_back { IfErr result (λ f. (f ≡ CellFault.Memory self)
             ⊎ (f ≡ CellFault.InUse self)) }
     {
-        let (slots, state) = self.into_parts(seen)?;
+        let (slots, shown, state) = self.into_parts(seen)?;
         let Ok(items) = Vec::with_capacity(alloc, state.list.count) else {
-            return Err(CellFault::Memory(Frozen::again(slots, Some(state))));
+            return Err(CellFault::Memory(Frozen::again(slots, shown, Some(state))));
         };
+        drop(shown);
         let mut all = Keys { items };
-        state.into_list().move_items(slots, &mut all);
+        Box::into_inner(state)
+            .into_list()
+            .move_items(slots, &mut all);
         let Keys { items } = all;
         Ok(items)
     }

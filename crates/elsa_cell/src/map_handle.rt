@@ -1,19 +1,22 @@
 //! [`FrozenHandle`]: a map, and the prefix of its entries that was observed.
-ghost use Rattle.std.specs.Prelude.{◌≡◌, ◌⊎◌, ◌<◌, ◌^◌, true, None, Some, Ok, Err, length, map, position, slice_get, IfErr, IfOk, IfSome};
+ghost use Rattle.std.specs.Prelude.{◌≡◌, ◌⊎◌, ◌-◌, ◌<◌, ◌≤◌, ◌^◌, true, is_some, None, Some, Ok, Err, length, map, position, slice_get, IfErr, IfOk, IfSome};
 ghost use Rattle.std.specs.Map.{lookup};
 ghost use Rattle.std.specs.Option.{option_map};
 ghost use mathlib.Core.List.{IsPrefix};
-ghost use Rattle.elsa_cell.specs.Entries.{InsertsOnce, key_of, pairs_of};
+ghost use Rattle.elsa_cell.specs.Entries.{GetsOrInserts, InsertsOnce, key_of, pairs_of};
+ghost use Rattle.elsa_arena.specs.declared.fault.Fault.{Fault};
+ghost use Rattle.elsa_arena.specs.Faults.{GivesBack};
 ghost use Rattle.elsa_arena.specs.Observed.{Continues};
 
 use crate::fault::TryFault;
-use crate::map::{Entry, pair_at};
+use crate::map::{Entry, find_beside, pair_at};
 use crate::map_hold::FrozenHold;
-use crate::map_state::MapState;
+use crate::map_state::{OfMap, Parked};
 use crate::places::{Places, Seeks};
-use elsa_arena::fault::{CellFault, InUse};
+use elsa_arena::fault::{CellFault, Fault, InUse};
 use elsa_arena::observed::{Iter, Observed};
 use elsa_arena::shared::Shared;
+use elsa_arena::shown::Shown;
 use elsa_arena::views::{is_behind, slots_of};
 use elsa_tables::Inserted;
 use std::alloc::{Allocator, Global};
@@ -25,13 +28,14 @@ use std::marker::Model;
 /// What a handle has observed stays, whatever other calls insert.
 #[derive(Drop)]
 pub struct FrozenHandle<'m, K: Drop, V, T: Places<K> + Drop, A: Allocator + Copy = Global> {
-    pub(crate) cell: &'m Shared<MapState<K, V, T, A>>,
+    pub(crate) cell: &'m Shared<Parked<K, V, T, A>>,
+    pub(crate) shown: &'m Shown<Entry<K, V>, A, OfMap>,
     pub(crate) observed: Observed<'m, Entry<K, V>, A>,
 }
 
 impl<'m, K: Drop, V, T: Places<K> + Drop, A: Allocator + Copy> Model
     for FrozenHandle<'m, K, V, T, A> {
-    ghost use Rattle.std.specs.Prelude.{◌≡◌};
+    ghost use Rattle.std.specs.Prelude.{◌≡◌, ◌≤◌, ◌-◌, ◌^◌, length};
     ghost use Rattle.elsa_arena.specs.Observed.{View};
     ghost use Rattle.elsa_cell.specs.declared.map.Entry.{Entry};
 
@@ -39,7 +43,8 @@ impl<'m, K: Drop, V, T: Places<K> + Drop, A: Allocator + Copy> Model
 
     ghost view = { λ h. h.observed };
 
-    ghost invariant = { λ h. h.cell.now.numbers ≡ h.observed.vector };
+    ghost invariant = { λ h. (h.cell.now.numbers ≡ h.observed.vector)
+        × (h.shown.now ≡ h.observed.vector) × (length h.observed.seen ≤ 2 ^ 32 - 1) };
 }
 
 impl<'m, K: Drop, V: Drop, T: Places<K> + Drop, A: Allocator + Copy> FrozenHandle<'m, K, V, T, A> {
@@ -56,6 +61,7 @@ impl<'m, K: Drop, V: Drop, T: Places<K> + Drop, A: Allocator + Copy> FrozenHandl
     {
         FrozenHandle {
             cell: self.cell,
+            shown: self.shown,
             observed: self.observed.again(),
         }
     }
@@ -63,7 +69,7 @@ impl<'m, K: Drop, V: Drop, T: Places<K> + Drop, A: Allocator + Copy> FrozenHandl
     /// Returns the number of keys that the handle has observed.
     pub fn seen_len(&self) -> usize
         ensures length { result ≡ length self.now.seen }
-        ensures limit { result < 2 ^ 62 }
+        ensures limit { result ≤ 2 ^ 32 - 1 }
     {
         self.observed.len()
     }
@@ -89,16 +95,17 @@ impl<'m, K: Drop, V: Drop, T: Places<K> + Drop, A: Allocator + Copy> FrozenHandl
         ensures items { IfOk result (λ h. IsPrefix self.now.seen h.seen) }
     {
         let cell = self.cell;
-        let Some(state) = cell.take() else {
+        let Some(Parked { state }) = cell.take() else {
             return Err(InUse);
         };
         if !is_behind(&self.observed, &state.list) {
-            cell.put(state);
+            cell.put(Parked { state });
             return Err(InUse);
         }
         Ok(FrozenHold {
             slots: slots_of(&self.observed),
             cell,
+            shown: self.shown,
             state,
         })
     }
@@ -114,43 +121,70 @@ impl<'m, K: Drop, V: Drop, T: Places<K> + Drop, A: Allocator + Copy> FrozenHandl
 
     /// Observes all entries, and returns their number. It allocates nothing.
     ///
-    /// # Errors
-    /// Fails with [`InUse`] if the call is made inside another call of the map, or while a
-    /// [`FrozenHold`] of it exists. The handle is unchanged.
-    ///
     /// # Cost
     /// `O(1)`.
-    pub fn len(&mut self) -> Result<usize, InUse>
+    pub fn len(&mut self) -> usize
         ensures continues { Continues self.old self.new }
-        ensures length { IfOk result (λ n. n ≡ length self.new.seen) }
-        ensures refused { IfErr result (λ _. self.new ≡ self.old) }
+        ensures length { result ≡ length self.new.seen }
+        ensures limit { result ≤ 2 ^ 32 - 1 }
     {
-        let hold = self.hold()?;
-        self.release(hold);
-        Ok(self.seen_len())
+        let mut all = self.shown.observe(slots_of(&self.observed));
+        self.observed.merge(&mut all);
+        self.seen_len()
     }
 
     /// Returns a reference to the value of the key that `query` finds, or `None` only if no entry
     /// that the handle has then observed has such a key; it has then observed all entries. It
     /// allocates nothing.
     ///
-    /// # Errors
-    /// Fails with [`InUse`] if the call is made inside another call of the map, or while a
-    /// [`FrozenHold`] of it exists. The handle is unchanged.
-    ///
     /// # Cost
     /// One search: one hash and `O(1)` comparisons if the table hashes, `O(log n)` comparisons if
-    /// it is ordered.
-    pub fn get<Q: Seeks<K, T>>(&mut self, query: Q) -> Result<Option<&'m V>, InUse>
+    /// it is ordered. Inside another call of the map, or while a guard exists, one comparison for
+    /// each key: `O(n)`.
+    pub fn get<Q: Seeks<K, T>>(&mut self, query: Q) -> Option<&'m V>
         ensures continues { Continues self.old self.new }
-        ensures found { IfOk result (λ found. option_map (λ v. v.now) found
-            ≡ lookup (Q.finds query) (pairs_of self.new.seen)) }
-        ensures refused { IfErr result (λ _. self.new ≡ self.old) }
+        ensures found { option_map (λ v. v.now) result
+            ≡ lookup (Q.finds query) (pairs_of self.new.seen) }
     {
-        let whole = self.hold()?;
-        let found = whole.get(query);
-        self.release(whole);
-        Ok(found)
+        let (_, entry) = self.find_entry(query)?;
+        Some(entry.value())
+    }
+
+    /// Returns whether the map has a key that `query` finds; the handle has then observed all
+    /// entries. It allocates nothing.
+    ///
+    /// # Cost
+    /// As [`get`](Self::get).
+    pub fn contains_key<Q: Seeks<K, T>>(&mut self, query: Q) -> bool
+        ensures continues { Continues self.old self.new }
+        ensures found { result ≡ is_some (lookup (Q.finds query) (pairs_of self.new.seen)) }
+    {
+        self.get(query).is_some()
+    }
+
+    /// Finds a key in the whole map, and returns its index and the reference to its entry. It never
+    /// fails: inside a call that has the table it compares the query with one key after the other.
+    fn find_entry<Q: Seeks<K, T>>(&mut self, query: Q) -> Option<(usize, &'m Entry<K, V>)>
+        ensures continues { Continues self.old self.new }
+        ensures index { option_map (λ f. f.0) result
+            ≡ position (Q.finds query) (map key_of self.new.seen) }
+        ensures entry { IfSome result (λ f. slice_get self.new.seen f.0 ≡ Some f.1.now) }
+        ensures value { option_map (λ f. f.1.now.value) result
+            ≡ lookup (Q.finds query) (pairs_of self.new.seen) }
+        ensures found_key { IfSome result (λ f. (Q.finds query (key_of f.1.now) ≡ true)
+            × (f.0 < 2 ^ 32 - 1)) }
+    {
+        match self.hold() {
+            Ok(hold) => {
+                let found = hold.find(query);
+                self.release(hold);
+                found
+            }
+            Err(_) => {
+                self.len();
+                find_beside(&self.observed, query)
+            }
+        }
     }
 
     /// Inserts a value unless the map has an equal key. Returns the value that the key then has,
@@ -158,10 +192,10 @@ impl<'m, K: Drop, V: Drop, T: Places<K> + Drop, A: Allocator + Copy> FrozenHandl
     /// value, and `key` and `value` are dropped.
     ///
     /// # Errors
-    /// Fails with [`CellFault::Memory`] if an allocation fails, or if the map has the greatest
-    /// number of entries, `2^32 - 1`, and with [`CellFault::InUse`] if the call is made inside
-    /// another call of the map, or while a [`FrozenHold`] of it exists. Both contain `value`; the
-    /// key is dropped.
+    /// Fails with [`CellFault::Memory`] if an allocation fails, with [`CellFault::Full`] if the map
+    /// has the greatest number of entries, `2^32 - 1`, and with [`CellFault::InUse`] if the call is
+    /// made inside another call of the map, or while a [`FrozenHold`] of it exists. Each contains
+    /// `value`; the key is dropped.
     ///
     /// # Allocates
     /// A buffer, four times as large as the one before, at the lengths where one begins. When the
@@ -175,8 +209,8 @@ impl<'m, K: Drop, V: Drop, T: Places<K> + Drop, A: Allocator + Copy> FrozenHandl
         ensures inserted { IfOk result (λ r. InsertsOnce T.same self.old.seen self.new.seen key value
             r.value.now r.index r.is_new) }
         ensures own_value { IfOk result (λ r. r.is_new ≡ true → r.value.now ≡ value) }
-        ensures given_back { IfErr result (λ f. (f ≡ CellFault.Memory value)
-            ⊎ (f ≡ CellFault.InUse value)) }
+        ensures limit { IfOk result (λ r. r.index < 2 ^ 32 - 1) }
+        ensures given_back { IfErr result (GivesBack value) }
     {
         let Ok(mut hold) = self.hold() else {
             return Err(CellFault::InUse(value));
@@ -190,30 +224,22 @@ impl<'m, K: Drop, V: Drop, T: Places<K> + Drop, A: Allocator + Copy> FrozenHandl
     /// `None` only if no entry that the handle has then observed has such a key; it has then
     /// observed all entries. It allocates nothing.
     ///
-    /// # Errors
-    /// Fails with [`InUse`] if the call is made inside another call of the map, or while a
-    /// [`FrozenHold`] of it exists. The handle is unchanged.
-    ///
     /// # Cost
     /// One search: one hash and `O(1)` comparisons if the table hashes, `O(log n)` comparisons if
-    /// it is ordered.
-    pub fn get_full<Q: Seeks<K, T>>(
-        &mut self,
-        query: Q,
-    ) -> Result<Option<(usize, &'m K, &'m V)>, InUse>
+    /// it is ordered. Inside another call of the map, or while a guard exists, one comparison for
+    /// each key: `O(n)`.
+    #[tactic(auto, using(crate::proofs::EntryLemmas::pair_at))]
+    pub fn get_full<Q: Seeks<K, T>>(&mut self, query: Q) -> Option<(usize, &'m K, &'m V)>
         ensures continues { Continues self.old self.new }
-        ensures index { IfOk result (λ found. option_map (λ r. r.0) found
-            ≡ position (Q.finds query) (map key_of self.new.seen)) }
-        ensures entry { IfOk result (λ found. IfSome found (λ r.
-            slice_get (pairs_of self.new.seen) r.0 ≡ Some (r.1.now, r.2.now))) }
-        ensures found_key { IfOk result (λ found. IfSome found (λ r.
-            Q.finds query r.1.now ≡ true)) }
-        ensures refused { IfErr result (λ _. self.new ≡ self.old) }
+        ensures index { option_map (λ r. r.0) result
+            ≡ position (Q.finds query) (map key_of self.new.seen) }
+        ensures entry { IfSome result (λ r.
+            slice_get (pairs_of self.new.seen) r.0 ≡ Some (r.1.now, r.2.now)) }
+        ensures found_key { IfSome result (λ r. Q.finds query r.1.now ≡ true) }
+        ensures limit { IfSome result (λ r. r.0 < 2 ^ 32 - 1) }
     {
-        let all = self.hold()?;
-        let found = all.get_full(query);
-        self.release(all);
-        Ok(found)
+        let (index, entry) = self.find_entry(query)?;
+        Some((index, entry.key(), entry.value()))
     }
 
     /// Returns references to the key and the value at an index, or `None` exactly if the index is
@@ -237,6 +263,7 @@ impl<'m, K: Drop, V: Drop, T: Places<K> + Drop, A: Allocator + Copy> FrozenHandl
         ensures value { IfOk result (λ found. option_map (λ f. f.1.now) found
             ≡ lookup (T.same key.now) (pairs_of self.new.seen)) }
         ensures refused { IfErr result (λ _. self.new ≡ self.old) }
+        ensures limit { IfOk result (λ found. IfSome found (λ f. f.0 < 2 ^ 32 - 1)) }
     {
         let hold = self.hold()?;
         let found = hold.find_key(key);
@@ -255,10 +282,10 @@ impl<'m, K: Drop, V: Drop, T: Places<K> + Drop, A: Allocator + Copy> FrozenHandl
     /// `is_new = false`.
     ///
     /// # Errors
-    /// Fails with [`CellFault::Memory`] if an allocation fails, or if the map has the greatest
-    /// number of entries, `2^32 - 1`, and with [`CellFault::InUse`] if the call is made inside
-    /// another call of the map, or while a [`FrozenHold`] of it exists. Both contain the value if
-    /// `make` had made it; the key is dropped.
+    /// Fails with [`CellFault::Memory`] if an allocation fails, with [`CellFault::Full`] if the map
+    /// has the greatest number of entries, `2^32 - 1`, and with [`CellFault::InUse`] if the call is
+    /// made inside another call of the map, or while a [`FrozenHold`] of it exists. Each contains
+    /// the value if `make` had made it; the key is dropped.
     ///
     /// # Allocates
     /// As [`insert_new`](Self::insert_new) does.
@@ -275,6 +302,7 @@ impl<'m, K: Drop, V: Drop, T: Places<K> + Drop, A: Allocator + Copy> FrozenHandl
         ensures inserted { IfOk result (λ r. InsertsOnce T.same self.old.seen self.new.seen key
             r.value.now r.value.now r.index r.is_new) }
         ensures made { IfOk result (λ r. r.is_new ≡ true → F.post make r.value.now) }
+        ensures limit { IfOk result (λ r. r.index < 2 ^ 32 - 1) }
     {
         let Ok(known) = self.find(&key) else {
             return Err(CellFault::InUse(None));
@@ -291,6 +319,7 @@ impl<'m, K: Drop, V: Drop, T: Places<K> + Drop, A: Allocator + Copy> FrozenHandl
             Ok(inserted) => Ok(inserted),
             Err(CellFault::Memory(made)) => Err(CellFault::Memory(Some(made))),
             Err(CellFault::InUse(made)) => Err(CellFault::InUse(Some(made))),
+            Err(CellFault::Full(made)) => Err(CellFault::Full(Some(made))),
         }
     }
 
@@ -316,6 +345,7 @@ impl<'m, K: Drop, V: Drop, T: Places<K> + Drop, A: Allocator + Copy> FrozenHandl
         ensures inserted { IfOk result (λ r. InsertsOnce T.same self.old.seen self.new.seen key
             r.value.now r.value.now r.index r.is_new) }
         ensures made { IfOk result (λ r. r.is_new ≡ true → F.post make (Ok r.value.now)) }
+        ensures limit { IfOk result (λ r. r.index < 2 ^ 32 - 1) }
         ensures cause { IfErr result (λ f. (e : E) → f ≡ TryFault.Value e → F.post make (Err e)) }
     {
         let Ok(found) = self.find(&key) else {
@@ -336,6 +366,55 @@ impl<'m, K: Drop, V: Drop, T: Places<K> + Drop, A: Allocator + Copy> FrozenHandl
             Ok(inserted) => Ok(inserted),
             Err(CellFault::Memory(made)) => Err(TryFault::Map(CellFault::Memory(Some(made)))),
             Err(CellFault::InUse(made)) => Err(TryFault::Map(CellFault::InUse(Some(made)))),
+            Err(CellFault::Full(made)) => Err(TryFault::Map(CellFault::Full(Some(made)))),
+        }
+    }
+
+    /// Looks up the key that `query` finds, and inserts the entry that `make` returns if the map
+    /// has no such key. `make` is called only if the handle then finds no such key.
+    ///
+    /// While `make` runs, no call has the map, as in [`insert_with`](Self::insert_with). If the map
+    /// then has the key that `make` returned, the first value of that key stays.
+    ///
+    /// # Errors
+    /// Fails with the error of `make`, and with one that is made of a [`Fault`] as
+    /// [`insert_new`](Self::insert_new) fails. The key and the value are dropped.
+    ///
+    /// # Allocates
+    /// Nothing if the map has the key, otherwise as [`insert_new`](Self::insert_new) does.
+    ///
+    /// # Cost
+    /// One search if the key is present; two, and one insertion, if it is new.
+    pub fn insert_by<Q: Seeks<K, T>, E: From<Fault>, F: FnOnce() -> Result<(K, V), E> + Drop>(
+        &mut self,
+        query: Q,
+        make: F,
+    ) -> Result<Inserted<&'m V, usize>, E>
+        requires callable { lookup (Q.finds query) (pairs_of self.old.seen) ≡ None → F.pre make }
+        ensures continues { Continues self.old self.new }
+
+        // A present key keeps its value. Otherwise the entry of `make` is inserted.
+        ensures inserted { IfOk result (λ r.
+            GetsOrInserts T.same (Q.finds query) (λ k v. F.post make (Ok (k, v)))
+            self.old.seen self.new.seen r.value.now r.index r.is_new) }
+        ensures cause { IfErr result (λ e. F.post make (Err e) ⊎ ((f : Fault) × E.from_gives f e)) }
+        ensures limit { IfOk result (λ r. r.index < 2 ^ 32 - 1) }
+    {
+        let known = self.find_entry(query);
+        if let Some((index, entry)) = known {
+            return Ok(Inserted {
+                value: entry.value(),
+                index,
+                is_new: false,
+            });
+        }
+        let (key, value) = match make() {
+            Ok(made) => made,
+            Err(error) => return Err(error),
+        };
+        match self.insert_new(key, value) {
+            Ok(inserted) => Ok(inserted),
+            Err(fault) => Err(E::from(Fault::from(fault))),
         }
     }
 

@@ -1,31 +1,34 @@
 //! [`FrozenHold`]: the lock guard of a map.
-ghost use Rattle.std.specs.Prelude.{◌≡◌, ◌<◌, ◌^◌, true, None, Some, length, map, position, slice_get, IfErr, IfOk, IfSome};
+ghost use Rattle.std.specs.Prelude.{◌≡◌, ◌↔◌, ◌+◌, ◌-◌, ◌<◌, ◌≤◌, ◌^◌, true, None, Some, length, map, position, slice_get, IfErr, IfOk, IfSome, IsTrue};
 ghost use Rattle.std.specs.Map.{lookup};
 ghost use Rattle.std.specs.Option.{option_map};
 ghost use Rattle.elsa_cell.specs.Entries.{Inserts, key_of, pair_of, pairs_of};
+ghost use Rattle.elsa_arena.specs.Faults.{Refuses};
 ghost use Rattle.elsa_arena.specs.Observed.{Continues};
 
 use crate::map::{Entry, pair_at};
 use crate::map_handle::FrozenHandle;
-use crate::map_state::MapState;
+use crate::map_state::{MOST, MapState, OfMap, Parked};
 use crate::places::{Places, Seeks};
-use elsa_arena::fault::CellFault;
+use elsa_arena::fault::{CellFault, Fault};
 use elsa_arena::observed::Observed;
 use elsa_arena::shared::Shared;
+use elsa_arena::shown::Shown;
 use elsa_arena::views::observe;
 use elsa_slots::slots::Slots;
 use elsa_tables::Inserted;
 use std::alloc::{Allocator, Global};
 use std::marker::Model;
 
-/// A lock guard of a map: its caller alone inserts, and each other call fails with [`InUse`].
+/// A lock guard of a map: its caller alone inserts, and each other insertion fails with [`InUse`].
 /// Contracts see the map, by the names of its buffers, and all its entries.
 ///
 /// It is the form for a loop of insertions, and for what needs the whole map unchanged.
 pub struct FrozenHold<'m, K: Drop, V, T: Places<K> + Drop, A: Allocator + Copy = Global> {
     pub(crate) slots: &'m Slots<Entry<K, V>, A>,
-    pub(crate) cell: &'m Shared<MapState<K, V, T, A>>,
-    pub(crate) state: MapState<K, V, T, A>,
+    pub(crate) cell: &'m Shared<Parked<K, V, T, A>>,
+    pub(crate) shown: &'m Shown<Entry<K, V>, A, OfMap>,
+    pub(crate) state: Box<MapState<K, V, T, A>, A>,
 }
 
 impl<'m, K: Drop, V, T: Places<K> + Drop, A: Allocator + Copy> Model
@@ -37,10 +40,11 @@ impl<'m, K: Drop, V, T: Places<K> + Drop, A: Allocator + Copy> Model
 
     ghost Value = { View (Entry K V) };
 
-    ghost view = { λ h. record { vector = h.slots.now; seen = h.state.list.prefix.items } };
+    ghost view = { λ h. record { vector = h.slots.now; seen = h.state.value.list.prefix.items } };
 
     ghost invariant = { λ h. IsMapOf T.is_for
-        h.slots.now h.state.list h.state.table × (h.cell.now.numbers ≡ h.slots.now) };
+        h.slots.now h.state.value.list h.state.value.table × (h.cell.now.numbers ≡ h.slots.now)
+        × (h.shown.now ≡ h.slots.now) };
 }
 
 impl<K: Drop, V, T: Places<K> + Drop, A: Allocator + Copy> Drop for FrozenHold<'_, K, V, T, A> {
@@ -48,9 +52,10 @@ impl<K: Drop, V, T: Places<K> + Drop, A: Allocator + Copy> Drop for FrozenHold<'
         let Self {
             slots: _,
             cell,
+            shown: _,
             state,
         } = self;
-        cell.put(state);
+        cell.put(Parked { state });
     }
 }
 
@@ -58,6 +63,7 @@ impl<'m, K: Drop, V: Drop, T: Places<K> + Drop, A: Allocator + Copy> FrozenHold<
     /// Returns all entries, to read them after the guard is dropped.
     pub fn observed(&self) -> Observed<'m, Entry<K, V>, A>
         ensures same_view { result ≡ self.now }
+        ensures limit { length result.seen ≤ 2 ^ 32 - 1 }
     {
         observe(self.slots, &self.state.list)
     }
@@ -68,6 +74,7 @@ impl<'m, K: Drop, V: Drop, T: Places<K> + Drop, A: Allocator + Copy> FrozenHold<
     {
         FrozenHandle {
             cell: self.cell,
+            shown: self.shown,
             observed: self.observed(),
         }
     }
@@ -78,9 +85,42 @@ impl<'m, K: Drop, V: Drop, T: Places<K> + Drop, A: Allocator + Copy> FrozenHold<
     /// `O(1)`.
     pub fn len(&self) -> usize
         ensures length { result ≡ length self.now.seen }
-        ensures limit { result < 2 ^ 62 }
+        ensures limit { result ≤ 2 ^ 32 - 1 }
     {
         self.state.list.count
+    }
+
+    /// Returns whether the map has the greatest number of entries, `2^32 - 1`.
+    pub fn is_full(&self) -> bool
+        ensures full { IsTrue result ↔ (length self.now.seen ≡ 2 ^ 32 - 1) }
+    {
+        self.len() == MOST
+    }
+
+    /// Reserves room for `additional` more entries.
+    ///
+    /// # Errors
+    /// Fails with [`Fault::Memory`] if an allocation fails, and with [`Fault::Full`] if the map
+    /// would have more than the greatest number of entries, `2^32 - 1`. The entries are unchanged.
+    ///
+    /// # Allocates
+    /// The buffers for these entries and a list of them, and one larger table.
+    ///
+    /// # Cost
+    /// `O(n)` in the number of entries if the table grows.
+    pub fn reserve(&mut self, additional: usize) -> Result<(), Fault>
+        ensures same { self.new ≡ self.old }
+        ensures full { IfErr result (λ f. f ≡ Fault.Full →
+            2 ^ 32 ≤ length self.old.seen + additional) }
+    {
+        if additional > MOST - self.state.list.count {
+            return Err(Fault::Full);
+        }
+        let slots = self.slots;
+        match self.state.reserve(slots, additional) {
+            Ok(()) => Ok(()),
+            Err(_) => Err(Fault::Memory),
+        }
     }
 
     /// Returns a reference to the entry at an index.
@@ -93,13 +133,15 @@ impl<'m, K: Drop, V: Drop, T: Places<K> + Drop, A: Allocator + Copy> FrozenHold<
     }
 
     /// Returns the index of the entry whose key `query` finds, and a reference to it.
-    #[tactic(auto, using(crate::proofs::EntryLemmas::absent_at, crate::proofs::EntryLemmas::within_at))]
-    fn find<Q: Seeks<K, T>>(&self, query: Q) -> Option<(usize, &'m Entry<K, V>)>
+    #[tactic(auto, using(crate::proofs::EntryLemmas::absent_at, crate::proofs::EntryLemmas::within_at, crate::proofs::EntryLemmas::passes_at))]
+    pub(crate) fn find<Q: Seeks<K, T>>(&self, query: Q) -> Option<(usize, &'m Entry<K, V>)>
+        ensures found_key { IfSome result (λ f. Q.finds query (key_of f.1.now) ≡ true) }
         ensures index { option_map (λ f. f.0) result
             ≡ position (Q.finds query) (map key_of self.now.seen) }
         ensures entry { IfSome result (λ f. slice_get self.now.seen f.0 ≡ Some f.1.now) }
         ensures value { option_map (λ f. f.1.now.value) result
             ≡ lookup (Q.finds query) (pairs_of self.now.seen) }
+        ensures limit { IfSome result (λ f. f.0 < 2 ^ 32 - 1) }
     {
         let index = self.state.find(self.slots, query)?;
         Some((index, self.entry_at(index)))
@@ -113,6 +155,7 @@ impl<'m, K: Drop, V: Drop, T: Places<K> + Drop, A: Allocator + Copy> FrozenHold<
         ensures entry { IfSome result (λ f. slice_get self.now.seen f.0 ≡ Some f.1.now) }
         ensures value { option_map (λ f. f.1.now.value) result
             ≡ lookup (T.same key.now) (pairs_of self.now.seen) }
+        ensures limit { IfSome result (λ f. f.0 < 2 ^ 32 - 1) }
     {
         match self.state.seek(self.slots, key) {
             Ok(present) => Some((present, self.entry_at(present))),
@@ -149,6 +192,7 @@ impl<'m, K: Drop, V: Drop, T: Places<K> + Drop, A: Allocator + Copy> FrozenHold<
         ensures found_key { IfSome result (λ r. Q.finds query r.1.now ≡ true) }
         ensures value { option_map (λ r. r.2.now) result
             ≡ lookup (Q.finds query) (pairs_of self.now.seen) }
+        ensures limit { IfSome result (λ r. r.0 < 2 ^ 32 - 1) }
     {
         let (index, entry) = self.find(query)?;
         Some((index, entry.key(), entry.value()))
@@ -172,8 +216,9 @@ impl<'m, K: Drop, V: Drop, T: Places<K> + Drop, A: Allocator + Copy> FrozenHold<
     /// value, and `key` and `value` are dropped.
     ///
     /// # Errors
-    /// Fails with [`CellFault::Memory`] and `value` if an allocation fails, or if the map has the
-    /// greatest number of entries, `2^32 - 1`. The map is unchanged; the key is dropped.
+    /// Fails with [`CellFault::Memory`] and `value` if an allocation fails, and with
+    /// [`CellFault::Full`] and `value` if the map has the greatest number of entries, `2^32 - 1`.
+    /// The map is unchanged; the key is dropped.
     ///
     /// # Allocates
     /// A buffer, four times as large as the one before, at the lengths where one begins. When the
@@ -186,7 +231,8 @@ impl<'m, K: Drop, V: Drop, T: Places<K> + Drop, A: Allocator + Copy> FrozenHold<
         ensures continues { Continues self.old self.new }
         ensures inserted { IfOk result (λ r. Inserts T.same self.old.seen self.new.seen key value
             r.value.now r.index r.is_new) }
-        ensures given_back { IfErr result (λ f. f ≡ CellFault.Memory value) }
+        ensures limit { IfOk result (λ r. r.index < 2 ^ 32 - 1) }
+        ensures given_back { IfErr result (Refuses (2 ^ 32 - 1) (length self.old.seen) value) }
 
         // It fails only for an absent key.
         ensures refused { IfErr result (λ _. (self.new ≡ self.old)
@@ -200,7 +246,11 @@ impl<'m, K: Drop, V: Drop, T: Places<K> + Drop, A: Allocator + Copy> FrozenHold<
             }),
             Err(entry) => {
                 let Entry { key: _key, value } = entry;
-                Err(CellFault::Memory(value))
+                Err(if self.len() < MOST {
+                    CellFault::Memory(value)
+                } else {
+                    CellFault::Full(value)
+                })
             }
         }
     }
@@ -209,8 +259,7 @@ impl<'m, K: Drop, V: Drop, T: Places<K> + Drop, A: Allocator + Copy> FrozenHold<
     /// has: [`insert_new`](Self::insert_new) with the whole entry.
     ///
     /// # Errors
-    /// Fails with the entry itself if an allocation fails, or if the map has the greatest number of
-    /// entries.
+    /// Fails with the entry itself if an allocation fails, or if the map is full.
     pub(crate) fn insert_entry(
         &mut self,
         key: K,
@@ -219,7 +268,8 @@ impl<'m, K: Drop, V: Drop, T: Places<K> + Drop, A: Allocator + Copy> FrozenHold<
         ensures continues { Continues self.old self.new }
         ensures inserted { IfOk result (λ r. Inserts T.same self.old.seen self.new.seen key value
             r.value.now.value r.index r.is_new) }
-        ensures entry { IfOk result (λ r. slice_get self.new.seen r.index ≡ Some r.value.now) }
+        ensures entry { IfOk result (λ r. (slice_get self.new.seen r.index ≡ Some r.value.now)
+            × (r.index < 2 ^ 32 - 1)) }
         ensures given_back { IfErr result (λ e. pair_of e ≡ (key, value)) }
 
         // It fails only for an absent key.
@@ -238,11 +288,14 @@ impl<'m, K: Drop, V: Drop, T: Places<K> + Drop, A: Allocator + Copy> FrozenHold<
         };
         let slots = self.slots;
         match self.state.add(slots, missing, Entry { key, value }) {
-            Ok(index) => Ok(Inserted {
-                value: self.entry_at(index),
-                index,
-                is_new: true,
-            }),
+            Ok(index) => {
+                self.shown.set(&self.state.list);
+                Ok(Inserted {
+                    value: self.entry_at(index),
+                    index,
+                    is_new: true,
+                })
+            }
             Err(entry) => Err(entry),
         }
     }

@@ -1,5 +1,5 @@
 // The state of a map: the list of its entries, and the table that finds the index of each key.
-ghost use Rattle.std.specs.Prelude.{◌≡◌, ◌++◌, ◌∷◌, ◌<◌, [], length, map, position, slice_get, IfErr, IfOk, None, OnErr, Some};
+ghost use Rattle.std.specs.Prelude.{◌≡◌, ◌++◌, ◌∷◌, ◌<◌, ◌≤◌, ◌-◌, ◌^◌, [], length, map, position, slice_get, IfErr, IfOk, None, OnErr, Some};
 ghost use Rattle.elsa_cell.specs.Entries.{IsMapOf, key_of};
 ghost use Rattle.elsa_cell.specs.declared.map.Entry.{Entry};
 
@@ -8,10 +8,24 @@ use crate::places::{KeyList, Places, Seeks};
 use boxcar::tag::Tag;
 use counted_slot::Fits;
 use elsa_arena::observed::Observed;
-use elsa_arena::state::{State, push_item};
+use elsa_arena::shared::Shared;
+use elsa_arena::shown::Most;
+use elsa_arena::state::{self, State, push_item};
 use elsa_arena::views::observe;
 use elsa_slots::slots::{Sink, Slots};
-use std::alloc::Allocator;
+use std::alloc::{AllocError, Allocator};
+
+/// The greatest number of entries: a table has 32 bits for an index plus 1.
+pub(crate) const MOST: usize = 0xFFFF_FFFF;
+
+/// The limit of a map.
+pub struct OfMap;
+
+impl Most for OfMap {
+    ghost use Rattle.std.specs.Prelude.{◌-◌, ◌^◌};
+
+    ghost most = { 2 ^ 32 - 1 };
+}
 
 /// A receiver of entries, as pairs.
 #[derive(Drop)]
@@ -83,6 +97,38 @@ impl<K: Drop, V, T: Places<K> + Drop, A: Allocator + Copy> Fits for MapState<K, 
     ghost fits = { λ tag state. IsMapOf T.is_for tag.numbers state.list state.table };
 }
 
+/// A state on the heap, so that a call which takes it out of its cell moves a pointer.
+#[derive(Drop)]
+pub(crate) struct Parked<K: Drop, V, T: Places<K> + Drop, A: Allocator + Copy> {
+    pub(crate) state: Box<MapState<K, V, T, A>, A>,
+}
+
+impl<K: Drop, V, T: Places<K> + Drop, A: Allocator + Copy> Fits for Parked<K, V, T, A> {
+    ghost use Rattle.elsa_cell.specs.Entries.{IsMapOf};
+
+    type Tag = Tag;
+
+    ghost fits = { λ tag p. IsMapOf T.is_for tag.numbers p.state.value.list p.state.value.table };
+}
+
+/// Stores the first state of a map on the heap, in a cell.
+///
+/// # Errors
+/// Fails if an allocation fails.
+pub(crate) fn park<K: Drop, V, T: Places<K> + Drop, A: Allocator + Copy>(
+    alloc: A,
+    state: MapState<K, V, T, A>,
+    tag: &Tag,
+) -> Result<Shared<Parked<K, V, T, A>>, AllocError>
+    requires { IsMapOf T.is_for tag.now.numbers state.list state.table }
+    ensures { IfOk result (λ s. s ≡ tag.now) }
+{
+    let Ok(state) = Box::new(alloc, state) else {
+        return Err(AllocError);
+    };
+    Ok(Shared::new(Parked { state }, tag))
+}
+
 impl<K: Drop, V, T: Places<K> + Drop, A: Allocator + Copy> MapState<K, V, T, A> {
     /// Returns the list, and drops the table.
     pub(crate) fn into_list(self) -> State<Entry<K, V>, A>
@@ -123,6 +169,23 @@ impl<K: Drop, V, T: Places<K> + Drop, A: Allocator + Copy> MapState<K, V, T, A> 
         self.table.seek(&observe(slots, &self.list), key)
     }
 
+    /// Makes room for `additional` more entries.
+    ///
+    /// # Errors
+    /// Fails if an allocation fails.
+    pub(crate) fn reserve(
+        &mut self,
+        slots: &Slots<Entry<K, V>, A>,
+        additional: usize,
+    ) -> Result<(), AllocError>
+        requires { IsMapOf T.is_for slots.now self.old.list self.old.table }
+        ensures state { IsMapOf T.is_for slots.now self.new.list self.new.table }
+        ensures same { self.new.list.prefix.items ≡ self.old.list.prefix.items }
+    {
+        self.table.reserve_more(additional)?;
+        state::reserve(slots, &mut self.list, additional)
+    }
+
     /// Appends an entry whose key the map lacks, and returns its index. `end` is the end of a
     /// search for the key.
     ///
@@ -146,6 +209,9 @@ impl<K: Drop, V, T: Places<K> + Drop, A: Allocator + Copy> MapState<K, V, T, A> 
         ensures refused { IfErr result (λ e. (e ≡ entry)
             × (self.new.list.prefix.items ≡ self.old.list.prefix.items)) }
     {
+        if self.list.count >= MOST {
+            return Err(entry);
+        }
         let Ok(room) = self.table.reserve(end) else {
             return Err(entry);
         };

@@ -15,14 +15,12 @@ ghost use Rattle.elsa_cell.specs.Queries.{equal_alike, higher_stays, lower_stays
 use crate::map::{Entry, Frozen};
 use crate::map_handle::FrozenHandle;
 use crate::map_hold::FrozenHold;
+use crate::map_state::MOST;
 use crate::places::{KeyList, Places, Seeks};
 use elsa_arena::observed::Observed;
 use std::alloc::{AllocError, Allocator, Global};
 use std::cmp::Ordering;
 use std::marker::Model;
-
-/// The greatest number of indices.
-const MOST: usize = 0xFFFF_FFFF;
 
 /// A query of the ordered map with keys `K`: it compares with keys as one of them does.
 ///
@@ -184,6 +182,10 @@ impl<K: Ord, A: Allocator + Copy> Places<K> for Ordered<A> {
         Ok(end)
     }
 
+    fn reserve_more(&mut self, more: usize) -> Result<(), AllocError> {
+        self.order.reserve(more)
+    }
+
     fn add(&mut self, end: usize) {
         let next = self.order.len() as u32;
         match self.order.insert(end, next) {
@@ -203,6 +205,10 @@ impl<K: Ord, Q: OrderQuery<K>, A: Allocator + Copy> Seeks<K, Ordered<A>> for Q {
             Ok(index) => Some(index),
             Err(_) => None,
         }
+    }
+
+    fn matches(&self, key: &K) -> bool {
+        matches!(self.compare(key), Ordering::Equal)
     }
 }
 
@@ -230,7 +236,7 @@ impl<K: Ord + Drop, V: Drop, A: Allocator + Copy> FrozenBTreeMap<K, V, A> {
     /// Fails if an allocation fails.
     ///
     /// # Allocates
-    /// The directory of its buffers.
+    /// The directory of its buffers, and a block for what insertions change.
     pub fn new(alloc: A) -> Result<Self, AllocError> {
         let order = Vec::new(alloc);
         Frozen::over(alloc, Ordered { order })

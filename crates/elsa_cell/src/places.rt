@@ -54,6 +54,14 @@ pub trait Places<K> {
         ensures room { IfOk result (λ e. (keys : List K) (key : K) →
             ends self.old keys key end → has_room self.new keys key e) };
 
+    /// Makes room for `more` indices. No index changes.
+    ///
+    /// # Errors
+    /// Fails if an allocation fails, or if the table would have more than the greatest number of
+    /// indices, 2^32 - 1.
+    fn reserve_more(&mut self, more: usize) -> Result<(), AllocError>
+        ensures stays { (keys : List K) → is_for self.old keys → is_for self.new keys };
+
     /// Adds the next index, that of a key which is absent. `end` is the result of
     /// [`reserve`](Self::reserve), after which the table was not changed. It allocates nothing.
     fn add(&mut self, end: Self::End)
@@ -78,4 +86,8 @@ pub trait Seeks<K, T: Places<K>>: Copy {
     fn seek<L: KeyList<K>>(self, table: &T, keys: &L) -> Option<usize>
         requires { T.is_for table.now (L.keys keys.now) }
         ensures { result ≡ position (finds self) (L.keys keys.now) };
+
+    /// Returns whether the query finds `key`. It allocates nothing.
+    fn matches(&self, key: &K) -> bool
+        ensures { result ≡ finds self.now key.now };
 }

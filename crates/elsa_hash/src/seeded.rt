@@ -8,7 +8,7 @@
 //!
 //! **What it is made to resist**: keys crafted beforehand by someone who knows this code and not
 //! the seed. No bound on collisions is proved; no family of keys that we know does worse than
-//! random ones, and `tools/crafted_names --judge` tries a dozen.
+//! random ones, and `tools/program_checks hashes` tries a dozen.
 //!
 //! **What it doesn't resist**: someone who learns the seed, or learns of it bit by bit, as by
 //! timing many look-ups in one run. If that matters, use std's `RandomState`: SipHash-1-3, which

@@ -1,19 +1,42 @@
 -- What stays true of index entries that each change once, and what follows when a probe ends.
-use Rattle.std.proofs.Common.{◌≡◌, ℕ, ◌+◌, ◌*◌, ◌/◌, ◌%◌, ◌^◌, ◌<◌, ◌≤◌, inl, inr, Bool, true, false, ◌==◌, if◌then◌else◌, ap, subst, sym, ◌∙◌, refl, arith}
+use Rattle.std.proofs.Common.{◌≡◌, ℕ, ◌+◌, ◌-◌, ◌*◌, ◌/◌, ◌%◌, ◌^◌, ◌<◌, ◌≤◌, inl, inr, Bool, true, false, ◌==◌, if◌then◌else◌, ap, subst, sym, ◌∙◌, refl, arith}
 use Rattle.std.proofs.lemmas.Bool.{cases_eq, cases_lt}
 use Rattle.std.proofs.lemmas.Bool.Decides.{nat_tests}
-use Rattle.std.proofs.lemmas.Nat.{mod_below}
-use Rattle.std.proofs.Math.Nat.{mod-eq_of_lt}
-use Rattle.elsa_hash_index.specs.Words.{mixed, tag_of, number_of, walk, IsLater, PassesFilled, IsIndexed}
+use Rattle.std.proofs.lemmas.Nat.{div_below, mod_below, mul-lt}
+use Rattle.std.proofs.Math.Nat.{div-mul-le_self, lt-div-mul-add, mod-eq_of_lt, mod-eq-sub-mod, mul-le-mul_right, mul-lt-mul_of_pos_right}
+use Rattle.elsa_hash_index.specs.Words.{mixed, tag_of, number_of, start, walk, IsLater, IsNearStart, PassesFilled, IsIndexed}
 
--- A probe stays among the index entries.
-pub walk_within : (count hash step : ℕ) → step < count → walk count hash step < count
-unfolding walk
-walk_within count hash step h = mod_below (((hash * count) % 2 ^ 64 / 2 ^ 32 + step) % 2 ^ 64) count (omega (arith, h))
+-- The product of a hash and the number of index entries has 96 bits.
+pub product_fits : (count hash : ℕ) → hash < 2 ^ 32 → count < 2 ^ 64 → hash * count < 2 ^ 128
+product_fits count hash h c = let p = mul-lt hash count (2 ^ 32) (2 ^ 64) h c in omega (arith, p)
+
+-- A probe begins at an index entry.
+pub start_within : (count hash : ℕ) → hash < 2 ^ 32 → 0 < count → hash * count / 2 ^ 32 < count
+start_within count hash h c = let p = mul-lt-mul_of_pos_right h c in omega (arith, p)
 
 -- A number below the divisor is its own remainder.
 pub small_mod : (n m : ℕ) → n < m → n % m ≡ n
 small_mod n m h = mod-eq_of_lt h
+
+-- A number that is less than twice the divisor has the divisor once.
+pub wrapped_mod : (n m : ℕ) → m ≤ n → n < m + m → n % m ≡ n - m
+wrapped_mod n m over twice = mod-eq-sub-mod over ∙ small_mod (n - m) m (omega (arith, over, twice))
+
+-- A probe stays among the index entries.
+pub walk_within : (count hash step : ℕ) → step < count → walk count hash step < count
+unfolding walk
+walk_within count hash step h = mod_below (start count hash + step) count (omega (arith, h))
+
+-- Each index entry is near a start: that of the greatest hash whose probe doesn't begin after it.
+pub near_start : (count at : ℕ) → at < count → IsNearStart count at
+unfolding start
+near_start count at lt =
+    let top = (at + 1) * 2 ^ 32 - 1 in
+    let hash = top / count in
+    let below : hash * count ≤ top = div-mul-le_self top count in
+    let above : top < hash * count + count = lt-div-mul-add (omega (arith, lt)) in
+    let few : hash < 2 ^ 32 = div_below top count (2 ^ 32) (omega (arith, lt)) (let p = mul-le-mul_right (2 ^ 32) lt in omega (arith, p)) in
+    (hash, few, omega (arith, below), omega (arith, below, above))
 
 -- No tag is 0.
 pub tag_positive : (hash : ℕ) → 0 < tag_of hash

@@ -103,26 +103,26 @@ pub fn lookup<
     find(&mut view, hash, n, is_it)
 }
 
-/// Enters a new key in the row of the last entry, and returns the key's entry.
+/// Enters a new key in the row of the last entry, and returns what the key's entry needs: evidence
+/// of what the row contains since.
 ///
 /// # Errors
 /// Fails if fewer than a third of that row's index entries would stay 0.
 pub fn entered<K: Eq + Drop, V: Drop, S: Copy + Drop, A: Allocator, L: Shelf<K, V, S, A>>(
     list: &L,
-    key: K,
-    value: V,
-) -> Result<Entry<K, V, S>, AllocError>
+    key: &K,
+) -> Result<RowSeen<S>, AllocError>
     // The list is not empty, has fewer than 2^32 - 1 entries, and doesn't have the key.
     requires not_empty { 0 < length (L.seen list.now) }
     requires room { length (L.seen list.now) + 1 < 2 ^ 32 }
-    requires absent_key { IsAbsent K.eq (keys_of (L.seen list.now)) key }
+    requires absent_key { IsAbsent K.eq (keys_of (L.seen list.now)) key.now }
 
-    // The entry has the key and the value, is of the same row, and may be appended to the list.
-    ensures same_row { IfOk result (λ e. (last : Entry K V S) →
+    // The evidence is of the same row, and an entry of the key may be appended to the list.
+    ensures same_row { IfOk result (λ seen. (last : Entry K V S) →
         slice_get (L.seen list.now) (length (L.seen list.now) - 1) ≡ Some last →
-        e.seen.book ≡ last.seen.book) }
-    ensures same_pair { IfOk result (λ e. (e.key ≡ key) × (e.value ≡ value)) }
-    ensures behind { IfOk result (λ e. IsBehind K.eq L.hash (L.seen list.now) e) }
+        seen.book ≡ last.seen.book) }
+    ensures behind { IfOk result (λ seen. (v : V) → IsBehind K.eq L.hash (L.seen list.now)
+        (record { key = key.now; value = v; seen = seen })) }
 {
     let n = list.seen_len();
     list.obeys_rule();
@@ -133,16 +133,12 @@ pub fn entered<K: Eq + Drop, V: Drop, S: Copy + Drop, A: Allocator, L: Shelf<K, 
         return Err(AllocError);
     }
     let builder = view.builder();
-    enter(&mut view, list.hash_of(builder, &key), n)?;
-    Ok(Entry {
-        key,
-        value,
-        seen: view.into_seen(),
-    })
+    enter(&mut view, list.hash_of(builder, key), n)?;
+    Ok(view.into_seen())
 }
 
 /// Makes a row of `count` index entries, enters all keys of the list and then the new key, and
-/// returns the row and the new key's entry.
+/// returns the row, and evidence of what it contains.
 ///
 /// # Errors
 /// Fails if an allocation fails, or if the row is full.
@@ -157,17 +153,16 @@ pub fn regrown<K: Eq + Drop, V: Drop, S: Copy + Drop, A: Allocator + Copy, L: Sh
     alloc: A,
     count: usize,
     builder: S,
-    key: K,
-    value: V,
-) -> Result<(Row<S, A>, Entry<K, V, S>), AllocError>
+    key: &K,
+) -> Result<(Row<S, A>, RowSeen<S>), AllocError>
     requires room { length (L.seen list.now) + 1 < 2 ^ 32 }
-    requires absent_key { IsAbsent K.eq (keys_of (L.seen list.now)) key }
+    requires absent_key { IsAbsent K.eq (keys_of (L.seen list.now)) key.now }
     requires load { HasLoad count (length (L.seen list.now) + 1) }
 
-    // The entry has the key and the value, is of the new row, and may be appended to the list.
-    ensures same_row { IfOk result (λ r. r.1.seen.book ≡ r.0.first.book) }
-    ensures same_pair { IfOk result (λ r. (r.1.key ≡ key) × (r.1.value ≡ value)) }
-    ensures behind { IfOk result (λ r. IsBehind K.eq L.hash (L.seen list.now) r.1) }
+    // The evidence is of the new row, and an entry of the key may be appended to the list.
+    ensures same_row { IfOk result (λ r. r.1.book ≡ r.0.first.book) }
+    ensures behind { IfOk result (λ r. (v : V) → IsBehind K.eq L.hash (L.seen list.now)
+        (record { key = key.now; value = v; seen = r.1 })) }
 {
     let n = list.seen_len();
     let row = Row::new(alloc, count, builder)?;
@@ -178,7 +173,7 @@ pub fn regrown<K: Eq + Drop, V: Drop, S: Copy + Drop, A: Allocator + Copy, L: Sh
             result ≡ L.hash builder x.key }
     { list.hash_of(builder, &list.item(place).key) };
     enter_all(&mut view, n, hash_at)?;
-    enter(&mut view, list.hash_of(builder, &key), n)?;
+    enter(&mut view, list.hash_of(builder, key), n)?;
     let seen = view.into_seen();
-    Ok((row, Entry { key, value, seen }))
+    Ok((row, seen))
 }

@@ -2,7 +2,7 @@
 //! entered.
 ghost use Rattle.std.specs.Prelude.{◌≡◌, ℕ, ◌+◌, ◌<◌, ◌≤◌, ◌^◌, true, false, IfSome, IfNone, OnOk};
 ghost use Rattle.logbook.specs.Pages.{Book};
-ghost use Rattle.elsa_hash_index.specs.Words.{walk, tag_of, number_of, IsIndexed, IsLater};
+ghost use Rattle.elsa_hash_index.specs.Words.{walk, tag_of, number_of, IsIndexed, IsLater, IsNearStart};
 
 use std::alloc::AllocError;
 
@@ -72,16 +72,24 @@ fn tagged(hash: u32) -> u64
     if mixed == 0 { 1 } else { mixed }
 }
 
-/// Returns which of `count` index entries a probe for `hash` reaches after `step` steps.
-#[tactic(auto, unfolding(crate::specs::Words::walk), using(crate::proofs::WordLemmas::walk_within, crate::proofs::WordLemmas::small_mod))]
+/// Returns which of `count` index entries a probe for `hash` reaches after `step` steps. The
+/// product has up to 96 bits: a row has more than `2^32` index entries from `2^30 - 1` entries of a
+/// map on.
+#[tactic(auto, unfolding(crate::specs::Words::start, crate::specs::Words::walk), using(crate::proofs::WordLemmas::product_fits, crate::proofs::WordLemmas::start_within, crate::proofs::WordLemmas::small_mod, crate::proofs::WordLemmas::wrapped_mod, crate::proofs::WordLemmas::near_start))]
 #[inline(always)]
 fn walked(count: usize, hash: u32, step: usize) -> usize
     requires { step < count }
     ensures entry { result ≡ walk count hash step }
     ensures within { result < count }
+    ensures spread { (at : ℕ) → at < count → IsNearStart count at }
 {
-    let at = ((hash as usize).wrapping_mul(count) / 0x1_0000_0000).wrapping_add(step);
-    if at < count { at } else { at % count }
+    let start = (hash as u128 * count as u128 / 0x1_0000_0000) as usize;
+    let left = count - start;
+    if step < left {
+        start + step
+    } else {
+        step - left
+    }
 }
 
 /// Returns an index below `n` that `is_it` accepts, from an index entry with the tag of this hash.

@@ -3,7 +3,6 @@ ghost use Rattle.std.specs.Prelude.{◌≡◌, [], ◌∷◌, ◌++◌, length, 
 ghost use Rattle.elsa_specs.specs.Replay.{Replays, IsRecorded};
 
 use crate::{AtOpening, Core, Start};
-use elsa_specs::Call;
 use std::alloc::{AllocError, Allocator, Global};
 use std::marker::{Model, PhantomData};
 
@@ -33,14 +32,14 @@ impl<C: Core, A: Allocator, S: Start<C>> Model for History<C, A, S> {
     ghost view = { λ h. (h.core, h.entries.items) };
 
     ghost invariant = { λ h.
-        Replays C.Command.steps (S.start C.Command.state C.Command.opening) h.entries.items
-        (C.Command.state h.core) };
+        Replays C.steps (S.start C.state C.opening) h.entries.items
+        (C.state h.core) };
 }
 
 impl<C: Core, A: Allocator + Copy, S: Start<C>> History<C, A, S> {
     /// Makes the history of an object that was not called yet. It allocates nothing.
     pub(crate) fn new(alloc: A, core: C) -> Self
-        requires { C.Command.state core ≡ S.start C.Command.state C.Command.opening }
+        requires { C.state core ≡ S.start C.state C.opening }
         ensures { result ≡ (core, []) }
     {
         History {
@@ -53,8 +52,8 @@ impl<C: Core, A: Allocator + Copy, S: Start<C>> History<C, A, S> {
     /// Returns the object, in the state after the last call.
     pub fn core(&self) -> &C
         ensures core { result.now ≡ self.now.0 }
-        ensures legal { Replays C.Command.steps (S.start C.Command.state C.Command.opening)
-            self.now.1 (C.Command.state self.now.0) }
+        ensures legal { Replays C.steps (S.start C.state C.opening)
+            self.now.1 (C.state self.now.0) }
     {
         &self.core
     }
@@ -63,8 +62,8 @@ impl<C: Core, A: Allocator + Copy, S: Start<C>> History<C, A, S> {
     /// reply.
     pub fn entries(&self) -> &[(u64, C::Command, C::Reply)]
         ensures entries { result.now ≡ self.now.1 }
-        ensures legal { Replays C.Command.steps (S.start C.Command.state C.Command.opening)
-            self.now.1 (C.Command.state self.now.0) }
+        ensures legal { Replays C.steps (S.start C.state C.opening)
+            self.now.1 (C.state self.now.0) }
     {
         self.entries.as_slice()
     }
@@ -74,8 +73,8 @@ impl<C: Core, A: Allocator + Copy, S: Start<C>> History<C, A, S> {
     pub fn into_parts(self) -> (C, Entries<C, A>)
         ensures core { result.0 ≡ self.0 }
         ensures entries { result.1.items ≡ self.1 }
-        ensures legal { Replays C.Command.steps (S.start C.Command.state C.Command.opening)
-            result.1.items (C.Command.state result.0) }
+        ensures legal { Replays C.steps (S.start C.state C.opening)
+            result.1.items (C.state result.0) }
     {
         let History {
             core,
@@ -100,17 +99,17 @@ impl<C: Core, A: Allocator + Copy, S: Start<C>> History<C, A, S> {
         ensures place { IfOk result (λ r. r.0 ≡ length self.old.1) }
         ensures stored { IfOk result (λ r. self.new.1 ≡ self.old.1 ++ (number, command, r.1) ∷ []) }
         ensures recorded { IfOk result (λ r.
-            IsRecorded C.Command.steps (S.start C.Command.state C.Command.opening) r.0
+            IsRecorded C.steps (S.start C.state C.opening) r.0
             (number, command, r.1)) }
         ensures step { IfOk result (λ r.
-            C.Command.steps (C.Command.state self.old.0) command r.1 (C.Command.state self.new.0)) }
+            C.steps (C.state self.old.0) command r.1 (C.state self.new.0)) }
 
         // A call that fails leaves the state and the entries unchanged.
-        ensures err_state { OnErr result (C.Command.state self.new.0 ≡ C.Command.state self.old.0) }
+        ensures err_state { OnErr result (C.state self.new.0 ≡ C.state self.old.0) }
         ensures err_entries { OnErr result (self.new.1 ≡ self.old.1) }
     {
         self.entries.reserve(1)?;
-        let reply = command.apply(&mut self.core)?;
+        let reply = self.core.apply(command)?;
         let place = self.entries.len();
         let _ = self.entries.push((number, command, reply));
         Ok((place, reply))

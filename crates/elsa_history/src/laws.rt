@@ -22,18 +22,18 @@ pub fn recorded_alone<C: Core + Drop, A: Allocator + Copy, R: Wait>(
     number: u64,
     command: C::Command,
 ) -> Result<Result<History<C, A>, CloseFault<C, A>>, AllocError>
-    requires { C.Command.state core ≡ C.Command.opening }
+    requires { C.state core ≡ C.opening }
     ensures one_entry { IfOk result (λ closed. IfOk closed (λ h. length h.1 ≡ 1)) }
     ensures call { IfOk result (λ closed.
         IfOk closed (λ h. IsOneCall C.Command.eq C.Reply.eq number command h.1)) }
     ensures legal { IfOk result (λ closed.
-        IfOk closed (λ h. Replays C.Command.steps C.Command.opening h.1 (C.Command.state h.0))) }
+        IfOk closed (λ h. Replays C.steps C.opening h.1 (C.state h.0))) }
     ensures fault { IfOk result (λ closed.
         IfErr closed (λ f.
         (h : C × List (ℕ × C.Command × C.Reply))
         × ((f ≡ CloseFault.Receipts ReceiptsFault.MissingPass h)
         ⊎ (f ≡ CloseFault.Receipts ReceiptsFault.ForeignPass h))
-        × Replays C.Command.steps C.Command.opening h.1 (C.Command.state h.0))) }
+        × Replays C.steps C.opening h.1 (C.state h.0))) }
 {
     let recorder = Recorder::new(alloc, core);
     let mut pass = recorder.pass(number);
@@ -52,12 +52,12 @@ fn recorded_part<C: Core + Drop, A: Allocator + Copy, R: Wait, S: Start<C>>(
     number: u64,
     command: C::Command,
 ) -> Result<Option<(C, Entries<C, A>)>, AllocError>
-    requires { C.Command.state core ≡ S.start C.Command.state C.Command.opening }
+    requires { C.state core ≡ S.start C.state C.opening }
     ensures call { IfOk result (λ closed. IfSome closed (λ part.
         IsOneCall C.Command.eq C.Reply.eq number command part.1.items)) }
     ensures legal { IfOk result (λ closed. IfSome closed (λ part.
-        Replays C.Command.steps (S.start C.Command.state C.Command.opening) part.1.items
-        (C.Command.state part.0))) }
+        Replays C.steps (S.start C.state C.opening) part.1.items
+        (C.state part.0))) }
 {
     let recorder: Recorder<C, A, S> = Recorder::with_start(alloc, core);
     let mut pass = recorder.pass(number);
@@ -85,14 +85,14 @@ pub fn recorded_in_parts<C: Core + Drop, A: Allocator + Copy, R: Wait>(
     first: C::Command,
     second: C::Command,
 ) -> Result<Option<(Entries<C, A>, (C, Entries<C, A>))>, AllocError>
-    requires { C.Command.state core ≡ C.Command.opening }
+    requires { C.state core ≡ C.opening }
     ensures first { IfOk result (λ closed. IfSome closed (λ parts.
         IsOneCall C.Command.eq C.Reply.eq number first parts.0.items)) }
     ensures second_part { IfOk result (λ closed. IfSome closed (λ parts.
         IsOneCall C.Command.eq C.Reply.eq number second parts.1.1.items)) }
     ensures legal { IfOk result (λ closed. IfSome closed (λ parts.
-        Replays C.Command.steps C.Command.opening (parts.0.items ++ parts.1.1.items)
-        (C.Command.state parts.1.0))) }
+        Replays C.steps C.opening (parts.0.items ++ parts.1.1.items)
+        (C.state parts.1.0))) }
 {
     let found = recorded_part::<C, A, R, AtOpening>(rt, alloc, core, number, first)?;
     let Some((core, earlier)) = found else {

@@ -1,8 +1,8 @@
 //! A recorder: any sequential object under a lock, with the history of all calls of all threads,
 //! which can be replayed.
 //!
-//! The commands of a [`Core`], a sequential object, define what its calls mean, as steps from state
-//! to state. A [`Recorder`] has one object under a lock, with the list of its calls, and the type
+//! A [`Core`], a sequential object, defines what its calls mean, as steps from state to state. A
+//! [`Recorder`] has one object under a lock, with the list of its calls, and the type
 //! of the locked value states that the list is legal: from the initial state of the object's type,
 //! each reply follows from the entries before it, and the entries lead to the object's state. So
 //! the history is legal whenever the lock is free, in any order of the threads' calls. Each caller
@@ -14,6 +14,8 @@
 //! is missing or belongs to another recorder.
 #![tactic(auto)]
 
+ghost use Rattle.std.specs.Prelude.{◌≡◌, IfOk, OnErr};
+
 mod history_state;
 pub mod laws;
 mod map_core;
@@ -21,21 +23,43 @@ mod record_pass;
 mod recorder;
 mod vec_core;
 
-pub use elsa_specs::Call;
 pub use history_state::{Entries, History};
 pub use map_core::{MapCommand, MapReply};
 pub use record_pass::RecordPass;
 pub use recorder::{CloseFault, ReceiptsFault, Recorder};
+use std::alloc::AllocError;
 use std::marker::Brand;
 pub use vec_core::{VecCommand, VecReply};
 
-/// A sequential object whose calls a recorder records.
+/// A sequential object whose calls a recorder records: its commands, its replies, what its calls
+/// mean, as steps from state to state, and one function that makes a call.
 pub trait Core: Sized {
-    /// A call as a value: its arguments. Its type defines what it means.
-    type Command: Copy + Eq + Call<Self, Self::Reply, ()>;
+    /// A call as a value: its arguments.
+    type Command: Copy + Eq;
 
     /// The reply to a call.
     type Reply: Copy + Eq;
+
+    /// The type of the object's states.
+    ghost State: { Type 0 };
+
+    /// The state of the object.
+    ghost state: { Self → State };
+
+    /// The initial state of an object of this type.
+    ghost opening: { State };
+
+    /// The command, with this reply, leads from a state to the next.
+    ghost steps: { State → Self.Command → Self.Reply → State → Type 0 };
+
+    /// Makes the call and returns its reply.
+    ///
+    /// # Errors
+    /// Fails if an allocation fails. The state is then unchanged.
+    fn apply(&mut self, command: Self::Command) -> Result<Self::Reply, AllocError>
+        ensures step { IfOk result (λ reply.
+            steps (state self.old) command reply (state self.new)) }
+        ensures unchanged { OnErr result (state self.new ≡ state self.old) };
 }
 
 /// The state with which a history starts.

@@ -2,7 +2,6 @@
 
 use crate::Core;
 use elsa_locks::map::{MapState, TreeState};
-use elsa_specs::Call;
 use std::alloc::{AllocError, Allocator};
 use std::hash::{BuildHasherDefault, FoldHasher, Hash};
 
@@ -32,14 +31,15 @@ pub enum MapReply<V> {
     Count(usize),
 }
 
-impl<K: Copy + Eq + Hash, V: Copy + Eq, A: Allocator + Copy> Call<
-    MapState<K, V, BuildHasherDefault<FoldHasher>, A>,
-    MapReply<V>,
-    (),
-> for MapCommand<K, V> {
-    ghost use Rattle.std.specs.Prelude.{None, Option, ⊤};
+impl<K: Copy + Eq + Hash, V: Copy + Eq, A: Allocator + Copy> Core
+    for MapState<K, V, BuildHasherDefault<FoldHasher>, A> {
+    ghost use Rattle.std.specs.Prelude.{None, Option};
     ghost use Rattle.elsa_specs.specs.FirstWins.{value_at};
     ghost use Rattle.elsa_history.specs.MapStep.{MapStep};
+
+    type Command = MapCommand<K, V>;
+
+    type Reply = MapReply<V>;
 
     ghost State = { K → Option V };
 
@@ -49,41 +49,32 @@ impl<K: Copy + Eq + Hash, V: Copy + Eq, A: Allocator + Copy> Call<
 
     ghost steps = { MapStep K.eq };
 
-    ghost refuses = { λ _ _. ⊤ };
-
     #[tactic(auto, using(crate::proofs::Counts::has_count))]
-    fn apply(
-        self,
-        map: &mut MapState<K, V, BuildHasherDefault<FoldHasher>, A>,
-    ) -> Result<MapReply<V>, AllocError> {
-        match self {
+    fn apply(&mut self, command: MapCommand<K, V>) -> Result<MapReply<V>, AllocError> {
+        match command {
             MapCommand::Insert(key, value) => {
-                let there = map.get_copy_or_insert(key, value)?;
-                Ok(MapReply::Value(there.value))
+                let there = self.get_copy_or_insert(key, value)?;
+                Ok(MapReply::Value(there))
             }
             MapCommand::InsertNew(key, value) => {
-                let done = map.get_copy_or_insert(key, value)?;
-                Ok(MapReply::ValueNew(done.value, done.is_new))
+                let (there, is_new) = self.insert_new(key, value)?;
+                Ok(MapReply::ValueNew(*there, is_new))
             }
-            MapCommand::Get(key) => Ok(MapReply::Found(map.get_copy(&key))),
-            MapCommand::Len => Ok(MapReply::Count(map.len())),
+            MapCommand::Get(key) => Ok(MapReply::Found(self.get_copy(&key))),
+            MapCommand::Len => Ok(MapReply::Count(self.len())),
         }
     }
 }
 
-impl<K: Copy + Eq + Hash, V: Copy + Eq, A: Allocator + Copy> Core
-    for MapState<K, V, BuildHasherDefault<FoldHasher>, A> {
-    type Command = MapCommand<K, V>;
-
-    type Reply = MapReply<V>;
-}
-
-impl<K: Copy + Ord, V: Copy + Eq, A: Allocator + Copy> Call<TreeState<K, V, A>, MapReply<V>, ()>
-    for MapCommand<K, V> {
-    ghost use Rattle.std.specs.Prelude.{None, Option, ⊤};
+impl<K: Copy + Ord, V: Copy + Eq, A: Allocator + Copy> Core for TreeState<K, V, A> {
+    ghost use Rattle.std.specs.Prelude.{None, Option};
     ghost use Rattle.std.specs.Ordering.{eq_by_cmp};
     ghost use Rattle.elsa_specs.specs.FirstWins.{value_at};
     ghost use Rattle.elsa_history.specs.MapStep.{MapStep};
+
+    type Command = MapCommand<K, V>;
+
+    type Reply = MapReply<V>;
 
     ghost State = { K → Option V };
 
@@ -93,27 +84,19 @@ impl<K: Copy + Ord, V: Copy + Eq, A: Allocator + Copy> Call<TreeState<K, V, A>, 
 
     ghost steps = { MapStep (eq_by_cmp K.cmp) };
 
-    ghost refuses = { λ _ _. ⊤ };
-
     #[tactic(auto, using(crate::proofs::Counts::has_count_sorted))]
-    fn apply(self, map: &mut TreeState<K, V, A>) -> Result<MapReply<V>, AllocError> {
-        match self {
+    fn apply(&mut self, command: MapCommand<K, V>) -> Result<MapReply<V>, AllocError> {
+        match command {
             MapCommand::Insert(key, value) => {
-                let found = map.get_copy_or_insert(key, value)?;
-                Ok(MapReply::Value(found.value))
+                let found = self.get_copy_or_insert(key, value)?;
+                Ok(MapReply::Value(found))
             }
             MapCommand::InsertNew(key, value) => {
-                let done = map.get_copy_or_insert(key, value)?;
-                Ok(MapReply::ValueNew(done.value, done.is_new))
+                let (there, is_new) = self.insert_new(key, value)?;
+                Ok(MapReply::ValueNew(*there, is_new))
             }
-            MapCommand::Get(key) => Ok(MapReply::Found(map.get_copy(&key))),
-            MapCommand::Len => Ok(MapReply::Count(map.len())),
+            MapCommand::Get(key) => Ok(MapReply::Found(self.get_copy(&key))),
+            MapCommand::Len => Ok(MapReply::Count(self.len())),
         }
     }
-}
-
-impl<K: Copy + Ord, V: Copy + Eq, A: Allocator + Copy> Core for TreeState<K, V, A> {
-    type Command = MapCommand<K, V>;
-
-    type Reply = MapReply<V>;
 }

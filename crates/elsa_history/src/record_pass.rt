@@ -64,7 +64,7 @@ impl<C: Core, A: Allocator + Copy> RecordPass<C, A> {
     ) -> Result<C::Reply, AllocError>
         ensures recorded { IfOk result (λ reply.
             (place : ℕ) × (self.new ≡ (self.old.0, self.old.1 ++ (place, command, reply) ∷ []))
-            × IsRecorded C.Command.steps (S.start C.Command.state C.Command.opening) place
+            × IsRecorded C.steps (S.start C.state C.opening) place
             (self.old.0, command, reply)) }
         ensures refused { OnErr result (self.new ≡ self.old) }
     {

@@ -73,7 +73,7 @@ impl<C: Core, A: Allocator + Copy> Recorder<C, A> {
     /// Makes a recorder of an object in the initial state of its type. It allocates nothing and
     /// takes no lock.
     pub fn new(alloc: A, core: C) -> Self
-        requires { C.Command.state core ≡ C.Command.opening }
+        requires { C.state core ≡ C.opening }
     {
         Recorder::with_start(alloc, core)
     }
@@ -83,7 +83,7 @@ impl<C: Core, A: Allocator + Copy, S: Start<C>> Recorder<C, A, S> {
     /// Makes a recorder of an object in the start state that `S` defines, as the object of an
     /// earlier part. It allocates nothing and takes no lock.
     pub fn with_start(alloc: A, core: C) -> Self
-        requires { C.Command.state core ≡ S.start C.Command.state C.Command.opening }
+        requires { C.state core ≡ S.start C.state C.opening }
     {
         Recorder {
             lock: RwLock::new(History::new(alloc, core)),
@@ -124,7 +124,7 @@ impl<C: Core, A: Allocator + Copy, S: Start<C>> Recorder<C, A, S> {
     ) -> Result<C::Reply, AllocError>
         ensures recorded { IfOk result (λ reply.
             (place : ℕ) × (pass.new ≡ (pass.old.0, pass.old.1 ++ (place, command, reply) ∷ []))
-            × IsRecorded C.Command.steps (S.start C.Command.state C.Command.opening) place
+            × IsRecorded C.steps (S.start C.state C.opening) place
             (pass.old.0, command, reply)) }
         ensures refused { OnErr result (pass.new ≡ pass.old) }
     {
@@ -156,8 +156,8 @@ impl<C: Core, A: Allocator + Copy, S: Start<C>> Recorder<C, A, S> {
         ensures recorded { IfOk result (λ h. AreReceipts C.Command.eq C.Reply.eq passes.items h.1) }
         ensures count { IfOk result (λ h. length h.1 ≡ receipt_count passes.items) }
         ensures legal { IfOk result (λ h.
-            Replays C.Command.steps (S.start C.Command.state C.Command.opening) h.1
-            (C.Command.state h.0)) }
+            Replays C.steps (S.start C.state C.opening) h.1
+            (C.state h.0)) }
 
         // The history is legal, and the receipts aren't that history: an entry has none, or a
         // receipt doesn't belong to it.
@@ -165,8 +165,8 @@ impl<C: Core, A: Allocator + Copy, S: Start<C>> Recorder<C, A, S> {
             (h : C × List (ℕ × C.Command × C.Reply))
             × ((f ≡ CloseFault.Receipts ReceiptsFault.MissingPass h)
             ⊎ (f ≡ CloseFault.Receipts ReceiptsFault.ForeignPass h))
-            × Replays C.Command.steps (S.start C.Command.state C.Command.opening) h.1
-            (C.Command.state h.0)) }
+            × Replays C.steps (S.start C.state C.opening) h.1
+            (C.state h.0)) }
         ensures missing { IfErr result (λ f.
             (h : C × List (ℕ × C.Command × C.Reply)) →
             f ≡ CloseFault.Receipts ReceiptsFault.MissingPass h →

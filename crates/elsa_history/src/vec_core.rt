@@ -2,7 +2,6 @@
 
 use crate::Core;
 use elsa_locks::vec::VecState;
-use elsa_specs::Call;
 use std::alloc::{AllocError, Allocator};
 
 /// A call on a list.
@@ -27,9 +26,13 @@ pub enum VecReply<V> {
     Count(usize),
 }
 
-impl<V: Copy + Eq, A: Allocator + Copy> Call<VecState<V, A>, VecReply<V>, ()> for VecCommand<V> {
-    ghost use Rattle.std.specs.Prelude.{List, [], ⊤};
+impl<V: Copy + Eq, A: Allocator + Copy> Core for VecState<V, A> {
+    ghost use Rattle.std.specs.Prelude.{List, []};
     ghost use Rattle.elsa_history.specs.VecStep.{VecStep};
+
+    type Command = VecCommand<V>;
+
+    type Reply = VecReply<V>;
 
     ghost State = { List V };
 
@@ -39,22 +42,14 @@ impl<V: Copy + Eq, A: Allocator + Copy> Call<VecState<V, A>, VecReply<V>, ()> fo
 
     ghost steps = { VecStep };
 
-    ghost refuses = { λ _ _. ⊤ };
-
-    fn apply(self, list: &mut VecState<V, A>) -> Result<VecReply<V>, AllocError> {
-        match self {
+    fn apply(&mut self, command: VecCommand<V>) -> Result<VecReply<V>, AllocError> {
+        match command {
             VecCommand::Push(value) => {
-                let place = list.push_get_index(value)?;
+                let place = self.push_get_index(value)?;
                 Ok(VecReply::Place(place))
             }
-            VecCommand::Get(place) => Ok(VecReply::Found(list.get_copy(place))),
-            VecCommand::Len => Ok(VecReply::Count(list.len())),
+            VecCommand::Get(place) => Ok(VecReply::Found(self.get_copy(place))),
+            VecCommand::Len => Ok(VecReply::Count(self.len())),
         }
     }
-}
-
-impl<V: Copy + Eq, A: Allocator + Copy> Core for VecState<V, A> {
-    type Command = VecCommand<V>;
-
-    type Reply = VecReply<V>;
 }

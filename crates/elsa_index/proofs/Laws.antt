@@ -2,8 +2,6 @@
 use Rattle.std.proofs.Common.{◌≡◌, ℕ, Bool, true, false, List, [], ◌∷◌, ◌++◌, length, position, refl, sym, ap, ◌∙◌, Option, None, Some, IsPermutation, IsTrue, ◌↔◌}
 use Rattle.std.specs.Cmp.{IsEquivalence}
 use Rattle.std.proofs.lemmas.List.Sorted.{list_any-IsPermutation}
-use Rattle.elsa_tables.specs.declared.put.Inserted.{Inserted}
-use Rattle.elsa_tables.specs.Tables.{was_present_at}
 use Rattle.elsa_index.specs.Equality.{same_set}
 use Rattle.elsa_index.proofs.Equality.{same_set_decides}
 use Rattle.elsa_maps.proofs.Places.{place_of_last}
@@ -23,10 +21,10 @@ not_new false o i says at = refl
 not_new true o i says at = let none = says.0 refl in absurd (cc)
 
 -- If two values find the same, the second insertion returns the index and the value of the first
--- one, and `is_new` is false.
-pub told_again : {X B : Type 0} (at was : (X → Bool) → Option ℕ) (value : (X → Bool) → ℕ → Option B) (t u : X → Bool) → u ≡ t → (i : ℕ) (b : B) (s : Inserted B ℕ)
-    → at t ≡ Some i → value t i ≡ Some b → was t ≡ Some i → at u ≡ Some s.index → value u s.index ≡ Some s.value → IsTrue s.is_new ↔ (was u ≡ None) → s ≡ was_present_at i b
+-- one, and `false`.
+pub told_again : {X B : Type 0} (at was : (X → Bool) → Option ℕ) (value : (X → Bool) → ℕ → Option B) (t u : X → Bool) → u ≡ t → (i : ℕ) (b : B) (s : ℕ × B × Bool)
+    → at t ≡ Some i → value t i ≡ Some b → was t ≡ Some i → at u ≡ Some s.0 → value u s.0 ≡ Some s.1 → IsTrue s.2 ↔ (was u ≡ None) → s ≡ (i, b, false)
 told_again at was value t u same i b s first stored before again found flag =
-    let place : s.index ≡ i = cc in
-    let item : s.value ≡ b = cc in
-    λ j. record { value = item j; index = place j; is_new = not_new s.is_new (was u) i flag (ap was same ∙ before) j }
+    let place : s.0 ≡ i = cc in
+    let item : s.1 ≡ b = cc in
+    λ j. (place j, item j, not_new s.2 (was u) i flag (ap was same ∙ before) j)

@@ -3,7 +3,6 @@
 ghost use Rattle.std.specs.Prelude.{◌≡◌, ◌+◌, ◌↔◌, ℕ, All, List, None, Some, false, true, if◌then◌else◌, length, position, slice_get, IfOk, IsSome, OnErr, IsTrue};
 ghost use Rattle.elsa_specs.specs.FirstWins.{value_at};
 ghost use Rattle.elsa_specs.specs.Insertions.{place_of, Grows, Inserted, IsCloneOf};
-ghost use Rattle.elsa_tables.specs.Tables.{was_present_at};
 
 use crate::index_set::FrozenIndexSetIn;
 use crate::look_up::LookUp;
@@ -28,13 +27,13 @@ pub fn keeps_earlier_pairs<
     map: &mut FrozenIndexMapIn<R, K, V, S, A>,
     key: K,
     value: V,
-) -> Result<elsa_tables::Inserted<V::Borrow, usize>, AllocError>
+) -> Result<(usize, V::Borrow, bool), AllocError>
     ensures kept { Grows map.old map.new }
-    ensures found_after { IfOk result (λ r. value_at K.eq map.new key ≡ Some r.value) }
-    ensures index_after { IfOk result (λ r. place_of K.eq map.new key ≡ Some r.index) }
+    ensures found_after { IfOk result (λ r. value_at K.eq map.new key ≡ Some r.1) }
+    ensures index_after { IfOk result (λ r. place_of K.eq map.new key ≡ Some r.0) }
     // Whether the key or the value was new, and how the length changes.
-    ensures flag { IfOk result (λ r. IsTrue r.is_new ↔ (place_of K.eq map.old key ≡ None)) }
-    ensures grows { IfOk result (λ r. length map.new ≡ length map.old + (if r.is_new then 1 else 0)) }
+    ensures flag { IfOk result (λ r. IsTrue r.2 ↔ (place_of K.eq map.old key ≡ None)) }
+    ensures grows { IfOk result (λ r. length map.new ≡ length map.old + (if r.2 then 1 else 0)) }
     ensures refused { OnErr result (map.new ≡ map.old) }
 {
     map.insert_full_new(key, value)
@@ -57,18 +56,12 @@ pub fn is_new_once<
     first: (K, V),
     between: Vec<(K, V)>,
     again: (K, V),
-) -> Result<
-    (
-        elsa_tables::Inserted<V::Borrow, usize>,
-        elsa_tables::Inserted<V::Borrow, usize>,
-    ),
-    AllocError,
->
+) -> Result<((usize, V::Borrow, bool), (usize, V::Borrow, bool)), AllocError>
     requires equal { K.eq first.0 again.0 ≡ true }
-    ensures first { IfOk result (λ r. IsTrue r.0.is_new ↔ (place_of K.eq map.old first.0 ≡ None)) }
-    ensures once { IfOk result (λ r. r.1 ≡ was_present_at r.0.index r.0.value) }
-    ensures found_after { IfOk result (λ r. value_at K.eq map.new first.0 ≡ Some r.0.value) }
-    ensures index_after { IfOk result (λ r. place_of K.eq map.new first.0 ≡ Some r.0.index) }
+    ensures first { IfOk result (λ r. IsTrue r.0.2 ↔ (place_of K.eq map.old first.0 ≡ None)) }
+    ensures once { IfOk result (λ r. r.1 ≡ (r.0.0, r.0.1, false)) }
+    ensures found_after { IfOk result (λ r. value_at K.eq map.new first.0 ≡ Some r.0.1) }
+    ensures index_after { IfOk result (λ r. place_of K.eq map.new first.0 ≡ Some r.0.0) }
     // The map has the keys between, and each earlier pair keeps its index.
     ensures between { IfOk result (λ _.
         All (λ pair. IsSome (place_of K.eq map.new pair.0)) between.items) }
@@ -126,18 +119,15 @@ pub fn set_keeps_earlier_values<
     T: StableDeref<R> + LookUp<<T as StableDeref<R>>::Borrow>,
     S: BuildHasher,
     A: Allocator + Copy,
->(
-    set: &mut FrozenIndexSetIn<R, T, S, A>,
-    value: T,
-) -> Result<elsa_tables::Inserted<T::Borrow, usize>, AllocError>
+>(set: &mut FrozenIndexSetIn<R, T, S, A>, value: T) -> Result<(usize, T::Borrow, bool), AllocError>
 where
     <T as StableDeref<R>>::Borrow: Eq + Hash,
     ensures kept { Grows set.old set.new }
-    ensures found_after { IfOk result (λ r. slice_get set.new r.index ≡ Some r.value) }
-    ensures index_after { IfOk result (λ r. position (T.finds value) set.new ≡ Some r.index) }
+    ensures found_after { IfOk result (λ r. slice_get set.new r.0 ≡ Some r.1) }
+    ensures index_after { IfOk result (λ r. position (T.finds value) set.new ≡ Some r.0) }
     // Whether the key or the value was new, and how the length changes.
-    ensures flag { IfOk result (λ r. IsTrue r.is_new ↔ (position (T.finds value) set.old ≡ None)) }
-    ensures grows { IfOk result (λ r. length set.new ≡ length set.old + (if r.is_new then 1 else 0)) }
+    ensures flag { IfOk result (λ r. IsTrue r.2 ↔ (position (T.finds value) set.old ≡ None)) }
+    ensures grows { IfOk result (λ r. length set.new ≡ length set.old + (if r.2 then 1 else 0)) }
     ensures refused { OnErr result (set.new ≡ set.old) }
 {
     set.insert_full_new(value)
@@ -159,20 +149,14 @@ pub fn set_is_new_once<
     first: T,
     between: Vec<T>,
     again: T,
-) -> Result<
-    (
-        elsa_tables::Inserted<T::Borrow, usize>,
-        elsa_tables::Inserted<T::Borrow, usize>,
-    ),
-    AllocError,
->
+) -> Result<((usize, T::Borrow, bool), (usize, T::Borrow, bool)), AllocError>
 where
     <T as StableDeref<R>>::Borrow: Eq + Hash,
     requires equal { (b : T.Borrow) → T.finds again b ≡ T.finds first b }
-    ensures first { IfOk result (λ r. IsTrue r.0.is_new ↔ (position (T.finds first) set.old ≡ None)) }
-    ensures once { IfOk result (λ r. r.1 ≡ was_present_at r.0.index r.0.value) }
-    ensures found_after { IfOk result (λ r. slice_get set.new r.0.index ≡ Some r.0.value) }
-    ensures index_after { IfOk result (λ r. position (T.finds first) set.new ≡ Some r.0.index) }
+    ensures first { IfOk result (λ r. IsTrue r.0.2 ↔ (position (T.finds first) set.old ≡ None)) }
+    ensures once { IfOk result (λ r. r.1 ≡ (r.0.0, r.0.1, false)) }
+    ensures found_after { IfOk result (λ r. slice_get set.new r.0.0 ≡ Some r.0.1) }
+    ensures index_after { IfOk result (λ r. position (T.finds first) set.new ≡ Some r.0.0) }
     // The set has the values between, and each earlier value keeps its index.
     ensures between { IfOk result (λ _.
         All (λ value. IsSome (position (T.finds value) set.new)) between.items) }

@@ -6,7 +6,6 @@ ghost use Rattle.std.specs.Iterator.{Drains, IsFinite};
 ghost use Rattle.std.specs.List.{IsDistinct};
 ghost use Rattle.std.specs.Map.Iter.{ShowsInOrder, ShowsInReverse, deref};
 ghost use Rattle.std.specs.Option.{option_map};
-ghost use Rattle.elsa_tables.specs.Tables.{was_present_at};
 ghost use Rattle.elsa_specs.specs.Insertions.{SetInserted, SetInsertedNew, SetCollects};
 ghost use Rattle.elsa_index.specs.EqualityLaws.{same_set_equiv};
 ghost use Rattle.elsa_index.specs.Equality.{same_set, HaveSameValues};
@@ -16,7 +15,6 @@ ghost use Rattle.elsa_index.specs.Texts.{reads, TextInserted};
 use crate::look_up::{LookUp, SeeksValue};
 use bumpalo::Bump;
 use elsa_specs::for_its_clause;
-use elsa_tables::Inserted;
 use elsa_vec::stable::StableDeref;
 use indexmap::IndexSet;
 use indexmap::set::Iter;
@@ -366,13 +364,13 @@ where
     /// # Cost
     /// One hash if the set has an equal value; otherwise two, plus one copy into the arena.
     #[tactic(auto, using(elsa_maps::proofs::Places::found_at, elsa_maps::proofs::Places::found_nowhere, elsa_maps::proofs::Places::found_within))]
-    pub fn insert_full_new(&mut self, value: T) -> Result<Inserted<T::Borrow, usize>, AllocError>
+    pub fn insert_full_new(&mut self, value: T) -> Result<(usize, T::Borrow, bool), AllocError>
         // A present value keeps its index; a new one is the last.
         ensures present { (x : T.Borrow) → find (T.finds value) self.old ≡ Some x →
             (i : ℕ) × (position (T.finds value) self.old ≡ Some i)
-            × (result ≡ Ok (was_present_at i x)) × (self.new ≡ self.old) }
-        ensures accepted { IfOk result (λ r. SetInsertedNew T.target T.shown T.finds self.old value
-            r.index r.value r.is_new self.new) }
+            × (result ≡ Ok (i, x, false)) × (self.new ≡ self.old) }
+        ensures accepted { IfOk result (λ r.
+            SetInsertedNew T.target T.shown T.finds self.old value r.0 r.1 r.2 self.new) }
 
         // The call fails only for a new value, and then nothing changes.
         ensures refused { OnErr result (self.new ≡ self.old) }
@@ -381,24 +379,16 @@ where
         // No two values are equal. The returned value is stored at the returned index, and the
         // given one finds it.
         ensures unique { IsDistinct T.Borrow.eq self.new }
-        ensures value_after { IfOk result (λ r. slice_get self.new r.index ≡ Some r.value) }
-        ensures index_after { IfOk result (λ r. position (T.finds value) self.new ≡ Some r.index) }
+        ensures value_after { IfOk result (λ r. slice_get self.new r.0 ≡ Some r.1) }
+        ensures index_after { IfOk result (λ r. position (T.finds value) self.new ≡ Some r.0) }
     {
         // The contract of `len` has the fact that no two values are equal.
         for_its_clause(self.set.len());
         if let Some(place) = value.position(&self.set) {
-            return Ok(Inserted {
-                value: self.set[place],
-                index: place,
-                is_new: false,
-            });
+            return Ok((place, self.set[place], false));
         }
         let (place, borrow) = self.insert_absent(value)?;
-        Ok(Inserted {
-            value: borrow,
-            index: place,
-            is_new: true,
-        })
+        Ok((place, borrow, true))
     }
 
     /// Inserts the value unless the set has an equal one, and returns the index of the stored
@@ -427,8 +417,30 @@ where
         ensures value_after { IfOk result (λ r. slice_get self.new r.0 ≡ Some r.1) }
         ensures index_after { IfOk result (λ r. position (T.finds value) self.new ≡ Some r.0) }
     {
-        let done = self.insert_full_new(value)?;
-        Ok((done.index, done.value))
+        let (index, stored, _) = self.insert_full_new(value)?;
+        Ok((index, stored))
+    }
+
+    /// Inserts the value unless the set has an equal one, and returns the stored value, and whether
+    /// it is new.
+    ///
+    /// # Errors
+    /// Fails as [`insert_full_new`](FrozenIndexSetIn::insert_full_new) does.
+    ///
+    /// # Cost
+    /// That of `insert_full_new`.
+    #[tactic(auto, using(elsa_maps::proofs::Places::found_at))]
+    pub fn insert_new(&mut self, value: T) -> Result<(T::Borrow, bool), AllocError>
+        ensures present { (x : T.Borrow) → find (T.finds value) self.old ≡ Some x →
+            (result ≡ Ok (x, false)) × (self.new ≡ self.old) }
+        ensures accepted { IfOk result (λ r.
+            (i : ℕ) × SetInsertedNew T.target T.shown T.finds self.old value i r.0 r.1 self.new) }
+        ensures refused { OnErr result (self.new ≡ self.old) }
+        ensures only_new { OnErr result (position (T.finds value) self.old ≡ None) }
+        ensures value_after { IfOk result (λ r. find (T.finds value) self.new ≡ Some r.0) }
+    {
+        let (_, borrow, is_new) = self.insert_full_new(value)?;
+        Ok((borrow, is_new))
     }
 
     /// Inserts the value unless the set has an equal one, and returns the stored value.

@@ -1,5 +1,5 @@
 -- Names as texts, the borrows of names, and the table of their indices.
-use Rattle.std.proofs.Common.{◌≡◌, ℕ, ◌+◌, ◌<◌, ◌⊎◌, false, true≢false, Bool, true, List, [], ◌∷◌, ◌++◌, length, get_or, map, position, slice_get, refl, ap, subst, sym, ◌∙◌, append-nil, arith, Option, Bor, None, Some, IfSome, MatchOption, inl, inr}
+use Rattle.std.proofs.Common.{◌≡◌, ℕ, ◌+◌, ◌<◌, ◌≤◌, ◌⊎◌, false, true≢false, Bool, true, List, [], ◌∷◌, ◌++◌, length, get_or, map, position, slice_get, refl, ap, subst, sym, ◌∙◌, append-nil, arith, Option, Bor, None, Some, IfSome, MatchOption, inl, inr}
 use mathlib.Core.List.{IsPrefix}
 use Rattle.std.proofs.lemmas.Grind.{common_steps}
 use Rattle.std.proofs.lemmas.List.{length-append, map-append, length-map}
@@ -44,6 +44,14 @@ named_place names text = by (position (bytes_eq text) names) refl
     by : (o : Option ℕ) → position (bytes_eq text) names ≡ o → IfSome o (λ n. slice_get names n ≡ Some text)
     by None at = tt
     by (Some n) at = at_place names text n at
+
+-- If a text is found, its index is below each number that is at or above the length.
+pub few_places : (names : List (List ℕ)) (text : List ℕ) (limit : ℕ) → length names ≤ limit → IfSome (position (bytes_eq text) names) (λ n. n < limit)
+few_places names text limit few = by (position (bytes_eq text) names) refl
+  where
+    by : (o : Option ℕ) → position (bytes_eq text) names ≡ o → IfSome o (λ n. n < limit)
+    by None at = tt
+    by (Some n) at = let p = position-Some (bytes_eq text) names n [] at in omega (arith, p.0, few)
 
 -- A text that equals no name is found at the next index once it is appended.
 found_last : (names : List (List ℕ)) (text : List ℕ) → position (bytes_eq text) names ≡ None → position (bytes_eq text) (names ++ text ∷ []) ≡ Some (length names)

@@ -33,11 +33,11 @@ const MANY: usize = 1 << 16;
 #[derive(Clone, Copy, Debug, PartialEq, Eq)]
 pub enum EngineFault {
     /// The reader failed.
-    Read,
+    Read = 1,
     /// The writer failed.
-    Write,
+    Write = 2,
     /// 2^64 - 1 reads returned bytes, and the end of the input was not reached.
-    Endless,
+    Endless = 3,
 }
 
 impl fmt::Display for EngineFault {

@@ -4,7 +4,7 @@
 //! suffices, also for a new name. [`intern_engine`] runs an interner over the lines of a reader. It
 //! is generic over [`Source`] and [`Sink`], which [`Counted`] makes from readers and writers of
 //! std.
-ghost use Rattle.std.specs.Prelude.{◌≡◌, ◌↔◌, ℕ, [], List, length, None, Some, slice_get, position, map, is_some, ◌<◌, ◌≤◌, IfOk, IfSome, IsTrue, OnErr, OnOk};
+ghost use Rattle.std.specs.Prelude.{◌≡◌, ◌↔◌, ℕ, [], List, length, None, Some, slice_get, position, map, is_some, ◌<◌, ◌≤◌, ◌-◌, ◌^◌, IfOk, IfSome, IsTrue, OnErr, OnOk};
 ghost use Rattle.std.specs.Borrow.{Bor};
 ghost use Rattle.std.specs.Fmt.{debug_list, debug_str};
 ghost use Rattle.std.specs.Iterator.Adapters.{IterYieldsInOrder, IterYieldsInReverse};
@@ -17,6 +17,7 @@ ghost use Rattle.elsa_interner.specs.Names.{Puts, IsFull, IsOneToOne};
 pub use crate::devices::{Counted, Failed, Sink, Source};
 pub use crate::engine::{EngineFault, intern_engine, intern_engine_with_hasher};
 pub use crate::reader::InternerReader;
+pub use crate::symbol::Symbol;
 use bumpalo::Bump;
 use std::alloc::{AllocError, Allocator, Global};
 use std::fmt::{self, Debug, Formatter, Write};
@@ -113,6 +114,7 @@ impl<'a, S: BuildHasher, A: Allocator + Copy, P: Allocator> Interner<'a, S, A, P
     pub fn find(&self, text: &str) -> Option<usize>
         ensures place { result ≡ position (bytes_eq text.now) self.now }
         ensures named { IfSome result (λ n. slice_get self.now n ≡ Some text.now) }
+        ensures fits { IfSome result (λ n. n < 2 ^ 32 - 1) }
     {
         self.names.find(text)
     }
@@ -138,6 +140,7 @@ impl<'a, S: BuildHasher, A: Allocator + Copy, P: Allocator> Interner<'a, S, A, P
     pub fn len(&self) -> usize
         ensures length { result ≡ length self.now }
         ensures one_to_one { IsOneToOne self.now }
+        ensures limit { result < 2 ^ 32 }
     {
         self.names.len()
     }
@@ -237,6 +240,7 @@ impl<'a, S: BuildHasher, A: Allocator + Copy, P: Allocator> Interner<'a, S, A, P
         ensures only_new { OnErr result (position (bytes_eq text.now) self.old ≡ None) }
         ensures limit { OnOk result (position (bytes_eq text.now) self.old ≡ None →
             ¬ IsFull self.old) }
+        ensures fits { IfOk result (λ n. n < 2 ^ 32 - 1) }
 
         // The name is at its number, and the earlier names have the numbers that they had.
         ensures value_after { IfOk result (λ n. slice_get self.new n ≡ Some text.now) }
@@ -263,6 +267,7 @@ impl<'a, S: BuildHasher, A: Allocator + Copy, P: Allocator> Interner<'a, S, A, P
         ensures only_new { OnErr result (position (bytes_eq text.now) self.old ≡ None) }
         ensures limit { OnOk result (position (bytes_eq text.now) self.old ≡ None →
             ¬ IsFull self.old) }
+        ensures fits { IfOk result (λ n. n < 2 ^ 32 - 1) }
 
         // The name is at its number, and the earlier names have the numbers that they had.
         ensures value_after { IfOk result (λ n. slice_get self.new n ≡ Some text.now) }

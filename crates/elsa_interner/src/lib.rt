@@ -12,3 +12,4 @@ mod pending;
 pub mod reader;
 mod reply;
 mod request;
+pub mod symbol;

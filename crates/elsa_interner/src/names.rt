@@ -1,6 +1,6 @@
 //! [`Names`]: the names of an interner, the table that finds them, and the builder of their
 //! hashers. A text is looked for as a [`Sought`], which has its hash.
-ghost use Rattle.std.specs.Prelude.{◌≡◌, ◌↔◌, ℕ, [], List, length, None, Some, slice_get, position, map, slice_index_or, ◌<◌, ◌≤◌, IfErr, IfOk, IfSome, IsTrue, OnErr, OnOk};
+ghost use Rattle.std.specs.Prelude.{◌≡◌, ◌↔◌, ℕ, [], List, length, None, Some, slice_get, position, map, slice_index_or, ◌<◌, ◌≤◌, ◌-◌, ◌^◌, IfErr, IfOk, IfSome, IsTrue, OnErr, OnOk};
 ghost use Rattle.std.specs.Borrow.{Bor};
 ghost use Rattle.std.specs.Str.{bytes_eq};
 ghost use Rattle.elsa_interner.specs.Names.{Puts, IsFull, IsOneToOne, text_hash};
@@ -118,16 +118,17 @@ pub struct Names<'a, S: BuildHasher, A: Allocator + Copy> {
 }
 
 impl<'a, S: BuildHasher, A: Allocator + Copy> Model for Names<'a, S, A> {
-    ghost use Rattle.std.specs.Prelude.{List, ℕ, map};
+    ghost use Rattle.std.specs.Prelude.{List, ℕ, length, map};
 
     ghost Value = { List (List ℕ) × S };
 
     ghost view = { λ s. (map (λ b. b.now) s.list.items, s.hash_builder) };
 
+    ghost use Rattle.elsa_buckets.specs.Table.{IsCount};
     ghost use Rattle.elsa_interner.specs.Names.{text_hash, IsNumbered};
 
     ghost invariant = { λ s. IsNumbered (text_hash S.BuildHasher S.Hasher.Hasher s.hash_builder)
-        s.table (map (λ b. b.now) s.list.items) };
+        s.table (map (λ b. b.now) s.list.items) × IsCount (length s.list.items) };
 }
 
 impl<'a, S: BuildHasher, A: Allocator + Copy> Names<'a, S, A> {
@@ -148,6 +149,7 @@ impl<'a, S: BuildHasher, A: Allocator + Copy> Names<'a, S, A> {
     pub fn as_slice(&self) -> &[&'a str]
         ensures names { map (λ b. b.now) result.now ≡ self.now.0 }
         ensures one_to_one { IsOneToOne self.now.0 }
+        ensures limit { length result.now < 2 ^ 32 }
     {
         self.list.as_slice()
     }
@@ -200,6 +202,7 @@ impl<'a, S: BuildHasher, A: Allocator + Copy> Names<'a, S, A> {
     pub fn find(&self, text: &str) -> Option<usize>
         ensures place { result ≡ position (bytes_eq text.now) self.now.0 }
         ensures named { IfSome result (λ n. slice_get self.now.0 n ≡ Some text.now) }
+        ensures fits { IfSome result (λ n. n < 2 ^ 32 - 1) }
     {
         let Sought { text, known } = self.sought(text, None);
         search(self.list.as_slice(), &self.table, text, known).ok()
@@ -250,6 +253,7 @@ impl<'a, S: BuildHasher, A: Allocator + Copy> Names<'a, S, A> {
             (position (bytes_eq sought.entry.text.now) self.old.0 ≡ None) }
         ensures limit { OnOk result (position (bytes_eq sought.entry.text.now) self.old.0 ≡ None →
             ¬ IsFull self.old.0) }
+        ensures fits { IfOk result (λ n. n < 2 ^ 32 - 1) }
     {
         let Sought { text, known } = sought;
         let vacancy = match search(self.list.as_slice(), &self.table, text, known) {

@@ -2,7 +2,7 @@
 //!
 //! An interner is a reader and an arena. Since the reader has no arena, threads can share it. Each
 //! name is stored by [`InternerReader::put_in`].
-ghost use Rattle.std.specs.Prelude.{◌≡◌, ◌↔◌, ℕ, [], List, length, None, Some, slice_get, position, map, is_some, slice_index_or, ◌<◌, ◌≤◌, IfErr, IfOk, IfSome, IsTrue, OnErr, OnOk};
+ghost use Rattle.std.specs.Prelude.{◌≡◌, ◌↔◌, ℕ, [], List, length, None, Some, slice_get, position, map, is_some, slice_index_or, ◌<◌, ◌≤◌, ◌-◌, ◌^◌, IfErr, IfOk, IfSome, IsTrue, OnErr, OnOk};
 ghost use Rattle.std.specs.Borrow.{Bor};
 ghost use Rattle.std.specs.Fmt.{debug_list, debug_str};
 ghost use Rattle.std.specs.Iterator.Adapters.{IterYieldsInOrder, IterYieldsInReverse};
@@ -62,6 +62,7 @@ impl<'a, S: BuildHasher, A: Allocator + Copy> InternerReader<'a, S, A> {
     pub fn find(&self, text: &str) -> Option<usize>
         ensures place { result ≡ position (bytes_eq text.now) self.now }
         ensures named { IfSome result (λ n. slice_get self.now n ≡ Some text.now) }
+        ensures fits { IfSome result (λ n. n < 2 ^ 32 - 1) }
     {
         self.names.find(text)
     }
@@ -87,6 +88,7 @@ impl<'a, S: BuildHasher, A: Allocator + Copy> InternerReader<'a, S, A> {
     pub fn len(&self) -> usize
         ensures length { result ≡ length self.now }
         ensures one_to_one { IsOneToOne self.now }
+        ensures limit { result < 2 ^ 32 }
     {
         self.names.as_slice().len()
     }
@@ -175,6 +177,7 @@ impl<'a, S: BuildHasher, A: Allocator + Copy> InternerReader<'a, S, A> {
         ensures only_new { OnErr result (position (bytes_eq text.now) self.old ≡ None) }
         ensures limit { OnOk result (position (bytes_eq text.now) self.old ≡ None →
             ¬ IsFull self.old) }
+        ensures fits { IfOk result (λ n. n < 2 ^ 32 - 1) }
 
         // The name is at its number, and the earlier names have the numbers that they had.
         ensures value_after { IfOk result (λ n. slice_get self.new n ≡ Some text.now) }

@@ -25,8 +25,9 @@ use std::alloc::{AllocError, Allocator, Global};
 use std::fmt::{self, Debug, Formatter, Write};
 use std::marker::Model;
 
-/// An append-only vector, which threads push to and read at once. A clause sees which vector it is.
+/// An append-only vector that threads share: reads take no lock, and a push takes one that spins.
 ///
+/// A clause sees which vector it is.
 /// It owns its items: [`Handle::get_ref`] returns a reference that lives as long as the vector is
 /// borrowed, and each item is dropped once, with the vector. [`into_vec`](Self::into_vec) moves all
 /// items out. The calls that copy items are for `Copy` items.

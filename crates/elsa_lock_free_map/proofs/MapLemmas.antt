@@ -13,8 +13,9 @@ use Rattle.elsa_lock_free.specs.Distinct.{AgreeOnPlaces, one_answer}
 use Rattle.elsa_lock_free.specs.SharedList.{BeginsABuffer, Continues, View, entry, item_of, items_of}
 use Rattle.elsa_lock_free.specs.declared.event.Entry.{Entry as Listed}
 use Rattle.elsa_lock_free.proofs.RuleLemmas.EachNew.{agree_on_places, one_to_one}
-use Rattle.elsa_lock_free_map.specs.declared.map.Inserted.{Inserted}
-use Rattle.elsa_lock_free_map.specs.Entries.{Came, HasAt, InsertsOnce, Lacks, MayFollow, PushesPair, is_text, pairs_of}
+use Rattle.elsa_tables.specs.declared.put.Inserted.{Inserted}
+use Rattle.elsa_tables.specs.Rules.{HoldsAt}
+use Rattle.elsa_lock_free_map.specs.Entries.{AgreeOnEntries, Came, HasAt, HoldsEach, InsertsOnce, Lacks, MayFollow, PushesPair, is_text, pairs_of}
 
 last_at : {A : Type 0} (x : A) (xs : List A) → (y : A) × (slice_get (x ∷ xs) (length xs) ≡ Some y)
 last_at x [] = (x, refl)
@@ -29,6 +30,17 @@ taken (suc n) (x ∷ xs) h = ap suc (taken n xs (omega (arith, h)))
 pub some_before : (n : ℕ) → (BeginsABuffer n → ⊥) → 0 < n
 some_before zero later = absurd (later (0, omega arith, refl))
 some_before (suc n) later = omega arith
+
+-- items that obey a rule and another fact obey each of the two
+pub each_first : {A : Type 0} (rule : List A → A → Type 0) (more : A → Type 0) (es : List A) → EachIsNew (λ xs x. rule xs x × more x) es → EachIsNew rule es
+each_first rule more es all i e at = (all i e at).0
+
+pub each_holds : {A : Type 0} (rule : List A → A → Type 0) (more : A → Type 0) (es : List A) → EachIsNew (λ xs x. rule xs x × more x) es → (i : ℕ) (x : A) → slice_get es i ≡ Some x → more x
+each_holds rule more es all i e at = (all i e at).1
+
+-- the value of an entry whose key equals the query holds
+pub stands_holds : {Q K V S : Type 0} (equal : Q → K → Bool) (holds : K → V → Type 0) (es : List (Entry K V S)) (key : Q) (i : ℕ) (value : V) → HoldsEach holds es → HasAt equal es i key value → HoldsAt holds (equal key) value
+stands_holds equal holds es key i value all h = (h.0.key, h.2, subst (holds h.0.key) h.3 (all i h.0 h.1))
 
 module _ {K V S : Type 0} (equal : K → K → Bool) (hash : S → K → ℕ) where
   -- each entry follows the entries before it
@@ -110,6 +122,22 @@ stands_at equal es i key x found here =
     let same : found.0 ≡ x = cc both in
     (x, here, subst (λ e. equal key e.key ≡ true) same found.2, refl)
 
+-- what a list has at one index has one value
+pub one_value : {Q K V S : Type 0} (equal : Q → K → Bool) (es : List (Entry K V S)) (key : Q) (i j : ℕ) (v w : V) → i ≡ j → HasAt equal es i key v → HasAt equal es j key w → v ≡ w
+one_value equal es key i j v w same h k =
+    let both : Some h.0 ≡ Some k.0 = sym h.1 ∙ (ap (slice_get es) same ∙ k.1) in
+    let one : h.0 ≡ k.0 = cc both in
+    sym h.3 ∙ (ap (λ e. e.value) one ∙ k.3)
+
+-- the entries of two beginnings of a map's list agree
+pub entries_agree : {K V S : Type 0} (equal : K → K → Bool) (hash : S → K → ℕ) (symm : (x y : K) → equal x y ≡ equal y x) (congr : (q x y : K) → equal q x ≡ true → equal q y ≡ equal x y)
+    (xs ys zs : List (Entry K V S)) → IsPrefix xs zs → IsPrefix ys zs → EachIsNew (MayFollow equal hash) zs → AgreeOnEntries equal xs ys
+entries_agree equal hash symm congr xs ys zs p q rule key i j v w h k =
+    let one = later_at xs zs i h.0 p h.1 in
+    let two = later_at ys zs j k.0 q k.1 in
+    let index = one_place equal hash symm congr zs rule key i j h.0 k.0 one two h.2 k.2 in
+    (index, one_value equal zs key i j v w index (h.0, one, h.2, h.3) (k.0, two, k.2, k.3))
+
 last : {A : Type 0} (xs : List A) (x : A) → slice_get (xs ++ x ∷ []) (length xs) ≡ Some x
 last [] x = refl
 last (y ∷ xs) x = last xs x
@@ -134,9 +162,9 @@ came_since a b c on true i came = (let w = within a.seen b.seen on.1 in let l = 
 came_since a b c on false i came = came ∙ on.2
 
 -- what an insertion left by a pass that lacked the key and has gone on since
-pub inserts_since : {Q K V S : Type 0} (equal : Q → K → Bool) (a b c : View (Entry K V S)) (key : Q) (r : Inserted V) → Continues a b → Lacks equal (items_of a.seen) key
-    → HasAt equal (items_of c.seen) r.place key r.value → Came r.is_new b c r.place → InsertsOnce equal a c key r
-inserts_since equal a b c key r on lacks here came = (here, came_since a b c on r.is_new r.place came, λ j v h. absurd (not_lacking equal (items_of a.seen) key j h.0 lacks h.1 h.2))
+pub inserts_since : {Q K V S : Type 0} (equal : Q → K → Bool) (a b c : View (Entry K V S)) (key : Q) (r : Inserted V ℕ) → Continues a b → Lacks equal (items_of a.seen) key
+    → HasAt equal (items_of c.seen) r.index key r.value → Came r.is_new b c r.index → InsertsOnce equal a c key r
+inserts_since equal a b c key r on lacks here came = (here, came_since a b c on r.is_new r.index came, λ j v h. absurd (not_lacking equal (items_of a.seen) key j h.0 lacks h.1 h.2))
 
 -- what holds of an item if there is one, where there is one
 pub some_has : {A : Type 0} (o : Option A) (P : A → Type 0) → IfSome o P → is_some o ≡ true → (x : A) × P x

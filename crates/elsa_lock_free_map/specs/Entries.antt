@@ -5,7 +5,7 @@ use Rattle.std.specs.Str.{bytes_eq}
 use Rattle.elsa_hash_index.specs.declared.entry.Entry.{Entry}
 use Rattle.elsa_hash_index.specs.Entries.{IsAbsent, IsBehind, keys_of}
 use Rattle.elsa_lock_free.specs.SharedList.{PushesNext, View, items_of, mine}
-use Rattle.elsa_lock_free_map.specs.declared.map.Inserted.{Inserted}
+use Rattle.elsa_tables.specs.declared.put.Inserted.{Inserted}
 
 -- 32 bits of a hash, of which each depends on all 64
 abbrev pub short : ℕ → ℕ
@@ -25,6 +25,10 @@ module _ {K V S : Type 0} where
   abbrev pub MayFollow : (K → K → Bool) → (S → K → ℕ) → List (Entry K V S) → Entry K V S → Type 0
   MayFollow equal hash es e = IsBehind equal hash es e × (length es + 1 < 2 ^ 32)
 
+  -- each value holds for its key
+  abbrev pub HoldsEach : (K → V → Type 0) → List (Entry K V S) → Type 0
+  HoldsEach holds es = (i : ℕ) (e : Entry K V S) → slice_get es i ≡ Some e → holds e.key e.value
+
   -- by a test for equal keys, or by a query
   module _ {Q : Type 0} (equal : Q → K → Bool) where
     -- an entry of the key, with this value, is at the place
@@ -38,6 +42,11 @@ module _ {K V S : Type 0} where
     -- no entry has the key
     abbrev pub Lacks : List (Entry K V S) → Q → Type 0
     Lacks es key = IsAbsent equal (keys_of es) key
+
+-- two lists of entries have an entry of a key at one index, with one value
+abbrev pub AgreeOnEntries : {K V S : Type 0} → (K → K → Bool) → List (Entry K V S) → List (Entry K V S) → Type 0
+AgreeOnEntries {K} {V} equal xs ys =
+    (key : K) (i j : ℕ) (v w : V) → HasAt equal xs i key v → HasAt equal ys j key w → (i ≡ j) × (v ≡ w)
 
 -- a text as a query finds the borrows of equal texts
 abbrev pub is_text : List ℕ → Bor (List ℕ) → Bool
@@ -53,8 +62,8 @@ Came true before after i = (length before.seen ≤ i) × (mine after ≡ mine be
 Came false before after i = mine after ≡ mine before
 
 -- the effect of a successful insertion: the value that the key then has is at the index, pushed by the author of the view
--- or present before; and an observed entry of the key stays
-abbrev pub InsertsOnce : {Q K V S : Type 0} → (Q → K → Bool) → View (Entry K V S) → View (Entry K V S) → Q → Inserted V → Type 0
+-- or present before; and an observed entry of the key stays, with its value
+abbrev pub InsertsOnce : {Q K V S : Type 0} → (Q → K → Bool) → View (Entry K V S) → View (Entry K V S) → Q → Inserted V ℕ → Type 0
 InsertsOnce {V = V} equal before after key r =
-    HasAt equal (items_of after.seen) r.place key r.value × Came r.is_new before after r.place
-    × ((j : ℕ) (v : V) → HasAt equal (items_of before.seen) j key v → (r.place ≡ j) × (r.is_new ≡ false))
+    HasAt equal (items_of after.seen) r.index key r.value × Came r.is_new before after r.index
+    × ((j : ℕ) (v : V) → HasAt equal (items_of before.seen) j key v → (r.index ≡ j) × (r.value ≡ v) × (r.is_new ≡ false))

@@ -4,31 +4,33 @@ ghost use Rattle.std.specs.Prelude.{◌≡◌, ◌<◌, ◌^◌, fold, length};
 ghost use Rattle.elsa_lock_free.specs.Distinct.{AgreeOnPlaces, IsOneToOne};
 ghost use Rattle.elsa_lock_free.specs.SharedList.{items_of};
 ghost use Rattle.elsa_hash_index.specs.Entries.{keys_of};
-ghost use Rattle.elsa_lock_free_map.specs.Entries.{short};
+ghost use Rattle.elsa_lock_free_map.specs.Entries.{AgreeOnEntries, short};
 
 use elsa_hash_index::entry::{Entry, Sought};
 use elsa_hash_index::row::Row;
 use elsa_lock_free::item_rule::ItemRule;
 use elsa_lock_free::lock_free::{Handle, LockFreeFrozenVec, Observed, Pass};
 use elsa_slots::slots::Beside;
+use elsa_tables::{AnyEntries, EntryRule};
 use indexmap::Equivalent;
 use std::alloc::{Allocator, Global};
 use std::hash::{BuildHasher, Hash};
 use std::marker::PhantomData;
 
 /// The rule of the list: an entry is new if no entry before it has its key, and it has evidence of
-/// a row that finds all of them.
-pub struct NewKeys<S> {
-    builder: PhantomData<S>,
+/// a row that finds all of them. Its value holds for its key by the caller's rule.
+pub struct NewKeys<S, L = AnyEntries> {
+    of: PhantomData<(S, L)>,
 }
 
-impl<K: Hash + Drop, V: Drop, S: BuildHasher + Copy + Drop> ItemRule<Entry<K, V, S>>
-    for NewKeys<S> {
+impl<K: Hash + Drop, V: Drop, S: BuildHasher + Copy + Drop, L: EntryRule<K, V>> ItemRule<
+    Entry<K, V, S>,
+> for NewKeys<S, L> {
     ghost use Rattle.std.specs.Prelude.{false, fold};
     ghost use Rattle.elsa_lock_free.specs.Distinct.{one_answer};
     ghost use Rattle.elsa_lock_free_map.specs.Entries.{MayFollow, short};
 
-    ghost is_new = { λ es e. MayFollow K.eq (λ s k. short (S.Hasher.finish (fold S.Hasher.write (S.build_hasher s) (K.hash_input k)))) es e };
+    ghost is_new = { λ es e. MayFollow K.eq (λ s k. short (S.Hasher.finish (fold S.Hasher.write (S.build_hasher s) (K.hash_input k)))) es e × L.holds e.key e.value };
 
     ghost distinct = { false };
 
@@ -52,35 +54,65 @@ impl<K: Drop, V: Drop, S: Copy + Drop, A: Allocator> Beside<Entry<K, V, S>> for 
 }
 
 /// The list of a map.
-pub type Entries<K, V, S, A> = LockFreeFrozenVec<Entry<K, V, S>, A, NewKeys<S>, Index<S, A>>;
+pub type Entries<K, V, S, A, L = AnyEntries> = LockFreeFrozenVec<
+    Entry<K, V, S>,
+    A,
+    NewKeys<S, L>,
+    Index<S, A>,
+>;
 
 /// A handle of such a list.
-pub type EntriesHandle<'m, K, V, S, A> = Handle<'m, Entry<K, V, S>, A, NewKeys<S>, Index<S, A>>;
+pub type EntriesHandle<'m, K, V, S, A, L = AnyEntries> = Handle<
+    'm,
+    Entry<K, V, S>,
+    A,
+    NewKeys<S, L>,
+    Index<S, A>,
+>;
 
 /// What a handle has observed of such a list.
-pub type ObservedEntries<'m, K, V, S, A> = Observed<'m, Entry<K, V, S>, A, NewKeys<S>, Index<S, A>>;
+pub type ObservedEntries<'m, K, V, S, A, L = AnyEntries> = Observed<
+    'm,
+    Entry<K, V, S>,
+    A,
+    NewKeys<S, L>,
+    Index<S, A>,
+>;
 
 /// A view of such a list.
-pub type EntriesPass<K, V, S, A> = Pass<Entry<K, V, S>, A, NewKeys<S>, Index<S, A>>;
+pub type EntriesPass<K, V, S, A, L = AnyEntries> = Pass<
+    Entry<K, V, S>,
+    A,
+    NewKeys<S, L>,
+    Index<S, A>,
+>;
 
 /// Proves that equal keys that a view has observed are at one index. It does nothing at run time.
-pub fn one_to_one<K: Drop + Hash, V: Drop, S: BuildHasher + Copy + Drop, A: Allocator + Copy>(
-    pass: &EntriesPass<K, V, S, A>,
-)
+pub fn one_to_one<
+    K: Drop + Hash,
+    V: Drop,
+    S: BuildHasher + Copy + Drop,
+    A: Allocator + Copy,
+    L: EntryRule<K, V>,
+>(pass: &EntriesPass<K, V, S, A, L>)
     ensures { IsOneToOne K.eq (keys_of (items_of pass.now.seen)) }
 {
     pass.obeys_rule();
 }
 
-/// Proves that equal keys that two views of a map have observed are at one index, whether the views
-/// were merged or not. It does nothing at run time.
-pub fn same_place<K: Drop + Hash, V: Drop, S: BuildHasher + Copy + Drop, A: Allocator + Copy>(
-    pass: &EntriesPass<K, V, S, A>,
-    other: &EntriesPass<K, V, S, A>,
-)
+/// Proves that equal keys that two views of a map have observed are at one index and have one
+/// value, whether the views were merged or not. It does nothing at run time.
+pub fn same_place<
+    K: Drop + Hash,
+    V: Drop,
+    S: BuildHasher + Copy + Drop,
+    A: Allocator + Copy,
+    L: EntryRule<K, V>,
+>(pass: &EntriesPass<K, V, S, A, L>, other: &EntriesPass<K, V, S, A, L>)
     requires same_vector { pass.now.vector ≡ other.now.vector }
-    ensures { AgreeOnPlaces K.eq (keys_of (items_of pass.now.seen))
+    ensures index { AgreeOnPlaces K.eq (keys_of (items_of pass.now.seen))
         (keys_of (items_of other.now.seen)) }
+    ensures value { AgreeOnEntries K.eq (items_of pass.now.seen) (items_of other.now.seen) }
 {
     let (mut one, mut two) = (pass.again(), other.again());
     one.meet(&mut two);

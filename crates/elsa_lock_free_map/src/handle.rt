@@ -10,22 +10,24 @@ ghost use Rattle.elsa_lock_free.specs.SharedList.{Continues, IsLaterPass, IsSame
 ghost use Rattle.elsa_lock_free.specs.Distinct.{AgreeOnPlaces, IsOneToOne};
 ghost use Rattle.elsa_hash_index.specs.declared.entry.Entry.{Entry};
 ghost use Rattle.elsa_hash_index.specs.Entries.{keys_of};
-ghost use Rattle.elsa_lock_free_map.specs.Entries.{Has, InsertsOnce, Lacks, PushesPair, pairs_of};
+ghost use Rattle.elsa_tables.specs.Rules.{HoldsAt};
+ghost use Rattle.elsa_lock_free_map.specs.Entries.{AgreeOnEntries, Has, HoldsEach, InsertsOnce, Lacks, PushesPair, pairs_of};
 
 use crate::entries::{EntriesHandle, Index, NewKeys, Query, hash_of, one_to_one, same_place};
 use crate::iter::{MapIter, walk};
-use crate::map::{Inserted, LockFreeFrozenMap, MapPass, copied};
+use crate::map::{LockFreeFrozenMap, MapPass, copied};
 use elsa_hash_index::entry::{Entry, Shelf, entered, lookup, regrown};
 use elsa_hash_index::row::Row;
 use elsa_lock_free::hold::Hold;
 use elsa_lock_free::lock_free::Handle;
+use elsa_tables::{AnyEntries, EntryRule, Inserted};
 use indexmap::Equivalent;
 use std::alloc::{AllocError, Allocator, Global};
 use std::hash::{BuildHasher, BuildHasherDefault, FoldHasher, Hash};
 use std::marker::Model;
 use std::sync::Wait;
 
-/// The greatest number of entries: a word has 32 bits for a place and one more.
+/// The greatest number of entries: an index entry has 32 bits for an index plus 1.
 const LIMIT: usize = (1 << 32) - 1;
 
 /// A handle of a map's list, with the map's hash builder and allocator. Contracts see the handle's
@@ -38,14 +40,21 @@ pub struct MapHandle<
     V: Drop,
     S: BuildHasher + Copy + Drop = BuildHasherDefault<FoldHasher>,
     A: Allocator + Copy = Global,
+    L: EntryRule<K, V> = AnyEntries,
 > {
-    pub(crate) list: EntriesHandle<'m, K, V, S, A>,
+    pub(crate) list: EntriesHandle<'m, K, V, S, A, L>,
     builder: S,
     alloc: A,
 }
 
-impl<'m, K: Drop + Hash, V: Drop, S: BuildHasher + Copy + Drop, A: Allocator + Copy> Model
-    for MapHandle<'m, K, V, S, A> {
+impl<
+    'm,
+    K: Drop + Hash,
+    V: Drop,
+    S: BuildHasher + Copy + Drop,
+    A: Allocator + Copy,
+    L: EntryRule<K, V>,
+> Model for MapHandle<'m, K, V, S, A, L> {
     ghost use Rattle.elsa_lock_free.specs.SharedList.{View};
     ghost use Rattle.elsa_hash_index.specs.declared.entry.Entry.{Entry};
 
@@ -54,12 +63,14 @@ impl<'m, K: Drop + Hash, V: Drop, S: BuildHasher + Copy + Drop, A: Allocator + C
     ghost view = { λ h. h.list };
 }
 
-impl<'m, K: Drop + Hash, V: Drop, S: BuildHasher + Copy + Drop, A: Allocator + Copy> Shelf<
-    K,
-    V,
-    S,
-    A,
-> for MapHandle<'m, K, V, S, A> {
+impl<
+    'm,
+    K: Drop + Hash,
+    V: Drop,
+    S: BuildHasher + Copy + Drop,
+    A: Allocator + Copy,
+    L: EntryRule<K, V>,
+> Shelf<K, V, S, A> for MapHandle<'m, K, V, S, A, L> {
     ghost use Rattle.std.specs.Prelude.{fold};
     ghost use Rattle.elsa_lock_free.specs.SharedList.{items_of};
     ghost use Rattle.elsa_lock_free_map.specs.Entries.{short};
@@ -90,15 +101,16 @@ impl<'m, K: Drop + Hash, V: Drop, S: BuildHasher + Copy + Drop, A: Allocator + C
     }
 }
 
-impl<'m, K: Drop + Hash, V: Drop, S: BuildHasher + Copy + Drop, A: Allocator + Copy> MapHandle<
+impl<
     'm,
-    K,
-    V,
-    S,
-    A,
-> {
+    K: Drop + Hash,
+    V: Drop,
+    S: BuildHasher + Copy + Drop,
+    A: Allocator + Copy,
+    L: EntryRule<K, V>,
+> MapHandle<'m, K, V, S, A, L> {
     /// Makes a handle of a map and a view of it.
-    pub fn of(map: &'m LockFreeFrozenMap<K, V, S, A>, pass: MapPass<K, V, S, A>) -> Self
+    pub fn of(map: &'m LockFreeFrozenMap<K, V, S, A, L>, pass: MapPass<K, V, S, A, L>) -> Self
         requires same_vector { pass.vector ≡ map.now }
         ensures same_view { result ≡ pass }
     {
@@ -110,7 +122,7 @@ impl<'m, K: Drop + Hash, V: Drop, S: BuildHasher + Copy + Drop, A: Allocator + C
     }
 
     /// Returns the view, to store it or to move it to another thread.
-    pub fn into_pass(self) -> MapPass<K, V, S, A>
+    pub fn into_pass(self) -> MapPass<K, V, S, A, L>
         ensures same_view { result ≡ self.entry }
     {
         let MapHandle {
@@ -122,7 +134,7 @@ impl<'m, K: Drop + Hash, V: Drop, S: BuildHasher + Copy + Drop, A: Allocator + C
     }
 
     /// Returns a reference to the view.
-    pub fn pass(&self) -> &MapPass<K, V, S, A>
+    pub fn pass(&self) -> &MapPass<K, V, S, A, L>
         ensures same_view { result.now ≡ self.now }
     {
         self.list.pass()
@@ -200,9 +212,11 @@ impl<'m, K: Drop + Hash, V: Drop, S: BuildHasher + Copy + Drop, A: Allocator + C
     pub fn get_ref<Q: Equivalent<K>>(&mut self, query: Q) -> Option<&'m V>
         ensures continues { Continues self.old self.new }
         ensures found { IfSome result (λ v. Has Q.equivalent (items_of self.new.seen) query v.now) }
+        ensures holds { IfSome result (λ v. HoldsAt L.holds (Q.equivalent query) v.now) }
         ensures absent { IfNone result (Lacks Q.equivalent (items_of self.new.seen) query) }
     {
         if let Some(place) = self.find(query) {
+            self.obeys_rule();
             return Some(&self.entry(place).value);
         }
         None
@@ -216,9 +230,12 @@ impl<'m, K: Drop + Hash, V: Drop, S: BuildHasher + Copy + Drop, A: Allocator + C
     pub fn len(&mut self) -> usize
         ensures continues { Continues self.old self.new }
         ensures length { result ≡ length self.new.seen }
+        ensures limit { result < 2 ^ 32 }
         ensures fresh { length self.old.seen ≤ result }
     {
-        self.list.len()
+        let len = self.list.len();
+        self.seen_len();
+        len
     }
 
     /// Returns whether the map has `2^32 - 1` entries, the greatest number, by one load of the
@@ -235,46 +252,45 @@ impl<'m, K: Drop + Hash, V: Drop, S: BuildHasher + Copy + Drop, A: Allocator + C
     }
 
     /// Ends a hold with an entry at the end, if its memory can be allocated. Where a buffer begins,
-    /// its row is filled with all keys before the entry.
+    /// its row is filled with all keys before the entry. Where it fails, the key and the value are
+    /// dropped after the end of the hold: their `Drop` may use the map.
     fn publish_new<R: Wait>(
         &mut self,
         rt: &R,
-        hold: Hold<'m, Entry<K, V, S>, A, NewKeys<S>, Index<S, A>>,
+        hold: Hold<'m, Entry<K, V, S>, A, NewKeys<S, L>, Index<S, A>>,
         key: K,
         value: V,
     ) -> Result<(), AllocError>
         requires held { SeesAlike hold self.old }
         requires room { length hold.seen + 1 < 2 ^ 32 }
         requires absent { Lacks K.eq (items_of hold.seen) key }
+        requires rule { L.holds key value }
 
-        // The entry is the last, by this handle; a refusal leaves all.
+        // The entry is the last, by this handle. If the call fails, nothing changes.
         ensures pushed { IfOk result (λ _. IsSamePass self.old self.new
             × PushesPair self.old self.new key value) }
         ensures refused { IfErr result (λ _. self.new ≡ self.old) }
     {
         if hold.begins_buffer() {
             let count = 6 * (self.list.seen_len() + 1);
-            return match regrown(self, self.alloc, count, self.builder, key, value) {
-                Ok((row, new)) => {
-                    hold.publish_first(rt, &mut self.list, new, Index { row })?;
-                    Ok(())
-                }
-                Err(_) => {
-                    hold.release(rt, &mut self.list);
-                    Err(AllocError)
-                }
-            };
-        }
-        match entered(self, key, value) {
-            Ok(new) => {
-                hold.publish(rt, &mut self.list, new);
-                Ok(())
-            }
-            Err(_) => {
+            let Ok((row, seen)) = regrown(self, self.alloc, count, self.builder, &key) else {
                 hold.release(rt, &mut self.list);
-                Err(AllocError)
-            }
+                return Err(AllocError);
+            };
+            hold.publish_first(
+                rt,
+                &mut self.list,
+                Entry { key, value, seen },
+                Index { row },
+            )?;
+            return Ok(());
         }
+        let Ok(seen) = entered(self, &key) else {
+            hold.release(rt, &mut self.list);
+            return Err(AllocError);
+        };
+        hold.publish(rt, &mut self.list, Entry { key, value, seen });
+        Ok(())
     }
 
     /// Pushes an entry at the length that the handle has observed, if its key is in none of those
@@ -286,6 +302,7 @@ impl<'m, K: Drop + Hash, V: Drop, S: BuildHasher + Copy + Drop, A: Allocator + C
         value: V,
     ) -> Result<Result<usize, (K, V)>, AllocError>
         requires absent { Lacks K.eq (items_of self.old.seen) key }
+        requires rule { L.holds key value }
         ensures later { IsLaterPass self.old self.new }
         ensures pushed { IfOk result (λ a. IfOk a (λ i.
             (i ≡ length self.old.seen) × PushesPair self.old self.new key value)) }
@@ -311,11 +328,12 @@ impl<'m, K: Drop + Hash, V: Drop, S: BuildHasher + Copy + Drop, A: Allocator + C
         rt: &R,
         key: K,
         value: V,
-    ) -> Result<Inserted<&'m V>, AllocError>
+    ) -> Result<Inserted<&'m V, usize>, AllocError>
         requires absent { Lacks K.eq (items_of self.old.seen) key }
+        requires rule { L.holds key value }
         ensures later { IsLaterPass self.old self.new }
         ensures inserted { IfOk result (λ r. InsertsOnce K.eq self.old self.new key
-            (record { value = r.value.now; place = r.place; is_new = r.is_new })) }
+            (record { value = r.value.now; index = r.index; is_new = r.is_new })) }
         ensures own_value { IfOk result (λ r. r.is_new ≡ true → r.value.now ≡ value) }
         ensures refused { IfErr result (λ e. mine self.new ≡ mine self.old) }
     {
@@ -326,7 +344,7 @@ impl<'m, K: Drop + Hash, V: Drop, S: BuildHasher + Copy + Drop, A: Allocator + C
                 Ok(place) => {
                     return Ok(Inserted {
                         value: &self.entry(place).value,
-                        place,
+                        index: place,
                         is_new: true,
                     });
                 }
@@ -334,7 +352,7 @@ impl<'m, K: Drop + Hash, V: Drop, S: BuildHasher + Copy + Drop, A: Allocator + C
                     if let Some(place) = self.place_of(&key) {
                         return Ok(Inserted {
                             value: &self.entry(place).value,
-                            place,
+                            index: place,
                             is_new: false,
                         });
                     }
@@ -370,10 +388,11 @@ impl<'m, K: Drop + Hash, V: Drop, S: BuildHasher + Copy + Drop, A: Allocator + C
         rt: &R,
         key: K,
         value: V,
-    ) -> Result<Inserted<&'m V>, AllocError>
+    ) -> Result<Inserted<&'m V, usize>, AllocError>
+        requires rule { L.holds key value }
         ensures later { IsLaterPass self.old self.new }
         ensures inserted { IfOk result (λ r. InsertsOnce K.eq self.old self.new key
-            (record { value = r.value.now; place = r.place; is_new = r.is_new })) }
+            (record { value = r.value.now; index = r.index; is_new = r.is_new })) }
         ensures own_value { IfOk result (λ r. r.is_new ≡ true → r.value.now ≡ value) }
         ensures refused { IfErr result (λ e. mine self.new ≡ mine self.old) }
     {
@@ -381,11 +400,19 @@ impl<'m, K: Drop + Hash, V: Drop, S: BuildHasher + Copy + Drop, A: Allocator + C
             self.one_to_one();
             return Ok(Inserted {
                 value: &self.entry(place).value,
-                place,
+                index: place,
                 is_new: false,
             });
         }
         self.insert_absent(rt, key, value)
+    }
+
+    /// Proves that each entry that the handle has observed obeys the rule. It does nothing at run
+    /// time.
+    pub fn obeys_rule(&self)
+        ensures { HoldsEach L.holds (items_of self.now.seen) }
+    {
+        self.list.obeys_rule();
     }
 
     /// Proves that equal keys that the handle has observed are at one index. It does nothing at run
@@ -396,12 +423,13 @@ impl<'m, K: Drop + Hash, V: Drop, S: BuildHasher + Copy + Drop, A: Allocator + C
         one_to_one(self.list.pass());
     }
 
-    /// Proves that equal keys that two handles of a map have observed are at one index, whether the
-    /// handles were merged or not. It does nothing at run time.
-    pub fn same_place(&self, other: &MapHandle<'_, K, V, S, A>)
+    /// Proves that equal keys that two handles of a map have observed are at one index and have one
+    /// value, whether the handles were merged or not. It does nothing at run time.
+    pub fn same_place(&self, other: &MapHandle<'_, K, V, S, A, L>)
         requires same_vector { self.now.vector ≡ other.now.vector }
-        ensures { AgreeOnPlaces K.eq (keys_of (items_of self.now.seen))
+        ensures index { AgreeOnPlaces K.eq (keys_of (items_of self.now.seen))
             (keys_of (items_of other.now.seen)) }
+        ensures value { AgreeOnEntries K.eq (items_of self.now.seen) (items_of other.now.seen) }
     {
         same_place(self.list.pass(), other.list.pass());
     }
@@ -412,7 +440,7 @@ impl<'m, K: Drop + Hash, V: Drop, S: BuildHasher + Copy + Drop, A: Allocator + C
     ///
     /// # Cost
     /// `O(1)`.
-    pub fn meet(&mut self, other: &mut MapHandle<'_, K, V, S, A>)
+    pub fn meet(&mut self, other: &mut MapHandle<'_, K, V, S, A, L>)
         requires same_vector { self.old.vector ≡ other.old.vector }
         ensures { Meet self.old self.new other.old other.new }
     {
@@ -429,7 +457,7 @@ impl<'m, K: Drop + Hash, V: Drop, S: BuildHasher + Copy + Drop, A: Allocator + C
     ///
     /// # Cost
     /// `O(1)`, also for each entry.
-    pub fn iter(&self) -> MapIter<'m, K, V, S, A>
+    pub fn iter(&self) -> MapIter<'m, K, V, S, A, L>
         ensures items { result ≡ pairs_of (items_of self.now.seen) }
     {
         walk(&self.list)
@@ -442,7 +470,8 @@ impl<
     V: Copy + Drop,
     S: BuildHasher + Copy + Drop,
     A: Allocator + Copy,
-> MapHandle<'m, K, V, S, A> {
+    L: EntryRule<K, V>,
+> MapHandle<'m, K, V, S, A, L> {
     /// Returns the value of a key, or `None` if no entry that the handle has then observed has the
     /// key.
     ///
@@ -451,6 +480,7 @@ impl<
     pub fn get(&mut self, key: K) -> Option<V>
         ensures continues { Continues self.old self.new }
         ensures found { IfSome result (λ v. Has K.eq (items_of self.new.seen) key v) }
+        ensures holds { IfSome result (HoldsAt L.holds (K.eq key)) }
         ensures absent { IfNone result (Lacks K.eq (items_of self.new.seen) key) }
     {
         Some(*self.get_ref(&key)?)
@@ -465,7 +495,13 @@ impl<
     ///
     /// # Blocks
     /// While another thread pushes, unless the handle has observed the key.
-    pub fn insert<R: Wait>(&mut self, rt: &R, key: K, value: V) -> Result<Inserted<V>, AllocError>
+    pub fn insert<R: Wait>(
+        &mut self,
+        rt: &R,
+        key: K,
+        value: V,
+    ) -> Result<Inserted<V, usize>, AllocError>
+        requires rule { L.holds key value }
         ensures later { IsLaterPass self.old self.new }
         ensures inserted { IfOk result (λ r. InsertsOnce K.eq self.old self.new key r) }
         ensures own_value { IfOk result (λ r. r.is_new ≡ true → r.value ≡ value) }
@@ -504,22 +540,27 @@ impl<
         rt: &R,
         key: K,
         make: F,
-    ) -> Result<Inserted<V>, AllocError>
+    ) -> Result<Inserted<V, usize>, AllocError>
         requires callable { Lacks K.eq (items_of self.old.seen) key → F.pre make }
+        requires rule { (v : V) → F.post make v → L.holds key v }
         ensures later { IsLaterPass self.old self.new }
         ensures inserted { IfOk result (λ r. InsertsOnce K.eq self.old self.new key r) }
-        ensures made { IfOk result (λ r. r.is_new ≡ true → F.post make r.value) }
+        ensures value { IfOk result (λ r. (r.is_new ≡ true → F.post make r.value)
+            × HoldsAt L.holds (K.eq key) r.value) }
         ensures refused { IfErr result (λ e. mine self.new ≡ mine self.old) }
     {
         if let Some(known) = self.find(&key) {
             self.one_to_one();
+            self.obeys_rule();
             return Ok(Inserted {
                 value: self.entry(known).value,
-                place: known,
+                index: known,
                 is_new: false,
             });
         }
-        Ok(copied(self.insert_absent(rt, key, make())?))
+        let inserted = self.insert_absent(rt, key, make())?;
+        self.obeys_rule();
+        Ok(copied(inserted))
     }
 
     /// Returns the key and the value at an index in the order of insertion, or `None` if the index

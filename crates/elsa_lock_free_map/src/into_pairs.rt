@@ -5,15 +5,17 @@ ghost use Rattle.elsa_lock_free_map.specs.Entries.{pairs_of};
 
 use crate::map::{LockFreeFrozenMap, MapPass};
 use crate::pairs::Pairs;
+use elsa_tables::EntryRule;
 use std::alloc::{AllocFailed, Allocator};
 use std::hash::{BuildHasher, Hash};
 
-impl<K: Drop + Hash, V: Drop, S: BuildHasher + Copy + Drop, A: Allocator + Copy> LockFreeFrozenMap<
-    K,
-    V,
-    S,
-    A,
-> {
+impl<
+    K: Drop + Hash,
+    V: Drop,
+    S: BuildHasher + Copy + Drop,
+    A: Allocator + Copy,
+    L: EntryRule<K, V>,
+> LockFreeFrozenMap<K, V, S, A, L> {
     /// Returns all entries, each once as its key and its value, in the order of their insertion.
     /// The view then has observed all of them.
     ///
@@ -32,7 +34,7 @@ impl<K: Drop + Hash, V: Drop, S: BuildHasher + Copy + Drop, A: Allocator + Copy>
     /// `O(n)`: one move for each entry.
     pub fn into_tuple_vec_as(
         self,
-        pass: &mut MapPass<K, V, S, A>,
+        pass: &mut MapPass<K, V, S, A, L>,
     ) -> Result<Vec<(K, V), A>, AllocFailed<Self>>
         requires same_vector { pass.old.vector ≡ self }
         ensures continues { Continues pass.old pass.new }
@@ -55,7 +57,14 @@ impl<K: Drop + Hash, V: Drop, S: BuildHasher + Copy + Drop, A: Allocator + Copy>
             }),
         }
     }
+}
 
+impl<K: Drop + Hash, V: Drop, S: BuildHasher + Copy + Drop, A: Allocator + Copy> LockFreeFrozenMap<
+    K,
+    V,
+    S,
+    A,
+> {
     /// Returns all entries, each once as its key and its value, in the order of their insertion. It
     /// makes a view and drops it, so it promises only what an error has;
     /// [`into_tuple_vec_as`](Self::into_tuple_vec_as) promises the entries.

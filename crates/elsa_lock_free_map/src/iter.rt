@@ -8,6 +8,7 @@ ghost use Rattle.elsa_lock_free_map.specs.Entries.{pair_of, pairs_of};
 use crate::entries::{EntriesHandle, ObservedEntries};
 use crate::map::LockFreeFrozenMap;
 use elsa_hash_index::entry::Entry;
+use elsa_tables::{AnyEntries, EntryRule};
 use std::alloc::{Allocator, Global};
 use std::fmt::{self, Debug, Formatter, Write};
 use std::hash::{BuildHasher, BuildHasherDefault, FoldHasher, Hash};
@@ -25,13 +26,20 @@ pub struct MapIter<
     V: Drop,
     S: BuildHasher + Copy + Drop = BuildHasherDefault<FoldHasher>,
     A: Allocator + Copy = Global,
+    L: EntryRule<K, V> = AnyEntries,
 > {
-    entries: ObservedEntries<'m, K, V, S, A>,
+    entries: ObservedEntries<'m, K, V, S, A, L>,
     place: usize,
 }
 
-impl<'m, K: Drop + Hash, V: Drop, S: BuildHasher + Copy + Drop, A: Allocator + Copy> Model
-    for MapIter<'m, K, V, S, A> {
+impl<
+    'm,
+    K: Drop + Hash,
+    V: Drop,
+    S: BuildHasher + Copy + Drop,
+    A: Allocator + Copy,
+    L: EntryRule<K, V>,
+> Model for MapIter<'m, K, V, S, A, L> {
     ghost use Rattle.std.specs.Prelude.{◌≤◌, List, drop, length};
     ghost use Rattle.elsa_lock_free_map.specs.Entries.{pairs_of};
 
@@ -43,9 +51,14 @@ impl<'m, K: Drop + Hash, V: Drop, S: BuildHasher + Copy + Drop, A: Allocator + C
 }
 
 /// An iterator over the entries that a handle of the list has observed.
-pub(crate) fn walk<'m, K: Drop + Hash, V: Drop, S: BuildHasher + Copy + Drop, A: Allocator + Copy>(
-    list: &EntriesHandle<'m, K, V, S, A>,
-) -> MapIter<'m, K, V, S, A>
+pub(crate) fn walk<
+    'm,
+    K: Drop + Hash,
+    V: Drop,
+    S: BuildHasher + Copy + Drop,
+    A: Allocator + Copy,
+    L: EntryRule<K, V>,
+>(list: &EntriesHandle<'m, K, V, S, A, L>) -> MapIter<'m, K, V, S, A, L>
     ensures items { result ≡ pairs_of (items_of list.now.seen) }
 {
     MapIter {
@@ -54,13 +67,14 @@ pub(crate) fn walk<'m, K: Drop + Hash, V: Drop, S: BuildHasher + Copy + Drop, A:
     }
 }
 
-impl<'m, K: Drop + Hash, V: Drop, S: BuildHasher + Copy + Drop, A: Allocator + Copy> MapIter<
+impl<
     'm,
-    K,
-    V,
-    S,
-    A,
-> {
+    K: Drop + Hash,
+    V: Drop,
+    S: BuildHasher + Copy + Drop,
+    A: Allocator + Copy,
+    L: EntryRule<K, V>,
+> MapIter<'m, K, V, S, A, L> {
     /// Returns a reference to the next entry, which lives as long as the map is borrowed.
     #[inline]
     pub(crate) fn next_entry(&mut self) -> Option<&'m Entry<K, V, S>>
@@ -86,7 +100,7 @@ impl<'m, K: Drop + Hash, V: Drop, S: BuildHasher + Copy + Drop, A: Allocator + C
     ///
     /// # Cost
     /// `O(1)`, also for each entry.
-    pub fn refs(self) -> MapRefs<'m, K, V, S, A>
+    pub fn refs(self) -> MapRefs<'m, K, V, S, A, L>
         ensures items { result ≡ self.entry }
     {
         MapRefs { entries: self }
@@ -99,7 +113,8 @@ impl<
     V: Copy + Drop,
     S: BuildHasher + Copy + Drop,
     A: Allocator + Copy,
-> Iterator for MapIter<'m, K, V, S, A> {
+    L: EntryRule<K, V>,
+> Iterator for MapIter<'m, K, V, S, A, L> {
     type Item = (K, V);
 
     ghost next_gives = { YieldsFirst (λ left. left) };
@@ -130,12 +145,19 @@ pub struct MapRefs<
     V: Drop,
     S: BuildHasher + Copy + Drop = BuildHasherDefault<FoldHasher>,
     A: Allocator + Copy = Global,
+    L: EntryRule<K, V> = AnyEntries,
 > {
-    entries: MapIter<'m, K, V, S, A>,
+    entries: MapIter<'m, K, V, S, A, L>,
 }
 
-impl<'m, K: Drop + Hash, V: Drop, S: BuildHasher + Copy + Drop, A: Allocator + Copy> Model
-    for MapRefs<'m, K, V, S, A> {
+impl<
+    'm,
+    K: Drop + Hash,
+    V: Drop,
+    S: BuildHasher + Copy + Drop,
+    A: Allocator + Copy,
+    L: EntryRule<K, V>,
+> Model for MapRefs<'m, K, V, S, A, L> {
     ghost use Rattle.std.specs.Prelude.{List};
 
     ghost Value = { List (K × V) };
@@ -143,8 +165,14 @@ impl<'m, K: Drop + Hash, V: Drop, S: BuildHasher + Copy + Drop, A: Allocator + C
     ghost view = { λ it. it.entries };
 }
 
-impl<'m, K: Drop + Hash, V: Drop, S: BuildHasher + Copy + Drop, A: Allocator + Copy> Iterator
-    for MapRefs<'m, K, V, S, A> {
+impl<
+    'm,
+    K: Drop + Hash,
+    V: Drop,
+    S: BuildHasher + Copy + Drop,
+    A: Allocator + Copy,
+    L: EntryRule<K, V>,
+> Iterator for MapRefs<'m, K, V, S, A, L> {
     type Item = (&'m K, &'m V);
 
     ghost next_gives = { YieldsFirstBy (λ pair. (pair.0.now, pair.1.now)) (λ left. left) };
@@ -173,7 +201,8 @@ impl<
     V: Copy + Drop + Debug,
     S: BuildHasher + Copy + Drop,
     A: Allocator + Copy,
-> Debug for LockFreeFrozenMap<K, V, S, A> {
+    L: EntryRule<K, V>,
+> Debug for LockFreeFrozenMap<K, V, S, A, L> {
     fn fmt<W: Write>(&self, f: &mut Formatter<W>) -> fmt::Result {
         let mut handle = self.handle();
         handle.len();

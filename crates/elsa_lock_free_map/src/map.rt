@@ -12,39 +12,35 @@ ghost use Rattle.elsa_lock_free.specs.SharedList.{mine};
 use crate::entries::{Entries, EntriesPass};
 use crate::handle::MapHandle;
 use elsa_lock_free::lock_free::LockFreeFrozenVec;
+use elsa_tables::{AnyEntries, EntryRule, Inserted};
 use std::alloc::{AllocError, Allocator, Global};
 use std::hash::{BuildHasher, BuildHasherDefault, FoldHasher, Hash};
 use std::marker::Model;
 
 /// What a thread has observed of a map, and the right to insert as its writer.
-pub type MapPass<K, V, S, A> = EntriesPass<K, V, S, A>;
-
-/// The result of an insertion: the value that the key then has, its index in the order of
-/// insertion, and whether it is new.
-#[derive(Clone, Copy, Drop)]
-pub struct Inserted<V> {
-    pub value: V,
-    pub place: usize,
-    pub is_new: bool,
-}
+pub type MapPass<K, V, S, A, L = AnyEntries> = EntriesPass<K, V, S, A, L>;
 
 /// Returns an insertion's result with a copy of the value.
-pub(crate) fn copied<V: Copy + Drop>(inserted: Inserted<&V>) -> Inserted<V>
+pub(crate) fn copied<V: Copy + Drop>(inserted: Inserted<&V, usize>) -> Inserted<V, usize>
     ensures { result ≡ record {
       value = inserted.entry.value.now;
-      place = inserted.entry.place;
+      index = inserted.entry.index;
       is_new = inserted.entry.is_new;
     } }
 {
     Inserted {
         value: *inserted.value,
-        place: inserted.place,
+        index: inserted.index,
         is_new: inserted.is_new,
     }
 }
 
-/// An append-only map, which threads insert into and look up at once. A clause sees which map it
-/// is.
+/// An append-only map that threads share: look-ups take no lock, and an insertion takes one that
+/// spins.
+///
+/// A clause sees which map it is.
+/// Each entry obeys the rule `L`, which is any by default: an insertion requires it of the key and
+/// the value, and a look-up ensures it of the value that it returns.
 ///
 /// It owns its keys and values: [`MapHandle::get_ref`] returns a reference that lives as long as
 /// the map is borrowed, and each is dropped once, with the map.
@@ -56,14 +52,20 @@ pub struct LockFreeFrozenMap<
     V: Drop,
     S: BuildHasher + Copy + Drop = BuildHasherDefault<FoldHasher>,
     A: Allocator + Copy = Global,
+    L: EntryRule<K, V> = AnyEntries,
 > {
-    pub(crate) list: Entries<K, V, S, A>,
+    pub(crate) list: Entries<K, V, S, A, L>,
     pub(crate) builder: S,
     pub(crate) alloc: A,
 }
 
-impl<K: Drop + Hash, V: Drop, S: BuildHasher + Copy + Drop, A: Allocator + Copy> Model
-    for LockFreeFrozenMap<K, V, S, A> {
+impl<
+    K: Drop + Hash,
+    V: Drop,
+    S: BuildHasher + Copy + Drop,
+    A: Allocator + Copy,
+    L: EntryRule<K, V>,
+> Model for LockFreeFrozenMap<K, V, S, A, L> {
     ghost use Rattle.elsa_lock_free.specs.SharedList.{Vector};
 
     ghost Value = { Vector };
@@ -71,15 +73,15 @@ impl<K: Drop + Hash, V: Drop, S: BuildHasher + Copy + Drop, A: Allocator + Copy>
     ghost view = { λ m. m.list };
 }
 
-impl<K: Drop + Hash, V: Drop, S: BuildHasher + Copy + Drop, A: Allocator + Copy> LockFreeFrozenMap<
-    K,
-    V,
-    S,
-    A,
-> {
-    /// Makes an empty map, which allocates by `alloc` and hashes by the hashers of `builder`.
-    ///
-    /// If keys come from untrusted input, pass a `SeededState` of `elsa`.
+impl<
+    K: Drop + Hash,
+    V: Drop,
+    S: BuildHasher + Copy + Drop,
+    A: Allocator + Copy,
+    L: EntryRule<K, V>,
+> LockFreeFrozenMap<K, V, S, A, L> {
+    /// Makes an empty map whose entries obey the rule `L`, which allocates by `alloc` and hashes by
+    /// the hashers of `builder`.
     ///
     /// # Errors
     /// Fails if an allocation fails.
@@ -89,7 +91,7 @@ impl<K: Drop + Hash, V: Drop, S: BuildHasher + Copy + Drop, A: Allocator + Copy>
     ///
     /// # Cost
     /// `O(1)`.
-    pub fn with_hasher(alloc: A, builder: S) -> Result<Self, AllocError> {
+    pub fn with_rule(alloc: A, builder: S) -> Result<Self, AllocError> {
         Ok(LockFreeFrozenMap {
             list: LockFreeFrozenVec::with_rule(alloc)?,
             builder,
@@ -99,7 +101,7 @@ impl<K: Drop + Hash, V: Drop, S: BuildHasher + Copy + Drop, A: Allocator + Copy>
 
     /// Makes a view that has observed nothing and inserted nothing. It allocates nothing and takes
     /// no atomic step.
-    pub fn pass(&self) -> MapPass<K, V, S, A>
+    pub fn pass(&self) -> MapPass<K, V, S, A, L>
         ensures same_vector { result.vector ≡ self.now }
         ensures nothing_seen { result.seen ≡ [] }
         ensures nothing_mine { mine result ≡ [] }
@@ -109,12 +111,27 @@ impl<K: Drop + Hash, V: Drop, S: BuildHasher + Copy + Drop, A: Allocator + Copy>
 
     /// Makes a handle of a new view, which has observed nothing and inserted nothing. It allocates
     /// nothing and takes no atomic step.
-    pub fn handle(&self) -> MapHandle<'_, K, V, S, A>
+    pub fn handle(&self) -> MapHandle<'_, K, V, S, A, L>
         ensures same_vector { result.vector ≡ self.now }
         ensures nothing_seen { result.seen ≡ [] }
         ensures nothing_mine { mine result ≡ [] }
     {
         MapHandle::of(self, self.pass())
+    }
+}
+
+impl<K: Drop + Hash, V: Drop, S: BuildHasher + Copy + Drop, A: Allocator + Copy> LockFreeFrozenMap<
+    K,
+    V,
+    S,
+    A,
+> {
+    /// Makes an empty map, which allocates by `alloc` and hashes by the hashers of `builder`. It
+    /// allocates and fails as [`with_rule`](Self::with_rule) does.
+    ///
+    /// If keys come from untrusted input, pass a `SeededState` of `elsa`.
+    pub fn with_hasher(alloc: A, builder: S) -> Result<Self, AllocError> {
+        LockFreeFrozenMap::with_rule(alloc, builder)
     }
 }
 

@@ -4,8 +4,9 @@ ghost use Rattle.elsa_lock_free.specs.SharedList.{IsLaterPass, mine};
 ghost use Rattle.elsa_lock_free_map.specs.Entries.{InsertsOnce, is_text};
 
 use crate::handle::MapHandle;
-use crate::map::{Inserted, copied};
+use crate::map::copied;
 use crate::place_text::PlaceText;
+use elsa_tables::Inserted;
 use std::alloc::{AllocError, Allocator};
 use std::hash::BuildHasher;
 use std::sync::Wait;
@@ -34,7 +35,7 @@ impl<'m, 'a, V: Copy + Drop, S: BuildHasher + Copy + Drop, A: Allocator + Copy> 
         arena: P,
         text: &str,
         value: V,
-    ) -> Result<Inserted<V>, AllocError>
+    ) -> Result<Inserted<V, usize>, AllocError>
         ensures later { IsLaterPass self.old self.new }
         ensures inserted { IfOk result (λ r. InsertsOnce is_text self.old self.new text.now r) }
         ensures own_value { IfOk result (λ r. r.is_new ≡ true → r.value ≡ value) }
@@ -44,7 +45,7 @@ impl<'m, 'a, V: Copy + Drop, S: BuildHasher + Copy + Drop, A: Allocator + Copy> 
             self.one_to_one();
             return Ok(Inserted {
                 value: self.entry(place).value,
-                place,
+                index: place,
                 is_new: false,
             });
         }

@@ -1,4 +1,5 @@
 pub mod Clones
 pub mod Insertions
+pub mod Kept
 pub mod Shared
 pub mod Walks

@@ -13,6 +13,7 @@ mod state;
 mod text_keys;
 mod walks;
 
+pub use elsa_tables::{AnyEntries, EntryRule};
 pub use frozen_btree_map::FrozenBTreeMap;
 pub use frozen_map::FrozenMap;
 pub use hashed_state::MapState;

@@ -6,8 +6,6 @@ use Rattle.std.specs.Map.{lookup, lookup_entry, lookup_key, update, update_all}
 use Rattle.std.specs.Option.{option_map}
 use Rattle.std.proofs.lemmas.List.{reverse-append}
 use Rattle.std.proofs.lemmas.List.Sums.{fold-append}
-use Rattle.elsa_tables.specs.declared.put.Inserted.{Inserted}
-use Rattle.elsa_tables.specs.Tables.{was_present}
 use Rattle.elsa_maps.specs.FirstWins.{Adds, AddsNew, HoldsLast, Inserts, IsRefused, Keeps, SameAt, value_at}
 
 -- the two, if both are there
@@ -59,24 +57,24 @@ module _ {K B : Type 0} (eq : K → K → Bool) (laws : IsEquivalence eq) where
       by true same = absurd (true≢false (ap is_some (sym is ∙ sym (lookup_congr eq laws.congr es k q same) ∙ none)))
       by false other = (adds q).1 other ∙ is
 
-  module _ {V T E : Type 0} (target : V → T) (shown : B → T) (es fs : List (K × B)) (k : K) (v : V) (result : Result (Inserted B (Unit {0})) E) (present : (x : B) → value_at eq es k ≡ Some x → (result ≡ Ok (was_present x)) × (fs ≡ es))
-      (adds : value_at eq es k ≡ None → IfOk result (λ r. (r.is_new ≡ true) × AddsNew eq target shown es k v r.value fs)) where
+  module _ {V T E : Type 0} (target : V → T) (shown : B → T) (es fs : List (K × B)) (k : K) (v : V) (result : Result (B × Bool) E) (present : (x : B) → value_at eq es k ≡ Some x → (result ≡ Ok (x, false)) × (fs ≡ es))
+      (adds : value_at eq es k ≡ None → IfOk result (λ r. (r.1 ≡ true) × AddsNew eq target shown es k v r.0 fs)) where
     -- an insertion keeps every value
     pub insert_keeps : OnErr result (IsRefused eq es k fs) → Keeps (value_at eq es) (value_at eq fs)
     insert_keeps refused = by (value_at eq es k) refl result adds refused
       where
-        by : (o : Option B) → value_at eq es k ≡ o → (r : Result (Inserted B (Unit {0})) E) → (value_at eq es k ≡ None → IfOk r (λ a. (a.is_new ≡ true) × AddsNew eq target shown es k v a.value fs)) → OnErr r (IsRefused eq es k fs) → Keeps (value_at eq es) (value_at eq fs)
+        by : (o : Option B) → value_at eq es k ≡ o → (r : Result (B × Bool) E) → (value_at eq es k ≡ None → IfOk r (λ a. (a.1 ≡ true) × AddsNew eq target shown es k v a.0 fs)) → OnErr r (IsRefused eq es k fs) → Keeps (value_at eq es) (value_at eq fs)
         by (Some x) is r h same q y had = ap (λ gs. value_at eq gs q) (present x is).1 ∙ had
-        by None is (Ok a) h same q y had = adds_keeps es (value_at eq fs) k a.value is (h is).1.1 q y had
+        by None is (Ok a) h same q y had = adds_keeps es (value_at eq fs) k a.0 is (h is).1.1 q y had
         by None is (Err e) h same q y had = ap (λ gs. value_at eq gs q) same.0 ∙ had
 
     -- where it is accepted the flag says whether the key was new
-    pub insert_flag : IfOk result (λ r. (r.is_new ≡ true) ↔ (value_at eq es k ≡ None))
+    pub insert_flag : IfOk result (λ r. (r.1 ≡ true) ↔ (value_at eq es k ≡ None))
     insert_flag = by (value_at eq es k) refl result refl adds
       where
-        by : (o : Option B) → value_at eq es k ≡ o → (r : Result (Inserted B (Unit {0})) E) → result ≡ r → (value_at eq es k ≡ None → IfOk r (λ a. (a.is_new ≡ true) × AddsNew eq target shown es k v a.value fs)) → IfOk r (λ a. (a.is_new ≡ true) ↔ (value_at eq es k ≡ None))
+        by : (o : Option B) → value_at eq es k ≡ o → (r : Result (B × Bool) E) → result ≡ r → (value_at eq es k ≡ None → IfOk r (λ a. (a.1 ≡ true) × AddsNew eq target shown es k v a.0 fs)) → IfOk r (λ a. (a.1 ≡ true) ↔ (value_at eq es k ≡ None))
         by (Some x) is r same h =
-            let P : Result (Inserted B (Unit {0})) E → Type 0 = λ s. IfOk s (λ a. (a.is_new ≡ true) ↔ (value_at eq es k ≡ None)) in
+            let P : Result (B × Bool) E → Type 0 = λ s. IfOk s (λ a. (a.1 ≡ true) ↔ (value_at eq es k ≡ None)) in
             subst P (sym (present x is).0 ∙ same) ((λ f. absurd (true≢false (sym f))), (λ none. absurd (true≢false (ap is_some (sym is ∙ none)))))
         by None is (Ok a) same h = ((λ f. is), (λ none. (h none).0))
         by None is (Err e) same h = tt

@@ -9,7 +9,6 @@ ghost use Rattle.std.specs.Map.{keys_of, lookup, values_of};
 ghost use Rattle.std.specs.Map.Iter.{ShowsInOrder, ShowsInReverse, deref, deref_pair};
 ghost use Rattle.std.specs.Option.{option_map};
 ghost use Rattle.indexmap.specs.IndexMap.{insert_entry};
-ghost use Rattle.elsa_tables.specs.Tables.{was_present_at};
 ghost use Rattle.elsa_specs.proofs.MapEquality.{same_values_equivalence, same_values_laws};
 ghost use Rattle.elsa_specs.specs.FirstWins.{IsEqualMap, same_values, value_at};
 ghost use Rattle.elsa_specs.specs.Insertions.{place_of, Inserted, InsertedNew, IsCloneOf, CollectsTargets};
@@ -214,33 +213,27 @@ where
         &mut self,
         key: K,
         value: V,
-    ) -> Result<elsa_tables::Inserted<V::Borrow, usize>, AllocError>
+    ) -> Result<(usize, V::Borrow, bool), AllocError>
         // A present key keeps its index and value; a new key has the last entry.
         ensures present { (x : V.Borrow) → value_at K.eq self.old key ≡ Some x →
             (i : ℕ) × (place_of K.eq self.old key ≡ Some i)
-            × (result ≡ Ok (was_present_at i x)) × (self.new ≡ self.old) }
-        ensures accepted { IfOk result (λ r. InsertedNew K.eq V.target V.shown self.old key value
-            r.index r.value r.is_new self.new) }
+            × (result ≡ Ok (i, x, false)) × (self.new ≡ self.old) }
+        ensures accepted { IfOk result (λ r.
+            InsertedNew K.eq V.target V.shown self.old key value r.0 r.1 r.2 self.new) }
 
         // Only the insertion of a new key fails, and then nothing changes.
         ensures refused { OnErr result (self.new ≡ self.old) }
         ensures only_new { OnErr result (place_of K.eq self.old key ≡ None) }
 
         // The key is then found at its index, with its value.
-        ensures value_after { IfOk result (λ r. value_at K.eq self.new key ≡ Some r.value) }
-        ensures index_after { IfOk result (λ r. place_of K.eq self.new key ≡ Some r.index) }
+        ensures value_after { IfOk result (λ r. value_at K.eq self.new key ≡ Some r.1) }
+        ensures index_after { IfOk result (λ r. place_of K.eq self.new key ≡ Some r.0) }
     {
         let Ok(found) = self.table.entry(key) else {
             return Err(AllocError);
         };
         let room = match found {
-            Entry::Occupied(there) => {
-                return Ok(elsa_tables::Inserted {
-                    value: *there.get(),
-                    index: there.index(),
-                    is_new: false,
-                });
-            }
+            Entry::Occupied(there) => return Ok((there.index(), *there.get(), false)),
             Entry::Vacant(room) => room,
         };
         let Ok(borrow) = value.place(self.arena) else {
@@ -249,11 +242,7 @@ where
         };
         let place = room.index();
         room.insert(borrow);
-        Ok(elsa_tables::Inserted {
-            value: borrow,
-            index: place,
-            is_new: true,
-        })
+        Ok((place, borrow, true))
     }
 
     /// Appends the entry unless the map has an equal key, and returns the index and the value that
@@ -278,8 +267,8 @@ where
         ensures value_after { IfOk result (λ r. value_at K.eq self.new key ≡ Some r.1) }
         ensures index_after { IfOk result (λ r. place_of K.eq self.new key ≡ Some r.0) }
     {
-        let done = self.insert_full_new(key, value)?;
-        Ok((done.index, done.value))
+        let (place, borrow, _) = self.insert_full_new(key, value)?;
+        Ok((place, borrow))
     }
 }
 

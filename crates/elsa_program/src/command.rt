@@ -4,7 +4,7 @@ ghost use Rattle.std.specs.Str.Parse.{digits_value};
 ghost use Rattle.std.specs.String.{string_bytes};
 ghost use Rattle.elsa_program.specs.Jobs.{IsWithinLimits, is_number_within, job_of};
 
-use crate::jobs::Job;
+pub use crate::jobs::Job;
 use elsa_interner::digits::number_of;
 
 /// Returns the number that a word writes in digits, if it is from `low` to `high`.

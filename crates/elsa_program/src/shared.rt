@@ -30,13 +30,13 @@ pub trait Gate {
 #[derive(Clone, Copy, Debug, PartialEq, Eq, PartialOrd, Ord)]
 pub enum SharedFault {
     /// An allocation failed.
-    Memory,
+    Memory = 1,
     /// A gate returned `false`.
-    Gate,
+    Gate = 2,
     /// There is no other fault, and the length at the end isn't the number of all numbers.
-    Check,
+    Check = 3,
     /// A thread couldn't be started.
-    Thread,
+    Thread = 4,
 }
 
 impl fmt::Display for SharedFault {

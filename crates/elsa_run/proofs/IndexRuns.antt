@@ -1,7 +1,6 @@
 -- The replays of an index map.
 use Rattle.std.proofs.Common.{◌≡◌, ℕ, Bool, false, List, Some, append-nil, length, Result, Ok, Err}
 use Rattle.std.specs.Cmp.{IsEquivalence}
-use Rattle.elsa_tables.specs.declared.put.Inserted.{Inserted}
 use Rattle.elsa_specs.specs.FirstWins.{value_at}
 use Rattle.elsa_specs.specs.Insertions.{place_of, InsertedNew}
 use Rattle.elsa_specs.specs.Replay.{Answered}
@@ -14,8 +13,8 @@ use Rattle.elsa_maps.proofs.Places.{none_passes, some_passes}
 use Rattle.elsa_run.proofs.Runs.{goes_on, insertion_step, ordered_runs}
 
 -- The flag of an accepted insertion.
-abbrev pub told : {B E : Type 0} → Result (Inserted B (Unit {0})) E → Bool
-told (Ok r) = r.is_new
+abbrev pub told : {B E : Type 0} → Result (B × Bool) E → Bool
+told (Ok r) = r.1
 told (Err e) = false
 
 -- The reply to an insertion depends on the content, and the insertion leaves the content that a

@@ -91,12 +91,12 @@ where
                 Ok(IndexReply::Full(place, item))
             }
             IndexCommand::InsertNew(key, value) => {
-                let done = map.insert_new(key, value)?;
-                Ok(IndexReply::New(done.value, done.is_new))
+                let (item, is_new) = map.insert_new(key, value)?;
+                Ok(IndexReply::New(item, is_new))
             }
             IndexCommand::InsertFullNew(key, value) => {
-                let done = map.insert_full_new(key, value)?;
-                Ok(IndexReply::FullNew(done.index, done.value, done.is_new))
+                let (place, item, is_new) = map.insert_full_new(key, value)?;
+                Ok(IndexReply::FullNew(place, item, is_new))
             }
             IndexCommand::Get(key) => Ok(IndexReply::Found(map.get(&key))),
             IndexCommand::IndexOf(key) => Ok(IndexReply::Place(map.get_index_of(&key))),

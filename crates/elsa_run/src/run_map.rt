@@ -71,8 +71,8 @@ impl<R, M: MapForm<R>> Call<M, MapReply<<M::Value as StableDeref<R>>::Borrow>, R
         match self {
             MapCommand::Insert(key, value) => Ok(MapReply::Item(map.insert(key, value)?)),
             MapCommand::InsertNew(key, value) => {
-                let done = map.insert_new(key, value)?;
-                Ok(MapReply::New(done.value, done.is_new))
+                let (item, is_new) = map.insert_new(key, value)?;
+                Ok(MapReply::New(item, is_new))
             }
             MapCommand::Get(key) => Ok(MapReply::Found(map.get(&key))),
             MapCommand::Len => Ok(MapReply::Count(map.len())),

@@ -93,12 +93,12 @@ where
                 Ok(SetReply::Full(place, item))
             }
             SetCommand::InsertNew(value) => {
-                let done = set.insert_full_new(value)?;
-                Ok(SetReply::New(done.value, done.is_new))
+                let (item, is_new) = set.insert_new(value)?;
+                Ok(SetReply::New(item, is_new))
             }
             SetCommand::InsertFullNew(value) => {
-                let done = set.insert_full_new(value)?;
-                Ok(SetReply::FullNew(done.index, done.value, done.is_new))
+                let (place, item, is_new) = set.insert_full_new(value)?;
+                Ok(SetReply::FullNew(place, item, is_new))
             }
             SetCommand::Get(value) => Ok(SetReply::Found(set.get(&value))),
             SetCommand::IndexOf(value) => Ok(SetReply::Place(set.get_index_of(&value))),

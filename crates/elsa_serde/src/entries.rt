@@ -66,8 +66,8 @@ fn insert_next<R, M: MapForm<R>>(
     ensures fits { result ≢ Err TooMany }
 {
     let place = map.len() - before;
-    let done = map.insert_new(key, value)?;
-    if done.is_new {
+    let (_, is_new) = map.insert_new(key, value)?;
+    if is_new {
         Ok(())
     } else {
         Err(ReadFault::Duplicate(place))

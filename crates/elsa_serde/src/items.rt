@@ -88,8 +88,8 @@ where
     ensures fits { result ≢ Err TooMany }
 {
     let place = set.len() - before;
-    let done = set.insert_full_new(value)?;
-    if done.is_new {
+    let (_, is_new) = set.insert_new(value)?;
+    if is_new {
         Ok(())
     } else {
         Err(ReadFault::Duplicate(place))

@@ -36,8 +36,8 @@ fn number_of(place: usize, shard: usize, count: usize) -> usize
 }
 
 /// An interner that threads share, divided into shards by the hash of the name: a name has the same
-/// number in every thread, and different names have different numbers. Look-ups take no lock, and a
-/// new name waits only for new names of the same shard.
+/// number in every thread, and different names have different numbers. Look-ups take no lock; a new
+/// name takes the lock of its shard, which spins.
 ///
 /// A thread calls the interner through a [`ShardedNameHandle`]. A name belongs to one shard, so
 /// what a [`SharedInterner`] promises of a name holds here. What it promises of all names doesn't:

@@ -2,11 +2,13 @@
 ghost use Rattle.std.specs.Prelude.{◌≡◌, ◌<◌, ◌≤◌, [], true, All, IfOk, IfErr, IfSome, IfNone, length, map};
 ghost use Rattle.elsa_lock_free.specs.SharedList.{Continues, IsLaterPass, items_of, mine};
 ghost use Rattle.elsa_lock_free_map.specs.Entries.{Has, InsertsOnce, Lacks};
+ghost use Rattle.elsa_tables.specs.Rules.{HoldsAt};
 ghost use Rattle.elsa_shards.specs.Shards.{AllContinue, AllMeet, IsSameMap, OnShard, seen_in_all, shard_of};
 
 use crate::map::{SHARDS, index_of};
 use elsa_lock_free_map::handle::MapHandle;
-use elsa_lock_free_map::map::{Inserted, LockFreeFrozenMap};
+use elsa_lock_free_map::map::LockFreeFrozenMap;
+use elsa_tables::{AnyEntries, EntryRule, Inserted};
 use indexmap::Equivalent;
 use std::alloc::{AllocError, Allocator, Global};
 use std::hash::{BuildHasher, BuildHasherDefault, FoldHasher, Hash};
@@ -14,26 +16,33 @@ use std::marker::Model;
 use std::sync::Wait;
 
 /// An append-only map that threads share, divided into shards by the hash of the key. Look-ups take
-/// no lock, and insertions wait only for insertions of keys of the same shard.
+/// no lock; an insertion takes the lock of the key's shard, which spins.
 ///
 /// A thread calls the map through a [`ShardedHandle`]. A key belongs to one shard, so what a
 /// [`LockFreeFrozenMap`] promises of a key holds here. What it promises of all entries doesn't:
-/// there is no order of insertion, and no index, across shards.
+/// there is no order of insertion, and no index, across shards. Each entry obeys the rule `L`, as
+/// those of a `LockFreeFrozenMap` do.
 #[derive(Drop)]
 pub struct LockFreeShardedMap<
     K: Drop + Hash,
     V: Drop,
     S: BuildHasher + Copy + Drop = BuildHasherDefault<FoldHasher>,
     A: Allocator + Copy = Global,
+    L: EntryRule<K, V> = AnyEntries,
 > {
-    shards: Vec<LockFreeFrozenMap<K, V, S, A>, A>,
+    shards: Vec<LockFreeFrozenMap<K, V, S, A, L>, A>,
     hash_builder: S,
     alloc: A,
 }
 
 // In a clause, a map is its shards and its hash builder.
-impl<K: Drop + Hash, V: Drop, S: BuildHasher + Copy + Drop, A: Allocator + Copy> Model
-    for LockFreeShardedMap<K, V, S, A> {
+impl<
+    K: Drop + Hash,
+    V: Drop,
+    S: BuildHasher + Copy + Drop,
+    A: Allocator + Copy,
+    L: EntryRule<K, V>,
+> Model for LockFreeShardedMap<K, V, S, A, L> {
     ghost use Rattle.std.specs.Prelude.{List, length, ◌<◌};
     ghost use Rattle.elsa_lock_free.specs.SharedList.{Vector};
 
@@ -70,20 +79,38 @@ impl<K: Drop + Hash, V: Drop, S: BuildHasher + Copy + Drop, A: Allocator + Copy>
     S,
     A,
 > {
-    /// Makes an empty map with `count` shards that hashes its keys by `hash_builder`.
+    /// Makes an empty map with `count` shards that hashes its keys by `hash_builder`. It allocates
+    /// and fails as [`with_rule`](Self::with_rule) does.
+    pub fn with_shards(alloc: A, count: usize, hash_builder: S) -> Result<Self, AllocError>
+        requires positive { 0 < count }
+        ensures count { IfOk result (λ m. length m.0 ≡ count) }
+    {
+        LockFreeShardedMap::with_rule(alloc, count, hash_builder)
+    }
+}
+
+impl<
+    K: Drop + Hash,
+    V: Drop,
+    S: BuildHasher + Copy + Drop,
+    A: Allocator + Copy,
+    L: EntryRule<K, V>,
+> LockFreeShardedMap<K, V, S, A, L> {
+    /// Makes an empty map with `count` shards, whose entries obey the rule `L`, and which hashes
+    /// its keys by `hash_builder`.
     ///
     /// # Errors
     /// Fails if an allocation fails.
     ///
     /// # Allocates
     /// The list of shards, and the directory of each.
-    pub fn with_shards(alloc: A, count: usize, hash_builder: S) -> Result<Self, AllocError>
+    pub fn with_rule(alloc: A, count: usize, hash_builder: S) -> Result<Self, AllocError>
         requires positive { 0 < count }
         ensures count { IfOk result (λ m. length m.0 ≡ count) }
     {
         let mut shards = Vec::with_capacity(alloc, count)?;
         for _ in 0..count {
-            shards.push(LockFreeFrozenMap::with_hasher(alloc, hash_builder)?)?;
+            shards.push(LockFreeFrozenMap::with_rule(alloc, hash_builder)?)?;
         }
         Ok(LockFreeShardedMap {
             shards,
@@ -96,7 +123,7 @@ impl<K: Drop + Hash, V: Drop, S: BuildHasher + Copy + Drop, A: Allocator + Copy>
     ///
     /// # Cost
     /// `O(1)`.
-    pub fn shards(&self) -> &[LockFreeFrozenMap<K, V, S, A>]
+    pub fn shards(&self) -> &[LockFreeFrozenMap<K, V, S, A, L>]
         ensures shards { result.now ≡ self.now.0 }
     {
         self.shards.as_slice()
@@ -109,7 +136,7 @@ impl<K: Drop + Hash, V: Drop, S: BuildHasher + Copy + Drop, A: Allocator + Copy>
     ///
     /// # Allocates
     /// A list with a handle of each shard.
-    pub fn handle(&self) -> Result<ShardedHandle<'_, K, V, S, A>, AllocError>
+    pub fn handle(&self) -> Result<ShardedHandle<'_, K, V, S, A, L>, AllocError>
         ensures same_vectors { IfOk result (λ h. map (λ v. v.vector) h.0 ≡ self.now.0) }
         ensures same_hasher { IfOk result (λ h. h.1 ≡ self.now.1) }
         ensures nothing_seen { IfOk result (λ h. All (λ v. (v.seen ≡ []) × (mine v ≡ [])) h.0) }
@@ -135,13 +162,20 @@ pub struct ShardedHandle<
     V: Drop,
     S: BuildHasher + Copy + Drop = BuildHasherDefault<FoldHasher>,
     A: Allocator + Copy = Global,
+    L: EntryRule<K, V> = AnyEntries,
 > {
-    handles: Vec<MapHandle<'m, K, V, S, A>, A>,
+    handles: Vec<MapHandle<'m, K, V, S, A, L>, A>,
     hash_builder: S,
 }
 
-impl<'m, K: Drop + Hash, V: Drop, S: BuildHasher + Copy + Drop, A: Allocator + Copy> Model
-    for ShardedHandle<'m, K, V, S, A> {
+impl<
+    'm,
+    K: Drop + Hash,
+    V: Drop,
+    S: BuildHasher + Copy + Drop,
+    A: Allocator + Copy,
+    L: EntryRule<K, V>,
+> Model for ShardedHandle<'m, K, V, S, A, L> {
     ghost use Rattle.std.specs.Prelude.{List, length, ◌<◌};
     ghost use Rattle.elsa_lock_free.specs.SharedList.{View};
     ghost use Rattle.elsa_hash_index.specs.declared.entry.Entry.{Entry};
@@ -153,13 +187,14 @@ impl<'m, K: Drop + Hash, V: Drop, S: BuildHasher + Copy + Drop, A: Allocator + C
     ghost invariant = { λ h. 0 < length h.handles.items };
 }
 
-impl<'m, K: Drop + Hash, V: Drop, S: BuildHasher + Copy + Drop, A: Allocator + Copy> ShardedHandle<
+impl<
     'm,
-    K,
-    V,
-    S,
-    A,
-> {
+    K: Drop + Hash,
+    V: Drop,
+    S: BuildHasher + Copy + Drop,
+    A: Allocator + Copy,
+    L: EntryRule<K, V>,
+> ShardedHandle<'m, K, V, S, A, L> {
     /// Returns the index of the shard of the keys that are hashed like `query`.
     ///
     /// # Cost
@@ -176,7 +211,7 @@ impl<'m, K: Drop + Hash, V: Drop, S: BuildHasher + Copy + Drop, A: Allocator + C
     ///
     /// # Cost
     /// `O(1)`.
-    pub fn shards(&self) -> &[MapHandle<'m, K, V, S, A>]
+    pub fn shards(&self) -> &[MapHandle<'m, K, V, S, A, L>]
         ensures views { result.now ≡ self.now.0 }
     {
         self.handles.as_slice()
@@ -219,7 +254,7 @@ impl<'m, K: Drop + Hash, V: Drop, S: BuildHasher + Copy + Drop, A: Allocator + C
     ///
     /// # Cost
     /// The number of shards.
-    pub fn meet(&mut self, other: &mut ShardedHandle<'_, K, V, S, A>)
+    pub fn meet(&mut self, other: &mut ShardedHandle<'_, K, V, S, A, L>)
         requires same_vectors { map (λ v. v.vector) self.old.0 ≡ map (λ v. v.vector) other.old.0 }
         ensures same_map { IsSameMap self.old self.new × IsSameMap other.old other.new }
         ensures met { AllMeet self.old.0 self.new.0 other.old.0 other.new.0 }
@@ -246,6 +281,7 @@ impl<'m, K: Drop + Hash, V: Drop, S: BuildHasher + Copy + Drop, A: Allocator + C
             (λ before after. Continues before after
             × IfSome result (λ v. Has Q.equivalent (items_of after.seen) query v.now)
             × IfNone result (Lacks Q.equivalent (items_of after.seen) query)) }
+        ensures holds { IfSome result (λ v. HoldsAt L.holds (Q.equivalent query) v.now) }
     {
         let index = self.shard_index(query);
         self.handles[index].get_ref(query)
@@ -272,14 +308,15 @@ impl<'m, K: Drop + Hash, V: Drop, S: BuildHasher + Copy + Drop, A: Allocator + C
         rt: &R,
         key: K,
         value: V,
-    ) -> Result<Inserted<&'m V>, AllocError>
+    ) -> Result<Inserted<&'m V, usize>, AllocError>
+        requires rule { L.holds key value }
         ensures same_map { IsSameMap self.old self.new }
         ensures on_shard { OnShard self.old.0 self.new.0
             (shard_of S.BuildHasher S.Hasher.Hasher self.old.1 (length self.old.0)
             (K.hash_input key))
             (λ before after. IsLaterPass before after
             × IfOk result (λ r. InsertsOnce K.eq before after key
-            (record { value = r.value.now; place = r.place; is_new = r.is_new }))
+            (record { value = r.value.now; index = r.index; is_new = r.is_new }))
             × IfErr result (λ e. mine after ≡ mine before)) }
         ensures own_value { IfOk result (λ r. r.is_new ≡ true → r.value.now ≡ value) }
     {
@@ -294,7 +331,8 @@ impl<
     V: Copy + Drop,
     S: BuildHasher + Copy + Drop,
     A: Allocator + Copy,
-> ShardedHandle<'m, K, V, S, A> {
+    L: EntryRule<K, V>,
+> ShardedHandle<'m, K, V, S, A, L> {
     /// Returns the value of a key, or `None` if no entry of the key's shard that the handle has
     /// then observed has the key. It takes no lock, allocates nothing and never blocks.
     ///
@@ -308,6 +346,7 @@ impl<
             (λ before after. Continues before after
             × IfSome result (λ v. Has K.eq (items_of after.seen) key v)
             × IfNone result (Lacks K.eq (items_of after.seen) key)) }
+        ensures holds { IfSome result (HoldsAt L.holds (K.eq key)) }
     {
         let index = self.shard_index(&key);
         self.handles[index].get(key)
@@ -325,7 +364,13 @@ impl<
     ///
     /// # Cost
     /// Two hashes and one search.
-    pub fn insert<R: Wait>(&mut self, rt: &R, key: K, value: V) -> Result<Inserted<V>, AllocError>
+    pub fn insert<R: Wait>(
+        &mut self,
+        rt: &R,
+        key: K,
+        value: V,
+    ) -> Result<Inserted<V, usize>, AllocError>
+        requires rule { L.holds key value }
         ensures same_map { IsSameMap self.old self.new }
         ensures on_shard { OnShard self.old.0 self.new.0
             (shard_of S.BuildHasher S.Hasher.Hasher self.old.1 (length self.old.0)
@@ -359,8 +404,9 @@ impl<
         rt: &R,
         key: K,
         make: F,
-    ) -> Result<Inserted<V>, AllocError>
+    ) -> Result<Inserted<V, usize>, AllocError>
         requires callable { F.pre make }
+        requires rule { (v : V) → F.post make v → L.holds key v }
         ensures same_map { IsSameMap self.old self.new }
         ensures on_shard { OnShard self.old.0 self.new.0
             (shard_of S.BuildHasher S.Hasher.Hasher self.old.1 (length self.old.0)
@@ -368,7 +414,8 @@ impl<
             (λ before after. IsLaterPass before after
             × IfOk result (InsertsOnce K.eq before after key)
             × IfErr result (λ e. mine after ≡ mine before)) }
-        ensures made { IfOk result (λ r. r.is_new ≡ true → F.post make r.value) }
+        ensures value { IfOk result (λ r. (r.is_new ≡ true → F.post make r.value)
+            × HoldsAt L.holds (K.eq key) r.value) }
     {
         let index = self.shard_index(&key);
         self.handles[index].get_or_insert_with(rt, key, make)

@@ -1,9 +1,12 @@
 //! [`ShardedMap`]: a hashed map of locked shards.
-ghost use Rattle.std.specs.Prelude.{◌≡◌, ◌<◌, IfOk, length};
+ghost use Rattle.std.specs.Prelude.{◌≡◌, ◌<◌, true, IfOk, IfSome, length};
+ghost use Rattle.std.specs.Arc.{arc_value};
+ghost use Rattle.std.specs.Fn.{FnOnceReturnsAt, FnOnceTakesAt};
+ghost use Rattle.elsa_tables.specs.Rules.{HoldsAt};
 ghost use Rattle.elsa_shards.specs.Shards.{shard_of, spread_over};
 
 use elsa_locks::map::FrozenMap;
-use elsa_tables::{Inserted, Seeks};
+use elsa_tables::{AnyEntries, EntryRule, Seeks};
 use std::alloc::{AllocError, Allocator, Global};
 use std::collections::HashMap;
 use std::hash::{BuildHasher, BuildHasherDefault, FoldHasher, Hash};
@@ -58,19 +61,25 @@ pub(crate) fn index_of<Q: Hash + Copy, S: BuildHasher>(
 ///
 /// Take a [`FrozenMap`](elsa_locks::map::FrozenMap) instead if a call must see the whole map at one
 /// moment. `S` builds the hasher. If the keys are untrusted input, use a `SeededState` of `elsa`.
+/// `R` is a rule of the entries ([`EntryRule`]).
 #[derive(Drop)]
 pub struct ShardedMap<
     K: Eq + Hash + Drop,
     V,
     S: BuildHasher = BuildHasherDefault<FoldHasher>,
     A: Allocator + Copy = Global,
+    R: EntryRule<K, V> = AnyEntries,
 > {
-    shards: Vec<FrozenMap<K, V, S, A>, A>,
+    shards: Vec<FrozenMap<K, V, S, A, R>, A>,
     hash_builder: S,
 }
 
 // In a clause, a map is the number of its shards and its hash builder.
-impl<K: Eq + Hash + Drop, V, S: BuildHasher, A: Allocator + Copy> Model for ShardedMap<K, V, S, A> {
+impl<K, V, S: BuildHasher, A: Allocator + Copy, R: EntryRule<K, V>> Model
+    for ShardedMap<K, V, S, A, R>
+where
+    K: Eq + Hash + Drop,
+{
     ghost use Rattle.std.specs.Prelude.{ℕ, length, ◌<◌};
 
     ghost Value = { ℕ × S };
@@ -119,9 +128,35 @@ impl<K: Eq + Hash + Drop, V: Drop, S: BuildHasher + Clone + Drop, A: Allocator +
         requires { 0 < count }
         ensures { IfOk result (λ m. m.0 ≡ count) }
     {
+        ShardedMap::with_rule(alloc, count, hash_builder)
+    }
+}
+
+impl<K, V: Drop, S: BuildHasher + Clone + Drop, A: Allocator + Copy, R: EntryRule<K, V>> ShardedMap<
+    K,
+    V,
+    S,
+    A,
+    R,
+>
+where
+    K: Eq + Hash + Drop,
+{
+    /// Makes an empty map with a rule of its entries: [`with_shards`](Self::with_shards) for any
+    /// rule.
+    ///
+    /// # Errors
+    /// Fails as `with_shards` does.
+    ///
+    /// # Allocates
+    /// The list of shards.
+    pub fn with_rule(alloc: A, count: usize, hash_builder: S) -> Result<Self, AllocError>
+        requires { 0 < count }
+        ensures { IfOk result (λ m. m.0 ≡ count) }
+    {
         let mut shards = Vec::with_capacity(alloc, count)?;
         for _ in 0..count {
-            shards.push(FrozenMap::with_hasher(alloc, hash_builder.clone()?))?;
+            shards.push(FrozenMap::with_rule(alloc, hash_builder.clone()?))?;
         }
         Ok(ShardedMap {
             shards,
@@ -130,7 +165,10 @@ impl<K: Eq + Hash + Drop, V: Drop, S: BuildHasher + Clone + Drop, A: Allocator +
     }
 }
 
-impl<K: Eq + Hash + Drop, V: Drop, S: BuildHasher, A: Allocator + Copy> ShardedMap<K, V, S, A> {
+impl<K, V: Drop, S: BuildHasher, A: Allocator + Copy, R: EntryRule<K, V>> ShardedMap<K, V, S, A, R>
+where
+    K: Eq + Hash + Drop,
+{
     /// Returns the number of shards.
     pub fn shard_count(&self) -> usize
         ensures { result ≡ self.now.0 }
@@ -143,7 +181,7 @@ impl<K: Eq + Hash + Drop, V: Drop, S: BuildHasher, A: Allocator + Copy> ShardedM
     ///
     /// # Cost
     /// `O(1)`.
-    pub fn shards(&self) -> &[FrozenMap<K, V, S, A>]
+    pub fn shards(&self) -> &[FrozenMap<K, V, S, A, R>]
         ensures { length result.now ≡ self.now.0 }
     {
         self.shards.as_slice()
@@ -162,7 +200,7 @@ impl<K: Eq + Hash + Drop, V: Drop, S: BuildHasher, A: Allocator + Copy> ShardedM
     }
 
     // Returns the shard of the keys that are hashed like `query`.
-    fn shard<Q: Hash + Copy>(&self, query: Q) -> &FrozenMap<K, V, S, A> {
+    fn shard<Q: Hash + Copy>(&self, query: Q) -> &FrozenMap<K, V, S, A, R> {
         let index = self.shard_index(query);
         &self.shards[index]
     }
@@ -184,6 +222,8 @@ impl<K: Eq + Hash + Drop, V: Drop, S: BuildHasher, A: Allocator + Copy> ShardedM
     pub fn get<Q>(&self, rt: &impl Wait, query: Q) -> Result<Option<Arc<V, A>>, AllocError>
     where
         Q: Hash + Seeks<K, Arc<V, A>, HashMap<K, Arc<V, A>, S, A>>,
+        ensures { IfOk result (λ found. IfSome found (λ a.
+            HoldsAt R.holds (Q.finds query) (arc_value a))) }
     {
         self.shard(query).get(rt, query)
     }
@@ -199,11 +239,13 @@ impl<K: Eq + Hash + Drop, V: Drop, S: BuildHasher, A: Allocator + Copy> ShardedM
     ///
     /// # Cost
     /// Two hashes and one search.
-    pub fn map_get<R, Q, F>(&self, rt: &impl Wait, query: Q, f: F) -> Option<R>
+    pub fn map_get<X, Q, F>(&self, rt: &impl Wait, query: Q, f: F) -> Option<X>
     where
         Q: Hash + Seeks<K, Arc<V, A>, HashMap<K, Arc<V, A>, S, A>>,
-        F: FnOnce(&V) -> R + Drop,
-        requires { F.IsAlwaysCallable f }
+        F: FnOnce(&V) -> X + Drop,
+        requires { (v : V) → HoldsAt R.holds (Q.finds query) v → FnOnceTakesAt F.FnOnce f v }
+        ensures { IfSome result (λ r.
+            (v : V) × HoldsAt R.holds (Q.finds query) v × FnOnceReturnsAt F.FnOnce f v r) }
     {
         self.shard(query).map_get(rt, query, f)
     }
@@ -228,7 +270,11 @@ impl<K: Eq + Hash + Drop, V: Drop, S: BuildHasher, A: Allocator + Copy> ShardedM
         rt: &impl Wait,
         key: K,
         value: V,
-    ) -> Result<Inserted<Arc<V, A>>, AllocError> {
+    ) -> Result<(Arc<V, A>, bool), AllocError>
+        requires { R.holds key value }
+        ensures holds { IfOk result (λ r. HoldsAt R.holds (K.eq key) (arc_value r.0)) }
+        ensures own_value { IfOk result (λ r. r.1 ≡ true → arc_value r.0 ≡ value) }
+    {
         self.shard(&key).insert_new(rt, key, value)
     }
 
@@ -243,7 +289,10 @@ impl<K: Eq + Hash + Drop, V: Drop, S: BuildHasher, A: Allocator + Copy> ShardedM
     ///
     /// # Cost
     /// Two hashes and one search.
-    pub fn insert(&self, rt: &impl Wait, key: K, value: V) -> Result<Arc<V, A>, AllocError> {
+    pub fn insert(&self, rt: &impl Wait, key: K, value: V) -> Result<Arc<V, A>, AllocError>
+        requires { R.holds key value }
+        ensures { IfOk result (λ a. HoldsAt R.holds (K.eq key) (arc_value a)) }
+    {
         self.shard(&key).insert(rt, key, value)
     }
 
@@ -267,7 +316,9 @@ impl<K: Eq + Hash + Drop, V: Drop, S: BuildHasher, A: Allocator + Copy> ShardedM
         key: K,
         f: F,
     ) -> Result<Arc<V, A>, AllocError>
-        requires { F.IsAlwaysCallable f }
+        requires callable { F.IsAlwaysCallable f }
+        requires holds { (v : V) → F.post f v → R.holds key v }
+        ensures { IfOk result (λ a. HoldsAt R.holds (K.eq key) (arc_value a)) }
     {
         self.shard(&key).insert_with(rt, key, f)
     }
@@ -297,12 +348,16 @@ impl<K: Eq + Hash + Drop, V: Drop, S: BuildHasher, A: Allocator + Copy> ShardedM
     }
 }
 
-impl<K: Eq + Hash + Drop, V: Copy + Drop, S: BuildHasher, A: Allocator + Copy> ShardedMap<
+impl<K, V: Copy + Drop, S: BuildHasher, A: Allocator + Copy, R: EntryRule<K, V>> ShardedMap<
     K,
     V,
     S,
     A,
-> {
+    R,
+>
+where
+    K: Eq + Hash + Drop,
+{
     /// Returns a copy of the value at the key that `query` finds, or `None` if the map has no such
     /// key.
     ///
@@ -314,6 +369,7 @@ impl<K: Eq + Hash + Drop, V: Copy + Drop, S: BuildHasher, A: Allocator + Copy> S
     pub fn get_copy<Q>(&self, rt: &impl Wait, query: Q) -> Option<V>
     where
         Q: Hash + Seeks<K, Arc<V, A>, HashMap<K, Arc<V, A>, S, A>>,
+        ensures { IfSome result (HoldsAt R.holds (Q.finds query)) }
     {
         self.shard(query).get_copy(rt, query)
     }
@@ -330,7 +386,10 @@ impl<K: Eq + Hash + Drop, V: Copy + Drop, S: BuildHasher, A: Allocator + Copy> S
     ///
     /// # Cost
     /// Two hashes and one search.
-    pub fn get_copy_or_insert(&self, rt: &impl Wait, key: K, value: V) -> Result<V, AllocError> {
+    pub fn get_copy_or_insert(&self, rt: &impl Wait, key: K, value: V) -> Result<V, AllocError>
+        requires { R.holds key value }
+        ensures { IfOk result (HoldsAt R.holds (K.eq key)) }
+    {
         self.shard(&key).get_copy_or_insert(rt, key, value)
     }
 
@@ -353,7 +412,9 @@ impl<K: Eq + Hash + Drop, V: Copy + Drop, S: BuildHasher, A: Allocator + Copy> S
         key: K,
         f: F,
     ) -> Result<V, AllocError>
-        requires { F.IsAlwaysCallable f }
+        requires callable { F.IsAlwaysCallable f }
+        requires holds { (v : V) → F.post f v → R.holds key v }
+        ensures { IfOk result (HoldsAt R.holds (K.eq key)) }
     {
         self.shard(&key).get_copy_or_insert_with(rt, key, f)
     }

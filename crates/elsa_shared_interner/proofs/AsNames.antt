@@ -1,7 +1,8 @@
 -- What a pass of an interner's map is as a pass of names.
 use Rattle.std.proofs.Common.{◌≡◌, ◌∙◌, ◌==◌, ◌||◌, ℕ, zero, suc, Bool, true, false, List, [], ◌∷◌, ◌++◌, inl, inr, length, map, refl, ap, sym, subst, Some, slice_get, if◌then◌else◌, arith}
-use Rattle.std.specs.Prelude.{None, ◌⊎◌, ◌≤◌, nat_le}
+use Rattle.std.specs.Prelude.{None, ◌-◌, ◌<◌, ◌^◌, ◌⊎◌, ◌≤◌, nat_le}
 use Rattle.std.proofs.lemmas.List.{length-map, map-append}
+use Rattle.std.proofs.lemmas.Option.{slice_get_within}
 use Rattle.std.proofs.lemmas.Slice.Eq.{bytes_eq-Decides}
 use Rattle.std.specs.Borrow.{Bor}
 use Rattle.std.specs.List.{list_any}
@@ -91,6 +92,12 @@ module _ {T V S : Type 0} where
     has_entry h =
         let e = entry_at (items_of pass.seen) i h.0 (sym (ap (λ l. slice_get l i) (items_names pass.seen)) ∙ h.1) in
         (e.0.value, (e.0, e.1, subst (λ k. equal x k ≡ true) (sym e.2) h.2, refl))
+
+  -- the index of an entry that was observed is below the greatest number, if the number of entries is
+  pub index_fits : (pass : View (Entry T V S)) (i n : ℕ) (e : Entry T V S) → slice_get (items_of pass.seen) i ≡ Some e → n ≡ length pass.seen → n < 2 ^ 32 → i < 2 ^ 32 - 1
+  index_fits pass i n e at is limit =
+      let within = slice_get_within (items_of pass.seen) i e at in
+      omega (arith, within, length-map pass.seen item_of, is, limit)
 
   -- no name passes the test
   pub lacks_name : (test : T → Bool) (pass : View (Entry T V S)) → ((i : ℕ) (y : T) → slice_get (keys_of (items_of pass.seen)) i ≡ Some y → test y ≡ false)

@@ -2,7 +2,7 @@
 //!
 //! A handle belongs to its interner by its type, so only the calls that take two handles, or a
 //! view, have a condition. Each call of the interner is written here, once.
-ghost use Rattle.std.specs.Prelude.{◌≡◌, ◌↔◌, ◌+◌, ◌≤◌, ◌<◌, ◌^◌, IsTrue, IfOk, IfErr, IfSome, IfNone, length, slice_get};
+ghost use Rattle.std.specs.Prelude.{◌≡◌, ◌↔◌, ◌+◌, ◌-◌, ◌≤◌, ◌<◌, ◌^◌, IsTrue, IfOk, IfErr, IfSome, IfNone, length, slice_get};
 ghost use Rattle.std.specs.Str.{bytes_eq};
 ghost use Rattle.elsa_lock_free.specs.SharedList.{Continues, IsLaterPass, Meet, items_of, mine};
 ghost use Rattle.elsa_lock_free.specs.Distinct.{AgreeOnPlaces, IsOneToOne};
@@ -90,6 +90,7 @@ impl<'i, T: Copy + Drop + Hash, S: BuildHasher + Copy + Drop, A: Allocator + Cop
         ensures later { IsLaterPass self.old self.new }
         ensures one_to_one { IsOneToOne T.eq (items_of self.new.seen) }
         ensures numbered { IfOk result (λ i. PutsName T.eq self.old self.new i name) }
+        ensures fits { IfOk result (λ i. i < 2 ^ 32 - 1) }
         ensures refused { IfErr result (λ e. mine self.new ≡ mine self.old) }
     {
         let answer = self.names.insert(rt, name, ());
@@ -97,7 +98,8 @@ impl<'i, T: Copy + Drop + Hash, S: BuildHasher + Copy + Drop, A: Allocator + Cop
         let Ok(put) = answer else {
             return Err(AllocError);
         };
-        Ok(put.place)
+        self.names.seen_len();
+        Ok(put.index)
     }
 
     /// Returns the index of the name that `query` finds, or `None` if the handle has then observed
@@ -112,9 +114,12 @@ impl<'i, T: Copy + Drop + Hash, S: BuildHasher + Copy + Drop, A: Allocator + Cop
     pub fn find<Q: Equivalent<T>>(&mut self, query: Q) -> Option<usize>
         ensures continues { Continues self.old self.new }
         ensures found { IfSome result (λ i. HasAt Q.equivalent (items_of self.new.seen) i query) }
+        ensures fits { IfSome result (λ i. i < 2 ^ 32 - 1) }
         ensures absent { IfNone result (Lacks (Q.equivalent query) (items_of self.new.seen)) }
     {
-        self.names.find(query)
+        let found = self.names.find(query);
+        self.names.seen_len();
+        found
     }
 
     /// Returns the name at an index, or `None` if the index is not below the number of names that
@@ -144,6 +149,7 @@ impl<'i, T: Copy + Drop + Hash, S: BuildHasher + Copy + Drop, A: Allocator + Cop
     pub fn len(&mut self) -> usize
         ensures continues { Continues self.old self.new }
         ensures length { result ≡ length self.new.seen }
+        ensures limit { result < 2 ^ 32 }
         ensures fresh { length self.old.seen ≤ result }
     {
         self.names.len()
@@ -170,7 +176,7 @@ impl<'i, T: Copy + Drop + Hash, S: BuildHasher + Copy + Drop, A: Allocator + Cop
         ensures length { result ≡ length self.now.seen }
         ensures limit { result < 2 ^ 32 }
     {
-        self.names.seen_len()
+        MapHandle::seen_len(&self.names)
     }
 
     /// Proves that the names that the handle has observed are one to one with their indices. It
@@ -225,6 +231,7 @@ impl<'i, 'a, S: BuildHasher + Copy + Drop, A: Allocator + Copy> NameHandle<'i, &
         ensures later { IsLaterPass self.old self.new }
         ensures one_to_one { IsOneToOne (λ a b. bytes_eq a.now b.now) (items_of self.new.seen) }
         ensures numbered { IfOk result (λ i. PutsText self.old self.new i text.now) }
+        ensures fits { IfOk result (λ i. i < 2 ^ 32 - 1) }
         ensures refused { IfErr result (λ e. mine self.new ≡ mine self.old) }
     {
         let answer = self.names.insert_text(rt, arena, text, ());
@@ -232,6 +239,7 @@ impl<'i, 'a, S: BuildHasher + Copy + Drop, A: Allocator + Copy> NameHandle<'i, &
         let Ok(put) = answer else {
             return Err(AllocError);
         };
-        Ok(put.place)
+        self.names.seen_len();
+        Ok(put.index)
     }
 }

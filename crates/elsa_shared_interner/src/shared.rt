@@ -4,7 +4,7 @@
 //! thread needs no hash index of its own. A thread calls the interner through a [`NameHandle`]: the
 //! interner with a [`NamePass`], the view of the names that the thread has observed, in the order
 //! of their indices. `put` and `at` have a short form that takes a view instead of a handle.
-ghost use Rattle.std.specs.Prelude.{◌≡◌, [], IfOk, IfErr, length, slice_get};
+ghost use Rattle.std.specs.Prelude.{◌≡◌, ◌-◌, ◌<◌, ◌^◌, [], IfOk, IfErr, length, slice_get};
 ghost use Rattle.elsa_lock_free.specs.SharedList.{Continues, IsLaterPass, Meet, items_of, mine};
 ghost use Rattle.elsa_lock_free.specs.Distinct.{AgreeOnPlaces, IsOneToOne};
 ghost use Rattle.elsa_shared_interner.specs.Names.{PutsName, names_of};
@@ -83,9 +83,10 @@ impl<T: Copy + Drop + Hash, S: BuildHasher + Copy + Drop, A: Allocator + Copy> N
     }
 }
 
-/// An interner that threads share. Its names are of one type, which is copied: [`Name`], or any
-/// type with an equality and a hash, such as a borrowed text. Contracts see which interner it is,
-/// by its vector.
+/// An interner that threads share: look-ups take no lock, and a new name takes one that spins.
+///
+/// Its names are of one type, which is copied: [`Name`], or any type with an equality and a hash,
+/// such as a borrowed text. Contracts see which interner it is, by its vector.
 #[derive(Drop)]
 pub struct SharedInterner<
     T: Copy + Drop + Hash = Name,
@@ -183,6 +184,7 @@ impl<T: Copy + Drop + Hash, S: BuildHasher + Copy + Drop, A: Allocator + Copy> S
         ensures later { IsLaterPass names.old names.new }
         ensures one_to_one { IsOneToOne T.eq (items_of names.new.seen) }
         ensures numbered { IfOk result (λ i. PutsName T.eq names.old names.new i name) }
+        ensures fits { IfOk result (λ i. i < 2 ^ 32 - 1) }
         ensures refused { IfErr result (λ e. mine names.new ≡ mine names.old) }
     {
         let mut handle = NameHandle::of(self, std::mem::replace(names, self.pass()));

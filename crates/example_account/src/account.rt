@@ -1,7 +1,7 @@
 //! An account as the sequential object of a recorder: its commands, its replies, and their meaning.
 ghost use Rattle.std.specs.Prelude.{◌≡◌};
 
-use elsa::sync::history::{Call, Core};
+use elsa::sync::history::Core;
 use std::alloc::AllocError;
 
 /// An account with a balance in cents.
@@ -44,9 +44,13 @@ pub enum AccountReply {
     Refused,
 }
 
-impl Call<Account, AccountReply, ()> for AccountCommand {
+impl Core for Account {
     ghost use Rattle.std.specs.Prelude.{ℕ};
     ghost use Rattle.example_account.specs.Account.{AccountStep};
+
+    type Command = AccountCommand;
+
+    type Reply = AccountReply;
 
     ghost State = { ℕ };
 
@@ -56,23 +60,15 @@ impl Call<Account, AccountReply, ()> for AccountCommand {
 
     ghost steps = { AccountStep };
 
-    ghost refuses = { λ _ _. ⊥ };
-
-    fn apply(self, account: &mut Account) -> Result<AccountReply, AllocError> {
-        let after = match self {
-            AccountCommand::Deposit(amount) => account.cents.checked_add(amount),
-            AccountCommand::Withdraw(amount) => account.cents.checked_sub(amount),
+    fn apply(&mut self, command: AccountCommand) -> Result<AccountReply, AllocError> {
+        let after = match command {
+            AccountCommand::Deposit(amount) => self.cents.checked_add(amount),
+            AccountCommand::Withdraw(amount) => self.cents.checked_sub(amount),
         };
         let Some(cents) = after else {
             return Ok(AccountReply::Refused);
         };
-        account.cents = cents;
+        self.cents = cents;
         Ok(AccountReply::Balance(cents))
     }
-}
-
-impl Core for Account {
-    type Command = AccountCommand;
-
-    type Reply = AccountReply;
 }

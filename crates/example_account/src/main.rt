@@ -1,14 +1,13 @@
 //! A recorder over your own sequential object, whose history is closed in parts: an account that
 //! two threads use at once, day by day.
 //!
-//! A recorder requires a [`Core`](elsa::sync::history::Core): a type of commands whose
-//! [`Call`](elsa::sync::history::Call) defines the meaning of each command, and a type of replies
-//! ([`account`]). The meaning of the commands is in `specs/Account.antt`, in four lines. When the
-//! threads of a day are done, its recorder is closed with their `RecordPass`es. The close returns
-//! the day's calls and the account, and the next day's recorder starts with that account. So no
-//! recorder stores the calls of more than one day. The days together are one history, which is
-//! proved to be legal from the empty account; the proof trusts no thread. The output is the same
-//! for every schedule.
+//! A recorder requires a [`Core`](elsa::sync::history::Core): a type of commands, a type of
+//! replies, the meaning of each command, and a function that makes a call ([`account`]). The
+//! meaning of the commands is in `specs/Account.antt`, in four lines. When the threads of a day are
+//! done, its recorder is closed with their `RecordPass`es. The close returns the day's calls and
+//! the account, and the next day's recorder starts with that account. So no recorder stores the
+//! calls of more than one day. The days together are one history, which is proved to be legal from
+//! the empty account; the proof trusts no thread. The output is the same for every schedule.
 #![tactic(auto)]
 
 ghost use Rattle.std.specs.Prelude.{◌≡◌, ◌++◌, IfOk, IfSome};

@@ -46,11 +46,11 @@ impl<'a> Expressions<'a> {
     {
         self.values.reserve(1)?;
         let value = self.computed(node);
-        let done = self.nodes.insert_full_new(Own(node))?;
-        if done.is_new {
+        let (index, _, is_new) = self.nodes.insert_full_new(Own(node))?;
+        if is_new {
             self.values.push(value).unwrap();
         }
-        Ok(done.index)
+        Ok(index)
     }
 
     /// Computes the value of an expression. An operand whose number no expression has counts as 0.

@@ -3,8 +3,8 @@
 //! Four workers compute Fibonacci numbers. The computed numbers are in a
 //! [`LockFreeFrozenMap`](elsa::sync::LockFreeFrozenMap) that all workers use: the first value of a
 //! key stays, and a lookup takes no lock. No contract can state which value another thread inserts.
-//! So each value carries its own proof ([`Term`](term::Term) has a ghost field), and each number
-//! that is returned is proved to be the right one.
+//! But the table has a rule ([`IsFibonacci`](worker::IsFibonacci)): each insertion is proved to
+//! obey it, so each number that a look-up returns is proved to be the right one.
 //!
 //! Each worker also records its results in a [`Recorder`](elsa::sync::history::Recorder). When the
 //! workers are done, the recorder is closed with their `RecordPass`es. The close succeeds exactly
@@ -14,20 +14,20 @@
 #![tactic(auto)]
 
 mod audit;
-mod term;
 mod worker;
 
 use crate::audit::{closed, told_by};
 use crate::worker::{Memo, Tellings, Told, work};
+use elsa::sync::history;
 use elsa::sync::map::MapState;
-use elsa::sync::{LockFreeFrozenMap, history};
+use std::hash::BuildHasherDefault;
 use std::{io, thread};
 
 const WORKERS: usize = 4;
 
 fn main(rt: HostRuntime) -> io::Result<()> {
     let alloc = rt.alloc();
-    let memo: Memo = LockFreeFrozenMap::new(alloc)?;
+    let memo = Memo::with_rule(alloc, BuildHasherDefault::new())?;
     let recorder: Tellings = history::Recorder::new(alloc, MapState::new(alloc));
     let (shared, told) = (&memo, &recorder);
     let results = thread::map_indices(

@@ -1,16 +1,30 @@
 //! The work of each thread.
-ghost use Rattle.std.specs.Prelude.{◌≡◌, IfOk, IfSome};
+ghost use Rattle.std.specs.Prelude.{◌≡◌, ◌≤◌, ◌^◌, IfNone, IfOk, IfSome};
 ghost use Rattle.example_memo.specs.Fibonacci.{fibonacci_at};
 
-use crate::term::Term;
+use elsa::EntryRule;
 use elsa::sync::history::{History, MapCommand, RecordPass, Recorder};
 use elsa::sync::map::MapState;
 use elsa::sync::{LockFreeFrozenMap, MapHandle};
-use std::alloc::AllocError;
+use std::alloc::{AllocError, Global};
+use std::hash::{BuildHasherDefault, FoldHasher};
 use std::sync::Wait;
 
-/// The memo table: terms by their indices.
-pub type Memo = LockFreeFrozenMap<u64, Term>;
+/// The rule of the memo table: each value is the Fibonacci number at its key. It has no bytes.
+pub struct IsFibonacci;
+
+impl EntryRule<u64, u64> for IsFibonacci {
+    ghost use Rattle.std.specs.Prelude.{◌≡◌};
+    ghost use Rattle.example_memo.specs.Fibonacci.{fibonacci_at};
+
+    ghost holds = { λ place value. value ≡ fibonacci_at place };
+}
+
+/// The memo table: numbers by their indices.
+pub type Memo = LockFreeFrozenMap<u64, u64, BuildHasherDefault<FoldHasher>, Global, IsFibonacci>;
+
+/// A worker's handle of the memo table.
+type MemoHandle<'m> = MapHandle<'m, u64, u64, BuildHasherDefault<FoldHasher>, Global, IsFibonacci>;
 
 /// The recorder, which records insertions of numbers at their indices.
 pub type Tellings = Recorder<MapState<u64, u64>>;
@@ -21,25 +35,23 @@ pub type Told = History<MapState<u64, u64>>;
 /// The greatest index.
 pub const LAST: u64 = 90;
 
-/// Returns the number at an index, from the table or by the rule, or `None` if it is 2^64 or more.
+/// Returns the number at an index, from the table or computed, or `None` exactly if it is 2^64 or
+/// more.
 ///
 /// # Errors
 /// Fails if an allocation fails.
 ///
 /// # Blocks
 /// It waits while another thread inserts.
-fn number<R: Wait>(
-    rt: &R,
-    memo: &mut MapHandle<'_, u64, Term>,
-    place: u64,
-) -> Result<Option<u64>, AllocError>
-    ensures { IfOk result (λ number. IfSome number (λ value. value ≡ fibonacci_at place)) }
+fn number<R: Wait>(rt: &R, memo: &mut MemoHandle<'_>, place: u64) -> Result<Option<u64>, AllocError>
+    ensures right { IfOk result (λ number. IfSome number (λ value. value ≡ fibonacci_at place)) }
+    ensures there { IfOk result (λ number. IfNone number (2 ^ 64 ≤ fibonacci_at place)) }
 {
     if place < 2 {
         return Ok(Some(place));
     }
-    if let Some(term) = memo.get(place) {
-        return Ok(term.at(place));
+    if let Some(value) = memo.get(place) {
+        return Ok(Some(value));
     }
     let Some(one) = number(rt, memo, place - 1)? else {
         return Ok(None);
@@ -50,8 +62,7 @@ fn number<R: Wait>(
     let Some(value) = one.checked_add(two) else {
         return Ok(None);
     };
-    let stands = memo.get_or_insert_with(rt, place, || Term::new(place, value))?;
-    Ok(stands.value.at(place))
+    Ok(Some(memo.get_or_insert_with(rt, place, || value)?.value))
 }
 
 /// Computes the numbers at every fourth index from the worker's own number on, and records each.

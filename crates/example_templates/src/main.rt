@@ -27,7 +27,7 @@ fn main(rt: HostRuntime) -> io::Result<()> {
             Err(LoadFault::IncludesItself) => println!(rt; "{path} includes itself")?,
             Err(LoadFault::TooDeep) => println!(rt; "{path} includes too deep")?,
             Err(LoadFault::Missing) => println!(rt; "{path} or what it includes can't be read")?,
-            Err(LoadFault::Memory) => println!(rt; "no memory")?,
+            Err(LoadFault::Store(fault)) => println!(rt; "{fault}")?,
         }
     }
     println!(rt; "{} templates were loaded", templates.len())

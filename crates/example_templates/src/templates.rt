@@ -1,5 +1,5 @@
 //! Templates by their paths, each loaded once and stored for the lifetime of the loader.
-use elsa::cell::{CellFault, FrozenMap};
+use elsa::cell::{Fault, FrozenMap};
 use std::alloc::{AllocError, Global};
 use std::fs;
 use std::rt::Files;
@@ -25,13 +25,13 @@ pub enum LoadFault {
     TooDeep,
     /// The file, or one that it includes, can't be read or isn't UTF-8.
     Missing,
-    /// An allocation failed.
-    Memory,
+    /// The loader couldn't store it.
+    Store(Fault),
 }
 
 impl From<AllocError> for LoadFault {
-    fn from(_: AllocError) -> LoadFault {
-        LoadFault::Memory
+    fn from(error: AllocError) -> LoadFault {
+        LoadFault::Store(Fault::from(error))
     }
 }
 
@@ -78,7 +78,7 @@ impl Templates {
 
     /// Returns the number of loaded templates.
     pub fn len(&self) -> usize {
-        self.loaded.len().unwrap_or(0)
+        self.loaded.len()
     }
 
     /// Returns the template at a path. If it isn't loaded yet, it is read and expanded, after all
@@ -86,8 +86,8 @@ impl Templates {
     ///
     /// # Errors
     /// `IncludesItself` or `TooDeep` if the inclusions are circular or nested too deeply, `Missing`
-    /// if a file can't be read, `Memory` if an allocation fails. The template is then not loaded;
-    /// templates that it includes may be.
+    /// if a file can't be read, `Store` if the loader can't store it. The template is then not
+    /// loaded; templates that it includes may be.
     pub fn load<R: Files + AllocGlobal>(&self, rt: &R, path: &str) -> Result<&Template, LoadFault> {
         self.load_below(rt, path, None, DEEPEST)
     }
@@ -99,7 +99,7 @@ impl Templates {
         by: Option<&Including<'_>>,
         left: usize,
     ) -> Result<&Template, LoadFault> {
-        if let Ok(Some(template)) = self.loaded.get(path) {
+        if let Some(template) = self.loaded.get(path) {
             return Ok(template);
         }
         if is_being_loaded(by, path) {
@@ -133,9 +133,7 @@ impl Templates {
         let path = String::from_str(self.alloc, path)?;
         match self.loaded.insert(path, template) {
             Ok(template) => Ok(template),
-            Err(CellFault::Memory(_template) | CellFault::InUse(_template)) => Err(
-                LoadFault::Memory,
-            ),
+            Err(fault) => Err(LoadFault::Store(Fault::from(fault))),
         }
     }
 }

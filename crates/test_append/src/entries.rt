@@ -38,10 +38,10 @@ fn entries_keep_the_order_of_their_insertion(rt: HostRuntime) -> Result<(), Fail
 fn a_present_key_keeps_its_value_and_its_index(rt: HostRuntime) -> Result<(), Fail> {
     let arena = Bump::new(rt.alloc());
     let mut map = three(rt.alloc(), &arena)?;
-    let done = map.insert_new(10, Own(9))?;
-    assert!(rt; *done.value == 1 && !done.is_new);
-    let found = keeps_earlier_pairs(&mut map, 30, Own(9))?;
-    assert!(rt; *found.value == 3 && !found.is_new);
+    let (kept, is_new) = map.insert_new(10, Own(9))?;
+    assert!(rt; *kept == 1 && !is_new);
+    let (found, is_new) = keeps_earlier_pairs(&mut map, 30, Own(9))?;
+    assert!(rt; *found == 3 && !is_new);
     assert!(rt; has_three(map.as_mut()));
     Ok(())
 }
@@ -105,7 +105,7 @@ fn pairs_are_listed_in_the_order_of_their_insertion(rt: HostRuntime) -> Result<(
 
 // Code over any map.
 fn adds<R, M: MapForm<R>>(map: &mut M, key: M::Key, value: M::Value) -> Result<bool, AllocError> {
-    Ok(map.insert_new(key, value)?.is_new)
+    Ok(map.insert_new(key, value)?.1)
 }
 
 #[test]

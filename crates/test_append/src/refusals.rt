@@ -68,8 +68,7 @@ fn inserts<'b>(
 ) -> Result<bool, AllocError> {
     let key = String::from_str(heap, word(place))?;
     let text = String::from_str(heap, if is_new { value(place) } else { "other" })?;
-    let done = map.insert_new(key, text)?;
-    Ok(done.value == value(place) && done.is_new == is_new)
+    Ok(map.insert_new(key, text)? == (value(place), is_new))
 }
 
 fn clones(map: &mut Map<'_, '_>, count: usize) -> Result<bool, AllocError> {

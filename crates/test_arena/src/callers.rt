@@ -13,7 +13,7 @@ pub fn two_values<A: Allocator + Copy>(
 ) -> Option<(u64, u64)>
     ensures { IfSome result (λ r. (r.0 ≡ one) × (r.1 ≡ two)) }
 {
-    let mut handle = arena.handle().ok()?;
+    let mut handle = arena.handle();
     let first = handle.push(one).ok()?;
     let second = handle.push(two).ok()?;
     Some((*handle.get(first)?, *handle.get(second)?))

@@ -1,6 +1,6 @@
 //! A list at many sizes: each index has its own item, for two handles in turn; a failed push
 //! returns its item.
-use elsa_arena::{CellFault, FrozenVec, Handle, InUse};
+use elsa_arena::{CellFault, FrozenVec, Handle};
 use std::alloc::{AllocError, Allocator, Global};
 use std::test::*;
 use test_alloc::Budget;
@@ -38,22 +38,13 @@ fn pushes_in_turn<'v>(one: &mut Handle<'v, u64>, two: &mut Handle<'v, u64>, coun
     true
 }
 
-/// Returns whether a length was read, and is `count`.
-fn is_len(len: Result<usize, InUse>, count: u64) -> bool {
-    matches!(len, Ok(len) if len as u64 == count)
-}
-
 /// Returns whether two handles of a list see each item at its index.
 fn each_index_has_its_item(alloc: Global, count: u64) -> Result<bool, AllocError> {
     let list: FrozenVec<u64> = FrozenVec::new(alloc)?;
-    let Ok(mut one) = list.handle() else {
-        return Ok(false);
-    };
-    let Ok(mut two) = list.handle() else {
-        return Ok(false);
-    };
+    let mut one = list.handle();
+    let mut two = list.handle();
     let in_turn = pushes_in_turn(&mut one, &mut two, count);
-    let observed = is_len(one.len(), count) && is_len(two.len(), count);
+    let observed = one.len() as u64 == count && two.len() as u64 == count;
     let found = has_each(&one, count) && has_each(&two, count);
     Ok(in_turn && observed && found && walks_each(&one, count))
 }
@@ -69,12 +60,8 @@ fn an_index_showed_another_item(rt: HostRuntime) -> Result<(), Fail> {
 /// Returns whether a merge shows to both handles an item that one of them has pushed.
 fn merges_what_one_pushed(alloc: Global) -> Result<bool, AllocError> {
     let list: FrozenVec<u64> = FrozenVec::new(alloc)?;
-    let Ok(mut one) = list.handle() else {
-        return Ok(false);
-    };
-    let Ok(mut two) = list.handle() else {
-        return Ok(false);
-    };
+    let mut one = list.handle();
+    let mut two = list.handle();
     let pushed = one.push(0);
     two.merge(&mut one);
     Ok(matches!(pushed, Ok(0)) && has_each(&one, 1) && has_each(&two, 1))
@@ -89,18 +76,14 @@ fn a_merge_lost_an_item(rt: HostRuntime) -> Result<(), Fail> {
 /// Returns whether a handle that looks again observes exactly the items that were pushed meanwhile.
 fn news_are_the_new_items(alloc: Global) -> Result<bool, AllocError> {
     let list: FrozenVec<u64> = FrozenVec::new(alloc)?;
-    let Ok(mut handle) = list.handle() else {
-        return Ok(false);
-    };
+    let mut handle = list.handle();
     for n in 0..20 {
         if list.push(n).is_err() {
             return Ok(false);
         }
     }
     let before = handle.seen_len();
-    let Ok(news) = handle.news() else {
-        return Ok(false);
-    };
+    let news = handle.news();
     let mut next = 0_u64;
     for item in news {
         if *item != next {
@@ -108,7 +91,7 @@ fn news_are_the_new_items(alloc: Global) -> Result<bool, AllocError> {
         }
         next = next.wrapping_add(1);
     }
-    Ok(before == 0 && next == 20 && list.len() == Ok(20) && list.get(19) == Ok(Some(&19)))
+    Ok(before == 0 && next == 20 && list.len() == 20 && list.get(19) == Some(&19))
 }
 
 #[test]
@@ -135,10 +118,10 @@ fn refusals<A: Allocator + Copy>(alloc: A) -> Option<usize> {
                     return None;
                 }
             }
-            Err(CellFault::InUse(_item)) => return None,
+            Err(CellFault::InUse(_item) | CellFault::Full(_item)) => return None,
         }
     }
-    if list.len() != Ok(20_usize.wrapping_sub(refused)) {
+    if list.len() != 20_usize.wrapping_sub(refused) {
         return None;
     }
     Some(refused)
@@ -165,5 +148,97 @@ fn each_refusal_gives_back(alloc: Global) -> bool {
 #[test]
 fn a_failed_push_lost_its_item(rt: HostRuntime) -> Result<(), Fail> {
     assert!(rt; each_refusal_gives_back(rt.alloc()));
+    Ok(())
+}
+
+/// Returns whether each plain read of a list shows an item that was just pushed, after each kind of
+/// push.
+fn is_shown(list: &FrozenVec<u64>, item: u64) -> bool {
+    let Some(last) = list.len().checked_sub(1) else {
+        return false;
+    };
+    let mut walked = 0_usize;
+    for shown in list.iter() {
+        if *shown > item {
+            return false;
+        }
+        walked = walked.wrapping_add(1);
+    }
+    list.get(last) == Some(&item)
+        && list.last() == Some(&item)
+        && list.first() == Some(&0)
+        && !list.is_empty()
+        && walked == list.len()
+        && list.observed().last() == Some(&item)
+}
+
+fn each_push_is_shown(alloc: Global) -> Result<bool, AllocError> {
+    let list: FrozenVec<u64> = FrozenVec::new(alloc)?;
+    let is_empty = list.is_empty() && list.first().is_none() && list.last().is_none();
+    let pushed = matches!(list.push(0), Ok(0)) && is_shown(&list, 0);
+    let placed = matches!(list.alloc(1), Ok(1)) && is_shown(&list, 1);
+    let mut handle = list.handle();
+    let by_handle = matches!(handle.push(2), Ok(2)) && is_shown(&list, 2);
+    let Ok(mut hold) = list.hold() else {
+        return Ok(false);
+    };
+    let by_guard = matches!(hold.push(3), Ok(3)) && is_shown(&list, 3);
+    drop(hold);
+    Ok(is_empty && pushed && placed && by_handle && by_guard && is_shown(&list, 3))
+}
+
+#[test]
+fn a_push_was_not_shown(rt: HostRuntime) -> Result<(), Fail> {
+    assert!(rt; each_push_is_shown(rt.alloc())?);
+    Ok(())
+}
+
+/// Returns whether plain reads of a list of `count` items show each at its index, in order, and
+/// none above.
+fn shows_each(list: &FrozenVec<u64>, count: u64) -> bool {
+    let mut next = 0_u64;
+    for item in list.iter() {
+        if *item != next || list.get(next as usize) != Some(item) {
+            return false;
+        }
+        next = next.wrapping_add(1);
+    }
+    next == count && list.len() as u64 == count && list.get(count as usize).is_none()
+}
+
+/// Returns whether each push returns its index, and plain reads show each item.
+fn plain_calls_agree(alloc: Global, count: u64) -> Result<bool, AllocError> {
+    let list: FrozenVec<u64> = FrozenVec::new(alloc)?;
+    for n in 0..count {
+        if !matches!(list.push(n), Ok(index) if index as u64 == n) {
+            return Ok(false);
+        }
+    }
+    Ok(shows_each(&list, count) && list.last() == count.checked_sub(1).as_ref())
+}
+
+#[test]
+fn a_plain_call_showed_another_item(rt: HostRuntime) -> Result<(), Fail> {
+    for count in [0, 1, 2, 3, 4, 15, 16, 599, 600, 601, 1200, 5000] {
+        assert!(rt; plain_calls_agree(rt.alloc(), count)?, "{count}");
+    }
+    Ok(())
+}
+
+/// Returns whether a handle that is made with older evidence has the items of the evidence and all
+/// others, also after the list was moved.
+fn evidence_is_found(alloc: Global) -> Result<bool, AllocError> {
+    let list: FrozenVec<u64> = FrozenVec::new(alloc)?;
+    let is_first = list.push(0).is_ok();
+    let seen = list.observed().evidence();
+    let moved = list;
+    let is_second = moved.push(1).is_ok();
+    let handle = moved.handle_since(&seen);
+    Ok(is_first && is_second && has_each(&handle, 2))
+}
+
+#[test]
+fn evidence_was_not_found(rt: HostRuntime) -> Result<(), Fail> {
+    assert!(rt; evidence_is_found(rt.alloc())?);
     Ok(())
 }

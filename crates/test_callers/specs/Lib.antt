@@ -1,2 +1,3 @@
+pub mod Fibonacci
 pub mod KeyLaws
 pub mod Parts

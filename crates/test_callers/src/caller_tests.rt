@@ -1,6 +1,7 @@
 //! The callers at concrete types, run.
 use crate::cached::words_of;
 use crate::kept::{first_in, is_new_in};
+use crate::locked_memo::{memo, number};
 use crate::replayed::replies_of_map;
 use bumpalo::Bump;
 use elsa::cache::{CacheFault, ParsedCache};
@@ -75,5 +76,15 @@ fn is_answered(alloc: Global) -> Result<bool, AllocError> {
 #[test]
 fn a_run_gives_a_reply_a_command(rt: HostRuntime) -> Result<(), Fail> {
     assert!(rt; is_answered(rt.alloc())?);
+    Ok(())
+}
+
+// The tenth Fibonacci number is 55. That of 93 is the last one below 2^64.
+#[test]
+fn a_memo_table_under_a_lock_had_a_wrong_number(rt: HostRuntime) -> Result<(), Fail> {
+    let table = memo(rt.alloc());
+    assert_eq!(rt; number(&rt, &table, 10)?, Some(55));
+    assert_eq!(rt; number(&rt, &table, 93)?, Some(12_200_160_415_121_876_738));
+    assert_eq!(rt; number(&rt, &table, 94)?, None);
     Ok(())
 }

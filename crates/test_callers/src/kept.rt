@@ -25,7 +25,7 @@ pub fn is_new_in<R, M: MapForm<R>>(
         OnOk result (length (M.entries content.new) ≡ length (M.entries content.old) + 1) }
     ensures refused { OnErr result (M.entries content.new ≡ M.entries content.old) }
 {
-    Ok(content.insert_new(key, value)?.is_new)
+    Ok(content.insert_new(key, value)?.1)
 }
 
 /// Inserts a key with its value unless it has one, and returns the value that it then has.

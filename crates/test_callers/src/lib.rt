@@ -1,5 +1,5 @@
-//! Callers that were written from docs/guide alone: code for any type of map, the cache and the
-//! runs.
+//! Callers that were written from docs/guide alone: code for any type of map, the cache, the runs,
+//! and a memo table under a lock with a rule of its entries.
 #![tactic(auto)]
 
 #[cfg(test)]
@@ -12,6 +12,7 @@ mod columns;
 mod kept;
 #[cfg(test)]
 mod labels;
+pub mod locked_memo;
 #[cfg(test)]
 mod parts;
 #[cfg(test)]

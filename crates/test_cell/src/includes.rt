@@ -1,6 +1,6 @@
 //! A loader of files that include others, with one map that is filled through `&self`. Each file is
 //! loaded once, its includes first, and a file that includes itself is reported.
-use elsa_cell::{CellFault, FrozenMap};
+use elsa_cell::{CellFault, Fault, FrozenMap};
 use std::alloc::{AllocError, Global};
 use std::test::*;
 
@@ -16,6 +16,8 @@ struct File {
 #[derive(Debug, Clone, Copy, PartialEq, Eq)]
 enum LoadFault {
     Memory,
+    InUse,
+    Full,
     Missing,
     IncludesItself,
 }
@@ -23,6 +25,16 @@ enum LoadFault {
 impl From<AllocError> for LoadFault {
     fn from(_refused: AllocError) -> LoadFault {
         LoadFault::Memory
+    }
+}
+
+impl<T: Drop> From<CellFault<T>> for LoadFault {
+    fn from(fault: CellFault<T>) -> LoadFault {
+        match Fault::from(fault) {
+            Fault::Memory => LoadFault::Memory,
+            Fault::InUse => LoadFault::InUse,
+            Fault::Full => LoadFault::Full,
+        }
     }
 }
 
@@ -50,7 +62,7 @@ fn load<'m>(
     path: &str,
     left: usize,
 ) -> Result<&'m File, LoadFault> {
-    if let Ok(Some(file)) = files.get(path) {
+    if let Some(file) = files.get(path) {
         return Ok(file);
     }
     if left == 0 {
@@ -75,10 +87,7 @@ fn load<'m>(
         }
     }
     let path = String::from_str(alloc, path)?;
-    match files.insert(path, File { words, total }) {
-        Ok(file) => Ok(file),
-        Err(CellFault::Memory(_file) | CellFault::InUse(_file)) => Err(LoadFault::Memory),
-    }
+    Ok(files.insert(path, File { words, total })?)
 }
 
 /// Returns the number of words of a file with its includes, the number of its own words, and the
@@ -86,7 +95,7 @@ fn load<'m>(
 fn counts(alloc: Global, path: &str) -> Result<(usize, usize, usize), LoadFault> {
     let files = FrozenMap::new(alloc)?;
     let file = load(alloc, &files, path, FILES.len())?;
-    Ok((file.total, file.words.len(), files.len().unwrap_or(0)))
+    Ok((file.total, file.words.len(), files.len()))
 }
 
 #[test]

@@ -14,9 +14,7 @@ fn items_come_back(alloc: Global, count: u64) -> Result<bool, AllocError> {
             return Ok(false);
         }
     }
-    let Ok(handle) = list.handle() else {
-        return Ok(false);
-    };
+    let handle = list.handle();
     let seen = handle.observed().evidence();
     drop(handle);
     let Ok(all) = list.into_vec(alloc, &seen) else {
@@ -44,9 +42,7 @@ fn owners_come_back(alloc: Global) -> Result<bool, AllocError> {
     let counted = Arc::new(alloc, 0_u64)?;
     let list: FrozenVec<Arc<u64>> = FrozenVec::new(alloc)?;
     let is_first = list.push(counted.clone()?).is_ok();
-    let Ok(handle) = list.handle() else {
-        return Ok(false);
-    };
+    let handle = list.handle();
     let seen = handle.observed().evidence();
     drop(handle);
     let is_full = list.push(counted.clone()?).is_ok() && list.push(counted.clone()?).is_ok();
@@ -72,9 +68,7 @@ fn entries_come_back(alloc: Global) -> Result<bool, AllocError> {
             return Ok(false);
         }
     }
-    let Ok(handle) = map.handle() else {
-        return Ok(false);
-    };
+    let handle = map.handle();
     let seen = handle.observed().evidence();
     drop(handle);
     let Ok(all) = map.into_tuple_vec(alloc, &seen) else {
@@ -99,9 +93,7 @@ fn set_items_come_back(alloc: Global) -> Result<bool, AllocError> {
             return Ok(false);
         }
     }
-    let Ok(handle) = set.handle() else {
-        return Ok(false);
-    };
+    let handle = set.handle();
     let seen = handle.observed().evidence();
     drop(handle);
     let Ok(all) = set.into_vec(alloc, &seen) else {
@@ -128,25 +120,59 @@ fn an_owner_was_dropped_on_its_way_back(rt: HostRuntime) -> Result<(), Fail> {
 fn comes_back_whole<A: Allocator + Copy>(alloc: Global, none: A) -> Result<bool, AllocError> {
     let list: FrozenVec<u64> = FrozenVec::new(alloc)?;
     let is_full = list.push(7).is_ok() && list.push(8).is_ok();
-    let Ok(handle) = list.handle() else {
-        return Ok(false);
-    };
+    let handle = list.handle();
     let seen = handle.observed().evidence();
     drop(handle);
     let Err(CellFault::Memory(list)) = list.into_vec(none, &seen) else {
         return Ok(false);
     };
-    let is_kept = list.get(1) == Ok(Some(&8)) && matches!(list.push(9), Ok(2));
+    let is_kept = list.get(1) == Some(&8) && matches!(list.push(9), Ok(2));
     let Ok(all) = list.into_vec(alloc, &seen) else {
         return Ok(false);
     };
     Ok(is_full && is_kept && all.as_slice() == [7, 8, 9].as_slice())
 }
 
+/// Takes a map apart with an allocator that denies the block. Returns whether the map comes back
+/// with its entries and takes others, and then gives them to another allocator.
+fn map_comes_back_whole<A: Allocator + Copy>(alloc: Global, none: A) -> Result<bool, AllocError> {
+    let map: FrozenMap<u64, u64> = FrozenMap::new(alloc)?;
+    let is_full = map.insert(7, 70).is_ok() && map.insert(8, 80).is_ok();
+    let seen = map.observed().evidence();
+    let Err(CellFault::Memory(map)) = map.into_tuple_vec(none, &seen) else {
+        return Ok(false);
+    };
+    let is_kept = map.hold().is_ok() && map.get(&8) == Some(&80) && map.len() == 2;
+    let is_open = matches!(map.insert(9, 90), Ok(&90)) && matches!(map.insert(7, 0), Ok(&70));
+    let Ok(all) = map.into_tuple_vec(alloc, &seen) else {
+        return Ok(false);
+    };
+    let wanted = [(7, 70), (8, 80), (9, 90)];
+    Ok(is_full && is_kept && is_open && all.as_slice() == wanted.as_slice())
+}
+
+/// As [`map_comes_back_whole`], of a set.
+fn set_comes_back_whole<A: Allocator + Copy>(alloc: Global, none: A) -> Result<bool, AllocError> {
+    let set: FrozenIndexSet<u64> = FrozenIndexSet::new(alloc)?;
+    let is_full = set.insert(7).is_ok() && set.insert(8).is_ok();
+    let seen = set.handle().observed().evidence();
+    let Err(CellFault::Memory(set)) = set.into_vec(none, &seen) else {
+        return Ok(false);
+    };
+    let is_kept = set.hold().is_ok() && set.get_full(&8) == Some((1, &8)) && set.len() == 2;
+    let is_open = matches!(set.insert(9), Ok(&9));
+    let Ok(all) = set.into_vec(alloc, &seen) else {
+        return Ok(false);
+    };
+    Ok(is_full && is_kept && is_open && all.as_slice() == [7, 8, 9].as_slice())
+}
+
 #[test]
-fn a_denied_block_lost_the_list(rt: HostRuntime) -> Result<(), Fail> {
+fn a_denied_block_lost_the_collection(rt: HostRuntime) -> Result<(), Fail> {
     let budget = Budget::new(rt.alloc());
     budget.refuse(0, u64::MAX);
     assert!(rt; comes_back_whole(rt.alloc(), &budget)?);
+    assert!(rt; map_comes_back_whole(rt.alloc(), &budget)?);
+    assert!(rt; set_comes_back_whole(rt.alloc(), &budget)?);
     Ok(())
 }

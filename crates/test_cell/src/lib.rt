@@ -3,6 +3,9 @@
 //! over `test_alloc`.
 #![tactic(auto)]
 
+pub mod callers;
+#[cfg(test)]
+mod fault_tests;
 #[cfg(test)]
 mod includes;
 #[cfg(test)]
@@ -15,5 +18,7 @@ mod into_tests;
 mod map_tests;
 #[cfg(test)]
 mod ordered_tests;
+#[cfg(test)]
+mod plain_tests;
 #[cfg(test)]
 mod rules;

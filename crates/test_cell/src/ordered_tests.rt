@@ -1,7 +1,7 @@
 //! The ordered map at many sizes and orders of insertion: each key has its own value, a present key
 //! keeps its first value, the walk has each entry once and ascends, values are dropped once, and an
 //! insertion that fails returns its value.
-use elsa_cell::{BTreeHandle, CellFault, FrozenBTreeMap, InUse};
+use elsa_cell::{BTreeHandle, CellFault, Fault, FrozenBTreeMap};
 use std::alloc::{AllocError, Allocator, Global};
 use std::sync::Arc;
 use std::test::*;
@@ -49,11 +49,11 @@ fn keeps_each(map: &mut BTreeHandle<'_, u64, u64>, order: u8, count: u64) -> boo
 /// Returns whether each key finds its own value, and others find none.
 fn finds_each(map: &mut BTreeHandle<'_, u64, u64>, count: u64) -> bool {
     for key in 0..count {
-        if map.get(&key) != Ok(Some(&key.wrapping_add(1))) {
+        if map.get(&key) != Some(&key.wrapping_add(1)) {
             return false;
         }
     }
-    map.get(&count) == Ok(None) && map.get(&u64::MAX) == Ok(None)
+    map.get(&count).is_none() && map.get(&u64::MAX).is_none()
 }
 
 /// Returns whether the walk has the keys `0..count` in their order, each with its value.
@@ -88,16 +88,12 @@ fn has_ends(map: &BTreeHandle<'_, u64, u64>, count: u64) -> bool {
 
 fn each_key_has_its_value(alloc: Global, order: u8, count: u64) -> Result<bool, AllocError> {
     let map: FrozenBTreeMap<u64, u64> = FrozenBTreeMap::new(alloc)?;
-    let Ok(mut one) = map.handle() else {
-        return Ok(false);
-    };
-    let Ok(mut two) = map.handle() else {
-        return Ok(false);
-    };
+    let mut one = map.handle();
+    let mut two = map.handle();
     let inserted = inserts_each(&mut one, order, count) && keeps_each(&mut two, order, count);
     let found = finds_each(&mut one, count) && finds_each(&mut two, count);
     let walked = walks_each(&one, count) && has_ends(&two, count);
-    Ok(inserted && found && walked && one.len() == Ok(count as usize))
+    Ok(inserted && found && walked && one.len() == count as usize)
 }
 
 #[test]
@@ -127,8 +123,8 @@ fn texts_are_ordered(alloc: Global) -> Result<bool, AllocError> {
             return Ok(false);
         }
     }
-    let found = map.get("pear") == Ok(Some(&1)) && map.get("fi") == Ok(None);
-    let index = matches!(map.get_full("apple"), Ok(Some((2, _, &3))));
+    let found = map.get("pear") == Some(&1) && map.get("fi").is_none();
+    let index = matches!(map.get_full("apple"), Some((2, _, &3)));
     let Ok(hold) = map.hold() else {
         return Ok(false);
     };
@@ -155,9 +151,7 @@ fn entries_come_back(alloc: Global) -> Result<bool, AllocError> {
             return Ok(false);
         }
     }
-    let Ok(handle) = map.handle() else {
-        return Ok(false);
-    };
+    let handle = map.handle();
     let seen = handle.observed().evidence();
     drop(handle);
     let Ok(all) = map.into_tuple_vec(alloc, &seen) else {
@@ -172,38 +166,44 @@ fn an_entry_of_the_ordered_map_did_not_come_back(rt: HostRuntime) -> Result<(), 
     Ok(())
 }
 
-/// Returns whether each call of a map fails with `InUse` while a guard exists.
-fn map_is_in_use(map: &FrozenBTreeMap<u64, u64>) -> bool {
-    map.handle().is_err()
-        && map.hold().is_err()
-        && map.get(&1) == Err(InUse)
-        && map.get_full(&1) == Err(InUse)
-        && map.get_index(0) == Err(InUse)
-        && matches!(map.insert(1, 2), Err(CellFault::InUse(2)))
-        && matches!(map.insert_new(1, 2), Err(CellFault::InUse(2)))
-        && map.len() == Err(InUse)
+/// Returns whether each insertion into a map fails with `InUse` while a guard exists.
+fn map_is_locked(map: &FrozenBTreeMap<u64, u64>) -> bool {
+    map.hold().is_err()
+        && matches!(map.insert(3, 2), Err(CellFault::InUse(2)))
+        && matches!(map.insert_new(3, 2), Err(CellFault::InUse(2)))
+        && map.reserve(1) == Err(Fault::InUse)
+}
+
+/// Returns whether each read of a map finds the value 6 of the key 1, its only entry.
+fn map_reads(map: &FrozenBTreeMap<u64, u64>) -> bool {
+    map.get(&1) == Some(&6)
+        && map.get(&2).is_none()
+        && map.get_full(&1) == Some((0, &1, &6))
+        && map.get_index(0) == Some((&1, &6))
+        && map.contains_key(&1)
+        && map.len() == 1
+        && map.handle().get(&1) == Some(&6)
 }
 
 fn a_map_is_locked(alloc: Global) -> Result<bool, AllocError> {
     let map: FrozenBTreeMap<u64, u64> = FrozenBTreeMap::new(alloc)?;
-    let Ok(mut handle) = map.handle() else {
-        return Ok(false);
-    };
+    let mut handle = map.handle();
     let first = matches!(handle.insert_new(1, 6), Ok(done) if done.is_new && *done.value == 6);
+    let is_shown = map_reads(&map);
     let Ok(hold) = map.hold() else {
         return Ok(false);
     };
-    let in_use = map_is_in_use(&map)
-        && handle.get(&1) == Err(InUse)
-        && handle.get_index(0) == Some((&1, &6))
+    let in_use = map_is_locked(&map)
+        && map_reads(&map)
+        && handle.get(&1) == Some(&6)
         && matches!(handle.insert_with(2, || 3), Err(CellFault::InUse(None)));
     let exact = hold.get(&1) == Some(&6) && hold.get(&2).is_none();
     drop(hold);
-    Ok(first && in_use && exact && handle.get(&1) == Ok(Some(&6)) && handle.get(&2) == Ok(None))
+    Ok(first && is_shown && in_use && exact && map_reads(&map))
 }
 
 #[test]
-fn a_locked_ordered_map_answered(rt: HostRuntime) -> Result<(), Fail> {
+fn a_locked_ordered_map_was_changed_or_not_read(rt: HostRuntime) -> Result<(), Fail> {
     assert!(rt; a_map_is_locked(rt.alloc())?);
     Ok(())
 }
@@ -211,7 +211,7 @@ fn a_locked_ordered_map_answered(rt: HostRuntime) -> Result<(), Fail> {
 /// Inserts at key 5 by a closure that inserts at 5 itself. Returns the value that the key then has,
 /// and whether the insertion reports it as new.
 fn first_inside(map: &FrozenBTreeMap<u64, u64>) -> Option<(u64, bool)> {
-    let mut handle = map.handle().ok()?;
+    let mut handle = map.handle();
     let made = handle.insert_with(5, || {
         let _inside = map.insert(5, 2).is_ok();
         7
@@ -263,28 +263,28 @@ fn refusals<A: Allocator + Copy>(alloc: A) -> Option<usize> {
             }
             Err(CellFault::Memory(value)) => {
                 refused = refused.wrapping_add(1_usize);
-                if value != wanted || map.get(&key) != Ok(None) {
+                if value != wanted || map.get(&key).is_some() {
                     return None;
                 }
             }
-            Err(CellFault::InUse(_value)) => return None,
+            Err(CellFault::InUse(_value) | CellFault::Full(_value)) => return None,
         }
     }
-    if map.len() != Ok(40_usize.wrapping_sub(refused)) {
+    if map.len() != 40_usize.wrapping_sub(refused) {
         return None;
     }
     Some(refused)
 }
 
 /// Returns whether exactly one insertion fails if one request is denied, for each request except
-/// that of `new`.
+/// those of `new`.
 fn each_refusal_gives_back(alloc: Global) -> bool {
     let budget = Budget::new(alloc);
     if refusals(&budget) != Some(0) {
         return false;
     }
     let asked = budget.asked();
-    for request in 1..asked {
+    for request in 2..asked {
         let budget = Budget::new(alloc);
         budget.refuse(request, request + 1);
         if refusals(&budget) != Some(1) || budget.given() != budget.granted() {

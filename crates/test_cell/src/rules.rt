@@ -24,10 +24,8 @@ fn divisor_of(n: u64) -> Divisor {
 
 /// Returns the number divided by the value of a text, or `None` if the key is absent.
 fn divided(divisors: &FrozenMap<String, Divisor>, key: &str, number: u64) -> Option<u64> {
-    match divisors.get(key) {
-        Ok(Some(divisor)) => Some(number / divisor.n),
-        _ => None,
-    }
+    let divisor = divisors.get(key)?;
+    Some(number / divisor.n)
 }
 
 fn divides_by_what_it_finds(alloc: Global) -> Result<bool, AllocError> {
@@ -54,9 +52,7 @@ fn a_map_returned_a_value_against_its_rule(rt: HostRuntime) -> Result<(), Fail> 
 /// Returns a number divided by each value of a list in turn.
 fn divided_by_all(divisors: &FrozenVec<Divisor>, number: u64) -> u64 {
     let mut left = number;
-    let Ok(items) = divisors.iter() else {
-        return left;
-    };
+    let items = divisors.iter();
     for divisor in items {
         left = left / divisor.n;
     }

@@ -4,4 +4,6 @@
 #[cfg(test)]
 mod load_tests;
 #[cfg(test)]
+mod long_row_tests;
+#[cfg(test)]
 mod row_tests;

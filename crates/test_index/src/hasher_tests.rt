@@ -1,4 +1,4 @@
-//! The seeded hash: its values by `tools/crafted_names --vectors`, each collection with it, and a
+//! The seeded hash: its values by `tools/program_checks vectors`, each collection with it, and a
 //! source of secrets that fails.
 use bumpalo::Bump;
 use elsa_hash::seeded::SeededState;
@@ -51,7 +51,7 @@ fn numbers_and_slices_hash_as_the_model_says(rt: HostRuntime) -> Result<(), Fail
     Ok(())
 }
 
-/// Two of the names that `tools/crafted_names fixed` prints.
+/// Two of the names that `tools/program_checks names fixed` prints.
 const CRAFTED: (&str, &str) = (
     "0b3jx9vxlabfwps6Q~b\u{1b}\u{e})\u{14}aaaaaaaaasixteen bytes...",
     "0b3jx9vxlabfwps6Q~b\u{1b}\u{e})\u{14}abaaaaaaasixteen bytes...",

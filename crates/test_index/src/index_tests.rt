@@ -325,8 +325,7 @@ fn found<'a>(
 > {
     let by_owner = set.get(&owner);
     let by_text = set.get_full(&owner.as_str());
-    let done = set.insert_full_new(owner)?;
-    Ok((by_owner, by_text, (done.index, done.value, done.is_new)))
+    Ok((by_owner, by_text, set.insert_full_new(owner)?))
 }
 
 #[test]
@@ -352,7 +351,7 @@ fn made_again<'a>(
     set: &Set<'a>,
 ) -> Result<(bool, bool, Option<usize>), AllocError> {
     let mut copy = set.clone()?;
-    let new = copy.insert_full_new(String::from_str(alloc, "c")?)?.is_new;
+    let (_, new) = copy.insert_new(String::from_str(alloc, "c")?)?;
     let differs = copy != *set;
     let again: Set<'a> = FrozenIndexSet::from_set(arena, copy.into_set());
     Ok((new, differs, again.get_index_of(&"c")))
@@ -407,11 +406,11 @@ fn laws_of_a_map(alloc: Global, arena: &Bump) -> Result<bool, AllocError> {
     )?;
     let last = keeps_earlier_pairs(&mut map, 7, "z")?;
     Ok(
-        five.index == 0
-            && four.index == 1
-            && (first.index, first.value, first.is_new) == (2, "c", true)
-            && (again.index, again.value, again.is_new) == (2, "c", false)
-            && (last.index, last.value, last.is_new) == (3, "e", false),
+        five == (0, "a", true)
+            && four == (1, "b", true)
+            && first == (2, "c", true)
+            && again == (2, "c", false)
+            && last == (3, "e", false),
     )
 }
 
@@ -424,11 +423,11 @@ fn laws_of_a_set(alloc: Global, arena: &Bump) -> Result<bool, AllocError> {
     let (first, again) = set_is_new_once(&mut set, c, between, String::from_str(alloc, "c")?)?;
     let last = set_keeps_earlier_values(&mut set, String::from_str(alloc, "d")?)?;
     Ok(
-        a.index == 0
-            && b.index == 1
-            && (first.index, first.value, first.is_new) == (2, "c", true)
-            && (again.index, again.value, again.is_new) == (2, "c", false)
-            && (last.index, last.value, last.is_new) == (3, "d", false),
+        a == (0, "a", true)
+            && b == (1, "b", true)
+            && first == (2, "c", true)
+            && again == (2, "c", false)
+            && last == (3, "d", false),
     )
 }
 

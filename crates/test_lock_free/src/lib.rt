@@ -3,6 +3,8 @@
 #![tactic(auto)]
 
 #[cfg(test)]
+mod even;
+#[cfg(test)]
 mod extend_tests;
 #[cfg(test)]
 mod geometry_tests;

@@ -86,7 +86,7 @@ fn takes_many<'c, R: Wait>(rt: &R, map: &mut Seen<'_, 'c>, counts: &'c Counts) -
         let Ok(put) = map.insert(rt, Key { number, counts }, number) else {
             return false;
         };
-        if !put.is_new || put.place != number as usize {
+        if !put.is_new || put.index != number as usize {
             return false;
         }
     }

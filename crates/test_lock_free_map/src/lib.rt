@@ -4,6 +4,8 @@
 #[cfg(test)]
 mod counted_tests;
 #[cfg(test)]
+mod first_value;
+#[cfg(test)]
 mod into_pairs_tests;
 #[cfg(test)]
 mod made_tests;

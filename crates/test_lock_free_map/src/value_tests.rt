@@ -15,7 +15,7 @@ fn squares_stand<R: Wait>(rt: &R, map: &LockFreeFrozenMap<u64, u64>, count: u64)
         let Ok(second) = handle.insert(rt, number, 7) else {
             return false;
         };
-        if !first.is_new || second.is_new || second.value != square || second.place != first.place {
+        if !first.is_new || second.is_new || second.value != square || second.index != first.index {
             return false;
         }
     }

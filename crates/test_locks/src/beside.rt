@@ -144,7 +144,7 @@ fn ordered_reads(rt: &impl Wait, map: &Ordered, call: u64) -> bool {
 fn hashed_keeps(rt: &impl Wait, map: &Hashed, call: u64) -> bool {
     match call {
         0 => matches!(map.insert(rt, 1, 7), Ok(owner) if *owner == 6),
-        1 => matches!(map.insert_new(rt, 1, 7), Ok(done) if !done.is_new && *done.value == 6),
+        1 => matches!(map.insert_new(rt, 1, 7), Ok((kept, is_new)) if !is_new && *kept == 6),
         2 => matches!(map.insert_with(rt, 1, || 7), Ok(owner) if *owner == 6),
         3 => matches!(map.insert_with_key(rt, 1, |_| 7), Ok(owner) if *owner == 6),
         4 => map.get_copy_or_insert(rt, 1, 7) == Ok(6),
@@ -156,7 +156,7 @@ fn hashed_keeps(rt: &impl Wait, map: &Hashed, call: u64) -> bool {
 fn ordered_keeps(rt: &impl Wait, map: &Ordered, call: u64) -> bool {
     match call {
         0 => matches!(map.insert(rt, 1, 7), Ok(owner) if *owner == 6),
-        1 => matches!(map.insert_new(rt, 1, 7), Ok(done) if !done.is_new && *done.value == 6),
+        1 => matches!(map.insert_new(rt, 1, 7), Ok((kept, is_new)) if !is_new && *kept == 6),
         2 => matches!(map.insert_with(rt, 1, || 7), Ok(owner) if *owner == 6),
         3 => matches!(map.insert_with_key(rt, 1, |_| 7), Ok(owner) if *owner == 6),
         4 => map.get_copy_or_insert(rt, 1, 7) == Ok(6),

@@ -57,7 +57,7 @@ fn inserts<'k>(rt: &impl Wait, map: &Map<'k>, call: u64, key: Key<'k>, value: u6
     match call {
         0 => matches!(map.insert(rt, key, value), Ok(kept) if *kept == value),
         1 =>
-            matches!(map.insert_new(rt, key, value), Ok(done) if done.is_new && *done.value == value),
+            matches!(map.insert_new(rt, key, value), Ok((kept, is_new)) if is_new && *kept == value),
         2 => matches!(map.insert_with(rt, key, || value), Ok(kept) if *kept == value),
         3 => matches!(map.insert_with_key(rt, key, |_| value), Ok(kept) if *kept == value),
         4 => matches!(map.get_copy_or_insert(rt, key, value), Ok(kept) if kept == value),

@@ -74,7 +74,7 @@ fn a_map_is_equal_to_itself(rt: HostRuntime) -> Result<(), Fail> {
 }
 
 fn is_new(rt: &impl Wait, map: &Texts, text: &'static str) -> Result<bool, AllocError> {
-    Ok(map.insert_new(rt, 1, text)?.is_new)
+    Ok(map.insert_new(rt, 1, text)?.1)
 }
 
 // Returns whether the pair at this index is `key` with `text`.
@@ -211,18 +211,15 @@ fn nine_threads_find_what_the_others_inserted(rt: HostRuntime) -> Result<(), Fai
 type State = MapState<&'static str, u64>;
 
 fn with_its_length(map: &mut State, key: &'static str) -> Result<u64, AllocError> {
-    Ok(*map.insert_with_key(key, |key| key.len() as u64)?.value)
+    Ok(*map.insert_with_key(key, |key| key.len() as u64)?)
 }
 
 fn copy_with_its_length(map: &mut State, key: &'static str) -> Result<u64, AllocError> {
-    Ok(
-        map.get_copy_or_insert_with_key(key, |key| key.len() as u64)?
-            .value,
-    )
+    map.get_copy_or_insert_with_key(key, |key| key.len() as u64)
 }
 
 fn copy_or_nine(map: &mut State, key: &'static str) -> Result<u64, AllocError> {
-    Ok(map.get_copy_or_insert_with_key(key, |_| 9)?.value)
+    map.get_copy_or_insert_with(key, || 9)
 }
 
 #[test]

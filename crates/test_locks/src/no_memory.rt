@@ -21,7 +21,7 @@ const CALLS: usize = 7;
 fn filled(heap: Heap<'_>, size: usize) -> Result<State<'_>, AllocError> {
     let mut state = MapState::new(heap);
     for number in 0..size {
-        let _ = *state.insert(number, number)?.value;
+        let _ = *state.insert(number, number)?;
     }
     Ok(state)
 }
@@ -37,9 +37,9 @@ fn filled_map<'b>(rt: &impl Wait, heap: Heap<'b>, size: usize) -> Result<Map<'b>
 // Returns whether the call with this number has the expected result. `last` is the last key.
 fn state_answers(state: &mut State<'_>, number: usize, last: usize) -> bool {
     match number {
-        0 => matches!(state.get_copy_or_insert(last, 99), Ok(done) if done.value == last),
-        1 | 2 =>
-            matches!(state.get_copy_or_insert_with_key(last, |_| 99), Ok(done) if done.value == last),
+        0 => state.get_copy_or_insert(last, 99) == Ok(last),
+        1 => state.get_copy_or_insert_with(last, || 99) == Ok(last),
+        2 => state.get_copy_or_insert_with_key(last, |_| 99) == Ok(last),
         3 => state.get_copy(&last) == Some(last) && state.get_copy(&99).is_none(),
         4 => state.map_get(&last, |value| *value) == Some(last),
         5 => state.len() == last.wrapping_add(1) && !state.is_empty(),

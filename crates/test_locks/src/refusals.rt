@@ -140,7 +140,7 @@ fn hashed_given<'b>(
     let key = String::from_str(heap, word(place))?;
     let given = match place % 7 {
         0 => *map.insert(rt, key, value)?,
-        1 => *map.insert_new(rt, key, value)?.value,
+        1 => *map.insert_new(rt, key, value)?.0,
         2 => *map.insert_with(rt, key, || value)?,
         3 => *map.insert_with_key(rt, key, |_| value)?,
         4 => map.get_copy_or_insert(rt, key, value)?,
@@ -158,8 +158,8 @@ fn hashed_again<'b>(
     place: usize,
 ) -> Result<bool, AllocError> {
     let key = String::from_str(heap, word(place))?;
-    let done = map.insert_new(rt, key, 99)?;
-    Ok(*done.value == place && !done.is_new && hashed_given(rt, map, heap, place, 99)?)
+    let (kept, is_new) = map.insert_new(rt, key, 99)?;
+    Ok(*kept == place && !is_new && hashed_given(rt, map, heap, place, 99)?)
 }
 
 fn hashed_equals(rt: &impl Wait, map: &Hashed<'_>) -> Result<bool, AllocError> {
@@ -240,8 +240,8 @@ fn ordered_given<'b>(
     if place % 2 == 0 {
         return Ok(*map.insert(rt, key, place)? == place);
     }
-    let done = map.insert_new(rt, key, place)?;
-    Ok(*done.value == place && done.is_new)
+    let (kept, is_new) = map.insert_new(rt, key, place)?;
+    Ok(*kept == place && is_new)
 }
 
 // Returns whether a word that is present keeps its number and isn't new.
@@ -255,8 +255,8 @@ fn ordered_again<'b>(
         String::from_str(heap, word(place))?,
         String::from_str(heap, word(place))?,
     );
-    let done = map.insert_new(rt, key, 99)?;
-    Ok(*done.value == place && !done.is_new && *map.insert(rt, again, 98)? == place)
+    let (kept, is_new) = map.insert_new(rt, key, 99)?;
+    Ok(*kept == place && !is_new && *map.insert(rt, again, 98)? == place)
 }
 
 fn ordered_collected<'b>(

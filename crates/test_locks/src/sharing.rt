@@ -107,13 +107,13 @@ trait Inserted {
 
 impl Inserted for Hashed {
     fn is_new<R: Wait>(&self, rt: &R, key: u64) -> bool {
-        matches!(self.insert_new(rt, key, 6), Ok(done) if done.is_new)
+        matches!(self.insert_new(rt, key, 6), Ok((_, true)))
     }
 }
 
 impl Inserted for Ordered {
     fn is_new<R: Wait>(&self, rt: &R, key: u64) -> bool {
-        matches!(self.insert_new(rt, key, 6), Ok(done) if done.is_new)
+        matches!(self.insert_new(rt, key, 6), Ok((_, true)))
     }
 }
 

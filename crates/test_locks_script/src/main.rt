@@ -1,40 +1,55 @@
 //! Runs a script of calls on each locked collection and on its state without a lock, and compares
 //! the two.
 //!
-//! A line of standard input is `map`, `tree` or `vec`, the name of the call, and its key or index
-//! and its value. For each line the program prints the line, the result of the locked collection,
-//! its length, and its values at the keys or indices 0 to 11. The line ends with `DIFFERS` if the
-//! state has another result, length or content.
+//! A line of standard input is `map`, `tree`, `shards`, `text` or `vec`, the name of the call, and
+//! its key or index and its value. For each line the program prints the line, the result of the
+//! locked collection, its length, and its values at the keys or indices 0 to 11. The line ends with
+//! `DIFFERS` if the state has another result, length or content. A map of shards is compared with
+//! the state of one hashed map.
 #![tactic(auto)]
 
 mod call;
 mod hashed;
+mod keyed;
 mod listed;
 mod ordered;
+mod sharded;
+mod texts;
 
 use crate::call::{Call, Seen, parse};
 use elsa_locks::map::{FrozenBTreeMap, FrozenMap, MapState, TreeState};
 use elsa_locks::vec::{FrozenVec, Iter, VecState};
+use elsa_shards::ShardedMap;
 use std::alloc::{AllocError, Global};
 use std::io;
 use std::sync::Wait;
 
-/// The locked maps, each with its state.
+/// The locked maps, each with its state, and their allocator.
 #[derive(Drop)]
 struct Maps {
+    alloc: Global,
     map: FrozenMap<u64, u64>,
     map_state: MapState<u64, u64>,
     tree: FrozenBTreeMap<u64, u64>,
     tree_state: TreeState<u64, u64>,
+    shards: ShardedMap<u64, u64>,
+    shards_state: MapState<u64, u64>,
+    texts: FrozenMap<String, u64>,
+    texts_state: MapState<String, u64>,
 }
 
-fn empty_maps(alloc: Global) -> Maps {
-    Maps {
+fn empty_maps(alloc: Global) -> Result<Maps, AllocError> {
+    Ok(Maps {
+        alloc,
         map: FrozenMap::new(alloc),
         map_state: MapState::new(alloc),
         tree: FrozenBTreeMap::new(alloc),
         tree_state: TreeState::new(alloc),
-    }
+        shards: ShardedMap::new(alloc)?,
+        shards_state: MapState::new(alloc),
+        texts: FrozenMap::new(alloc),
+        texts_state: MapState::new(alloc),
+    })
 }
 
 /// The locked list and a walk over it, with the list's state and the index of the walk.
@@ -54,6 +69,16 @@ fn on_map(rt: &impl Wait, maps: &mut Maps, call: Call) -> Result<(Seen, Seen), A
 fn on_tree(rt: &impl Wait, maps: &mut Maps, call: Call) -> Result<(Seen, Seen), AllocError> {
     let one = ordered::locked(rt, &maps.tree, call)?;
     Ok((one, ordered::state(&mut maps.tree_state, call)?))
+}
+
+fn on_shards(rt: &impl Wait, maps: &mut Maps, call: Call) -> Result<(Seen, Seen), AllocError> {
+    let one = sharded::locked(rt, &maps.shards, call)?;
+    Ok((one, hashed::state(&mut maps.shards_state, call)?))
+}
+
+fn on_texts(rt: &impl Wait, maps: &mut Maps, call: Call) -> Result<(Seen, Seen), AllocError> {
+    let one = texts::locked(rt, &maps.texts, call)?;
+    Ok((one, texts::state(maps.alloc, &mut maps.texts_state, call)?))
 }
 
 fn on_list(rt: &impl Wait, lists: &mut Lists<'_>, call: Call) -> Result<(Seen, Seen), AllocError> {
@@ -86,6 +111,8 @@ fn on_line<R: Print + Wait>(
     let seen = match family {
         "map" => on_map(rt, maps, call)?,
         "tree" => on_tree(rt, maps, call)?,
+        "shards" => on_shards(rt, maps, call)?,
+        "text" => on_texts(rt, maps, call)?,
         _ => on_list(rt, lists, call)?,
     };
     report(rt, text, seen)
@@ -93,7 +120,7 @@ fn on_line<R: Print + Wait>(
 
 fn main(rt: HostRuntime) -> io::Result<()> {
     let alloc = rt.alloc();
-    let mut maps = empty_maps(alloc);
+    let mut maps = empty_maps(alloc)?;
     let list = FrozenVec::new(alloc);
     let mut lists = Lists {
         list: &list,

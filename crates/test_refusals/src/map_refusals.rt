@@ -75,13 +75,11 @@ impl<'a, A: Allocator + Copy + Drop> Map<'a, A> {
         value: Text<A>,
         place: usize,
     ) -> Result<(&'a str, bool), AllocError> {
-        let done = match self {
+        match self {
             Map::Hashed(map) => map.insert_new(key, value),
             Map::Ordered(map) => map.insert_new(key, value),
-            Map::Indexed(map) => return new_given_in_order(map, key, value, place),
-        };
-        let done = done?;
-        Ok((done.value, done.is_new))
+            Map::Indexed(map) => new_given_in_order(map, key, value, place),
+        }
     }
 
     fn value_of(&self, key: &Text<A>) -> Option<&'a str> {
@@ -137,12 +135,10 @@ fn new_given_in_order<'a, A: Allocator + Copy + Drop>(
     place: usize,
 ) -> Result<(&'a str, bool), AllocError> {
     if !is_full(place) {
-        let done = map.insert_new(key, value)?;
-        return Ok((done.value, done.is_new));
+        return map.insert_new(key, value);
     }
-    let done = map.insert_full_new(key, value)?;
-    let kept = if done.index == place { done.value } else { "" };
-    Ok((kept, done.is_new))
+    let (index, kept, is_new) = map.insert_full_new(key, value)?;
+    Ok((if index == place { kept } else { "" }, is_new))
 }
 
 fn hashed_of<'a, A: Allocator + Copy + Drop>(

@@ -176,13 +176,13 @@ impl<'a, A: Allocator + Copy + Drop> Calls<'a, A> for Hashed<'a, A> {
         match number {
             0 => Some(matches!(self.insert(last, Own(ABSENT)), Ok(value) if *value == last)),
             1 => Some(
-                matches!(self.insert_new(last, Own(ABSENT)), Ok(done) if !done.is_new && *done.value == last),
+                matches!(self.insert_new(last, Own(ABSENT)), Ok((kept, is_new)) if !is_new && *kept == last),
             ),
             2 => Some(
                 matches!(MapForm::insert(self, last, Own(ABSENT)), Ok(value) if *value == last),
             ),
             3 => Some(
-                matches!(MapForm::insert_new(self, last, Own(ABSENT)), Ok(done) if !done.is_new && *done.value == last),
+                matches!(MapForm::insert_new(self, last, Own(ABSENT)), Ok((kept, is_new)) if !is_new && *kept == last),
             ),
             4..7 => Some(is_found_in_hashed(self, number, last)),
             7..10 => Some(is_whole_hashed(self, number, last)),
@@ -238,13 +238,13 @@ impl<'a, A: Allocator + Copy + Drop> Calls<'a, A> for Ordered<'a, A> {
         match number {
             0 => Some(matches!(self.insert(last, Own(ABSENT)), Ok(value) if *value == last)),
             1 => Some(
-                matches!(self.insert_new(last, Own(ABSENT)), Ok(done) if !done.is_new && *done.value == last),
+                matches!(self.insert_new(last, Own(ABSENT)), Ok((kept, is_new)) if !is_new && *kept == last),
             ),
             2 => Some(
                 matches!(MapForm::insert(self, last, Own(ABSENT)), Ok(value) if *value == last),
             ),
             3 => Some(
-                matches!(MapForm::insert_new(self, last, Own(ABSENT)), Ok(done) if !done.is_new && *done.value == last),
+                matches!(MapForm::insert_new(self, last, Own(ABSENT)), Ok((kept, is_new)) if !is_new && *kept == last),
             ),
             4..6 => Some(is_found_in_ordered(self, number, last)),
             6..9 => Some(is_whole_ordered(self, number, last)),
@@ -298,13 +298,13 @@ impl<'a, A: Allocator + Copy + Drop> Calls<'a, A> for Indexed<'a, A> {
         match number {
             0 => Some(matches!(self.insert(last, Own(ABSENT)), Ok(value) if *value == last)),
             1 => Some(
-                matches!(self.insert_new(last, Own(ABSENT)), Ok(done) if !done.is_new && *done.value == last),
+                matches!(self.insert_new(last, Own(ABSENT)), Ok((kept, is_new)) if !is_new && *kept == last),
             ),
             2 => Some(
                 matches!(self.insert_full(last, Own(ABSENT)), Ok((place, _)) if place == last),
             ),
             3 => Some(
-                matches!(self.insert_full_new(last, Own(ABSENT)), Ok(done) if !done.is_new && done.index == last),
+                matches!(self.insert_full_new(last, Own(ABSENT)), Ok((place, _, is_new)) if !is_new && place == last),
             ),
             4..8 => Some(is_found_in_indexed(self, number, last)),
             8..11 => Some(is_whole_indexed(self, number, last)),
@@ -366,11 +366,11 @@ impl<'a, A: Allocator + Copy + Drop> Calls<'a, A> for Numbers<'a, A> {
         match number {
             0 => Some(matches!(self.insert(Own(last)), Ok(value) if *value == last)),
             1 => Some(
-                matches!(self.insert_full_new(Own(last)), Ok(done) if !done.is_new && *done.value == last),
+                matches!(self.insert_new(Own(last)), Ok((kept, is_new)) if !is_new && *kept == last),
             ),
             2 => Some(matches!(self.insert_full(Own(last)), Ok((place, _)) if place == last)),
             3 => Some(
-                matches!(self.insert_full_new(Own(last)), Ok(done) if !done.is_new && done.index == last),
+                matches!(self.insert_full_new(Own(last)), Ok((place, _, is_new)) if !is_new && place == last),
             ),
             4..7 => Some(is_found_in_numbers(self, number, last)),
             7..10 => Some(is_whole_set(self, number, last)),

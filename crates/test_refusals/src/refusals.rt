@@ -84,10 +84,7 @@ fn inserted<A: Allocator + Copy + Drop>(
     match way {
         2 => Ok(set.insert(text)? == word(place)),
         3 => Ok(set.insert_full(text)? == (place, word(place))),
-        _ => {
-            let done = set.insert_full_new(text)?;
-            Ok(done.index == place && done.value == word(place) && done.is_new)
-        }
+        _ => Ok(set.insert_full_new(text)? == (place, word(place), true)),
     }
 }
 
@@ -97,8 +94,7 @@ fn added_again<A: Allocator + Copy + Drop>(
     place: usize,
 ) -> Result<bool, AllocError> {
     let text = String::from_str(heap, word(place))?;
-    let done = set.insert_full_new(text)?;
-    Ok(done.index == place && done.value == word(place) && !done.is_new)
+    Ok(set.insert_full_new(text)? == (place, word(place), false))
 }
 
 fn cloned<A: Allocator + Copy + Drop>(set: &Set<'_, A>, count: usize) -> Result<bool, AllocError> {

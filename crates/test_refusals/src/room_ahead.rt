@@ -63,7 +63,7 @@ impl<'a, A: Allocator + Copy + Drop> Roomy<'a, A> for Hashed<'a, A> {
     }
 
     fn adds(&mut self, number: usize) -> bool {
-        matches!(self.insert_new(number, Own(number)), Ok(done) if done.is_new)
+        matches!(self.insert_new(number, Own(number)), Ok((_, true)))
     }
 }
 
@@ -83,7 +83,7 @@ impl<'a, A: Allocator + Copy + Drop> Roomy<'a, A> for Indexed<'a, A> {
     }
 
     fn adds(&mut self, number: usize) -> bool {
-        matches!(self.insert_new(number, Own(number)), Ok(done) if done.is_new)
+        matches!(self.insert_new(number, Own(number)), Ok((_, true)))
     }
 }
 
@@ -103,7 +103,7 @@ impl<'a, A: Allocator + Copy + Drop> Roomy<'a, A> for Numbers<'a, A> {
     }
 
     fn adds(&mut self, number: usize) -> bool {
-        matches!(self.insert_full_new(Own(number)), Ok(done) if done.is_new)
+        matches!(self.insert_new(Own(number)), Ok((_, true)))
     }
 }
 

@@ -22,10 +22,10 @@ fn with_shards(alloc: Global, count: usize) -> Result<Numbers, AllocError>
 fn fill(rt: &impl Wait, map: &Numbers) -> Result<bool, AllocError> {
     let mut keeps = true;
     for key in 0..MANY {
-        let first = map.insert_new(rt, key, key.wrapping_mul(3))?;
-        let second = map.insert_new(rt, key, 1)?;
-        let same = *first.value == key.wrapping_mul(3) && *second.value == *first.value;
-        keeps = keeps && same && first.is_new && !second.is_new;
+        let (first, is_new) = map.insert_new(rt, key, key.wrapping_mul(3))?;
+        let (second, is_new_again) = map.insert_new(rt, key, 1)?;
+        let same = *first == key.wrapping_mul(3) && *second == *first;
+        keeps = keeps && same && is_new && !is_new_again;
     }
     Ok(keeps)
 }

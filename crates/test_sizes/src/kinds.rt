@@ -31,8 +31,8 @@ impl<A: Allocator + Copy> Grows for FrozenVec<'_, Own<u64>, A> {
 
 impl<A: Allocator + Copy> Grows for FrozenMap<'_, u64, Own<u64>, Hasher, A> {
     fn insert(&mut self, key: u64, value: u64) -> Result<u64, AllocError> {
-        let done = self.insert_new(key, Own(value))?;
-        Ok(*done.value)
+        let (kept, _) = self.insert_new(key, Own(value))?;
+        Ok(*kept)
     }
 
     fn get(&self, key: u64) -> Option<u64> {
@@ -46,8 +46,8 @@ impl<A: Allocator + Copy> Grows for FrozenMap<'_, u64, Own<u64>, Hasher, A> {
 
 impl<A: Allocator + Copy> Grows for FrozenBTreeMap<'_, u64, Own<u64>, A> {
     fn insert(&mut self, key: u64, value: u64) -> Result<u64, AllocError> {
-        let done = self.insert_new(key, Own(value))?;
-        Ok(*done.value)
+        let (kept, _) = self.insert_new(key, Own(value))?;
+        Ok(*kept)
     }
 
     fn get(&self, key: u64) -> Option<u64> {
@@ -61,8 +61,8 @@ impl<A: Allocator + Copy> Grows for FrozenBTreeMap<'_, u64, Own<u64>, A> {
 
 impl<A: Allocator + Copy> Grows for FrozenIndexMap<'_, u64, Own<u64>, Hasher, A> {
     fn insert(&mut self, key: u64, value: u64) -> Result<u64, AllocError> {
-        let done = self.insert_new(key, Own(value))?;
-        Ok(*done.value)
+        let (kept, _) = self.insert_new(key, Own(value))?;
+        Ok(*kept)
     }
 
     fn get(&self, key: u64) -> Option<u64> {
@@ -80,8 +80,8 @@ impl<A: Allocator + Copy> Grows for FrozenIndexMap<'_, u64, Own<u64>, Hasher, A>
 
 impl<A: Allocator + Copy> Grows for FrozenAppendMap<'_, u64, Own<u64>, Hasher, A> {
     fn insert(&mut self, key: u64, value: u64) -> Result<u64, AllocError> {
-        let done = self.insert_new(key, Own(value))?;
-        Ok(*done.value)
+        let (kept, _) = self.insert_new(key, Own(value))?;
+        Ok(*kept)
     }
 
     fn get(&self, key: u64) -> Option<u64> {
@@ -99,7 +99,7 @@ impl<A: Allocator + Copy> Grows for FrozenIndexSet<'_, Own<u64>, Hasher, A> {
     }
 
     fn insert(&mut self, key: u64, _value: u64) -> Result<u64, AllocError> {
-        Ok(*self.insert_full_new(Own(key))?.value)
+        Ok(*self.insert_new(Own(key))?.0)
     }
 
     fn get(&self, key: u64) -> Option<u64> {
@@ -215,14 +215,11 @@ impl<A: Allocator + Copy> Grows for cell::FrozenVec<u64, A> {
     }
 
     fn get(&self, key: u64) -> Option<u64> {
-        match self.get(key as usize) {
-            Ok(found) => found.copied(),
-            Err(_) => None,
-        }
+        self.get(key as usize).copied()
     }
 
     fn count(&self) -> usize {
-        self.len().unwrap_or(usize::MAX)
+        self.len()
     }
 }
 
@@ -235,13 +232,10 @@ impl<A: Allocator + Copy> Grows for cell::FrozenMap<u64, u64, Hasher, A> {
     }
 
     fn get(&self, key: u64) -> Option<u64> {
-        match self.get(&key) {
-            Ok(found) => found.copied(),
-            Err(_) => None,
-        }
+        self.get(&key).copied()
     }
 
     fn count(&self) -> usize {
-        self.len().unwrap_or(usize::MAX)
+        self.len()
     }
 }

@@ -62,7 +62,7 @@ fn first_wins<R: Wait>(rt: &R, map: &mut FreeHandle<'_, '_>, entry: Entry) -> bo
     match map.insert(rt, entry.key, entry.value.wrapping_add(1)) {
         Ok(stands) => !stands.is_new
             && stands.value == entry.value
-            && stands.place as u64 == entry.number,
+            && stands.index as u64 == entry.number,
         Err(_) => false,
     }
 }
@@ -88,7 +88,7 @@ impl<'h> Form for FreeMap<'h> {
         *pass = handle.into_pass();
         let stands = stands?;
         let entry = Entry {
-            number: stands.place as u64,
+            number: stands.index as u64,
             key,
             value: stands.value,
         };
@@ -144,13 +144,13 @@ impl<'h> Form for HashedMap<'h> {
         key: u64,
         value: u64,
     ) -> Result<(Entry, bool), AllocError> {
-        let done = self.map.insert_new(rt, key, value)?;
+        let (kept, is_new) = self.map.insert_new(rt, key, value)?;
         let entry = Entry {
             number: key,
             key,
-            value: *done.value,
+            value: *kept,
         };
-        Ok((entry, done.is_new))
+        Ok((entry, is_new))
     }
 
     fn at<R: Wait>(&self, rt: &R, _pass: &mut (), number: u64) -> Option<Entry> {
@@ -187,13 +187,13 @@ impl<'h> Form for OrderedMap<'h> {
         key: u64,
         value: u64,
     ) -> Result<(Entry, bool), AllocError> {
-        let done = self.map.insert_new(rt, key, value)?;
+        let (kept, is_new) = self.map.insert_new(rt, key, value)?;
         let entry = Entry {
             number: key,
             key,
-            value: *done.value,
+            value: *kept,
         };
-        Ok((entry, done.is_new))
+        Ok((entry, is_new))
     }
 
     fn at<R: Wait>(&self, rt: &R, _pass: &mut (), number: u64) -> Option<Entry> {

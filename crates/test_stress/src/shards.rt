@@ -74,8 +74,8 @@ impl<'h> Form for LockedShards<'h> {
         key: u64,
         value: u64,
     ) -> Result<(Entry, bool), AllocError> {
-        let done = self.map.insert_new(rt, key, value)?;
-        Ok((entry(key, *done.value), done.is_new))
+        let (kept, is_new) = self.map.insert_new(rt, key, value)?;
+        Ok((entry(key, *kept), is_new))
     }
 
     fn at<R: Wait>(&self, rt: &R, _pass: &mut (), number: u64) -> Option<Entry> {

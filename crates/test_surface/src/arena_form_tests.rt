@@ -5,25 +5,22 @@ use std::test::Fail;
 
 /// Returns whether the value at this index is `text`.
 fn is_at(arena: &TypedArena<String>, index: usize, text: &str) -> bool {
-    matches!(arena.get(index), Ok(Some(kept)) if kept.as_str() == text)
+    matches!(arena.get(index), Some(kept) if kept.as_str() == text)
 }
 
 /// Returns whether a walk visits `count` values.
 fn walks(arena: &TypedArena<String>, count: usize) -> bool {
-    let Ok(texts) = arena.iter() else {
-        return false;
-    };
     let mut walked = 0usize;
-    for _ in texts {
+    for _ in arena.iter() {
         walked = walked.wrapping_add(1);
     }
-    walked == count && arena.len() == Ok(count)
+    walked == count && arena.len() == count
 }
 
 /// Returns whether two `String`s are stored and each is read at its index.
 fn keeps_texts(alloc: Global) -> Result<bool, AllocError> {
     let arena: TypedArena<String> = TypedArena::with_capacity(alloc, 2)?;
-    let was_empty = arena.is_empty() == Ok(true);
+    let was_empty = arena.is_empty();
     let (one, two) = (
         String::from_str(alloc, "one")?,
         String::from_str(alloc, "two")?,

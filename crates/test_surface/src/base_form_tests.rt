@@ -48,8 +48,7 @@ fn kept_in<R, V: StableDeref<R>, M: MapForm<R, Key = u64, Value = V>>(
     map: &mut M,
     value: V,
 ) -> Result<(V::Borrow, bool), AllocError> {
-    let done = map.insert_new(7, value)?;
-    Ok((done.value, done.is_new))
+    map.insert_new(7, value)
 }
 
 /// Returns whether a hashed map keeps the first value, and can be taken apart and made again.

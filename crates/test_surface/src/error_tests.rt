@@ -2,7 +2,7 @@
 //! into an error type that the kit's `thiserror` derives.
 use elsa::append_map::RoomFault;
 use elsa::cache::{CacheFault, LoadFault};
-use elsa::cell::{CellFault, InUse, TryFault};
+use elsa::cell::{CellFault, Fault, InUse, TryFault};
 use elsa::interner::{EngineFault, Failed, NameFault};
 use elsa::map::InsertFault;
 use elsa::sync::history::{CloseFault, ReceiptsFault, Recorder, VecCommand};
@@ -28,6 +28,8 @@ enum CallerError {
     Cell(#[from] CellFault<u64>),
     #[error("caller: {0}")]
     InUse(#[from] InUse),
+    #[error("caller: {0}")]
+    Fault(#[from] Fault),
     #[error("caller: {0}")]
     Try(#[from] TryFault<u64, LoadFault>),
     #[error("caller: {0}")]
@@ -86,6 +88,8 @@ const NOT_FOUND: &str = "the loader found no text at the path";
 
 const IN_USE: &str = "the collection is in use by a call that contains this one";
 
+const FULL: &str = "the collection has the greatest number of items";
+
 fn prints_a_cache(alloc: Global) -> Result<bool, AllocError> {
     let load: CacheFault<LoadFault, InUse> = CacheFault::Load(LoadFault::NotFound);
     let loaded = "the path's text could not be loaded: the loader found no text at the path";
@@ -122,7 +126,20 @@ fn prints_a_cell(alloc: Global) -> Result<bool, AllocError> {
                 CellFault::Memory(7u64),
                 "out of memory: the value was not inserted",
             )?
-            && prints(alloc, InUse, IN_USE)?,
+            && prints(alloc, InUse, IN_USE)?
+            && prints(alloc, CellFault::Full(7u64), FULL)?,
+    )
+}
+
+fn prints_a_fault(alloc: Global) -> Result<bool, AllocError> {
+    Ok(
+        prints(alloc, Fault::InUse, IN_USE)?
+            && prints(
+                alloc,
+                Fault::Memory,
+                "out of memory: the value was not inserted",
+            )?
+            && prints(alloc, Fault::Full, FULL)?,
     )
 }
 
@@ -169,7 +186,7 @@ fn prints_a_room(alloc: Global) -> Result<bool, AllocError> {
 #[test]
 fn an_error_of_a_map_printed_another_sentence(rt: HostRuntime) -> Result<(), Fail> {
     assert!(rt; prints_a_room(rt.alloc())?);
-    assert!(rt; prints_a_cell(rt.alloc())?);
+    assert!(rt; prints_a_cell(rt.alloc())? && prints_a_fault(rt.alloc())?);
     assert!(rt; prints_an_insertion(rt.alloc())? && prints_a_tables_insertion(rt.alloc())?);
     Ok(())
 }

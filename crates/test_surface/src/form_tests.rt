@@ -76,7 +76,7 @@ fn keeps_the_first(alloc: Global) -> Result<bool, AllocError> {
     let mut map: FrozenMap<u64, &str> = FrozenMap::new(alloc, &arena);
     let first = map.insert(1, "a")?;
     let second = map.insert_new(1, "b")?;
-    Ok(first == "a" && second.value == "a" && !second.is_new && map.len() == 1 && !map.is_empty())
+    Ok(first == "a" && second == ("a", false) && map.len() == 1 && !map.is_empty())
 }
 
 /// Returns whether a hashed map finds an entry by its key.
@@ -114,7 +114,7 @@ fn is_index_map(alloc: Global) -> Result<bool, AllocError> {
     let mut map: FrozenIndexMap<u64, &str> = FrozenIndexMap::new(alloc, &arena);
     let first = map.insert_full(7, "x")?;
     let second = map.insert_full_new(5, "y")?;
-    let placed = first == (0, "x") && second.index == 1 && second.value == "y" && second.is_new;
+    let placed = first == (0, "x") && second == (1, "y", true);
     Ok(
         placed
             && map.get_index_of(&5) == Some(1)

@@ -16,7 +16,7 @@ fn finds_the_first(rt: &impl Wait, ages: &Ages) -> Result<bool, AllocError> {
     let mut handle = ages.handle();
     let new = handle.insert(rt, "ann", 30)?;
     let old = handle.insert(rt, "ann", 40)?;
-    let is_first = new.is_new && new.place == 0 && !old.is_new && old.value == 30;
+    let is_first = new.is_new && new.index == 0 && !old.is_new && old.value == 30;
     let found = handle.get("ann") == Some(30) && handle.find(&"ann") == Some(0);
     let by_place = handle.get_by_place(0) == Some(("ann", 30));
     Ok(is_first && found && by_place && handle.len() == 1 && handle.seen_len() == 1)
@@ -26,7 +26,7 @@ fn finds_the_first(rt: &impl Wait, ages: &Ages) -> Result<bool, AllocError> {
 fn finds_by_a_handle(rt: &impl Wait, ages: &Ages) -> Result<bool, AllocError> {
     let mut handle = MapHandle::of(ages, ages.pass());
     let is_there = handle.get("ann") == Some(30) && handle.get("bob").is_none();
-    let place = handle.insert(rt, "bob", 20)?.place;
+    let place = handle.insert(rt, "bob", 20)?.index;
     Ok(is_there && place == 1 && handle.len() == 2 && handle.get_by_place(1) == Some(("bob", 20)))
 }
 
@@ -50,7 +50,7 @@ fn walks_by_a_handle(rt: &impl Wait, ages: &Ages) -> Result<bool, AllocError> {
     handle.one_to_one();
     handle.same_place(&ages.handle());
     let mut walk: MapIter<'_, &'static str, u64> = handle.iter();
-    Ok(made.place == 3 && contains && walk.next() == Some(("ann", 30)) && walk.size_hint().0 == 3)
+    Ok(made.index == 3 && contains && walk.next() == Some(("ann", 30)) && walk.size_hint().0 == 3)
 }
 
 /// Returns whether a handle that has observed nothing has both entries after a merge with one that

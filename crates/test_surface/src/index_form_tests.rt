@@ -12,9 +12,9 @@ type Map<'a> = FrozenIndexMap<'a, u64, Own<u64>>;
 
 /// Inserts 7 with the value 1 and 5 with the value 2, and returns whether 7 keeps its first value.
 fn fills<'a>(map: &mut Map<'a>) -> Result<bool, AllocError> {
-    let done = map.insert_new(7, Own(1))?;
+    let (kept, is_new) = map.insert_new(7, Own(1))?;
     map.insert(5, Own(2))?;
-    Ok(done.is_new && *done.value == 1 && *map.insert(7, Own(3))? == 1)
+    Ok(is_new && *kept == 1 && *map.insert(7, Own(3))? == 1)
 }
 
 /// Returns whether each lookup of the key 5 finds its entry.
@@ -82,8 +82,7 @@ fn adds<'a>(set: &mut Set<'a>) -> Result<bool, AllocError> {
     let first = *set.insert(Own(7))?;
     let five = set.insert_full_new(Own(5))?;
     let again = set.insert_full_new(Own(5))?;
-    let is_kept = again.index == 1 && *again.value == 5 && !again.is_new;
-    Ok(first == 7 && five.is_new && is_kept)
+    Ok(first == 7 && five == (1, &5, true) && again == (1, &5, false))
 }
 
 /// Returns whether 9 is absent and is then added last.

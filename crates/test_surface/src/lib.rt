@@ -57,6 +57,10 @@ mod shared_names;
 #[cfg(test)]
 mod shared_tests;
 #[cfg(test)]
+mod signatures;
+#[cfg(test)]
+mod signatures_repeated;
+#[cfg(test)]
 mod state_form_tests;
 #[cfg(test)]
 mod table_tests;

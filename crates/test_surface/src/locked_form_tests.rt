@@ -22,8 +22,8 @@ type Hashed = FrozenMap<u64, u64>;
 fn inserts(rt: &impl Wait, map: &Hashed) -> Result<bool, AllocError> {
     let with = *map.insert_with(rt, 1, || 10)?;
     let with_key = *map.insert_with_key(rt, 2, |key| key.wrapping_mul(10))?;
-    let again = map.insert_new(rt, 2, 5)?;
-    let is_kept = *again.value == 20 && !again.is_new && *map.insert(rt, 1, 5)? == 10;
+    let (again, is_new) = map.insert_new(rt, 2, 5)?;
+    let is_kept = *again == 20 && !is_new && *map.insert(rt, 1, 5)? == 10;
     Ok(with == 10 && with_key == 20 && is_kept)
 }
 
@@ -68,8 +68,8 @@ type Ordered = FrozenBTreeMap<u64, u64>;
 
 /// Inserts 2 with the value 20, and returns whether it keeps it.
 fn inserts_in_order(rt: &impl Wait, map: &Ordered) -> Result<bool, AllocError> {
-    let first = map.insert_new(rt, 2, 20)?;
-    Ok(*first.value == 20 && first.is_new && *map.insert(rt, 2, 5)? == 20)
+    let (first, is_new) = map.insert_new(rt, 2, 20)?;
+    Ok(*first == 20 && is_new && *map.insert(rt, 2, 5)? == 20)
 }
 
 /// Returns whether each lookup of the key 2 finds its value.

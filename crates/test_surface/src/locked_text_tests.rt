@@ -21,9 +21,9 @@ fn is_asked_by_texts(rt: &impl Wait, ages: &Ages) -> Result<bool, AllocError> {
 /// Returns whether `is_new` is true only for the first insertion of a key.
 fn flags_tell_the_first(alloc: Global) -> Result<bool, AllocError> {
     let mut map: MapState<u64, u64> = MapState::new(alloc);
-    let first = map.insert_with_key(7, |key| *key)?;
-    let again = map.get_copy_or_insert_with_key(7, |_key| 9)?;
-    Ok(first.is_new && !again.is_new && again.value == 7)
+    let (_, is_new) = map.insert_new(7, 7)?;
+    let (again, is_new_again) = map.insert_new(7, 9)?;
+    Ok(is_new && !is_new_again && *again == 7)
 }
 
 /// Returns whether a pushed item is read by reference.

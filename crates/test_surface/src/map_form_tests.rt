@@ -114,9 +114,9 @@ fn has_twenty_in_order<'a>(map: &Ordered<'a>) -> bool {
 fn is_new_once<'a>(mut map: Ordered<'a>) -> Result<bool, AllocError> {
     let first = map.insert_new(4, Own(40))?;
     let again = map.insert_new(4, Own(41))?;
-    let kept = map.len() == 4 && *first.value == 40 && *again.value == 40;
+    let kept = map.len() == 4 && first == (&40, true) && again == (&40, false);
     map.as_mut().clear();
-    Ok(kept && first.is_new && !again.is_new && map.is_empty())
+    Ok(kept && map.is_empty())
 }
 
 #[test]

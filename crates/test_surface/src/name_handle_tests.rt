@@ -82,7 +82,7 @@ fn asks_by_a_handle<'a>(
 ) -> Result<bool, AllocError> {
     let mut handle: MapHandle<'_, &'a str, u64> = ages.handle();
     let kept = handle.insert_text(rt, arena, "ann", 50)?.value == 30;
-    let new = handle.insert_text(rt, arena, "bob", 20)?.place == 1;
+    let new = handle.insert_text(rt, arena, "bob", 20)?.index == 1;
     let absent = handle.find("zoe").is_none();
     Ok(kept && new && absent && handle.find("bob") == Some(1) && handle.get_ref("bob") == Some(&20))
 }

@@ -18,11 +18,12 @@ type Hashed = MapState<u64, u64>;
 
 /// Inserts 1 with the value 10 and 2 with the value 20, and returns whether both keep them.
 fn inserts(map: &mut Hashed) -> Result<bool, AllocError> {
-    let first = map.insert(1, 10)?;
+    let (first, is_new) = map.insert_new(1, 10)?;
     let with_key = map.insert_with_key(2, |key| key.wrapping_mul(10))?;
-    let again = map.insert(2, 5)?;
-    let are_new = first.is_new && with_key.is_new && !again.is_new;
-    Ok(are_new && *first.value == 10 && *with_key.value == 20 && *again.value == 20)
+    let (again, is_new_again) = map.insert_new(2, 5)?;
+    let kept = *map.insert_with(2, || 6)? == 20 && *map.insert(1, 7)? == 10;
+    let are_right = *first == 10 && *with_key == 20 && *again == 20;
+    Ok(is_new && !is_new_again && are_right && kept)
 }
 
 /// Inserts 3 with the value 30 and 4 with the value 40, and returns whether the copies of both are
@@ -31,8 +32,8 @@ fn copies(map: &mut Hashed) -> Result<bool, AllocError> {
     let ten = map.get_copy_or_insert(1, 5)?;
     let thirty = map.get_copy_or_insert(3, 30)?;
     let forty = map.get_copy_or_insert_with_key(4, |key| key.wrapping_mul(10))?;
-    let are_new = !ten.is_new && thirty.is_new && forty.is_new;
-    Ok(are_new && ten.value == 10 && forty.value == 40 && map.get_copy(&3) == Some(30))
+    let kept = map.get_copy_or_insert_with(4, || 5)? == 40;
+    Ok(kept && ten == 10 && thirty == 30 && forty == 40 && map.get_copy(&3) == Some(30))
 }
 
 /// Returns whether each lookup of the key 4 finds its value.
@@ -61,8 +62,8 @@ type Ordered = TreeState<u64, u64>;
 
 /// Inserts 2 with the value 20, and returns whether it keeps it.
 fn inserts_in_order(map: &mut Ordered) -> Result<bool, AllocError> {
-    let first = map.insert(2, 20)?;
-    Ok(*first.value == 20 && first.is_new && *map.insert(2, 5)?.value == 20)
+    let (first, is_new) = map.insert_new(2, 20)?;
+    Ok(*first == 20 && is_new && *map.insert(2, 5)? == 20)
 }
 
 /// Returns whether each lookup of the key 2 finds its value.

@@ -4,7 +4,7 @@
 ghost use Rattle.std.specs.Prelude.{◌≡◌, IfOk};
 
 use elsa::TypedArena;
-use elsa::cell::CellFault;
+use elsa::cell::{CellFault, Fault};
 use std::alloc::{AllocError, Global};
 use std::test::Fail;
 
@@ -31,11 +31,9 @@ impl Things {
     }
 
     /// Adds a thing through `&self`, and returns its number.
-    fn add_thing(&self, name: &str, friends: Vec<usize>) -> Result<usize, AllocError> {
+    fn add_thing(&self, name: &str, friends: Vec<usize>) -> Result<usize, Fault> {
         let name = String::from_str(self.alloc, name)?;
-        self.all
-            .push(Thing { name, friends })
-            .map_err(|_thing| AllocError)
+        Ok(self.all.push(Thing { name, friends })?)
     }
 
     /// Adds a thing through `&self`, and returns a reference to it with the arena's lifetime.
@@ -47,7 +45,7 @@ impl Things {
 
     /// Returns the thing with a number.
     fn thing(&self, number: usize) -> Option<&Thing> {
-        self.all.get(number).unwrap_or(None)
+        self.all.get(number)
     }
 
     /// Returns the names of a thing's friends, each followed by a space.
@@ -67,7 +65,7 @@ impl Things {
 }
 
 /// Makes the five things of upstream's example, each added through one shared borrow.
-fn five(alloc: Global) -> Result<Things, AllocError> {
+fn five(alloc: Global) -> Result<Things, Fault> {
     let things = Things::new(alloc)?;
     let lonely = things.add_thing("lonely", Vec::new(alloc))?;
     let best_friend = things.add_thing("best friend", vec![in alloc; lonely]?)?;
@@ -79,7 +77,7 @@ fn five(alloc: Global) -> Result<Things, AllocError> {
 }
 
 /// Returns whether each thing has the friends that upstream's example prints.
-fn are_friends(alloc: Global) -> Result<bool, AllocError> {
+fn are_friends(alloc: Global) -> Result<bool, Fault> {
     let things = five(alloc)?;
     let wanted = [
         "",
@@ -93,23 +91,21 @@ fn are_friends(alloc: Global) -> Result<bool, AllocError> {
             return Ok(false);
         }
     }
-    Ok(things.all.len() == Ok(5))
+    Ok(things.all.len() == 5)
 }
 
 /// Returns whether the borrow of a thing stays valid while others are added.
-fn stays(alloc: Global) -> Result<bool, AllocError> {
+fn stays(alloc: Global) -> Result<bool, Fault> {
     let things = Things::new(alloc)?;
     let name = String::from_str(alloc, "lonely")?;
-    let Ok(first) = things.keep(Thing {
+    let first = things.keep(Thing {
         name,
         friends: Vec::new(alloc),
-    }) else {
-        return Ok(false);
-    };
+    })?;
     for _ in 0..100 {
         things.add_thing("rando", Vec::new(alloc))?;
     }
-    Ok(first.name.as_str() == "lonely" && things.all.len() == Ok(101))
+    Ok(first.name.as_str() == "lonely" && things.all.len() == 101)
 }
 
 #[test]

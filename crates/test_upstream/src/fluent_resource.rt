@@ -1,7 +1,7 @@
 //! Resources that borrow from the texts of which they were made, both stored by their path through
 //! `&self`. The texts have their own map, which is made before the resources, because a resource
 //! owns a list and so can't borrow from its own map.
-use elsa::cell::{CellFault, FrozenMap};
+use elsa::cell::{Fault, FrozenMap};
 use std::alloc::{AllocError, Global};
 use std::test::Fail;
 
@@ -16,18 +16,19 @@ struct FluentResource<'t> {
 #[derive(Debug, Clone, Copy, PartialEq, Eq)]
 enum ResourceFault {
     NotFound,
-    Memory,
+    /// The store couldn't take it.
+    Store(Fault),
 }
 
 impl From<AllocError> for ResourceFault {
-    fn from(_refused: AllocError) -> ResourceFault {
-        ResourceFault::Memory
+    fn from(error: AllocError) -> ResourceFault {
+        ResourceFault::Store(Fault::from(error))
     }
 }
 
-impl<T: Drop> From<CellFault<T>> for ResourceFault {
-    fn from(_refused: CellFault<T>) -> ResourceFault {
-        ResourceFault::Memory
+impl From<Fault> for ResourceFault {
+    fn from(fault: Fault) -> ResourceFault {
+        ResourceFault::Store(fault)
     }
 }
 
@@ -42,6 +43,19 @@ struct ResourceManager<'t> {
 
 const FILES: [(&str, &str); 2] = [("en/menu", "open = Open\nquit = Quit"), ("en/empty", "")];
 
+/// Reads the text at the path, and returns both.
+fn read(alloc: Global, path: &str) -> Result<(String, String), ResourceFault> {
+    for (name, text) in FILES {
+        if name == path {
+            return Ok((
+                String::from_str(alloc, path)?,
+                String::from_str(alloc, text)?,
+            ));
+        }
+    }
+    Err(ResourceFault::NotFound)
+}
+
 impl<'t> ResourceManager<'t> {
     fn new(alloc: Global, strings: &'t FrozenMap<String, String>) -> Result<Self, AllocError> {
         Ok(ResourceManager {
@@ -53,23 +67,15 @@ impl<'t> ResourceManager<'t> {
 
     /// Returns the text at the path, which is read once.
     fn text_of(&self, path: &str) -> Result<&'t str, ResourceFault> {
-        if let Ok(Some(text)) = self.strings.get(path) {
-            return Ok(text.as_str());
-        }
-        for (name, text) in FILES {
-            if name == path {
-                let text = String::from_str(self.alloc, text)?;
-                let path = String::from_str(self.alloc, path)?;
-                let text = self.strings.insert(path, text)?;
-                return Ok(text.as_str());
-            }
-        }
-        Err(ResourceFault::NotFound)
+        let text = self
+            .strings
+            .get_or_try_insert(path, || read(self.alloc, path))?;
+        Ok(text.as_str())
     }
 
     /// Returns the resource at the path, which is made once.
     fn get_resource(&self, path: &str) -> Result<&FluentResource<'t>, ResourceFault> {
-        if let Ok(Some(resource)) = self.resources.get(path) {
+        if let Some(resource) = self.resources.get(path) {
             return Ok(&**resource);
         }
         let mut lines = Vec::new(self.alloc);
@@ -78,10 +84,10 @@ impl<'t> ResourceManager<'t> {
         }
         let first = lines.first().copied().unwrap_or("");
         let Ok(resource) = Box::new(self.alloc, FluentResource { first, lines }) else {
-            return Err(ResourceFault::Memory);
+            return Err(ResourceFault::from(AllocError));
         };
         let path = String::from_str(self.alloc, path)?;
-        let resource = self.resources.insert(path, resource)?;
+        let resource = self.resources.insert(path, resource).map_err(Fault::from)?;
         Ok(&**resource)
     }
 }
@@ -94,7 +100,7 @@ fn asked_twice(alloc: Global, path: &str) -> Result<(bool, usize, usize), Resour
     let first = manager.get_resource(path)?;
     let again = manager.get_resource(path)?;
     let is_same = first.first == again.first && again.lines.len() == first.lines.len();
-    Ok((is_same, first.lines.len(), strings.len().unwrap_or(0)))
+    Ok((is_same, first.lines.len(), strings.len()))
 }
 
 #[test]

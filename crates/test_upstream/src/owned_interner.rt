@@ -1,6 +1,6 @@
 //! Upstream's interner as it is there: a struct that owns its set of texts and stores new ones
 //! through `&self`.
-use elsa::cell::FrozenIndexSet;
+use elsa::cell::{Fault, FrozenIndexSet};
 use std::alloc::{AllocError, Global};
 use std::test::Fail;
 
@@ -20,33 +20,27 @@ impl StringInterner {
     }
 
     /// Returns the number of a text, which is stored if it is new.
-    fn get_or_intern(&self, value: &str) -> Result<usize, AllocError> {
-        match self.set.insert_full(String::from_str(self.alloc, value)?) {
-            Ok((index, _)) => Ok(index),
-            Err(_fault) => Err(AllocError),
-        }
+    fn get_or_intern(&self, value: &str) -> Result<u32, Fault> {
+        let (index, _) = self.set.insert_full(String::from_str(self.alloc, value)?)?;
+        Ok(index as u32)
     }
 
     /// Returns the number of a text, or `None` if it isn't stored.
-    fn get(&self, value: &str) -> Option<usize> {
-        match self.set.get_full(value) {
-            Ok(Some((index, _))) => Some(index),
-            _ => None,
-        }
+    fn get(&self, value: &str) -> Option<u32> {
+        let (index, _) = self.set.get_full(value)?;
+        Some(index as u32)
     }
 
     /// Returns the text of a number.
-    fn text_of(&self, number: usize) -> Option<&str> {
-        match self.set.get_index(number) {
-            Ok(Some(text)) => Some(text.as_str()),
-            _ => None,
-        }
+    fn text_of(&self, number: u32) -> Option<&str> {
+        let text = self.set.get_index(number as usize)?;
+        Some(text.as_str())
     }
 }
 
 /// Stores the texts of upstream's example. Returns the numbers of the first four, and the number
 /// that "best friend" has when it is stored again.
-fn stored(interner: &StringInterner) -> Result<([usize; 4], usize), AllocError> {
+fn stored(interner: &StringInterner) -> Result<([u32; 4], u32), Fault> {
     let lonely = interner.get_or_intern("lonely")?;
     let best_friend = interner.get_or_intern("best friend")?;
     let threes_a_crowd = interner.get_or_intern("threes a crowd")?;
@@ -57,7 +51,7 @@ fn stored(interner: &StringInterner) -> Result<([usize; 4], usize), AllocError> 
 }
 
 /// Returns whether no two of the numbers are equal.
-fn are_distinct(numbers: &[usize; 4]) -> bool {
+fn are_distinct(numbers: &[u32; 4]) -> bool {
     for i in 0..4_usize {
         for j in 0..i {
             if numbers[i] == numbers[j] {
@@ -69,7 +63,7 @@ fn are_distinct(numbers: &[usize; 4]) -> bool {
 }
 
 /// Returns whether the texts have the numbers that upstream's example asserts.
-fn are_numbered(alloc: Global) -> Result<bool, AllocError> {
+fn are_numbered(alloc: Global) -> Result<bool, Fault> {
     let interner = StringInterner::new(alloc)?;
     let (numbers, again) = stored(&interner)?;
     let best_friend = numbers[1];
@@ -83,7 +77,7 @@ fn are_numbered(alloc: Global) -> Result<bool, AllocError> {
 }
 
 /// Returns whether the borrow of a text stays valid while others are stored through `&self`.
-fn stays(alloc: Global) -> Result<bool, AllocError> {
+fn stays(alloc: Global) -> Result<bool, Fault> {
     let interner = StringInterner::new(alloc)?;
     let first = interner.get_or_intern("lonely")?;
     let text = interner.text_of(first);

@@ -31,7 +31,7 @@ fn insertions<'a>(alloc: Global, arena: &'a Bump) -> Result<bool, AllocError> {
     let new = keeps_earlier_values(&mut map, 1, "a")?;
     let between = Vec::from_array(alloc, [(2, "b")])?;
     let (first, again) = is_new_once(&mut map, (1, "c"), between, (1, "d"))?;
-    let is_kept = new.is_new && !first.is_new && !again.is_new && again.value == "a";
+    let is_kept = new == ("a", true) && first == ("a", false) && again == ("a", false);
     Ok(is_kept && map.get(&2) == Some("b"))
 }
 

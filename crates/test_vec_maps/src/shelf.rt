@@ -70,7 +70,7 @@ fn first_file_stays(alloc: Global) -> Result<bool, AllocError> {
     let first = kept(&mut files, path.as_str(), boxed_file(alloc, "fox", 1)?)?;
     let second = kept(&mut files, "a/b", boxed_file(alloc, "dog", 2)?)?;
     let is_found = files.get("a/b").is_some() && files.get("a").is_none();
-    let is_one = files.len() == 1 && values.len() == Ok(1);
+    let is_one = files.len() == 1 && values.len() == 1;
     drop(files);
     Ok(is_found && is_one && first.text.as_str() == "fox" && second.lines == 1)
 }
@@ -126,7 +126,7 @@ fn first_file_stays_in_order(alloc: Global) -> Result<bool, AllocError> {
     let (least, greatest) = (files.first_key_value(), files.last_key_value());
     let is_in_order = matches!(least, Some(("a", file)) if file.lines == 3)
         && matches!(greatest, Some(("c", file)) if file.lines == 4);
-    let is_one = files.len() == 3 && values.len() == Ok(3);
+    let is_one = files.len() == 3 && values.len() == 3;
     drop(files);
     Ok(is_in_order && is_one && first.text.as_str() == "fox" && first.lines == 1)
 }

@@ -1,12 +1,18 @@
 //! The ordered map under a lock.
-ghost use Rattle.std.specs.Prelude.{IfOk};
-ghost use Rattle.std.specs.BTreeMap.Range.{IsLeBy, IsLtBy};
+ghost use Rattle.std.specs.Prelude.{◌≡◌, ◌-◌, [], IfOk, MatchOption, length, slice_get};
+ghost use Rattle.std.specs.BTreeMap.Range.{IsLeBy, IsLtBy, entries_between};
+ghost use Rattle.std.specs.List.{AllZip};
+ghost use Rattle.std.specs.Ordering.{eq_by_cmp};
 ghost use Rattle.std.specs.List.Sorted.{IsStrictlySortedBy};
 ghost use Rattle.std.specs.Map.{keys_of};
 ghost use Rattle.std.specs.Iterator.{IsFinite};
 ghost use Rattle.elsa_specs.specs.FirstWins.{CloneIsEqual};
+ghost use Rattle.elsa_locks.specs.Shared.{shown, AtAMoment};
+ghost use Rattle.elsa_locks.specs.Walks.{IsCopyOf, VisitsAll};
+ghost use Rattle.elsa_tables.specs.Rules.{IsKept};
 
 use super::{Locked, TreeState};
+use elsa_tables::{AnyEntries, EntryRule};
 use std::alloc::{AllocError, Allocator, Global};
 use std::collections::BTreeMap;
 use std::ops::RangeBounds;
@@ -15,8 +21,15 @@ use std::sync::{Arc, RwLock, Wait};
 /// An ordered map that threads share, in which the first value of a key stays. [`Locked`] documents
 /// what runs under the lock.
 ///
-/// Each call makes the call of the same name on a [`TreeState`].
-pub type FrozenBTreeMap<K, V, A = Global> = Locked<K, V, BTreeMap<K, Arc<V, A>, A>, A>;
+/// Each call makes the call of the same name on a [`TreeState`]. `R` is a rule of the entries
+/// ([`EntryRule`]).
+pub type FrozenBTreeMap<K, V, A = Global, R = AnyEntries> = Locked<
+    K,
+    V,
+    BTreeMap<K, Arc<V, A>, A>,
+    A,
+    R,
+>;
 
 impl<K: Ord + Drop, V, A: Allocator + Copy> Locked<K, V, BTreeMap<K, Arc<V, A>, A>, A> {
     /// Makes an empty map. It allocates nothing and takes no lock.
@@ -30,6 +43,21 @@ impl<K: Ord + Drop, V, A: Allocator + Copy> Locked<K, V, BTreeMap<K, Arc<V, A>, 
     pub fn from_map(alloc: A, map: BTreeMap<K, Arc<V, A>, A>) -> Self {
         Locked {
             lock: RwLock::new(TreeState::from_map(alloc, map)),
+        }
+    }
+}
+
+impl<K: Ord + Drop, V, A: Allocator + Copy, R: EntryRule<K, V>> Locked<
+    K,
+    V,
+    BTreeMap<K, Arc<V, A>, A>,
+    A,
+    R,
+> {
+    /// Makes an empty map with a rule of its entries. It allocates nothing and takes no lock.
+    pub fn with_rule(alloc: A) -> Self {
+        Locked {
+            lock: RwLock::new(TreeState::with_rule(alloc)),
         }
     }
 
@@ -46,8 +74,13 @@ impl<K: Ord + Drop, V, A: Allocator + Copy> Locked<K, V, BTreeMap<K, Arc<V, A>, 
     /// `O(n)`.
     pub fn for_each<F: FnMut(&K, &V) + Drop>(&self, rt: &impl Wait, f: F)
         requires { F.IsAlwaysCallable f }
+        ensures { AtAMoment (eq_by_cmp K.cmp) (IsStrictlySortedBy K.cmp) R.holds
+            (VisitsAll F.FnMut f) }
     {
-        self.lock.read(rt).for_each(f)
+        let guard = self.lock.read(rt);
+        let state = &*guard;
+        state.obeys_rule();
+        state.for_each(f);
     }
 
     /// Calls `f` with the key and the value of each entry whose key is in the range, once for each,
@@ -70,8 +103,14 @@ impl<K: Ord + Drop, V, A: Allocator + Copy> Locked<K, V, BTreeMap<K, Arc<V, A>, 
     )
         requires forward { G.is_forward range (IsLeBy K.cmp) (IsLtBy K.cmp) }
         requires callable { F.IsAlwaysCallable f }
+        ensures { AtAMoment (eq_by_cmp K.cmp) (IsStrictlySortedBy K.cmp) R.holds (λ es.
+            G.has_bounds range → VisitsAll F.FnMut f
+            (entries_between K.cmp (G.start_bound range) (G.end_bound range) es)) }
     {
-        self.lock.read(rt).for_each_in_range(range, f)
+        let guard = self.lock.read(rt);
+        let state = &*guard;
+        state.obeys_rule();
+        state.for_each_in_range(range, f);
     }
 
     /// Returns a clone of each key, each once, in ascending order. The keys' `Clone` runs while
@@ -89,8 +128,13 @@ impl<K: Ord + Drop, V, A: Allocator + Copy> Locked<K, V, BTreeMap<K, Arc<V, A>, 
     where
         K: Clone,
         requires { CloneIsEqual K.is_clone K.eq }
+        ensures { IfOk result (λ v. AtAMoment (eq_by_cmp K.cmp) (IsStrictlySortedBy K.cmp) R.holds
+            (λ es. AllZip K.is_clone (keys_of es) v.items)) }
     {
-        self.lock.read(rt).keys_cloned()
+        let guard = self.lock.read(rt);
+        let state = &*guard;
+        state.obeys_rule();
+        state.keys_cloned()
     }
 
     /// Returns a clone of the least key and an `Arc` of its value, or `None` if the map is empty.
@@ -111,8 +155,13 @@ impl<K: Ord + Drop, V, A: Allocator + Copy> Locked<K, V, BTreeMap<K, Arc<V, A>, 
     where
         K: Clone,
         V: Drop,
+        ensures { IfOk result (λ a. AtAMoment (eq_by_cmp K.cmp) (IsStrictlySortedBy K.cmp) R.holds
+            (λ es. MatchOption a (es ≡ []) (IsCopyOf K.is_clone (slice_get es 0)))) }
     {
-        self.lock.read(rt).first_key_value_cloned()
+        let guard = self.lock.read(rt);
+        let state = &*guard;
+        state.obeys_rule();
+        state.first_key_value_cloned()
     }
 
     /// Returns a clone of the greatest key and an `Arc` of its value, or `None` if the map is
@@ -133,8 +182,14 @@ impl<K: Ord + Drop, V, A: Allocator + Copy> Locked<K, V, BTreeMap<K, Arc<V, A>, 
     where
         K: Clone,
         V: Drop,
+        ensures { IfOk result (λ a. AtAMoment (eq_by_cmp K.cmp) (IsStrictlySortedBy K.cmp) R.holds
+            (λ es. MatchOption a (es ≡ [])
+            (IsCopyOf K.is_clone (slice_get es (length es - 1))))) }
     {
-        self.lock.read(rt).last_key_value_cloned()
+        let guard = self.lock.read(rt);
+        let state = &*guard;
+        state.obeys_rule();
+        state.last_key_value_cloned()
     }
 
     /// Makes a map with the same content, which shares the values. Later insertions into one of the
@@ -206,14 +261,23 @@ impl<K: Ord + Drop, V: Drop, A: Allocator + Copy> Locked<K, V, BTreeMap<K, Arc<V
             lock: RwLock::new(made),
         })
     }
+}
 
+impl<K: Ord + Drop, V: Drop, A: Allocator + Copy, R: EntryRule<K, V>> Locked<
+    K,
+    V,
+    BTreeMap<K, Arc<V, A>, A>,
+    A,
+    R,
+> {
     /// Returns the entries, each once, in ascending order of the keys. It takes no lock, since the
     /// caller owns the map.
     ///
     /// # Errors
     /// Fails if an allocation fails. The map is then dropped.
     pub fn into_tuple_vec(self) -> Result<Vec<(K, Arc<V, A>), A>, AllocError>
-        ensures { IfOk result (λ v. IsStrictlySortedBy K.cmp (keys_of v.items)) }
+        ensures ascending { IfOk result (λ v. IsStrictlySortedBy K.cmp (keys_of v.items)) }
+        ensures rule { IfOk result (λ v. IsKept (eq_by_cmp K.cmp) R.holds (shown v.items)) }
     {
         let Locked { lock } = self;
         lock.into_inner().into_tuple_vec()

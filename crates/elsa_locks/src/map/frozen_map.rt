@@ -2,9 +2,13 @@
 ghost use Rattle.std.specs.Prelude.{IfOk};
 ghost use Rattle.std.specs.List.{IsDistinct};
 ghost use Rattle.std.specs.Map.{keys_of};
-ghost use Rattle.elsa_specs.specs.FirstWins.{CloneIsEqual};
+ghost use Rattle.elsa_specs.specs.FirstWins.{value_at, CloneIsEqual, IsKeys};
+ghost use Rattle.elsa_locks.specs.Shared.{shown, AtAMoment};
+ghost use Rattle.elsa_locks.specs.Walks.{VisitsAll};
+ghost use Rattle.elsa_tables.specs.Rules.{IsKept};
 
 use super::{Locked, MapState};
+use elsa_tables::{AnyEntries, EntryRule};
 use std::alloc::{AllocError, Allocator, Global};
 use std::collections::HashMap;
 use std::hash::{BuildHasher, BuildHasherDefault, FoldHasher, Hash};
@@ -14,53 +18,28 @@ use std::sync::{Arc, RwLock, Wait};
 /// what runs under the lock.
 ///
 /// Each call makes the call of the same name on a [`MapState`]. `S` builds the hasher. If the keys
-/// are untrusted input, use a `SeededState` of `elsa`.
-pub type FrozenMap<K, V, S = BuildHasherDefault<FoldHasher>, A = Global> = Locked<
+/// are untrusted input, use a `SeededState` of `elsa`. `R` is a rule of the entries
+/// ([`EntryRule`]).
+pub type FrozenMap<K, V, S = BuildHasherDefault<FoldHasher>, A = Global, R = AnyEntries> = Locked<
     K,
     V,
     HashMap<K, Arc<V, A>, S, A>,
     A,
+    R,
 >;
 
-impl<K: Eq + Hash + Drop, V, A: Allocator + Copy> Locked<
-    K,
-    V,
-    HashMap<K, Arc<V, A>, BuildHasherDefault<FoldHasher>, A>,
-    A,
-> {
-    /// Makes an empty map. It allocates nothing and takes no lock.
-    pub fn new(alloc: A) -> Self {
-        Locked {
-            lock: RwLock::new(MapState::new(alloc)),
-        }
-    }
-
-    /// Returns the entries, each once, in an unspecified order. It takes no lock, since the caller
-    /// owns the map.
-    ///
-    /// # Errors
-    /// Fails if an allocation fails. The map is then dropped.
-    pub fn into_tuple_vec(self) -> Result<Vec<(K, Arc<V, A>), A>, AllocError>
-    where
-        V: Drop,
-        ensures { IfOk result (λ v. IsDistinct K.eq (keys_of v.items)) }
-    {
-        let Locked { lock } = self;
-        lock.into_inner().into_tuple_vec()
-    }
-}
-
-impl<K: Eq + Hash + Drop, V, S: BuildHasher, A: Allocator + Copy> Locked<
+impl<K: Eq + Hash + Drop, V, S: BuildHasher, A: Allocator + Copy, R: EntryRule<K, V>> Locked<
     K,
     V,
     HashMap<K, Arc<V, A>, S, A>,
     A,
+    R,
 > {
-    /// Makes an empty map that hashes its keys by `hash_builder`. It allocates nothing and takes no
-    /// lock.
-    pub fn with_hasher(alloc: A, hash_builder: S) -> Self {
+    /// Makes an empty map with a rule of its entries, which hashes its keys by `hash_builder`. It
+    /// allocates nothing and takes no lock.
+    pub fn with_rule(alloc: A, hash_builder: S) -> Self {
         Locked {
-            lock: RwLock::new(MapState::with_hasher(alloc, hash_builder)),
+            lock: RwLock::new(MapState::with_rule(alloc, hash_builder)),
         }
     }
 
@@ -77,8 +56,12 @@ impl<K: Eq + Hash + Drop, V, S: BuildHasher, A: Allocator + Copy> Locked<
     /// `O(n)`.
     pub fn for_each<F: FnMut(&K, &V) + Drop>(&self, rt: &impl Wait, f: F)
         requires { F.IsAlwaysCallable f }
+        ensures { AtAMoment K.eq (λ _. Unit {0}) R.holds (VisitsAll F.FnMut f) }
     {
-        self.lock.read(rt).for_each(f)
+        let guard = self.lock.read(rt);
+        let state = &*guard;
+        state.obeys_rule();
+        state.for_each(f);
     }
 
     /// Returns a clone of each key, each once, in an unspecified order. The keys' `Clone` runs
@@ -96,8 +79,13 @@ impl<K: Eq + Hash + Drop, V, S: BuildHasher, A: Allocator + Copy> Locked<
     where
         K: Clone,
         requires { CloneIsEqual K.is_clone K.eq }
+        ensures { IfOk result (λ v. AtAMoment K.eq (λ _. Unit {0}) R.holds (λ es.
+            IsKeys K.eq (value_at K.eq es) v.items)) }
     {
-        self.lock.read(rt).keys_cloned()
+        let guard = self.lock.read(rt);
+        let state = &*guard;
+        state.obeys_rule();
+        state.keys_cloned()
     }
 
     /// Makes a map with the same content, which shares the values. Later insertions into one of the
@@ -150,5 +138,57 @@ impl<K: Eq + Hash + Drop, V, S: BuildHasher, A: Allocator + Copy> Locked<
         let copied = self.lock.read(rt).copy()?;
         let equal = other.lock.read(rt).same(&copied);
         Ok(equal)
+    }
+}
+
+impl<K: Eq + Hash + Drop, V, A: Allocator + Copy> Locked<
+    K,
+    V,
+    HashMap<K, Arc<V, A>, BuildHasherDefault<FoldHasher>, A>,
+    A,
+> {
+    /// Makes an empty map. It allocates nothing and takes no lock.
+    pub fn new(alloc: A) -> Self {
+        Locked {
+            lock: RwLock::new(MapState::new(alloc)),
+        }
+    }
+}
+
+impl<K: Eq + Hash + Drop, V, S: BuildHasher, A: Allocator + Copy> Locked<
+    K,
+    V,
+    HashMap<K, Arc<V, A>, S, A>,
+    A,
+> {
+    /// Makes an empty map that hashes its keys by `hash_builder`. It allocates nothing and takes no
+    /// lock.
+    pub fn with_hasher(alloc: A, hash_builder: S) -> Self {
+        Locked {
+            lock: RwLock::new(MapState::with_hasher(alloc, hash_builder)),
+        }
+    }
+}
+
+impl<K: Eq + Hash + Drop, V, A: Allocator + Copy, R: EntryRule<K, V>> Locked<
+    K,
+    V,
+    HashMap<K, Arc<V, A>, BuildHasherDefault<FoldHasher>, A>,
+    A,
+    R,
+> {
+    /// Returns the entries, each once, in an unspecified order. It takes no lock, since the caller
+    /// owns the map.
+    ///
+    /// # Errors
+    /// Fails if an allocation fails. The map is then dropped.
+    pub fn into_tuple_vec(self) -> Result<Vec<(K, Arc<V, A>), A>, AllocError>
+    where
+        V: Drop,
+        ensures distinct { IfOk result (λ v. IsDistinct K.eq (keys_of v.items)) }
+        ensures rule { IfOk result (λ v. IsKept K.eq R.holds (shown v.items)) }
+    {
+        let Locked { lock } = self;
+        lock.into_inner().into_tuple_vec()
     }
 }

@@ -4,10 +4,12 @@ ghost use Rattle.std.specs.List.{IsDistinct, AllZip};
 ghost use Rattle.std.specs.Map.{keys_of};
 ghost use Rattle.elsa_specs.specs.FirstWins.{value_at, IsSameContent, IsEqualMap, IsKeys, CloneIsEqual};
 ghost use Rattle.elsa_locks.specs.Shared.{shown};
+ghost use Rattle.elsa_tables.specs.Rules.{IsKept};
 ghost use Rattle.elsa_locks.specs.Walks.{VisitsAll};
 
 use super::State;
 use super::walks::visit;
+use elsa_tables::{AnyEntries, EntryRule};
 use std::alloc::{AllocError, Allocator, Global};
 use std::collections::HashMap;
 use std::hash::{BuildHasher, BuildHasherDefault, FoldHasher, Hash};
@@ -18,11 +20,13 @@ use std::sync::Arc;
 ///
 /// Contracts see the list of its entries, in an unspecified order, with each value instead of its
 /// `Arc`. `S` builds the hasher. `A` allocates the table and each `Arc`.
-pub type MapState<K, V, S = BuildHasherDefault<FoldHasher>, A = Global> = State<
+/// `R` is a rule of the entries ([`EntryRule`]).
+pub type MapState<K, V, S = BuildHasherDefault<FoldHasher>, A = Global, R = AnyEntries> = State<
     K,
     V,
     HashMap<K, Arc<V, A>, S, A>,
     A,
+    R,
 >;
 
 impl<K: Eq + Hash + Drop, V, A: Allocator + Copy> State<
@@ -35,41 +39,20 @@ impl<K: Eq + Hash + Drop, V, A: Allocator + Copy> State<
     pub fn new(alloc: A) -> Self
         ensures { result ≡ [] }
     {
-        State::over(alloc, HashMap::new(alloc))
-    }
-
-    /// Returns the entries, each once, in an unspecified order.
-    ///
-    /// # Errors
-    /// Fails if an allocation fails. The map is then dropped.
-    #[tactic(auto, using(crate::proofs::Shared::shows))]
-    pub fn into_tuple_vec(self) -> Result<Vec<(K, Arc<V, A>), A>, AllocError>
-    where
-        V: Drop,
-        ensures pairs { IfOk result (λ v. shown v.items ≡ self) }
-        ensures distinct { IfOk result (λ v. IsDistinct K.eq (keys_of v.items)) }
-    {
-        let State {
-            table,
-            alloc,
-            of: _of,
-        } = self;
-        let mut pairs = Vec::with_capacity(alloc, table.len())?;
-        for pair in table {
-            pairs.push(pair)?;
-        }
-        Ok(pairs)
+        MapState::with_rule(alloc, BuildHasherDefault::new())
     }
 }
 
-impl<K: Eq + Hash + Drop, V, S: BuildHasher, A: Allocator + Copy> State<
+impl<K: Eq + Hash + Drop, V, S: BuildHasher, A: Allocator + Copy, R: EntryRule<K, V>> State<
     K,
     V,
     HashMap<K, Arc<V, A>, S, A>,
     A,
+    R,
 > {
-    /// Makes an empty map that hashes its keys by `hash_builder`. It allocates nothing.
-    pub fn with_hasher(alloc: A, hash_builder: S) -> Self
+    /// Makes an empty map with a rule of its entries, which hashes its keys by `hash_builder`. It
+    /// allocates nothing.
+    pub fn with_rule(alloc: A, hash_builder: S) -> Self
         ensures { result ≡ [] }
     {
         State::over(alloc, HashMap::with_hasher(alloc, hash_builder))
@@ -143,5 +126,52 @@ impl<K: Eq + Hash + Drop, V, S: BuildHasher, A: Allocator + Copy> State<
         ensures { IsTrue result ↔ IsEqualMap K.eq V.eq self.now other.now }
     {
         self.table == other.table
+    }
+}
+
+impl<K: Eq + Hash + Drop, V, S: BuildHasher, A: Allocator + Copy> State<
+    K,
+    V,
+    HashMap<K, Arc<V, A>, S, A>,
+    A,
+> {
+    /// Makes an empty map that hashes its keys by `hash_builder`. It allocates nothing.
+    pub fn with_hasher(alloc: A, hash_builder: S) -> Self
+        ensures { result ≡ [] }
+    {
+        MapState::with_rule(alloc, hash_builder)
+    }
+}
+
+impl<K: Eq + Hash + Drop, V, A: Allocator + Copy, R: EntryRule<K, V>> State<
+    K,
+    V,
+    HashMap<K, Arc<V, A>, BuildHasherDefault<FoldHasher>, A>,
+    A,
+    R,
+> {
+    /// Returns the entries, each once, in an unspecified order.
+    ///
+    /// # Errors
+    /// Fails if an allocation fails. The map is then dropped.
+    #[tactic(auto, using(crate::proofs::Shared::shows))]
+    pub fn into_tuple_vec(self) -> Result<Vec<(K, Arc<V, A>), A>, AllocError>
+    where
+        V: Drop,
+        ensures pairs { IfOk result (λ v. shown v.items ≡ self) }
+        ensures distinct { IfOk result (λ v. IsDistinct K.eq (keys_of v.items)) }
+        ensures rule { IfOk result (λ v. IsKept K.eq R.holds (shown v.items)) }
+    {
+        self.obeys_rule();
+        let State {
+            table,
+            alloc,
+            of: _of,
+        } = self;
+        let mut pairs = Vec::with_capacity(alloc, table.len())?;
+        for pair in table {
+            pairs.push(pair)?;
+        }
+        Ok(pairs)
     }
 }

@@ -1,8 +1,12 @@
 //! The map under a lock, over any table.
-ghost use Rattle.std.specs.Prelude.{◌≡◌, Some, true, is_some};
+ghost use Rattle.std.specs.Prelude.{◌≡◌, ◌↔◌, [], Some, true, is_some, length, IfOk, IfSome, IsTrue};
+ghost use Rattle.std.specs.Arc.{arc_value};
+ghost use Rattle.std.specs.Fn.{FnOnceReturnsAt, FnOnceTakesAt};
+ghost use Rattle.elsa_tables.specs.Rules.{HoldsAt};
+ghost use Rattle.elsa_locks.specs.Shared.{AtAMoment};
 
 use super::State;
-use elsa_tables::{Inserted, Seeks, Table};
+use elsa_tables::{AnyEntries, EntryRule, Seeks, Table};
 use std::alloc::{AllocError, Allocator, Global};
 use std::fmt::{self, Debug, Formatter, Write};
 use std::sync::{Arc, RwLock, Wait};
@@ -23,11 +27,11 @@ use std::sync::{Arc, RwLock, Wait};
 /// [`FrozenMap`](super::FrozenMap) is its name over a hash table, and
 /// [`FrozenBTreeMap`](super::FrozenBTreeMap) over an ordered table.
 #[derive(Drop)]
-pub struct Locked<K, V, T, A: Allocator = Global>
+pub struct Locked<K, V, T, A: Allocator = Global, R: EntryRule<K, V> = AnyEntries>
 where
     T: Table<K, Arc<V, A>>,
 {
-    pub(super) lock: RwLock<State<K, V, T, A>>,
+    pub(super) lock: RwLock<State<K, V, T, A, R>>,
 }
 
 /// Takes the value out of the option.
@@ -41,10 +45,23 @@ pub(super) fn take<X>(given: &mut Option<X>) -> X
     }
 }
 
-impl<K, V, T, A: Allocator + Copy> Locked<K, V, T, A>
+impl<K, V, T, A: Allocator + Copy, R: EntryRule<K, V>> Locked<K, V, T, A, R>
 where
     T: Table<K, Arc<V, A>>,
 {
+    /// Makes a map of a state. It allocates nothing and takes no lock.
+    pub fn over(state: State<K, V, T, A, R>) -> Self {
+        Locked {
+            lock: RwLock::new(state),
+        }
+    }
+
+    /// Returns the state. It takes no lock, since the caller owns the map.
+    pub fn into_state(self) -> State<K, V, T, A, R> {
+        let Locked { lock } = self;
+        lock.into_inner()
+    }
+
     /// Returns an `Arc` of the value at the key that `query` finds, or `None` if the map has no
     /// such key.
     ///
@@ -60,8 +77,13 @@ where
     where
         Q: Seeks<K, Arc<V, A>, T>,
         V: Drop,
+        ensures { IfOk result (λ found. IfSome found (λ a.
+            HoldsAt R.holds (Q.finds query) (arc_value a))) }
     {
-        self.lock.read(rt).get(query)
+        let guard = self.lock.read(rt);
+        let state = &*guard;
+        state.obeys_rule();
+        state.get(query)
     }
 
     /// Calls `f` once, with the value at the key that `query` finds, and returns the result.
@@ -72,18 +94,26 @@ where
     ///
     /// # Blocks
     /// While a thread writes or waits to write.
-    pub fn map_get<R, Q, F>(&self, rt: &impl Wait, query: Q, f: F) -> Option<R>
+    pub fn map_get<X, Q, F>(&self, rt: &impl Wait, query: Q, f: F) -> Option<X>
     where
         Q: Seeks<K, Arc<V, A>, T>,
-        F: FnOnce(&V) -> R + Drop,
+        F: FnOnce(&V) -> X + Drop,
         V: Drop,
-        requires { F.IsAlwaysCallable f }
+        requires { (v : V) → HoldsAt R.holds (Q.finds query) v → FnOnceTakesAt F.FnOnce f v }
+        ensures { IfSome result (λ r.
+            (v : V) × HoldsAt R.holds (Q.finds query) v × FnOnceReturnsAt F.FnOnce f v r) }
     {
-        let found = self.lock.read(rt).get(query);
-        match found {
-            Ok(None) => None,
-            Ok(Some(owner)) => Some(f(&*owner)),
-            Err(_) => self.lock.read(rt).map_get(query, f),
+        match self.get(rt, query) {
+            Ok(found) => match found {
+                Some(owner) => Some(f(&*owner)),
+                None => None,
+            },
+            Err(_) => {
+                let guard = self.lock.read(rt);
+                let state = &*guard;
+                state.obeys_rule();
+                state.map_get(query, f)
+            }
         }
     }
 
@@ -95,26 +125,45 @@ where
     pub fn get_copy<Q: Seeks<K, Arc<V, A>, T>>(&self, rt: &impl Wait, query: Q) -> Option<V>
     where
         V: Copy,
+        ensures { IfSome result (HoldsAt R.holds (Q.finds query)) }
     {
-        self.lock.read(rt).get_copy(query)
+        let guard = self.lock.read(rt);
+        let state = &*guard;
+        state.obeys_rule();
+        state.get_copy(query)
     }
 
     /// Returns the number of entries. It allocates nothing.
     ///
     /// # Blocks
     /// While a thread writes or waits to write.
-    pub fn len(&self, rt: &impl Wait) -> usize {
-        self.lock.read(rt).len()
+    pub fn len(&self, rt: &impl Wait) -> usize
+        ensures { AtAMoment T.same T.in_order R.holds (λ es. result ≡ length es) }
+    {
+        let guard = self.lock.read(rt);
+        let state = &*guard;
+        state.obeys_rule();
+        state.len()
     }
 
     /// Returns whether the map has no entry. It allocates nothing.
     ///
     /// # Blocks
     /// While a thread writes or waits to write.
-    pub fn is_empty(&self, rt: &impl Wait) -> bool {
-        self.lock.read(rt).is_empty()
+    pub fn is_empty(&self, rt: &impl Wait) -> bool
+        ensures { AtAMoment T.same T.in_order R.holds (λ es. IsTrue result ↔ (es ≡ [])) }
+    {
+        let guard = self.lock.read(rt);
+        let state = &*guard;
+        state.obeys_rule();
+        state.is_empty()
     }
+}
 
+impl<K, V, T, A: Allocator + Copy> Locked<K, V, T, A>
+where
+    T: Table<K, Arc<V, A>>,
+{
     /// Returns the table, borrowed for writing: the caller may change or remove any entry. It takes
     /// no lock, since the caller has the only reference to the map.
     pub fn as_mut(&mut self) -> &mut T {
@@ -122,7 +171,7 @@ where
     }
 }
 
-impl<K, V: Drop, T, A: Allocator + Copy> Locked<K, V, T, A>
+impl<K, V: Drop, T, A: Allocator + Copy, R: EntryRule<K, V>> Locked<K, V, T, A, R>
 where
     T: Table<K, Arc<V, A>>,
 {
@@ -138,8 +187,11 @@ where
     ///
     /// # Blocks
     /// While another thread has the lock.
-    pub fn insert(&self, rt: &impl Wait, key: K, value: V) -> Result<Arc<V, A>, AllocError> {
-        Ok(self.insert_new(rt, key, value)?.value)
+    pub fn insert(&self, rt: &impl Wait, key: K, value: V) -> Result<Arc<V, A>, AllocError>
+        requires { R.holds key value }
+        ensures { IfOk result (λ a. HoldsAt R.holds (T.same key) (arc_value a)) }
+    {
+        Ok(self.insert_new(rt, key, value)?.0)
     }
 
     /// Inserts the value unless the map has the key. Returns an `Arc` of the value that the key
@@ -155,13 +207,19 @@ where
         rt: &impl Wait,
         key: K,
         value: V,
-    ) -> Result<Inserted<Arc<V, A>>, AllocError> {
+    ) -> Result<(Arc<V, A>, bool), AllocError>
+        requires { R.holds key value }
+        ensures holds { IfOk result (λ r. HoldsAt R.holds (T.same key) (arc_value r.0)) }
+        ensures own_value { IfOk result (λ r. r.1 ≡ true → arc_value r.0 ≡ value) }
+    {
         let mut given = Some(value);
         let make = |_key: &K| -> V
             requires { is_some given ≡ true }
+            ensures { given.entry ≡ Some result }
         { take(&mut given) };
-        let answer = self.lock.write(rt).insert_with_key(key, make);
-        answer
+        let answer = self.lock.write(rt).put_with_key(key, make);
+        let done = answer?;
+        Ok((done.value, done.is_new))
     }
 
     /// Inserts the result of `f` unless the map has the key, and returns an `Arc` of the value that
@@ -181,14 +239,17 @@ where
         key: K,
         f: F,
     ) -> Result<Arc<V, A>, AllocError>
-        requires { F.IsAlwaysCallable f }
+        requires callable { F.IsAlwaysCallable f }
+        requires holds { (v : V) → F.post f v → R.holds key v }
+        ensures { IfOk result (λ r. HoldsAt R.holds (T.same key) (arc_value r)) }
     {
         let mut given = Some(f);
-        let make = |_key: &K| -> V
+        let make = || -> V
             requires { (is_some given ≡ true) × ((g : F) → given ≡ Some g → F.pre g) }
+            ensures { (g : F) → given.entry ≡ Some g → F.post g result }
         { take(&mut given)() };
-        let answer = self.lock.write(rt).insert_with_key(key, make);
-        Ok(answer?.value)
+        let answer = self.lock.write(rt).insert_with(key, make);
+        answer
     }
 
     /// Inserts the result of `f` unless the map has the key, and returns an `Arc` of the value that
@@ -206,18 +267,21 @@ where
         key: K,
         f: F,
     ) -> Result<Arc<V, A>, AllocError>
-        requires { F.IsAlwaysCallable f }
+        requires callable { F.IsAlwaysCallable f }
+        requires holds { (v : V) → FnOnceReturnsAt F.FnOnce f key v → R.holds key v }
+        ensures { IfOk result (λ r. HoldsAt R.holds (T.same key) (arc_value r)) }
     {
         let mut given = Some(f);
         let make = |key: &K| -> V
             requires { (is_some given ≡ true) × ((g : F) → given ≡ Some g → F.pre g key) }
+            ensures { (g : F) → given.entry ≡ Some g → F.post g key.entry result }
         { take(&mut given)(key) };
         let answer = self.lock.write(rt).insert_with_key(key, make);
-        Ok(answer?.value)
+        answer
     }
 }
 
-impl<K, V: Copy, T, A: Allocator + Copy> Locked<K, V, T, A>
+impl<K, V: Copy, T, A: Allocator + Copy, R: EntryRule<K, V>> Locked<K, V, T, A, R>
 where
     T: Table<K, Arc<V, A>>,
 {
@@ -230,9 +294,11 @@ where
     ///
     /// # Blocks
     /// While another thread has the lock.
-    pub fn get_copy_or_insert(&self, rt: &impl Wait, key: K, value: V) -> Result<V, AllocError> {
-        let answer = self.lock.write(rt).get_copy_or_insert(key, value);
-        Ok(answer?.value)
+    pub fn get_copy_or_insert(&self, rt: &impl Wait, key: K, value: V) -> Result<V, AllocError>
+        requires { R.holds key value }
+        ensures { IfOk result (HoldsAt R.holds (T.same key)) }
+    {
+        self.lock.write(rt).get_copy_or_insert(key, value)
     }
 
     /// Inserts the result of `f` unless the map has the key, and returns a copy of the value that
@@ -252,14 +318,17 @@ where
         key: K,
         f: F,
     ) -> Result<V, AllocError>
-        requires { F.IsAlwaysCallable f }
+        requires callable { F.IsAlwaysCallable f }
+        requires holds { (v : V) → F.post f v → R.holds key v }
+        ensures { IfOk result (HoldsAt R.holds (T.same key)) }
     {
         let mut given = Some(f);
-        let make = |_key: &K| -> V
+        let make = || -> V
             requires { (is_some given ≡ true) × ((g : F) → given ≡ Some g → F.pre g) }
+            ensures { (g : F) → given.entry ≡ Some g → F.post g result }
         { take(&mut given)() };
-        let answer = self.lock.write(rt).get_copy_or_insert_with_key(key, make);
-        Ok(answer?.value)
+        let answer = self.lock.write(rt).get_copy_or_insert_with(key, make);
+        answer
     }
 
     /// Inserts the result of `f` unless the map has the key, and returns a copy of the value that
@@ -277,20 +346,23 @@ where
         key: K,
         f: F,
     ) -> Result<V, AllocError>
-        requires { F.IsAlwaysCallable f }
+        requires callable { F.IsAlwaysCallable f }
+        requires holds { (v : V) → FnOnceReturnsAt F.FnOnce f key v → R.holds key v }
+        ensures { IfOk result (HoldsAt R.holds (T.same key)) }
     {
         let mut given = Some(f);
         let make = |key: &K| -> V
             requires { (is_some given ≡ true) × ((g : F) → given ≡ Some g → F.pre g key) }
+            ensures { (g : F) → given.entry ≡ Some g → F.post g key.entry result }
         { take(&mut given)(key) };
         let answer = self.lock.write(rt).get_copy_or_insert_with_key(key, make);
-        Ok(answer?.value)
+        answer
     }
 }
 
 /// Writes the entries by `{:?}`, in the table's order, as the table does, under the read lock. If
 /// an insertion has the lock or waits for it, it writes `<locked>`. It never blocks.
-impl<K, V, T, A: Allocator> Debug for Locked<K, V, T, A>
+impl<K, V, T, A: Allocator, R: EntryRule<K, V>> Debug for Locked<K, V, T, A, R>
 where
     T: Table<K, Arc<V, A>> + Debug,
 {

@@ -9,11 +9,13 @@ ghost use Rattle.std.specs.Map.{keys_of};
 ghost use Rattle.std.specs.Ordering.{eq_by_cmp};
 ghost use Rattle.elsa_specs.specs.FirstWins.{value_at, IsSameContent, IsEqualMap, IsCollected, IsKeys, CloneIsEqual};
 ghost use Rattle.elsa_locks.specs.Shared.{shown};
+ghost use Rattle.elsa_tables.specs.Rules.{IsKept};
 ghost use Rattle.elsa_locks.specs.Walks.{VisitsAll, IsCopyOf};
 
 use super::State;
 use super::walks::{copied_entry, visit};
 use elsa_specs::for_its_clause;
+use elsa_tables::{AnyEntries, EntryRule};
 use std::alloc::{AllocError, Allocator, Global};
 use std::collections::BTreeMap;
 use std::ops::RangeBounds;
@@ -24,7 +26,8 @@ use std::sync::Arc;
 ///
 /// Contracts see the list of its entries, in ascending order of the keys, with each value instead
 /// of its `Arc`. `A` allocates the tree and each `Arc`.
-pub type TreeState<K, V, A = Global> = State<K, V, BTreeMap<K, Arc<V, A>, A>, A>;
+/// `R` is a rule of the entries ([`EntryRule`]).
+pub type TreeState<K, V, A = Global, R = AnyEntries> = State<K, V, BTreeMap<K, Arc<V, A>, A>, A, R>;
 
 /// Stores an `Arc` at a key, and replaces the earlier one if there is one.
 ///
@@ -51,7 +54,7 @@ impl<K: Ord + Drop, V, A: Allocator + Copy> State<K, V, BTreeMap<K, Arc<V, A>, A
     pub fn new(alloc: A) -> Self
         ensures { result ≡ [] }
     {
-        State::over(alloc, BTreeMap::new(alloc))
+        TreeState::with_rule(alloc)
     }
 
     /// Makes a map with the entries of `map`. It allocates nothing; later insertions use `alloc`.
@@ -59,6 +62,21 @@ impl<K: Ord + Drop, V, A: Allocator + Copy> State<K, V, BTreeMap<K, Arc<V, A>, A
         ensures { result ≡ shown map.entries }
     {
         State::over(alloc, map)
+    }
+}
+
+impl<K: Ord + Drop, V, A: Allocator + Copy, R: EntryRule<K, V>> State<
+    K,
+    V,
+    BTreeMap<K, Arc<V, A>, A>,
+    A,
+    R,
+> {
+    /// Makes an empty map with a rule of its entries. It allocates nothing.
+    pub fn with_rule(alloc: A) -> Self
+        ensures { result ≡ [] }
+    {
+        State::over(alloc, BTreeMap::new(alloc))
     }
 
     /// Calls `f` with the key and the value of each entry, once for each, in ascending order of the
@@ -213,7 +231,15 @@ impl<K: Ord + Drop, V: Drop, A: Allocator + Copy> State<K, V, BTreeMap<K, Arc<V,
         }
         Ok(State::over(alloc, table))
     }
+}
 
+impl<K: Ord + Drop, V: Drop, A: Allocator + Copy, R: EntryRule<K, V>> State<
+    K,
+    V,
+    BTreeMap<K, Arc<V, A>, A>,
+    A,
+    R,
+> {
     /// Returns the entries, each once, in ascending order of the keys.
     ///
     /// # Errors
@@ -222,7 +248,9 @@ impl<K: Ord + Drop, V: Drop, A: Allocator + Copy> State<K, V, BTreeMap<K, Arc<V,
     pub fn into_tuple_vec(self) -> Result<Vec<(K, Arc<V, A>), A>, AllocError>
         ensures pairs { IfOk result (λ v. shown v.items ≡ self) }
         ensures ascending { IfOk result (λ v. IsStrictlySortedBy K.cmp (keys_of v.items)) }
+        ensures rule { IfOk result (λ v. IsKept (eq_by_cmp K.cmp) R.holds (shown v.items)) }
     {
+        self.obeys_rule();
         let State {
             table,
             alloc,

@@ -1,10 +1,16 @@
 //! Insertion by a text into the maps whose keys are `String`s.
+ghost use Rattle.std.specs.Prelude.{◌≡◌, ◌⊎◌, IfOk};
+ghost use Rattle.std.specs.Arc.{arc_value};
+ghost use Rattle.std.specs.String.{string_bytes};
+ghost use Rattle.elsa_locks.specs.Shared.{HoldsAtText, HoldsOfText};
+ghost use Rattle.elsa_tables.specs.Rules.{HoldsAt};
+
 use super::Locked;
-use elsa_tables::{Seeks, Table};
+use elsa_tables::{EntryRule, Seeks, Table};
 use std::alloc::{AllocError, Allocator};
 use std::sync::{Arc, Wait};
 
-impl<V: Drop, T, A: Allocator + Copy> Locked<String<A>, V, T, A>
+impl<V: Drop, T, A: Allocator + Copy, R: EntryRule<String<A>, V>> Locked<String<A>, V, T, A, R>
 where
     T: Table<String<A>, Arc<V, A>>,
 {
@@ -29,6 +35,10 @@ where
     ) -> Result<Arc<V, A>, AllocError>
     where
         &'q str: Seeks<String<A>, Arc<V, A>, T>,
+        requires { HoldsOfText string_bytes R.holds key.now value }
+        ensures { IfOk result (λ a.
+            HoldsAt R.holds (⟦<&'q str as Seeks<String<A>, Arc<V, A>, T>>⟧.finds key.entry) (arc_value a)
+            ⊎ HoldsAtText string_bytes T.same R.holds key.now (arc_value a)) }
     {
         let found = self.get(rt, key)?;
         if let Some(there) = found {

@@ -1,5 +1,6 @@
 //! The vector under a lock, and an iterator over it.
 ghost use Rattle.std.specs.Prelude.{◌≡◌, ◌+◌, IfOk, OnErr, IfSome, IfNone, MatchOption};
+ghost use Rattle.std.specs.Arc.{arc_value};
 
 use super::VecState;
 use std::alloc::{AllocError, Allocator, Global};
@@ -93,7 +94,9 @@ impl<V: Drop, A: Allocator + Copy> FrozenVec<V, A> {
     ///
     /// # Blocks
     /// While another thread has the lock.
-    pub fn push_get(&self, rt: &impl Wait, value: V) -> Result<Arc<V, A>, AllocError> {
+    pub fn push_get(&self, rt: &impl Wait, value: V) -> Result<Arc<V, A>, AllocError>
+        ensures own_value { IfOk result (λ a. arc_value a ≡ value) }
+    {
         self.lock.write(rt).push_get(value)
     }
 

@@ -4,10 +4,9 @@ ghost use Rattle.std.specs.Cmp.{IsEquivalence};
 ghost use Rattle.std.specs.List.{IsDistinct};
 ghost use Rattle.std.specs.Map.{keys_of};
 ghost use Rattle.elsa_maps.specs.FirstWins.{AddsNew, IsRefused, value_at};
-ghost use Rattle.elsa_tables.specs.Tables.{was_present};
 
 use super::Frozen;
-use elsa_tables::{Inserted, Table};
+use elsa_tables::Table;
 use elsa_vec::stable::StableDeref;
 use std::alloc::{AllocError, Allocator};
 
@@ -47,15 +46,15 @@ pub trait MapForm<R> {
         &mut self,
         key: Self::Key,
         value: Self::Value,
-    ) -> Result<Inserted<<Self::Value as StableDeref<R>>::Borrow>, AllocError>
+    ) -> Result<(<Self::Value as StableDeref<R>>::Borrow, bool), AllocError>
         ensures present { (x : Self.Value.Borrow) → value_at same (entries self.old) key ≡ Some x →
-            (result ≡ Ok (was_present x)) × (entries self.new ≡ entries self.old) }
-        ensures value_after { IfOk result (λ r. value_at same (entries self.new) key ≡ Some r.value) }
+            (result ≡ Ok (x, false)) × (entries self.new ≡ entries self.old) }
+        ensures value_after { IfOk result (λ r. value_at same (entries self.new) key ≡ Some r.0) }
         ensures added { value_at same (entries self.old) key ≡ None →
-            IfOk result (λ r. (r.is_new ≡ true) × AddsNew same Self.Value.target Self.Value.shown
-            (entries self.old) key value r.value (entries self.new)) }
+            IfOk result (λ r. (r.1 ≡ true) × AddsNew same Self.Value.target Self.Value.shown
+            (entries self.old) key value r.0 (entries self.new)) }
         ensures new_entry { value_at same (entries self.old) key ≡ None →
-            IfOk result (λ r. extends (entries self.old) key r.value (entries self.new)) }
+            IfOk result (λ r. extends (entries self.old) key r.0 (entries self.new)) }
         ensures refused { OnErr result (IsRefused same (entries self.old) key (entries self.new)) };
 
     /// Inserts the value unless the map has an equal key, and returns the value that the key then
@@ -119,7 +118,7 @@ where
 
     ghost extends = { T.extends };
 
-    fn insert_new(&mut self, key: K, value: V) -> Result<Inserted<V::Borrow>, AllocError> {
+    fn insert_new(&mut self, key: K, value: V) -> Result<(V::Borrow, bool), AllocError> {
         Frozen::insert_new(self, key, value)
     }
 

@@ -239,24 +239,24 @@ where
     ///
     /// # Cost
     /// One search, and one hash if the table hashes.
-    pub fn insert_new(&mut self, key: K, value: V) -> Result<Inserted<V::Borrow>, AllocError>
+    pub fn insert_new(&mut self, key: K, value: V) -> Result<(V::Borrow, bool), AllocError>
         ensures present { (x : V.Borrow) → value_at T.same self.old key ≡ Some x →
-            (result ≡ Ok (was_present x)) × (self.new ≡ self.old) }
-        ensures value_after { IfOk result (λ r. value_at T.same self.new key ≡ Some r.value) }
-        ensures added { value_at T.same self.old key ≡ None → IfOk result (λ r. (r.is_new ≡ true)
-            × AddsNew T.same V.target V.shown self.old key value r.value self.new) }
+            (result ≡ Ok (x, false)) × (self.new ≡ self.old) }
+        ensures value_after { IfOk result (λ r. value_at T.same self.new key ≡ Some r.0) }
+        ensures added { value_at T.same self.old key ≡ None → IfOk result (λ r. (r.1 ≡ true)
+            × AddsNew T.same V.target V.shown self.old key value r.0 self.new) }
         ensures new_entry { value_at T.same self.old key ≡ None →
-            IfOk result (λ r. T.extends self.old key r.value self.new) }
+            IfOk result (λ r. T.extends self.old key r.0 self.new) }
         ensures refused { OnErr result (IsRefused T.same self.old key self.new) }
     {
         let arena = self.arena;
         let place = |_key: &K| -> Result<V::Borrow, V>
             ensures { IfOk result (λ b. V.shown b ≡ V.target value) }
         { value.place(arena) };
-        let Ok(inserted) = insert_with(&mut self.table, key, place) else {
+        let Ok(done) = insert_with(&mut self.table, key, place) else {
             return Err(AllocError);
         };
-        Ok(inserted)
+        Ok((done.value, done.is_new))
     }
 
     /// Inserts the value unless the map has an equal key, and returns the value that the key then
@@ -275,7 +275,7 @@ where
             IfOk result (λ b. T.extends self.old key b self.new) }
         ensures refused { OnErr result (IsRefused T.same self.old key self.new) }
     {
-        Ok(self.insert_new(key, value)?.value)
+        Ok(self.insert_new(key, value)?.0)
     }
 
     /// Inserts the result of `make` unless the map has an equal key, and returns the value that the
@@ -422,7 +422,11 @@ where
         let Ok(done) = self.insert_new(key, value) else {
             return Err(InsertFault::Memory);
         };
-        Ok(done)
+        Ok(Inserted {
+            value: done.0,
+            index: (),
+            is_new: done.1,
+        })
     }
 }
 

@@ -7,27 +7,26 @@ ghost use Rattle.elsa_maps.specs.FirstWins.{Inserts, Keeps, SameAt, value_at};
 
 use super::MapForm;
 use elsa_specs::for_its_clause;
-use elsa_tables::Inserted;
 use elsa_vec::stable::StableDeref;
 use std::alloc::AllocError;
 
 /// Inserts the value. Whether it succeeds or fails, each key that had a value keeps it. After a
-/// success, the key has the returned value, `is_new` is true exactly if the key was new, and then
+/// success, the key has the returned value, the flag is true exactly if the key was new, and then
 /// there is one entry more.
 pub fn keeps_earlier_values<R, M: MapForm<R>>(
     map: &mut M,
     key: M::Key,
     value: M::Value,
-) -> Result<Inserted<<M::Value as StableDeref<R>>::Borrow>, AllocError>
+) -> Result<(<M::Value as StableDeref<R>>::Borrow, bool), AllocError>
     // The earlier values stay, and the key has the returned one.
     ensures kept { Keeps (value_at M.same (M.entries map.old)) (value_at M.same (M.entries map.new)) }
-    ensures found_after { IfOk result (λ r. value_at M.same (M.entries map.new) key ≡ Some r.value) }
+    ensures found_after { IfOk result (λ r. value_at M.same (M.entries map.new) key ≡ Some r.0) }
 
     // Whether it was new, and by how many entries the map grew. A failed call changes nothing.
     ensures flag { IfOk result (λ r.
-        IsTrue r.is_new ↔ (value_at M.same (M.entries map.old) key ≡ None)) }
+        IsTrue r.1 ↔ (value_at M.same (M.entries map.old) key ≡ None)) }
     ensures grows { IfOk result (λ r.
-        length (M.entries map.new) ≡ length (M.entries map.old) + (if r.is_new then 1 else 0)) }
+        length (M.entries map.new) ≡ length (M.entries map.old) + (if r.1 then 1 else 0)) }
     ensures refused { OnErr result (M.entries map.new ≡ M.entries map.old) }
     ensures only_new { OnErr result (value_at M.same (M.entries map.old) key ≡ None) }
 {
@@ -37,8 +36,8 @@ pub fn keeps_earlier_values<R, M: MapForm<R>>(
 }
 
 /// Inserts two values with equal keys, and other entries between the two. The second insertion
-/// returns `is_new = false` and the value of the first, and the map then has all entries. So a key
-/// is new at most once between two calls of `as_mut`.
+/// returns `false` and the value of the first, and the map then has all entries. So a key is new at
+/// most once between two calls of `as_mut`.
 pub fn is_new_once<R, M: MapForm<R>>(
     map: &mut M,
     first: (M::Key, M::Value),
@@ -46,8 +45,8 @@ pub fn is_new_once<R, M: MapForm<R>>(
     again: (M::Key, M::Value),
 ) -> Result<
     (
-        Inserted<<M::Value as StableDeref<R>>::Borrow>,
-        Inserted<<M::Value as StableDeref<R>>::Borrow>,
+        (<M::Value as StableDeref<R>>::Borrow, bool),
+        (<M::Value as StableDeref<R>>::Borrow, bool),
     ),
     AllocError,
 >
@@ -55,11 +54,11 @@ pub fn is_new_once<R, M: MapForm<R>>(
 
     // The key is new at the first insertion alone, and keeps that one's value.
     ensures first { IfOk result (λ answers.
-        IsTrue answers.0.is_new ↔ (value_at M.same (M.entries map.old) first.0 ≡ None)) }
-    ensures once { IfOk result (λ answers. answers.1.is_new ≡ false) }
-    ensures same_value { IfOk result (λ answers. answers.1.value ≡ answers.0.value) }
+        IsTrue answers.0.1 ↔ (value_at M.same (M.entries map.old) first.0 ≡ None)) }
+    ensures once { IfOk result (λ answers. answers.1.1 ≡ false) }
+    ensures same_value { IfOk result (λ answers. answers.1.0 ≡ answers.0.0) }
     ensures found_after { IfOk result (λ answers.
-        value_at M.same (M.entries map.new) first.0 ≡ Some answers.0.value) }
+        value_at M.same (M.entries map.new) first.0 ≡ Some answers.0.0) }
 
     // The entries that were inserted before and between are present.
     ensures between { IfOk result (λ _.

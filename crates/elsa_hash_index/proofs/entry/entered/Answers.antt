@@ -16,7 +16,7 @@ returns-clause-same_row g c last at =
     ap (λ s. s.book) c.into_seen.ensures ∙ (ap (λ r. r.0) c.enter.ensures.same.1 ∙ (c.of-view.result.of ∙ (ap (λ r. r.first.book) c.of-view.ensures.same_row ∙ (sym (c.row.ensures c.item-last.result.now c.item-last.ensures) ∙ ap (λ e. e.seen.book) (sym is)))))
 
 pub returns-clause-behind : goal.returns-clause-behind
-returns-clause-behind g c =
+returns-clause-behind g c v =
     let es = g.L.Shelf.seen c.args.list.now in
     let n = c.seen_len-n.result in
     let len = c.seen_len-n.ensures.0 in
@@ -43,8 +43,8 @@ returns-clause-behind g c =
       indexes = record {
         builder = builder;
         built = ap (λ s. builder_of s.log) c.into_seen.ensures ∙ (after.built ∙ ap Some same);
-        all = subst (λ s. IndexesKeys (g.L.Shelf.hash builder) (count_of s.log) (λ k. word_at k s.log) (keys_of es ++ c.args.key ∷ [])) (sym c.into_seen.ensures)
-            (grown_by (g.L.Shelf.hash builder) es c.args.key view.row.now.count after.row.now.count (λ k. word_at k view.seen.log) after.seen.log c.hash_of.result n all c.enter.ensures.same.0 after.opened c.enter.ensures.later
-            (c.hash_of.ensures ∙ ap (λ s. g.L.Shelf.hash s c.args.key) c.builder-builder.ensures) len c.in_ok-enter.ensures.entered);
+        all = subst (λ s. IndexesKeys (g.L.Shelf.hash builder) (count_of s.log) (λ k. word_at k s.log) (keys_of es ++ c.args.key.now ∷ [])) (sym c.into_seen.ensures)
+            (grown_by (g.L.Shelf.hash builder) es c.args.key.now view.row.now.count after.row.now.count (λ k. word_at k view.seen.log) after.seen.log c.hash_of.result n all c.enter.ensures.same.0 after.opened c.enter.ensures.later
+            (c.hash_of.ensures ∙ ap (λ s. g.L.Shelf.hash s c.args.key.now) c.builder-builder.ensures) len c.in_ok-enter.ensures.entered);
       };
     }

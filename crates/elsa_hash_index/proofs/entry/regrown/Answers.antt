@@ -9,7 +9,7 @@ returns-clause-same_row g c =
     ap (λ s. s.book) c.into_seen-seen.ensures ∙ (ap (λ r. r.0) c.enter.ensures.same.1 ∙ (ap (λ r. r.0) c.enter_all.ensures.same.1 ∙ ap (λ s. s.book) c.view-view.ensures.fresh))
 
 pub returns-clause-behind : goal.returns-clause-behind
-returns-clause-behind g c =
+returns-clause-behind g c v =
     let es = g.L.Shelf.seen c.args.list.now in
     let n = c.seen_len-n.result in
     let len = c.seen_len-n.ensures.0 in
@@ -24,7 +24,7 @@ returns-clause-behind g c =
       indexes = record {
         builder = builder;
         built = ap (λ s. builder_of s.log) c.into_seen-seen.ensures ∙ (after.built ∙ ap Some same);
-        all = subst (λ s. IndexesKeys (g.L.Shelf.hash builder) (count_of s.log) (λ k. word_at k s.log) (keys_of es ++ c.args.key ∷ [])) (sym c.into_seen-seen.ensures)
-            (grown_by (g.L.Shelf.hash builder) es c.args.key _ _ (λ k. word_at k c.enter_all.new.words.seen.log) after.seen.log c.hash_of.result n all c.enter.ensures.same.0 after.opened c.enter.ensures.later c.hash_of.ensures len c.in_ok-enter.ensures.entered);
+        all = subst (λ s. IndexesKeys (g.L.Shelf.hash builder) (count_of s.log) (λ k. word_at k s.log) (keys_of es ++ c.args.key.now ∷ [])) (sym c.into_seen-seen.ensures)
+            (grown_by (g.L.Shelf.hash builder) es c.args.key.now _ _ (λ k. word_at k c.enter_all.new.words.seen.log) after.seen.log c.hash_of.result n all c.enter.ensures.same.0 after.opened c.enter.ensures.later c.hash_of.ensures len c.in_ok-enter.ensures.entered);
       };
     }

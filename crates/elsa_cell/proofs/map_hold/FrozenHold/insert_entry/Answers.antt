@@ -10,7 +10,7 @@ use Rattle.elsa_cell.proofs.map_hold.FrozenHold.insert_entry.Goals as goal
 pub returns-in-Ok-clause-inserted : goal.returns-in-Ok-clause-inserted
 returns-in-Ok-clause-inserted g c =
     let eq = g.T.Places.same c.args.key in let seen = c.args.self.now.seen in
-    let s = ap (λ v. v.seen) c.self.view_is in
+    let s = ap (λ b. b.list.prefix.items) c.deref.ensures ∙ ap (λ v. v.seen) c.self.view_is in
     let at = sym (ap (λ (l : List (Entry g.row.K.Denot g.row.V.Denot)). position eq (map key_of l)) s) ∙ c.in-Ok.ensures.found in
     (value_at eq seen c.in-Ok.present at ∙ ap (option_map (λ e. e.value)) c.entry_at.ensures, at, refl)
 
@@ -19,17 +19,25 @@ pub returns-in-Ok-add-clause-inserted : goal.returns-in-Ok-add-clause-inserted
 returns-in-Ok-add-clause-inserted g c =
     let eq = g.T.Places.same c.args.key in let seen = c.args.self.now.seen in let new = c.add.new.self.list.prefix.items in
     let e : Entry g.row.K.Denot g.row.V.Denot = record { key = c.args.key; value = c.args.value } in
-    let s = ap (λ v. v.seen) c.self.view_is in
+    let s = ap (λ b. b.list.prefix.items) c.deref.ensures ∙ ap (λ v. v.seen) c.self.view_is in
+    let m = ap (λ b. b.list.prefix.items) c.deref_mut.ensures.value ∙ ap (λ v. v.seen) c.self.view_is in
     let none = sym (ap (λ (l : List (Entry g.row.K.Denot g.row.V.Denot)). position eq (map key_of l)) s) ∙ c.in-Err.ensures.absent in
-    let grown : new ≡ seen ++ e ∷ [] = c.in-Ok-add.ensures.pushed.1 ∙ ap (λ l. l ++ e ∷ []) s in
-    let at = c.in-Ok-add.ensures.pushed.0 ∙ ap length s in
+    let grown : new ≡ seen ++ e ∷ [] = c.in-Ok-add.ensures.pushed.1 ∙ ap (λ l. l ++ e ∷ []) m in
+    let at = c.in-Ok-add.ensures.pushed.0 ∙ ap length m in
     (absent_at eq seen none, (e, refl, grown), ap (λ f. f.value) (entry_last seen new e c.entry_at-in-Ok-add.result.now c.in-Ok-add.index grown at c.entry_at-in-Ok-add.ensures), at)
 
 -- There is no room.
 pub returns-in-Err-add-clause-refused : goal.returns-in-Err-add-clause-refused
 returns-in-Err-add-clause-refused g c =
     let eq = g.T.Places.same c.args.key in
-    let s = ap (λ v. v.seen) c.self.view_is in
+    let s = ap (λ b. b.list.prefix.items) c.deref.ensures ∙ ap (λ v. v.seen) c.self.view_is in
     let none = sym (ap (λ (l : List (Entry g.row.K.Denot g.row.V.Denot)). position eq (map key_of l)) s) ∙ c.in-Err.ensures.absent in
     let view = λ (xs : List (Entry g.row.K.Denot g.row.V.Denot)). let v : View (Entry g.row.K.Denot g.row.V.Denot) = record { vector = c.self.inside.slots.now; seen = xs } in v in
-    (ap view c.in-Err-add.ensures.refused.1 ∙ c.self.view_is, absent_at eq c.args.self.now.seen none)
+    (ap view (c.in-Err-add.ensures.refused.1 ∙ ap (λ b. b.list.prefix.items) c.deref_mut.ensures.value) ∙ c.self.view_is, absent_at eq c.args.self.now.seen none)
+
+-- It continues the entries before.
+pub returns-in-Ok-add-clause-continues : goal.returns-in-Ok-add-clause-continues
+returns-in-Ok-add-clause-continues g c =
+    let e : Entry g.row.K.Denot g.row.V.Denot = record { key = c.args.key; value = c.args.value } in
+    let m = ap (λ b. b.list.prefix.items) c.deref_mut.ensures.value ∙ ap (λ v. v.seen) c.self.view_is in
+    record { same = ap (λ v. v.vector) c.self.view_is; seen = (e ∷ [], sym (c.in-Ok-add.ensures.pushed.1 ∙ ap (λ l. l ++ e ∷ []) m)) }

@@ -13,8 +13,8 @@ use Rattle.elsa_cell.proofs.ordered.BTreeHold+K+V+A.entry_at_rank.Goals as goal
 pub bounds-order-rank : goal.bounds-order-rank
 bounds-order-rank g c =
     let cmp = g.K.Ord.cmp in let seen = c.args.self.now.seen in let order = c.as_slice-order.result.now in
-    let kept = subst (λ (l : List (Entry g.row.K.Denot g.row.V.Denot)). IsOrdered cmp c.self.inside.state.table.order.items (map key_of l)) (ap (λ v. v.seen) c.self.view_is) c.self.invariant.0.1 in
-    let o = subst (λ l. IsOrdered cmp l (map key_of seen)) (sym c.as_slice-order.ensures.value) kept in
+    let kept = subst (λ (l : List (Entry g.row.K.Denot g.row.V.Denot)). IsOrdered cmp c.self.inside.state.value.table.order.items (map key_of l)) (ap (λ v. v.seen) c.self.view_is) c.self.invariant.0.1 in
+    let o = subst (λ l. IsOrdered cmp l (map key_of seen)) (sym (c.as_slice-order.ensures.value ∙ ap (λ b. b.table.order.items) c.deref.ensures)) kept in
     let n = counted cmp order (map key_of seen) o in let l = length-map seen key_of in let low = c.requires in
     let small : c.args.rank < length order = omega (arith, n, l, low) in
     small
@@ -22,8 +22,8 @@ bounds-order-rank g c =
 pub entry_at-requires : goal.entry_at-requires
 entry_at-requires g c =
     let cmp = g.K.Ord.cmp in let seen = c.args.self.now.seen in let order = c.as_slice-order.result.now in
-    let kept = subst (λ (l : List (Entry g.row.K.Denot g.row.V.Denot)). IsOrdered cmp c.self.inside.state.table.order.items (map key_of l)) (ap (λ v. v.seen) c.self.view_is) c.self.invariant.0.1 in
-    let o = subst (λ l. IsOrdered cmp l (map key_of seen)) (sym c.as_slice-order.ensures.value) kept in
+    let kept = subst (λ (l : List (Entry g.row.K.Denot g.row.V.Denot)). IsOrdered cmp c.self.inside.state.value.table.order.items (map key_of l)) (ap (λ v. v.seen) c.self.view_is) c.self.invariant.0.1 in
+    let o = subst (λ l. IsOrdered cmp l (map key_of seen)) (sym (c.as_slice-order.ensures.value ∙ ap (λ b. b.table.order.items) c.deref.ensures)) kept in
     let n = counted cmp order (map key_of seen) o in let l = length-map seen key_of in let low = c.requires in
     let small : c.args.rank < length order = omega (arith, n, l, low) in
     entries_within cmp seen order o c.args.rank _ (slice_get-get_or order c.args.rank 0 small)
@@ -31,8 +31,8 @@ entry_at-requires g c =
 pub returns-clause-first : goal.returns-clause-first
 returns-clause-first g c first =
     let cmp = g.K.Ord.cmp in let seen = c.args.self.now.seen in let order = c.as_slice-order.result.now in
-    let kept = subst (λ (l : List (Entry g.row.K.Denot g.row.V.Denot)). IsOrdered cmp c.self.inside.state.table.order.items (map key_of l)) (ap (λ v. v.seen) c.self.view_is) c.self.invariant.0.1 in
-    let o = subst (λ l. IsOrdered cmp l (map key_of seen)) (sym c.as_slice-order.ensures.value) kept in
+    let kept = subst (λ (l : List (Entry g.row.K.Denot g.row.V.Denot)). IsOrdered cmp c.self.inside.state.value.table.order.items (map key_of l)) (ap (λ v. v.seen) c.self.view_is) c.self.invariant.0.1 in
+    let o = subst (λ l. IsOrdered cmp l (map key_of seen)) (sym (c.as_slice-order.ensures.value ∙ ap (λ b. b.table.order.items) c.deref.ensures)) kept in
     let n = counted cmp order (map key_of seen) o in let l = length-map seen key_of in let low = c.requires in
     let small : c.args.rank < length order = omega (arith, n, l, low) in
     let i = slice_index_or order c.args.rank 0 in
@@ -41,8 +41,8 @@ returns-clause-first g c first =
 pub returns-clause-last : goal.returns-clause-last
 returns-clause-last g c last =
     let cmp = g.K.Ord.cmp in let seen = c.args.self.now.seen in let order = c.as_slice-order.result.now in
-    let kept = subst (λ (l : List (Entry g.row.K.Denot g.row.V.Denot)). IsOrdered cmp c.self.inside.state.table.order.items (map key_of l)) (ap (λ v. v.seen) c.self.view_is) c.self.invariant.0.1 in
-    let o = subst (λ l. IsOrdered cmp l (map key_of seen)) (sym c.as_slice-order.ensures.value) kept in
+    let kept = subst (λ (l : List (Entry g.row.K.Denot g.row.V.Denot)). IsOrdered cmp c.self.inside.state.value.table.order.items (map key_of l)) (ap (λ v. v.seen) c.self.view_is) c.self.invariant.0.1 in
+    let o = subst (λ l. IsOrdered cmp l (map key_of seen)) (sym (c.as_slice-order.ensures.value ∙ ap (λ b. b.table.order.items) c.deref.ensures)) kept in
     let n = counted cmp order (map key_of seen) o in let l = length-map seen key_of in let low = c.requires in
     let small : c.args.rank < length order = omega (arith, n, l, low) in
     let i = slice_index_or order c.args.rank 0 in

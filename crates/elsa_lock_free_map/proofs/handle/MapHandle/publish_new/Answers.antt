@@ -1,4 +1,4 @@
-use Rattle.std.proofs.Common.{◌≡◌, ◌-◌, ℕ, List, length, fold, ap, sym, subst, arith, Some, slice_get, ◌∙◌}
+use Rattle.std.proofs.Common.{◌≡◌, ◌-◌, ℕ, List, length, fold, ap, refl, sym, subst, arith, Some, slice_get, ◌∙◌}
 use Rattle.std.proofs.lemmas.List.{length-map}
 use Rattle.std.specs.Prelude.{MatchBool}
 use Rattle.elsa_lock_free.specs.SharedList.{BeginsABuffer, item_of, items_of}
@@ -9,10 +9,23 @@ use Rattle.elsa_lock_free_map.specs.Entries.{short}
 use Rattle.elsa_lock_free_map.proofs.MapLemmas.{some_before}
 use Rattle.elsa_lock_free_map.proofs.handle.MapHandle.publish_new.Goals as goal
 
-pub returns-in_ok-publish_first-in-Ok-clause-pushed : goal.returns-in_ok-publish_first-in-Ok-clause-pushed
-returns-in_ok-publish_first-in-Ok-clause-pushed g c =
-    let h = c.in_ok-publish_first-in-Ok.ensures.pushed in let key = c.in-Ok.ensures.same_pair in
-    rw (sym c.self.view_is) (h.0, (c.in-Ok.new, key.0, key.1, h.1))
+pub publish_first-requires-clause-obeys_rule : goal.publish_first-requires-clause-obeys_rule
+publish_first-requires-clause-obeys_rule g c =
+    let l = length-map c.args.hold.seen item_of in
+    let room = c.requires.room in
+    let new : Entry g.row.K.Denot g.row.V.Denot g.row.S.Denot = record { key = c.args.key; value = c.args.value; seen = c.in-Ok.seen } in (
+      (
+        subst (λ (s : List (Listed (Entry g.row.K.Denot g.row.V.Denot g.row.S.Denot))). IsBehind g.K.PartialEq.eq (λ s k. short (g.S.Hasher.Hasher.finish (fold g.S.Hasher.Hasher.write (g.S.BuildHasher.build_hasher s) (g.K.Hash.hash_input k)))) (items_of s) new) (sym c.requires.held.1) (c.in-Ok.ensures.behind c.args.value),
+        omega (arith, l, room),
+      ),
+      c.requires.rule,
+    )
+
+pub returns-then-begins_buffer-clause-pushed : goal.returns-then-begins_buffer-clause-pushed
+returns-then-begins_buffer-clause-pushed g c =
+    let up = c.in_ok-publish_first.ensures.pushed in
+    let new : Entry g.row.K.Denot g.row.V.Denot g.row.S.Denot = record { key = c.args.key; value = c.args.value; seen = c.in-Ok.seen } in
+    rw (sym c.self.view_is) (up.0, (new, refl, refl, up.1))
 
 pub entered-requires-clause-not_empty : goal.entered-requires-clause-not_empty
 entered-requires-clause-not_empty g c =
@@ -22,9 +35,14 @@ entered-requires-clause-not_empty g c =
 
 pub publish-requires-clause-obeys_rule : goal.publish-requires-clause-obeys_rule
 publish-requires-clause-obeys_rule g c =
-    let l = length-map c.args.hold.seen item_of in let room = c.requires.room in (
-      subst (λ (s : List (Listed (Entry g.row.K.Denot g.row.V.Denot g.row.S.Denot))). IsBehind g.K.PartialEq.eq (λ s k. short (g.S.Hasher.Hasher.finish (fold g.S.Hasher.Hasher.write (g.S.BuildHasher.build_hasher s) (g.K.Hash.hash_input k)))) (items_of s) c.in-Ok-entered.new) (sym c.requires.held.1) c.in-Ok-entered.ensures.behind,
-      omega (arith, l, room),
+    let l = length-map c.args.hold.seen item_of in
+    let room = c.requires.room in
+    let new : Entry g.row.K.Denot g.row.V.Denot g.row.S.Denot = record { key = c.args.key; value = c.args.value; seen = c.in-Ok-entered.seen } in (
+      (
+        subst (λ (s : List (Listed (Entry g.row.K.Denot g.row.V.Denot g.row.S.Denot))). IsBehind g.K.PartialEq.eq (λ s k. short (g.S.Hasher.Hasher.finish (fold g.S.Hasher.Hasher.write (g.S.BuildHasher.build_hasher s) (g.K.Hash.hash_input k)))) (items_of s) new) (sym c.requires.held.1) (c.in-Ok-entered.ensures.behind c.args.value),
+        omega (arith, l, room),
+      ),
+      c.requires.rule,
     )
 
 pub publish-requires-clause-fits : goal.publish-requires-clause-fits
@@ -33,7 +51,8 @@ publish-requires-clause-fits g c = λ x last at fits.
     let here = subst (λ (s : List (Listed (Entry g.row.K.Denot g.row.V.Denot g.row.S.Denot))). slice_get (items_of s) (length s - 1) ≡ Some last) c.requires.held.1 at in
     c.in-Ok-entered.ensures.same_row last (subst (λ (k : ℕ). slice_get (items_of c.args.self.now.seen) (k - 1) ≡ Some last) (sym l) here) ∙ fits
 
-pub returns-in-Ok-entered-clause-pushed : goal.returns-in-Ok-entered-clause-pushed
-returns-in-Ok-entered-clause-pushed g c =
-    let up = c.publish.ensures.pushed in let key = c.in-Ok-entered.ensures.same_pair in
-    rw (sym c.self.view_is) (up.0, (c.in-Ok-entered.new, key.0, key.1, up.1))
+pub returns-clause-pushed : goal.returns-clause-pushed
+returns-clause-pushed g c =
+    let up = c.publish.ensures.pushed in
+    let new : Entry g.row.K.Denot g.row.V.Denot g.row.S.Denot = record { key = c.args.key; value = c.args.value; seen = c.in-Ok-entered.seen } in
+    rw (sym c.self.view_is) (up.0, (new, refl, refl, up.1))

@@ -29,7 +29,7 @@ returns-in_err-keeps_earlier_values-clause-kept g c =
     let kept = c.keeps_earlier_values-in-loop-pair.ensures.kept in λ q v had. kept q v (c.loop-pair.invariant.kept q v had)
 
 -- the second insertion finds what the first one answered
-found : (g : _) (c : goal.In_ok-after g) → value_at g.M.MapForm.same (g.M.MapForm.entries c.loop-pair.map) c.args.again.0 ≡ Some c.in_ok-before.before.value
+found : (g : _) (c : goal.In_ok-after g) → value_at g.M.MapForm.same (g.M.MapForm.entries c.loop-pair.map) c.args.again.0 ≡ Some c.in_ok-before.before.0
 found g c = sym (lookup_congr g.M.MapForm.same c.len.ensures.equivalence.congr (g.M.MapForm.entries c.loop-pair.map) c.args.first.0 c.args.again.0 c.requires.equal) ∙ c.loop-pair.invariant.first
 
 pub returns-clause-once : goal.returns-clause-once

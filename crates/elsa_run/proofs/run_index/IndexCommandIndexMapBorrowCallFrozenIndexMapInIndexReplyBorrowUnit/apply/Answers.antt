@@ -14,18 +14,18 @@ returns-in_ok-insert-in-Insert-clause-step g c =
 pub returns-in_ok-place-in-InsertFull-clause-step : goal.returns-in_ok-place-in-InsertFull-clause-step
 returns-in_ok-place-in-InsertFull-clause-step g c = let h = c.in_ok-place-in-InsertFull.ensures.accepted in rw c.in-InsertFull.is (inserted g.K.PartialEq.eq g.met.K.Eq.laws g.V.HasTarget.target g.V.HasTarget.shown _ _ _ _ (λ i b new. Full i b) _ _ _ (h, refl))
 
-pub returns-in_ok-done-in-InsertNew-clause-step : goal.returns-in_ok-done-in-InsertNew-clause-step
-returns-in_ok-done-in-InsertNew-clause-step g c =
-    let e = c.in_ok-done-in-InsertNew.ensures in
+pub returns-in_ok-item-in-InsertNew-clause-step : goal.returns-in_ok-item-in-InsertNew-clause-step
+returns-in_ok-item-in-InsertNew-clause-step g c =
+    let e = c.in_ok-item-in-InsertNew.ensures in
     let h = at_its_place g.K.PartialEq.eq g.V.HasTarget.target g.V.HasTarget.shown _ _ _ _ _ (λ x at. (e.present x at).1) e.value_after (λ none. ((e.added none).1.0, e.new_entry none)) in
     let flag = flag_of_place g.K.PartialEq.eq _ _ _ (λ x at. ap told (e.present x at).0) (λ none. (e.added none).0) in
     rw c.in-InsertNew.is (inserted g.K.PartialEq.eq g.met.K.Eq.laws g.V.HasTarget.target g.V.HasTarget.shown _ _ _ _ (λ i b new. New b new) _ _ _ (h.1, flag))
 
-pub returns-in_ok-done-in-InsertFullNew-clause-step : goal.returns-in_ok-done-in-InsertFullNew-clause-step
-returns-in_ok-done-in-InsertFullNew-clause-step g c = let h = c.in_ok-done-in-InsertFullNew.ensures.accepted in rw c.in-InsertFullNew.is (inserted g.K.PartialEq.eq g.met.K.Eq.laws g.V.HasTarget.target g.V.HasTarget.shown _ _ _ _ FullNew _ _ _ h)
+pub returns-in_ok-place-in-InsertFullNew-clause-step : goal.returns-in_ok-place-in-InsertFullNew-clause-step
+returns-in_ok-place-in-InsertFullNew-clause-step g c = let h = c.in_ok-place-in-InsertFullNew.ensures.accepted in rw c.in-InsertFullNew.is (inserted g.K.PartialEq.eq g.met.K.Eq.laws g.V.HasTarget.target g.V.HasTarget.shown _ _ _ _ FullNew _ _ _ h)
 
 pub returns-in_err-insert-in-Insert-clause-refused : goal.returns-in_err-insert-in-Insert-clause-refused
 returns-in_err-insert-in-Insert-clause-refused g c = let gone = no_place g.K.PartialEq.eq _ _ c.in_err-insert-in-Insert.ensures.refused.1 in search (rules, gone)
 
-pub returns-in_err-done-in-InsertNew-clause-refused : goal.returns-in_err-done-in-InsertNew-clause-refused
-returns-in_err-done-in-InsertNew-clause-refused g c = let gone = no_place g.K.PartialEq.eq _ _ c.in_err-done-in-InsertNew.ensures.refused.1 in search (rules, gone)
+pub returns-in_err-item-in-InsertNew-clause-refused : goal.returns-in_err-item-in-InsertNew-clause-refused
+returns-in_err-item-in-InsertNew-clause-refused g c = let gone = no_place g.K.PartialEq.eq _ _ c.in_err-item-in-InsertNew.ensures.refused.1 in search (rules, gone)

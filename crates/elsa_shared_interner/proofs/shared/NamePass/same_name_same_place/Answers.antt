@@ -9,7 +9,7 @@ pub returns : goal.returns
 returns g c =
     let equal = g.T.PartialEq.eq in
     let mine = c.self.inside.pass.seen in let theirs = c.other.inside.pass.seen in
-    let one = subst (λ l. AgreeOnPlaces equal l (keys_of (items_of theirs))) (sym (items_names mine)) c.same_place.ensures in
+    let one = subst (λ l. AgreeOnPlaces equal l (keys_of (items_of theirs))) (sym (items_names mine)) c.same_place.ensures.index in
     let both = subst (λ v. AgreeOnPlaces equal (items_of v.seen) (keys_of (items_of theirs))) c.self.view_is one in
     let named = subst (λ l. AgreeOnPlaces equal (items_of c.args.self.now.seen) l) (sym (items_names theirs)) both in
     subst (λ v. AgreeOnPlaces equal (items_of c.args.self.now.seen) (items_of v.seen)) c.other.view_is named

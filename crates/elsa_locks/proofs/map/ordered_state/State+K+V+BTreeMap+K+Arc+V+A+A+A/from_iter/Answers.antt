@@ -1,3 +1,4 @@
+use Rattle.elsa_tables.proofs.RuleLemmas.{any_kept}
 use Rattle.std.proofs.Common.{◌≡◌, Bool, List, [], ◌∷◌, ◌++◌, Some, refl, if◌then◌else◌}
 use Rattle.std.proofs.lemmas.List.{reverse-append}
 use Rattle.std.specs.Cmp.{IsEquivalence, eq_by_cmp_equiv}
@@ -11,3 +12,6 @@ collected_more eq laws pairs es fs k v c h q = rw (reverse-append pairs ((k, v) 
 
 pub loop-key-preserved : goal.loop-key-preserved
 loop-key-preserved g c = rw (← c.in_ok-made.ensures.ok) (collected_more _ (eq_by_cmp_equiv g.met.K.Ord.total) c.loop-key.yielded _ _ c.in-Some.key _ c.loop-key.invariant c.in_ok-store.ensures)
+
+pub over-requires : goal.over-requires
+over-requires g c = any_kept _ (eq_by_cmp_equiv g.met.K.Ord.total) _

@@ -1,0 +1,6 @@
+use Rattle.std.proofs.Common.{◌≡◌, length}
+use Rattle.elsa_shards.proofs.map.ShardedMap.with_rule.Given as goal
+
+-- There is one shard for each iteration.
+abbrev pub invariant-loop : goal.invariant-loop
+invariant-loop g l = length l.shards.items ≡ l.counter

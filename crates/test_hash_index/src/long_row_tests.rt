@@ -1,0 +1,78 @@
+//! The first index entry that a look-up reads in a row of more than 2^32 index entries, of which no
+//! memory has any.
+ghost use Rattle.std.specs.Prelude.{◌≡◌};
+
+use elsa_hash_index::probe::{Words, find};
+use elsa_hash_index::row::Row;
+use std::alloc::{AllocError, Global};
+use std::test::*;
+
+/// The number of index entries of the row of a map with `2^30` entries.
+const COUNT: usize = 6 << 30;
+
+/// A row of `COUNT` index entries, all of them 0, which remembers the index entry whose tag was
+/// loaded last.
+#[derive(Drop)]
+struct Vacant<W> {
+    words: W,
+    loaded: usize,
+}
+
+impl<S, W: Words<S>> Words<S> for Vacant<W> {
+    ghost whose = { λ v. W.whose v.words };
+
+    ghost count = { λ v. 6442450944 };
+
+    ghost known = { λ v i. 0 };
+
+    fn len(&self) -> usize {
+        COUNT
+    }
+
+    fn tag(&mut self, at: usize) -> u64 {
+        self.loaded = at;
+        0
+    }
+
+    fn number(&mut self, _at: usize) -> u64 {
+        0
+    }
+
+    fn set_tag(&mut self, _at: usize, _tag: u64) -> bool {
+        false
+    }
+
+    fn set_number(&mut self, _at: usize, _number: u64) -> bool {
+        false
+    }
+}
+
+/// Returns the index entry that a look-up of a hash reads first.
+fn first_read(alloc: Global, hash: u32) -> Result<usize, AllocError> {
+    let row = Row::new(alloc, 1, 7u64)?;
+    let mut vacant = Vacant {
+        words: row.view(),
+        loaded: COUNT,
+    };
+    let _ = find(&mut vacant, hash, 0, |_p| false);
+    Ok(vacant.loaded)
+}
+
+// A hash that is half of 2^32 leads to the middle of the row, and so on: 6 * 2^30 times 1/4, 1/2,
+// 2/3 and 3/4. The greatest hash leads to the last index entry but one, since 6 * 2^30 / 2^32 is
+// more than 1.
+#[test]
+fn a_look_up_of_a_long_row_begins_at_the_part_of_its_hash(rt: HostRuntime) -> Result<(), Fail> {
+    let table = [
+        (0, 0),
+        (0x4000_0000, 1_610_612_736),
+        (0x8000_0000, 3_221_225_472),
+        (0xAAAA_AAAB, 4_294_967_296),
+        (0xC000_0000, 4_831_838_208),
+        (0xFFFF_FFFF, 6_442_450_942),
+    ];
+    for (hash, at) in table {
+        assert_eq!(rt; first_read(rt.alloc(), hash)?, at);
+    }
+    Ok(())
+}
