@@ -1,16 +1,18 @@
 //! As in [`signatures`](super::signatures): the calls of one type that another type has too, and
 //! those of two views, each with its types written out.
 use bumpalo::Bump;
-use elsa::interner::{NamePass, SharedInterner};
+use elsa::cache::{Resource, ResourceCache};
+use elsa::interner::{Interner, Name, NamePass, SharedInterner};
 use elsa::run::{IndexCommand, IndexReply, SetCommand, SetReply, run_index, run_set};
-use elsa::sync::history::{History, MapCommand, MapReply};
+use elsa::sync::history::{Core, History, MapCommand, MapReply};
 use elsa::sync::item_rule::DistinctItems;
 use elsa::sync::map::{MapState, TreeState};
 use elsa::sync::vec::VecState;
 use elsa::sync::{self, LockFreeFrozenVec, Pass};
+use elsa::vec::Cursor;
 use elsa::{
-    FrozenBTreeMap, FrozenIndexMap, FrozenIndexSet, FrozenMap, FrozenVec, MapForm, StableDeref,
-    cell,
+    FrozenBTreeMap, FrozenIndexMap, FrozenIndexSet, FrozenMap, FrozenVec, LookUp, MapForm,
+    StableDeref, cell,
 };
 use indexmap::{IndexMap, IndexSet};
 use std::alloc::{AllocError, Global};
@@ -39,8 +41,36 @@ fn vec_equals<'a>(vec: &FrozenVec<'a, String>, other: &FrozenVec<'a, String>) ->
     vec == other
 }
 
+fn vec_walk<'a>(vec: &FrozenVec<'a, String>, sought: &str) -> bool {
+    for item in vec {
+        if item == sought {
+            return true;
+        }
+    }
+    false
+}
+
+fn vec_search<'a>(vec: &FrozenVec<'a, String>, target: &'a str) -> Result<usize, usize> {
+    vec.binary_search(target)
+}
+
+fn cursor_new() -> Cursor {
+    Cursor::new()
+}
+
+fn text_place<'a>(arena: &'a Bump, text: String) -> Result<&'a str, String> {
+    StableDeref::<&'a Bump>::place(text, arena)
+}
+
 fn map_equals<'a>(map: &Hashed<'a>, other: &Hashed<'a>) -> bool {
     map == other
+}
+
+fn map_index<'a>(map: &Hashed<'a>, key: u64) -> Option<&'a str> {
+    if map.get(&key).is_none() {
+        return None;
+    }
+    Some(map[&key])
 }
 
 fn map_with_hasher<'a>(alloc: Global, arena: &'a Bump, hasher: Hasher) -> Hashed<'a> {
@@ -86,6 +116,17 @@ fn tree_from_iter<'a>(
 
 fn tree_clone<'a>(map: &Ordered<'a>) -> Result<Ordered<'a>, AllocError> {
     map.clone()
+}
+
+fn tree_equals<'a>(map: &Ordered<'a>, other: &Ordered<'a>) -> bool {
+    map == other
+}
+
+fn tree_index<'a>(map: &Ordered<'a>, key: u64) -> Option<&'a str> {
+    if map.get(&key).is_none() {
+        return None;
+    }
+    Some(map[&key])
 }
 
 fn form_get<R, M: MapForm<R>>(
@@ -141,6 +182,70 @@ fn index_clone<'a>(map: &Indexed<'a>) -> Result<Indexed<'a>, AllocError> {
     map.clone()
 }
 
+fn index_with_hasher<'a>(alloc: Global, arena: &'a Bump, hasher: Hasher) -> Indexed<'a> {
+    FrozenIndexMap::with_hasher(alloc, arena, hasher)
+}
+
+fn index_as_mut<'m, 'a>(map: &'m mut Indexed<'a>) -> &'m mut IndexMap<u64, &'a str, Hasher> {
+    map.as_mut()
+}
+
+fn index_from_iter<'a>(
+    alloc: Global,
+    arena: &'a Bump,
+    hasher: Hasher,
+    pairs: Vec<(u64, String)>,
+) -> Result<Indexed<'a>, AllocError> {
+    FrozenIndexMap::from_iter(alloc, arena, hasher, pairs)
+}
+
+fn index_equals<'a>(map: &Indexed<'a>, other: &Indexed<'a>) -> bool {
+    map == other
+}
+
+fn index_index<'a>(map: &Indexed<'a>, key: u64) -> Option<&'a str> {
+    if map.get(&key).is_none() {
+        return None;
+    }
+    Some(map[&key])
+}
+
+fn set_new<'a>(alloc: Global, arena: &'a Bump) -> Texts<'a> {
+    FrozenIndexSet::new(alloc, arena)
+}
+
+fn set_with_hasher<'a>(alloc: Global, arena: &'a Bump, hasher: Hasher) -> Texts<'a> {
+    FrozenIndexSet::with_hasher(alloc, arena, hasher)
+}
+
+fn set_as_mut<'s, 'a>(set: &'s mut Texts<'a>) -> &'s mut IndexSet<&'a str, Hasher> {
+    set.as_mut()
+}
+
+fn set_from_iter<'a>(
+    alloc: Global,
+    arena: &'a Bump,
+    hasher: Hasher,
+    texts: Vec<String>,
+) -> Result<Texts<'a>, AllocError> {
+    FrozenIndexSet::from_iter(alloc, arena, hasher, texts)
+}
+
+fn set_equals<'a>(set: &Texts<'a>, other: &Texts<'a>) -> bool {
+    set == other
+}
+
+fn set_index<'a>(set: &Texts<'a>, index: usize) -> Option<&'a str> {
+    if set.get_index(index).is_none() {
+        return None;
+    }
+    Some(set[index])
+}
+
+fn text_position<'a>(text: &str, set: &IndexSet<&'a str, Hasher>) -> Option<usize> {
+    LookUp::<&'a str>::position(&text, set)
+}
+
 fn set_into_set<'a>(set: Texts<'a>) -> IndexSet<&'a str, Hasher> {
     set.into_set()
 }
@@ -179,6 +284,14 @@ fn locked_is_empty(rt: &impl Wait, map: &sync::FrozenMap<u64, u64>) -> bool {
     map.is_empty(rt)
 }
 
+fn locked_new(alloc: Global) -> sync::FrozenMap<u64, u64> {
+    sync::FrozenMap::new(alloc)
+}
+
+fn locked_as_mut(map: &mut sync::FrozenMap<u64, u64>) -> &mut HashMap<u64, Arc<u64>> {
+    map.as_mut()
+}
+
 fn locked_tree_get(
     rt: &impl Wait,
     map: &sync::FrozenBTreeMap<u64, u64>,
@@ -197,6 +310,21 @@ fn locked_tree_map_get(
 
 fn locked_tree_len(rt: &impl Wait, map: &sync::FrozenBTreeMap<u64, u64>) -> usize {
     map.len(rt)
+}
+
+fn locked_tree_is_empty(rt: &impl Wait, map: &sync::FrozenBTreeMap<u64, u64>) -> bool {
+    map.is_empty(rt)
+}
+
+fn locked_tree_new(alloc: Global) -> sync::FrozenBTreeMap<u64, u64> {
+    sync::FrozenBTreeMap::new(alloc)
+}
+
+fn locked_tree_from_iter(
+    alloc: Global,
+    pairs: Vec<(u64, u64)>,
+) -> Result<sync::FrozenBTreeMap<u64, u64>, AllocError> {
+    sync::FrozenBTreeMap::from_iter(alloc, pairs)
 }
 
 fn locked_tree_clone(
@@ -234,6 +362,22 @@ fn locked_vec_is_empty(rt: &impl Wait, vec: &sync::FrozenVec<u64>) -> bool {
     vec.is_empty(rt)
 }
 
+fn locked_vec_new(alloc: Global) -> sync::FrozenVec<u64> {
+    sync::FrozenVec::new(alloc)
+}
+
+fn locked_vec_from_vec(items: Vec<Arc<u64>>) -> sync::FrozenVec<u64> {
+    sync::FrozenVec::from_vec(items)
+}
+
+fn locked_vec_into_vec(vec: sync::FrozenVec<u64>) -> Vec<Arc<u64>> {
+    vec.into_vec()
+}
+
+fn locked_vec_as_mut(vec: &mut sync::FrozenVec<u64>) -> &mut Vec<Arc<u64>> {
+    vec.as_mut()
+}
+
 fn locked_vec_clone(
     rt: &impl Wait,
     vec: &sync::FrozenVec<u64>,
@@ -269,12 +413,32 @@ fn state_is_empty(map: &MapState<u64, u64>) -> bool {
     map.is_empty()
 }
 
+fn state_new(alloc: Global) -> MapState<u64, u64> {
+    MapState::new(alloc)
+}
+
+fn state_keys_cloned(map: &MapState<u64, u64>) -> Result<Vec<u64>, AllocError> {
+    map.keys_cloned()
+}
+
 fn tree_state_get(map: &TreeState<u64, u64>, key: &u64) -> Result<Option<Arc<u64>>, AllocError> {
     map.get(key)
 }
 
 fn tree_state_len(map: &TreeState<u64, u64>) -> usize {
     map.len()
+}
+
+fn tree_state_new(alloc: Global) -> TreeState<u64, u64> {
+    TreeState::new(alloc)
+}
+
+fn tree_state_map_get(map: &TreeState<u64, u64>, key: &u64) -> Option<bool> {
+    map.map_get(key, |value| *value == 6)
+}
+
+fn tree_state_is_empty(map: &TreeState<u64, u64>) -> bool {
+    map.is_empty()
 }
 
 fn tree_state_copy(map: &TreeState<u64, u64>) -> Result<TreeState<u64, u64>, AllocError> {
@@ -301,6 +465,14 @@ fn vec_state_len(vec: &VecState<u64>) -> usize {
     vec.len()
 }
 
+fn vec_state_new(alloc: Global) -> VecState<u64> {
+    VecState::new(alloc)
+}
+
+fn vec_state_is_empty(vec: &VecState<u64>) -> bool {
+    vec.is_empty()
+}
+
 fn history_core(history: &History<MapState<u64, u64>>) -> &MapState<u64, u64> {
     history.core()
 }
@@ -309,6 +481,36 @@ fn history_entries(
     history: &History<MapState<u64, u64>>,
 ) -> &[(u64, MapCommand<u64, u64>, MapReply<u64>)] {
     history.entries()
+}
+
+fn core_apply<C: Core>(core: &mut C, command: C::Command) -> Result<C::Reply, AllocError> {
+    core.apply(command)
+}
+
+// ---- interners and the cache
+
+fn interner_new<'a>(alloc: Global, arena: &'a Bump) -> Interner<'a> {
+    Interner::new(alloc, arena)
+}
+
+fn shared_interner_new(alloc: Global) -> Result<SharedInterner, AllocError> {
+    SharedInterner::new(alloc)
+}
+
+fn name_as_str(name: &Name) -> &str {
+    name.as_str()
+}
+
+fn cache_new<'a>(alloc: Global, arena: &'a Bump) -> ResourceCache<'a> {
+    ResourceCache::new(alloc, arena)
+}
+
+fn resource_new<'a>(text: &'a str) -> Resource<'a> {
+    Resource::new(text)
+}
+
+fn resource_get<'a>(resource: &Resource<'a>) -> &'a str {
+    resource.get()
 }
 
 // ---- two views of a concurrent vector, and of a shared interner
