@@ -121,6 +121,7 @@ impl<K: Eq + Hash, B, S: BuildHasher, A: Allocator + Copy> Model for AppendMap<K
     ghost use Rattle.std.specs.Map.{keys_of};
     ghost use Rattle.elsa_buckets.specs.Placed.{key_hash, IsPlaced};
 
+    // Keys are distinct, and the table finds the index of each by its hash.
     ghost invariant = { λ m. IsPlaced K.eq (λ k.
         key_hash S.BuildHasher S.Hasher.Hasher m.hash_builder (K.hash_input k))
         m.table (keys_of m.pairs.items) };

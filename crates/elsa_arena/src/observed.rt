@@ -33,7 +33,9 @@ impl<'v, T, A: Allocator> Model for Observed<'v, T, A> {
 
     ghost view = { λ o. record { vector = o.slots.now; seen = o.prefix.items } };
 
-    ghost invariant = { λ o. (o.prefix.buffer_slots ≡ o.slots.now) × (o.count ≡ length o.prefix.items) × (o.count < 2 ^ 62) };
+    // The items belong to these slots, and `count` is their number.
+    ghost invariant = { λ o. (o.prefix.buffer_slots ≡ o.slots.now)
+        × (o.count ≡ length o.prefix.items) × (o.count < 2 ^ 62) };
 }
 
 impl<T, A: Allocator> Drop for Observed<'_, T, A> {
@@ -184,6 +186,7 @@ impl<T, A: Allocator> Model for Seen<T, A> {
 
     ghost view = { λ s. record { vector = s.prefix.buffer_slots; seen = s.prefix.items } };
 
+    // `count` is the number of the items.
     ghost invariant = { λ s. (s.count ≡ length s.prefix.items) × (s.count < 2 ^ 62) };
 }
 

@@ -57,6 +57,7 @@ impl<T, A: Allocator, L: Most> Model for Shown<T, A, L> {
 
     ghost view = { λ s. s.cell.numbers };
 
+    // The empty prefix, which is what is shown before a first item, is of the same list.
     ghost invariant = { λ s. (s.none.buffer_slots ≡ s.cell.numbers) × (s.none.items ≡ []) };
 }
 

@@ -22,6 +22,8 @@ use std::marker::Model;
 /// A [`Handle`] states which items it has observed, and each of its calls which items come back.
 /// The calls on the list itself are short forms: each makes a handle.
 pub struct FrozenVec<T, A: Allocator + Copy = Global> {
+    // The items, the state of insertions, which one call has at a time, and the length that reads
+    // take.
     slots: Slots<T, A>,
     cell: Shared<State<T, A>>,
     shown: Shown<T, A>,
@@ -34,6 +36,7 @@ impl<T, A: Allocator + Copy> Model for FrozenVec<T, A> {
 
     ghost view = { λ v. v.slots };
 
+    // The state and the length that reads take are of this list.
     ghost invariant = { λ v. (v.cell.numbers ≡ v.slots) × (v.shown ≡ v.slots) };
 }
 
@@ -352,7 +355,9 @@ impl<'v, T, A: Allocator + Copy> Model for Handle<'v, T, A> {
 
     ghost view = { λ h. h.observed };
 
-    ghost invariant = { λ h. (h.cell.now.numbers ≡ h.observed.vector) × (h.shown.now ≡ h.observed.vector) };
+    // The state and the length that reads take are of the observed list.
+    ghost invariant = { λ h. (h.cell.now.numbers ≡ h.observed.vector)
+        × (h.shown.now ≡ h.observed.vector) };
 }
 
 impl<'v, T, A: Allocator + Copy> Handle<'v, T, A> {
@@ -532,7 +537,9 @@ impl<'v, T, A: Allocator + Copy> Model for Hold<'v, T, A> {
       capacity = capacity_of h.state;
     } };
 
-    ghost invariant = { λ h. IsStateOf h.slots.now h.state × (h.cell.now.numbers ≡ h.slots.now) × (h.shown.now ≡ h.slots.now) };
+    // The guard has the state of this list; what it gives back at its end goes to the same list.
+    ghost invariant = { λ h. IsStateOf h.slots.now h.state × (h.cell.now.numbers ≡ h.slots.now)
+        × (h.shown.now ≡ h.slots.now) };
 }
 
 impl<T, A: Allocator + Copy> Drop for Hold<'_, T, A> {

@@ -32,6 +32,7 @@ impl<T, A: Allocator> Parts<T, A> {
         ensures { result.value ≡ self.value }
     {
         let Parts { ptr, alloc } = self;
+        // SAFETY: `ptr` is of a box that `of` took apart, and `self`, which owns it, ends here.
         unsafe { Box::from_raw(alloc, ptr) }
     }
 }

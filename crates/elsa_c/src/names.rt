@@ -75,6 +75,7 @@ fn search(
 /// In contracts it is the list of its texts, each as its bytes; a text's number is its index there.
 #[derive(Drop)]
 pub struct Names<S: BuildHasher> {
+    // The text of each number, and the number of each text by its hash.
     names: Vec<String>,
     table: PlaceTable<Global>,
     hash_builder: S,
@@ -90,6 +91,7 @@ impl<S: BuildHasher> Model for Names<S> {
 
     ghost use Rattle.elsa_interner.specs.Names.{text_hash, IsNumbered};
 
+    // Texts are distinct, and the table finds the number of each by its hash.
     ghost invariant = { λ s. IsNumbered (text_hash S.BuildHasher S.Hasher.Hasher s.hash_builder)
         s.table (map (λ t. string_bytes t) s.names.items) };
 }

@@ -18,6 +18,7 @@ pub type Entries<C, A = Global> = Vec<(u64, <C as Core>::Command, <C as Core>::R
 /// object's type, unless the history is a later part of another one.
 #[derive(Drop)]
 pub struct History<C: Core, A: Allocator = Global, S: Start<C> = AtOpening> {
+    // The object after all entries.
     core: C,
     entries: Entries<C, A>,
     of: PhantomData<S>,
@@ -31,6 +32,7 @@ impl<C: Core, A: Allocator, S: Start<C>> Model for History<C, A, S> {
 
     ghost view = { λ h. (h.core, h.entries.items) };
 
+    // The entries, applied in turn to the start state, give the object's state.
     ghost invariant = { λ h.
         Replays C.steps (S.start C.state C.opening) h.entries.items
         (C.state h.core) };

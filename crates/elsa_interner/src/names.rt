@@ -112,6 +112,7 @@ fn search<A: Allocator + Copy>(
 /// earlier is known to be that of its text.
 #[derive(Drop)]
 pub struct Names<'a, S: BuildHasher, A: Allocator + Copy> {
+    // The name of each number, and the number of each name by its hash.
     list: Vec<&'a str, A>,
     table: PlaceTable<A>,
     hash_builder: S,
@@ -127,6 +128,8 @@ impl<'a, S: BuildHasher, A: Allocator + Copy> Model for Names<'a, S, A> {
     ghost use Rattle.elsa_buckets.specs.Table.{IsCount};
     ghost use Rattle.elsa_interner.specs.Names.{text_hash, IsNumbered};
 
+    // Names are distinct, the table finds the number of each by its hash, and numbers fit into 32
+    // bits.
     ghost invariant = { λ s. IsNumbered (text_hash S.BuildHasher S.Hasher.Hasher s.hash_builder)
         s.table (map (λ b. b.now) s.list.items) × IsCount (length s.list.items) };
 }

@@ -30,6 +30,7 @@ fn write_all<W: Sink>(writer: &mut W, piece: &[u8]) -> Result<(), Failed>
 #[derive(Drop)]
 pub struct Pending {
     bytes: [u8; ROOM],
+    // The number of bytes that wait; the others are old.
     len: usize,
 }
 
@@ -40,6 +41,7 @@ impl Model for Pending {
 
     ghost view = { λ p. take p.len p.bytes };
 
+    // `len` counts bytes of `bytes`.
     ghost invariant = { λ p. p.len ≤ 8192 };
 }
 

@@ -47,6 +47,7 @@ impl<
 
     ghost view = { λ it. drop it.place (pairs_of it.entries) };
 
+    // `place` is an index of the entries, or the end.
     ghost invariant = { λ it. it.place ≤ length it.entries };
 }
 

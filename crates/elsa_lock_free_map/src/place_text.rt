@@ -70,6 +70,7 @@ impl<'a> PlaceText<'a> for &mut TextBuffer<'a> {
         let (taken, rest) = free.split_at_mut(len);
         self.free = rest;
         taken.copy_from_slice(text.as_bytes());
+        // SAFETY: `taken` has the bytes of `text`, all of them.
         Ok(unsafe { str::from_utf8_unchecked(taken) })
     }
 }

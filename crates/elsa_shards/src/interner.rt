@@ -64,6 +64,8 @@ impl<T: Copy + Drop + Hash, S: BuildHasher + Copy + Drop, A: Allocator + Copy> M
 
     ghost view = { λ s. (s.shards.items, s.hash_builder) };
 
+    // A name's number has its shard and its index there, so there is a shard, and a shard's number
+    // has 32 bits.
     ghost invariant = { λ s. (0 < length s.shards.items) × (length s.shards.items ≤ 2 ^ 32) };
 }
 
@@ -162,6 +164,7 @@ impl<'i, T: Copy + Drop + Hash, S: BuildHasher + Copy + Drop, A: Allocator + Cop
 
     ghost view = { λ h. (h.names.items, h.hash_builder) };
 
+    // As in the interner: a handle for each shard.
     ghost invariant = { λ h. (0 < length h.names.items) × (length h.names.items ≤ 2 ^ 32) };
 }
 

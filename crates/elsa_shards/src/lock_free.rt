@@ -50,6 +50,7 @@ impl<
 
     ghost view = { λ m. (m.shards.items, m.hash_builder) };
 
+    // A key's shard is its hash modulo the number of shards, so there is one.
     ghost invariant = { λ m. 0 < length m.shards.items };
 }
 
@@ -184,6 +185,7 @@ impl<
 
     ghost view = { λ h. (h.handles.items, h.hash_builder) };
 
+    // A key's handle is that of its shard, so there is one.
     ghost invariant = { λ h. 0 < length h.handles.items };
 }
 

@@ -86,6 +86,7 @@ where
 
     ghost view = { λ m. (length m.shards.items, m.hash_builder) };
 
+    // A key's shard is its hash modulo the number of shards, so there is one.
     ghost invariant = { λ m. 0 < length m.shards.items };
 }
 

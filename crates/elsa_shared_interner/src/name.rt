@@ -58,6 +58,7 @@ impl Name {
     pub fn as_str(&self) -> &str
         ensures { result.now ≡ text_of self.now }
     {
+        // SAFETY: the first `len` bytes are those of the text of which `new` made the name.
         unsafe { str::from_utf8_unchecked(&self.bytes[..self.len as usize]) }
     }
 }

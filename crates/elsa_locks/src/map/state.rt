@@ -27,6 +27,7 @@ where
     T: Table<K, Arc<V, A>>,
 {
     pub(super) table: T,
+    // Allocates each `Arc`.
     pub(super) alloc: A,
     pub(super) of: PhantomData<(K, V, R)>,
 }
@@ -43,6 +44,7 @@ where
 
     ghost view = { λ s. shown (T.entries s.table) };
 
+    // Keys are distinct, and each entry obeys the rule.
     ghost invariant = { λ s. IsKept T.same R.holds (shown (T.entries s.table)) };
 }
 

@@ -62,6 +62,7 @@ where
     T: StableDeref<R>,
 {
     items: &'v FrozenVecIn<R, T, A>,
+    // The index of the next item from the front, and the one behind the next item from the back.
     place: usize,
     end: usize,
 }
@@ -80,6 +81,7 @@ where
 
     ghost view = { λ it. take (it.end - it.place) (drop it.place it.items.now) };
 
+    // The items from `place` to `end` are left.
     ghost invariant = { λ it. (it.place ≤ it.end) × (it.end ≤ length it.items.now) };
 }
 
