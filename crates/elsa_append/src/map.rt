@@ -106,6 +106,7 @@ pub struct AppendMap<
     S: BuildHasher = BuildHasherDefault<FoldHasher>,
     A: Allocator + Copy = Global,
 > {
+    // The entries in the order of insertion, and the index of each by the hash of its key.
     pairs: Vec<(K, B), A>,
     table: PlaceTable<A>,
     hash_builder: S,

@@ -20,6 +20,7 @@ pub use elsa_slots::iter::Refs as Iter;
 /// Its items are read by reference, valid as long as the collection, by no access to what
 /// insertions change. So it may be read inside any other call.
 pub struct Observed<'v, T, A: Allocator = Global> {
+    // Where the items are, evidence that those of the prefix are written, and their number.
     pub(crate) slots: &'v Slots<T, A>,
     pub(crate) prefix: WrittenPrefix<T, Buffer<T, A>>,
     pub(crate) count: usize,

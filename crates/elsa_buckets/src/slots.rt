@@ -8,6 +8,8 @@ use std::alloc::{AllocError, Allocator};
 /// A bucket: the hash of an index, and the index plus 1. If that number is 0, the bucket is free.
 #[derive(Clone, Copy)]
 pub struct Slot {
+    // The hash of the index's key, which is compared first, and the index plus one, or 0 if the
+    // bucket is free.
     pub(crate) hash: u32,
     pub(crate) number: u32,
 }

@@ -7,6 +7,7 @@ use std::alloc::{Allocator, Global};
 use std::marker::Model;
 
 pub(crate) struct Parts<T, A: Allocator> {
+    // The box's address, and what deallocates it.
     pub(crate) ptr: *mut T,
     pub(crate) alloc: A,
     pub(crate) ghost value: { T },
@@ -40,6 +41,7 @@ impl<T, A: Allocator> Parts<T, A> {
 #[repr(C)]
 #[derive(Drop)]
 pub struct Handle {
+    // As in `Parts`, for names; without names the address is null.
     pub(crate) ptr: *mut u8,
     pub(crate) alloc: Global,
     pub(crate) ghost value: { Option (List (List ℕ)) },

@@ -28,6 +28,7 @@ use std::{fmt, io};
 /// The hasher builder of a table, with two secret words.
 #[derive(Clone, Copy)]
 pub struct SeededState {
+    // The first state of a hasher, and the word that is mixed into a factor of each product.
     start: u64,
     factor: u64,
 }

@@ -16,6 +16,7 @@ use std::sync::{RwLock, Wait};
 #[derive(Drop)]
 pub struct RecordPass<C: Core, A: Allocator = Global> {
     number: u64,
+    // For each call, its index in the history, its command and its reply.
     receipts: Vec<(usize, C::Command, C::Reply), A>,
     of: PhantomData<C>,
 }

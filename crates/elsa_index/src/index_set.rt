@@ -38,6 +38,7 @@ where
     T: StableDeref<R>,
     T::Borrow: Eq + Hash,
 {
+    // Where values are stored, and the borrow of each, in the order of insertion.
     arena: R,
     set: IndexSet<T::Borrow, S, A>,
     of: PhantomData<T>,

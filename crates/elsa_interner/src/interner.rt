@@ -39,6 +39,7 @@ pub struct Interner<
     A: Allocator + Copy = Global,
     P: Allocator = Global,
 > {
+    // Where the texts are; the numbers are in `names`, which borrows them.
     arena: &'a Bump<P>,
     names: InternerReader<'a, S, A>,
 }

@@ -41,6 +41,8 @@ pub type SeenHistory<T, A, K, X> = Seen<Event<T>, Log<T>, OneWord<Buffer<T, A, X
 /// The word has cache lines of its own, since each push changes it and each read needs the slots.
 /// Some processors fetch lines in pairs, so 128 bytes of padding separate the word from other data.
 pub struct AtomicList<T, A: Allocator, K: ItemRule<T>, X: Beside<T> = ()> {
+    // The items; the word, whose half is the length and whose last bit is the lock, on cache lines
+    // of its own; and the history as it began, by which evidence is known to be of this list.
     pub(crate) slots: Slots<T, A, X>,
     word: CachePadded<CachePadded<Word<Event<T>, Log<T>, OneWord<Buffer<T, A, X>, K>>>>,
     pub(crate) first: SeenHistory<T, A, K, X>,

@@ -26,6 +26,7 @@ use std::sync::Wait;
 pub struct Hold<'v, T, A: Allocator, K: ItemRule<T>, X: Beside<T>> {
     list: &'v AtomicList<T, A, K, X>,
     seen: SeenHistory<T, A, K, X>,
+    // The right to write the item at index `at`, which has this slot of this buffer.
     right: Gained<Event<T>, Log<T>, AcquireGain<Buffer<T, A, X>>>,
     at: usize,
     buffer: usize,

@@ -53,6 +53,7 @@ impl PushRight {
 /// vector that it belongs to, its number as a writer, and the list that it has observed.
 pub struct Pass<T, A: Allocator = Global, K: ItemRule<T> = AnyItems, X: Beside<T> = ()> {
     seen: SeenHistory<T, A, K, X>,
+    // The writer's number, and the length of the list of `seen`.
     author: Author,
     seen_length: usize,
 }

@@ -23,6 +23,7 @@ impl<'a, P: Allocator> PlaceText<'a> for &'a Bump<P> {
 /// Unlike a `Bump`, it can be moved to another thread.
 #[derive(Drop)]
 pub struct TextBuffer<'a> {
+    // The bytes that no text has yet.
     free: &'a mut [u8],
 }
 

@@ -10,6 +10,7 @@ use std::marker::Model;
 ///
 /// [`FrozenSet`](crate::FrozenSet) and [`FrozenBTreeSet`](crate::FrozenBTreeSet) are its names.
 pub struct FrozenKeys<R: Copy, T> {
+    // Where values are stored, and their borrows.
     pub(crate) arena: R,
     pub(crate) set: T,
 }

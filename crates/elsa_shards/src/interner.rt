@@ -49,6 +49,7 @@ pub struct ShardedInterner<
     S: BuildHasher + Copy + Drop = BuildHasherDefault<FoldHasher>,
     A: Allocator + Copy = Global,
 > {
+    // A name is in the shard that its hash chooses.
     shards: Vec<SharedInterner<T, S, A>, A>,
     hash_builder: S,
     alloc: A,

@@ -30,6 +30,7 @@ pub struct LockFreeShardedMap<
     A: Allocator + Copy = Global,
     L: EntryRule<K, V> = AnyEntries,
 > {
+    // A key is in the shard that its hash chooses.
     shards: Vec<LockFreeFrozenMap<K, V, S, A, L>, A>,
     hash_builder: S,
     alloc: A,

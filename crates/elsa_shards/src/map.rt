@@ -70,6 +70,7 @@ pub struct ShardedMap<
     A: Allocator + Copy = Global,
     R: EntryRule<K, V> = AnyEntries,
 > {
+    // A key is in the shard that its hash chooses.
     shards: Vec<FrozenMap<K, V, S, A, R>, A>,
     hash_builder: S,
 }

@@ -40,6 +40,7 @@ pub struct FrozenVecIn<R: Copy, T, A: Allocator + Copy = Global>
 where
     T: StableDeref<R>,
 {
+    // Where values are stored, and the borrow of each.
     arena: R,
     items: Vec<T::Borrow, A>,
     of: PhantomData<T>,

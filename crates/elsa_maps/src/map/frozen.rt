@@ -50,6 +50,7 @@ where
     T: Table<K, V::Borrow>,
 {
     pub(crate) alloc: A,
+    // Where values are stored, and the borrow of each value by its key.
     pub(crate) arena: R,
     pub(crate) table: T,
     of: PhantomData<(K, V)>,
