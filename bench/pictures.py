@@ -1,11 +1,11 @@
-"""The pictures bench/results.svg and bench/growth.svg, drawn from the tables of bench/RESULTS.md."""
+"""The pictures bench/results.svg and bench/growth.svg, drawn from the tables of bench/TABLES.md."""
 import html, re
 
 from job import CRAFTED, LONGEST, NAMES_GROWTH, WORKERS
 from tables import here
 from uses import rows_of
 
-INK = {"elsa": "#2e7d32", "upstream": "#5f6b7a", "peer": "#b26a00"}
+INK = {"elsa": "#2e7d32", "upstream": "#5f6b7a", "peer": "#9c5d00"}
 HEAD = '<svg xmlns="http://www.w3.org/2000/svg" viewBox="0 0 {0} {1}" width="{0}" height="{1}" font-family="sans-serif" font-size="{2}">'
 WHITE = '<rect width="100%" height="100%" fill="white"/>'
 # The width of README's column on a phone, and the least size of a letter that is readable there.
@@ -110,6 +110,6 @@ def lines(page):
 
 def write_pictures():
     """Draws both pictures from the tables of the page."""
-    page = (here / "RESULTS.md").read_text()
+    page = (here / "TABLES.md").read_text()
     (here / "results.svg").write_text(bars(page))
     (here / "growth.svg").write_text(lines(page))

@@ -1,4 +1,4 @@
-"""The tables of bench/RESULTS.md, from measured rows."""
+"""The tables of bench/TABLES.md, from measured rows."""
 import re
 
 from job import CRAFTED, NAMES_GROWTH
@@ -83,8 +83,7 @@ def flood_note(jobs):
     return f"\n{head}: {slowest(crafted, plain)}.\n"
 
 
-def write_between(mark, text):
-    """Writes a text between the two marks of this name in RESULTS.md."""
-    page = here / "RESULTS.md"
+def write_between(mark, text, page=here / "TABLES.md"):
+    """Writes a text between the two marks of this name of a page."""
     begin, end = f"<!-- {mark}: begin -->\n", f"<!-- {mark}: end -->"
     page.write_text(re.sub(rf"({begin}).*?({end})", lambda m: m[1] + text + m[2], page.read_text(), flags=re.S))

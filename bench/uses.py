@@ -1,9 +1,10 @@
-"""The first table of bench/RESULTS.md: what a user does, and what it costs, from the rows of the tables below it."""
+"""The two tables of bench/RESULTS.md, from the rows of bench/TABLES.md: what a user does, and what it costs; and what a
+new entry costs, by the number of entries."""
 import re
 from typing import NamedTuple
 
 from job import OUR_HASH
-from tables import here
+from tables import here, write_between
 
 
 class Use(NamedTuple):
@@ -83,6 +84,13 @@ USES = (
     ),
 )
 
+# The groups of growth, what is new in each, and with which type.
+SIZES = (
+    ("Growth of the names, time per new name", "name", "`elsa intern`"),
+    ("Growth of `FrozenMap`, time per new key", "key", "`FrozenMap`"),
+    ("Growth of `FrozenAppendMap`, time per new key", "key", "`FrozenAppendMap`"),
+)
+
 
 class Row(NamedTuple):
     """A row of a table: the milliseconds of each side (of growth: the nanoseconds), its peak of memory in MiB, if the page
@@ -149,9 +157,21 @@ def uses(page):
     return "".join(f"| {' | '.join(cells)} |\n" for cells in lines)
 
 
+def sizes(page):
+    """The table of sizes, from the rows of growth of a page; a growth without rows is left out."""
+    rows, sides = rows_of(page), ("elsa", "upstream", "peer")
+    counts = [name for group, name in rows if group == SIZES[0][0]]
+    lines = [["A new", "With", *counts, "The other choice"], ["---"] * (len(counts) + 3)]
+    for group, does, type in SIZES:
+        found = [rows.get((group, count)) for count in counts]
+        if any(found):
+            cells = [figure(sides, row.times, 1) if row else "" for row in found]
+            lines.append([does, type, *cells, next(row.peer for row in reversed(found) if row)])
+    return "".join(f"| {' | '.join(cells)} |\n" for cells in lines)
+
+
 def write_uses():
-    """Writes the table of uses between its marks, from the page's own rows."""
-    page = here / "RESULTS.md"
-    text = page.read_text()
-    begin, end = "<!-- uses: begin -->\n", "<!-- uses: end -->"
-    page.write_text(re.sub(rf"({begin}).*?({end})", lambda m: m[1] + uses(text) + m[2], text, flags=re.S))
+    """Writes the tables of uses and of sizes between their marks, from the rows of the tables."""
+    text = (here / "TABLES.md").read_text()
+    write_between("uses", uses(text), here / "RESULTS.md")
+    write_between("sizes", sizes(text), here / "RESULTS.md")

@@ -1,5 +1,6 @@
 """The programs of the pages, each with its output: the reference's examples (examples/reference/*.rt.txt), the recipes
-(examples/recipes/*.rt.txt), the first program of README.md, and one that makes the imports of docs/guide/errors.md."""
+(examples/recipes/*.rt.txt), the first program of README.md, those of docs/CALLING.md, and one that makes the imports of
+docs/guide/errors.md."""
 import re, sys
 
 from repository import root
@@ -36,6 +37,21 @@ def programs_in(folder):
     return found
 
 
+def calling_programs():
+    """The programs of docs/CALLING.md by the name of a module: a block of a part has the imports and the lines of a
+    `main`, with its output in the last ones."""
+    found = {}
+    for part in re.split(r"^## ", (root / "docs" / "CALLING.md").read_text(), flags=re.M)[1:]:
+        name = part[: part.index("\n")].strip("`")
+        for text, _ in BLOCK.findall(part):
+            imports = re.findall(r"^use .*\n", text, re.M)
+            body = PRINTS.sub("", re.sub(r"^use .*\n", "", text, flags=re.M)).strip("\n")
+            main = f"fn main(rt: HostRuntime) -> io::Result<()> {{\n{body}\nOk(())\n}}\n"
+            prints = "".join(f"{line}\n" for line in PRINTS.findall(text))
+            found[f"calling_{name}"] = (f"docs/CALLING.md, {name}", f"{''.join(imports)}use std::io;\n\n{main}", prints)
+    return found
+
+
 def imports_program():
     """A program that imports each name of the table of docs/guide/errors.md from each path of its row."""
     rows = IMPORTS.findall(ERRORS.read_text())
@@ -57,7 +73,7 @@ def page_programs():
         "of_readme": ("README.md", *front_program()),
         "of_errors": ("docs/guide/errors.md", imports_program(), "found\n"),
     }
-    return pages | programs_in("reference") | programs_in("recipes")
+    return pages | calling_programs() | programs_in("reference") | programs_in("recipes")
 
 
 def recipes_fault():

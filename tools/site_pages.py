@@ -1,12 +1,12 @@
 """The pages of the site, from those of the repository: what tools/site gives to mkdocs."""
-import json, posixpath, re
+import html, json, posixpath, re
 
 from repository import root
 
 # The pages outside of docs/, by their names on the site.
 FURTHER = {"README.md": "index.md", "CHANGELOG.md": "changes.md", "CONTRIBUTING.md": "contributing.md"}
-# The head of a page whose tables need the whole width.
-WIDE = "---\nhide:\n  - navigation\n  - toc\n---\n"
+# The head of a page whose tables need the width of the list at the left.
+WIDE = "---\nhide:\n  - navigation\n---\n"
 # What begins a definition of a file in specs/.
 DEFINITION = re.compile(r"^ *(?:(?:pub|abbrev|unfoldable|record|data) )+([\w-]+)", re.M)
 
@@ -14,9 +14,12 @@ DEFINITION = re.compile(r"^ *(?:(?:pub|abbrev|unfoldable|record|data) )+([\w-]+)
 def site_path(path, label=""):
     """The place on the site of a file of the repository, with a mark for the definition `label`; None without one."""
     specs = re.fullmatch(r"crates/(\w+)/specs/(.*)\.antt", path)
+    source = re.fullmatch(r"crates/(?!example_)(\w+)/src/(.*)\.rt", path)
     example = re.match(r"crates/(example_\w+)", path)
     if specs:
         return f"definitions/{specs[1]}-{specs[2].replace('/', '-')}.md" + (f"#{label}" if label else "")
+    if source:
+        return f"sources/{source[1]}-{source[2].replace('/', '-')}.md"
     if example:
         return f"examples/{example[1]}.md"
     if path.startswith("crates/example_*"):
@@ -75,6 +78,12 @@ def definition_page(path):
     return "\n".join(page)
 
 
+def source_page(path):
+    """A page for a file of src/."""
+    crate, name = re.fullmatch(r"crates/(\w+)/src/(.*)\.rt", path).groups()
+    return f"# Source: {name} of {crate}\n\n`{path}`\n\n```rust\n{(root / path).read_text()}```\n"
+
+
 def example_pages():
     """A page for each example program, with all of its sources, and a page that lists them."""
     pages, listed = {}, []
@@ -102,14 +111,39 @@ def license_page():
 
 def all_pages():
     """The text of each page of the site, by its path there."""
-    sources = [*FURTHER, "bench/RESULTS.md"]
+    sources = [*FURTHER, "bench/RESULTS.md", "bench/TABLES.md"]
     sources += [str(it.relative_to(root)) for it in sorted((root / "docs").rglob("*.md"))]
     texts = {it: (root / it).read_text() for it in sources}
-    cited = set(re.findall(r"\]\(\.\./\.\./(crates/\w+/specs/[^)]*\.antt)\)", "\n".join(texts.values())))
+    cited = set(re.findall(r"\]\((?:\.\./)*(crates/\w+/(?:specs|src)/[^)#]*)[)#]", "\n".join(texts.values())))
     made = {site_path(it): page_of(it, text) for it, text in texts.items()}
-    made["bench/RESULTS.md"] = WIDE + made["bench/RESULTS.md"]
-    made |= {site_path(it): definition_page(it) for it in sorted(cited)}
+    made["bench/TABLES.md"] = WIDE + made["bench/TABLES.md"]
+    for it in sorted(cited):
+        page = site_path(it)
+        if page and page.startswith(("definitions/", "sources/")):
+            made[page] = definition_page(it) if it.endswith(".antt") else source_page(it)
     return {**made, **example_pages(), "license.md": license_page()}
+
+
+def pictures():
+    """The pictures of the pages, by their files: their places on the site."""
+    found = [*(root / "bench").glob("*.svg"), *(root / "docs").rglob("*.svg")]
+    return {it: site_path(str(it.relative_to(root))) for it in found}
+
+
+def labelled(text):
+    """A page of HTML whose tables have the head of its column at each cell, and whose texts that are no code, such as
+    messages, have a class. On a phone the cells of a row are one below the other, and a message is broken."""
+
+    def table(found):
+        heads = [re.sub(r"<[^>]+>", "", it) for it in re.findall(r"<th\b[^>]*>(.*?)</th>", found[0], re.S)]
+        rows = []
+        for row in re.split(r"(?=<tr>)", found[0]):
+            cells = iter(heads)
+            rows.append(re.sub(r"<td", lambda _: f'<td data-head="{html.escape(html.unescape(next(cells)))}"', row))
+        return "".join(rows)
+
+    text = re.sub(r"<pre>(<span></span><code>[^<]*</code>)", r'<pre class="plain">\1', text)
+    return re.sub(r"<table>.*?</table>", table, text, flags=re.S)
 
 
 def guide_pages():
@@ -141,14 +175,30 @@ def navigation(pages):
     maintainers = [*below["internals"], {"Decisions": "DECISIONS.md"}, {"Contributing": "contributing.md"}]
     maintainers += [{"Definitions": below["definitions"]}]
     return [
-        {"Start": [{"elsa": "index.md"}, {"Licence": "license.md"}]},
+        {"Home": [{"elsa": "index.md"}, {"Licence": "license.md"}]},
         {"Guide": guide_pages()},
         {"Reference": reference_pages()},
         {"Examples": [{"All": it} if it.endswith("/index.md") else it for it in examples]},
-        {"Measurements": ["bench/RESULTS.md"]},
+        {"Measurements": [{"For users": "bench/RESULTS.md"}, {"Tables": "bench/TABLES.md"}]},
         {"Changes": ["changes.md"]},
         {"For maintainers": maintainers},
     ]
+
+
+def names_of(menus):
+    """The names of the menus and of the pages in them that have one, except for those of the reference and of the
+    definitions, whose menus name modules."""
+    for menu in menus:
+        for name, below in menu.items() if isinstance(menu, dict) else ():
+            yield name
+            if name not in ("Reference", "Definitions") and isinstance(below, list):
+                yield from names_of(below)
+
+
+def scheme(name, prefers, icon, other):
+    """A scheme of colours, with the button that leads to the other one."""
+    toggle = {"icon": f"material/{icon}", "name": f"Use the {other} scheme"}
+    return {"media": f"(prefers-color-scheme: {prefers})", "scheme": name, "toggle": toggle}
 
 
 def settings(site, hook):
@@ -158,7 +208,15 @@ def settings(site, hook):
         "docs_dir": "docs",
         "site_dir": str(site),
         "use_directory_urls": False,
-        "theme": {"name": "material", "font": False, "features": ["navigation.tabs", "navigation.top"]},
+        "theme": {
+            "name": "material",
+            "font": False,
+            "features": ["navigation.tabs", "navigation.top"],
+            "palette": [
+                scheme("default", "light", "weather-night", "dark"),
+                scheme("slate", "dark", "weather-sunny", "light"),
+            ],
+        },
         "extra_css": ["site.css"],
         "hooks": [str(hook)],
         "markdown_extensions": [
@@ -178,13 +236,50 @@ def settings(site, hook):
 
 # Words of the search are divided as words of code are: at signs, but not at `_`.
 SEPARATOR = r"[\s\-.,:;!?()\[\]{}<>\"'`&*=|/]+"
+# Words that readers search for, and the page that has the answer.
+SEARCHED = {
+    "clear": "guide/index.html",
+    "retain": "guide/index.html",
+    "OOM": "guide/index.html",
+    "collision": "guide/index.html",
+    "no_std": "guide/index.html",
+    "windows": "guide/index.html",
+    "size_of": "guide/memory.html",
+    "MSRV": "guide/index.html",
+    "into_inner": "guide/index.html",
+    "shrink": "guide/index.html",
+    "semver": "guide/index.html",
+    "stability": "guide/index.html",
+    "maintained": "guide/index.html",
+    "async": "guide/index.html",
+    "wheel": "guide/bindings.html",
+}
 STYLE = """
-/* the column of text takes the width that the two lists leave; a line of code that is longer is broken */
+/* the column of text takes the width that the two lists leave */
 .md-grid { max-width: 80rem; }
 @media screen and (min-width: 76.25em) {
   .md-sidebar { width: 10.5rem; }
   .md-sidebar--secondary { width: 9.5rem; }
 }
-.md-typeset pre > code { white-space: pre-wrap; overflow-wrap: anywhere; font-size: 0.62rem; padding: 0.6em 0.8em; }
+/* a line of code stays one line, with its indentation */
+.md-typeset pre > code { white-space: pre; overflow-x: auto; font-size: 0.62rem; padding: 0.6em 0.8em; }
 .md-typeset table:not([class]) { font-size: 0.62rem; }
+.md-typeset pre.plain > code { white-space: pre-wrap; overflow-wrap: anywhere; }
+/* a name in a table isn't broken */
+.md-typeset table:not([class]) code { word-break: normal; overflow-wrap: normal; }
+/* on a phone the cells of a row are one below the other */
+@media screen and (max-width: 44.9375em) {
+  .md-typeset__table { width: 100%; }
+  .md-typeset table:not([class]), .md-typeset table:not([class]) :is(tbody, tr, td) { display: block; }
+  .md-typeset table:not([class]) thead, .md-typeset table:not([class]) td:empty { display: none; }
+  .md-typeset table:not([class]) td { border: 0; min-width: 0; padding: 0.2em 0.8em; overflow-wrap: break-word; }
+  .md-typeset table:not([class]) td:first-child { border-top: 0.05rem solid var(--md-typeset-table-color); padding-top: 0.6em; font-weight: bold; }
+  .md-typeset table:not([class]) td:last-child { padding-bottom: 0.6em; }
+  .md-typeset table:not([class]) td:not(:first-child):not([data-head=""])::before { content: attr(data-head) ": "; color: var(--md-default-fg-color--light); }
+  .md-typeset table:not([class]) code { overflow-wrap: anywhere; }
+}
+/* letters have a contrast of at least 4.5 to what is under them */
+[data-md-color-scheme="default"] { --md-default-fg-color--light: hsla(0, 0%, 0%, 0.62); }
+[data-md-color-scheme="slate"] { --md-default-fg-color--light: hsla(232, 75%, 95%, 0.8); --md-typeset-a-color: #9db8ff; }
+.md-copyright { color: var(--md-footer-fg-color--light); }
 """

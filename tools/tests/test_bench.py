@@ -131,9 +131,20 @@ class TestUses(unittest.TestCase):
         self.assertNotIn("longest call in ms", uses.uses(self.page))
 
     def test_the_published_uses_are_those_of_the_published_rows(self):
-        page = (root / "bench" / "RESULTS.md").read_text()
-        self.assertIn(uses.uses(page), page)
-        self.assertEqual(len(uses.uses(page).strip().split("\n")), 2 + len(uses.USES))
+        page, rows = ((root / "bench" / name).read_text() for name in ("RESULTS.md", "TABLES.md"))
+        self.assertIn(uses.uses(rows), page, "run bench/run --pictures")
+        self.assertEqual(len(uses.uses(rows).strip().split("\n")), 2 + len(uses.USES))
+
+    def test_the_published_sizes_are_those_of_the_published_rows(self):
+        page, rows = ((root / "bench" / name).read_text() for name in ("RESULTS.md", "TABLES.md"))
+        self.assertIn(uses.sizes(rows), page, "run bench/run --pictures")
+        self.assertEqual(len(uses.sizes(rows).strip().split("\n")), 2 + len(uses.SIZES))
+
+    def test_a_size_has_the_nanoseconds_of_each_side(self):
+        self.assertEqual(
+            uses.sizes(page_of(*growth())).strip().split("\n")[2:],
+            ["| name | `elsa intern` | 100 / 400 / 90 | 100 / 400 / 90 | hand-written |"],
+        )
 
 
 def page_of(*rows):
@@ -155,7 +166,7 @@ WIDE = 12 * 0.7
 
 class TestPictures(unittest.TestCase):
     def test_both_pictures_are_those_of_the_published_tables(self):
-        page = (root / "bench" / "RESULTS.md").read_text()
+        page = (root / "bench" / "TABLES.md").read_text()
         for name, text in (("results", pictures.bars(page)), ("growth", pictures.lines(page))):
             self.assertEqual(text, (root / "bench" / f"{name}.svg").read_text(), "run bench/run --pictures")
 
