@@ -1,3 +1,4 @@
 pub mod MeetLemmas
+pub mod MomentLemmas
 pub mod NumberLemmas
 pub mod ShardLemmas

@@ -1,9 +1,12 @@
 -- Which shard a key belongs to, and what a call with a key changes.
-use Rattle.std.specs.Prelude.{◌≡◌, ℕ, ◌+◌, ◌-◌, ◌*◌, ◌/◌, ◌%◌, ◌^◌, min, List, Some, fold, length, map, slice_get, slice_set}
+use Rattle.std.specs.Prelude.{◌≡◌, ℕ, ◌+◌, ◌-◌, ◌*◌, ◌/◌, ◌%◌, ◌^◌, min, Bool, List, Some, All, fold, length, map, slice_get, slice_set}
 use Rattle.std.specs.Hash.{HashWrites}
+use Rattle.std.specs.List.{IsDistinct}
+use Rattle.std.specs.Map.{keys_of}
 use Rattle.std.specs.declared.hash.BuildHasher as builder
 use Rattle.std.specs.declared.hash.Hasher as hasher
 use Rattle.elsa_lock_free.specs.SharedList.{Continues, Meet, View}
+use Rattle.elsa_tables.specs.Rules.{IsKept}
 
 -- One of `count` indices for a hash: the hash is multiplied by an odd number, and the upper half of
 -- the product's 64 bits is reduced modulo the count.
@@ -35,6 +38,16 @@ pub record AllMeet {T : Type 0} (one one_after two two_after : List (View T)) : 
   pub met : (i : ℕ) (a a_after b b_after : View T) → slice_get one i ≡ Some a → slice_get one_after i ≡ Some a_after →
       slice_get two i ≡ Some b → slice_get two_after i ≡ Some b_after → Meet a a_after b b_after
 
+-- The sum of the sizes, or the greatest number of 64 bits.
+abbrev pub count_in_all : {X : Type 0} → (X → ℕ) → List X → ℕ
+count_in_all size all = fold (λ sum it. min (sum + size it) (2 ^ 64 - 1)) 0 all
+
 -- The number of entries that the views have observed in all, or the greatest number of 64 bits.
 abbrev pub seen_in_all : {T : Type 0} → List (View T) → ℕ
-seen_in_all views = fold (λ sum view. min (sum + length view.seen) (2 ^ 64 - 1)) 0 views
+seen_in_all views = count_in_all (λ view. length view.seen) views
+
+-- P holds of the entries that the shards of a map had, those of each shard at a moment of its own:
+-- no two keys of a shard are equal, and the entries obey the map's rule.
+abbrev pub AtMoments : {K V : Type 0} → (K → K → Bool) → (K → V → Type 0) → ℕ → (List (List (K × V)) → Type 0) → Type 0
+AtMoments {K} {V} same holds count P = (shards : List (List (K × V))) × (length shards ≡ count)
+    × All (λ entries. IsDistinct same (keys_of entries) × IsKept same holds entries) shards × P shards

@@ -107,6 +107,7 @@ impl<T: Copy + Drop + Hash, S: BuildHasher + Copy + Drop, A: Allocator + Copy> S
     pub fn with_shards(alloc: A, count: usize, hash_builder: S) -> Result<Self, AllocError>
         requires count { (0 < count) × (count ≤ 2 ^ 32) }
         ensures count { IfOk result (λ s. length s.0 ≡ count) }
+        ensures same_hasher { IfOk result (λ s. s.1 ≡ hash_builder) }
     {
         let mut shards = Vec::with_capacity(alloc, count)?;
         for _ in 0..count {

@@ -86,6 +86,7 @@ impl<K: Drop + Hash, V: Drop, S: BuildHasher + Copy + Drop, A: Allocator + Copy>
     pub fn with_shards(alloc: A, count: usize, hash_builder: S) -> Result<Self, AllocError>
         requires positive { 0 < count }
         ensures count { IfOk result (λ m. length m.0 ≡ count) }
+        ensures same_hasher { IfOk result (λ m. m.1 ≡ hash_builder) }
     {
         LockFreeShardedMap::with_rule(alloc, count, hash_builder)
     }
@@ -109,6 +110,7 @@ impl<
     pub fn with_rule(alloc: A, count: usize, hash_builder: S) -> Result<Self, AllocError>
         requires positive { 0 < count }
         ensures count { IfOk result (λ m. length m.0 ≡ count) }
+        ensures same_hasher { IfOk result (λ m. m.1 ≡ hash_builder) }
     {
         let mut shards = Vec::with_capacity(alloc, count)?;
         for _ in 0..count {

@@ -1,9 +1,9 @@
 //! [`ShardedMap`]: a hashed map of locked shards.
-ghost use Rattle.std.specs.Prelude.{◌≡◌, ◌<◌, true, IfOk, IfSome, length};
+ghost use Rattle.std.specs.Prelude.{◌≡◌, ◌↔◌, ◌<◌, true, IfOk, IfSome, IsTrue, length};
 ghost use Rattle.std.specs.Arc.{arc_value};
 ghost use Rattle.std.specs.Fn.{FnOnceReturnsAt, FnOnceTakesAt};
 ghost use Rattle.elsa_tables.specs.Rules.{HoldsAt};
-ghost use Rattle.elsa_shards.specs.Shards.{shard_of, spread_over};
+ghost use Rattle.elsa_shards.specs.Shards.{AtMoments, count_in_all, shard_of, spread_over};
 
 use elsa_locks::map::FrozenMap;
 use elsa_tables::{AnyEntries, EntryRule, Seeks};
@@ -128,7 +128,8 @@ impl<K: Eq + Hash + Drop, V: Drop, S: BuildHasher + Clone + Drop, A: Allocator +
     /// The list of shards.
     pub fn with_shards(alloc: A, count: usize, hash_builder: S) -> Result<Self, AllocError>
         requires { 0 < count }
-        ensures { IfOk result (λ m. m.0 ≡ count) }
+        ensures count { IfOk result (λ m. m.0 ≡ count) }
+        ensures same_hasher { IfOk result (λ m. m.1 ≡ hash_builder) }
     {
         ShardedMap::with_rule(alloc, count, hash_builder)
     }
@@ -154,7 +155,8 @@ where
     /// The list of shards.
     pub fn with_rule(alloc: A, count: usize, hash_builder: S) -> Result<Self, AllocError>
         requires { 0 < count }
-        ensures { IfOk result (λ m. m.0 ≡ count) }
+        ensures count { IfOk result (λ m. m.0 ≡ count) }
+        ensures same_hasher { IfOk result (λ m. m.1 ≡ hash_builder) }
     {
         let mut shards = Vec::with_capacity(alloc, count)?;
         for _ in 0..count {
@@ -333,7 +335,9 @@ where
     ///
     /// # Cost
     /// The number of shards.
-    pub fn len(&self, rt: &impl Wait) -> usize {
+    pub fn len(&self, rt: &impl Wait) -> usize
+        ensures { AtMoments K.eq R.holds self.now.0 (λ shards. result ≡ count_in_all length shards) }
+    {
         let mut sum = 0usize;
         for shard in &self.shards {
             sum = sum.saturating_add(shard.len(rt));
@@ -345,7 +349,10 @@ where
     ///
     /// # Blocks
     /// As [`len`](Self::len) does.
-    pub fn is_empty(&self, rt: &impl Wait) -> bool {
+    pub fn is_empty(&self, rt: &impl Wait) -> bool
+        ensures { AtMoments K.eq R.holds self.now.0 (λ shards.
+            IsTrue result ↔ (count_in_all length shards ≡ 0)) }
+    {
         self.len(rt) == 0
     }
 }

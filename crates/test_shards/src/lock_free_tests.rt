@@ -189,3 +189,50 @@ fn a_handle_lacks_what_another_had_observed(rt: HostRuntime) -> Result<(), Fail>
     }
     Ok(())
 }
+
+// Inserts the keys below `MANY` by a closure, each twice. Returns how often a closure was called.
+fn calls_for_new_keys(rt: &impl Wait, handle: &mut NumbersHandle<'_>) -> Result<u64, AllocError> {
+    let mut calls = 0u64;
+    for key in 0..MANY {
+        for _ in 0..2 {
+            let make = || -> u64 {
+                calls = calls.wrapping_add(1);
+                key
+            };
+            let _ = handle.get_or_insert_with(rt, key, make)?;
+        }
+    }
+    Ok(calls)
+}
+
+#[test]
+fn a_closure_was_called_for_a_present_key(rt: HostRuntime) -> Result<(), Fail> {
+    for count in [1_usize, 7, 64] {
+        let map = with_shards(rt.alloc(), count)?;
+        assert_eq!(rt; calls_for_new_keys(&rt, &mut map.handle()?)?, MANY);
+    }
+    Ok(())
+}
+
+// Reads the length by a handle after each of `MANY` insertions by another handle. Returns how often
+// it was the number of entries.
+fn reads_each_length(rt: &impl Wait, map: &Numbers) -> Result<u64, AllocError> {
+    let (mut one, mut two) = (map.handle()?, map.handle()?);
+    let mut right = 0u64;
+    for key in 0..MANY {
+        let _ = one.insert(rt, key, key)?;
+        if two.len() as u64 == key.wrapping_add(1) {
+            right = right.wrapping_add(1);
+        }
+    }
+    Ok(right)
+}
+
+#[test]
+fn a_length_lacked_an_entry_of_another_handle(rt: HostRuntime) -> Result<(), Fail> {
+    for count in [1_usize, 7, 64] {
+        let map = with_shards(rt.alloc(), count)?;
+        assert_eq!(rt; reads_each_length(&rt, &map)?, MANY);
+    }
+    Ok(())
+}

@@ -44,6 +44,121 @@ fn finds_each(rt: &impl Wait, map: &Numbers) -> Result<bool, AllocError> {
     Ok(finds)
 }
 
+// The calls that insert a key, apart from `insert_new`.
+#[derive(Clone, Copy)]
+enum Insertion {
+    Insert,
+    InsertWith,
+    GetCopyOrInsert,
+    GetCopyOrInsertWith,
+}
+
+// Inserts a key with a value, unless the map has the key. Adds 1 to `calls` if the call makes the
+// value by a closure and calls it. Returns the value that the key then has.
+fn inserted(
+    rt: &impl Wait,
+    map: &Numbers,
+    by: Insertion,
+    key: u64,
+    value: u64,
+    calls: &mut u64,
+) -> Result<u64, AllocError> {
+    let make = || -> u64 {
+        *calls = calls.wrapping_add(1);
+        value
+    };
+    match by {
+        Insertion::Insert => Ok(*map.insert(rt, key, value)?),
+        Insertion::InsertWith => Ok(*map.insert_with(rt, key, make)?),
+        Insertion::GetCopyOrInsert => map.get_copy_or_insert(rt, key, value),
+        Insertion::GetCopyOrInsertWith => map.get_copy_or_insert_with(rt, key, make),
+    }
+}
+
+// Inserts the keys below `MANY`, each with three times itself, and each a second time. Returns
+// whether the first values stayed, and how often a closure was called.
+fn fill_by(rt: &impl Wait, map: &Numbers, by: Insertion) -> Result<(bool, u64), AllocError> {
+    let (mut keeps, mut calls) = (true, 0);
+    for key in 0..MANY {
+        let own = key.wrapping_mul(3);
+        keeps = keeps && inserted(rt, map, by, key, own, &mut calls)? == own;
+        keeps = keeps && inserted(rt, map, by, key, 1, &mut calls)? == own;
+    }
+    Ok((keeps, calls))
+}
+
+// Returns whether `map_get` calls its closure with the own value of each key below `MANY`, and for
+// no other key.
+fn calls_for_each(rt: &impl Wait, map: &Numbers) -> bool {
+    let mut calls = true;
+    for key in 0..MANY {
+        let found = map.map_get(rt, &key, |value| value.wrapping_add(1));
+        let absent = map
+            .map_get(rt, &key.wrapping_add(MANY), |value| *value)
+            .is_none();
+        calls = calls && found == Some(key.wrapping_mul(3).wrapping_add(1)) && absent;
+    }
+    calls
+}
+
+// Returns whether thousands of keys that a call inserts are found, and how often the call called
+// its closure.
+fn finds_inserted(
+    rt: &impl Wait,
+    alloc: Global,
+    count: usize,
+    by: Insertion,
+) -> Result<(bool, u64), AllocError>
+    requires { 0 < count }
+{
+    let map = with_shards(alloc, count)?;
+    let (keeps, calls) = fill_by(rt, &map, by)?;
+    let found = finds_each(rt, &map)? && calls_for_each(rt, &map);
+    Ok((keeps && found && map.len(rt) == MANY as usize, calls))
+}
+
+#[test]
+fn an_insertion_put_a_key_into_another_shard(rt: HostRuntime) -> Result<(), Fail> {
+    for count in [1_usize, 7, 64] {
+        let by_value = finds_inserted(&rt, rt.alloc(), count, Insertion::Insert)?;
+        assert_eq!(rt; by_value, (true, 0));
+        let by_copy = finds_inserted(&rt, rt.alloc(), count, Insertion::GetCopyOrInsert)?;
+        assert_eq!(rt; by_copy, (true, 0));
+    }
+    Ok(())
+}
+
+#[test]
+fn a_closure_was_called_for_a_present_key_of_a_shard(rt: HostRuntime) -> Result<(), Fail> {
+    for count in [1_usize, 7, 64] {
+        let by_value = finds_inserted(&rt, rt.alloc(), count, Insertion::InsertWith)?;
+        assert_eq!(rt; by_value, (true, MANY));
+        let by_copy = finds_inserted(&rt, rt.alloc(), count, Insertion::GetCopyOrInsertWith)?;
+        assert_eq!(rt; by_copy, (true, MANY));
+    }
+    Ok(())
+}
+
+// Makes a map of seven shards for each key below 100, with that key alone. Returns the number of
+// maps that have the length 1 and aren't empty.
+fn counted_alone(rt: &impl Wait, alloc: Global) -> Result<u64, AllocError> {
+    let mut right = 0u64;
+    for key in 0..100u64 {
+        let map = with_shards(alloc, 7)?;
+        map.insert(rt, key, key)?;
+        if map.len(rt) == 1 && !map.is_empty(rt) {
+            right = right.wrapping_add(1);
+        }
+    }
+    Ok(right)
+}
+
+#[test]
+fn a_shard_was_not_counted(rt: HostRuntime) -> Result<(), Fail> {
+    assert_eq!(rt; counted_alone(&rt, rt.alloc())?, 100);
+    Ok(())
+}
+
 // Returns whether a walk visits each entry once: the number and the sum of the values.
 fn walks(rt: &impl Wait, map: &Numbers) -> bool {
     let mut count = 0u64;

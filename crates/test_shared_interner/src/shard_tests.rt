@@ -235,6 +235,27 @@ fn a_handle_lacked_the_name_of_another(rt: HostRuntime) -> Result<(), Fail> {
     Ok(())
 }
 
+/// Reads the number of names by a handle after each of `FEW` names that another handle puts.
+/// Returns how often it was right.
+fn reads_each_length(rt: &impl Wait, interner: &Numbered) -> Result<usize, AllocError> {
+    let (mut one, mut two) = (interner.handle()?, interner.handle()?);
+    let mut right = 0usize;
+    for name in 0..FEW {
+        let _ = one.put(rt, name as u64)?;
+        if two.len() == name.wrapping_add(1) {
+            right = right.wrapping_add(1);
+        }
+    }
+    Ok(right)
+}
+
+#[test]
+fn a_length_lacked_a_name_of_another_handle(rt: HostRuntime) -> Result<(), Fail> {
+    let interner: Numbered = ShardedInterner::new(rt.alloc())?;
+    assert_eq!(rt; reads_each_length(&rt, &interner)?, FEW);
+    Ok(())
+}
+
 /// Puts the names 0 to `MANY - 1`, and returns the greatest number.
 fn greatest(rt: &impl Wait, names: &mut NumberedHandle<'_>) -> Result<usize, AllocError> {
     let mut greatest = 0usize;

@@ -1,5 +1,5 @@
 //! The vector under a lock, and an iterator over it.
-ghost use Rattle.std.specs.Prelude.{◌≡◌, ◌+◌, IfOk, OnErr, IfSome, IfNone, MatchOption};
+ghost use Rattle.std.specs.Prelude.{◌≡◌, ◌+◌, ◌^◌, ◌<◌, IfOk, OnErr, IfSome, IfNone};
 ghost use Rattle.std.specs.Arc.{arc_value};
 
 use super::VecState;
@@ -34,11 +34,13 @@ impl<V, A: Allocator + Copy> FrozenVec<V, A> {
         }
     }
 
-    /// Returns the number of items. It allocates nothing.
+    /// Returns the number of items, which is below `2^63`. It allocates nothing.
     ///
     /// # Blocks
     /// While a thread writes or waits to write.
-    pub fn len(&self, rt: &impl Wait) -> usize {
+    pub fn len(&self, rt: &impl Wait) -> usize
+        ensures limit { result < 2 ^ 63 }
+    {
         self.lock.read(rt).len()
     }
 
@@ -100,26 +102,30 @@ impl<V: Drop, A: Allocator + Copy> FrozenVec<V, A> {
         self.lock.write(rt).push_get(value)
     }
 
-    /// Appends the item, and returns its index.
+    /// Appends the item, and returns its index, which is below `2^63 - 1`.
     ///
     /// # Errors
     /// Fails if an allocation fails. The vector is then unchanged, and the item is dropped.
     ///
     /// # Blocks
     /// While another thread has the lock.
-    pub fn push_get_index(&self, rt: &impl Wait, value: V) -> Result<usize, AllocError> {
+    pub fn push_get_index(&self, rt: &impl Wait, value: V) -> Result<usize, AllocError>
+        ensures limit { IfOk result (λ place. place + 1 < 2 ^ 63) }
+    {
         self.lock.write(rt).push_get_index(value)
     }
 
     /// Returns an `Arc` of the item at the index `place`, or `None` if the index is at or above the
-    /// length.
+    /// length. It is `None` for an index of `2^63 - 1` or more.
     ///
     /// # Errors
     /// Fails if the `Arc` has the maximum number of owners.
     ///
     /// # Blocks
     /// While a thread writes or waits to write.
-    pub fn get(&self, rt: &impl Wait, place: usize) -> Result<Option<Arc<V, A>>, AllocError> {
+    pub fn get(&self, rt: &impl Wait, place: usize) -> Result<Option<Arc<V, A>>, AllocError>
+        ensures limit { IfOk result (λ a. IfSome a (λ _. place + 1 < 2 ^ 63)) }
+    {
         self.lock.read(rt).get(place)
     }
 

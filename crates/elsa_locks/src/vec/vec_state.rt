@@ -1,5 +1,5 @@
 //! The vector under the lock of `FrozenVec`, with contracts that define the effect of each call.
-ghost use Rattle.std.specs.Prelude.{◌≡◌, [], ◌∷◌, ◌++◌, ◌<◌, length, slice_get, IfOk, OnErr, OnOk, IsTrue, ◌↔◌};
+ghost use Rattle.std.specs.Prelude.{◌≡◌, [], ◌∷◌, ◌++◌, ◌+◌, ◌^◌, ◌<◌, length, slice_get, IfOk, IfSome, OnErr, OnOk, IsTrue, ◌↔◌};
 ghost use Rattle.std.specs.Option.{option_map};
 ghost use Rattle.std.specs.Arc.{arc_value};
 ghost use Rattle.std.specs.Cmp.Lexicographic.{pointwise};
@@ -47,10 +47,11 @@ impl<V, A: Allocator + Copy> VecState<V, A> {
         VecState { list, alloc }
     }
 
-    /// Returns the number of items.
+    /// Returns the number of items, which is below `2^63`.
     #[tactic(auto, using(crate::proofs::Shared::shows))]
     pub fn len(&self) -> usize
-        ensures { result ≡ length self.now }
+        ensures length { result ≡ length self.now }
+        ensures limit { result < 2 ^ 63 }
     {
         self.list.len()
     }
@@ -118,6 +119,7 @@ impl<V: Drop, A: Allocator + Copy> VecState<V, A> {
     #[tactic(auto, using(crate::proofs::Shared::shows))]
     pub fn get(&self, place: usize) -> Result<Option<Arc<V, A>>, AllocError>
         ensures answer { IfOk result (λ a. option_map arc_value a ≡ slice_get self.now place) }
+        ensures limit { IfOk result (λ a. IfSome a (λ _. place + 1 < 2 ^ 63)) }
         ensures only_present { OnErr result (place < length self.now) }
     {
         self.list.get(place).cloned()
@@ -158,6 +160,7 @@ impl<V: Drop, A: Allocator + Copy> VecState<V, A> {
     #[tactic(auto, using(crate::proofs::Shared::shows))]
     pub fn push_get_index(&mut self, value: V) -> Result<usize, AllocError>
         ensures answer { IfOk result (λ place. place ≡ length self.old) }
+        ensures limit { IfOk result (λ place. place + 1 < 2 ^ 63) }
         ensures appended { OnOk result (self.new ≡ self.old ++ value ∷ []) }
         ensures refused { OnErr result (self.new ≡ self.old) }
     {
