@@ -1,2 +1,6 @@
 pub mod Beginnings
+pub mod Bracketed
+pub mod Callable
+pub mod EachLemmas
+pub mod Narrowing
 pub mod ReadyLemmas

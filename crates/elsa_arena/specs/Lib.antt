@@ -2,3 +2,4 @@ pub mod Faults
 pub mod Kept
 pub mod Observed
 pub mod Ready
+pub mod Search

@@ -1,5 +1,5 @@
 -- What a handle of a collection has observed: a prefix of its list, which only grows at its end.
-use Rattle.std.specs.Prelude.{ℕ, ◌≡◌, ◌<◌, ◌^◌, List, [], ◌∷◌, ◌++◌, length}
+use Rattle.std.specs.Prelude.{ℕ, ◌≡◌, ◌<◌, ◌^◌, List, [], ◌∷◌, ◌++◌, Some, length, slice_get}
 use mathlib.Core.List.{IsPrefix}
 use Rattle.elsa_slots.specs.Ahead.{GoesOn}
 use Rattle.elsa_arena.specs.declared.state.State.{State}
@@ -19,6 +19,10 @@ pub record Whole (T : Type 0) : Type 0 where
   pub capacity : ℕ
 
 module _ {T : Type 0} where
+  -- the fact holds of each item
+  abbrev pub EachHolds : (T → Type 0) → List T → Type 0
+  EachHolds holds items = (i : ℕ) (x : T) → slice_get items i ≡ Some x → holds x
+
   -- What a handle that is made under a lock guard has observed: all items.
   abbrev pub view_of : Whole T → View T
   view_of w = record { vector = w.vector; seen = w.seen }

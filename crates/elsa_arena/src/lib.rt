@@ -9,6 +9,7 @@ pub mod arena;
 pub mod fault;
 mod kept;
 pub mod observed;
+mod search;
 pub mod shared;
 pub mod shown;
 pub mod state;

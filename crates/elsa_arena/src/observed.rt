@@ -1,6 +1,6 @@
 //! [`Observed`]: the prefix of a list that a handle has observed, its iterator, and [`Seen`], which
 //! outlives the handle.
-ghost use Rattle.std.specs.Prelude.{◌≡◌, ◌<◌, ◌≤◌, ◌-◌, ◌^◌, ℕ, drop, length, slice_get, Some};
+ghost use Rattle.std.specs.Prelude.{◌≡◌, ◌⊎◌, ◌<◌, ◌≤◌, ◌-◌, ◌^◌, drop, length, slice_get, Some};
 ghost use Rattle.std.specs.Option.{option_map};
 ghost use Rattle.elsa_arena.specs.Observed.{Continues};
 
@@ -154,8 +154,7 @@ impl<'v, T, A: Allocator + Copy> Observed<'v, T, A> {
         ensures continues { Continues self.old self.new }
         ensures other_continues { Continues other.old other.new }
         ensures same { self.new.seen ≡ other.new.seen }
-        ensures limit { (most : ℕ) → length self.old.seen ≤ most → length other.old.seen ≤ most →
-            length self.new.seen ≤ most }
+        ensures one { (self.new.seen ≡ self.old.seen) ⊎ (self.new.seen ≡ other.old.seen) }
     {
         if self.count < other.count {
             begins(&self.prefix, &other.prefix);

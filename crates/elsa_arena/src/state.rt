@@ -397,6 +397,7 @@ pub fn reserve<T, A: Allocator + Copy>(
     ensures capacity { capacity_of state.old ≤ capacity_of state.new }
     ensures room { OnOk result
         (length state.old.prefix.items + additional ≤ capacity_of state.new) }
+    ensures limit { OnOk result (length state.old.prefix.items + additional < 2 ^ 62) }
 {
     let count = state.count;
     if additional > MOST - count {

@@ -1,9 +1,13 @@
 //! [`FrozenVec`], its [`Handle`] and its lock guard [`Hold`].
-ghost use Rattle.std.specs.Prelude.{◌≡◌, ◌⊎◌, ◌+◌, ◌-◌, ◌<◌, ◌≤◌, ◌^◌, ◌++◌, ◌∷◌, [], drop, length, slice_get, IfErr, IfOk, IfSome, OnErr, OnOk};
+ghost use Rattle.std.specs.Prelude.{◌≡◌, ◌⊎◌, ◌+◌, ◌-◌, ◌<◌, ◌≤◌, ◌^◌, ◌++◌, ◌∷◌, [], Bool, ℕ, drop, false, length, slice_get, true, IfErr, IfOk, IfSome, OnErr, OnOk};
 ghost use Rattle.std.specs.Option.{option_map};
+ghost use Rattle.std.specs.declared.cmp.Ordering.{Ordering};
+ghost use Rattle.std.specs.Fn.{CalledAt, TakesAt};
+ghost use Rattle.std.specs.List.Sorted.{IsBinarySearchResult, IsPartitionPoint, IsPartitionedBy, IsSearchInRange};
 ghost use mathlib.Core.List.{IsPrefix};
 ghost use Rattle.elsa_arena.specs.Faults.{GivesBack, Refuses};
 ghost use Rattle.elsa_arena.specs.Observed.{Appends, Continues, IsStateOf, view_of};
+ghost use Rattle.elsa_arena.specs.Search.{Searched, Brackets, IsBetween, Answered, AnswersByItem, AnswersByPlace, CallableAtItems, Compares, ComparesAt, Falls, Parts, Rises, Splits};
 
 use crate::fault::{CellFault, Fault, InUse};
 use crate::observed::{Iter, Observed, Seen};
@@ -14,6 +18,7 @@ use crate::views::{is_behind, is_evidence_behind, observe, slots_of};
 use boxcar::tag::Tag;
 use elsa_slots::slots::Slots;
 use std::alloc::{AllocError, Allocator, Global};
+use std::cmp::Ordering;
 use std::marker::Model;
 
 /// A list that grows through `&self` and owns its items: references to them are valid as long as
@@ -79,7 +84,9 @@ impl<T, A: Allocator + Copy> FrozenVec<T, A> {
     ///
     /// # Cost
     /// `O(log count)`.
-    pub fn with_capacity(alloc: A, count: usize) -> Result<Self, AllocError> {
+    pub fn with_capacity(alloc: A, count: usize) -> Result<Self, AllocError>
+        ensures limit { OnOk result (count < 2 ^ 62) }
+    {
         let (slots, further) = Slots::new(alloc)?;
         let tag = Tag::of::<Slots<T, A>, OfSlots>(&slots);
         let shown = Shown::first(&further, &tag);
@@ -103,7 +110,9 @@ impl<T, A: Allocator + Copy> FrozenVec<T, A> {
     ///
     /// # Cost
     /// `O(log n)` in the number of items.
-    pub fn reserve(&self, additional: usize) -> Result<(), Fault> {
+    pub fn reserve(&self, additional: usize) -> Result<(), Fault>
+        ensures limit { OnOk result (additional < 2 ^ 62) }
+    {
         let mut hold = self.hold()?;
         hold.reserve(additional)
     }
@@ -149,6 +158,7 @@ impl<T, A: Allocator + Copy> FrozenVec<T, A> {
     /// `O(1)`.
     pub fn observed(&self) -> Observed<'_, T, A>
         ensures same_vector { result.vector ≡ self.now }
+        ensures limit { length result.seen < 2 ^ 62 }
     {
         self.shown.observe(&self.slots)
     }
@@ -232,9 +242,26 @@ impl<T, A: Allocator + Copy> FrozenVec<T, A> {
     ///
     /// # Cost
     /// `O(1)`.
-    pub fn get(&self, index: usize) -> Option<&T> {
-        let observed = self.observed();
-        observed.get(index)
+    pub fn get(&self, index: usize) -> Option<&T>
+        ensures limit { IfSome result (λ _. index + 1 < 2 ^ 62) }
+    {
+        let items = self.observed();
+        items.get(index)
+    }
+
+    /// Returns a reference to the item at an index, or `None` if the index is at or above the
+    /// number of items. `seen` is evidence of items that the list has ([`Observed::evidence`]): an
+    /// index of one of them has exactly that item. It allocates nothing.
+    ///
+    /// # Cost
+    /// `O(1)`.
+    pub fn get_since(&self, seen: &Seen<T, A>, index: usize) -> Option<&T>
+        requires same_vector { seen.now.vector ≡ self.now }
+        ensures item { index < length seen.now.seen →
+            option_map (λ r. r.now) result ≡ slice_get seen.now.seen index }
+    {
+        let handle = self.handle_since(seen);
+        handle.get(index)
     }
 
     /// Returns a reference to the first item, or `None` if the list is empty. It allocates nothing.
@@ -272,6 +299,67 @@ impl<T, A: Allocator + Copy> FrozenVec<T, A> {
     /// `O(1)`.
     pub fn is_empty(&self) -> bool {
         self.len() == 0
+    }
+
+    /// Searches a sorted list for an item that compares as equal with `target`.
+    ///
+    /// `Ok` has the index of such an item, and `Err` the index at which the item could be inserted.
+    /// Which one comes back is not proved: a handle's [`binary_search`](Handle::binary_search)
+    /// promises it.
+    ///
+    /// # Cost
+    /// `O(log n)`.
+    pub fn binary_search(&self, target: &T) -> Result<usize, usize>
+    where
+        T: Ord,
+        ensures limit { IsSearchInRange result (2 ^ 62 - 1) }
+    {
+        let items = self.observed();
+        items.binary_search(target)
+    }
+
+    /// Searches for an item for which the closure returns `Equal`, as a handle's
+    /// [`binary_search_by`](Handle::binary_search_by) does. The closure may push to the list; the
+    /// search is among the items that the list had before.
+    ///
+    /// # Cost
+    /// `O(log n)`.
+    pub fn binary_search_by<F: FnMut(&T) -> Ordering>(&self, order: F) -> Result<usize, usize>
+        requires callable { F.IsAlwaysCallable order }
+        ensures limit { IsSearchInRange result (2 ^ 62 - 1) }
+    {
+        let items = self.observed();
+        items.binary_search_by(order)
+    }
+
+    /// Searches as [`binary_search_by`](Self::binary_search_by) does, by keys: `key_of(item)` is
+    /// compared with `key`.
+    ///
+    /// # Cost
+    /// `O(log n)`.
+    pub fn binary_search_by_key<K: Ord + Drop, F: FnMut(&T) -> K>(
+        &self,
+        key: &K,
+        key_of: F,
+    ) -> Result<usize, usize>
+        requires callable { F.IsAlwaysCallable key_of }
+        ensures limit { IsSearchInRange result (2 ^ 62 - 1) }
+    {
+        let items = self.observed();
+        items.binary_search_by_key(key, key_of)
+    }
+
+    /// Returns the index at which the items for which the closure returns true end, as a handle's
+    /// [`partition_point`](Handle::partition_point) does.
+    ///
+    /// # Cost
+    /// `O(log n)`.
+    pub fn partition_point<F: FnMut(&T) -> bool>(&self, belongs: F) -> usize
+        requires callable { F.IsAlwaysCallable belongs }
+        ensures limit { result < 2 ^ 62 }
+    {
+        let items = self.observed();
+        items.partition_point(belongs)
     }
 
     /// Makes the list of its state again, which may be lost.
@@ -330,7 +418,9 @@ impl<T, A: Allocator + Copy> FrozenVec<T, A> {
     ///
     /// # Cost
     /// `O(1)`, and so is each item.
-    pub fn iter(&self) -> Iter<'_, T, A> {
+    pub fn iter(&self) -> Iter<'_, T, A>
+        ensures limit { length result < 2 ^ 62 }
+    {
         let observed = self.observed();
         observed.iter_from(0)
     }
@@ -407,6 +497,102 @@ impl<'v, T, A: Allocator + Copy> Handle<'v, T, A> {
         ensures items { result ≡ self.now.seen }
     {
         self.observed.iter_from(0)
+    }
+
+    /// Searches the items that the handle has observed, which are sorted, for one that compares as
+    /// equal with `target`.
+    ///
+    /// `Ok` has the index of an item that compares as equal. `Err` has an index between an item
+    /// that compares as less and one that compares as greater, or at an end: if the items are
+    /// sorted, the index at which the item could be inserted.
+    ///
+    /// # Cost
+    /// `O(log n)`.
+    pub fn binary_search(&self, target: &T) -> Result<usize, usize>
+    where
+        T: Ord,
+        ensures bracket { Brackets (length self.now.seen)
+            (ComparesAt T.cmp target.now self.now.seen) result }
+        ensures sorted { IsBinarySearchResult (λ item. T.cmp item target.now) self.now.seen result }
+        ensures within { IfOk result (λ i. i < length self.now.seen) }
+    {
+        self.observed.binary_search(target)
+    }
+
+    /// Searches the items that the handle has observed for one for which the closure returns
+    /// `Equal`; those with `Less` come before it and those with `Greater` after it.
+    ///
+    /// `Ok` has the index of an item for which the closure returned `Equal`. `Err` has an index
+    /// between an item for which it returned `Less` and one for which it returned `Greater`, or at
+    /// an end. This also holds for a closure that has a state or is inconsistent. The closure is
+    /// called at most as often as the number of items has binary digits, and at most once for each
+    /// index. The caller proves that the closure may be called for the items, in the states to
+    /// which the calls so far lead.
+    ///
+    /// # Cost
+    /// `O(log n)`.
+    pub fn binary_search_by<F: FnMut(&T) -> Ordering>(&self, order: F) -> Result<usize, usize>
+        requires at_items { CallableAtItems (CalledAt F.FnMut) (TakesAt F.FnMut) self.now.seen
+            order }
+        ensures bracket { Searched (CalledAt F.FnMut) self.now.seen order (λ calls.
+            Brackets (length self.now.seen) (Answered calls) result) }
+        ensures split { (o : ℕ → Ordering) →
+            AnswersByPlace (CalledAt F.FnMut) self.now.seen order o →
+            Rises (length self.now.seen) o → Splits (length self.now.seen) o result }
+        ensures by_item { (o : T → Ordering) → AnswersByItem (CalledAt F.FnMut) order o →
+            IsBinarySearchResult o self.now.seen result }
+        ensures within { IfOk result (λ i. i < length self.now.seen) }
+    {
+        self.observed.binary_search_by(order)
+    }
+
+    /// Searches as [`binary_search_by`](Self::binary_search_by) does, by keys: `key_of(item)` is
+    /// compared with `key`.
+    ///
+    /// # Cost
+    /// `O(log n)`.
+    pub fn binary_search_by_key<K: Ord + Drop, F: FnMut(&T) -> K>(
+        &self,
+        key: &K,
+        key_of: F,
+    ) -> Result<usize, usize>
+        requires at_items { CallableAtItems (CalledAt F.FnMut) (TakesAt F.FnMut) self.now.seen
+            key_of }
+        ensures bracket { Searched (Compares K.cmp key.now (CalledAt F.FnMut)) self.now.seen
+            key_of (λ calls. Brackets (length self.now.seen) (Answered calls) result) }
+        ensures split { (o : ℕ → Ordering) →
+            AnswersByPlace (Compares K.cmp key.now (CalledAt F.FnMut)) self.now.seen key_of o →
+            Rises (length self.now.seen) o → Splits (length self.now.seen) o result }
+        ensures by_item { (o : T → Ordering) →
+            AnswersByItem (Compares K.cmp key.now (CalledAt F.FnMut)) key_of o →
+            IsBinarySearchResult o self.now.seen result }
+        ensures within { IfOk result (λ i. i < length self.now.seen) }
+    {
+        self.observed.binary_search_by_key(key, key_of)
+    }
+
+    /// Returns the index at which the items for which the closure returns true end, of the items
+    /// that the handle has observed; they come before the others.
+    ///
+    /// The closure returned true for the item before that index and false for the item at it, if
+    /// these items exist. This also holds for a closure that has a state or is inconsistent, and it
+    /// is called as in [`binary_search_by`](Self::binary_search_by).
+    ///
+    /// # Cost
+    /// `O(log n)`.
+    pub fn partition_point<F: FnMut(&T) -> bool>(&self, belongs: F) -> usize
+        requires at_items { CallableAtItems (CalledAt F.FnMut) (TakesAt F.FnMut) self.now.seen
+            belongs }
+        ensures bracket { Searched (CalledAt F.FnMut) self.now.seen belongs (λ calls.
+            IsBetween (length self.now.seen) (Answered calls) true false result) }
+        ensures split { (answer : ℕ → Bool) →
+            AnswersByPlace (CalledAt F.FnMut) self.now.seen belongs answer →
+            Falls (length self.now.seen) answer → Parts (length self.now.seen) answer result }
+        ensures by_item { (test : T → Bool) → AnswersByItem (CalledAt F.FnMut) belongs test →
+            IsPartitionedBy test self.now.seen →
+            IsPartitionPoint (λ b. test b ≡ true) (λ b. test b ≡ false) self.now.seen result }
+    {
+        self.observed.partition_point(belongs)
     }
 
     /// Locks the list for one caller, as [`FrozenVec::hold`] does.
@@ -609,10 +795,10 @@ impl<'v, T, A: Allocator + Copy> Hold<'v, T, A> {
     /// # Cost
     /// `O(log n)` in the number of items.
     pub fn reserve(&mut self, additional: usize) -> Result<(), Fault>
-        ensures same { self.new.vector ≡ self.old.vector }
-        ensures items { self.new.seen ≡ self.old.seen }
+        ensures same { (self.new.vector ≡ self.old.vector) × (self.new.seen ≡ self.old.seen) }
         ensures grows { self.old.capacity ≤ self.new.capacity }
         ensures room { OnOk result (length self.old.seen + additional ≤ self.new.capacity) }
+        ensures limit { OnOk result (length self.old.seen + additional < 2 ^ 62) }
         ensures full { IfErr result (λ f. f ≡ Fault.Full →
             2 ^ 62 ≤ length self.old.seen + additional) }
     {

@@ -1,4 +1,5 @@
 pub mod EntryLemmas
 pub mod OrderLemmas
 pub mod WalkLemmas
+pub mod RuleLemmas
 pub mod ScanLemmas

@@ -1,12 +1,12 @@
 -- The walk over the entries in the order of their keys.
-use Rattle.std.proofs.Common.{◌≡◌, ℕ, zero, suc, ◌+◌, ◌<◌, ◌≤◌, false, List, [], ◌∷◌, ◌++◌, length, map, drop, get_or, slice_get, Option, None, Some, refl, ap, subst, sym, ◌∙◌, inl, inr, arith, append_assoc}
+use Rattle.std.proofs.Common.{◌≡◌, ℕ, zero, suc, ◌+◌, ◌<◌, List, [], ◌∷◌, ◌++◌, length, map, drop, get_or, slice_get, Option, None, Some, refl, ap, subst, sym, ◌∙◌, inl, inr, arith, append_assoc}
 use Rattle.std.proofs.lemmas.Bool.{cases_lt}
 use Rattle.std.proofs.lemmas.List.{length-append, length-map}
 use Rattle.std.proofs.lemmas.List.Sorted.{IsPermutation-map, IsPermutation-refl, length_permutation}
 use Rattle.std.proofs.lemmas.Option.{none-some, same_Some, slice_get_cases, slice_get_within, slice_get-get_or}
 use Rattle.std.proofs.Math.Seq.{get_or-append_seam}
 use Rattle.std.specs.declared.cmp.Ordering.{Ordering}
-use Rattle.std.specs.declared.cmp.Ordering.TheVariants.{Less, Equal, Greater}
+use Rattle.std.specs.declared.cmp.Ordering.TheVariants.{Less}
 use Rattle.std.specs.Cmp.{IsTotalOrder, tied_itself}
 use Rattle.std.specs.List.{AllByRecursion, range_with_len}
 use Rattle.std.specs.List.Sorted.{IsPermutation, IsStrictlySortedBy}
@@ -15,7 +15,7 @@ use Rattle.std.specs.Ordering.{is_gt, is_lt}
 use Rattle.elsa_slots.proofs.ListLemmas.Walks.{first_of_rest}
 use Rattle.elsa_cell.specs.declared.map.Entry.{Entry}
 use Rattle.elsa_cell.specs.Entries.{key_of}
-use Rattle.elsa_cell.specs.Ordered.{HasAt, IsGreatest, IsInOrder, IsLeast, IsOrdered, before_rest, picked}
+use Rattle.elsa_cell.specs.Ordered.{IsGreatest, IsInOrder, IsLeast, IsOrdered, before_rest, picked}
 use Rattle.elsa_cell.specs.Queries.{turned_less}
 use Rattle.elsa_cell.proofs.EntryLemmas.{get_map}
 use Rattle.elsa_cell.proofs.OrderLemmas.{counted, ranked, within}

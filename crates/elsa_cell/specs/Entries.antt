@@ -2,8 +2,9 @@
 use Rattle.std.specs.Prelude.{ℕ, ◌≡◌, ◌-◌, ◌^◌, ◌≤◌, ◌⊎◌, Bool, true, false, Some, None, List, [], ◌∷◌, ◌++◌, length, map, position}
 use Rattle.std.specs.Map.{lookup}
 use mathlib.Core.List.{IsPrefix}
-use Rattle.elsa_arena.specs.Observed.{IsStateOf}
+use Rattle.elsa_arena.specs.Observed.{EachHolds, IsStateOf}
 use Rattle.elsa_cell.specs.declared.map.Entry.{Entry}
+use Rattle.elsa_tables.specs.Rules.{HoldsAt}
 use Rattle.elsa_arena.specs.declared.state.State.{State}
 
 module _ {K V : Type 0} where
@@ -23,6 +24,10 @@ module _ {K V : Type 0} where
   abbrev pub entries_of : List (K × V) → List (Entry K V)
   entries_of [] = []
   entries_of (p ∷ ps) = record { key = p.0; value = p.1 } ∷ entries_of ps
+
+  -- each entry obeys the rule
+  abbrev pub HoldsEach : (K → V → Type 0) → List (Entry K V) → Type 0
+  HoldsEach holds = EachHolds (λ e. holds e.key e.value)
 
   -- the entries of `old`, and then one with this key and value
   abbrev pub AppendsPair : List (Entry K V) → List (Entry K V) → K → V → Type 0
@@ -44,6 +49,10 @@ module _ {K V : Type 0} where
   -- finds has the value and the index, or else an entry that was made was inserted.
   abbrev pub GetsOrInserts : (K → K → Bool) → (K → Bool) → (K → V → Type 0) → List (Entry K V) → List (Entry K V) → V → ℕ → Bool → Type 0
   GetsOrInserts equal test made before after kept index is_new = ((is_new ≡ false) × (lookup test (pairs_of after) ≡ Some kept) × (position test (map key_of after) ≡ Some index)) ⊎ ((k : K) × (v : V) × made k v × InsertsOnce equal before after k v kept index is_new)
+
+  -- The value holds for a key that the test finds, or for one that equals a key which was made.
+  abbrev pub HoldsAtOrMade : (K → K → Bool) → (K → Bool) → (K → V → Type 0) → (K → V → Type 0) → V → Type 0
+  HoldsAtOrMade equal test made holds v = HoldsAt holds test v ⊎ ((k : K) × (w : V) × made k w × HoldsAt holds (equal k) v)
 
 -- Keys as entries without values.
 abbrev pub alone : {K : Type 0} → List K → List (Entry K (Unit {0}))

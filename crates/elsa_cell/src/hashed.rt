@@ -1,5 +1,5 @@
 //! [`Hashed`]: the hash table that finds the keys of a map.
-ghost use Rattle.std.specs.Prelude.{◌≡◌, ◌<◌, Some, length, slice_get};
+ghost use Rattle.std.specs.Prelude.{◌≡◌, ◌-◌, ◌<◌, ◌≤◌, ◌^◌, OnOk, Some, length, slice_get};
 ghost use Rattle.elsa_buckets.specs.Placed.{key_hash, IsPlaced};
 ghost use Rattle.elsa_buckets.specs.Table.{IsRoom, IsVacancy, most_places, places};
 
@@ -9,6 +9,7 @@ use crate::map_hold::FrozenHold;
 use crate::places::{KeyList, Places, Seeks};
 use elsa_buckets::query::{Missing, Query, search};
 use elsa_buckets::table::PlaceTable;
+use elsa_tables::{AnyEntries, EntryRule};
 use std::alloc::{AllocError, Allocator, Global};
 use std::hash::{BuildHasher, BuildHasherDefault, FoldHasher, Hash};
 
@@ -23,39 +24,26 @@ pub struct Hashed<S: BuildHasher + Drop, A: Allocator + Copy> {
 /// The map that finds its keys by their hash. It is also the map that [`FrozenIndexMap`] names.
 ///
 /// Keys need `Eq` and `Hash`. The table has 8 bytes for each bucket.
-pub type FrozenMap<K, V, S = BuildHasherDefault<FoldHasher>, A = Global> = Frozen<
+pub type FrozenMap<K, V, S = BuildHasherDefault<FoldHasher>, A = Global, R = AnyEntries> = Frozen<
     K,
     V,
     Hashed<S, A>,
     A,
+    R,
 >;
 
 /// The [`FrozenMap`] by the name that Rust's elsa gives a map whose entries have an index
 /// ([`get_full`](Frozen::get_full), [`get_index`](Frozen::get_index)).
-pub type FrozenIndexMap<K, V, S = BuildHasherDefault<FoldHasher>, A = Global> = FrozenMap<
-    K,
-    V,
-    S,
-    A,
->;
+pub type FrozenIndexMap<K, V, S = BuildHasherDefault<FoldHasher>, A = Global, R = AnyEntries> =
+    FrozenMap<K, V, S, A, R>;
 
 /// The handle of a [`FrozenMap`].
-pub type MapHandle<'m, K, V, S = BuildHasherDefault<FoldHasher>, A = Global> = FrozenHandle<
-    'm,
-    K,
-    V,
-    Hashed<S, A>,
-    A,
->;
+pub type MapHandle<'m, K, V, S = BuildHasherDefault<FoldHasher>, A = Global, R = AnyEntries> =
+    FrozenHandle<'m, K, V, Hashed<S, A>, A, R>;
 
 /// The lock guard of a [`FrozenMap`].
-pub type MapHold<'m, K, V, S = BuildHasherDefault<FoldHasher>, A = Global> = FrozenHold<
-    'm,
-    K,
-    V,
-    Hashed<S, A>,
-    A,
->;
+pub type MapHold<'m, K, V, S = BuildHasherDefault<FoldHasher>, A = Global, R = AnyEntries> =
+    FrozenHold<'m, K, V, Hashed<S, A>, A, R>;
 
 impl<K: Eq + Hash + Drop, V: Drop, A: Allocator + Copy> FrozenMap<
     K,
@@ -82,7 +70,9 @@ impl<K: Eq + Hash + Drop, V: Drop, A: Allocator + Copy> FrozenMap<
     ///
     /// # Allocates
     /// As [`new`](Self::new) and [`reserve`](Frozen::reserve) do.
-    pub fn with_capacity(alloc: A, count: usize) -> Result<Self, AllocError> {
+    pub fn with_capacity(alloc: A, count: usize) -> Result<Self, AllocError>
+        ensures limit { OnOk result (count ≤ 2 ^ 32 - 1) }
+    {
         let map = FrozenMap::new(alloc)?;
         match map.reserve(count) {
             Ok(()) => Ok(map),
@@ -105,6 +95,25 @@ impl<K: Eq + Hash + Drop, V: Drop, S: BuildHasher + Drop, A: Allocator + Copy> F
     /// # Allocates
     /// The directory of its buffers, and a block for what insertions change.
     pub fn with_hasher(alloc: A, hash_builder: S) -> Result<Self, AllocError> {
+        FrozenMap::with_rule(alloc, hash_builder)
+    }
+}
+
+impl<
+    K: Eq + Hash + Drop,
+    V: Drop,
+    S: BuildHasher + Drop,
+    A: Allocator + Copy,
+    R: EntryRule<K, V>,
+> FrozenMap<K, V, S, A, R> {
+    /// Makes an empty map that hashes by `hash_builder`, with the rule `R`.
+    ///
+    /// # Errors
+    /// Fails if an allocation fails.
+    ///
+    /// # Allocates
+    /// The directory of its buffers, and a block for what insertions change.
+    pub fn with_rule(alloc: A, hash_builder: S) -> Result<Self, AllocError> {
         let table = PlaceTable::new(alloc);
         Frozen::over(
             alloc,
@@ -122,6 +131,8 @@ impl<K: Eq + Hash, S: BuildHasher + Drop, A: Allocator + Copy> Places<K> for Has
     ghost use Rattle.elsa_buckets.specs.Table.{IsRoom, IsVacancy, most_places, places};
 
     ghost same = { K.eq };
+
+    ghost equivalence = { K.Eq.laws };
 
     ghost is_for = { λ t keys. IsPlaced K.eq
         (λ k. key_hash S.BuildHasher S.Hasher.Hasher t.hash_builder (K.hash_input k)) t.table keys };

@@ -1,5 +1,5 @@
 //! [`FrozenIndexSet`]: a map whose values are `()`.
-ghost use Rattle.std.specs.Prelude.{◌≡◌, ◌⊎◌, ◌-◌, ◌<◌, ◌≤◌, ◌^◌, true, length, map, IfErr, IfOk, IfSome};
+ghost use Rattle.std.specs.Prelude.{◌≡◌, ◌⊎◌, ◌-◌, ◌<◌, ◌≤◌, ◌^◌, true, length, map, IfErr, IfOk, IfSome, OnOk};
 ghost use mathlib.Core.List.{IsPrefix};
 ghost use Rattle.elsa_arena.specs.Faults.{GivesBack};
 ghost use Rattle.elsa_cell.specs.Entries.{key_of};
@@ -66,7 +66,9 @@ impl<T: Eq + Hash + Drop, A: Allocator + Copy> FrozenIndexSet<
     ///
     /// # Allocates
     /// As [`new`](Self::new) and [`reserve`](Self::reserve) do.
-    pub fn with_capacity(alloc: A, count: usize) -> Result<Self, AllocError> {
+    pub fn with_capacity(alloc: A, count: usize) -> Result<Self, AllocError>
+        ensures limit { OnOk result (count ≤ 2 ^ 32 - 1) }
+    {
         Ok(FrozenIndexSet {
             map: FrozenMap::with_capacity(alloc, count)?,
         })
@@ -307,7 +309,9 @@ impl<T: Eq + Hash + Drop, S: BuildHasher + Drop, A: Allocator + Copy> FrozenInde
     ///
     /// # Errors
     /// Fails with a [`Fault`], as [`FrozenMap::reserve`](crate::Frozen::reserve) does.
-    pub fn reserve(&self, additional: usize) -> Result<(), Fault> {
+    pub fn reserve(&self, additional: usize) -> Result<(), Fault>
+        ensures limit { OnOk result (additional ≤ 2 ^ 32 - 1) }
+    {
         self.map.reserve(additional)
     }
 

@@ -18,6 +18,7 @@ pub use elsa_arena::observed::{Iter, Observed, Seen};
 pub use elsa_arena::vec::{FrozenVec, Handle, Hold};
 pub use elsa_arena::{observed, vec};
 pub use elsa_buckets::query::Query;
+pub use elsa_tables::{AnyEntries, EntryRule};
 pub use fault::TryFault;
 pub use hashed::{FrozenIndexMap, FrozenMap, Hashed, MapHandle, MapHold};
 pub use index_set::{FrozenIndexSet, FrozenSet};

@@ -1,12 +1,13 @@
 //! [`Frozen`]: a map that grows through `&self`, over any table that finds its keys.
-ghost use Rattle.std.specs.Prelude.{◌≡◌, ◌⊎◌, ◌-◌, ◌<◌, ◌≤◌, ◌^◌, [], Bool, List, true, Err, Ok, Some, length, map, position, slice_get, IfErr, IfOk, IfSome};
-ghost use Rattle.std.specs.Fn.{FnOnceReturnsAt};
+ghost use Rattle.std.specs.Prelude.{◌≡◌, ◌⊎◌, ◌-◌, ◌<◌, ◌≤◌, ◌^◌, [], Bool, List, true, Err, Ok, Some, length, map, position, slice_get, IfErr, IfOk, IfSome, OnOk};
+ghost use Rattle.std.specs.Fn.{FnOnceReturnsAt, FnOnceTakesAt};
 ghost use Rattle.std.specs.Map.{lookup};
 ghost use Rattle.std.specs.Option.{option_map};
 ghost use mathlib.Core.List.{IsPrefix};
 ghost use Rattle.elsa_arena.specs.Faults.{GivesBack};
 ghost use Rattle.elsa_arena.specs.declared.fault.Fault.{Fault};
-ghost use Rattle.elsa_cell.specs.Entries.{IsMapOf, key_of, pairs_of};
+ghost use Rattle.elsa_cell.specs.Entries.{HoldsAtOrMade, HoldsEach, IsMapOf, key_of, pairs_of};
+ghost use Rattle.elsa_tables.specs.Rules.{HoldsAt};
 ghost use Rattle.elsa_cell.specs.declared.map.Entry.{Entry};
 
 use crate::fault::TryFault;
@@ -25,7 +26,7 @@ use elsa_arena::shown::{Shown, observed_since};
 use elsa_arena::state::State;
 use elsa_arena::views::is_evidence_behind;
 use elsa_slots::slots::Slots;
-use elsa_tables::Inserted;
+use elsa_tables::{AnyEntries, EntryRule, Inserted};
 use std::alloc::{AllocError, Allocator, Global};
 use std::marker::Model;
 
@@ -54,12 +55,14 @@ impl<K, V> Entry<K, V> {
 
 /// Returns references to the key and the value of the observed entry at an index.
 #[tactic(auto, using(crate::proofs::EntryLemmas::pair_at, crate::proofs::EntryLemmas::no_pair_at))]
-pub(crate) fn pair_at<'m, K, V, A: Allocator + Copy>(
+pub(crate) fn pair_at<'m, K, V, A: Allocator + Copy, R: EntryRule<K, V>>(
     entries: &Observed<'m, Entry<K, V>, A>,
     index: usize,
 ) -> Option<(&'m K, &'m V)>
-    ensures { option_map (λ r. (r.0.now, r.1.now)) result
+    requires rule { HoldsEach R.holds entries.now.seen }
+    ensures entry { option_map (λ r. (r.0.now, r.1.now)) result
         ≡ slice_get (pairs_of entries.now.seen) index }
+    ensures holds { IfSome result (λ r. R.holds r.0.now r.1.now) }
 {
     let entry = entries.get(index)?;
     Some((entry.key(), entry.value()))
@@ -69,17 +72,24 @@ pub(crate) fn pair_at<'m, K, V, A: Allocator + Copy>(
 /// walk over all: for a read inside another call that has the table.
 #[cold]
 #[tactic(auto, using(crate::proofs::EntryLemmas::passes_at, crate::proofs::EntryLemmas::within_at, crate::proofs::EntryLemmas::absent_at, crate::proofs::ScanLemmas::length_keys))]
-pub(crate) fn find_beside<'m, K, V, T: Places<K>, Q: Seeks<K, T>, A: Allocator + Copy>(
-    entries: &Observed<'m, Entry<K, V>, A>,
-    query: Q,
-) -> Option<(usize, &'m Entry<K, V>)>
+pub(crate) fn find_beside<
+    'm,
+    K,
+    V,
+    T: Places<K>,
+    Q: Seeks<K, T>,
+    A: Allocator + Copy,
+    R: EntryRule<K, V>,
+>(entries: &Observed<'m, Entry<K, V>, A>, query: Q) -> Option<(usize, &'m Entry<K, V>)>
     requires limit { length entries.now.seen ≤ 2 ^ 32 - 1 }
+    requires rule { HoldsEach R.holds entries.now.seen }
     ensures index { option_map (λ f. f.0) result
         ≡ position (Q.finds query) (map key_of entries.now.seen) }
     ensures entry { IfSome result (λ f. slice_get entries.now.seen f.0 ≡ Some f.1.now) }
     ensures value { option_map (λ f. f.1.now.value) result
         ≡ lookup (Q.finds query) (pairs_of entries.now.seen) }
-    ensures found_key { IfSome result (λ f. Q.finds query (key_of f.1.now) ≡ true) }
+    ensures found_key { IfSome result (λ f. (Q.finds query (key_of f.1.now) ≡ true)
+        × R.holds (key_of f.1.now) f.1.now.value) }
     ensures limit { IfSome result (λ f. f.0 < 2 ^ 32 - 1) }
 {
     let count = entries.len();
@@ -94,19 +104,29 @@ pub(crate) fn find_beside<'m, K, V, T: Places<K>, Q: Seeks<K, T>, A: Allocator +
 /// Its table `T` finds the keys: [`FrozenMap`](crate::FrozenMap) is its name over a hash table, and
 /// [`FrozenBTreeMap`](crate::FrozenBTreeMap) over an ordered one.
 ///
+/// `R` is a rule over keys and values ([`EntryRule`]): an insertion requires it of its key and its
+/// value, and what a look-up returns obeys it. A type that names none allows any value.
+///
 /// A [`FrozenHandle`] states which entries it has observed, and each of its calls which values come
 /// back. The calls on the map itself are short forms, which state less. Reads never fail.
 ///
 /// Its entries keep the order of their insertion, and each has an index: it is also the map that
 /// [`FrozenIndexMap`](crate::FrozenIndexMap) names. It has at most `2^32 - 1` entries. It drops
 /// each entry once, in that order: its key, then its value.
-pub struct Frozen<K: Drop, V, T: Places<K> + Drop, A: Allocator + Copy = Global> {
+pub struct Frozen<
+    K: Drop,
+    V,
+    T: Places<K> + Drop,
+    A: Allocator + Copy = Global,
+    R: EntryRule<K, V> = AnyEntries,
+> {
     slots: Slots<Entry<K, V>, A>,
-    cell: Shared<Parked<K, V, T, A>>,
-    shown: Shown<Entry<K, V>, A, OfMap>,
+    cell: Shared<Parked<K, V, T, A, R>>,
+    shown: Shown<Entry<K, V>, A, OfMap<R>>,
 }
 
-impl<K: Drop, V, T: Places<K> + Drop, A: Allocator + Copy> Model for Frozen<K, V, T, A> {
+impl<K: Drop, V, T: Places<K> + Drop, A: Allocator + Copy, R: EntryRule<K, V>> Model
+    for Frozen<K, V, T, A, R> {
     ghost use Rattle.std.specs.Prelude.{◌≡◌, ℕ, List};
 
     ghost Value = { List ℕ };
@@ -116,12 +136,13 @@ impl<K: Drop, V, T: Places<K> + Drop, A: Allocator + Copy> Model for Frozen<K, V
     ghost invariant = { λ m. (m.cell.numbers ≡ m.slots) × (m.shown ≡ m.slots) };
 }
 
-impl<K: Drop, V: Drop, T: Places<K> + Drop, A: Allocator + Copy> Drop for Frozen<K, V, T, A> {
+impl<K: Drop, V: Drop, T: Places<K> + Drop, A: Allocator + Copy, R: EntryRule<K, V>> Drop
+    for Frozen<K, V, T, A, R> {
     fn drop(self) {
         let Self { slots, cell, shown } = self;
         drop(shown);
         match cell.into_state() {
-            Some(Parked { state }) => {
+            Some(Parked { state, rule: _ }) => {
                 let MapState { list, table } = Box::into_inner(state);
                 list.end(slots);
                 drop(table);
@@ -131,7 +152,13 @@ impl<K: Drop, V: Drop, T: Places<K> + Drop, A: Allocator + Copy> Drop for Frozen
     }
 }
 
-impl<K: Drop, V: Drop, T: Places<K> + Drop, A: Allocator + Copy> Frozen<K, V, T, A> {
+impl<K: Drop, V: Drop, T: Places<K> + Drop, A: Allocator + Copy, R: EntryRule<K, V>> Frozen<
+    K,
+    V,
+    T,
+    A,
+    R,
+> {
     /// Makes an empty map whose keys an empty table finds.
     ///
     /// # Errors
@@ -151,7 +178,13 @@ impl<K: Drop, V: Drop, T: Places<K> + Drop, A: Allocator + Copy> Frozen<K, V, T,
     }
 }
 
-impl<K: Drop, V: Drop, T: Places<K> + Drop, A: Allocator + Copy> Frozen<K, V, T, A> {
+impl<K: Drop, V: Drop, T: Places<K> + Drop, A: Allocator + Copy, R: EntryRule<K, V>> Frozen<
+    K,
+    V,
+    T,
+    A,
+    R,
+> {
     /// Locks the map for one caller: until the guard is dropped, each other insertion fails with
     /// [`InUse`], and a look-up by key compares one key after the other. It allocates nothing.
     ///
@@ -161,10 +194,10 @@ impl<K: Drop, V: Drop, T: Places<K> + Drop, A: Allocator + Copy> Frozen<K, V, T,
     ///
     /// # Cost
     /// `O(1)`.
-    pub fn hold(&self) -> Result<FrozenHold<'_, K, V, T, A>, InUse>
+    pub fn hold(&self) -> Result<FrozenHold<'_, K, V, T, A, R>, InUse>
         ensures same_vector { IfOk result (λ h. h.vector ≡ self.now) }
     {
-        let Some(Parked { state }) = self.cell.take() else {
+        let Some(Parked { state, rule: _ }) = self.cell.take() else {
             return Err(InUse);
         };
         Ok(FrozenHold {
@@ -179,7 +212,7 @@ impl<K: Drop, V: Drop, T: Places<K> + Drop, A: Allocator + Copy> Frozen<K, V, T,
     ///
     /// # Cost
     /// `O(1)`.
-    pub fn handle(&self) -> FrozenHandle<'_, K, V, T, A>
+    pub fn handle(&self) -> FrozenHandle<'_, K, V, T, A, R>
         ensures same_vector { result.vector ≡ self.now }
     {
         FrozenHandle {
@@ -191,13 +224,15 @@ impl<K: Drop, V: Drop, T: Places<K> + Drop, A: Allocator + Copy> Frozen<K, V, T,
 
     /// Makes a handle that has observed all entries, those of which `seen` is evidence among them:
     /// a caller that keeps the evidence finds its entries by each call of the handle. It allocates
-    /// nothing.
+    /// nothing. [`obeys_rule`](FrozenHandle::obeys_rule) of the handle that observed the entries
+    /// proves that they obey the rule.
     ///
     /// # Cost
     /// `O(1)`.
-    pub fn handle_since(&self, seen: &Seen<Entry<K, V>, A>) -> FrozenHandle<'_, K, V, T, A>
+    pub fn handle_since(&self, seen: &Seen<Entry<K, V>, A>) -> FrozenHandle<'_, K, V, T, A, R>
         requires same_vector { seen.now.vector ≡ self.now }
         requires limit { length seen.now.seen ≤ 2 ^ 32 - 1 }
+        requires rule { HoldsEach R.holds seen.now.seen }
         ensures same_vector { result.vector ≡ self.now }
         ensures entries { IsPrefix seen.now.seen result.seen }
     {
@@ -218,6 +253,7 @@ impl<K: Drop, V: Drop, T: Places<K> + Drop, A: Allocator + Copy> Frozen<K, V, T,
     pub fn observed(&self) -> Observed<'_, Entry<K, V>, A>
         ensures same_vector { result.vector ≡ self.now }
         ensures limit { length result.seen ≤ 2 ^ 32 - 1 }
+        ensures rule { HoldsEach R.holds result.seen }
     {
         self.shown.observe(&self.slots)
     }
@@ -229,6 +265,7 @@ impl<K: Drop, V: Drop, T: Places<K> + Drop, A: Allocator + Copy> Frozen<K, V, T,
     /// `O(1)`, and so is each entry.
     pub fn iter(&self) -> Iter<'_, Entry<K, V>, A>
         ensures limit { length result ≤ 2 ^ 32 - 1 }
+        ensures rule { HoldsEach R.holds result }
     {
         let observed = self.observed();
         observed.iter_from(0)
@@ -238,17 +275,18 @@ impl<K: Drop, V: Drop, T: Places<K> + Drop, A: Allocator + Copy> Frozen<K, V, T,
     #[inline(always)]
     fn find<Q: Seeks<K, T>>(&self, query: Q) -> Option<(usize, &Entry<K, V>)>
         ensures found_key { IfSome result (λ f. Q.finds query (key_of f.1.now) ≡ true) }
+        ensures holds { IfSome result (λ f. R.holds (key_of f.1.now) f.1.now.value) }
         ensures limit { IfSome result (λ f. f.0 < 2 ^ 32 - 1) }
     {
         match self.hold() {
             Ok(hold) => hold.find(query),
-            Err(_) => find_beside(&self.observed(), query),
+            Err(_) => find_beside::<K, V, T, Q, A, R>(&self.observed(), query),
         }
     }
 
     /// Returns a reference to the value of the key that `query` finds, or `None` if the map has no
-    /// such key. It allocates nothing. Which value comes back is not proved: a handle's
-    /// [`get`](FrozenHandle::get) promises it.
+    /// such key. It allocates nothing. Which value comes back is not proved beyond the rule: a
+    /// handle's [`get`](FrozenHandle::get) promises it.
     ///
     /// A query is a reference to a key, a `&str` for `String` keys, or another that [`Seeks`]
     /// names.
@@ -257,9 +295,29 @@ impl<K: Drop, V: Drop, T: Places<K> + Drop, A: Allocator + Copy> Frozen<K, V, T,
     /// One search: one hash and `O(1)` comparisons if the table hashes, `O(log n)` comparisons if
     /// it is ordered. Inside another call of the map, or while a guard exists, one comparison for
     /// each key: `O(n)`.
-    pub fn get<Q: Seeks<K, T>>(&self, query: Q) -> Option<&V> {
+    pub fn get<Q: Seeks<K, T>>(&self, query: Q) -> Option<&V>
+        ensures holds { IfSome result (λ v. HoldsAt R.holds (Q.finds query) v.now) }
+    {
         let (_, entry) = self.find(query)?;
         Some(entry.value())
+    }
+
+    /// Returns a reference to the value of the key that `query` finds, or `None` if the map has no
+    /// such key. `seen` is evidence of entries that the map has ([`Observed::evidence`]): a key
+    /// among them has exactly the value that it has there. It allocates nothing.
+    ///
+    /// # Cost
+    /// As [`get`](Self::get).
+    pub fn get_since<Q: Seeks<K, T>>(&self, seen: &Seen<Entry<K, V>, A>, query: Q) -> Option<&V>
+        requires same_vector { seen.now.vector ≡ self.now }
+        requires limit { length seen.now.seen ≤ 2 ^ 32 - 1 }
+        requires rule { HoldsEach R.holds seen.now.seen }
+        ensures holds { IfSome result (λ v. HoldsAt R.holds (Q.finds query) v.now) }
+        ensures found { (v : V) → lookup (Q.finds query) (pairs_of seen.now.seen) ≡ Some v →
+            option_map (λ r. r.now) result ≡ Some v }
+    {
+        let mut handle = self.handle_since(seen);
+        handle.get(query)
     }
 
     /// Returns the index of the key that `query` finds, and references to the key and its value, or
@@ -269,6 +327,7 @@ impl<K: Drop, V: Drop, T: Places<K> + Drop, A: Allocator + Copy> Frozen<K, V, T,
     /// As [`get`](Self::get).
     pub fn get_full<Q: Seeks<K, T>>(&self, query: Q) -> Option<(usize, &K, &V)>
         ensures found_key { IfSome result (λ r. Q.finds query r.1.now ≡ true) }
+        ensures holds { IfSome result (λ r. R.holds r.1.now r.2.now) }
         ensures limit { IfSome result (λ r. r.0 < 2 ^ 32 - 1) }
     {
         let (index, entry) = self.find(query)?;
@@ -297,8 +356,9 @@ impl<K: Drop, V: Drop, T: Places<K> + Drop, A: Allocator + Copy> Frozen<K, V, T,
     /// # Cost
     /// As [`get`](Self::get), and one call of `f` for a key that is found.
     pub fn map_get<Q: Seeks<K, T>, X, F: FnOnce(&V) -> X + Drop>(&self, query: Q, f: F) -> Option<X>
-        requires callable { F.IsAlwaysCallable f }
-        ensures mapped { IfSome result (λ x. (value : V) × FnOnceReturnsAt F.FnOnce f value x) }
+        requires callable { (v : V) → HoldsAt R.holds (Q.finds query) v → FnOnceTakesAt F.FnOnce f v }
+        ensures mapped { IfSome result (λ x.
+            (v : V) × HoldsAt R.holds (Q.finds query) v × FnOnceReturnsAt F.FnOnce f v x) }
     {
         let value = self.get(query)?;
         Some(f(value))
@@ -311,8 +371,9 @@ impl<K: Drop, V: Drop, T: Places<K> + Drop, A: Allocator + Copy> Frozen<K, V, T,
     /// `O(1)`.
     pub fn get_index(&self, index: usize) -> Option<(&K, &V)>
         ensures limit { IfSome result (λ _. index < 2 ^ 32 - 1) }
+        ensures holds { IfSome result (λ r. R.holds r.0.now r.1.now) }
     {
-        pair_at(&self.observed(), index)
+        pair_at::<K, V, A, R>(&self.observed(), index)
     }
 
     /// Returns the number of keys. It allocates nothing.
@@ -356,7 +417,9 @@ impl<K: Drop, V: Drop, T: Places<K> + Drop, A: Allocator + Copy> Frozen<K, V, T,
     ///
     /// # Cost
     /// `O(n)` in the number of entries if the table grows.
-    pub fn reserve(&self, additional: usize) -> Result<(), Fault> {
+    pub fn reserve(&self, additional: usize) -> Result<(), Fault>
+        ensures limit { OnOk result (additional ≤ 2 ^ 32 - 1) }
+    {
         let mut hold = self.hold()?;
         hold.reserve(additional)
     }
@@ -373,6 +436,8 @@ impl<K: Drop, V: Drop, T: Places<K> + Drop, A: Allocator + Copy> Frozen<K, V, T,
     /// # Cost
     /// As [`insert_new`](Self::insert_new).
     pub fn insert(&self, key: K, value: V) -> Result<&V, CellFault<V>>
+        requires rule { R.holds key value }
+        ensures holds { IfOk result (λ v. HoldsAt R.holds (T.same key) v.now) }
         ensures given_back { IfErr result (GivesBack value) }
     {
         let inserted = self.insert_new(key, value)?;
@@ -381,8 +446,8 @@ impl<K: Drop, V: Drop, T: Places<K> + Drop, A: Allocator + Copy> Frozen<K, V, T,
 
     /// Inserts a value unless the map has an equal key. Returns the value that the key then has,
     /// its index in the order of insertion, and whether the key was new. A present key keeps its
-    /// value, and `key` and `value` are dropped. Which value a present key has is not proved: a
-    /// handle's [`insert_new`](FrozenHandle::insert_new) promises it.
+    /// value, and `key` and `value` are dropped. Which value a present key has is not proved beyond
+    /// the rule: a handle's [`insert_new`](FrozenHandle::insert_new) promises it.
     ///
     /// # Errors
     /// Fails with [`CellFault::Memory`] if an allocation fails, with [`CellFault::Full`] if the map
@@ -398,6 +463,8 @@ impl<K: Drop, V: Drop, T: Places<K> + Drop, A: Allocator + Copy> Frozen<K, V, T,
     /// # Cost
     /// One search. An ordered table then moves the 4 bytes of each greater key: `O(n)`.
     pub fn insert_new(&self, key: K, value: V) -> Result<Inserted<&V, usize>, CellFault<V>>
+        requires rule { R.holds key value }
+        ensures holds { IfOk result (λ r. HoldsAt R.holds (T.same key) r.value.now) }
         ensures own_value { IfOk result (λ r. r.is_new ≡ true → r.value.now ≡ value) }
         ensures limit { IfOk result (λ r. r.index < 2 ^ 32 - 1) }
         ensures given_back { IfErr result (GivesBack value) }
@@ -405,7 +472,9 @@ impl<K: Drop, V: Drop, T: Places<K> + Drop, A: Allocator + Copy> Frozen<K, V, T,
         let Ok(mut hold) = self.hold() else {
             return Err(CellFault::InUse(value));
         };
-        hold.insert_new(key, value)
+        let inserted = hold.insert_new(key, value);
+        hold.obeys_rule();
+        inserted
     }
 
     /// Inserts a key with the value that `make` returns, unless the map has an equal key, as a
@@ -427,11 +496,15 @@ impl<K: Drop, V: Drop, T: Places<K> + Drop, A: Allocator + Copy> Frozen<K, V, T,
         make: F,
     ) -> Result<Inserted<&V, usize>, CellFault<Option<V>>>
         requires callable { F.pre make }
+        requires rule { (v : V) → F.post make v → R.holds key v }
+        ensures holds { IfOk result (λ r. HoldsAt R.holds (T.same key) r.value.now) }
         ensures made { IfOk result (λ r. r.is_new ≡ true → F.post make r.value.now) }
         ensures limit { IfOk result (λ r. r.index < 2 ^ 32 - 1) }
     {
         let mut handle = self.handle();
-        handle.insert_with(key, make)
+        let inserted = handle.insert_with(key, make);
+        handle.obeys_rule();
+        inserted
     }
 
     /// Inserts a key with the value that `make` returns, as [`insert_with`](Self::insert_with)
@@ -452,12 +525,16 @@ impl<K: Drop, V: Drop, T: Places<K> + Drop, A: Allocator + Copy> Frozen<K, V, T,
         make: F,
     ) -> Result<Inserted<&V, usize>, TryFault<V, E>>
         requires callable { F.pre make }
+        requires rule { (v : V) → F.post make (Ok v) → R.holds key v }
+        ensures holds { IfOk result (λ r. HoldsAt R.holds (T.same key) r.value.now) }
         ensures made { IfOk result (λ r. r.is_new ≡ true → F.post make (Ok r.value.now)) }
         ensures limit { IfOk result (λ r. r.index < 2 ^ 32 - 1) }
         ensures cause { IfErr result (λ f. (e : E) → f ≡ TryFault.Value e → F.post make (Err e)) }
     {
         let mut handle = self.handle();
-        handle.try_insert_with(key, make)
+        let inserted = handle.try_insert_with(key, make);
+        handle.obeys_rule();
+        inserted
     }
 
     /// Looks up the key that `query` finds, and inserts the entry that `make` returns if the map
@@ -479,11 +556,16 @@ impl<K: Drop, V: Drop, T: Places<K> + Drop, A: Allocator + Copy> Frozen<K, V, T,
         make: F,
     ) -> Result<Inserted<&V, usize>, E>
         requires callable { F.pre make }
+        requires rule { (k : K) (v : V) → F.post make (Ok (k, v)) → R.holds k v }
+        ensures holds { IfOk result (λ r. HoldsAtOrMade T.same (Q.finds query)
+            (λ k v. F.post make (Ok (k, v))) R.holds r.value.now) }
         ensures cause { IfErr result (λ e. F.post make (Err e) ⊎ ((f : Fault) × E.from_gives f e)) }
         ensures limit { IfOk result (λ r. r.index < 2 ^ 32 - 1) }
     {
         let mut handle = self.handle();
-        handle.insert_by(query, make)
+        let inserted = handle.insert_by(query, make);
+        handle.obeys_rule();
+        inserted
     }
 
     /// Returns the value of the key that `query` finds, or inserts the entry that `make` returns:
@@ -503,6 +585,9 @@ impl<K: Drop, V: Drop, T: Places<K> + Drop, A: Allocator + Copy> Frozen<K, V, T,
         F: FnOnce() -> Result<(K, V), E> + Drop,
     >(&self, query: Q, make: F) -> Result<&V, E>
         requires callable { F.pre make }
+        requires rule { (k : K) (v : V) → F.post make (Ok (k, v)) → R.holds k v }
+        ensures holds { IfOk result (λ v. HoldsAtOrMade T.same (Q.finds query)
+            (λ k v. F.post make (Ok (k, v))) R.holds v.now) }
         ensures cause { IfErr result (λ e. F.post make (Err e) ⊎ ((f : Fault) × E.from_gives f e)) }
     {
         match self.insert_by(query, make) {
@@ -514,17 +599,17 @@ impl<K: Drop, V: Drop, T: Places<K> + Drop, A: Allocator + Copy> Frozen<K, V, T,
     /// Makes the map of its state again, which may be lost.
     fn again(
         slots: Slots<Entry<K, V>, A>,
-        shown: Shown<Entry<K, V>, A, OfMap>,
+        shown: Shown<Entry<K, V>, A, OfMap<R>>,
         state: Option<Box<MapState<K, V, T, A>, A>>,
     ) -> Self
         requires state { IfSome state (λ s. IsMapOf T.is_for
-            slots s.value.list s.value.table) }
+            slots s.value.list s.value.table × HoldsEach R.holds s.value.list.prefix.items) }
         requires shown { shown ≡ slots }
         ensures { result ≡ slots }
     {
         let tag = Tag::of::<Slots<Entry<K, V>, A>, OfSlots>(&slots);
         let cell = match state {
-            Some(state) => Shared::new(Parked { state }, &tag),
+            Some(state) => Shared::new(Parked::of(state), &tag),
             None => Shared::lost(&tag),
         };
         Frozen { slots, cell, shown }
@@ -576,20 +661,21 @@ impl<K: Drop, V: Drop, T: Places<K> + Drop, A: Allocator + Copy> Frozen<K, V, T,
     ) -> Result<
         (
             Slots<Entry<K, V>, A>,
-            Shown<Entry<K, V>, A, OfMap>,
+            Shown<Entry<K, V>, A, OfMap<R>>,
             Box<MapState<K, V, T, A>, A>,
         ),
         CellFault<Self>,
     >
         requires same_vector { seen.now.vector ≡ self }
         ensures state { IfOk result (λ parts. IsMapOf T.is_for
-            parts.0 parts.2.value.list parts.2.value.table) }
+            parts.0 parts.2.value.list parts.2.value.table
+            × HoldsEach R.holds parts.2.value.list.prefix.items) }
         ensures same_slots { IfOk result (λ parts. (parts.0 ≡ self) × (parts.1 ≡ self)) }
         ensures items { IfOk result (λ parts. IsPrefix seen.now.seen parts.2.value.list.prefix.items) }
         ensures given_back { IfErr result (λ f. f ≡ CellFault.InUse self) }
     {
         let Self { slots, cell, shown } = self;
-        let Some(Parked { state }) = cell.into_state() else {
+        let Some(Parked { state, rule: _ }) = cell.into_state() else {
             return Err(CellFault::InUse(Frozen::again(slots, shown, None)));
         };
         if !is_evidence_behind(seen, &state.list) {

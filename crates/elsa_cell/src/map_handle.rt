@@ -3,7 +3,8 @@ ghost use Rattle.std.specs.Prelude.{◌≡◌, ◌⊎◌, ◌-◌, ◌<◌, ◌�
 ghost use Rattle.std.specs.Map.{lookup};
 ghost use Rattle.std.specs.Option.{option_map};
 ghost use mathlib.Core.List.{IsPrefix};
-ghost use Rattle.elsa_cell.specs.Entries.{GetsOrInserts, InsertsOnce, key_of, pairs_of};
+ghost use Rattle.elsa_cell.specs.Entries.{GetsOrInserts, HoldsEach, InsertsOnce, key_of, pairs_of};
+ghost use Rattle.elsa_tables.specs.Rules.{HoldsAt};
 ghost use Rattle.elsa_arena.specs.declared.fault.Fault.{Fault};
 ghost use Rattle.elsa_arena.specs.Faults.{GivesBack};
 ghost use Rattle.elsa_arena.specs.Observed.{Continues};
@@ -18,7 +19,7 @@ use elsa_arena::observed::{Iter, Observed};
 use elsa_arena::shared::Shared;
 use elsa_arena::shown::Shown;
 use elsa_arena::views::{is_behind, slots_of};
-use elsa_tables::Inserted;
+use elsa_tables::{AnyEntries, EntryRule, Inserted};
 use std::alloc::{Allocator, Global};
 use std::marker::Model;
 
@@ -27,16 +28,24 @@ use std::marker::Model;
 ///
 /// What a handle has observed stays, whatever other calls insert.
 #[derive(Drop)]
-pub struct FrozenHandle<'m, K: Drop, V, T: Places<K> + Drop, A: Allocator + Copy = Global> {
-    pub(crate) cell: &'m Shared<Parked<K, V, T, A>>,
-    pub(crate) shown: &'m Shown<Entry<K, V>, A, OfMap>,
+pub struct FrozenHandle<
+    'm,
+    K: Drop,
+    V,
+    T: Places<K> + Drop,
+    A: Allocator + Copy = Global,
+    R: EntryRule<K, V> = AnyEntries,
+> {
+    pub(crate) cell: &'m Shared<Parked<K, V, T, A, R>>,
+    pub(crate) shown: &'m Shown<Entry<K, V>, A, OfMap<R>>,
     pub(crate) observed: Observed<'m, Entry<K, V>, A>,
 }
 
-impl<'m, K: Drop, V, T: Places<K> + Drop, A: Allocator + Copy> Model
-    for FrozenHandle<'m, K, V, T, A> {
+impl<'m, K: Drop, V, T: Places<K> + Drop, A: Allocator + Copy, R: EntryRule<K, V>> Model
+    for FrozenHandle<'m, K, V, T, A, R> {
     ghost use Rattle.std.specs.Prelude.{◌≡◌, ◌≤◌, ◌-◌, ◌^◌, length};
     ghost use Rattle.elsa_arena.specs.Observed.{View};
+    ghost use Rattle.elsa_cell.specs.Entries.{HoldsEach};
     ghost use Rattle.elsa_cell.specs.declared.map.Entry.{Entry};
 
     ghost Value = { View (Entry K V) };
@@ -44,10 +53,18 @@ impl<'m, K: Drop, V, T: Places<K> + Drop, A: Allocator + Copy> Model
     ghost view = { λ h. h.observed };
 
     ghost invariant = { λ h. (h.cell.now.numbers ≡ h.observed.vector)
-        × (h.shown.now ≡ h.observed.vector) × (length h.observed.seen ≤ 2 ^ 32 - 1) };
+        × (h.shown.now ≡ h.observed.vector) × (length h.observed.seen ≤ 2 ^ 32 - 1)
+        × HoldsEach R.holds h.observed.seen };
 }
 
-impl<'m, K: Drop, V: Drop, T: Places<K> + Drop, A: Allocator + Copy> FrozenHandle<'m, K, V, T, A> {
+impl<
+    'm,
+    K: Drop,
+    V: Drop,
+    T: Places<K> + Drop,
+    A: Allocator + Copy,
+    R: EntryRule<K, V>,
+> FrozenHandle<'m, K, V, T, A, R> {
     /// Returns what the handle has observed, by reference.
     pub fn observed(&self) -> &Observed<'m, Entry<K, V>, A>
         ensures same_view { result.now ≡ self.now }
@@ -56,7 +73,7 @@ impl<'m, K: Drop, V: Drop, T: Places<K> + Drop, A: Allocator + Copy> FrozenHandl
     }
 
     /// Makes another handle that has observed the same. It allocates nothing.
-    pub fn again(&self) -> FrozenHandle<'m, K, V, T, A>
+    pub fn again(&self) -> FrozenHandle<'m, K, V, T, A, R>
         ensures same_view { result ≡ self.now }
     {
         FrozenHandle {
@@ -64,6 +81,14 @@ impl<'m, K: Drop, V: Drop, T: Places<K> + Drop, A: Allocator + Copy> FrozenHandl
             shown: self.shown,
             observed: self.observed.again(),
         }
+    }
+
+    /// Proves that each entry that the handle has observed obeys the rule. It does nothing when it
+    /// runs.
+    pub fn obeys_rule(&self)
+        ensures { HoldsEach R.holds self.now.seen }
+    {
+        let _ = &self.cell;
     }
 
     /// Returns the number of keys that the handle has observed.
@@ -90,16 +115,16 @@ impl<'m, K: Drop, V: Drop, T: Places<K> + Drop, A: Allocator + Copy> FrozenHandl
     /// # Errors
     /// Fails with [`InUse`] if the call is made inside another call of the map, or while another
     /// [`FrozenHold`] of it exists.
-    pub fn hold(&self) -> Result<FrozenHold<'m, K, V, T, A>, InUse>
+    pub fn hold(&self) -> Result<FrozenHold<'m, K, V, T, A, R>, InUse>
         ensures same_vector { IfOk result (λ h. h.vector ≡ self.now.vector) }
         ensures items { IfOk result (λ h. IsPrefix self.now.seen h.seen) }
     {
         let cell = self.cell;
-        let Some(Parked { state }) = cell.take() else {
+        let Some(Parked { state, rule: _ }) = cell.take() else {
             return Err(InUse);
         };
         if !is_behind(&self.observed, &state.list) {
-            cell.put(Parked { state });
+            cell.put(Parked::of(state));
             return Err(InUse);
         }
         Ok(FrozenHold {
@@ -111,7 +136,7 @@ impl<'m, K: Drop, V: Drop, T: Places<K> + Drop, A: Allocator + Copy> FrozenHandl
     }
 
     /// Drops a guard of the map, and observes all that the guard has.
-    fn release(&mut self, hold: FrozenHold<'m, K, V, T, A>)
+    fn release(&mut self, hold: FrozenHold<'m, K, V, T, A, R>)
         requires same_vector { hold.vector ≡ self.old.vector }
         ensures same { self.new.vector ≡ self.old.vector }
         ensures seen { self.new.seen ≡ hold.entry.seen }
@@ -145,6 +170,7 @@ impl<'m, K: Drop, V: Drop, T: Places<K> + Drop, A: Allocator + Copy> FrozenHandl
         ensures continues { Continues self.old self.new }
         ensures found { option_map (λ v. v.now) result
             ≡ lookup (Q.finds query) (pairs_of self.new.seen) }
+        ensures holds { IfSome result (λ v. HoldsAt R.holds (Q.finds query) v.now) }
     {
         let (_, entry) = self.find_entry(query)?;
         Some(entry.value())
@@ -172,7 +198,7 @@ impl<'m, K: Drop, V: Drop, T: Places<K> + Drop, A: Allocator + Copy> FrozenHandl
         ensures value { option_map (λ f. f.1.now.value) result
             ≡ lookup (Q.finds query) (pairs_of self.new.seen) }
         ensures found_key { IfSome result (λ f. (Q.finds query (key_of f.1.now) ≡ true)
-            × (f.0 < 2 ^ 32 - 1)) }
+            × R.holds (key_of f.1.now) f.1.now.value × (f.0 < 2 ^ 32 - 1)) }
     {
         match self.hold() {
             Ok(hold) => {
@@ -182,7 +208,8 @@ impl<'m, K: Drop, V: Drop, T: Places<K> + Drop, A: Allocator + Copy> FrozenHandl
             }
             Err(_) => {
                 self.len();
-                find_beside(&self.observed, query)
+                self.obeys_rule();
+                find_beside::<K, V, T, Q, A, R>(&self.observed, query)
             }
         }
     }
@@ -205,6 +232,7 @@ impl<'m, K: Drop, V: Drop, T: Places<K> + Drop, A: Allocator + Copy> FrozenHandl
     /// # Cost
     /// One search. An ordered table then moves the 4 bytes of each greater key: `O(n)`.
     pub fn insert_new(&mut self, key: K, value: V) -> Result<Inserted<&'m V, usize>, CellFault<V>>
+        requires rule { R.holds key value }
         ensures continues { Continues self.old self.new }
         ensures inserted { IfOk result (λ r. InsertsOnce T.same self.old.seen self.new.seen key value
             r.value.now r.index r.is_new) }
@@ -251,8 +279,10 @@ impl<'m, K: Drop, V: Drop, T: Places<K> + Drop, A: Allocator + Copy> FrozenHandl
     pub fn get_index(&self, index: usize) -> Option<(&'m K, &'m V)>
         ensures entry { option_map (λ r. (r.0.now, r.1.now)) result
             ≡ slice_get (pairs_of self.now.seen) index }
+        ensures holds { IfSome result (λ r. R.holds r.0.now r.1.now) }
     {
-        pair_at(&self.observed, index)
+        self.obeys_rule();
+        pair_at::<K, V, A, R>(&self.observed, index)
     }
 
     /// Finds a key in the whole map, and returns its index and the reference to its value.
@@ -298,6 +328,7 @@ impl<'m, K: Drop, V: Drop, T: Places<K> + Drop, A: Allocator + Copy> FrozenHandl
         make: F,
     ) -> Result<Inserted<&'m V, usize>, CellFault<Option<V>>>
         requires callable { lookup (T.same key) (pairs_of self.old.seen) ≡ None → F.pre make }
+        requires rule { (v : V) → F.post make v → R.holds key v }
         ensures continues { Continues self.old self.new }
         ensures inserted { IfOk result (λ r. InsertsOnce T.same self.old.seen self.new.seen key
             r.value.now r.value.now r.index r.is_new) }
@@ -341,6 +372,7 @@ impl<'m, K: Drop, V: Drop, T: Places<K> + Drop, A: Allocator + Copy> FrozenHandl
         make: F,
     ) -> Result<Inserted<&'m V, usize>, TryFault<V, E>>
         requires callable { lookup (T.same key) (pairs_of self.old.seen) ≡ None → F.pre make }
+        requires rule { (v : V) → F.post make (Ok v) → R.holds key v }
         ensures continues { Continues self.old self.new }
         ensures inserted { IfOk result (λ r. InsertsOnce T.same self.old.seen self.new.seen key
             r.value.now r.value.now r.index r.is_new) }
@@ -391,6 +423,7 @@ impl<'m, K: Drop, V: Drop, T: Places<K> + Drop, A: Allocator + Copy> FrozenHandl
         make: F,
     ) -> Result<Inserted<&'m V, usize>, E>
         requires callable { lookup (Q.finds query) (pairs_of self.old.seen) ≡ None → F.pre make }
+        requires rule { (k : K) (v : V) → F.post make (Ok (k, v)) → R.holds k v }
         ensures continues { Continues self.old self.new }
 
         // A present key keeps its value. Otherwise the entry of `make` is inserted.
@@ -423,7 +456,7 @@ impl<'m, K: Drop, V: Drop, T: Places<K> + Drop, A: Allocator + Copy> FrozenHandl
     ///
     /// # Cost
     /// `O(1)`.
-    pub fn merge(&mut self, other: &mut FrozenHandle<'_, K, V, T, A>)
+    pub fn merge(&mut self, other: &mut FrozenHandle<'_, K, V, T, A, R>)
         requires same_vector { self.old.vector ≡ other.old.vector }
         ensures continues { Continues self.old self.new }
         ensures other_continues { Continues other.old other.new }

@@ -1,8 +1,9 @@
 //! [`FrozenHold`]: the lock guard of a map.
-ghost use Rattle.std.specs.Prelude.{◌≡◌, ◌↔◌, ◌+◌, ◌-◌, ◌<◌, ◌≤◌, ◌^◌, true, None, Some, length, map, position, slice_get, IfErr, IfOk, IfSome, IsTrue};
+ghost use Rattle.std.specs.Prelude.{◌≡◌, ◌↔◌, ◌+◌, ◌-◌, ◌<◌, ◌≤◌, ◌^◌, true, None, Some, length, map, position, slice_get, IfErr, IfOk, IfSome, IsTrue, OnOk};
 ghost use Rattle.std.specs.Map.{lookup};
 ghost use Rattle.std.specs.Option.{option_map};
-ghost use Rattle.elsa_cell.specs.Entries.{Inserts, key_of, pair_of, pairs_of};
+ghost use Rattle.elsa_cell.specs.Entries.{HoldsEach, Inserts, key_of, pair_of, pairs_of};
+ghost use Rattle.elsa_tables.specs.Rules.{HoldsAt};
 ghost use Rattle.elsa_arena.specs.Faults.{Refuses};
 ghost use Rattle.elsa_arena.specs.Observed.{Continues};
 
@@ -16,7 +17,7 @@ use elsa_arena::shared::Shared;
 use elsa_arena::shown::Shown;
 use elsa_arena::views::observe;
 use elsa_slots::slots::Slots;
-use elsa_tables::Inserted;
+use elsa_tables::{AnyEntries, EntryRule, Inserted};
 use std::alloc::{Allocator, Global};
 use std::marker::Model;
 
@@ -24,18 +25,25 @@ use std::marker::Model;
 /// Contracts see the map, by the names of its buffers, and all its entries.
 ///
 /// It is the form for a loop of insertions, and for what needs the whole map unchanged.
-pub struct FrozenHold<'m, K: Drop, V, T: Places<K> + Drop, A: Allocator + Copy = Global> {
+pub struct FrozenHold<
+    'm,
+    K: Drop,
+    V,
+    T: Places<K> + Drop,
+    A: Allocator + Copy = Global,
+    R: EntryRule<K, V> = AnyEntries,
+> {
     pub(crate) slots: &'m Slots<Entry<K, V>, A>,
-    pub(crate) cell: &'m Shared<Parked<K, V, T, A>>,
-    pub(crate) shown: &'m Shown<Entry<K, V>, A, OfMap>,
+    pub(crate) cell: &'m Shared<Parked<K, V, T, A, R>>,
+    pub(crate) shown: &'m Shown<Entry<K, V>, A, OfMap<R>>,
     pub(crate) state: Box<MapState<K, V, T, A>, A>,
 }
 
-impl<'m, K: Drop, V, T: Places<K> + Drop, A: Allocator + Copy> Model
-    for FrozenHold<'m, K, V, T, A> {
+impl<'m, K: Drop, V, T: Places<K> + Drop, A: Allocator + Copy, R: EntryRule<K, V>> Model
+    for FrozenHold<'m, K, V, T, A, R> {
     ghost use Rattle.std.specs.Prelude.{◌≡◌};
     ghost use Rattle.elsa_arena.specs.Observed.{View};
-    ghost use Rattle.elsa_cell.specs.Entries.{IsMapOf};
+    ghost use Rattle.elsa_cell.specs.Entries.{HoldsEach, IsMapOf};
     ghost use Rattle.elsa_cell.specs.declared.map.Entry.{Entry};
 
     ghost Value = { View (Entry K V) };
@@ -44,10 +52,11 @@ impl<'m, K: Drop, V, T: Places<K> + Drop, A: Allocator + Copy> Model
 
     ghost invariant = { λ h. IsMapOf T.is_for
         h.slots.now h.state.value.list h.state.value.table × (h.cell.now.numbers ≡ h.slots.now)
-        × (h.shown.now ≡ h.slots.now) };
+        × (h.shown.now ≡ h.slots.now) × HoldsEach R.holds h.state.value.list.prefix.items };
 }
 
-impl<K: Drop, V, T: Places<K> + Drop, A: Allocator + Copy> Drop for FrozenHold<'_, K, V, T, A> {
+impl<K: Drop, V, T: Places<K> + Drop, A: Allocator + Copy, R: EntryRule<K, V>> Drop
+    for FrozenHold<'_, K, V, T, A, R> {
     fn drop(self) {
         let Self {
             slots: _,
@@ -55,21 +64,29 @@ impl<K: Drop, V, T: Places<K> + Drop, A: Allocator + Copy> Drop for FrozenHold<'
             shown: _,
             state,
         } = self;
-        cell.put(Parked { state });
+        cell.put(Parked::of(state));
     }
 }
 
-impl<'m, K: Drop, V: Drop, T: Places<K> + Drop, A: Allocator + Copy> FrozenHold<'m, K, V, T, A> {
+impl<'m, K: Drop, V: Drop, T: Places<K> + Drop, A: Allocator + Copy, R: EntryRule<K, V>> FrozenHold<
+    'm,
+    K,
+    V,
+    T,
+    A,
+    R,
+> {
     /// Returns all entries, to read them after the guard is dropped.
     pub fn observed(&self) -> Observed<'m, Entry<K, V>, A>
         ensures same_view { result ≡ self.now }
         ensures limit { length result.seen ≤ 2 ^ 32 - 1 }
+        ensures rule { HoldsEach R.holds result.seen }
     {
         observe(self.slots, &self.state.list)
     }
 
     /// Makes a handle that has observed all entries. It allocates nothing.
-    pub fn handle(&self) -> FrozenHandle<'m, K, V, T, A>
+    pub fn handle(&self) -> FrozenHandle<'m, K, V, T, A, R>
         ensures same_view { result ≡ self.now }
     {
         FrozenHandle {
@@ -77,6 +94,13 @@ impl<'m, K: Drop, V: Drop, T: Places<K> + Drop, A: Allocator + Copy> FrozenHold<
             shown: self.shown,
             observed: self.observed(),
         }
+    }
+
+    /// Proves that each entry obeys the rule. It does nothing when it runs.
+    pub fn obeys_rule(&self)
+        ensures { HoldsEach R.holds self.now.seen }
+    {
+        let _ = &self.slots;
     }
 
     /// Returns the number of keys.
@@ -110,6 +134,7 @@ impl<'m, K: Drop, V: Drop, T: Places<K> + Drop, A: Allocator + Copy> FrozenHold<
     /// `O(n)` in the number of entries if the table grows.
     pub fn reserve(&mut self, additional: usize) -> Result<(), Fault>
         ensures same { self.new ≡ self.old }
+        ensures limit { OnOk result (length self.old.seen + additional ≤ 2 ^ 32 - 1) }
         ensures full { IfErr result (λ f. f ≡ Fault.Full →
             2 ^ 32 ≤ length self.old.seen + additional) }
     {
@@ -126,7 +151,8 @@ impl<'m, K: Drop, V: Drop, T: Places<K> + Drop, A: Allocator + Copy> FrozenHold<
     /// Returns a reference to the entry at an index.
     pub(crate) fn entry_at(&self, index: usize) -> &'m Entry<K, V>
         requires { index < length self.now.seen }
-        ensures { slice_get self.now.seen index ≡ Some result.now }
+        ensures entry { slice_get self.now.seen index ≡ Some result.now }
+        ensures holds { R.holds (key_of result.now) result.now.value }
     {
         let observed = self.observed();
         observed.item(index)
@@ -135,7 +161,8 @@ impl<'m, K: Drop, V: Drop, T: Places<K> + Drop, A: Allocator + Copy> FrozenHold<
     /// Returns the index of the entry whose key `query` finds, and a reference to it.
     #[tactic(auto, using(crate::proofs::EntryLemmas::absent_at, crate::proofs::EntryLemmas::within_at, crate::proofs::EntryLemmas::passes_at))]
     pub(crate) fn find<Q: Seeks<K, T>>(&self, query: Q) -> Option<(usize, &'m Entry<K, V>)>
-        ensures found_key { IfSome result (λ f. Q.finds query (key_of f.1.now) ≡ true) }
+        ensures found_key { IfSome result (λ f. (Q.finds query (key_of f.1.now) ≡ true)
+            × R.holds (key_of f.1.now) f.1.now.value) }
         ensures index { option_map (λ f. f.0) result
             ≡ position (Q.finds query) (map key_of self.now.seen) }
         ensures entry { IfSome result (λ f. slice_get self.now.seen f.0 ≡ Some f.1.now) }
@@ -172,6 +199,7 @@ impl<'m, K: Drop, V: Drop, T: Places<K> + Drop, A: Allocator + Copy> FrozenHold<
     pub fn get<Q: Seeks<K, T>>(&self, query: Q) -> Option<&'m V>
         ensures found { option_map (λ v. v.now) result
             ≡ lookup (Q.finds query) (pairs_of self.now.seen) }
+        ensures holds { IfSome result (λ v. HoldsAt R.holds (Q.finds query) v.now) }
     {
         let (_, entry) = self.find(query)?;
         Some(entry.value())
@@ -206,9 +234,10 @@ impl<'m, K: Drop, V: Drop, T: Places<K> + Drop, A: Allocator + Copy> FrozenHold<
     pub fn get_index(&self, index: usize) -> Option<(&'m K, &'m V)>
         ensures entry { option_map (λ r. (r.0.now, r.1.now)) result
             ≡ slice_get (pairs_of self.now.seen) index }
+        ensures holds { IfSome result (λ r. R.holds r.0.now r.1.now) }
     {
         let observed = self.observed();
-        pair_at(&observed, index)
+        pair_at::<K, V, A, R>(&observed, index)
     }
 
     /// Inserts a value unless the map has an equal key. Returns the value that the key then has,
@@ -228,6 +257,7 @@ impl<'m, K: Drop, V: Drop, T: Places<K> + Drop, A: Allocator + Copy> FrozenHold<
     /// # Cost
     /// One search. An ordered table then moves the 4 bytes of each greater key: `O(n)`.
     pub fn insert_new(&mut self, key: K, value: V) -> Result<Inserted<&'m V, usize>, CellFault<V>>
+        requires rule { R.holds key value }
         ensures continues { Continues self.old self.new }
         ensures inserted { IfOk result (λ r. Inserts T.same self.old.seen self.new.seen key value
             r.value.now r.index r.is_new) }
@@ -265,6 +295,7 @@ impl<'m, K: Drop, V: Drop, T: Places<K> + Drop, A: Allocator + Copy> FrozenHold<
         key: K,
         value: V,
     ) -> Result<Inserted<&'m Entry<K, V>, usize>, Entry<K, V>>
+        requires rule { R.holds key value }
         ensures continues { Continues self.old self.new }
         ensures inserted { IfOk result (λ r. Inserts T.same self.old.seen self.new.seen key value
             r.value.now.value r.index r.is_new) }

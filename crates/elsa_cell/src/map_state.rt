@@ -9,22 +9,28 @@ use boxcar::tag::Tag;
 use counted_slot::Fits;
 use elsa_arena::observed::Observed;
 use elsa_arena::shared::Shared;
-use elsa_arena::shown::Most;
+use elsa_arena::shown::Bounds;
 use elsa_arena::state::{self, State, push_item};
 use elsa_arena::views::observe;
 use elsa_slots::slots::{Sink, Slots};
+use elsa_tables::EntryRule;
 use std::alloc::{AllocError, Allocator};
+use std::marker::PhantomData;
 
 /// The greatest number of entries: a table has 32 bits for an index plus 1.
 pub(crate) const MOST: usize = 0xFFFF_FFFF;
 
-/// The limit of a map.
-pub struct OfMap;
+/// The limit of a map, and its rule `R`.
+pub struct OfMap<R> {
+    rule: PhantomData<R>,
+}
 
-impl Most for OfMap {
+impl<K, V, R: EntryRule<K, V>> Bounds<Entry<K, V>> for OfMap<R> {
     ghost use Rattle.std.specs.Prelude.{◌-◌, ◌^◌};
 
     ghost most = { 2 ^ 32 - 1 };
+
+    ghost holds = { λ e. R.holds e.key e.value };
 }
 
 /// A receiver of entries, as pairs.
@@ -97,36 +103,59 @@ impl<K: Drop, V, T: Places<K> + Drop, A: Allocator + Copy> Fits for MapState<K, 
     ghost fits = { λ tag state. IsMapOf T.is_for tag.numbers state.list state.table };
 }
 
-/// A state on the heap, so that a call which takes it out of its cell moves a pointer.
+/// A state on the heap, so that a call which takes it out of its cell moves a pointer. Its entries
+/// obey the rule `R`.
 #[derive(Drop)]
-pub(crate) struct Parked<K: Drop, V, T: Places<K> + Drop, A: Allocator + Copy> {
+pub(crate) struct Parked<K: Drop, V, T: Places<K> + Drop, A: Allocator + Copy, R: EntryRule<K, V>> {
     pub(crate) state: Box<MapState<K, V, T, A>, A>,
+    pub(crate) rule: PhantomData<R>,
 }
 
-impl<K: Drop, V, T: Places<K> + Drop, A: Allocator + Copy> Fits for Parked<K, V, T, A> {
-    ghost use Rattle.elsa_cell.specs.Entries.{IsMapOf};
+impl<K: Drop, V, T: Places<K> + Drop, A: Allocator + Copy, R: EntryRule<K, V>> Fits
+    for Parked<K, V, T, A, R> {
+    ghost use Rattle.elsa_cell.specs.Entries.{HoldsEach, IsMapOf};
 
     type Tag = Tag;
 
-    ghost fits = { λ tag p. IsMapOf T.is_for tag.numbers p.state.value.list p.state.value.table };
+    ghost fits = { λ tag p. IsMapOf T.is_for tag.numbers p.state.value.list p.state.value.table
+        × HoldsEach R.holds p.state.value.list.prefix.items };
+}
+
+impl<K: Drop, V, T: Places<K> + Drop, A: Allocator + Copy, R: EntryRule<K, V>> Parked<
+    K,
+    V,
+    T,
+    A,
+    R,
+> {
+    /// Marks a state, whose entries obey the rule.
+    pub(crate) fn of(state: Box<MapState<K, V, T, A>, A>) -> Parked<K, V, T, A, R>
+        ensures { result.state ≡ state }
+    {
+        Parked {
+            state,
+            rule: PhantomData,
+        }
+    }
 }
 
 /// Stores the first state of a map on the heap, in a cell.
 ///
 /// # Errors
 /// Fails if an allocation fails.
-pub(crate) fn park<K: Drop, V, T: Places<K> + Drop, A: Allocator + Copy>(
+pub(crate) fn park<K: Drop, V, T: Places<K> + Drop, A: Allocator + Copy, R: EntryRule<K, V>>(
     alloc: A,
     state: MapState<K, V, T, A>,
     tag: &Tag,
-) -> Result<Shared<Parked<K, V, T, A>>, AllocError>
-    requires { IsMapOf T.is_for tag.now.numbers state.list state.table }
+) -> Result<Shared<Parked<K, V, T, A, R>>, AllocError>
+    requires state { IsMapOf T.is_for tag.now.numbers state.list state.table }
+    requires empty { state.list.prefix.items ≡ [] }
     ensures { IfOk result (λ s. s ≡ tag.now) }
 {
     let Ok(state) = Box::new(alloc, state) else {
         return Err(AllocError);
     };
-    Ok(Shared::new(Parked { state }, tag))
+    Ok(Shared::new(Parked::of(state), tag))
 }
 
 impl<K: Drop, V, T: Places<K> + Drop, A: Allocator + Copy> MapState<K, V, T, A> {

@@ -18,6 +18,7 @@ use crate::map_hold::FrozenHold;
 use crate::map_state::MOST;
 use crate::places::{KeyList, Places, Seeks};
 use elsa_arena::observed::Observed;
+use elsa_tables::{AnyEntries, EntryRule};
 use std::alloc::{AllocError, Allocator, Global};
 use std::cmp::Ordering;
 use std::marker::Model;
@@ -156,10 +157,13 @@ pub struct Ordered<A: Allocator + Copy> {
 
 impl<K: Ord, A: Allocator + Copy> Places<K> for Ordered<A> {
     ghost use Rattle.std.specs.Prelude.{◌<◌, ◌-◌, ◌^◌, length, vec_capacity};
+    ghost use Rattle.std.specs.Cmp.{eq_by_cmp_equiv};
     ghost use Rattle.std.specs.Ordering.{eq_by_cmp};
     ghost use Rattle.elsa_cell.specs.Ordered.{IsGap, IsOrdered};
 
     ghost same = { eq_by_cmp K.cmp };
+
+    ghost equivalence = { eq_by_cmp_equiv K.Ord.total };
 
     ghost is_for = { λ t keys. IsOrdered K.cmp t.order.items keys };
 
@@ -221,13 +225,20 @@ impl<K: Ord, Q: OrderQuery<K>, A: Allocator + Copy> Seeks<K, Ordered<A>> for Q {
 /// The table is one vector of 4 bytes for each key. A look-up makes `O(log n)` comparisons; an
 /// insertion also moves the 4 bytes of each greater key, so `n` insertions in falling order move
 /// `O(n^2)` bytes.
-pub type FrozenBTreeMap<K, V, A = Global> = Frozen<K, V, Ordered<A>, A>;
+pub type FrozenBTreeMap<K, V, A = Global, R = AnyEntries> = Frozen<K, V, Ordered<A>, A, R>;
 
 /// The handle of a [`FrozenBTreeMap`].
-pub type BTreeHandle<'m, K, V, A = Global> = FrozenHandle<'m, K, V, Ordered<A>, A>;
+pub type BTreeHandle<'m, K, V, A = Global, R = AnyEntries> = FrozenHandle<
+    'm,
+    K,
+    V,
+    Ordered<A>,
+    A,
+    R,
+>;
 
 /// The lock guard of a [`FrozenBTreeMap`].
-pub type BTreeHold<'m, K, V, A = Global> = FrozenHold<'m, K, V, Ordered<A>, A>;
+pub type BTreeHold<'m, K, V, A = Global, R = AnyEntries> = FrozenHold<'m, K, V, Ordered<A>, A, R>;
 
 impl<K: Ord + Drop, V: Drop, A: Allocator + Copy> FrozenBTreeMap<K, V, A> {
     /// Makes an empty map.
@@ -238,6 +249,19 @@ impl<K: Ord + Drop, V: Drop, A: Allocator + Copy> FrozenBTreeMap<K, V, A> {
     /// # Allocates
     /// The directory of its buffers, and a block for what insertions change.
     pub fn new(alloc: A) -> Result<Self, AllocError> {
+        FrozenBTreeMap::with_rule(alloc)
+    }
+}
+
+impl<K: Ord + Drop, V: Drop, A: Allocator + Copy, R: EntryRule<K, V>> FrozenBTreeMap<K, V, A, R> {
+    /// Makes an empty map with the rule `R`.
+    ///
+    /// # Errors
+    /// Fails if an allocation fails.
+    ///
+    /// # Allocates
+    /// The directory of its buffers, and a block for what insertions change.
+    pub fn with_rule(alloc: A) -> Result<Self, AllocError> {
         let order = Vec::new(alloc);
         Frozen::over(alloc, Ordered { order })
     }
@@ -290,7 +314,13 @@ impl<'h, 'm, K, V, A: Allocator + Copy> Iterator for Ascending<'h, 'm, K, V, A> 
     }
 }
 
-impl<'m, K: Ord + Drop, V: Drop, A: Allocator + Copy> BTreeHold<'m, K, V, A> {
+impl<'m, K: Ord + Drop, V: Drop, A: Allocator + Copy, R: EntryRule<K, V>> BTreeHold<
+    'm,
+    K,
+    V,
+    A,
+    R,
+> {
     /// Returns an iterator over the entries, each once, ascending by key. It allocates nothing.
     ///
     /// # Cost

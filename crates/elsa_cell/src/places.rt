@@ -1,6 +1,7 @@
 //! What a map needs of the table that finds its keys: the trait [`Places`], and its queries
 //! ([`Seeks`]).
 ghost use Rattle.std.specs.Prelude.{◌≡◌, ◌++◌, ◌∷◌, ◌<◌, [], Bool, List, None, Some, IfErr, IfOk, OnErr, length, position, slice_get};
+ghost use Rattle.std.specs.Cmp.{IsEquivalence};
 
 use std::alloc::AllocError;
 
@@ -69,6 +70,9 @@ pub trait Places<K> {
         ensures { (keys : List K) (key : K) → is_for self.old keys →
             has_room self.old keys key end → position (same key) keys ≡ None →
             is_for self.new (keys ++ key ∷ []) };
+
+    // Whether two keys are equal is an equivalence.
+    ghost equivalence: { IsEquivalence same };
 }
 
 /// A query that finds a key by the table `T`.

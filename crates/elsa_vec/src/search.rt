@@ -1,6 +1,6 @@
 //! Binary searches over a slice, for any closure. The searches of `FrozenVec` call them.
 ghost use Rattle.std.specs.Prelude.{length, true, false};
-ghost use Rattle.elsa_vec.specs.Search.{SearchedTo, Brackets, IsBetween, Answered, CallableAtItems, Compares, ComparesAt};
+ghost use Rattle.elsa_arena.specs.Search.{SearchedTo, Brackets, IsBetween, Answered, CallableAtItems, Compares, ComparesAt};
 
 use std::cmp::Ordering;
 

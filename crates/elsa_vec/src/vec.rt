@@ -16,7 +16,7 @@ ghost use Rattle.std.specs.Iterator.{Drains, IsFinite};
 ghost use Rattle.std.specs.List.Sorted.{IsBinarySearchResult, IsPartitionPoint, IsPartitionedBy};
 ghost use Rattle.std.specs.Map.Iter.{GivesInOrder, GivesInReverse};
 ghost use Rattle.elsa_vec.specs.Lent.{lends_items};
-ghost use Rattle.elsa_vec.specs.Search.{AnswersByItem, AnswersByPlace, Answered, Brackets, CallableAtItems, Compares, ComparesAt, Falls, IsBetween, Parts, Rises, Searched, Splits};
+ghost use Rattle.elsa_arena.specs.Search.{AnswersByItem, AnswersByPlace, Answered, Brackets, CallableAtItems, Compares, ComparesAt, Falls, IsBetween, Parts, Rises, Searched, Splits};
 ghost use Rattle.elsa_vec.specs.Vec.{Gains, GainsAll};
 
 use crate::search;

@@ -9,4 +9,5 @@ pub mod callers;
 #[cfg(test)]
 mod graph;
 #[cfg(test)]
+mod search_tests;
 mod vec_tests;

@@ -35,3 +35,18 @@ pub fn found_again<'m>(
     let mut handle = map.handle_since(seen);
     handle.get(key)
 }
+
+/// The same in one call of the map itself.
+pub fn found_since<'m>(
+    map: &'m FrozenMap<u64, u64>,
+    seen: &Seen<Entry<u64, u64>, Global>,
+    key: &u64,
+    _value: u64,
+) -> Option<&'m u64>
+    requires same_map { seen.now.vector ≡ map.now }
+    requires limit { length seen.now.seen < 2 ^ 32 }
+    requires found { lookup (⟦<u64 as PartialEq>⟧.eq key.now) (pairs_of seen.now.seen) ≡ Some _value }
+    ensures { option_map (λ r. r.now) result ≡ Some _value }
+{
+    map.get_since(seen, key)
+}

@@ -22,3 +22,4 @@ mod ordered_tests;
 mod plain_tests;
 #[cfg(test)]
 mod rules;
+mod squares;

@@ -1,6 +1,6 @@
 //! The calls on a map or set itself, compared with a plain list by a random script: each part of
 //! each result, after each insertion, at sizes where buffers and tables grow.
-use crate::callers::{count_of, found_again, number_of};
+use crate::callers::{count_of, found_again, found_since, number_of};
 use elsa_cell::{Fault, FrozenBTreeMap, FrozenIndexSet, FrozenMap};
 use std::alloc::{AllocError, Global};
 use std::hash::{BuildHasherDefault, FoldHasher};
@@ -389,6 +389,7 @@ fn is_found_again(map: &FrozenMap<u64, u64>) -> bool {
     handle.seen_len();
     let seen = handle.observed().evidence();
     found_again(map, &seen, &7, *value) == Some(&70)
+        && found_since(map, &seen, &7, *value) == Some(&70)
 }
 
 fn finds_again(alloc: Global) -> Result<bool, Fault> {

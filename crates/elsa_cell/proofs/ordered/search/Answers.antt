@@ -1,6 +1,6 @@
-use Rattle.std.proofs.Common.{◌≡◌, ◌+◌, ◌-◌, ◌/◌, ◌<◌, length, slice_index_or, arith, sym, ◌∙◌}
+use Rattle.std.proofs.Common.{◌+◌, ◌-◌, ◌/◌, ◌<◌, length, slice_index_or, arith, sym}
 use Rattle.std.proofs.lemmas.Option.{slice_get-get_or}
-use Rattle.elsa_cell.proofs.OrderLemmas.{between_all, between_down, between_up, middle, within}
+use Rattle.elsa_cell.proofs.OrderLemmas.{between_down, between_up, middle, within}
 use Rattle.elsa_cell.proofs.ordered.search.Goals as goal
 
 pub key_at-requires : goal.key_at-requires

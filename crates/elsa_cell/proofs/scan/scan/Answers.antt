@@ -1,4 +1,4 @@
-use Rattle.std.proofs.Common.{◌≡◌, ◌<◌, ◌≤◌, length, arith, sym, ◌∙◌}
+use Rattle.std.proofs.Common.{arith, sym, ◌∙◌}
 use Rattle.elsa_cell.proofs.ScanLemmas.{scan_end, scan_here}
 use Rattle.elsa_cell.proofs.scan.scan.Goals as goal
 

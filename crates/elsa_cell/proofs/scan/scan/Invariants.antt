@@ -1,4 +1,4 @@
-use Rattle.std.proofs.Common.{◌-◌, ◌≤◌, ◌≡◌, length}
+use Rattle.std.proofs.Common.{◌-◌, ◌≤◌}
 use Rattle.elsa_cell.proofs.ScanLemmas.{NoneBefore}
 use Rattle.elsa_cell.proofs.scan.scan.Given as goal
 

@@ -1,5 +1,5 @@
 use Rattle.std.proofs.Common.{rules}
-use Rattle.elsa_vec.proofs.Bracketed.{bracket_of, said_by_item}
+use Rattle.elsa_arena.proofs.Bracketed.{bracket_of, said_by_item}
 use Rattle.elsa_vec.proofs.search.binary_search.Goals as goal
 
 pub returns : goal.returns

@@ -1,6 +1,6 @@
 use Rattle.std.proofs.Common.{refl, inl}
-use Rattle.elsa_vec.proofs.Callable.{callable_at_middle}
-use Rattle.elsa_vec.proofs.Narrowing.{narrowed_at_start, after_low, after_high, after_call, narrowed_to_end}
+use Rattle.elsa_arena.proofs.Callable.{callable_at_middle}
+use Rattle.elsa_arena.proofs.Narrowing.{narrowed_at_start, after_low, after_high, after_call, narrowed_to_end}
 use Rattle.elsa_vec.proofs.search.binary_search_by.Goals as goal
 
 pub loop-left-init : goal.loop-left-init

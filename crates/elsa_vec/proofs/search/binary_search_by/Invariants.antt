@@ -1,7 +1,7 @@
 use Rattle.std.proofs.Common.{◌-◌, length}
 use Rattle.std.specs.declared.cmp.Ordering.TheVariants.{Less, Greater}
-use Rattle.elsa_vec.specs.Search.{SearchedTo}
-use Rattle.elsa_vec.proofs.Narrowing.{Narrowed}
+use Rattle.elsa_arena.specs.Search.{SearchedTo}
+use Rattle.elsa_arena.proofs.Narrowing.{Narrowed}
 use Rattle.elsa_vec.proofs.search.binary_search_by.Given as goal
 
 abbrev pub invariant-loop-left : goal.invariant-loop-left

@@ -1,5 +1,5 @@
-use Rattle.elsa_vec.proofs.Callable.{callable_at_middle}
-use Rattle.elsa_vec.proofs.Narrowing.{narrowed_at_start, after_low, after_high, narrowed_to_end}
+use Rattle.elsa_arena.proofs.Callable.{callable_at_middle}
+use Rattle.elsa_arena.proofs.Narrowing.{narrowed_at_start, after_low, after_high, narrowed_to_end}
 use Rattle.elsa_vec.proofs.search.partition_point.Goals as goal
 
 pub loop-left-init : goal.loop-left-init

@@ -1,6 +1,6 @@
 use Rattle.std.proofs.Common.{◌-◌, true, false, length}
-use Rattle.elsa_vec.specs.Search.{SearchedTo}
-use Rattle.elsa_vec.proofs.Narrowing.{Narrowed}
+use Rattle.elsa_arena.specs.Search.{SearchedTo}
+use Rattle.elsa_arena.proofs.Narrowing.{Narrowed}
 use Rattle.elsa_vec.proofs.search.partition_point.Given as goal
 
 abbrev pub invariant-loop-left : goal.invariant-loop-left

@@ -1,5 +1,5 @@
-use Rattle.elsa_vec.proofs.Bracketed.{said_by_place, splits_list}
-use Rattle.elsa_vec.proofs.Callable.{always_callable_at_items}
+use Rattle.elsa_arena.proofs.Bracketed.{said_by_place, splits_list}
+use Rattle.elsa_arena.proofs.Callable.{always_callable_at_items}
 use Rattle.elsa_vec.proofs.vec_laws.place_by_order.Goals as goal
 
 pub binary_search_by-requires : goal.binary_search_by-requires

@@ -1,5 +1,5 @@
-use Rattle.elsa_vec.proofs.Bracketed.{parts_list, said_by_place}
-use Rattle.elsa_vec.proofs.Callable.{always_callable_at_items}
+use Rattle.elsa_arena.proofs.Bracketed.{parts_list, said_by_place}
+use Rattle.elsa_arena.proofs.Callable.{always_callable_at_items}
 use Rattle.elsa_vec.proofs.vec_laws.place_by_test.Goals as goal
 
 pub partition_point-requires : goal.partition_point-requires

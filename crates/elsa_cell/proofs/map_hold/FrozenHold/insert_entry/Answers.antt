@@ -12,7 +12,7 @@ returns-in-Ok-clause-inserted g c =
     let eq = g.T.Places.same c.args.key in let seen = c.args.self.now.seen in
     let s = ap (λ b. b.list.prefix.items) c.deref.ensures ∙ ap (λ v. v.seen) c.self.view_is in
     let at = sym (ap (λ (l : List (Entry g.row.K.Denot g.row.V.Denot)). position eq (map key_of l)) s) ∙ c.in-Ok.ensures.found in
-    (value_at eq seen c.in-Ok.present at ∙ ap (option_map (λ e. e.value)) c.entry_at.ensures, at, refl)
+    (value_at eq seen c.in-Ok.present at ∙ ap (option_map (λ e. e.value)) c.entry_at.ensures.entry, at, refl)
 
 -- The entry is appended.
 pub returns-in-Ok-add-clause-inserted : goal.returns-in-Ok-add-clause-inserted
@@ -24,7 +24,7 @@ returns-in-Ok-add-clause-inserted g c =
     let none = sym (ap (λ (l : List (Entry g.row.K.Denot g.row.V.Denot)). position eq (map key_of l)) s) ∙ c.in-Err.ensures.absent in
     let grown : new ≡ seen ++ e ∷ [] = c.in-Ok-add.ensures.pushed.1 ∙ ap (λ l. l ++ e ∷ []) m in
     let at = c.in-Ok-add.ensures.pushed.0 ∙ ap length m in
-    (absent_at eq seen none, (e, refl, grown), ap (λ f. f.value) (entry_last seen new e c.entry_at-in-Ok-add.result.now c.in-Ok-add.index grown at c.entry_at-in-Ok-add.ensures), at)
+    (absent_at eq seen none, (e, refl, grown), ap (λ f. f.value) (entry_last seen new e c.entry_at-in-Ok-add.result.now c.in-Ok-add.index grown at c.entry_at-in-Ok-add.ensures.entry), at)
 
 -- There is no room.
 pub returns-in-Err-add-clause-refused : goal.returns-in-Err-add-clause-refused

@@ -1,4 +1,4 @@
-use Rattle.std.proofs.Common.{◌++◌, ◌∷◌, [], List, length, map, subst, sym, ap, ◌∙◌}
+use Rattle.std.proofs.Common.{map}
 use Rattle.elsa_cell.specs.Entries.{key_of}
 use Rattle.elsa_cell.proofs.map_state.MapState.add.Goals as goal
 

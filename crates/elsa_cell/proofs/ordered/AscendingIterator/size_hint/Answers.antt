@@ -1,4 +1,4 @@
-use Rattle.std.proofs.Common.{◌≡◌, ◌-◌, length, drop, arith, ap, sym, ◌∙◌}
+use Rattle.std.proofs.Common.{length, drop, arith, ap, sym, ◌∙◌}
 use Rattle.std.proofs.lemmas.List.{length-drop}
 use Rattle.elsa_cell.proofs.WalkLemmas.{length_picked, low_left}
 use Rattle.elsa_cell.proofs.ordered.AscendingIterator.size_hint.Goals as goal

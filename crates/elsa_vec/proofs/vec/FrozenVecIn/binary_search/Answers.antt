@@ -1,4 +1,4 @@
-use Rattle.elsa_vec.proofs.Bracketed.{splits_list}
+use Rattle.elsa_arena.proofs.Bracketed.{splits_list}
 use Rattle.elsa_vec.proofs.vec.FrozenVecIn.binary_search.Goals as goal
 
 pub returns-clause-sorted : goal.returns-clause-sorted

@@ -1,4 +1,4 @@
-use Rattle.elsa_vec.proofs.Bracketed.{said_by_item, splits, splits_list, within_list}
+use Rattle.elsa_arena.proofs.Bracketed.{said_by_item, splits, splits_list, within_list}
 use Rattle.elsa_vec.proofs.vec.FrozenVecIn.binary_search_by_key.Goals as goal
 
 pub binary_search_by_key-requires : goal.binary_search_by_key-requires

@@ -1,4 +1,4 @@
-use Rattle.elsa_vec.proofs.Bracketed.{parts, parts_list, said_by_item}
+use Rattle.elsa_arena.proofs.Bracketed.{parts, parts_list, said_by_item}
 use Rattle.elsa_vec.proofs.vec.FrozenVecIn.partition_point.Goals as goal
 
 pub partition_point-requires : goal.partition_point-requires
