@@ -52,5 +52,52 @@ class TestPromises(unittest.TestCase):
         self.assertEqual(self.faults("`free`: `lost`"), ["there is no clause `lost`"])
 
 
+READS = """use std::alloc::{
+    Allocator, Global,
+};
+
+/// A list in the `Global` allocator.
+pub struct List<
+    A: Allocator + Copy = Global,
+> {
+    list: A,
+}
+
+impl<A: Allocator + Copy> List<A> {
+    /// Returns the length. It takes
+    /// no lock.
+    #[inline]
+    pub fn len(&self) -> usize
+        ensures { result ≡ 0 }
+    {
+        0
+    }
+}
+"""
+
+
+class TestPermits(unittest.TestCase):
+    def faults(self, old="", new=""):
+        self.assertIn(old, READS)
+        return list(promises.permits(READS.replace(old, new)))
+
+    def test_a_read_without_a_permission_is_no_fault(self):
+        self.assertEqual(self.faults(), [])
+
+    def test_an_impl_at_the_global_allocator_is_a_fault(self):
+        found = self.faults("impl<A: Allocator + Copy> List<A>", "impl List<Global>")
+        self.assertEqual(found, ["has a `Global` outside of imports and defaults: impl List<Global> {"])
+
+    def test_a_field_of_the_global_allocator_is_a_fault(self):
+        found = self.faults("    list: A,", "    list: A, heap: Global,")
+        self.assertEqual(found, ["has a `Global` outside of imports and defaults: list: A, heap: Global,"])
+
+    def test_a_read_with_a_permission_is_a_fault(self):
+        found = self.faults("len(&self)", "len<R: Wait>(&self, rt: &R)")
+        self.assertEqual(found, ["`len` takes no lock, and has a `Wait`"])
+        found = self.faults("len(&self)", "len(&self, may: LockPermit)")
+        self.assertEqual(found, ["`len` takes no lock, and has a `LockPermit`"])
+
+
 if __name__ == "__main__":
     unittest.main()

@@ -7,6 +7,7 @@
 //! concurrent vector, and [`map_machine`] that of the concurrent map.
 pub use elsa_history as history;
 pub use elsa_lock_free::lock_free::{Handle, LockFreeFrozenVec, Pass};
+pub use elsa_lock_free::may_lock::{AttemptFault, LockPermit};
 pub use elsa_lock_free::{item_rule, lock_free};
 pub use elsa_lock_free_map::handle::MapHandle;
 pub use elsa_lock_free_map::iter::{MapIter, MapRefs};

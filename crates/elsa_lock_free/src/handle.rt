@@ -5,12 +5,14 @@
 //! for whatever is stored next to the slots. The calls on the vector itself are short forms.
 ghost use Rattle.std.specs.Prelude.{◌≡◌, ◌≤◌, ◌<◌, ◌^◌, ◌+◌, [], List, drop, length, slice_get, take, IfOk, IfErr, IfSome, IfNone, Some};
 ghost use Rattle.elsa_lock_free.specs.SharedList.{BeginsABuffer, BeginsAmong, Continues, IsLaterPass, Meet, PushedAll, Pushes, PushesNext, copied, items_of, mine};
+ghost use Rattle.elsa_lock_free.specs.Attempts.{IfBusy, IfFailed};
 ghost use Rattle.elsa_lock_free.specs.Distinct.{AgreeOnPlaces, EachIsNew, IsOneToOne};
 ghost use lib.Pointwise.{pointwise};
 
 use crate::atomic_list::{AtomicList, LIMIT, wait_a_little};
 use crate::item_rule::{AnyItems, DistinctItems, ItemRule};
 use crate::lock_free::LockFreeFrozenVec;
+use crate::may_lock::{AttemptFault, LockPermit};
 use crate::pass::{Pass, PushRight};
 use crate::tokens::{Author, bounded_by_tickets};
 use elsa_slots::iter::Iter;
@@ -265,8 +267,49 @@ impl<'v, T: Drop, A: Allocator + Copy, K: ItemRule<T>> Handle<'v, T, A, K> {
             return Err(AllocFailed { value: item });
         };
         let place = hold.at();
-        hold.end_with(rt, self, item)?;
+        hold.end_with(self, item)?;
         Ok(place)
+    }
+
+    /// Pushes an item and returns its index, as [`push`](Self::push) does, but never blocks.
+    ///
+    /// # Errors
+    /// Fails with `Busy` if another thread has the lock, or has pushed first in each of four
+    /// attempts, and with `Failed` where `push` fails. Both have the item. The handle has then
+    /// pushed no more than before; the same push may succeed later.
+    ///
+    /// # Allocates
+    /// A buffer, four times as large as the one before, at the lengths where one begins. The call
+    /// has the lock meanwhile, and the pushes of other threads find the vector busy.
+    ///
+    /// # Cost
+    /// `O(1)`, with at most four exchanges of the state word to take the lock.
+    pub fn try_push(
+        &mut self,
+        may: LockPermit,
+        item: T,
+    ) -> Result<usize, AttemptFault<T, AllocFailed<T>>>
+        requires obeys_rule { (xs : List T) → K.is_new xs item }
+        ensures later { IsLaterPass self.old self.new }
+        ensures pushed { IfOk result (λ i. Pushes self.old self.new i item) }
+        ensures limit { IfOk result (λ i. i + 1 < 2 ^ 62) }
+        ensures busy { IfErr result (λ f. (mine self.new ≡ mine self.old)
+            × IfBusy f (λ x. x ≡ item)) }
+        ensures refused { IfErr result (λ f. IfFailed f (λ e. (e.value ≡ item)
+            × BeginsABuffer (length self.new.seen))) }
+    {
+        let hold = match self.try_hold_now(may) {
+            Ok(hold) => hold,
+            Err(AttemptFault::Busy(())) => return Err(AttemptFault::Busy(item)),
+            Err(AttemptFault::Failed(AllocError)) => {
+                return Err(AttemptFault::Failed(AllocFailed { value: item }));
+            }
+        };
+        let index = hold.at();
+        match hold.end_with(self, item) {
+            Ok(()) => Ok(index),
+            Err(failed) => Err(AttemptFault::Failed(failed)),
+        }
     }
 
     /// Returns an iterator over the items that the handle has observed, each once and in order. It
@@ -384,7 +427,7 @@ impl<'v, T: Copy + Drop, A: Allocator + Copy, K: ItemRule<T>> Handle<'v, T, A, K
         let Some(hold) = self.hold(rt) else {
             return Ok(None);
         };
-        hold.end_with(rt, self, item)?;
+        hold.end_with(self, item)?;
         Ok(Some(n))
     }
 

@@ -1,7 +1,8 @@
 //! A lock guard of a vector's state word, for a thread that must know the list while it makes the
 //! item to push.
-ghost use Rattle.std.specs.Prelude.{◌≡◌, ◌+◌, ◌-◌, ◌<◌, ◌^◌, MatchBool, IfOk, IfErr, IfSome, IfNone, Some, length, slice_get, suc};
+ghost use Rattle.std.specs.Prelude.{◌≡◌, ◌+◌, ◌-◌, ◌<◌, ◌^◌, MatchBool, IfOk, IfErr, OnErr, IfSome, IfNone, Some, length, slice_get, suc};
 ghost use Rattle.elsa_lock_free.specs.SharedList.{BeginsABuffer, Continues, IsLaterPass, IsSamePass, PushesNext, SeesAlike, items_of};
+ghost use Rattle.elsa_lock_free.specs.Attempts.{IfFailed};
 ghost use Rattle.elsa_lock_free.specs.History.{list_of};
 ghost use Rattle.elsa_lock_free.specs.SeenHistory.{IsAtAcquire, IsOf};
 
@@ -9,15 +10,22 @@ use crate::atomic_list::{AtomicList, LIMIT, Ready, SeenHistory, obeys_rule};
 use crate::event::Event;
 use crate::handle::Handle;
 use crate::item_rule::ItemRule;
+use crate::may_lock::{AttemptFault, Busy, LockPermit};
 use crate::pass::Pass;
 use crate::rule::{AcquireGain, Log};
 use crate::tokens::{bounded_by_tickets, evidence, take_acquired_closed, take_acquired_open};
 use elsa_machine::geometry::{buffer_size, locate};
 use elsa_slots::slots::{Beside, Buffer};
 use logbook::Gained;
-use std::alloc::{AllocFailed, Allocator};
+use std::alloc::{AllocError, AllocFailed, Allocator};
 use std::marker::Model;
 use std::sync::Wait;
+
+/// The greatest number of exchanges by which a call that doesn't wait tries to take the lock, each
+/// at the length that the one before it has observed. The first is made at the length that the
+/// handle had observed, which may be out of date.
+#[doc(hidden)]
+pub const ATTEMPTS: u32 = 4;
 
 /// A thread's lock on the vector's state word. Contracts see the vector, and the list at which it
 /// is locked; the writer stays with the handle. No other thread pushes until the hold ends, by
@@ -81,6 +89,76 @@ impl<'v, T: Drop, A: Allocator + Copy, K: ItemRule<T>, X: Beside<T> + Drop> Hand
         }
     }
 
+    /// Locks the vector at the length that the handle has observed, by one exchange. Returns
+    /// `Ok(None)` if the list is longer: the vector is then not locked, and the handle has observed
+    /// all of the list. It allocates nothing and never blocks.
+    ///
+    /// # Errors
+    /// Fails if another thread has the vector locked at this length. Nothing has changed; the same
+    /// call may succeed later.
+    ///
+    /// # Cost
+    /// `O(1)`.
+    #[doc(hidden)]
+    pub fn try_hold(&mut self, may: LockPermit) -> Result<Option<Hold<'v, T, A, K, X>>, Busy>
+        requires room { length self.old.seen + 1 < 2 ^ 62 }
+        ensures held { IfOk result (λ a. IfSome a (λ h. (self.new ≡ self.old)
+            × SeesAlike h self.old)) }
+        ensures longer { IfOk result (λ a. IfNone a (Continues self.old self.new
+            × (length self.old.seen < length self.new.seen))) }
+        ensures busy { OnErr result (self.new ≡ self.old) }
+    {
+        let list = self.list;
+        let (seen, author, n) = self.pass.lend().parts();
+        let mut seen = seen;
+        match list.try_acquire_at(may, &mut seen, n) {
+            Ok(right) => {
+                let author = bounded_by_tickets(&seen, author);
+                self.pass = Pass::of(seen.again(), author, n);
+                Ok(Some(Hold::at_length(list, seen, right, n)))
+            }
+            Err(length) => {
+                obeys_rule(&seen);
+                let author = bounded_by_tickets(&seen, author);
+                self.pass = Pass::of(seen, author, length);
+                if length == n {
+                    return Err(Busy);
+                }
+                Ok(None)
+            }
+        }
+    }
+
+    /// Locks the vector at its present length, by at most [`ATTEMPTS`] exchanges. It allocates
+    /// nothing and never blocks.
+    ///
+    /// # Errors
+    /// Fails with `Busy` if another thread has the vector locked, or has pushed first in each
+    /// attempt, and with `Failed` if the list has the greatest length.
+    ///
+    /// # Cost
+    /// `O(1)`.
+    pub(crate) fn try_hold_now(
+        &mut self,
+        may: LockPermit,
+    ) -> Result<Hold<'v, T, A, K, X>, AttemptFault<()>>
+        ensures continues { Continues self.old self.new }
+        ensures held { IfOk result (λ h. SeesAlike h self.new) }
+        ensures full { IfErr result (λ f. IfFailed f (λ _. BeginsABuffer (length self.new.seen))) }
+    {
+        for _ in 0..ATTEMPTS {
+            if self.seen_len() == LIMIT {
+                return Err(AttemptFault::Failed(AllocError));
+            }
+            match self.try_hold(may) {
+                Ok(Some(hold)) => return Ok(hold),
+                Ok(None) => {}
+                Err(Busy) => return Err(AttemptFault::Busy(())),
+            }
+        }
+        Err(AttemptFault::Busy(()))
+    }
+
     /// Locks the vector at its present length, and tries the length first that the handle has
     /// observed. Returns `None`, without a lock, if the list has the greatest length.
     ///
@@ -100,7 +178,7 @@ impl<'v, T: Drop, A: Allocator + Copy, K: ItemRule<T>, X: Beside<T> + Drop> Hand
         let (n, right) = list.acquire(rt, &mut seen, guess);
         let author = bounded_by_tickets(&seen, author);
         if n == LIMIT {
-            let (seen, author) = list.release(rt, seen, right, author, n);
+            let (seen, author) = list.release(seen, right, author, n);
             self.pass = Pass::released(seen, author, n);
             return None;
         }
@@ -160,7 +238,7 @@ impl<'v, T: Drop, A: Allocator + Copy, K: ItemRule<T>, X: Beside<T> + Drop> Hold
     /// # Cost
     /// `O(1)`.
     #[doc(hidden)]
-    pub fn publish<R: Wait>(self, rt: &R, handle: &mut Handle<'v, T, A, K, X>, item: T)
+    pub fn publish(self, handle: &mut Handle<'v, T, A, K, X>, item: T)
         // The hold's buffer takes the item.
         requires held { SeesAlike self handle.old }
         requires later { BeginsABuffer (length self.seen) → ⊥ }
@@ -200,7 +278,7 @@ impl<'v, T: Drop, A: Allocator + Copy, K: ItemRule<T>, X: Beside<T> + Drop> Hold
             buffer,
             slot,
         };
-        let (seen, author) = list.publish(rt, &handle.right, ready, item);
+        let (seen, author) = list.publish(&handle.right, ready, item);
         handle.pass = Pass::released(seen, author, at + 1);
     }
 
@@ -211,9 +289,8 @@ impl<'v, T: Drop, A: Allocator + Copy, K: ItemRule<T>, X: Beside<T> + Drop> Hold
     /// Fails if the buffer, four times as large as the one before, can't be allocated: nothing is
     /// pushed. The error has the item; what was to be stored next to it is dropped.
     #[doc(hidden)]
-    pub fn publish_first<R: Wait>(
+    pub fn publish_first(
         self,
-        rt: &R,
         handle: &mut Handle<'v, T, A, K, X>,
         item: T,
         beside: X,
@@ -240,7 +317,7 @@ impl<'v, T: Drop, A: Allocator + Copy, K: ItemRule<T>, X: Beside<T> + Drop> Hold
         let (before, author, _length) = handle.pass.lend().parts();
         drop(before);
         let Ok((fresh, slots)) = list.slots.new_buffer(buffer_size(buffer), beside) else {
-            let (seen, author) = list.release(rt, seen, right, author, at);
+            let (seen, author) = list.release(seen, right, author, at);
             handle.pass = Pass::released(seen, author, at);
             return Err(AllocFailed { value: item });
         };
@@ -258,7 +335,7 @@ impl<'v, T: Drop, A: Allocator + Copy, K: ItemRule<T>, X: Beside<T> + Drop> Hold
             buffer,
             slot,
         };
-        let (seen, author) = list.publish(rt, &handle.right, ready, item);
+        let (seen, author) = list.publish(&handle.right, ready, item);
         handle.pass = Pass::released(seen, author, at + 1);
         Ok(())
     }
@@ -268,7 +345,7 @@ impl<'v, T: Drop, A: Allocator + Copy, K: ItemRule<T>, X: Beside<T> + Drop> Hold
     /// # Cost
     /// `O(1)`.
     #[doc(hidden)]
-    pub fn release<R: Wait>(self, rt: &R, handle: &mut Handle<'v, T, A, K, X>)
+    pub fn release(self, handle: &mut Handle<'v, T, A, K, X>)
         requires held { SeesAlike self handle.old }
         ensures { handle.new ≡ handle.old }
     {
@@ -282,7 +359,7 @@ impl<'v, T: Drop, A: Allocator + Copy, K: ItemRule<T>, X: Beside<T> + Drop> Hold
         } = self;
         let (known, author, _length) = handle.pass.lend().parts();
         drop(known);
-        let (seen, author) = list.release(rt, seen, right, author, at);
+        let (seen, author) = list.release(seen, right, author, at);
         handle.pass = Pass::released(seen, author, at);
     }
 }
@@ -292,9 +369,8 @@ impl<'v, T: Drop, A: Allocator + Copy, K: ItemRule<T>> Hold<'v, T, A, K, ()> {
     ///
     /// # Errors
     /// Fails if that buffer can't be allocated. The error has the item.
-    pub(crate) fn end_with<R: Wait>(
+    pub(crate) fn end_with(
         self,
-        rt: &R,
         handle: &mut Handle<'v, T, A, K>,
         item: T,
     ) -> Result<(), AllocFailed<T>>
@@ -306,9 +382,9 @@ impl<'v, T: Drop, A: Allocator + Copy, K: ItemRule<T>> Hold<'v, T, A, K, ()> {
             × BeginsABuffer (length handle.old.seen)) }
     {
         if self.begins_buffer() {
-            return self.publish_first(rt, handle, item, ());
+            return self.publish_first(handle, item, ());
         }
-        self.publish(rt, handle, item);
+        self.publish(handle, item);
         Ok(())
     }
 }

@@ -16,6 +16,7 @@ mod handle;
 pub mod hold;
 pub mod item_rule;
 pub mod lock_free;
+pub mod may_lock;
 mod pass;
 mod rule;
 mod tokens;

@@ -18,11 +18,11 @@ ghost use Rattle.elsa_lock_free.specs.Rights.{logs, head, buffer_slots_of, autho
 
 use crate::event::Event;
 use crate::item_rule::ItemRule;
+use crate::may_lock::LockPermit;
 use crate::rule::{AcquireGain, ExtendGain, Log, OneWord, PublishGain, ReadGain, ReleaseGain};
 use elsa_slots::slots::{HasSlots, WriteRights, Written, WrittenPrefix};
 use logbook::{Gained, Offer, Seen, Start};
 use std::marker::{Model, PhantomData};
-use std::sync::Wait;
 
 /// The right to release the lock, at a history with these numbers of entries for its events. It has
 /// no bytes.
@@ -85,10 +85,10 @@ impl Author {
     }
 }
 
-/// An offer to acquire the word. It takes the right to wait, so that no read of the length can make
-/// one.
-pub fn offer_acquire<R: Wait, T, B: HasSlots<T>, K: ItemRule<T>>(
-    _rt: &R,
+/// An offer to acquire the word. It takes the permission to lock, so that no read of the length can
+/// make one.
+pub fn offer_acquire<T, B: HasSlots<T>, K: ItemRule<T>>(
+    _may: LockPermit,
     seen: &Seen<Event<T>, Log<T>, OneWord<B, K>>,
 ) -> Offer<Event<T>, Log<T>, OneWord<B, K>, AcquireGain<B>>
     ensures { (result.names ≡ seen.now.names) × (result.ask ≡ Acquired) × (result.about ≡ [])

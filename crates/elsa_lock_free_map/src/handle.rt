@@ -6,6 +6,7 @@
 //! A look-up reads through the handle itself: the entries that it has observed, and the row of
 //! index entries next to each buffer of them.
 ghost use Rattle.std.specs.Prelude.{◌≡◌, ◌↔◌, ◌+◌, ◌≤◌, ◌<◌, ◌^◌, true, false, IsTrue, IfOk, IfErr, IfSome, IfNone, Some, length, slice_get};
+ghost use Rattle.elsa_lock_free.specs.Attempts.{IfBusy};
 ghost use Rattle.elsa_lock_free.specs.SharedList.{Continues, IsLaterPass, IsSamePass, Meet, SeesAlike, items_of, mine};
 ghost use Rattle.elsa_lock_free.specs.Distinct.{AgreeOnPlaces, IsOneToOne};
 ghost use Rattle.elsa_hash_index.specs.declared.entry.Entry.{Entry};
@@ -18,8 +19,9 @@ use crate::iter::{MapIter, walk};
 use crate::map::{LockFreeFrozenMap, MapPass, copied};
 use elsa_hash_index::entry::{Entry, Shelf, entered, lookup, regrown};
 use elsa_hash_index::row::Row;
-use elsa_lock_free::hold::Hold;
+use elsa_lock_free::hold::{ATTEMPTS, Hold};
 use elsa_lock_free::lock_free::Handle;
+use elsa_lock_free::may_lock::{AttemptFault, Busy, LockPermit};
 use elsa_tables::{AnyEntries, EntryRule, Inserted};
 use indexmap::Equivalent;
 use std::alloc::{AllocError, Allocator, Global};
@@ -254,9 +256,8 @@ impl<
     /// Ends a hold with an entry at the end, if its memory can be allocated. Where a buffer begins,
     /// its row is filled with all keys before the entry. Where it fails, the key and the value are
     /// dropped after the end of the hold: their `Drop` may use the map.
-    fn publish_new<R: Wait>(
+    fn publish_new(
         &mut self,
-        rt: &R,
         hold: Hold<'m, Entry<K, V, S>, A, NewKeys<S, L>, Index<S, A>>,
         key: K,
         value: V,
@@ -274,22 +275,17 @@ impl<
         if hold.begins_buffer() {
             let count = 6 * (self.list.seen_len() + 1);
             let Ok((row, seen)) = regrown(self, self.alloc, count, self.builder, &key) else {
-                hold.release(rt, &mut self.list);
+                hold.release(&mut self.list);
                 return Err(AllocError);
             };
-            hold.publish_first(
-                rt,
-                &mut self.list,
-                Entry { key, value, seen },
-                Index { row },
-            )?;
+            hold.publish_first(&mut self.list, Entry { key, value, seen }, Index { row })?;
             return Ok(());
         }
         let Ok(seen) = entered(self, &key) else {
-            hold.release(rt, &mut self.list);
+            hold.release(&mut self.list);
             return Err(AllocError);
         };
-        hold.publish(rt, &mut self.list, Entry { key, value, seen });
+        hold.publish(&mut self.list, Entry { key, value, seen });
         Ok(())
     }
 
@@ -317,7 +313,7 @@ impl<
         let Some(hold) = self.list.hold(rt) else {
             return Ok(Err((key, value)));
         };
-        self.publish_new(rt, hold, key, value)?;
+        self.publish_new(hold, key, value)?;
         Ok(Ok(n))
     }
 
@@ -363,6 +359,81 @@ impl<
         unreachable!()
     }
 
+    /// Pushes an entry at the length that the handle has observed, as
+    /// [`push_absent`](Self::push_absent) does, but never blocks.
+    fn try_push_absent(
+        &mut self,
+        may: LockPermit,
+        key: K,
+        value: V,
+    ) -> Result<Result<usize, (K, V)>, AttemptFault<(K, V)>>
+        requires absent { Lacks K.eq (items_of self.old.seen) key }
+        requires rule { L.holds key value }
+        ensures later { IsLaterPass self.old self.new }
+        ensures pushed { IfOk result (λ a. IfOk a (λ i.
+            (i ≡ length self.old.seen) × PushesPair self.old self.new key value)) }
+        ensures again { IfOk result (λ a. IfErr a (λ pair. (pair ≡ (key, value))
+            × (mine self.new ≡ mine self.old))) }
+        ensures refused { IfErr result (λ f. (mine self.new ≡ mine self.old)
+            × IfBusy f (λ pair. pair ≡ (key, value))) }
+    {
+        let n = self.list.seen_len();
+        if n >= LIMIT {
+            return Err(AttemptFault::Failed(AllocError));
+        }
+        match self.list.try_hold(may) {
+            Ok(Some(hold)) => match self.publish_new(hold, key, value) {
+                Ok(()) => Ok(Ok(n)),
+                Err(AllocError) => Err(AttemptFault::Failed(AllocError)),
+            },
+            Ok(None) => Ok(Err((key, value))),
+            Err(Busy) => Err(AttemptFault::Busy((key, value))),
+        }
+    }
+
+    /// Inserts a key that the handle has not observed, as [`insert_absent`](Self::insert_absent)
+    /// does, but never blocks.
+    pub(crate) fn try_insert_absent(
+        &mut self,
+        may: LockPermit,
+        key: K,
+        value: V,
+    ) -> Result<Inserted<&'m V, usize>, AttemptFault<(K, V)>>
+        requires absent { Lacks K.eq (items_of self.old.seen) key }
+        requires rule { L.holds key value }
+        ensures later { IsLaterPass self.old self.new }
+        ensures inserted { IfOk result (λ r. InsertsOnce K.eq self.old self.new key
+            (record { value = r.value.now; index = r.index; is_new = r.is_new })) }
+        ensures own_value { IfOk result (λ r. r.is_new ≡ true → r.value.now ≡ value) }
+        ensures refused { IfErr result (λ f. (mine self.new ≡ mine self.old)
+            × IfBusy f (λ pair. pair ≡ (key, value))) }
+    {
+        let mut pair = (key, value);
+        for _ in 0..ATTEMPTS {
+            let (key, value) = pair;
+            match self.try_push_absent(may, key, value)? {
+                Ok(index) => {
+                    return Ok(Inserted {
+                        value: &self.entry(index).value,
+                        index,
+                        is_new: true,
+                    });
+                }
+                Err((key, value)) => {
+                    if let Some(index) = self.place_of(&key) {
+                        return Ok(Inserted {
+                            value: &self.entry(index).value,
+                            index,
+                            is_new: false,
+                        });
+                    }
+                    pair = (key, value);
+                }
+            }
+        }
+        Err(AttemptFault::Busy(pair))
+    }
+
     /// Inserts a key and its value unless a thread has inserted an equal key: the first insertion
     /// wins, for every thread. Returns a reference to the value that the key then has, its index in
     /// the order of insertion, and whether it is new. The reference lives as long as the map is
@@ -405,6 +476,46 @@ impl<
             });
         }
         self.insert_absent(rt, key, value)
+    }
+
+    /// Inserts a key and its value, as [`insert_ref`](Self::insert_ref) does, but never blocks.
+    ///
+    /// # Errors
+    /// Fails with `Busy` if another thread has the lock, or has inserted first in each of four
+    /// attempts: the error has the key and the value. Fails with `Failed` where `insert_ref` fails:
+    /// `key` and `value` are dropped. In both cases nothing is inserted; the same insertion may
+    /// succeed later.
+    ///
+    /// # Allocates
+    /// A buffer and its row of index entries, as `insert_ref` does. The call then has the lock while
+    /// it enters all keys into the row. That takes long and waits for no thread; the insertions of
+    /// other threads find the map busy meanwhile.
+    ///
+    /// # Cost
+    /// That of `insert_ref`, with at most four exchanges of the state word to take the lock.
+    pub fn try_insert_ref(
+        &mut self,
+        may: LockPermit,
+        key: K,
+        value: V,
+    ) -> Result<Inserted<&'m V, usize>, AttemptFault<(K, V)>>
+        requires rule { L.holds key value }
+        ensures later { IsLaterPass self.old self.new }
+        ensures inserted { IfOk result (λ r. InsertsOnce K.eq self.old self.new key
+            (record { value = r.value.now; index = r.index; is_new = r.is_new })) }
+        ensures own_value { IfOk result (λ r. r.is_new ≡ true → r.value.now ≡ value) }
+        ensures refused { IfErr result (λ f. (mine self.new ≡ mine self.old)
+            × IfBusy f (λ pair. pair ≡ (key, value))) }
+    {
+        if let Some(index) = self.place_of(&key) {
+            self.one_to_one();
+            return Ok(Inserted {
+                value: &self.entry(index).value,
+                index,
+                is_new: false,
+            });
+        }
+        self.try_insert_absent(may, key, value)
     }
 
     /// Proves that each entry that the handle has observed obeys the rule. It does nothing at run
@@ -508,6 +619,27 @@ impl<
         ensures refused { IfErr result (λ e. mine self.new ≡ mine self.old) }
     {
         Ok(copied(self.insert_ref(rt, key, value)?))
+    }
+
+    /// Inserts a key with its value, as [`try_insert_ref`](Self::try_insert_ref) does, and returns
+    /// a copy of the value that the key has. It never blocks.
+    ///
+    /// # Errors
+    /// Fails as `try_insert_ref` does. Nothing is inserted; the same insertion may succeed later.
+    pub fn try_insert(
+        &mut self,
+        may: LockPermit,
+        key: K,
+        value: V,
+    ) -> Result<Inserted<V, usize>, AttemptFault<(K, V)>>
+        requires rule { L.holds key value }
+        ensures later { IsLaterPass self.old self.new }
+        ensures inserted { IfOk result (λ r. InsertsOnce K.eq self.old self.new key r) }
+        ensures own_value { IfOk result (λ r. r.is_new ≡ true → r.value ≡ value) }
+        ensures refused { IfErr result (λ f. (mine self.new ≡ mine self.old)
+            × IfBusy f (λ pair. pair ≡ (key, value))) }
+    {
+        Ok(copied(self.try_insert_ref(may, key, value)?))
     }
 
     /// Returns whether an entry has the key: `false` if no entry that the handle has then observed

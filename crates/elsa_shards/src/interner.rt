@@ -6,6 +6,7 @@
 ghost use Rattle.std.specs.Hash.{str};
 ghost use Rattle.std.specs.Str.{bytes_eq};
 ghost use Rattle.std.specs.Prelude.{◌≡◌, ◌/◌, ◌%◌, ◌^◌, ◌<◌, ◌≤◌, [], All, IfOk, IfErr, IfSome, IfNone, length, map, slice_get};
+ghost use Rattle.elsa_lock_free.specs.Attempts.{IfBusy};
 ghost use Rattle.elsa_lock_free.specs.SharedList.{Continues, IsLaterPass, items_of, mine};
 ghost use Rattle.elsa_lock_free.specs.Distinct.{IsOneToOne};
 ghost use Rattle.elsa_shared_interner.specs.Names.{HasAt, Lacks, PutsName, PutsText};
@@ -13,6 +14,7 @@ ghost use Rattle.elsa_shards.specs.Numbers.{AgreeOnNumbers, AreOneToOne};
 ghost use Rattle.elsa_shards.specs.Shards.{AllContinue, AllMeet, IsSameMap, OnShard, seen_in_all, shard_of};
 
 use crate::map::{SHARDS, index_of};
+use elsa_lock_free::may_lock::{AttemptFault, LockPermit};
 use elsa_lock_free_map::place_text::PlaceText;
 use elsa_shared_interner::handle::NameHandle;
 use elsa_shared_interner::name::Name;
@@ -237,6 +239,45 @@ impl<
         Ok(number_of(place, shard, count))
     }
 
+    /// Returns the number of a name, and adds the name if no thread has added it, as
+    /// [`put`](Self::put) does, but never blocks.
+    ///
+    /// # Errors
+    /// Fails with `Busy` if another thread has the lock of the name's shard, or has added a name
+    /// there first in each of four attempts: the error has the name. Fails with `Failed` where
+    /// `put` fails. The handle has then added nothing; the same call may succeed later.
+    ///
+    /// # Allocates
+    /// A buffer of the shard and its row of index entries, as `put` does. The call then has the lock
+    /// of the shard while it enters all its names into the row. That takes long and waits for no
+    /// thread; other threads that add a name find the shard busy meanwhile.
+    ///
+    /// # Cost
+    /// That of `put`, with at most four exchanges of the shard's state word to take the lock.
+    pub fn try_put(&mut self, may: LockPermit, name: T) -> Result<usize, AttemptFault<T>>
+        ensures same_interner { IsSameMap self.old self.new }
+        ensures on_shard { OnShard self.old.0 self.new.0
+            (shard_of S.BuildHasher S.Hasher.Hasher self.old.1 (length self.old.0)
+            (T.hash_input name))
+            (λ before after. IsLaterPass before after × IsOneToOne T.eq (items_of after.seen)
+            × IfOk result (λ i. PutsName T.eq before after (i / length self.old.0) name)
+            × IfErr result (λ f. mine after ≡ mine before)) }
+        ensures numbered { IfOk result (λ i. i % length self.old.0
+            ≡ shard_of S.BuildHasher S.Hasher.Hasher self.old.1 (length self.old.0)
+            (T.hash_input name)) }
+        ensures busy { IfErr result (λ f. IfBusy f (λ x. x ≡ name)) }
+    {
+        let chosen = self.shard_index(name);
+        let count = self.names.len();
+        let names = &mut self.names[chosen];
+        let index = match names.try_put(may, name) {
+            Ok(index) => index,
+            Err(fault) => return Err(fault),
+        };
+        names.seen_len();
+        Ok(number_of(index, chosen, count))
+    }
+
     /// Returns the number of the name that `query` finds, or `None` if the handle has then observed
     /// no such name in the shard of `query`. A query is a reference to a name, a `&str` if the
     /// names are texts, or another value that is [`Equivalent`] to names. The call takes no lock,
@@ -407,5 +448,45 @@ impl<'i, 'a, S: BuildHasher + Copy + Drop, A: Allocator + Copy> ShardedNameHandl
         };
         names.seen_len();
         Ok(number_of(place, shard, count))
+    }
+
+    /// Returns the number of a text of any lifetime and length, as [`put_text`](Self::put_text)
+    /// does, but never blocks.
+    ///
+    /// # Errors
+    /// Fails with `Busy` as [`try_put`](Self::try_put) does: the error has the copy of the text,
+    /// which is in the arena. Fails with `Failed` where `put_text` fails. The handle has then added
+    /// nothing. To try again after `Busy`, put the copy by `try_put`: this call would copy the text
+    /// once more.
+    ///
+    /// # Cost
+    /// That of `put_text`, with at most four exchanges of the shard's state word to take the lock.
+    pub fn try_put_text<P: PlaceText<'a> + Drop>(
+        &mut self,
+        may: LockPermit,
+        arena: P,
+        text: &str,
+    ) -> Result<usize, AttemptFault<&'a str>>
+        ensures same_interner { IsSameMap self.old self.new }
+        ensures on_shard { OnShard self.old.0 self.new.0
+            (shard_of S.BuildHasher S.Hasher.Hasher self.old.1 (length self.old.0) (str text.now))
+            (λ before after. IsLaterPass before after
+            × IsOneToOne (λ a b. bytes_eq a.now b.now) (items_of after.seen)
+            × IfOk result (λ i. PutsText before after (i / length self.old.0) text.now)
+            × IfErr result (λ f. mine after ≡ mine before)) }
+        ensures numbered { IfOk result (λ i. i % length self.old.0
+            ≡ shard_of S.BuildHasher S.Hasher.Hasher self.old.1 (length self.old.0)
+            (str text.now)) }
+        ensures busy { IfErr result (λ f. IfBusy f (λ x. x.now ≡ text.now)) }
+    {
+        let chosen = self.shard_index(text);
+        let count = self.names.len();
+        let names = &mut self.names[chosen];
+        let index = match names.try_put_text(may, arena, text) {
+            Ok(index) => index,
+            Err(fault) => return Err(fault),
+        };
+        names.seen_len();
+        Ok(number_of(index, chosen, count))
     }
 }

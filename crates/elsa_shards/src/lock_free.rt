@@ -1,11 +1,13 @@
 //! [`LockFreeShardedMap`]: a map of shards whose look-ups take no lock.
 ghost use Rattle.std.specs.Prelude.{◌≡◌, ◌<◌, ◌≤◌, [], true, All, IfOk, IfErr, IfSome, IfNone, length, map};
+ghost use Rattle.elsa_lock_free.specs.Attempts.{IfBusy};
 ghost use Rattle.elsa_lock_free.specs.SharedList.{Continues, IsLaterPass, items_of, mine};
 ghost use Rattle.elsa_lock_free_map.specs.Entries.{Has, InsertsOnce, Lacks};
 ghost use Rattle.elsa_tables.specs.Rules.{HoldsAt};
 ghost use Rattle.elsa_shards.specs.Shards.{AllContinue, AllMeet, IsSameMap, OnShard, seen_in_all, shard_of};
 
 use crate::map::{SHARDS, index_of};
+use elsa_lock_free::may_lock::{AttemptFault, LockPermit};
 use elsa_lock_free_map::handle::MapHandle;
 use elsa_lock_free_map::map::LockFreeFrozenMap;
 use elsa_tables::{AnyEntries, EntryRule, Inserted};
@@ -328,6 +330,43 @@ impl<
         let index = self.shard_index(&key);
         self.handles[index].insert_ref(rt, key, value)
     }
+
+    /// Inserts a key and its value, as [`insert_ref`](Self::insert_ref) does, but never blocks.
+    ///
+    /// # Errors
+    /// Fails with `Busy` if another thread has the lock of the key's shard, or has inserted into it
+    /// first in each of four attempts: the error has the key and the value. Fails with `Failed`
+    /// where `insert_ref` fails: `key` and `value` are dropped. In both cases nothing is inserted;
+    /// the same insertion may succeed later.
+    ///
+    /// # Allocates
+    /// A buffer of the shard and its row of index entries, as `insert_ref` does. The call then has
+    /// the lock of the shard while it enters all its keys into the row. That takes long and waits
+    /// for no thread; the insertions of other threads find the shard busy meanwhile.
+    ///
+    /// # Cost
+    /// That of `insert_ref`, with at most four exchanges of the shard's state word to take the lock.
+    pub fn try_insert_ref(
+        &mut self,
+        may: LockPermit,
+        key: K,
+        value: V,
+    ) -> Result<Inserted<&'m V, usize>, AttemptFault<(K, V)>>
+        requires rule { L.holds key value }
+        ensures same_map { IsSameMap self.old self.new }
+        ensures on_shard { OnShard self.old.0 self.new.0
+            (shard_of S.BuildHasher S.Hasher.Hasher self.old.1 (length self.old.0)
+            (K.hash_input key))
+            (λ before after. IsLaterPass before after
+            × IfOk result (λ r. InsertsOnce K.eq before after key
+            (record { value = r.value.now; index = r.index; is_new = r.is_new }))
+            × IfErr result (λ f. mine after ≡ mine before)) }
+        ensures own_value { IfOk result (λ r. r.is_new ≡ true → r.value.now ≡ value) }
+        ensures busy { IfErr result (λ f. IfBusy f (λ pair. pair ≡ (key, value))) }
+    {
+        let index = self.shard_index(&key);
+        self.handles[index].try_insert_ref(may, key, value)
+    }
 }
 
 impl<
@@ -387,6 +426,32 @@ impl<
     {
         let index = self.shard_index(&key);
         self.handles[index].insert(rt, key, value)
+    }
+
+    /// Inserts a key with its value, as [`try_insert_ref`](Self::try_insert_ref) does, and returns
+    /// a copy of the value that the key has. It never blocks.
+    ///
+    /// # Errors
+    /// Fails as `try_insert_ref` does. Nothing is inserted; the same insertion may succeed later.
+    pub fn try_insert(
+        &mut self,
+        may: LockPermit,
+        key: K,
+        value: V,
+    ) -> Result<Inserted<V, usize>, AttemptFault<(K, V)>>
+        requires rule { L.holds key value }
+        ensures same_map { IsSameMap self.old self.new }
+        ensures on_shard { OnShard self.old.0 self.new.0
+            (shard_of S.BuildHasher S.Hasher.Hasher self.old.1 (length self.old.0)
+            (K.hash_input key))
+            (λ before after. IsLaterPass before after
+            × IfOk result (InsertsOnce K.eq before after key)
+            × IfErr result (λ f. mine after ≡ mine before)) }
+        ensures own_value { IfOk result (λ r. r.is_new ≡ true → r.value ≡ value) }
+        ensures busy { IfErr result (λ f. IfBusy f (λ pair. pair ≡ (key, value))) }
+    {
+        let index = self.shard_index(&key);
+        self.handles[index].try_insert(may, key, value)
     }
 
     /// Inserts a key with the value that `make` returns, unless a thread has inserted an equal key.

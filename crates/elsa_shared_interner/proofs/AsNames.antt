@@ -14,7 +14,10 @@ use Rattle.elsa_hash_index.specs.Entries.{keys_of}
 use Rattle.elsa_hash_index.proofs.EntryLemmas.{entry_at}
 use Rattle.elsa_lock_free_map.specs.Entries.{Came, HasAt as MapsAt, is_text}
 use Rattle.elsa_lock_free_map.proofs.MapLemmas.{key_at}
-use Rattle.elsa_shared_interner.specs.Names.{HasAt, HasTextAt, Lacks, name_of, names_of}
+use Rattle.elsa_lock_free.specs.declared.may_lock.AttemptFault.{AttemptFault}
+use Rattle.elsa_lock_free.specs.declared.may_lock.AttemptFault.TheVariants.{Busy, Failed}
+use Rattle.elsa_lock_free.specs.Attempts.{IfBusy}
+use Rattle.elsa_shared_interner.specs.Names.{HasAt, HasTextAt, Lacks, alone, name_of, names_of}
 
 -- a list of which each item fails a test lacks it
 finds_none : {A : Type 0} (test : A → Bool) (xs : List A) → ((i : ℕ) (y : A) → slice_get xs i ≡ Some y → test y ≡ false) → Lacks test xs
@@ -121,3 +124,8 @@ module _ (xs : List (Bor (List ℕ))) (i : ℕ) (text : List ℕ) where
 
   pub is_read : HasTextAt xs i text → HasAt is_text xs i text
   is_read h = (h.0, h.1, (bytes_eq-Decides text h.0.now).1 (sym h.2))
+
+-- what holds of the name that a map's insertion returned holds of that which the interner returns
+pub busy_alone : {T V E : Type 0} (f : AttemptFault (T × V) E) (P : T → Type 0) → IfBusy f (λ pair. P pair.0) → IfBusy (alone f) P
+busy_alone (Busy pair) P h = h
+busy_alone (Failed e) P h = tt

@@ -6,6 +6,8 @@ use Rattle.elsa_lock_free.specs.SharedList.{View, items_of, mine}
 use Rattle.elsa_lock_free.specs.declared.event.Entry.{Entry as Pushed}
 use Rattle.elsa_hash_index.specs.declared.entry.Entry.{Entry}
 use Rattle.elsa_shared_interner.specs.declared.name_bytes.Name.{Name}
+use Rattle.elsa_lock_free.specs.declared.may_lock.AttemptFault.{AttemptFault}
+use Rattle.elsa_lock_free.specs.declared.may_lock.AttemptFault.TheVariants.{Busy, Failed}
 
 -- the bytes of a name's text
 abbrev pub text_of : Name → List ℕ
@@ -46,3 +48,8 @@ PutsName equal before after i name = PutsBy (λ xs j. HasAt equal xs j name) bef
 -- a text was put
 abbrev pub PutsText : View (Bor (List ℕ)) → View (Bor (List ℕ)) → ℕ → List ℕ → Type 0
 PutsText before after i text = PutsBy (λ xs j. HasTextAt xs j text) before after i
+
+-- the fault of an insertion into an interner's map, with the name alone
+abbrev pub alone : {T V E : Type 0} → AttemptFault (T × V) E → AttemptFault T E
+alone (Busy pair) = Busy pair.0
+alone (Failed e) = Failed e

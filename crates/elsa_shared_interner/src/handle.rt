@@ -4,12 +4,14 @@
 //! view, have a condition. Each call of the interner is written here, once.
 ghost use Rattle.std.specs.Prelude.{◌≡◌, ◌↔◌, ◌+◌, ◌-◌, ◌≤◌, ◌<◌, ◌^◌, IsTrue, IfOk, IfErr, IfSome, IfNone, length, slice_get};
 ghost use Rattle.std.specs.Str.{bytes_eq};
+ghost use Rattle.elsa_lock_free.specs.Attempts.{IfBusy};
 ghost use Rattle.elsa_lock_free.specs.SharedList.{Continues, IsLaterPass, Meet, items_of, mine};
 ghost use Rattle.elsa_lock_free.specs.Distinct.{AgreeOnPlaces, IsOneToOne};
-ghost use Rattle.elsa_shared_interner.specs.Names.{HasAt, Lacks, PutsName, PutsText};
+ghost use Rattle.elsa_shared_interner.specs.Names.{HasAt, Lacks, PutsName, PutsText, alone};
 
 use crate::name::Name;
 use crate::shared::{NamePass, SharedInterner};
+use elsa_lock_free::may_lock::{AttemptFault, LockPermit};
 use elsa_lock_free_map::handle::MapHandle;
 use elsa_lock_free_map::place_text::PlaceText;
 use indexmap::Equivalent;
@@ -17,6 +19,17 @@ use std::alloc::{AllocError, Allocator, Global};
 use std::hash::{BuildHasher, BuildHasherDefault, FoldHasher, Hash};
 use std::marker::Model;
 use std::sync::Wait;
+
+/// Returns the fault of an insertion into the interner's map as one of the interner: with the name
+/// alone.
+fn without_value<T: Copy + Drop>(fault: AttemptFault<(T, ())>) -> AttemptFault<T>
+    ensures { result ≡ alone fault }
+{
+    match fault {
+        AttemptFault::Busy((name, ())) => AttemptFault::Busy(name),
+        AttemptFault::Failed(error) => AttemptFault::Failed(error),
+    }
+}
 
 /// An interner and a thread's view of it. Contracts see the view: its interner, its number as a
 /// writer, and the names that it has observed.
@@ -97,6 +110,39 @@ impl<'i, T: Copy + Drop + Hash, S: BuildHasher + Copy + Drop, A: Allocator + Cop
         self.one_to_one();
         let Ok(put) = answer else {
             return Err(AllocError);
+        };
+        self.names.seen_len();
+        Ok(put.index)
+    }
+
+    /// Returns the index of a name, and adds the name if no thread has added it, as
+    /// [`put`](Self::put) does, but never blocks.
+    ///
+    /// # Errors
+    /// Fails with `Busy` if another thread has the lock, or has added a name first in each of four
+    /// attempts: the error has the name. Fails with `Failed` where `put` fails. The handle has then
+    /// added nothing; the same call may succeed later.
+    ///
+    /// # Allocates
+    /// A buffer and its row of index entries, as `put` does. The call then has the lock while it
+    /// enters all names into the row. That takes long and waits for no thread; other threads that
+    /// add a name find the interner busy meanwhile.
+    ///
+    /// # Cost
+    /// That of `put`, with at most four exchanges of the state word to take the lock.
+    pub fn try_put(&mut self, may: LockPermit, name: T) -> Result<usize, AttemptFault<T>>
+        ensures later { IsLaterPass self.old self.new }
+        ensures one_to_one { IsOneToOne T.eq (items_of self.new.seen) }
+        ensures numbered { IfOk result (λ i. PutsName T.eq self.old self.new i name) }
+        ensures fits { IfOk result (λ i. i < 2 ^ 32 - 1) }
+        ensures refused { IfErr result (λ f. (mine self.new ≡ mine self.old)
+            × IfBusy f (λ x. x ≡ name)) }
+    {
+        let answer = self.names.try_insert(may, name, ());
+        self.one_to_one();
+        let put = match answer {
+            Ok(put) => put,
+            Err(fault) => return Err(without_value(fault)),
         };
         self.names.seen_len();
         Ok(put.index)
@@ -238,6 +284,37 @@ impl<'i, 'a, S: BuildHasher + Copy + Drop, A: Allocator + Copy> NameHandle<'i, &
         self.one_to_one();
         let Ok(put) = answer else {
             return Err(AllocError);
+        };
+        self.names.seen_len();
+        Ok(put.index)
+    }
+
+    /// Returns the index of a text of any lifetime and length, as [`put_text`](Self::put_text)
+    /// does, but never blocks.
+    ///
+    /// # Errors
+    /// Fails with `Busy` as [`try_put`](Self::try_put) does: the error has the copy of the text,
+    /// which is in the arena. Fails with `Failed` where `put_text` fails. The handle has then added
+    /// nothing. To try again after `Busy`, put the copy by `try_put`: this call would copy the text
+    /// once more.
+    pub fn try_put_text<P: PlaceText<'a> + Drop>(
+        &mut self,
+        may: LockPermit,
+        arena: P,
+        text: &str,
+    ) -> Result<usize, AttemptFault<&'a str>>
+        ensures later { IsLaterPass self.old self.new }
+        ensures one_to_one { IsOneToOne (λ a b. bytes_eq a.now b.now) (items_of self.new.seen) }
+        ensures numbered { IfOk result (λ i. PutsText self.old self.new i text.now) }
+        ensures fits { IfOk result (λ i. i < 2 ^ 32 - 1) }
+        ensures refused { IfErr result (λ f. (mine self.new ≡ mine self.old)
+            × IfBusy f (λ x. x.now ≡ text.now)) }
+    {
+        let answer = self.names.try_insert_text(may, arena, text, ());
+        self.one_to_one();
+        let put = match answer {
+            Ok(put) => put,
+            Err(fault) => return Err(without_value(fault)),
         };
         self.names.seen_len();
         Ok(put.index)

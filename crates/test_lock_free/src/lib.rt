@@ -26,3 +26,5 @@ mod pass_tests;
 mod schedule_rows;
 #[cfg(test)]
 mod slots_tests;
+#[cfg(test)]
+mod try_tests;

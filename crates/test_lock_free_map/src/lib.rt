@@ -16,6 +16,8 @@ mod refusal_tests;
 #[cfg(test)]
 mod thread_tests;
 #[cfg(test)]
+mod try_tests;
+#[cfg(test)]
 mod value_tests;
 #[cfg(test)]
 mod walk_tests;

@@ -18,3 +18,5 @@ mod shard_tests;
 mod text_tests;
 #[cfg(test)]
 mod thread_tests;
+#[cfg(test)]
+mod try_tests;

@@ -5,6 +5,7 @@ use elsa::cache::{CacheFault, LoadFault};
 use elsa::cell::{CellFault, Fault, InUse, TryFault};
 use elsa::interner::{EngineFault, Failed, NameFault};
 use elsa::map::InsertFault;
+use elsa::sync::AttemptFault;
 use elsa::sync::history::{CloseFault, ReceiptsFault, Recorder, VecCommand};
 use elsa::sync::vec::VecState;
 use elsa::tables::Refusal;
@@ -32,6 +33,8 @@ enum CallerError {
     Fault(#[from] Fault),
     #[error("caller: {0}")]
     Try(#[from] TryFault<u64, LoadFault>),
+    #[error("caller: {0}")]
+    Attempt(#[from] AttemptFault<u64, LoadFault>),
     #[error("caller: {0}")]
     Engine(#[from] EngineFault),
     #[error("caller: {0}")]
@@ -153,6 +156,23 @@ fn prints_a_closures(alloc: Global) -> Result<bool, AllocError> {
 #[test]
 fn an_error_of_a_closure_printed_another_sentence(rt: HostRuntime) -> Result<(), Fail> {
     assert!(rt; prints_a_closures(rt.alloc())?);
+    Ok(())
+}
+
+fn prints_an_attempt(alloc: Global) -> Result<bool, AllocError> {
+    let busy: AttemptFault<u64, LoadFault> = AttemptFault::Busy(7);
+    let failed: AttemptFault<u64, LoadFault> = AttemptFault::Failed(LoadFault::NotFound);
+    let shown = format!(in alloc; "{busy:?} {failed:?}")?;
+    Ok(
+        shown.as_str() == "Busy(..) Failed(NotFound)"
+            && prints(alloc, busy, "another thread has the lock: try again")?
+            && prints(alloc, failed, NOT_FOUND)?,
+    )
+}
+
+#[test]
+fn an_error_of_an_attempt_printed_another_sentence(rt: HostRuntime) -> Result<(), Fail> {
+    assert!(rt; prints_an_attempt(rt.alloc())?);
     Ok(())
 }
 

@@ -13,6 +13,7 @@ ghost use Rattle.elsa_lock_free.specs.OneWord.{word_of};
 use super::{AtomicList, SeenHistory};
 use crate::event::Event;
 use crate::item_rule::ItemRule;
+use crate::may_lock::LockPermit;
 use crate::pass::PushRight;
 use crate::rule::{Acquire, AcquireGain, EndHold, Log, PublishGain, ReleaseGain};
 use crate::tokens::{
@@ -46,9 +47,9 @@ pub(crate) struct Ready<T, A: Allocator, K: ItemRule<T>, X: Beside<T>> {
 
 impl<T: Drop, A: Allocator + Copy, K: ItemRule<T>, X: Beside<T> + Drop> AtomicList<T, A, K, X> {
     /// Acquires the word if it is still `found`. Else `found` becomes what it is now.
-    fn try_acquire<R: Wait>(
+    fn try_acquire(
         &self,
-        rt: &R,
+        may: LockPermit,
         seen: &mut SeenHistory<T, A, K, X>,
         found: &mut u64,
     ) -> Option<Gained<Event<T>, Log<T>, AcquireGain<Buffer<T, A, X>>>>
@@ -65,7 +66,7 @@ impl<T: Drop, A: Allocator + Copy, K: ItemRule<T>, X: Beside<T> + Drop> AtomicLi
             × (2 * length (list_of r.answer) ≡ found.old) × (length (list_of r.answer) < 2 ^ 62)) }
         ensures changed { IfNone result (found.new ≡ word_of seen.new.log) }
     {
-        let mut offer = offer_acquire(rt, seen);
+        let mut offer = offer_acquire(may, seen);
         let mut pen = seen.no_pen();
         let old = *found;
         *found = self
@@ -109,7 +110,7 @@ impl<T: Drop, A: Allocator + Copy, K: ItemRule<T>, X: Beside<T> + Drop> AtomicLi
         for _ in rt.forever() {
             if found % 2 == 0 {
                 let length = found as usize / 2;
-                if let Some(right) = self.try_acquire(rt, seen, &mut found) {
+                if let Some(right) = self.try_acquire(LockPermit::waiting(rt), seen, &mut found) {
                     return (length, right);
                 }
             } else {
@@ -150,17 +151,46 @@ impl<T: Drop, A: Allocator + Copy, K: ItemRule<T>, X: Beside<T> + Drop> AtomicLi
             if found % 2 == 1 {
                 tries = wait_a_little(tries);
                 found = self.load(seen);
-            } else if let Some(right) = self.try_acquire(rt, seen, &mut found) {
+            } else if let Some(right) = self.try_acquire(
+                LockPermit::waiting(rt),
+                seen,
+                &mut found,
+            ) {
                 return Ok(right);
             }
         }
         unreachable!()
     }
 
-    /// Releases the word and leaves the list.
-    pub(crate) fn release<R: Wait>(
+    /// Acquires the word at the length `n` alone, by one exchange. `Err` is the length of the list:
+    /// `n` if another thread has the word at this length, and else a greater one.
+    pub(crate) fn try_acquire_at(
         &self,
-        _rt: &R,
+        may: LockPermit,
+        seen: &mut SeenHistory<T, A, K, X>,
+        n: usize,
+    ) -> Result<Gained<Event<T>, Log<T>, AcquireGain<Buffer<T, A, X>>>, usize>
+        requires book { seen.old.book ≡ self.now.first.book }
+        requires index { (n ≡ length (list_of seen.old.log)) × (n < 2 ^ 62) }
+
+        // The history grows. Acquired, it ends with the acquire at this length.
+        ensures same { IsOf seen.new seen.old }
+        ensures seen { IsPrefix seen.old.log seen.new.log }
+        ensures right { IfOk result (λ r.
+            (r.names ≡ seen.old.names) × (seen.new.log ≡ r.answer ++ Acquired ∷ [])
+            × (length (list_of r.answer) ≡ n)) }
+        ensures taken { IfErr result (λ m. (m ≡ length (list_of seen.new.log)) × (n ≤ m)) }
+    {
+        let mut found = 2 * n as u64;
+        if let Some(right) = self.try_acquire(may, seen, &mut found) {
+            return Ok(right);
+        }
+        Err(found as usize / 2)
+    }
+
+    /// Releases the word and leaves the list.
+    pub(crate) fn release(
+        &self,
         seen: SeenHistory<T, A, K, X>,
         right: Gained<Event<T>, Log<T>, AcquireGain<Buffer<T, A, X>>>,
         author: Author,
@@ -197,9 +227,8 @@ impl<T: Drop, A: Allocator + Copy, K: ItemRule<T>, X: Beside<T> + Drop> AtomicLi
     }
 
     /// Writes the slot at the length, and publishes it.
-    pub(crate) fn publish<R: Wait>(
+    pub(crate) fn publish(
         &self,
-        _rt: &R,
         _right: &PushRight,
         ready: Ready<T, A, K, X>,
         item: T,

@@ -1,0 +1,217 @@
+//! Pushes that don't wait: by one thread alone, while another handle has the vector locked, with
+//! each allocation denied in turn, and by two threads at once.
+ghost use Rattle.std.specs.Prelude.{◌≡◌};
+
+use elsa_lock_free::lock_free::{Handle, LockFreeFrozenVec};
+use elsa_lock_free::may_lock::{AttemptFault, LockPermit};
+use std::alloc::{AllocError, Allocator, Global};
+use std::sync::Wait;
+use std::sync::atomic::{AtomicU64, Ordering};
+use std::test::*;
+use std::thread;
+use std::thread::Threads;
+use test_alloc::Budget;
+
+/// The greatest number of attempts to push one item.
+const TURNS: u64 = 10_000_000;
+
+/// The number of items of each of two threads.
+const ITEMS: u64 = 3_000;
+
+/// What a push returned: the index, or the item that it has not pushed.
+#[derive(Clone, Copy, Debug, PartialEq)]
+enum Pushed {
+    At(usize),
+    Busy(u64),
+    Failed(u64),
+}
+
+fn pushed<A: Allocator + Copy>(
+    handle: &mut Handle<'_, u64, A>,
+    may: LockPermit,
+    item: u64,
+) -> Pushed
+    ensures vector { handle.new.vector ≡ handle.old.vector }
+{
+    match handle.try_push(may, item) {
+        Ok(place) => Pushed::At(place),
+        Err(AttemptFault::Busy(item)) => Pushed::Busy(item),
+        Err(AttemptFault::Failed(failed)) => Pushed::Failed(failed.value),
+    }
+}
+
+/// Pushes `count` numbers by two handles in turn, neither of which has observed the other's last
+/// push. Returns the first result that isn't the next index.
+fn alone(vector: &LockFreeFrozenVec<u64>, may: LockPermit, count: usize) -> Option<Pushed> {
+    let mut one = vector.handle();
+    let mut other = vector.handle();
+    for number in 0..count {
+        let result = if number % 2 == 0 {
+            pushed(&mut one, may, number as u64)
+        } else {
+            pushed(&mut other, may, number as u64)
+        };
+        if result != Pushed::At(number) {
+            return Some(result);
+        }
+    }
+    None
+}
+
+#[test]
+fn one_thread_alone_found_the_vector_busy(rt: HostRuntime) -> Result<(), Fail> {
+    let vector = LockFreeFrozenVec::<u64>::new(rt.alloc())?;
+    let may = LockPermit::trying(rt.alloc());
+    assert_eq!(rt; alone(&vector, may, 100), None);
+    assert_eq!(rt; (vector.len(), vector.get(99)), (100, Some(99)));
+    Ok(())
+}
+
+/// Pushes `count` numbers, and then 7 by another handle while the vector is locked. Returns what
+/// this push returned, and the length that its handle has observed after it. `None` if the vector
+/// could not be locked.
+fn during_a_hold<R: Wait>(
+    rt: &R,
+    vector: &LockFreeFrozenVec<u64>,
+    may: LockPermit,
+    count: u64,
+) -> Option<(Pushed, usize)> {
+    let mut other = vector.handle();
+    for number in 0..count {
+        vector.push(rt, number).ok()?;
+    }
+    let mut holder = vector.handle();
+    if holder.len() > 1000 {
+        return None;
+    }
+    let hold = holder.hold(rt)?;
+    let result = pushed(&mut other, may, 7);
+    hold.release(&mut holder);
+    Some((result, other.seen_len()))
+}
+
+#[test]
+fn a_push_at_a_locked_vector_did_not_return_its_item(rt: HostRuntime) -> Result<(), Fail> {
+    for count in [0, 1, 3] {
+        let vector = LockFreeFrozenVec::<u64>::new(rt.alloc())?;
+        let may = LockPermit::trying(rt.alloc());
+        let result = during_a_hold(&rt, &vector, may, count);
+        assert_eq!(rt;
+            result,
+            Some((Pushed::Busy(7), count as usize)),
+            "at {count}"
+        );
+        assert_eq!(rt; vector.len(), count as usize, "at {count}");
+        let after = pushed(&mut vector.handle(), may, 8);
+        assert_eq!(rt; after, Pushed::At(count as usize), "at {count}");
+    }
+    Ok(())
+}
+
+/// Tries to push 7 at the length `count`, while the budget denies the next request, and then
+/// 8. Returns both results, and the length.
+fn denied_once(
+    heap: &Budget<Global>,
+    may: LockPermit,
+    count: u64,
+) -> Result<(Pushed, Pushed, usize), AllocError> {
+    let vector = LockFreeFrozenVec::<u64, _>::new(heap)?;
+    let mut handle = vector.handle();
+    for number in 0..count {
+        pushed(&mut handle, may, number);
+    }
+    heap.refuse_next(1);
+    let first = pushed(&mut handle, may, 7);
+    let again = pushed(&mut handle, may, 8);
+    Ok((first, again, vector.len()))
+}
+
+#[test]
+fn a_push_without_memory_did_not_return_its_item(rt: HostRuntime) -> Result<(), Fail> {
+    for count in [0, 3, 15, 63] {
+        let heap = Budget::new(rt.alloc());
+        let results = denied_once(&heap, LockPermit::trying(rt.alloc()), count)?;
+        let after = count as usize;
+        let wanted = (Pushed::Failed(7), Pushed::At(after), after + 1);
+        assert_eq!(rt; results, wanted, "at {count}");
+        assert_eq!(rt; heap.given(), heap.granted(), "at {count}");
+    }
+    Ok(())
+}
+
+/// Tries to push an item until another thread doesn't have the lock.
+fn push_patiently(handle: &mut Handle<'_, u64>, may: LockPermit, item: u64) -> bool
+    ensures vector { handle.new.vector ≡ handle.old.vector }
+{
+    for _ in 0..TURNS {
+        match pushed(handle, may, item) {
+            Pushed::At(_) => return true,
+            Pushed::Busy(_) => thread::yield_now(),
+            Pushed::Failed(_) => return false,
+        }
+    }
+    false
+}
+
+/// Waits until both threads are counted, and pushes `ITEMS` numbers from `first` on.
+fn push_all(
+    vector: &LockFreeFrozenVec<u64>,
+    may: LockPermit,
+    there: &AtomicU64,
+    first: u64,
+) -> bool {
+    let _ = there.fetch_add(1, Ordering::SeqCst);
+    for _ in 0..TURNS {
+        if there.load(Ordering::SeqCst) >= 2 {
+            break;
+        }
+        thread::yield_now();
+    }
+    let mut handle = vector.handle();
+    for i in 0..ITEMS {
+        if !push_patiently(&mut handle, may, first.wrapping_add(i)) {
+            return false;
+        }
+    }
+    true
+}
+
+/// Returns the number of different numbers below `2 * ITEMS` that the vector has.
+fn each_once(vector: &LockFreeFrozenVec<u64>) -> usize {
+    let mut seen = [false; 6_000];
+    let mut found = 0usize;
+    let mut handle = vector.handle();
+    for item in handle.news() {
+        if let Some(was) = seen.get_mut(item as usize)
+            && !*was
+        {
+            *was = true;
+            found = found.wrapping_add(1);
+        }
+    }
+    found
+}
+
+/// Runs two threads that push by attempts alone. Returns whether all their pushes succeeded.
+fn two_threads<R: Threads + Wait + Sync>(
+    rt: &R,
+    vector: &LockFreeFrozenVec<u64>,
+    may: LockPermit,
+) -> bool {
+    let there = AtomicU64::new(0);
+    let met = &there;
+    let (one, two) = thread::join(
+        rt,
+        || push_all(vector, may, met, 0),
+        || push_all(vector, may, met, ITEMS),
+    );
+    one && two
+}
+
+#[test]
+fn two_threads_that_do_not_wait_lost_an_item(rt: HostRuntime) -> Result<(), Fail> {
+    let vector = LockFreeFrozenVec::<u64>::new(rt.alloc())?;
+    assert!(rt; two_threads(&rt, &vector, LockPermit::trying(rt.alloc())));
+    assert_eq!(rt; (vector.len(), each_once(&vector)), (6_000, 6_000));
+    Ok(())
+}
