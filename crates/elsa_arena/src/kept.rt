@@ -41,9 +41,9 @@ impl<X: Fits> Kept<X> {
         ensures { X.fits self.now result }
     {
         let place = &raw const self.value as *mut X;
-        // SAFETY: no reference to the value exists, as no call lends it: `replace` moves it out and
-        // in. A type with `shr_at` counts as an `UnsafeCell`, so the write through `&self` is one
-        // to a cell.
+        // SAFETY: no reference to the value exists, as no call returns one: `replace` moves it out
+        // and in. A type with `shr_at` counts as an `UnsafeCell`, so the write through `&self` is
+        // one to a cell.
         unsafe {
             let old = place.read();
             place.write(value);

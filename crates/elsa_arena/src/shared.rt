@@ -19,7 +19,7 @@ impl<T, A: Allocator> Names<Slots<T, A>> for OfSlots {
 /// back fits it: so a call that takes the state knows to which buffers it belongs.
 #[derive(Drop)]
 pub struct Shared<S: Fits + Drop> {
-    // `None` while a call or a guard has the state, and for ever if a guard was forgotten.
+    // `None` while a call or a guard has the state, and from then on if a guard was forgotten.
     cell: Kept<Option<S>>,
 }
 

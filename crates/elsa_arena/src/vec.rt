@@ -723,7 +723,7 @@ impl<'v, T, A: Allocator + Copy> Model for Hold<'v, T, A> {
       capacity = capacity_of h.state;
     } };
 
-    // The guard has the state of this list; what it gives back at its end goes to the same list.
+    // The guard has the state of this list, and at its end puts it into the same list.
     ghost invariant = { λ h. IsStateOf h.slots.now h.state × (h.cell.now.numbers ≡ h.slots.now)
         × (h.shown.now ≡ h.slots.now) };
 }

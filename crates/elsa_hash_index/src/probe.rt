@@ -158,11 +158,13 @@ pub fn enter<S, W: Words<S>>(words: &mut W, hash: u32, place: usize) -> Result<(
         if words.tag(at) == 0 {
             // The processor fetches both words at the same time.
             if words.number(at) == 0 && words.set_tag(at, tag) {
+                // From here on a reader that finds the tag and no number continues with the next.
                 if words.set_number(at, place as u64 + 1) {
                     return Ok(());
                 }
                 return Err(AllocError);
             }
+            // The exchange failed. If another thread has set the tag, continue with the next entry.
             if words.tag(at) == 0 {
                 return Err(AllocError);
             }

@@ -42,7 +42,9 @@ impl<'v, T, A: Allocator, K: ItemRule<T>, X: Beside<T>> Model for Handle<'v, T, 
 
     ghost view = { λ h. h.pass };
 
-    ghost invariant = { λ h. (h.pass.vector ≡ (h.list.now.first.book, h.list.now.first.names)) × (h.right ≡ h.pass.author) };
+    // The view is of this list, and the right is that of its writer.
+    ghost invariant = { λ h. (h.pass.vector ≡ (h.list.now.first.book, h.list.now.first.names))
+        × (h.right ≡ h.pass.author) };
 }
 
 /// What a handle has observed of a vector, for reading: it has no right to push. Contracts see the
@@ -61,6 +63,7 @@ impl<'v, T, A: Allocator, K: ItemRule<T>, X: Beside<T>> Model for Observed<'v, T
 
     ghost view = { λ o. items_of o.pass.seen };
 
+    // The view is of this list.
     ghost invariant = { λ o. o.pass.vector ≡ (o.list.now.first.book, o.list.now.first.names) };
 }
 

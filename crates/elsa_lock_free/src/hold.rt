@@ -52,7 +52,12 @@ impl<'v, T, A: Allocator, K: ItemRule<T>, X: Beside<T>> Model for Hold<'v, T, A,
 
     ghost view = { λ h. record { vector = (h.seen.book, h.seen.names); author = 0; seen = list_of h.seen.log } };
 
-    ghost invariant = { λ h. (h.right.names ≡ h.seen.names) × (h.seen.log ≡ h.right.answer ++ Acquired ∷ []) × (h.at ≡ length (list_of h.right.answer)) × (h.at + 1 < 2 ^ 62) × IsAt h.at h.buffer h.slot × (h.buffer < 31) × (h.seen.book ≡ h.list.now.first.book) × (h.seen.names ≡ h.list.now.first.names) };
+    // The right was gained by the last event of the history, an acquire at the length `at`, which
+    // is the slot `slot` of the buffer `buffer`; and both are of this list.
+    ghost invariant = { λ h. (h.right.names ≡ h.seen.names)
+        × (h.seen.log ≡ h.right.answer ++ Acquired ∷ []) × (h.at ≡ length (list_of h.right.answer))
+        × (h.at + 1 < 2 ^ 62) × IsAt h.at h.buffer h.slot × (h.buffer < 31)
+        × (h.seen.book ≡ h.list.now.first.book) × (h.seen.names ≡ h.list.now.first.names) };
 }
 
 impl<'v, T: Drop, A: Allocator + Copy, K: ItemRule<T>, X: Beside<T> + Drop> Handle<'v, T, A, K, X> {

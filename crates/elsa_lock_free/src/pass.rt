@@ -67,7 +67,9 @@ impl<T, A: Allocator, K: ItemRule<T>, X: Beside<T>> Model for Pass<T, A, K, X> {
 
     ghost view = { λ p. record { vector = (p.seen.book, p.seen.names); author = suc p.author.name; seen = list_of p.seen.log } };
 
-    ghost invariant = { λ p. (count (suc p.author.name) (list_of p.seen.log) ≡ p.author.used) × (p.seen_length ≡ length (list_of p.seen.log)) × (p.seen_length < 2 ^ 62) };
+    // The writer has used one ticket for each of its entries, and `seen_length` counts all entries.
+    ghost invariant = { λ p. (count (suc p.author.name) (list_of p.seen.log) ≡ p.author.used)
+        × (p.seen_length ≡ length (list_of p.seen.log)) × (p.seen_length < 2 ^ 62) };
 }
 
 impl<T, A: Allocator, K: ItemRule<T>, X: Beside<T>> Pass<T, A, K, X> {

@@ -487,9 +487,9 @@ impl<
     /// succeed later.
     ///
     /// # Allocates
-    /// A buffer and its row of index entries, as `insert_ref` does. The call then has the lock while
-    /// it enters all keys into the row. That takes long and waits for no thread; the insertions of
-    /// other threads find the map busy meanwhile.
+    /// A buffer and its row of index entries, as `insert_ref` does. The call then has the lock
+    /// while it enters all keys into the row. That takes long and waits for no thread; the
+    /// insertions of other threads find the map busy meanwhile.
     ///
     /// # Cost
     /// That of `insert_ref`, with at most four exchanges of the state word to take the lock.

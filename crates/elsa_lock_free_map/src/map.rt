@@ -54,7 +54,7 @@ pub struct LockFreeFrozenMap<
     A: Allocator + Copy = Global,
     L: EntryRule<K, V> = AnyEntries,
 > {
-    // The entries in the order of insertion. The index of their keys lies beside the newest buffer.
+    // The entries in the order of insertion. The newest buffer also has the index of their keys.
     pub(crate) list: Entries<K, V, S, A, L>,
     pub(crate) builder: S,
     pub(crate) alloc: A,

@@ -248,9 +248,9 @@ impl<
     /// `put` fails. The handle has then added nothing; the same call may succeed later.
     ///
     /// # Allocates
-    /// A buffer of the shard and its row of index entries, as `put` does. The call then has the lock
-    /// of the shard while it enters all its names into the row. That takes long and waits for no
-    /// thread; other threads that add a name find the shard busy meanwhile.
+    /// A buffer of the shard and its row of index entries, as `put` does. The call then has the
+    /// lock of the shard while it enters all its names into the row. That takes long and waits for
+    /// no thread; other threads that add a name find the shard busy meanwhile.
     ///
     /// # Cost
     /// That of `put`, with at most four exchanges of the shard's state word to take the lock.

@@ -345,7 +345,8 @@ impl<
     /// for no thread; the insertions of other threads find the shard busy meanwhile.
     ///
     /// # Cost
-    /// That of `insert_ref`, with at most four exchanges of the shard's state word to take the lock.
+    /// That of `insert_ref`, with at most four exchanges of the shard's state word to take the
+    /// lock.
     pub fn try_insert_ref(
         &mut self,
         may: LockPermit,

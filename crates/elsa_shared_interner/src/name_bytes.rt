@@ -6,7 +6,7 @@ ghost use Rattle.std.specs.Str.{is_utf8};
 /// 0.
 #[derive(Clone, Copy)]
 pub struct Name {
-    // The text, and behind its `len` bytes zeros, so that equal texts have equal bytes.
+    // The text, and after its `len` bytes zeros, so that equal texts have equal bytes.
     pub(crate) bytes: [u8; 23],
     pub(crate) len: u8,
     ghost short: { len ≤ 23 },

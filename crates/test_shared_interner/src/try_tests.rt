@@ -102,9 +102,9 @@ fn during_a_put<'a>(
     }
 }
 
-/// Makes an interner of texts, and puts "one" by a call that is halted, and "seven" meanwhile by the
-/// buffer. Then it puts the copy that this call returned. Returns what the second and the third call
-/// returned, the two numbers of the second, and the number of names at the end.
+/// Makes an interner of texts, and puts "one" by a call that is halted, and "seven" meanwhile by
+/// the buffer. Then it puts the copy that this call returned. Returns what the second and the third
+/// call returned, the two numbers of the second, and the number of names at the end.
 fn beside_a_put<'a, R: Threads + Wait + Sync>(
     rt: &R,
     heap: &'a Budget<Global>,

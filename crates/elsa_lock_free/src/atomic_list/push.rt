@@ -66,6 +66,8 @@ impl<T: Drop, A: Allocator + Copy, K: ItemRule<T>, X: Beside<T> + Drop> AtomicLi
             × (2 * length (list_of r.answer) ≡ found.old) × (length (list_of r.answer) < 2 ^ 62)) }
         ensures changed { IfNone result (found.new ≡ word_of seen.new.log) }
     {
+        // From `2 n` to `2 n + 1`: the length stays, and the last bit is set. Where the word has
+        // changed, the exchange is a load.
         let mut offer = offer_acquire(may, seen);
         let mut pen = seen.no_pen();
         let old = *found;
@@ -105,9 +107,12 @@ impl<T: Drop, A: Allocator + Copy, K: ItemRule<T>, X: Beside<T> + Drop> AtomicLi
             × (seen.new.log ≡ result.1.answer ++ Acquired ∷ []) }
         ensures length { (result.0 ≡ length (list_of result.1.answer)) × (result.0 < 2 ^ 62) }
     {
+        // The word is taken for free at the guessed length, without a load; a wrong guess costs one
+        // exchange, which shows the word.
         let mut found = 2 * guess as u64;
         let mut tries: u32 = 0;
         for _ in rt.forever() {
+            // An odd word is held: wait, and load it again.
             if found % 2 == 0 {
                 let length = found as usize / 2;
                 if let Some(right) = self.try_acquire(LockPermit::waiting(rt), seen, &mut found) {
@@ -145,6 +150,7 @@ impl<T: Drop, A: Allocator + Copy, K: ItemRule<T>, X: Beside<T> + Drop> AtomicLi
         let mut tries: u32 = 0;
         for _ in rt.forever() {
             let length = found as usize / 2;
+            // Another thread has pushed: this call's item would not be at the index `n`.
             if length != n {
                 return Err(length);
             }
@@ -211,6 +217,7 @@ impl<T: Drop, A: Allocator + Copy, K: ItemRule<T>, X: Beside<T> + Drop> AtomicLi
         ensures seen { list_of result.0.log ≡ list_of seen.log }
         ensures mine { count (suc author.name) (list_of seen.log) ≡ author.used }
     {
+        // From `2 n + 1` to `2 n`. Only the holder changes an odd word, so the exchange succeeds.
         let mut seen = seen;
         let mut offer = offer_release(&seen, right, author);
         let mut pen = seen.no_pen();
@@ -268,8 +275,11 @@ impl<T: Drop, A: Allocator + Copy, K: ItemRule<T>, X: Beside<T> + Drop> AtomicLi
         } = ready;
         let mut seen = seen;
         let mut slots = slots;
+        // Write first: no other thread reads the slot before the word shows its index.
         let right = slots.take();
         let written = self.slots.write(buffer, slot, item, &opened, right);
+        // From `2 n + 1` to `2 (n + 1)`: one exchange shows the item and releases the word. Only
+        // the holder changes an odd word, so it succeeds.
         let mut offer = offer_publish(
             &seen, held, opened, slots, further, author, written, buffer, slot,
         );

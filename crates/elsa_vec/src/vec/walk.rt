@@ -62,7 +62,7 @@ where
     T: StableDeref<R>,
 {
     items: &'v FrozenVecIn<R, T, A>,
-    // The index of the next item from the front, and the one behind the next item from the back.
+    // The index of the next item from the front, and the one after the next item from the back.
     place: usize,
     end: usize,
 }
