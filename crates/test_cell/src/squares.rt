@@ -18,8 +18,6 @@ impl EntryRule<u32, u64> for IsSquare {
 
 type Squares = FrozenMap<u32, u64, BuildHasherDefault<FoldHasher>, Global, IsSquare>;
 
-type SortedSquares = FrozenBTreeMap<u32, u64, Global, IsSquare>;
-
 /// Returns the square of a number, from the table or by a multiplication.
 ///
 /// # Errors
@@ -33,6 +31,8 @@ fn square(squares: &Squares, number: u32) -> Result<u64, Fault>
     let value = number as u64 * number as u64;
     Ok(*squares.insert(number, value)?)
 }
+
+type SortedSquares = FrozenBTreeMap<u32, u64, Global, IsSquare>;
 
 /// Returns the entry at an index.
 fn entry(squares: &Squares, index: usize) -> Option<(u32, u64)>
