@@ -554,3 +554,9 @@ fn list_handle_since(list: &cell::FrozenVec<u64>) -> usize {
     let mut handle: cell::Handle<'_, u64> = list.handle_since(&seen);
     handle.len()
 }
+
+fn list_get_since(list: &cell::FrozenVec<u64>, index: usize) -> bool {
+    let seen: cell::Seen<u64> = list.observed().evidence();
+    let item: Option<&u64> = list.get_since(&seen, index);
+    item.is_some()
+}
