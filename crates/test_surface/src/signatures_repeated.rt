@@ -41,15 +41,6 @@ fn vec_equals<'a>(vec: &FrozenVec<'a, String>, other: &FrozenVec<'a, String>) ->
     vec == other
 }
 
-fn vec_walk<'a>(vec: &FrozenVec<'a, String>, sought: &str) -> bool {
-    for item in vec {
-        if item == sought {
-            return true;
-        }
-    }
-    false
-}
-
 fn vec_search<'a>(vec: &FrozenVec<'a, String>, target: &'a str) -> Result<usize, usize> {
     vec.binary_search(target)
 }
