@@ -384,10 +384,6 @@ fn locked_vec_iter<'v>(vec: &'v sync::FrozenVec<u64>) -> sync::Iter<'v, u64> {
     vec.iter()
 }
 
-fn locked_into_state(map: sync::FrozenMap<u64, u64>) -> MapState<u64, u64> {
-    map.into_state()
-}
-
 fn state_map_get(map: &MapState<u64, u64>, key: &u64) -> Option<bool> {
     map.map_get(key, |value| *value == 6)
 }

@@ -49,19 +49,6 @@ impl<K, V, T, A: Allocator + Copy, R: EntryRule<K, V>> Locked<K, V, T, A, R>
 where
     T: Table<K, Arc<V, A>>,
 {
-    /// Makes a map of a state. It allocates nothing and takes no lock.
-    pub fn over(state: State<K, V, T, A, R>) -> Self {
-        Locked {
-            lock: RwLock::new(state),
-        }
-    }
-
-    /// Returns the state. It takes no lock, since the caller owns the map.
-    pub fn into_state(self) -> State<K, V, T, A, R> {
-        let Locked { lock } = self;
-        lock.into_inner()
-    }
-
     /// Returns an `Arc` of the value at the key that `query` finds, or `None` if the map has no
     /// such key.
     ///
