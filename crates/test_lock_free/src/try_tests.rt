@@ -26,7 +26,7 @@ enum Pushed {
     Failed(u64),
 }
 
-fn pushed<A: Allocator + Copy>(
+fn outcome_of_push<A: Allocator + Copy>(
     handle: &mut Handle<'_, u64, A>,
     may: LockPermit,
     item: u64,
@@ -47,9 +47,9 @@ fn alone(vector: &LockFreeFrozenVec<u64>, may: LockPermit, count: usize) -> Opti
     let mut other = vector.handle();
     for number in 0..count {
         let result = if number % 2 == 0 {
-            pushed(&mut one, may, number as u64)
+            outcome_of_push(&mut one, may, number as u64)
         } else {
-            pushed(&mut other, may, number as u64)
+            outcome_of_push(&mut other, may, number as u64)
         };
         if result != Pushed::At(number) {
             return Some(result);
@@ -85,7 +85,7 @@ fn during_a_hold<R: Wait>(
         return None;
     }
     let hold = holder.hold(rt)?;
-    let result = pushed(&mut other, may, 7);
+    let result = outcome_of_push(&mut other, may, 7);
     hold.release(&mut holder);
     Some((result, other.seen_len()))
 }
@@ -102,7 +102,7 @@ fn a_push_at_a_locked_vector_did_not_return_its_item(rt: HostRuntime) -> Result<
             "at {count}"
         );
         assert_eq!(rt; vector.len(), count as usize, "at {count}");
-        let after = pushed(&mut vector.handle(), may, 8);
+        let after = outcome_of_push(&mut vector.handle(), may, 8);
         assert_eq!(rt; after, Pushed::At(count as usize), "at {count}");
     }
     Ok(())
@@ -118,11 +118,11 @@ fn denied_once(
     let vector = LockFreeFrozenVec::<u64, _>::new(heap)?;
     let mut handle = vector.handle();
     for number in 0..count {
-        pushed(&mut handle, may, number);
+        outcome_of_push(&mut handle, may, number);
     }
     heap.refuse_next(1);
-    let first = pushed(&mut handle, may, 7);
-    let again = pushed(&mut handle, may, 8);
+    let first = outcome_of_push(&mut handle, may, 7);
+    let again = outcome_of_push(&mut handle, may, 8);
     Ok((first, again, vector.len()))
 }
 
@@ -144,7 +144,7 @@ fn push_patiently(handle: &mut Handle<'_, u64>, may: LockPermit, item: u64) -> b
     ensures vector { handle.new.vector ≡ handle.old.vector }
 {
     for _ in 0..TURNS {
-        match pushed(handle, may, item) {
+        match outcome_of_push(handle, may, item) {
             Pushed::At(_) => return true,
             Pushed::Busy(_) => thread::yield_now(),
             Pushed::Failed(_) => return false,

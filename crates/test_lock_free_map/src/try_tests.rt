@@ -32,7 +32,7 @@ enum Tried {
     Failed,
 }
 
-fn tried<A: Allocator + Copy>(
+fn outcome_of<A: Allocator + Copy>(
     handle: &mut Handle<'_, A>,
     may: LockPermit,
     key: u64,
@@ -53,8 +53,8 @@ fn alone(map: &Map<Global>, may: LockPermit, count: usize) -> Option<(Tried, Tri
     let mut one = map.handle();
     let mut other = map.handle();
     for index in 0..count {
-        let first = tried(&mut one, may, index as u64, 1);
-        let second = tried(&mut other, may, index as u64, 2);
+        let first = outcome_of(&mut one, may, index as u64, 1);
+        let second = outcome_of(&mut other, may, index as u64, 2);
         if (first, second) != (Tried::At(index, true), Tried::At(index, false)) {
             return Some((first, second));
         }
@@ -91,7 +91,7 @@ fn during_an_insertion(
 ) -> Option<(Tried, usize)> {
     let mut handle = map.handle();
     let stands = halts(heap);
-    let result = tried(&mut handle, may, 7, 70);
+    let result = outcome_of(&mut handle, may, 7, 70);
     let still = heap.is_halted();
     heap.go_on();
     if stands && still {
@@ -110,13 +110,13 @@ fn an_insertion_into_a_locked_map_did_not_return_its_key(rt: HostRuntime) -> Res
     let (busy, first) = thread::join(
         &rt,
         || during_an_insertion(&heap, &map, may),
-        || tried(&mut map.handle(), may, 1, 10),
+        || outcome_of(&mut map.handle(), may, 1, 10),
     );
     assert_eq!(rt; busy, Some((Tried::Busy(7, 70), 0)));
     assert_eq!(rt; first, Tried::At(0, true));
     let mut handle = map.handle();
     assert_eq!(rt; (handle.len(), handle.get(7)), (1, None));
-    assert_eq!(rt; tried(&mut handle, may, 7, 70), Tried::At(1, true));
+    assert_eq!(rt; outcome_of(&mut handle, may, 7, 70), Tried::At(1, true));
     Ok(())
 }
 
@@ -126,10 +126,10 @@ fn insert_stubbornly(map: &Map<&Budget<Global>>, may: LockPermit) -> Result<u64,
     let mut handle = map.handle();
     let mut failed = 0u64;
     for index in 0..16usize {
-        let mut result = tried(&mut handle, may, index as u64, 5);
+        let mut result = outcome_of(&mut handle, may, index as u64, 5);
         if result == Tried::Failed && handle.len() == index {
             failed = failed.wrapping_add(1);
-            result = tried(&mut handle, may, index as u64, 5);
+            result = outcome_of(&mut handle, may, index as u64, 5);
         }
         if result != Tried::At(index, true) {
             return Err(result);
@@ -173,7 +173,7 @@ fn insert_patiently(
     ensures vector { handle.new.vector ≡ handle.old.vector }
 {
     for _ in 0..TURNS {
-        match tried(handle, may, key, value) {
+        match outcome_of(handle, may, key, value) {
             Tried::At(_, is_new) => return Some(is_new),
             Tried::Busy(_, _) => thread::yield_now(),
             Tried::Failed => return None,

@@ -34,7 +34,7 @@ enum Tried<T> {
     Failed,
 }
 
-fn tried<T>(answer: Result<usize, AttemptFault<T>>) -> Tried<T> {
+fn outcome_of<T>(answer: Result<usize, AttemptFault<T>>) -> Tried<T> {
     match answer {
         Ok(index) => Tried::At(index),
         Err(AttemptFault::Busy(name)) => Tried::Busy(name),
@@ -52,8 +52,8 @@ fn alone(
     let mut one = interner.handle();
     let mut other = interner.handle();
     for index in 0..count {
-        let first = tried(one.try_put(may, index as u64));
-        let second = tried(other.try_put(may, index as u64));
+        let first = outcome_of(one.try_put(may, index as u64));
+        let second = outcome_of(other.try_put(may, index as u64));
         if (first, second) != (Tried::At(index), Tried::At(index)) {
             return Some((first, second));
         }
@@ -92,7 +92,7 @@ fn during_a_put<'a>(
     let mut handle = interner.handle();
     let mut buffer = buffer;
     let stands = halts(heap);
-    let put = tried(handle.try_put_text(may, &mut buffer, "seven"));
+    let put = outcome_of(handle.try_put_text(may, &mut buffer, "seven"));
     let still = heap.is_halted();
     heap.go_on();
     if stands && still {
@@ -117,7 +117,7 @@ fn beside_a_put<'a, R: Threads + Wait + Sync>(
     let (busy, first) = thread::join(
         rt,
         move || during_a_put(heap, shared, may, buffer),
-        || tried(shared.handle().try_put(may, "one")) == Tried::At(0),
+        || outcome_of(shared.handle().try_put(may, "one")) == Tried::At(0),
     );
     let Some((put, seen, room)) = busy else {
         return Ok(None);
@@ -125,7 +125,7 @@ fn beside_a_put<'a, R: Threads + Wait + Sync>(
     let Tried::Busy(copy) = put else {
         return Ok(None);
     };
-    let again = tried(interner.handle().try_put(may, copy));
+    let again = outcome_of(interner.handle().try_put(may, copy));
     if !first {
         return Ok(None);
     }
@@ -156,8 +156,8 @@ fn denied_once(
     let mut handle = interner.handle();
     let denied = heap.asked().wrapping_add(number);
     heap.refuse(denied, denied.wrapping_add(1));
-    let first = tried(handle.try_put(may, 7));
-    let again = tried(handle.try_put(may, 7));
+    let first = outcome_of(handle.try_put(may, 7));
+    let again = outcome_of(handle.try_put(may, 7));
     Ok((first, again, handle.len()))
 }
 
@@ -179,7 +179,7 @@ fn put_patiently(handle: &mut NumberHandle<'_, Global>, may: LockPermit, name: u
     ensures vector { handle.new.vector ≡ handle.old.vector }
 {
     for _ in 0..TURNS {
-        match tried(handle.try_put(may, name)) {
+        match outcome_of(handle.try_put(may, name)) {
             Tried::At(index) => return Some(index),
             Tried::Busy(_) => thread::yield_now(),
             Tried::Failed => return None,
