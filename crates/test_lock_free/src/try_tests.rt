@@ -140,9 +140,7 @@ fn a_push_without_memory_did_not_return_its_item(rt: HostRuntime) -> Result<(), 
 }
 
 /// Tries to push an item until another thread doesn't have the lock.
-fn push_patiently(handle: &mut Handle<'_, u64>, may: LockPermit, item: u64) -> bool
-    ensures vector { handle.new.vector ≡ handle.old.vector }
-{
+fn push_patiently(handle: &mut Handle<'_, u64>, may: LockPermit, item: u64) -> bool {
     for _ in 0..TURNS {
         match outcome_of_push(handle, may, item) {
             Pushed::At(_) => return true,

@@ -169,9 +169,7 @@ fn insert_patiently(
     may: LockPermit,
     key: u64,
     value: u64,
-) -> Option<bool>
-    ensures vector { handle.new.vector ≡ handle.old.vector }
-{
+) -> Option<bool> {
     for _ in 0..TURNS {
         match outcome_of(handle, may, key, value) {
             Tried::At(_, is_new) => return Some(is_new),

@@ -175,9 +175,11 @@ fn a_put_without_memory_put_a_name_or_leaked(rt: HostRuntime) -> Result<(), Fail
 
 /// Puts a name, and tries again while another thread has the lock. Returns its index, or `None` if
 /// a call failed.
-fn put_patiently(handle: &mut NumberHandle<'_, Global>, may: LockPermit, name: u64) -> Option<usize>
-    ensures vector { handle.new.vector ≡ handle.old.vector }
-{
+fn put_patiently(
+    handle: &mut NumberHandle<'_, Global>,
+    may: LockPermit,
+    name: u64,
+) -> Option<usize> {
     for _ in 0..TURNS {
         match outcome_of(handle.try_put(may, name)) {
             Tried::At(index) => return Some(index),
