@@ -38,10 +38,10 @@ fn by_two<R: Wait>(
 #[test]
 fn a_second_insertion_returned_another_value(rt: HostRuntime) -> Result<(), Fail> {
     let map = LockFreeFrozenMap::<u64, u64>::new(rt.alloc())?;
-    let (mut one, mut other) = (map.handle(), map.handle());
     for key in 0..70 {
-        assert_eq!(rt; by_one(&rt, &mut one, key, (key, 7))?, (key, key));
-        assert_eq!(rt; by_two(&rt, &mut one, &mut other, key, (8, 9))?, (key, key));
+        assert_eq!(rt; by_one(&rt, &mut map.handle(), key, (key, 7))?, (key, key));
+        let values = by_two(&rt, &mut map.handle(), &mut map.handle(), key, (8, 9))?;
+        assert_eq!(rt; values, (key, key));
     }
     Ok(())
 }
