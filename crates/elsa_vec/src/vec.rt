@@ -294,7 +294,7 @@ impl<R: Copy, T: StableDeref<R>, A: Allocator + Copy> FrozenVecIn<R, T, A> {
     pub fn first(&self) -> Option<T::Borrow>
         ensures { result ≡ slice_get self.now 0 }
     {
-        self.get(0)
+        self.items.get(0).copied()
     }
 
     /// Returns the last item, or `None` exactly if the vector is empty.
