@@ -6,6 +6,7 @@ ghost use Rattle.std.specs.Str.{bytes_eq};
 use bumpalo::Bump;
 use elsa::FrozenVec;
 use std::alloc::{AllocError, Global};
+use thiserror::Error;
 
 /// A line `KEY = VALUE`, without the spaces around the two.
 #[derive(Clone, Copy)]
@@ -22,18 +23,14 @@ pub struct Config<'t> {
 }
 
 /// The reason why a text isn't a configuration.
-#[derive(Clone, Copy)]
+#[derive(Clone, Copy, Debug, Error)]
 pub enum ParseFault {
     /// This line, counted from 1, has no `=`.
+    #[error("line {0} has no =")]
     BadLine(usize),
     /// An allocation failed.
-    Memory,
-}
-
-impl From<AllocError> for ParseFault {
-    fn from(_: AllocError) -> ParseFault {
-        ParseFault::Memory
-    }
+    #[error("{0}")]
+    Memory(#[from] AllocError),
 }
 
 /// Returns the parts of a line before and after its first `=`, or `None` if it has no `=`.

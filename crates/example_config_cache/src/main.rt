@@ -10,11 +10,9 @@
 mod config;
 mod configs;
 
-use crate::config::ParseFault;
 use crate::configs::Configs;
 use bumpalo::Bump;
 use elsa::SeededState;
-use elsa::cache::CacheFault;
 use std::io::{self, BufRead, BufReader, BufWriter, Write};
 
 fn main(rt: HostRuntime) -> io::Result<()> {
@@ -33,7 +31,7 @@ fn main(rt: HostRuntime) -> io::Result<()> {
         let config = match configs.config(&rt, path) {
             Ok(config) => config,
             Err(fault) => {
-                write_fault(&mut output, path, &fault)?;
+                writeln!(output, "{path}: {fault}")?;
                 continue;
             }
         };
@@ -50,23 +48,4 @@ fn main(rt: HostRuntime) -> io::Result<()> {
     let first = first.unwrap_or("none");
     writeln!(output, "the first value was {first}")?;
     output.flush()
-}
-
-/// Writes the reason why the file at the path has no configuration.
-fn write_fault(
-    output: &mut impl Write,
-    path: &str,
-    fault: &CacheFault<io::Error, ParseFault>,
-) -> io::Result<()> {
-    match fault {
-        CacheFault::Load(error) => writeln!(output, "{path}: {error}"),
-        CacheFault::Parse(ParseFault::BadLine(line)) => writeln!(
-            output,
-            "{path}: line {line} has no ="
-        ),
-        CacheFault::Parse(ParseFault::Memory) | CacheFault::Memory => writeln!(
-            output,
-            "{path}: no memory"
-        ),
-    }
 }

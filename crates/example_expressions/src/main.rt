@@ -17,22 +17,20 @@ use bumpalo::Bump;
 use elsa::{FrozenMap, Own};
 use std::alloc::AllocError;
 use std::io::{self, BufRead, BufReader};
+use thiserror::Error;
 
 /// The reason why a line names no expression.
-#[derive(Debug, Clone, Copy)]
+#[derive(Debug, Clone, Copy, Error)]
 enum Fault {
     /// It isn't `NAME = NAME + NAME` or `NAME = NAME * NAME`.
+    #[error("not NAME = NAME + NAME")]
     Form,
     /// The name has an expression already.
+    #[error("named already")]
     IsNamed,
     /// An allocation failed.
-    Memory,
-}
-
-impl From<AllocError> for Fault {
-    fn from(_: AllocError) -> Fault {
-        Fault::Memory
-    }
+    #[error("no memory")]
+    Memory(#[from] AllocError),
 }
 
 /// The names that have an expression, with its number.
@@ -96,9 +94,7 @@ fn main(rt: HostRuntime) -> io::Result<()> {
                 Some(value) => println!(rt; "{line}: expression {number}, {value}")?,
                 None => println!(rt; "{line}: expression {number}")?,
             },
-            Err(Fault::Form) => println!(rt; "{line}: not NAME = NAME + NAME")?,
-            Err(Fault::IsNamed) => println!(rt; "{line}: named already")?,
-            Err(Fault::Memory) => println!(rt; "no memory")?,
+            Err(fault) => println!(rt; "{line}: {fault}")?,
         }
     }
     println!(rt; "{} expressions", expressions.len())

@@ -4,6 +4,7 @@ ghost use Rattle.std.specs.Prelude.{◌≡◌};
 
 use std::alloc::{AllocError, Global};
 use std::io;
+use thiserror::Error;
 
 /// The keys and values of a file, in the order of its lines.
 #[derive(Drop)]
@@ -12,20 +13,17 @@ pub struct Config {
 }
 
 /// The reason why a path has no configuration.
-#[derive(Drop)]
+#[derive(Debug, Drop, Error)]
 pub enum LoadFault {
     /// The file can't be read, or isn't UTF-8.
-    File(io::Error),
+    #[error("{0}")]
+    File(#[from] io::Error),
     /// This line, counted from 1, has no `=`.
+    #[error("line {0} has no =")]
     BadLine(usize),
     /// An allocation failed.
-    Memory,
-}
-
-impl From<AllocError> for LoadFault {
-    fn from(_: AllocError) -> LoadFault {
-        LoadFault::Memory
-    }
+    #[error("{0}")]
+    Memory(#[from] AllocError),
 }
 
 impl Config {

@@ -65,10 +65,7 @@ fn load<'c, R: Files + AllocGlobal + Wait>(
     if let Some(config) = cached.get_ref(path) {
         return Ok(config);
     }
-    let text = match fs::read_to_string(rt, path) {
-        Ok(text) => text,
-        Err(error) => return Err(LoadFault::File(error)),
-    };
+    let text = fs::read_to_string(rt, path)?;
     let config = Config::parse(alloc, text.as_str())?;
     let key = String::from_str(alloc, path)?;
     let inserted = cached.insert_ref(rt, key, config)?;
@@ -107,7 +104,7 @@ fn answer<R: Files + AllocGlobal + Wait>(
     for (path, key) in requests {
         let config = match load(rt, alloc, &mut cached, path) {
             Ok(config) => config,
-            Err(LoadFault::Memory) => return Err(AllocError),
+            Err(LoadFault::Memory(error)) => return Err(error),
             Err(_) => {
                 found.refused = found.refused.saturating_add(1);
                 continue;

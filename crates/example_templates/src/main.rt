@@ -11,7 +11,7 @@
 
 mod templates;
 
-use crate::templates::{LoadFault, Templates};
+use crate::templates::Templates;
 use std::io::{self, BufRead, BufReader};
 
 fn main(rt: HostRuntime) -> io::Result<()> {
@@ -24,10 +24,7 @@ fn main(rt: HostRuntime) -> io::Result<()> {
                 let lines = template.lines;
                 print!(rt; "{path}, {lines} lines:\n{}", template.text)?;
             }
-            Err(LoadFault::IncludesItself) => println!(rt; "{path} includes itself")?,
-            Err(LoadFault::TooDeep) => println!(rt; "{path} includes too deep")?,
-            Err(LoadFault::Missing) => println!(rt; "{path} or what it includes can't be read")?,
-            Err(LoadFault::Store(fault)) => println!(rt; "{fault}")?,
+            Err(fault) => println!(rt; "{path} {fault}")?,
         }
     }
     println!(rt; "{} templates were loaded", templates.len())

@@ -3,6 +3,7 @@ use elsa::cell::{Fault, FrozenMap};
 use std::alloc::{AllocError, Global};
 use std::fs;
 use std::rt::Files;
+use thiserror::Error;
 
 /// The greatest number of templates that are nested by inclusion.
 const DEEPEST: usize = 32;
@@ -17,22 +18,23 @@ pub struct Template {
 }
 
 /// The reason why a template wasn't loaded.
-#[derive(Clone, Copy, Debug, PartialEq, Eq)]
+#[derive(Clone, Copy, Debug, PartialEq, Eq, Error)]
 pub enum LoadFault {
     /// It includes itself, or is included by one that it includes.
+    #[error("includes itself")]
     IncludesItself,
     /// More than 32 templates are nested by inclusion.
+    #[error("includes too deep")]
     TooDeep,
     /// The file, or one that it includes, can't be read or isn't UTF-8.
+    #[error("or what it includes can't be read")]
     Missing,
+    /// An allocation failed.
+    #[error("could not be loaded: {0}")]
+    Memory(#[from] AllocError),
     /// The loader couldn't store it.
-    Store(Fault),
-}
-
-impl From<AllocError> for LoadFault {
-    fn from(error: AllocError) -> LoadFault {
-        LoadFault::Store(Fault::from(error))
-    }
+    #[error("could not be stored: {0}")]
+    Store(#[from] Fault),
 }
 
 /// The templates that are being loaded, the innermost first.
@@ -86,8 +88,8 @@ impl Templates {
     ///
     /// # Errors
     /// `IncludesItself` or `TooDeep` if the inclusions are circular or nested too deeply, `Missing`
-    /// if a file can't be read, `Store` if the loader can't store it. The template is then not
-    /// loaded; templates that it includes may be.
+    /// if a file can't be read, `Memory` if an allocation fails, `Store` if the loader can't store it.
+    /// The template is then not loaded; templates that it includes may be.
     pub fn load<R: Files + AllocGlobal>(&self, rt: &R, path: &str) -> Result<&Template, LoadFault> {
         self.load_below(rt, path, None, DEEPEST)
     }
@@ -131,9 +133,6 @@ impl Templates {
             }
         }
         let path = String::from_str(self.alloc, path)?;
-        match self.loaded.insert(path, template) {
-            Ok(template) => Ok(template),
-            Err(fault) => Err(LoadFault::Store(Fault::from(fault))),
-        }
+        Ok(self.loaded.insert(path, template).map_err(Fault::from)?)
     }
 }
