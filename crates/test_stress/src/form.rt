@@ -11,6 +11,9 @@ use test_alloc::Budget;
 /// The number of looks of a thread for the others, after which it begins without them.
 const TURNS: u64 = 100_000;
 
+/// The greatest number of attempts of an insertion that doesn't wait.
+pub const ATTEMPTS: u64 = 10_000_000;
+
 /// The least number of keys.
 pub const KEYS: u64 = 300;
 

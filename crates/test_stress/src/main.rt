@@ -17,8 +17,8 @@ mod recorded;
 mod script;
 mod shards;
 
-use crate::lists::{FreeList, LockedList};
-use crate::maps::{FreeMap, HashedMap, OrderedMap};
+use crate::lists::{FreeList, LockedList, TriedList};
+use crate::maps::{FreeMap, HashedMap, OrderedMap, TriedMap};
 use crate::names::{Names, ShardedNames};
 use crate::owned::{OwnedList, OwnedMap};
 use crate::script::Script;
@@ -26,7 +26,7 @@ use crate::shards::{FreeShards, LockedShards};
 use elsa::interner::{ShardedInterner, SharedInterner};
 use elsa::sync::{
     FrozenBTreeMap, FrozenMap, FrozenVec, LockFreeFrozenMap, LockFreeFrozenVec, LockFreeShardedMap,
-    ShardedMap,
+    LockPermit, ShardedMap,
 };
 use std::alloc::{AllocError, Global};
 use std::hash::BuildHasherDefault;
@@ -42,9 +42,11 @@ const USAGE: &str = "usage: test_stress SEED SECONDS PAIRS CALLS";
 const SHARDS: usize = 3;
 
 /// The names of the collections.
-const FORMS: [&str; 12] = [
+const FORMS: [&str; 14] = [
     "LockFreeFrozenVec",
     "LockFreeFrozenMap",
+    "LockFreeFrozenVec without waiting",
+    "LockFreeFrozenMap without waiting",
     "LockFreeFrozenVec of owners",
     "LockFreeFrozenMap of owners",
     "FrozenVec",
@@ -73,6 +75,14 @@ fn of_form<R: Threads + Wait + Sync>(
         "LockFreeFrozenMap" => {
             let map = LockFreeFrozenMap::new(heap)?;
             form::runs_well(rt, alloc, heap, &FreeMap { map }, script)
+        }
+        "LockFreeFrozenVec without waiting" => {
+            let (vector, may) = (LockFreeFrozenVec::new(heap)?, LockPermit::trying(alloc));
+            form::runs_well(rt, alloc, heap, &TriedList { vector, may }, script)
+        }
+        "LockFreeFrozenMap without waiting" => {
+            let (map, may) = (LockFreeFrozenMap::new(heap)?, LockPermit::trying(alloc));
+            form::runs_well(rt, alloc, heap, &TriedMap { map, may }, script)
         }
         "LockFreeFrozenVec of owners" => {
             let list = OwnedList::new(alloc, heap)?;
