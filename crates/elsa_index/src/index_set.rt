@@ -468,6 +468,9 @@ where
     /// Makes a set of the iterator's values, which keeps the first of equal ones and drops the
     /// others.
     ///
+    /// The table reserves capacity for the lower bound of the iterator's `size_hint`. If that
+    /// fails, it grows value by value.
+    ///
     /// # Errors
     /// Fails if an allocation fails. The set and the values that were not stored are then dropped;
     /// the arena keeps those that were stored.
@@ -489,7 +492,10 @@ where
             × Drains I.IntoIter.next_gives s xs
             × SetCollects T.Borrow.eq T.target T.shown T.finds xs m) }
     {
+        let values = values.into_iter();
         let mut set = FrozenIndexSetIn::with_hasher(alloc, arena, hash_builder);
+        // Equal values are stored once, so only a failed insertion is an error.
+        let _room = set.reserve(values.size_hint().0);
         for value in values {
             set.insert_full(value)?;
         }

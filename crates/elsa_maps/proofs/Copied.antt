@@ -1,10 +1,11 @@
 -- A table's clone that got, in the order of the entries, the values of its source.
-use Rattle.std.proofs.Common.{◌≡◌, Bool, true, cond, subst, List, [], ◌∷◌, Some, refl, sym, ap, ◌∙◌}
+use Rattle.std.proofs.Common.{◌≡◌, Bool, IsTrue, true, cond, subst, List, [], ◌∷◌, Some, refl, sym, ap, ◌∙◌}
 use Rattle.std.specs.Cmp.{IsEquivalence}
 use Rattle.std.specs.List.{AllZip}
 use Rattle.std.specs.Map.{values_of}
 use Rattle.std.specs.Map.Calls.{RetainsPairs}
 use Rattle.elsa_maps.specs.FirstWins.{value_at}
+use Rattle.elsa_specs.specs.Insertions.{IsCloneOf}
 
 -- the key is a clone by C, and the value is the same
 abbrev pub HasValueOf : {K B : Type 0} → (K → K → Type 0) → K × B → K × B → Type 0
@@ -31,3 +32,10 @@ module _ {K B : Type 0} (eq : K → K → Bool) (laws : IsEquivalence eq) (C : K
   same_at_clone [] [] each q = refl
   same_at_clone (s ∷ ss) (t ∷ ts) each q = λ i. cond (alike eq laws q s.0 t.0 (equal s.0 t.0 each.0.0) i) (Some (each.0.1 i)) (same_at_clone ss ts each.1 q i)
   same_at_clone ss ts each q = absurd each
+
+-- if each key equals its clone, the entries are clones in the order of their sources
+module _ {K B : Type 0} (eq : K → K → Bool) (C : K → K → Type 0) (equal : (k c : K) → C k c → IsTrue (eq k c)) where
+  pub cloned : (ss ts : List (K × B)) → AllZip (HasValueOf C) ss ts → IsCloneOf eq C ss ts
+  cloned [] [] each = tt
+  cloned (s ∷ ss) (t ∷ ts) each = ((each.0.0, equal s.0 t.0 each.0.0, each.0.1), cloned ss ts each.1)
+  cloned ss ts each = absurd each

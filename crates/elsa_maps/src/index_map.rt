@@ -2,7 +2,7 @@
 //!
 //! A new key is appended, and a present key keeps its index and its value. [`Frozen`] has the calls
 //! that all maps share.
-ghost use Rattle.std.specs.Prelude.{◌≡◌, ◌≤◌, ◌↔◌, [], ℕ, List, length, false, None, Ok, Some, slice_get, position, IfOk, IsOk, IfSome, IsPermutation, IsTrue, OnErr, cond};
+ghost use Rattle.std.specs.Prelude.{◌≡◌, ◌≤◌, ◌↔◌, ◌∷◌, [], ℕ, List, length, false, true, None, Ok, Some, slice_get, position, IfOk, IsOk, IfSome, IsPermutation, IsTrue, OnErr, cond};
 ghost use Rattle.std.specs.Borrow.{Bor};
 ghost use Rattle.std.specs.Iterator.{Drains, IsFinite};
 ghost use Rattle.std.specs.Map.{keys_of, lookup, values_of};
@@ -383,6 +383,9 @@ where
     /// Makes a map of the pairs, in which the last value of a key wins, unlike in insertions, and
     /// the key keeps its first index.
     ///
+    /// The table reserves capacity for the lower bound of the iterator's `size_hint`. If that
+    /// fails, it grows entry by entry.
+    ///
     /// # Errors
     /// Fails if an allocation fails. What was collected is dropped.
     ///
@@ -400,7 +403,10 @@ where
             (s : I.IntoIter) × (xs : List (K × V)) × I.into_iter_gives pairs s
             × Drains I.IntoIter.next_gives s xs × CollectsTargets K.eq V.target V.shown xs m) }
     {
+        let pairs = pairs.into_iter();
         let mut map = FrozenIndexMapIn::with_hasher(alloc, arena, hash_builder);
+        // The iterator may yield fewer keys than its hint, so only a failed `set` is an error.
+        let _room = map.reserve(pairs.size_hint().0);
         for pair in pairs {
             let (key, value) = pair;
             map.set(key, value)?;
@@ -415,7 +421,8 @@ where
     /// Fails if an allocation fails, or if the `clone` of a key or of the hash builder fails.
     ///
     /// # Cost
-    /// `O(n)`, with one hash for each entry. The table grows once.
+    /// `O(n)`: the table is copied whole, with one hash and no search for each entry. If that
+    /// allocation fails, the entries are inserted one by one into a table with capacity for all.
     pub fn clone(&self) -> Result<Self, AllocError>
     where
         K: Clone,
@@ -423,6 +430,10 @@ where
         requires faithful { (x y : K) → K.is_clone x y → IsTrue (K.eq x y) }
         ensures content { IfOk result (IsCloneOf K.eq K.is_clone self.now) }
     {
+        if let Ok(copy) = copied(&self.table) {
+            return Ok(FrozenIndexMapIn::from_map(self.arena, copy));
+        }
+        // That a clone of the hasher hashes a key differently is no error.
         let len = self.table.len();
         let hash_builder = self.table.hasher().clone()?;
         let mut map = IndexMap::with_capacity_and_hasher(self.alloc, len, hash_builder)?;
@@ -432,6 +443,32 @@ where
         }
         Ok(FrozenIndexMapIn::from_map(self.arena, map))
     }
+}
+
+// Copies the table whole: no key is searched for. Fails too if the clone of the hasher hashes a key
+// differently.
+fn copied<K: Eq + Hash + Clone + Drop, B: Copy, S: BuildHasher + Clone, A: Allocator + Copy>(
+    table: &IndexMap<K, B, S, A>,
+) -> Result<IndexMap<K, B, S, A>, AllocError>
+    requires faithful { (x y : K) → K.is_clone x y → IsTrue (K.eq x y) }
+    ensures content { IfOk result (λ copy.
+        IsCloneOf K.eq K.is_clone table.now.entries copy.entries) }
+{
+    let mut copy = table.clone()?;
+    // A type may define any clone of its values, so each entry gets the value of its source.
+    let mut values = table.values();
+    let from_source = move |_key: &K, value: &mut B| -> bool
+        ensures kept { result ≡ true }
+        ensures in_order { (own : B) → (rest : List B) → values.entry ≡ own ∷ rest →
+            (value.new ≡ own) × (values.exit ≡ rest) }
+    {
+        if let Some(own) = values.next() {
+            *value = *own;
+        }
+        true
+    };
+    copy.retain(from_source);
+    Ok(copy)
 }
 
 /// `for (key, value) in &map` visits each entry once, in the order of their insertion.
