@@ -1,7 +1,7 @@
 //! A map at many sizes: each key has its own value, a present key keeps its first value, values are
 //! dropped once, and an insertion that fails returns its value.
 use elsa_cell::map::first_value_stays;
-use elsa_cell::{CellFault, FrozenMap, MapHandle};
+use elsa_cell::{CellFault, FrozenMap, MapHandle, TryFault};
 use std::alloc::{AllocError, Allocator, Global};
 use std::hash::{BuildHasherDefault, FoldHasher};
 use std::sync::Arc;
@@ -142,25 +142,52 @@ fn a_value_or_a_key_was_not_dropped_once(rt: HostRuntime) -> Result<(), Fail> {
 
 type Over<A> = FrozenMap<u64, u64, BuildHasherDefault<FoldHasher>, A>;
 
-/// Makes ten insertions over a budget. Returns the number of those that failed, or `None` if a
+/// Inserts by one of three calls. Returns the value that the key then has, or the value that comes
+/// back if an allocation is refused.
+fn insert_by_kind<A: Allocator + Copy>(
+    map: &Over<A>,
+    kind: u64,
+    key: u64,
+    value: u64,
+) -> Result<u64, Option<u64>> {
+    match kind {
+        0 => match map.insert(key, value) {
+            Ok(kept) => Ok(*kept),
+            Err(CellFault::Memory(value)) => Err(Some(value)),
+            Err(_) => Err(None),
+        },
+        1 => match map.insert_with(key, || value) {
+            Ok(done) => Ok(*done.value),
+            Err(CellFault::Memory(made)) => Err(made),
+            Err(_) => Err(None),
+        },
+        _ => match map.try_insert_with(key, || -> Result<u64, u8> { Ok(value) }) {
+            Ok(done) => Ok(*done.value),
+            Err(TryFault::Map(CellFault::Memory(made))) => Err(made),
+            Err(_) => Err(None),
+        },
+    }
+}
+
+/// Inserts ten keys. Returns the number of insertions that were refused memory, or `None` if a
 /// returned value was changed or the map lost one.
-fn refusals<A: Allocator + Copy>(alloc: A) -> Option<usize> {
+fn refusals<A: Allocator + Copy>(alloc: A, kind: u64) -> Option<usize> {
     let map: Over<A> = FrozenMap::new(alloc).ok()?;
     let mut refused = 0_usize;
     for key in 0..10 {
-        match map.insert(key, key + 100) {
+        match insert_by_kind(&map, kind, key, key + 100) {
             Ok(kept) => {
-                if *kept != key + 100 {
+                if kept != key + 100 {
                     return None;
                 }
             }
-            Err(CellFault::Memory(value)) => {
+            Err(Some(value)) => {
                 refused = refused.wrapping_add(1_usize);
                 if value != key + 100 || map.get(&key).is_some() {
                     return None;
                 }
             }
-            Err(CellFault::InUse(_value) | CellFault::Full(_value)) => return None,
+            Err(None) => return None,
         }
     }
     if map.len() != 10_usize.wrapping_sub(refused) {
@@ -171,16 +198,16 @@ fn refusals<A: Allocator + Copy>(alloc: A) -> Option<usize> {
 
 /// Returns whether exactly one insertion fails if one request is denied, for each request except
 /// those of `new`.
-fn each_refusal_gives_back(alloc: Global) -> bool {
+fn each_refusal_gives_back(alloc: Global, kind: u64) -> bool {
     let budget = Budget::new(alloc);
-    if refusals(&budget) != Some(0) {
+    if refusals(&budget, kind) != Some(0) {
         return false;
     }
     let asked = budget.asked();
     for request in 2..asked {
         let budget = Budget::new(alloc);
         budget.refuse(request, request + 1);
-        if refusals(&budget) != Some(1) || budget.given() != budget.granted() {
+        if refusals(&budget, kind) != Some(1) || budget.given() != budget.granted() {
             return false;
         }
     }
@@ -189,7 +216,9 @@ fn each_refusal_gives_back(alloc: Global) -> bool {
 
 #[test]
 fn a_failed_insertion_lost_its_value(rt: HostRuntime) -> Result<(), Fail> {
-    assert!(rt; each_refusal_gives_back(rt.alloc()));
+    for kind in 0..3 {
+        assert!(rt; each_refusal_gives_back(rt.alloc(), kind), "kind {kind}");
+    }
     Ok(())
 }
 

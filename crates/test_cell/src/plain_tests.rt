@@ -1,7 +1,8 @@
 //! The calls on a map or set itself, compared with a plain list by a random script: each part of
 //! each result, after each insertion, at sizes where buffers and tables grow.
 use crate::callers::{count_of, found_again, found_since, number_of};
-use elsa_cell::{Fault, FrozenBTreeMap, FrozenIndexSet, FrozenMap};
+use elsa_cell::{Fault, Frozen, FrozenBTreeMap, FrozenIndexSet, FrozenMap, Places};
+use elsa_tables::Inserted;
 use std::alloc::{AllocError, Global};
 use std::hash::{BuildHasherDefault, FoldHasher};
 use std::rt::Clock;
@@ -9,10 +10,62 @@ use std::test::*;
 use std::time::{SystemTime, UNIX_EPOCH};
 use test_alloc::Budget;
 
+/// What an insertion says: the value that the key then has and, if the call says so, its index and
+/// whether it is new.
+#[derive(Clone, Copy)]
+struct Said {
+    value: u64,
+    index: Option<usize>,
+    is_new: Option<bool>,
+}
+
+impl Said {
+    fn all(done: Inserted<&u64, usize>) -> Said {
+        Said {
+            value: *done.value,
+            index: Some(done.index),
+            is_new: Some(done.is_new),
+        }
+    }
+
+    fn value_alone(value: &u64) -> Said {
+        Said {
+            value: *value,
+            index: None,
+            is_new: None,
+        }
+    }
+
+    /// Returns whether each part is right that the call said.
+    fn is(&self, value: u64, index: usize, is_new: bool) -> bool {
+        self.value == value
+            && self.index.unwrap_or(index) == index
+            && self.is_new.unwrap_or(is_new) == is_new
+    }
+}
+
+/// Inserts into a map by one of four calls.
+fn inserted<T: Places<u64> + Drop>(
+    map: &Frozen<u64, u64, T, Global>,
+    kind: u64,
+    key: u64,
+    value: u64,
+) -> Option<Said> {
+    match kind % 4 {
+        0 => Some(Said::value_alone(map.insert(key, value).ok()?)),
+        1 => Some(Said::all(map.insert_new(key, value).ok()?)),
+        2 => Some(Said::all(map.insert_with(key, || value).ok()?)),
+        _ => {
+            let made = || -> Result<u64, u8> { Ok(value) };
+            Some(Said::all(map.try_insert_with(key, made).ok()?))
+        }
+    }
+}
+
 /// A collection by its own calls. A set has no values: each is 0.
 trait Plain {
-    /// Inserts, and returns the value that the key then has, its index, and whether it is new.
-    fn insert_plain(&self, key: u64, value: u64) -> Option<(u64, usize, bool)>;
+    /// Inserts by one of the calls, and returns what that call says.
+    fn insert_plain(&self, kind: u64, key: u64, value: u64) -> Option<Said>;
 
     /// Returns the value of a key.
     fn value_of(&self, key: u64) -> Option<u64>;
@@ -31,9 +84,8 @@ trait Plain {
 }
 
 impl Plain for FrozenMap<u64, u64> {
-    fn insert_plain(&self, key: u64, value: u64) -> Option<(u64, usize, bool)> {
-        let done = self.insert_new(key, value).ok()?;
-        Some((*done.value, done.index, done.is_new))
+    fn insert_plain(&self, kind: u64, key: u64, value: u64) -> Option<Said> {
+        inserted(self, kind, key, value)
     }
 
     fn value_of(&self, key: u64) -> Option<u64> {
@@ -64,9 +116,8 @@ impl Plain for FrozenMap<u64, u64> {
 }
 
 impl Plain for FrozenBTreeMap<u64, u64> {
-    fn insert_plain(&self, key: u64, value: u64) -> Option<(u64, usize, bool)> {
-        let done = self.insert_new(key, value).ok()?;
-        Some((*done.value, done.index, done.is_new))
+    fn insert_plain(&self, kind: u64, key: u64, value: u64) -> Option<Said> {
+        inserted(self, kind, key, value)
     }
 
     fn value_of(&self, key: u64) -> Option<u64> {
@@ -97,12 +148,23 @@ impl Plain for FrozenBTreeMap<u64, u64> {
 }
 
 impl Plain for FrozenIndexSet<u64> {
-    fn insert_plain(&self, key: u64, _value: u64) -> Option<(u64, usize, bool)> {
-        let done = self.insert_new(key).ok()?;
-        if *done.value != key {
-            return None;
-        }
-        Some((0, done.index, done.is_new))
+    fn insert_plain(&self, kind: u64, key: u64, _value: u64) -> Option<Said> {
+        let (item, index, is_new) = match kind % 3 {
+            0 => (self.insert(key).ok()?, None, None),
+            1 => {
+                let (index, item) = self.insert_full(key).ok()?;
+                (item, Some(index), None)
+            }
+            _ => {
+                let done = self.insert_new(key).ok()?;
+                (done.value, Some(done.index), Some(done.is_new))
+            }
+        };
+        Some(Said {
+            value: key ^ *item,
+            index,
+            is_new,
+        })
     }
 
     fn value_of(&self, key: u64) -> Option<u64> {
@@ -189,9 +251,11 @@ fn agrees<P: Plain>(
         let Some(entry) = plain.get(index) else {
             return Ok(false);
         };
-        let wanted = Some((entry.1, index, known.is_none()));
+        let Some(said) = grown.insert_plain(n, key, value) else {
+            return Ok(false);
+        };
         let list = plain.as_slice();
-        let is_right = grown.insert_plain(key, value) == wanted
+        let is_right = said.is(entry.1, index, known.is_none())
             && agrees_at(grown, list, key)
             && agrees_at(grown, list, key.wrapping_add(1))
             && agrees_in_length(grown, list);
