@@ -1,0 +1,6 @@
+//! A recorder: any sequential object under a lock, with the history of all calls of all threads,
+//! which can be replayed.
+pub use elsa_history::{
+    CloseFault, Core, History, MapCommand, MapReply, RecordPass, Recorder, VecCommand, VecReply,
+    laws,
+};
