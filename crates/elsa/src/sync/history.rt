@@ -1,5 +1,4 @@
-//! A recorder: any sequential object under a lock, with the history of all calls of all threads,
-//! which can be replayed.
+//! A recorder: any sequential object under a lock, with the history of all threads' calls.
 pub use elsa_history::{
     CloseFault, Core, History, MapCommand, MapReply, RecordPass, Recorder, VecCommand, VecReply,
     laws,
