@@ -119,7 +119,9 @@ class TestCalls(unittest.TestCase):
         self.assertEqual(reference.bounds_of(get.block), bounds)
         self.assertEqual(reference.bounds_of(" ".join(self.items["Frozen"].head)), [("K", "Drop")])
         self.assertEqual(reference.bounds_told(bounds[:3]), "`K: Eq + Drop`, `T: Table<K>`")
-        self.assertEqual(reference.Alias(self.library, "crate", self.items["Map"]).bounds(get), bounds[:2])
+        alias = reference.Alias(self.library, "crate", self.items["Map"])
+        self.assertEqual(reference.bounds_for(get, alias), (bounds[:2], {"Frozen", "K", "Hashed<K>"}))
+        self.assertEqual(reference.common_bounds([(bounds[:2], {"K"}), (bounds[:1], {"K"}), ([], {"T"})]), bounds[:1])
 
 
 class TestPages(unittest.TestCase):
