@@ -43,9 +43,7 @@ impl<T> List<T> {
 
 
 ALIASES = """
-pub struct Frozen<K: Drop, T> {
-    table: T,
-}
+pub struct Frozen<K: Drop, T> {}
 
 impl<K: Eq + Drop, T: Table<K>> Frozen<K, T>
 where
@@ -105,21 +103,17 @@ class TestCalls(unittest.TestCase):
         self.library.paths = {("crate", read.file, it.name): [f"crate::{it.name}"] for it in read.items}
         self.items = {it.name: it for it in read.items}
 
-    def test_a_deprecated_name_has_no_page(self):
+    def test_an_alias_and_an_alias_of_it_have_the_calls_of_the_type_and_a_deprecated_name_has_no_page(self):
         self.assertEqual(set(self.items), {"Frozen", "Map", "Other"})
-
-    def test_an_alias_has_the_calls_of_its_type_and_so_has_an_alias_of_it(self):
-        for name in ("Map", "Other"):
+        for name in self.items:
             self.assertEqual([it.name for it in self.library.methods("crate", self.items[name])], ["get"], name)
         self.assertEqual([it for it, _, _ in self.library.aliases_of("Frozen")], ["crate::Map"])
 
     def test_a_call_is_told_with_the_bounds_of_its_impl(self):
         (get,) = self.library.methods("crate", self.items["Frozen"])
-        bounds = [("K", "Eq"), ("K", "Drop"), ("T", "Table<K>"), ("T::Key", "Copy")]
-        self.assertEqual(reference.bounds_of(get.block), bounds)
-        self.assertEqual(reference.bounds_of(" ".join(self.items["Frozen"].head)), [("K", "Drop")])
+        bounds, alias = reference.bounds_of(get.block), reference.Alias(self.library, "crate", self.items["Map"])
+        self.assertEqual(bounds, [("K", "Eq"), ("K", "Drop"), ("T", "Table<K>"), ("T::Key", "Copy")])
         self.assertEqual(reference.bounds_told(bounds[:3]), "`K: Eq + Drop`, `T: Table<K>`")
-        alias = reference.Alias(self.library, "crate", self.items["Map"])
         self.assertEqual(reference.bounds_for(get, alias), (bounds[:2], {"Frozen", "K", "Hashed<K>"}))
         self.assertEqual(reference.common_bounds([(bounds[:2], {"K"}), (bounds[:1], {"K"}), ([], {"T"})]), bounds[:1])
 
