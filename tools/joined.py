@@ -12,7 +12,7 @@ import re, shutil, subprocess
 from repository import lines, root, stands_on
 
 HANDLES = "pub fn main<R: std::rt::Runtime + Alloc<A = std::alloc::Global> + std::random::RandomSource + std::thread::Threads + std::sync::Wait + Sync + Copy>(rt: R, host: HostRuntime)"
-# The libraries that the programs of pages use.
+# The libraries that the programs of pages use, besides those of this repository that they import.
 PAGE_LIBRARIES = ("bumpalo", "elsa", "elsa_serde", "indexmap", "serde_json")
 MAIN = """
 use std::process::ExitCode;
@@ -70,7 +70,8 @@ def copy(name, source):
 def joined(names, folder, tests, pages={}):
     """Makes the repository in this empty folder; returns the folder of its crate `joined`, which has these crates'
     tests, or these programs and those of pages, by their names."""
-    known, used = lines(), PAGE_LIBRARIES if pages else ()
+    known = lines()
+    used = [*PAGE_LIBRARIES, *(it for it in known if f"use {it}::" in "".join(pages.values()))] if pages else []
     below = [it for it in stands_on(*names, *(it for it in used if it in known)) if it not in names]
     subprocess.run(["git", "init", "-q", "."], cwd=folder, check=True)
     for name in below:

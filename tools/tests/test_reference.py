@@ -42,6 +42,25 @@ impl<T> List<T> {
 """
 
 
+ALIASES = """
+pub struct Frozen<K: Drop, T> {}
+
+impl<K: Eq + Drop, T: Table<K>> Frozen<K, T>
+where
+    T::Key: Copy,
+{
+    pub fn get(&self) -> bool {}
+}
+
+pub type Map<K> = Frozen<K, Hashed<K>>;
+
+pub type Other<K> = Map<K>;
+
+#[deprecated(since = "1", note = "use Map")]
+pub type Old<K> = Map<K>;
+"""
+
+
 def module(text):
     with tempfile.TemporaryDirectory() as kept:
         file = pathlib.Path(kept) / "lib.rt"
@@ -76,7 +95,39 @@ class TestSources(unittest.TestCase):
         self.assertEqual(self.read.uses, ["crate::one", "crate::two::Three", "crate::two::Four@Five"])
 
 
+class TestCalls(unittest.TestCase):
+    def setUp(self):
+        self.library = reference.Library.__new__(reference.Library)
+        read = module(ALIASES)
+        self.library.modules = {("crate", ()): read}
+        self.library.paths = {("crate", read.file, it.name): [f"crate::{it.name}"] for it in read.items}
+        self.items = {it.name: it for it in read.items}
+
+    def test_an_alias_and_an_alias_of_it_have_the_calls_of_the_type_and_a_deprecated_name_has_no_page(self):
+        self.assertEqual(set(self.items), {"Frozen", "Map", "Other"})
+        for name in self.items:
+            self.assertEqual([it.name for it in self.library.methods("crate", self.items[name])], ["get"], name)
+        self.assertEqual([it for it, _, _ in self.library.aliases_of("Frozen")], ["crate::Map"])
+
+    def test_a_call_is_told_with_the_bounds_of_its_impl(self):
+        (get,) = self.library.methods("crate", self.items["Frozen"])
+        bounds, alias = reference.bounds_of(get.block), reference.Alias(self.library, "crate", self.items["Map"])
+        self.assertEqual(bounds, [("K", "Eq"), ("K", "Drop"), ("T", "Table<K>"), ("T::Key", "Copy")])
+        self.assertEqual(reference.bounds_told(bounds[:3]), "`K: Eq + Drop`, `T: Table<K>`")
+        self.assertEqual(reference.bounds_for(get, alias), (bounds[:2], {"Frozen", "K", "Hashed<K>"}))
+        self.assertEqual(reference.common_bounds([(bounds[:2], {"K"}), (bounds[:1], {"K"}), ([], {"T"})]), bounds[:1])
+
+
 class TestPages(unittest.TestCase):
+    def test_a_linked_page_without_calls_and_a_missing_picture_are_found(self):
+        page = "[a](docs/reference/Bare.md) [b](docs/reference/Open.md) [c](docs/reference/Full.md)\n"
+        page += "![x](bench/nothing.svg) ![y](bench/growth.svg)\n<img alt='z' src=\"none.png\">\n"
+        made = {"Bare.md": "pub struct Bare {\n", "Open.md": "pub struct Open {\n    pub value: u64\n"}
+        made |= {"Full.md": "pub type Full = Bare;\n\n### get\n"}
+        found = list(reference.lacking({reference.root / "README.md": page}, made))
+        pictures = [f"README.md: there is no picture {it}" for it in ("bench/nothing.svg", "none.png")]
+        self.assertEqual(found, [*pictures, "README.md: docs/reference/Bare.md has no calls"])
+
     def test_a_heading_has_the_mark_that_a_link_names(self):
         marks = reference.marks_of("# `may_wait`\n\n```\n# no heading\n```\n## Which types: `Send`, `Sync`\n")
         self.assertEqual(marks, {"may_wait", "which-types-send-sync"})

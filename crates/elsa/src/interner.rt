@@ -5,7 +5,7 @@ pub use elsa_interner::interner::{
     Counted, EngineFault, Failed, Interner, InternerReader, Sink, Source, Symbol, intern_engine,
     intern_engine_with_hasher,
 };
-pub use elsa_lock_free_map::place_text::{PlaceText, TextBuffer};
+pub use elsa_lock_free_map::place_text::TextBuffer;
 pub use elsa_shards::interner::{ShardedInterner, ShardedNameHandle};
 pub use elsa_shared_interner::handle::NameHandle;
 pub use elsa_shared_interner::name::{Name, NameFault};

@@ -2,8 +2,8 @@
 //! its hasher: COUNT insertions.
 use bumpalo::Bump;
 use elsa::append_map::{AppendMap, By};
-use elsa::stable::KeepsText;
 use elsa::{FrozenAppendMap, Own, SeededState};
+use elsa_vec::stable::KeepsText;
 use std::alloc::{AllocError, Global};
 use std::hash::{BuildHasher, BuildHasherDefault, FoldHasher};
 use std::io::{self, BufRead, BufReader, Input};

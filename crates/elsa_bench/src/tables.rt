@@ -3,8 +3,8 @@
 use crate::draws::{Draws, key};
 use bumpalo::Bump;
 use elsa::append_map::AppendMap;
-use elsa::map::Frozen;
 use elsa::{FrozenAppendMap, FrozenBTreeMap, FrozenIndexMap, FrozenMap, Own};
+use elsa_maps::map::Frozen;
 use std::alloc::{AllocError, Global};
 use std::io;
 use std::rt::Clock;
@@ -43,7 +43,7 @@ struct Texts<'t, M> {
 
 impl<'a, T> Table for Numbers<Frozen<&'a Bump, u64, Own<u64>, T>>
 where
-    T: elsa::tables::Table<u64, &'a u64> + Drop,
+    T: elsa_tables::Table<u64, &'a u64> + Drop,
 {
     #[inline(always)]
     fn insert(&mut self, place: usize) -> Result<u64, AllocError> {

@@ -21,7 +21,8 @@ pub struct Hashed<S: BuildHasher + Drop, A: Allocator + Copy> {
     pub(crate) hash_builder: S,
 }
 
-/// The map that finds its keys by their hash. It is also the map that [`FrozenIndexMap`] names.
+/// The map that finds its keys by their hash. Its entries have an index
+/// ([`get_full`](Frozen::get_full), [`get_index`](Frozen::get_index)).
 ///
 /// Keys need `Eq` and `Hash`. The table has 8 bytes for each bucket.
 pub type FrozenMap<K, V, S = BuildHasherDefault<FoldHasher>, A = Global, R = AnyEntries> = Frozen<
@@ -32,8 +33,8 @@ pub type FrozenMap<K, V, S = BuildHasherDefault<FoldHasher>, A = Global, R = Any
     R,
 >;
 
-/// The [`FrozenMap`] by the name that Rust's elsa gives a map whose entries have an index
-/// ([`get_full`](Frozen::get_full), [`get_index`](Frozen::get_index)).
+/// The [`FrozenMap`] by another name.
+#[deprecated(since = "0.5.0", note = "use `FrozenMap`, which is the same type")]
 pub type FrozenIndexMap<K, V, S = BuildHasherDefault<FoldHasher>, A = Global, R = AnyEntries> =
     FrozenMap<K, V, S, A, R>;
 

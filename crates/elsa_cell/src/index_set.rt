@@ -30,7 +30,8 @@ pub struct FrozenIndexSet<
     map: FrozenMap<T, (), S, A>,
 }
 
-/// The [`FrozenIndexSet`] by the name of a set: one type with two names.
+/// The [`FrozenIndexSet`] by another name.
+#[deprecated(since = "0.5.0", note = "use `FrozenIndexSet`, which is the same type")]
 pub type FrozenSet<T, S = BuildHasherDefault<FoldHasher>, A = Global> = FrozenIndexSet<T, S, A>;
 
 impl<T: Eq + Hash + Drop, S: BuildHasher + Drop, A: Allocator + Copy> Model
@@ -125,7 +126,7 @@ impl<T: Eq + Hash + Drop, S: BuildHasher + Drop, A: Allocator + Copy> FrozenInde
     /// `item`.
     ///
     /// # Allocates
-    /// As [`FrozenIndexMap::insert`](crate::FrozenIndexMap::insert) does.
+    /// As [`FrozenMap::insert`](crate::FrozenMap::insert) does.
     ///
     /// # Cost
     /// One hash and one search.
@@ -144,7 +145,7 @@ impl<T: Eq + Hash + Drop, S: BuildHasher + Drop, A: Allocator + Copy> FrozenInde
     /// Fails as [`insert`](Self::insert) does, with a [`CellFault`] that contains `item`.
     ///
     /// # Allocates
-    /// As [`FrozenIndexMap::insert`](crate::FrozenIndexMap::insert) does.
+    /// As [`FrozenMap::insert`](crate::FrozenMap::insert) does.
     ///
     /// # Cost
     /// One hash and one search.
@@ -165,7 +166,7 @@ impl<T: Eq + Hash + Drop, S: BuildHasher + Drop, A: Allocator + Copy> FrozenInde
     /// Fails as [`insert`](Self::insert) does, with a [`CellFault`] that contains `item`.
     ///
     /// # Allocates
-    /// As [`FrozenIndexMap::insert`](crate::FrozenIndexMap::insert) does.
+    /// As [`FrozenMap::insert`](crate::FrozenMap::insert) does.
     ///
     /// # Cost
     /// One hash and one search.

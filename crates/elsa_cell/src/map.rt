@@ -11,7 +11,7 @@ ghost use Rattle.elsa_tables.specs.Rules.{HoldsAt};
 ghost use Rattle.elsa_cell.specs.declared.map.Entry.{Entry};
 
 use crate::fault::TryFault;
-pub use crate::hashed::{FrozenIndexMap, FrozenMap, MapHandle, MapHold};
+pub use crate::hashed::{FrozenMap, MapHandle, MapHold};
 use crate::map_handle::FrozenHandle;
 use crate::map_hold::FrozenHold;
 use crate::map_state::{Keys, MOST, MapState, OfMap, Pairs, Parked, park};
@@ -110,9 +110,8 @@ pub(crate) fn find_beside<
 /// A [`FrozenHandle`] states which entries it has observed, and each of its calls which values come
 /// back. The calls on the map itself are short forms, which state less. Reads never fail.
 ///
-/// Its entries keep the order of their insertion, and each has an index: it is also the map that
-/// [`FrozenIndexMap`](crate::FrozenIndexMap) names. It has at most `2^32 - 1` entries. It drops
-/// each entry once, in that order: its key, then its value.
+/// Its entries keep the order of their insertion, and each has an index. It has at most `2^32 - 1`
+/// entries. It drops each entry once, in that order: its key, then its value.
 pub struct Frozen<
     K: Drop,
     V,

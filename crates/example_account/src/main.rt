@@ -17,7 +17,8 @@ ghost use Rattle.example_account.specs.Account.{AccountStep};
 mod account;
 
 use crate::account::{Account, AccountCommand, AccountReply};
-use elsa::sync::history::{AtOpening, Entries, RecordPass, Recorder, Start};
+use elsa::sync::history::{RecordPass, Recorder};
+use elsa_history::{AtOpening, Entries, Start};
 use std::alloc::{AllocError, Global};
 use std::marker::Brand;
 use std::sync::Wait;

@@ -2,8 +2,8 @@
 ghost use Rattle.std.specs.Prelude.{◌≡◌, IfOk, IfSome};
 ghost use Rattle.test_callers.specs.Fibonacci.{fibonacci_at};
 
+use elsa::EntryRule;
 use elsa::sync::FrozenMap;
-use elsa::sync::map::EntryRule;
 use std::alloc::{AllocError, Global};
 use std::hash::{BuildHasherDefault, FoldHasher};
 use std::sync::Wait;

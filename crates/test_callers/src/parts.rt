@@ -6,8 +6,8 @@ ghost use Rattle.test_callers.specs.KeyLaws.{finds_equals, hashed_alike};
 ghost use Rattle.test_callers.specs.Parts.{are_parts};
 
 use bumpalo::Bump;
-use elsa::tables::{Seeks, SeeksIndex};
 use elsa::{FrozenIndexMap, Own};
+use elsa_tables::{Seeks, SeeksIndex};
 use indexmap::{Equivalent, IndexMap};
 use std::alloc::{AllocError, Allocator, Global};
 use std::hash::{BuildHasher, Hash};

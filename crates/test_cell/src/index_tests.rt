@@ -6,7 +6,7 @@ ghost use Rattle.std.specs.Cmp.{nat_eq_equiv, on_equiv, partial_equiv_from_equiv
 ghost use Rattle.std.specs.Hash as fed;
 ghost use Rattle.std.proofs.Common.{ap, eqb-true};
 
-use elsa_cell::{CellFault, FrozenIndexMap, FrozenIndexSet};
+use elsa_cell::{CellFault, FrozenIndexSet, FrozenMap as FrozenIndexMap};
 use std::alloc::{AllocError, Allocator, Global};
 use std::cell::Cell;
 use std::hash::{BuildHasherDefault, FoldHasher, Hash, Hasher};

@@ -3,7 +3,8 @@
 ghost use Rattle.std.specs.Prelude.{◌≡◌};
 
 use elsa::SeededState;
-use elsa::sync::{LockFreeFrozenMap, MapHandle, MapIter};
+use elsa::sync::{LockFreeFrozenMap, MapHandle};
+use elsa_lock_free_map::iter::MapIter;
 use std::alloc::AllocError;
 use std::sync::Wait;
 use std::test::Fail;

@@ -1,6 +1,7 @@
 //! The end of the lock-free vector and map, by `elsa` alone: all items and entries come out, and a
 //! handle walks over them by reference.
-use elsa::sync::{LockFreeFrozenMap, LockFreeFrozenVec, MapRefs};
+use elsa::sync::{LockFreeFrozenMap, LockFreeFrozenVec};
+use elsa_lock_free_map::iter::MapRefs;
 use std::alloc::{AllocError, Global};
 use std::sync::Wait;
 use std::test::Fail;

@@ -1,7 +1,7 @@
 //! The machine of the concurrent map, by `elsa` alone: two insertions of one key that meet, and a
 //! look-up that ends before either is published.
 use elsa::sync::machine::{Items, Turn};
-use elsa::sync::map_machine::{Answer, Plan, World, run};
+use elsa_map_machine::map_machine::{Answer, Plan, World, run};
 use std::alloc::{AllocError, Global};
 use std::test::Fail;
 

@@ -1,10 +1,10 @@
 //! The call forms that docs/reference lists for texts of a set, walks under a lock, map
-//! implementations and arenas. They use only `elsa`, and each is proved and run.
+//! implementations and arenas. Each is proved and run.
 use bumpalo::Bump;
 use elsa::FrozenIndexSet;
-use elsa::stable::KeepsText;
 use elsa::sync::{FrozenBTreeMap, FrozenMap};
-use elsa::tables::IntoPairs;
+use elsa_tables::IntoPairs;
+use elsa_vec::stable::KeepsText;
 use std::alloc::{AllocError, Global};
 use std::collections::HashMap;
 use std::sync::Wait;

@@ -1,12 +1,12 @@
 //! The call forms that docs/reference lists for the states of the locked collections and for the
-//! recorder. They use only `elsa`, and each is proved and run.
+//! recorder, but for one of its errors by the paths of `elsa`. Each is proved and run.
 use crate::locked_form_tests::is;
 use elsa::sync::history::{
-    CloseFault, History, MapCommand, MapReply, ReceiptsFault, RecordPass, Recorder, VecCommand,
-    VecReply,
+    CloseFault, History, MapCommand, MapReply, RecordPass, Recorder, VecCommand, VecReply,
 };
 use elsa::sync::map::{MapState, TreeState};
 use elsa::sync::vec::VecState;
+use elsa_history::ReceiptsFault;
 use std::alloc::{AllocError, Global};
 use std::collections::BTreeMap;
 use std::sync::Wait;

@@ -3,9 +3,10 @@ ghost use Rattle.std.specs.Prelude.{◌≡◌, IfOk, Some};
 ghost use Rattle.std.specs.Map.{lookup};
 
 use bumpalo::Bump;
-use elsa::map::{Frozen, InsertFault};
-use elsa::tables::{Put, Refusal, Table, insert_with};
+use elsa::map::InsertFault;
 use elsa::{FrozenMap, Own, StableDeref};
+use elsa_maps::map::Frozen;
+use elsa_tables::{Put, Refusal, Table, insert_with};
 use std::alloc::{AllocError, Global};
 use std::collections::{BTreeMap, HashMap};
 use std::test::Fail;

@@ -1,0 +1,2 @@
+//! The map for large collections.
+pub use elsa_append::{AppendMap, By, FrozenAppendMap, RoomFault};
