@@ -206,15 +206,35 @@ fn shows_each(list: &FrozenVec<u64>, count: u64) -> bool {
     next == count && list.len() as u64 == count && list.get(count as usize).is_none()
 }
 
-/// Returns whether each push returns its index, and plain reads show each item.
+/// Returns whether the items are the numbers below `count`, in order.
+fn counts_up(items: &[u64], count: u64) -> bool {
+    let mut next = 0_u64;
+    for item in items {
+        if *item != next {
+            return false;
+        }
+        next = next.wrapping_add(1);
+    }
+    next == count
+}
+
+/// Returns whether each push returns its index, plain reads show each item, and all come out in
+/// their order, though the evidence is of none.
 fn plain_calls_agree(alloc: Global, count: u64) -> Result<bool, AllocError> {
     let list: FrozenVec<u64> = FrozenVec::new(alloc)?;
+    let seen = list.observed().evidence();
     for n in 0..count {
         if !matches!(list.push(n), Ok(index) if index as u64 == n) {
             return Ok(false);
         }
     }
-    Ok(shows_each(&list, count) && list.last() == count.checked_sub(1).as_ref())
+    let is_shown = shows_each(&list, count)
+        && list.last() == count.checked_sub(1).as_ref()
+        && list.is_empty() == (count == 0);
+    let Ok(all) = list.into_vec(alloc, &seen) else {
+        return Ok(false);
+    };
+    Ok(is_shown && counts_up(all.as_slice(), count))
 }
 
 #[test]
