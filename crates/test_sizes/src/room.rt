@@ -3,7 +3,7 @@
 use crate::grows::Grows;
 use crate::kinds::Hasher;
 use elsa::interner::Interner;
-use elsa::{FrozenIndexMap, FrozenIndexSet, FrozenMap, FrozenSet, FrozenVec, Own};
+use elsa::{FrozenAppendMap, FrozenIndexMap, FrozenIndexSet, FrozenMap, FrozenSet, FrozenVec, Own};
 use std::alloc::{AllocError, Allocator, Global};
 use test_alloc::Budget;
 
@@ -11,7 +11,7 @@ use test_alloc::Budget;
 pub trait Roomy: Grows {
     fn reserve(&mut self, additional: usize) -> Result<(), AllocError>;
 
-    fn capacity(&self) -> usize;
+    fn room(&mut self) -> usize;
 }
 
 impl<A: Allocator + Copy> Roomy for FrozenVec<'_, Own<u64>, A> {
@@ -19,7 +19,7 @@ impl<A: Allocator + Copy> Roomy for FrozenVec<'_, Own<u64>, A> {
         self.reserve(additional)
     }
 
-    fn capacity(&self) -> usize {
+    fn room(&mut self) -> usize {
         self.capacity()
     }
 }
@@ -29,7 +29,7 @@ impl<A: Allocator + Copy> Roomy for FrozenMap<'_, u64, Own<u64>, Hasher, A> {
         self.reserve(additional)
     }
 
-    fn capacity(&self) -> usize {
+    fn room(&mut self) -> usize {
         self.capacity()
     }
 }
@@ -39,8 +39,21 @@ impl<A: Allocator + Copy> Roomy for FrozenIndexMap<'_, u64, Own<u64>, Hasher, A>
         self.reserve(additional)
     }
 
-    fn capacity(&self) -> usize {
+    fn room(&mut self) -> usize {
         self.capacity()
+    }
+}
+
+impl<A: Allocator + Copy> Roomy for FrozenAppendMap<'_, u64, Own<u64>, Hasher, A> {
+    fn reserve(&mut self, additional: usize) -> Result<(), AllocError> {
+        match self.as_mut().reserve(additional) {
+            Ok(()) => Ok(()),
+            Err(_) => Err(AllocError),
+        }
+    }
+
+    fn room(&mut self) -> usize {
+        self.as_mut().capacity()
     }
 }
 
@@ -49,7 +62,7 @@ impl<A: Allocator + Copy> Roomy for FrozenIndexSet<'_, Own<u64>, Hasher, A> {
         self.reserve(additional)
     }
 
-    fn capacity(&self) -> usize {
+    fn room(&mut self) -> usize {
         self.capacity()
     }
 }
@@ -59,7 +72,7 @@ impl<A: Allocator + Copy> Roomy for FrozenSet<'_, u64, Hasher, A> {
         self.reserve(additional)
     }
 
-    fn capacity(&self) -> usize {
+    fn room(&mut self) -> usize {
         self.capacity()
     }
 }
@@ -69,7 +82,7 @@ impl<A: Allocator + Copy> Roomy for Interner<'_, Hasher, A> {
         self.reserve(additional)
     }
 
-    fn capacity(&self) -> usize {
+    fn room(&mut self) -> usize {
         self.capacity()
     }
 }
@@ -109,7 +122,7 @@ pub fn has_room<G: Roomy>(
             round.wrapping_add(1).wrapping_mul(size),
         );
         grown.reserve(size as usize)?;
-        let room = grown.capacity() as u64;
+        let room = grown.room() as u64;
         if room < to || room > to.wrapping_mul(8).wrapping_add(64) {
             return Ok(false);
         }

@@ -166,6 +166,24 @@ fn an_append_map_differs_from_a_list_at_a_random_size(rt: HostRuntime) -> Result
     Ok(())
 }
 
+fn append_map_has_room(alloc: Global, size: u64) -> Result<bool, AllocError> {
+    let heap = Budget::new(alloc);
+    let arena = Bump::new(alloc);
+    let mut grown: FrozenAppendMap<'_, u64, Own<u64>, Hasher, _> = FrozenAppendMap::over(
+        &heap,
+        &arena,
+        AppendMap::new(&heap),
+    );
+    has_room(&heap, &mut grown, size)
+}
+
+#[test]
+fn an_append_map_allocates_in_reserved_room(rt: HostRuntime) -> Result<(), Fail> {
+    let (_seed, size) = drawn(&rt)?;
+    assert!(rt; append_map_has_room(rt.alloc(), size)?, "size {size}");
+    Ok(())
+}
+
 fn index_set_is_right(alloc: Global, seed: u64, size: u64) -> Result<bool, AllocError> {
     let heap = Budget::new(alloc);
     let arena = Bump::new(alloc);
