@@ -1,7 +1,7 @@
 //! A box of shared names as the pointer that C has of it.
 //!
-//! [`SharedHandle`] is [`Handle`](crate::handle::Handle) for another type: what a handle owns is
-//! stated by the layout of that type, so one handle can't be for both.
+//! [`SharedHandle`] is [`Handle`](crate::handle::Handle) for another type. One generic handle can't
+//! be for both: no type with a `Vec`, a `Box` or an `Arc` crosses to C, also as a type argument.
 ghost use Rattle.std.specs.Prelude.{◌≡◌, ℕ, List, Option, Some, None, is_some, true};
 
 use crate::handle::Parts;
