@@ -8,10 +8,10 @@
 
 ghost use Rattle.std.specs.Prelude.{◌≡◌, ◌≤◌, ℕ, List, [], length, slice_get, false, None};
 ghost use Rattle.std.specs.Option.{option_map};
-ghost use mathlib.Core.List.{IsPrefix};
 ghost use Rattle.elsa_c.specs.Codes.{AreAllFirsts, IsFactorized, IsFirsts, IsFound, IsPutStatus, IsStatus, PutsAll, found_code, text_of};
 ghost use Rattle.elsa_c.specs.Dictionary.{names_of};
-ghost use Rattle.elsa_c.specs.Shared.{IsAgainStatus, IsAttemptStatus, IsMadeStatus, has_names, observed};
+ghost use Rattle.elsa_lock_free.specs.SharedList.{Continues, IsLaterPass};
+ghost use Rattle.elsa_c.specs.Shared.{Became, IsAgain, IsAttemptStatus, IsMade, IsNew, observed};
 
 mod block;
 mod dictionary;
@@ -201,13 +201,13 @@ pub extern "C" fn elsa_dictionary_free(alloc: Global, dictionary: &mut Dictionar
 /// Returns 0, or the number of a fault: then the handle has no names.
 #[unsafe(no_mangle)]
 pub extern "C" fn elsa_shared_new(alloc: Global, names: &mut Shared, seed: &Seed) -> u32
-    ensures made { IsMadeStatus [] names.new.handle.value result }
+    ensures made { IsMade IsNew names.new.handle.value result }
 {
     let _old = names.take(alloc);
     let Ok(made) = SharedKept::new(alloc, *seed) else {
         return Fault::Memory.code();
     };
-    status_of(names.fill(alloc, made))
+    names.fill(alloc, made)
 }
 
 /// Makes `other` a handle of the same names, for another thread. Names that it had are freed, if no
@@ -216,7 +216,7 @@ pub extern "C" fn elsa_shared_new(alloc: Global, names: &mut Shared, seed: &Seed
 /// Returns 0, or the number of a fault: then `other` has no names.
 #[unsafe(no_mangle)]
 pub extern "C" fn elsa_shared_again(alloc: Global, names: &mut Shared, other: &mut Shared) -> u32
-    ensures made { IsAgainStatus names.old.handle.value other.new.handle.value result }
+    ensures made { IsAgain names.old.handle.value other.new.handle.value result }
     ensures same { names.new.handle.value ≡ names.old.handle.value }
 {
     let _old = other.take(alloc);
@@ -228,7 +228,7 @@ pub extern "C" fn elsa_shared_again(alloc: Global, names: &mut Shared, other: &m
     let Ok(made) = made else {
         return Fault::Memory.code();
     };
-    status_of(other.fill(alloc, made))
+    other.fill(alloc, made)
 }
 
 /// Returns whether a text is among the names, and writes its code to `code` if it is. It takes no
@@ -242,8 +242,7 @@ pub extern "C" fn elsa_shared_find(
 ) -> bool
     ensures found { IsFound text.now (observed names.new) (found_code result code.new) }
     ensures absent { result ≡ false → code.new ≡ code.old }
-    ensures later { IsPrefix (observed names.old) (observed names.new) }
-    ensures kept { has_names names.new ≡ has_names names.old }
+    ensures continues { Became Continues names.old.handle.value names.new.handle.value }
 {
     let Ok(text) = str::from_utf8(text) else {
         return false;
@@ -251,12 +250,12 @@ pub extern "C" fn elsa_shared_find(
     let Some(mut kept) = names.take(alloc) else {
         return false;
     };
-    let found = kept.find(text);
+    let number = kept.find(text);
     names.restore(kept);
-    let Some(found) = found else {
+    let Some(number) = number else {
         return false;
     };
-    *code = found;
+    *code = number;
     true
 }
 
@@ -273,8 +272,7 @@ pub extern "C" fn elsa_shared_try_put(
 ) -> u32
     ensures status { IsAttemptStatus text.now names.old.handle.value names.new.handle.value
         code.old code.new result }
-    ensures later { IsPrefix (observed names.old) (observed names.new) }
-    ensures kept { has_names names.new ≡ has_names names.old }
+    ensures later { Became IsLaterPass names.old.handle.value names.new.handle.value }
 {
     let Ok(text) = str::from_utf8(text) else {
         return Fault::NotUtf8.code();
@@ -282,11 +280,11 @@ pub extern "C" fn elsa_shared_try_put(
     let Some(mut kept) = names.take(alloc) else {
         return Fault::NoNames.code();
     };
-    let number = kept.try_put(alloc, text);
+    let put = kept.try_put(alloc, text);
     names.restore(kept);
-    match number {
-        Ok(number) => {
-            *code = number;
+    match put {
+        Ok(place) => {
+            *code = place;
             0
         }
         Err(fault) => fault.code(),
@@ -307,19 +305,18 @@ pub extern "C" fn elsa_shared_at(
     ensures read { found_code result len.new
         ≡ option_map length (slice_get (observed names.new) code) }
     ensures absent { result ≡ false → len.new ≡ len.old }
-    ensures later { IsPrefix (observed names.old) (observed names.new) }
-    ensures kept { has_names names.new ≡ has_names names.old }
+    ensures continues { Became Continues names.old.handle.value names.new.handle.value }
 {
     let Some(mut kept) = names.take(alloc) else {
         return false;
     };
     let place = kept.place(code);
     names.restore(kept);
-    let Some((at, count)) = place else {
+    let Some((first, length)) = place else {
         return false;
     };
-    *text = at;
-    *len = count;
+    *text = first;
+    *len = length;
     true
 }
 
@@ -327,8 +324,7 @@ pub extern "C" fn elsa_shared_at(
 #[unsafe(no_mangle)]
 pub extern "C" fn elsa_shared_len(alloc: Global, names: &mut Shared) -> usize
     ensures length { result ≡ length (observed names.new) }
-    ensures later { IsPrefix (observed names.old) (observed names.new) }
-    ensures kept { has_names names.new ≡ has_names names.old }
+    ensures continues { Became Continues names.old.handle.value names.new.handle.value }
 {
     let Some(mut kept) = names.take(alloc) else {
         return 0;

@@ -47,15 +47,15 @@ impl Shared {
         };
     }
 
-    /// Puts in names that were made, if their box can be allocated.
-    pub fn fill(&mut self, alloc: Global, made: SharedKept) -> Option<Fault>
+    /// Puts in names that were made, if their box can be allocated. Returns the status of C.
+    pub fn fill(&mut self, alloc: Global, made: SharedKept) -> u32
         requires empty { self.old.handle.value ≡ None }
-        ensures filled { IsMade made self.new.handle.value result }
+        ensures filled { IsMade (λ view. view ≡ made) self.new.handle.value result }
     {
         let Ok(names) = Box::new(alloc, made) else {
-            return Some(Fault::Memory);
+            return Fault::Memory.code();
         };
         self.restore(names);
-        None
+        0
     }
 }

@@ -3,6 +3,7 @@
 //! [`SharedHandle`] is [`Handle`](crate::handle::Handle) for another type. One generic handle can't
 //! be for both: no type with a `Vec`, a `Box` or an `Arc` crosses to C, also as a type argument.
 ghost use Rattle.std.specs.Prelude.{◌≡◌, ℕ, List, Option, Some, None, is_some, true};
+ghost use Rattle.elsa_lock_free.specs.SharedList.{View};
 
 use crate::handle::Parts;
 use crate::shared_kept::SharedKept;
@@ -15,7 +16,7 @@ pub struct SharedHandle {
     // As in `Parts`, for a handle of names; without names the address is null.
     pub(crate) ptr: *mut u8,
     pub(crate) alloc: Global,
-    pub(crate) ghost value: { Option (List (List ℕ)) },
+    pub(crate) ghost value: { Option (View (List ℕ)) },
 }
 
 impl Model for SharedHandle {

@@ -1,13 +1,11 @@
 //! [`SharedKept`]: a handle of names that threads share, as one type without parameters.
-ghost use Rattle.std.specs.Prelude.{◌≡◌, [], List, ℕ, length, map, Some, position, slice_get, IfErr, IfOk};
+ghost use Rattle.std.specs.Prelude.{◌≡◌, [], length, Some, position, slice_get, IfErr, IfOk};
 ghost use Rattle.std.specs.Option.{option_map};
 ghost use Rattle.std.specs.Str.{bytes_eq};
 ghost use Rattle.std_alloc.specs.String.{string_bytes};
-ghost use mathlib.Core.List.{IsPrefix};
 ghost use Rattle.elsa_lock_free.specs.SharedList.{Continues, IsLaterPass, items_of};
-ghost use Rattle.elsa_hash_index.specs.Entries.{keys_of};
 ghost use Rattle.elsa_c.specs.Codes.{IsRead};
-ghost use Rattle.elsa_c.specs.Shared.{HasTextAt, IsUnput, texts_of};
+ghost use Rattle.elsa_c.specs.Shared.{IsAnother, IsNew, IsUnput, PutsText, texts_of};
 
 use crate::fault::Fault;
 use crate::kept::address_of;
@@ -31,24 +29,28 @@ type Names<'a> = MapHandle<'a, String, (), SeededState, Global>;
 /// Fails with `Busy`, `Memory` or `Full`. This handle has then added nothing.
 fn attempt(names: &mut Names<'_>, alloc: Global, text: &str) -> Result<usize, Fault>
     ensures later { IsLaterPass names.old names.new }
-    ensures numbered { IfOk result (HasTextAt (texts_of (λ t. string_bytes t) names.new.seen) text.now) }
-    ensures fault { IfErr result (IsUnput (texts_of (λ t. string_bytes t) names.old.seen)
-        (texts_of (λ t. string_bytes t) names.new.seen) text.now) }
+    ensures puts { IfOk result (PutsText text.now (texts_of (λ t. string_bytes t) names.old)
+        (texts_of (λ t. string_bytes t) names.new)) }
+    ensures fault { IfErr result (IsUnput text.now (texts_of (λ t. string_bytes t) names.old)
+        (texts_of (λ t. string_bytes t) names.new)) }
 {
     if let Some(number) = names.find(text) {
+        names.one_to_one();
         return Ok(number);
     }
     let Ok(name) = String::from_str(alloc, text) else {
         return Err(Fault::Memory);
     };
-    match names.try_insert_ref(LockPermit::trying(alloc), name, ()) {
+    let inserted = names.try_insert_ref(LockPermit::trying(alloc), name, ());
+    names.one_to_one();
+    match inserted {
         Ok(put) => Ok(put.index),
         Err(AttemptFault::Busy(_)) => Err(Fault::Busy),
         Err(AttemptFault::Failed(_)) => {
-            if names.is_full() {
-                return Err(Fault::Full);
-            }
-            Err(Fault::Memory)
+            let full = names.is_full();
+            // It is no more than full.
+            names.seen_len();
+            Err(if full { Fault::Full } else { Fault::Memory })
         }
     }
 }
@@ -57,7 +59,7 @@ fn attempt(names: &mut Names<'_>, alloc: Global, text: &str) -> Result<usize, Fa
 fn text_at<'a>(names: &'a mut Names<'_>, number: usize) -> Option<&'a str>
     ensures continues { Continues names.old names.new }
     ensures text { option_map (λ t. t.now) result
-        ≡ slice_get (texts_of (λ t. string_bytes t) names.new.seen) number }
+        ≡ slice_get (items_of (texts_of (λ t. string_bytes t) names.new).seen) number }
 {
     if number >= names.seen_len() && number >= names.len() {
         return None;
@@ -67,8 +69,8 @@ fn text_at<'a>(names: &'a mut Names<'_>, number: usize) -> Option<&'a str>
 
 /// A handle of names that threads share: the names, and what the handle has observed of them.
 ///
-/// In contracts it is the list of the texts that it has observed, each as its bytes; a text's number
-/// is its index there.
+/// In contracts it is a view: which names, its number as a writer, and the texts that it has observed,
+/// each as its bytes; a text's number is its index there.
 #[derive(Drop)]
 pub struct SharedKept {
     pub(crate) names: Arc<LockFreeFrozenMap<String, (), SeededState, Global>, Global>,
@@ -79,11 +81,12 @@ impl Model for SharedKept {
     ghost use Rattle.std.specs.Prelude.{◌≡◌, List, ℕ};
     ghost use Rattle.std.specs.Arc.{arc_value};
     ghost use Rattle.std_alloc.specs.String.{string_bytes};
+    ghost use Rattle.elsa_lock_free.specs.SharedList.{View};
     ghost use Rattle.elsa_c.specs.Shared.{texts_of};
 
-    ghost Value = { List (List ℕ) };
+    ghost Value = { View (List ℕ) };
 
-    ghost view = { λ s. texts_of (λ t. string_bytes t) s.pass.seen };
+    ghost view = { λ s. texts_of (λ t. string_bytes t) s.pass };
 
     // What was observed, was observed of these names.
     ghost invariant = { λ s. s.pass.vector ≡ arc_value s.names };
@@ -95,7 +98,7 @@ impl SharedKept {
     /// # Errors
     /// Fails if an allocation fails.
     pub fn new(alloc: Global, seed: Seed) -> Result<SharedKept, AllocError>
-        ensures empty { IfOk result (λ k. k ≡ []) }
+        ensures empty { IfOk result IsNew }
     {
         let map = LockFreeFrozenMap::with_hasher(alloc, seed.state())?;
         let pass = map.pass();
@@ -103,12 +106,12 @@ impl SharedKept {
         Ok(SharedKept { names, pass })
     }
 
-    /// Makes another handle of the same names, which has observed as much.
+    /// Makes another handle of the same names, which has observed as much and added nothing.
     ///
     /// # Errors
     /// Fails if the names have the greatest number of handles.
     pub fn again(&self) -> Result<SharedKept, AllocError>
-        ensures same { IfOk result (λ k. k ≡ self.now) }
+        ensures same { IfOk result (IsAnother self.now) }
     {
         let names = Arc::try_clone(&self.names)?;
         let pass = self.pass.again();
@@ -118,8 +121,8 @@ impl SharedKept {
     /// Returns the number of a text, or `None` if it is not among the texts that the handle has
     /// then observed. It takes no lock and never blocks.
     pub fn find(&mut self, text: &str) -> Option<usize>
-        ensures later { IsPrefix self.old self.new }
-        ensures found { result ≡ position (bytes_eq text.now) self.new }
+        ensures continues { Continues self.old self.new }
+        ensures found { result ≡ position (bytes_eq text.now) (items_of self.new.seen) }
     {
         let map = &self.names;
         let mut names = MapHandle::of(map, replace(&mut self.pass, map.pass()));
@@ -136,14 +139,13 @@ impl SharedKept {
     /// Fails with `Busy` if another thread adds a text, and with `Memory` or `Full` for a new text.
     /// This handle has then added nothing.
     pub fn try_put(&mut self, alloc: Global, text: &str) -> Result<usize, Fault>
-        ensures later { IsPrefix self.old self.new }
-        ensures numbered { IfOk result (λ n. position (bytes_eq text.now) self.new ≡ Some n) }
-        ensures fault { IfErr result (IsUnput self.old self.new text.now) }
+        ensures later { IsLaterPass self.old self.new }
+        ensures puts { IfOk result (PutsText text.now self.old self.new) }
+        ensures fault { IfErr result (IsUnput text.now self.old self.new) }
     {
         let map = &self.names;
         let mut names = MapHandle::of(map, replace(&mut self.pass, map.pass()));
         let number = attempt(&mut names, alloc, text);
-        names.one_to_one();
         self.pass = names.into_pass();
         number
     }
@@ -153,8 +155,8 @@ impl SharedKept {
     ///
     /// The text stays there until the last handle is dropped. The address of an empty text is null.
     pub fn place(&mut self, number: usize) -> Option<(*const u8, usize)>
-        ensures later { IsPrefix self.old self.new }
-        ensures read { IsRead self.new number result }
+        ensures continues { Continues self.old self.new }
+        ensures read { IsRead (items_of self.new.seen) number result }
     {
         let map = &self.names;
         let mut names = MapHandle::of(map, replace(&mut self.pass, map.pass()));
@@ -169,8 +171,8 @@ impl SharedKept {
     /// Returns the number of texts, all of which the handle has then observed. It takes no lock and
     /// never blocks.
     pub fn len(&mut self) -> usize
-        ensures later { IsPrefix self.old self.new }
-        ensures length { result ≡ length self.new }
+        ensures continues { Continues self.old self.new }
+        ensures length { result ≡ length (items_of self.new.seen) }
     {
         let map = &self.names;
         let mut names = MapHandle::of(map, replace(&mut self.pass, map.pass()));
