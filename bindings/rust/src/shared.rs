@@ -52,7 +52,8 @@ unsafe impl Send for Slot {}
 impl Slot {
     fn take(&self) -> Option<Taken<'_>> {
         let free = !self.is_taken.load(Ordering::Relaxed) && !self.is_taken.swap(true, Ordering::Acquire);
-        free.then_some(Taken { slot: self })
+        // Only the thread that has taken the slot makes a `Taken`, since its drop frees the slot.
+        free.then(|| Taken { slot: self })
     }
 }
 
@@ -287,5 +288,22 @@ impl<'a> IntoIterator for &'a SharedInterner {
 
     fn into_iter(self) -> Iter<'a, SharedInterner> {
         self.iter()
+    }
+}
+
+#[cfg(test)]
+mod tests {
+    use super::*;
+
+    #[test]
+    fn a_slot_is_given_to_two_calls() {
+        let names = SharedInterner::new();
+        let slots = &names.handles.slots;
+        let taken: Vec<_> = slots.iter().map(|it| it.take().unwrap()).collect();
+        for _ in 0..2 {
+            assert!(slots.iter().all(|it| it.take().is_none()));
+        }
+        drop(taken);
+        assert!(slots.iter().all(|it| it.take().is_some()));
     }
 }

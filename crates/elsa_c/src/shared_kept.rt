@@ -50,7 +50,10 @@ fn attempt(names: &mut Names<'_>, alloc: Global, text: &str) -> Result<usize, Fa
             let full = names.is_full();
             // It is no more than full.
             names.seen_len();
-            Err(if full { Fault::Full } else { Fault::Memory })
+            if full {
+                return Err(Fault::Full);
+            }
+            Err(Fault::Memory)
         }
     }
 }
