@@ -1,6 +1,6 @@
 -- What the texts of a map's view are, by what is known of its entries and their keys.
 use Rattle.std.proofs.Common.{◌≡◌, ◌∙◌, ◌==◌, ◌⊎◌, ℕ, suc, Bool, true, false, true≢false, List, [], ◌∷◌, ◌++◌, ap, append-nil, arith, length, refl, subst, sym, map, slice_get, position, Option, None, Some, inl, inr, if◌then◌else◌}
-use Rattle.std.specs.Prelude.{IfSome, IfNone, ◌-◌, ◌<◌, ◌≤◌, ◌^◌}
+use Rattle.std.specs.Prelude.{IfSome, IfNone, ◌+◌, ◌-◌, ◌<◌, ◌≤◌, ◌^◌}
 use Rattle.std.proofs.lemmas.List.{length-map, map-append}
 use Rattle.std.proofs.lemmas.Option.{slice_get-map, slice_get_cases}
 use Rattle.std.specs.Option.{option_map}
@@ -17,7 +17,7 @@ use Rattle.elsa_lock_free.proofs.RuleLemmas.History.{items_prefix}
 use Rattle.elsa_lock_free_map.specs.Entries.{Came, InsertsOnce}
 use Rattle.elsa_lock_free_map.proofs.MapLemmas.{key_at, later_at}
 use Rattle.elsa_tables.specs.declared.put.Inserted.{Inserted}
-use Rattle.elsa_c.specs.Shared.{Became, LacksText, PutsText, text_of, texts_of}
+use Rattle.elsa_c.specs.Shared.{Became, IsAnother, LacksText, PutsText, text_of, texts_of}
 use Rattle.elsa_c.proofs.TextLemmas.{found_alone, found_never}
 
 -- how a handle of C became another
@@ -35,35 +35,32 @@ pub remains : (a : View (List ℕ)) → IsLaterPass a a
 remains a = let s = stays a in (s.0, s.1)
 
 module _ {K V S : Type 0} (bytes : K → List ℕ) where
-  abbrev Entries : Type 0
-  Entries = List (Pushed (Entry K V S))
-
   -- an entry of the text is at the index, and no entry has its key
-  abbrev pub IsEntryAt : Entries → List ℕ → ℕ → Type 0
+  abbrev pub IsEntryAt : List (Pushed (Entry K V S)) → List ℕ → ℕ → Type 0
   IsEntryAt es text i = (e : Entry K V S) × (slice_get (items_of es) i ≡ Some e) × (bytes_eq text (bytes e.key) ≡ true)
 
-  abbrev pub HasNone : Entries → List ℕ → Type 0
+  abbrev pub HasNone : List (Pushed (Entry K V S)) → List ℕ → Type 0
   HasNone es text = IsAbsent (λ t k. bytes_eq t (bytes k)) (keys_of (items_of es)) text
 
   -- the texts of a view are those of its keys
-  texts : Entries → List (List ℕ)
+  abbrev pub texts : List (Pushed (Entry K V S)) → List (List ℕ)
   texts es = map bytes (keys_of (items_of es))
 
-  pub items_texts : (es : Entries) → items_of (map (text_of bytes) es) ≡ texts es
+  pub items_texts : (es : List (Pushed (Entry K V S))) → items_of (map (text_of bytes) es) ≡ texts es
   items_texts [] = refl
   items_texts (e ∷ es) = ap (λ l. bytes e.item.key ∷ l) (items_texts es)
 
-  places_texts : (author first : ℕ) (es : Entries) → places_from author first (map (text_of bytes) es) ≡ places_from author first es
+  places_texts : (author first : ℕ) (es : List (Pushed (Entry K V S))) → places_from author first (map (text_of bytes) es) ≡ places_from author first es
   places_texts author first [] = refl
   places_texts author first (e ∷ es) = ap (λ l. (if e.author == author then first ∷ [] else []) ++ l) (places_texts author (suc first) es)
 
   pub mine_texts : (pass : View (Entry K V S)) → mine (texts_of bytes pass) ≡ mine pass
   mine_texts pass = places_texts pass.author 0 pass.seen
 
-  prefix_texts : (xs ys : Entries) → IsPrefix xs ys → IsPrefix (map (text_of bytes) xs) (map (text_of bytes) ys)
+  prefix_texts : (xs ys : List (Pushed (Entry K V S))) → IsPrefix xs ys → IsPrefix (map (text_of bytes) xs) (map (text_of bytes) ys)
   prefix_texts xs ys p = (map (text_of bytes) p.0, sym (map-append (text_of bytes) xs p.0) ∙ ap (map (text_of bytes)) p.1)
 
-  prefix_keys : (xs ys : Entries) → IsPrefix xs ys → IsPrefix (keys_of (items_of xs)) (keys_of (items_of ys))
+  prefix_keys : (xs ys : List (Pushed (Entry K V S))) → IsPrefix xs ys → IsPrefix (keys_of (items_of xs)) (keys_of (items_of ys))
   prefix_keys xs ys p = let q = items_prefix xs ys p in (keys_of q.0, sym (map-append key_of (items_of xs) q.0) ∙ ap keys_of q.1)
 
   -- a later view has later texts
@@ -77,15 +74,27 @@ module _ {K V S : Type 0} (bytes : K → List ℕ) where
     pub continue_texts : Continues a b → Continues (texts_of bytes a) (texts_of bytes b)
     continue_texts c = (c.0, prefix_texts a.seen b.seen c.1, mine_stays c.2)
 
+  -- what holds of two views of a map by their texts holds of a handle that had the first one and has the second
+  pub moved : (relation : View (List ℕ) → View (List ℕ) → Type 0) (old : View (List ℕ)) (inside before after result : View (Entry K V S)) → texts_of bytes inside ≡ old → before ≡ inside
+      → result ≡ after → relation (texts_of bytes before) (texts_of bytes after) → relation old (texts_of bytes result)
+  moved relation old inside before after result view_is was is h =
+      subst (λ v. relation v (texts_of bytes result)) view_is
+          (subst (λ p. relation (texts_of bytes inside) (texts_of bytes p)) (sym is) (subst (λ p. relation (texts_of bytes p) (texts_of bytes after)) was h))
+
+  -- another view of the same map
+  pub another : (old : View (List ℕ)) (inside other : View (Entry K V S)) → texts_of bytes inside ≡ old → (other.vector ≡ inside.vector) × (other.seen ≡ inside.seen) × (mine other ≡ [])
+      → IsAnother old (texts_of bytes other)
+  another old inside other view_is h = subst (λ v. IsAnother v (texts_of bytes other)) view_is (h.0, ap (map (text_of bytes)) h.1, mine_texts other ∙ h.2)
+
   -- the text of an entry
-  pub text_at : (es : Entries) (i : ℕ) (e : Entry K V S) → slice_get (items_of es) i ≡ Some e → slice_get (items_of (map (text_of bytes) es)) i ≡ Some (bytes e.key)
+  pub text_at : (es : List (Pushed (Entry K V S))) (i : ℕ) (e : Entry K V S) → slice_get (items_of es) i ≡ Some e → slice_get (items_of (map (text_of bytes) es)) i ≡ Some (bytes e.key)
   text_at es i e at = ap (λ l. slice_get l i) (items_texts es) ∙ slice_get-map bytes (keys_of (items_of es)) i ∙ ap (option_map bytes) (key_at (items_of es) i e at)
 
-  has_text : (es : Entries) (text : List ℕ) (i : ℕ) → IsEntryAt es text i → slice_get (texts es) i ≡ Some text
+  has_text : (es : List (Pushed (Entry K V S))) (text : List ℕ) (i : ℕ) → IsEntryAt es text i → slice_get (texts es) i ≡ Some text
   has_text es text i h = slice_get-map bytes (keys_of (items_of es)) i ∙ ap (option_map bytes) (key_at (items_of es) i h.0 h.1) ∙ ap Some (sym ((bytes_decides text (bytes h.0.key)).0 h.2))
 
   -- the key of a text
-  key_of_text : (es : Entries) (i : ℕ) (text : List ℕ) → slice_get (texts es) i ≡ Some text → (k : K) × (slice_get (keys_of (items_of es)) i ≡ Some k) × (text ≡ bytes k)
+  key_of_text : (es : List (Pushed (Entry K V S))) (i : ℕ) (text : List ℕ) → slice_get (texts es) i ≡ Some text → (k : K) × (slice_get (keys_of (items_of es)) i ≡ Some k) × (text ≡ bytes k)
   key_of_text es i text at =
       let read = slice_get-map bytes (keys_of (items_of es)) i in
       elim ((slice_get_cases (keys_of (items_of es)) i).1) [
@@ -94,27 +103,27 @@ module _ {K V S : Type 0} (bytes : K → List ℕ) where
       ]
 
   -- a text whose key is absent has no index, and had none
-  never : (xs ys : Entries) (text : List ℕ) (i : ℕ) → IsPrefix xs ys → HasNone ys text → slice_get (texts xs) i ≡ Some text → ⊥
+  never : (xs ys : List (Pushed (Entry K V S))) (text : List ℕ) (i : ℕ) → IsPrefix xs ys → HasNone ys text → slice_get (texts xs) i ≡ Some text → ⊥
   never xs ys text i p none there =
       let k = key_of_text xs i text there in
       let later = later_at (keys_of (items_of xs)) (keys_of (items_of ys)) i k.0 (prefix_keys xs ys p) k.1 in
       true≢false (sym (ap (bytes_eq text) (sym k.2) ∙ nat_list_eq_equiv.refl text) ∙ none i k.0 later)
 
-  absent : (xs ys : Entries) (text : List ℕ) → IsPrefix xs ys → HasNone ys text → position (bytes_eq text) (items_of (map (text_of bytes) xs)) ≡ None
+  absent : (xs ys : List (Pushed (Entry K V S))) (text : List ℕ) → IsPrefix xs ys → HasNone ys text → position (bytes_eq text) (items_of (map (text_of bytes) xs)) ≡ None
   absent xs ys text p none = ap (position (bytes_eq text)) (items_texts xs) ∙ found_never (texts xs) text (λ i there. never xs ys text i p none there)
 
   module _ (equal : K → K → Bool) (same : (x y : K) → equal x y ≡ bytes_eq (bytes x) (bytes y)) where
     -- different keys have different texts
-    one_to_one : (es : Entries) → AreKeysOneToOne equal (keys_of (items_of es)) → IsOneToOne (texts es)
+    one_to_one : (es : List (Pushed (Entry K V S))) → AreKeysOneToOne equal (keys_of (items_of es)) → IsOneToOne (texts es)
     one_to_one es one i j text at_i at_j =
         let k = key_of_text es i text at_i in let l = key_of_text es j text at_j in
         one i j k.0 l.0 k.1 l.1 (same k.0 l.0 ∙ ap (λ t. bytes_eq t (bytes l.0)) (sym k.2) ∙ ap (bytes_eq text) (sym l.2) ∙ nat_list_eq_equiv.refl text)
 
-    found_at : (es : Entries) (text : List ℕ) (i : ℕ) → AreKeysOneToOne equal (keys_of (items_of es)) → IsEntryAt es text i → position (bytes_eq text) (items_of (map (text_of bytes) es)) ≡ Some i
+    found_at : (es : List (Pushed (Entry K V S))) (text : List ℕ) (i : ℕ) → AreKeysOneToOne equal (keys_of (items_of es)) → IsEntryAt es text i → position (bytes_eq text) (items_of (map (text_of bytes) es)) ≡ Some i
     found_at es text i one there = ap (position (bytes_eq text)) (items_texts es) ∙ found_alone (texts es) text i (one_to_one es one) (has_text es text i there)
 
     -- what a look-up finds
-    pub found : (es : Entries) (text : List ℕ) (o : Option ℕ) → AreKeysOneToOne equal (keys_of (items_of es)) → IfSome o (IsEntryAt es text) → IfNone o (HasNone es text)
+    pub found : (es : List (Pushed (Entry K V S))) (text : List ℕ) (o : Option ℕ) → AreKeysOneToOne equal (keys_of (items_of es)) → IfSome o (IsEntryAt es text) → IfNone o (HasNone es text)
         → o ≡ position (bytes_eq text) (items_of (map (text_of bytes) es))
     found es text None one there none = sym (absent es es text ([], append-nil es) none)
     found es text (Some i) one there none = sym (found_at es text i one there)

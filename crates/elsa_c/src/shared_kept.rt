@@ -58,13 +58,12 @@ fn attempt(names: &mut Names<'_>, alloc: Global, text: &str) -> Result<usize, Fa
     }
 }
 
-/// Returns the text with this number, or `None` if the handle has then observed no such number.
-fn text_at<'a>(names: &'a mut Names<'_>, number: usize) -> Option<&'a str>
-    ensures continues { Continues names.old names.new }
+/// Returns the text with this number, or `None` if the handle has not observed such a number.
+fn text_at<'a>(names: &'a Names<'_>, number: usize) -> Option<&'a str>
     ensures text { option_map (λ t. t.now) result
-        ≡ slice_get (items_of (texts_of (λ t. string_bytes t) names.new).seen) number }
+        ≡ slice_get (items_of (texts_of (λ t. string_bytes t) names.now).seen) number }
 {
-    if number >= names.seen_len() && number >= names.len() {
+    if number >= names.seen_len() {
         return None;
     }
     Some(names.item(number).key.as_str())
@@ -163,7 +162,8 @@ impl SharedKept {
     {
         let map = &self.names;
         let mut names = MapHandle::of(map, replace(&mut self.pass, map.pass()));
-        let place = match text_at(&mut names, number) {
+        names.len();
+        let place = match text_at(&names, number) {
             Some(text) => Some(address_of(text)),
             None => None,
         };

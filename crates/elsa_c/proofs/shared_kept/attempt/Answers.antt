@@ -25,7 +25,7 @@ pub returns-then-full-clause-fault : goal.returns-then-full-clause-fault
 returns-then-full-clause-fault c = (
     lacks string_bytes string_eq (λ x y. refl) c.args.names.now c.find.new.self c.is_full-full.new.self c.args.text.now c.find.ensures.continues c.in_default.ensures.absent
         (c.is_full-full.ensures.continues.2 ∙ c.in-Err-Failed.ensures.refused.0),
-    full string_bytes c.is_full-full.new.self c.seen_len.result c.seen_len.ensures.length c.seen_len.ensures.limit (c.is_full-full.ensures.full.0 c.then-full.true),
+    full string_bytes c.is_full-full.new.self c.seen_len.result c.seen_len.ensures.length c.seen_len.ensures.limit (c.is_full-full.ensures.full.0 c.if-full.true),
   )
 
 pub returns-clause-fault : goal.returns-clause-fault
