@@ -26,6 +26,7 @@ abbrev pub texts_in : Option (View (List ℕ)) → List (List ℕ)
 texts_in None = []
 texts_in (Some view) = items_of view.seen
 
+-- Those of a handle of C.
 abbrev pub observed : Shared → List (List ℕ)
 observed shared = texts_in shared.handle.value
 
@@ -70,10 +71,11 @@ IsAttemptStatus text before after old new status = (fault : Option Fault) × (st
 abbrev pub IsMade : (View (List ℕ) → Type 0) → Option (View (List ℕ)) → ℕ → Type 0
 IsMade is after status = ((view : View (List ℕ)) × (after ≡ Some view) × is view × (status ≡ 0)) ⊎ ((after ≡ None) × (status ≡ fault_code Memory))
 
--- A handle of new names, and another handle of the same names, which has observed as much and added nothing.
+-- A handle of new names has observed none.
 abbrev pub IsNew : View (List ℕ) → Type 0
 IsNew view = view.seen ≡ []
 
+-- Another handle of the same names has observed as much, and added nothing.
 abbrev pub IsAnother : View (List ℕ) → View (List ℕ) → Type 0
 IsAnother view other = (other.vector ≡ view.vector) × (other.seen ≡ view.seen) × (mine other ≡ [])
 

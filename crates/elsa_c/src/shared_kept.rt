@@ -48,7 +48,7 @@ fn attempt(names: &mut Names<'_>, alloc: Global, text: &str) -> Result<usize, Fa
         Err(AttemptFault::Busy(_)) => Err(Fault::Busy),
         Err(AttemptFault::Failed(_)) => {
             let full = names.is_full();
-            // It is no more than full.
+            // Its length is at most the greatest, so it is that one if the map is full.
             names.seen_len();
             if full {
                 return Err(Fault::Full);
