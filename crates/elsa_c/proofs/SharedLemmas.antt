@@ -17,7 +17,9 @@ use Rattle.elsa_lock_free.proofs.RuleLemmas.History.{items_prefix}
 use Rattle.elsa_lock_free_map.specs.Entries.{Came, InsertsOnce}
 use Rattle.elsa_lock_free_map.proofs.MapLemmas.{key_at, later_at}
 use Rattle.elsa_tables.specs.declared.put.Inserted.{Inserted}
-use Rattle.elsa_c.specs.Shared.{Became, IsAnother, LacksText, PutsText, text_of, texts_of}
+use Rattle.elsa_c.specs.declared.fault.Fault.{Fault}
+use Rattle.elsa_c.specs.declared.fault.Fault.TheVariants.{Memory, NotUtf8, EndsOutOfOrder, Full, TooFewCodes, Busy, NoNames}
+use Rattle.elsa_c.specs.Shared.{Became, IsAnother, IsAttempt, IsUnput, LacksText, PutsText, text_of, texts_of}
 use Rattle.elsa_c.proofs.TextLemmas.{found_alone, found_never}
 
 -- how a handle of C became another
@@ -33,6 +35,16 @@ stays a = ((refl, refl), ([], append-nil a.seen), refl)
 
 pub remains : (a : View (List ℕ)) → IsLaterPass a a
 remains a = let s = stays a in (s.0, s.1)
+
+-- an attempt that failed
+pub failed : (text : List ℕ) (old new : Option (View (List ℕ))) (a b : View (List ℕ)) (code : ℕ) (fault : Fault) → old ≡ Some a → new ≡ Some b → IsUnput text a b fault → IsAttempt text old new code code (Some fault)
+failed text old new a b code Memory is_old is_new h = ((λ e. absurd (cc (sym e ∙ is_old))), became (λ x y. IsUnput text x y Memory) old new a b is_old is_new h, refl)
+failed text old new a b code Full is_old is_new h = ((λ e. absurd (cc (sym e ∙ is_old))), became (λ x y. IsUnput text x y Full) old new a b is_old is_new h, refl)
+failed text old new a b code Busy is_old is_new h = ((λ e. absurd (cc (sym e ∙ is_old))), became (λ x y. IsUnput text x y Busy) old new a b is_old is_new h, refl)
+failed text old new a b code NotUtf8 is_old is_new h = absurd h
+failed text old new a b code EndsOutOfOrder is_old is_new h = absurd h
+failed text old new a b code TooFewCodes is_old is_new h = absurd h
+failed text old new a b code NoNames is_old is_new h = absurd h
 
 module _ {K V S : Type 0} (bytes : K → List ℕ) where
   -- an entry of the text is at the index, and no entry has its key
