@@ -82,27 +82,23 @@ fn running(words: &[String], count: usize, thread: usize) -> Vec<String> {
     words.iter().cycle().skip(thread * words.len() / 4).take(count).cloned().collect()
 }
 
-/// The nanoseconds of a call, between the start of the threads and the end of the last one, and the number of texts.
+/// The nanoseconds of a call, between the first start of a thread and the last end, and the number of texts.
 fn run(names: &impl Interns, lists: &[Vec<String>]) -> (f64, usize) {
-    let begun = Barrier::new(lists.len() + 1);
-    let mut time = 0.0;
-    std::thread::scope(|scope| {
-        let started: Vec<_> = lists
-            .iter()
-            .map(|texts| {
-                let begun = &begun;
-                scope.spawn(move || {
-                    begun.wait();
-                    texts.iter().map(|it| names.intern(it)).fold(0usize, usize::wrapping_add)
-                })
-            })
-            .collect();
+    let begun = Barrier::new(lists.len());
+    let work = |texts: &Vec<String>| {
         begun.wait();
-        let now = Instant::now();
-        started.into_iter().for_each(|it| { std::hint::black_box(it.join().expect("a thread that ends")); });
-        time = now.elapsed().as_nanos() as f64;
+        let start = Instant::now();
+        std::hint::black_box(texts.iter().map(|it| names.intern(it)).fold(0usize, usize::wrapping_add));
+        (start, Instant::now())
+    };
+    let times: Vec<(Instant, Instant)> = std::thread::scope(|scope| {
+        let work = &work;
+        let started: Vec<_> = lists.iter().map(|texts| scope.spawn(move || work(texts))).collect();
+        started.into_iter().map(|it| it.join().expect("a thread that ends")).collect()
     });
-    (time / lists.iter().map(|it| it.len()).sum::<usize>() as f64, names.distinct())
+    let first = times.iter().map(|it| it.0).min().expect("a thread");
+    let last = times.iter().map(|it| it.1).max().expect("a thread");
+    ((last - first).as_nanos() as f64 / lists.iter().map(|it| it.len()).sum::<usize>() as f64, names.distinct())
 }
 
 fn least<I: Interns>(make: impl Fn() -> I, lists: &[Vec<String>]) -> (f64, usize) {
