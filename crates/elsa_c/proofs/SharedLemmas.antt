@@ -1,6 +1,6 @@
 -- What the texts of a map's view are, by what is known of its entries and their keys.
 use Rattle.std.proofs.Common.{◌≡◌, ◌∙◌, ◌==◌, ◌⊎◌, ℕ, suc, Bool, true, false, true≢false, List, [], ◌∷◌, ◌++◌, ap, append-nil, arith, length, refl, subst, sym, map, slice_get, position, Option, None, Some, inl, inr, if◌then◌else◌}
-use Rattle.std.specs.Prelude.{IfSome, IfNone, ◌+◌, ◌-◌, ◌<◌, ◌≤◌, ◌^◌}
+use Rattle.std.specs.Prelude.{IfSome, IfNone, ◌+◌, ◌<◌, ◌≤◌, ◌^◌}
 use Rattle.std.proofs.lemmas.List.{length-map, map-append}
 use Rattle.std.proofs.lemmas.Option.{slice_get-map, slice_get_cases}
 use Rattle.std.specs.Option.{option_map}
@@ -91,7 +91,7 @@ module _ {K V S : Type 0} (bytes : K → List ℕ) where
       → result ≡ after → relation (texts_of bytes before) (texts_of bytes after) → relation old (texts_of bytes result)
   moved relation old inside before after result view_is was is h =
       subst (λ v. relation v (texts_of bytes result)) view_is
-          (subst (λ p. relation (texts_of bytes inside) (texts_of bytes p)) (sym is) (subst (λ p. relation (texts_of bytes p) (texts_of bytes after)) was h))
+      (subst (λ p. relation (texts_of bytes inside) (texts_of bytes p)) (sym is) (subst (λ p. relation (texts_of bytes p) (texts_of bytes after)) was h))
 
   -- another view of the same map
   pub another : (old : View (List ℕ)) (inside other : View (Entry K V S)) → texts_of bytes inside ≡ old → (other.vector ≡ inside.vector) × (other.seen ≡ inside.seen) × (mine other ≡ [])

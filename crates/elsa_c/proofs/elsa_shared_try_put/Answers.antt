@@ -15,7 +15,10 @@ pub returns-in_default-take-clause-status : goal.returns-in_default-take-clause-
 returns-in_default-take-clause-status c = (Some NoNames, c.code-in_default-take.ensures, (c.in_default-take.ensures.taken, c.take.ensures.empty, refl))
 
 pub returns-in-Err-clause-status : goal.returns-in-Err-clause-status
-returns-in-Err-clause-status c = (Some c.in-Err.fault, c.code-in-Err.ensures,
-    subst (λ t. IsAttempt t c.args.names.now.handle.value c.restore.new.self.handle.value c.args.code.now c.args.code.now (Some c.in-Err.fault)) c.in-Ok.ensures.cases.0
-        (failed c.in-Ok.text.now c.args.names.now.handle.value c.restore.new.self.handle.value c.deref_mut.result.now c.try_put-put.new.self c.args.code.now c.in-Err.fault
-            (c.in-Some.ensures.taken ∙ ap Some (sym c.deref_mut.ensures.value)) c.restore.ensures.names c.in-Err.ensures.fault))
+returns-in-Err-clause-status c = (
+  Some c.in-Err.fault,
+  c.code-in-Err.ensures,
+  subst (λ t. IsAttempt t c.args.names.now.handle.value c.restore.new.self.handle.value c.args.code.now c.args.code.now (Some c.in-Err.fault)) c.in-Ok.ensures.cases.0
+      (failed c.in-Ok.text.now c.args.names.now.handle.value c.restore.new.self.handle.value c.deref_mut.result.now c.try_put-put.new.self c.args.code.now c.in-Err.fault
+      (c.in-Some.ensures.taken ∙ ap Some (sym c.deref_mut.ensures.value)) c.restore.ensures.names c.in-Err.ensures.fault),
+)

@@ -1,8 +1,4 @@
-use Rattle.std.proofs.Common.{◌∙◌, refl, sym, subst, ◌≡◌, position}
-use Rattle.std.specs.Prelude.{IfErr}
-use Rattle.std.specs.Str.{bytes_eq}
-use Rattle.std_alloc.specs.String.{string_bytes, string_eq}
-use Rattle.elsa_lock_free.specs.SharedList.{Continues, IsLaterPass, items_of}
+use Rattle.std_alloc.specs.String.{string_bytes}
 use Rattle.elsa_c.proofs.SharedLemmas.{another}
 use Rattle.elsa_c.proofs.shared_kept.SharedKept.again.Goals as goal
 
