@@ -10,11 +10,12 @@ EXPORT = re.compile(
     r'((?:^///[^\n]*\n)+)#\[unsafe\(no_mangle\)\]\npub extern "C" fn (\w+)\(([^)]*)\)(?: -> (\w+))?', re.M
 )
 TYPES = {"usize": "size_t", "u32": "uint32_t", "bool": "bool", None: "void"}
-TOP = """/* Numbers for texts, and a dictionary that is kept. tools/bindings writes this file from crates/elsa_c.
+TOP = """/* Numbers for texts, a dictionary that is kept, and names that threads share. tools/bindings writes this file from
+ * crates/elsa_c.
  *
  * Each call is total in its data: any bytes, ends and codes may be passed. The caller owes that each pointer is valid
  * for the length that is passed with it (any address and null for the length 0), that what is written overlaps nothing
- * else that is passed, and that one dictionary is used by one thread at a time. */
+ * else that is passed, and that one dictionary, or one handle, is used by one call at a time. */
 #ifndef ELSA_H
 #define ELSA_H
 
@@ -40,7 +41,16 @@ typedef struct elsa_dictionary {
     elsa_seed seed;
 } elsa_dictionary;
 
+/* A handle of names that threads share, each with its code: a text has one code in all handles of the same names. One
+ * that is zeroed has no names. Each thread has a handle of its own, or takes turns at one: a handle may move to another
+ * thread, but two calls on one handle never overlap. Never copy one that has names. */
+typedef struct elsa_shared {
+    void *names;
+    bool kept;
+} elsa_shared;
+
 #define ELSA_EMPTY {0, false, {0, 0}}
+#define ELSA_UNSHARED {0, false}
 #define ELSA_SEEDED(start, factor) {0, false, {start, factor}}
 
 /* What a call returns that may fail. */
@@ -80,6 +90,7 @@ def parameter(text):
         (r"&mut usize", f"size_t *{name}"),
         (r"&mut \*const u8", f"const uint8_t **{name}"),
         (r"&mut Dictionary", f"elsa_dictionary *{name}"),
+        (r"&mut Shared", f"elsa_shared *{name}"),
         (r"&Seed", f"const elsa_seed *{name}"),
         (r"usize", f"size_t {name}"),
         (r"Global", ""),

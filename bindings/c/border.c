@@ -43,3 +43,38 @@ void proved_elsa_dictionary_free(elsa_dictionary *dictionary);
 void elsa_dictionary_free(elsa_dictionary *dictionary) {
     proved_elsa_dictionary_free(dictionary);
 }
+
+uint32_t proved_elsa_shared_new(elsa_shared *names, const elsa_seed *seed);
+uint32_t elsa_shared_new(elsa_shared *names, const elsa_seed *seed) {
+    return proved_elsa_shared_new(names, seed);
+}
+
+uint32_t proved_elsa_shared_again(elsa_shared *names, elsa_shared *other);
+uint32_t elsa_shared_again(elsa_shared *names, elsa_shared *other) {
+    return proved_elsa_shared_again(names, other);
+}
+
+bool proved_elsa_shared_find(elsa_shared *names, const uint8_t *text, size_t text_len, size_t *code);
+bool elsa_shared_find(elsa_shared *names, const uint8_t *text, size_t text_len, size_t *code) {
+    return proved_elsa_shared_find(names, text ? text : (void *)&nothing, text_len, code);
+}
+
+uint32_t proved_elsa_shared_try_put(elsa_shared *names, const uint8_t *text, size_t text_len, size_t *code);
+uint32_t elsa_shared_try_put(elsa_shared *names, const uint8_t *text, size_t text_len, size_t *code) {
+    return proved_elsa_shared_try_put(names, text ? text : (void *)&nothing, text_len, code);
+}
+
+bool proved_elsa_shared_at(elsa_shared *names, size_t code, const uint8_t **text, size_t *len);
+bool elsa_shared_at(elsa_shared *names, size_t code, const uint8_t **text, size_t *len) {
+    return proved_elsa_shared_at(names, code, text, len);
+}
+
+size_t proved_elsa_shared_len(elsa_shared *names);
+size_t elsa_shared_len(elsa_shared *names) {
+    return proved_elsa_shared_len(names);
+}
+
+void proved_elsa_shared_free(elsa_shared *names);
+void elsa_shared_free(elsa_shared *names) {
+    proved_elsa_shared_free(names);
+}

@@ -1,6 +1,6 @@
 /* Random calls against a plain model: texts of 0 to 100,000 bytes, bytes that are not UTF-8, ends out of order, too few
- * codes, null pointers with the length 0, and allocations that fail. Then texts that are crafted against a seed. Prints the
- * calls of each kind; ends with 1 at the first difference. */
+ * codes, null pointers with the length 0, and allocations that fail; handles of shared names, with and without names. And
+ * texts that are crafted against a seed. Prints the calls of each kind; ends with 1 at the first difference. */
 #include "elsa.h"
 #include <stdio.h>
 #include <stdlib.h>
@@ -114,6 +114,78 @@ static void try_seeds(void) {
     MUST(crafted(other) * 5 < crafted(known));
 }
 
+#define HANDLES 3
+
+/* Random calls by some handles, of which those with names share them. One thread is never told that another adds a text. */
+static void try_shared(size_t calls) {
+    elsa_shared handles[HANDLES] = {ELSA_UNSHARED, ELSA_UNSHARED, ELSA_UNSHARED};
+    bool has[HANDLES] = {false};
+    size_t kinds[6] = {0}, sharing = 0;
+    const long begun = refused;
+    for (size_t call = 0; call < calls; call++) {
+        const size_t kind = below(40) == 0 ? 4 + below(2) : below(4), me = below(HANDLES), you = below(HANDLES);
+        size_t code = 77, n = random_text(block);
+        const bool valid = is_utf8(block, n), failed = kind != 1 && below(3) == 0;
+        kinds[kind]++;
+        const long before = refused;
+        if (kind == 0 || kind == 1) {
+            const size_t at = place(block, n);
+            failing = failed ? (long)below(4) : -1;
+            const uint32_t fault = elsa_shared_try_put(&handles[me], SOME(block, n), n, &code);
+            failing = -1;
+            if (!valid) MUST(fault == ELSA_NOT_UTF8);
+            else if (!has[me]) MUST(fault == ELSA_NO_NAMES);
+            else if (refused > before) MUST(fault == ELSA_MEMORY && at == count);
+            else MUST(fault == ELSA_OK && code == at);
+            if (fault != ELSA_OK) MUST(code == 77);
+            else if (at == count) add(block, n);
+        } else if (kind == 2) {
+            const bool found = elsa_shared_find(&handles[me], SOME(block, n), n, &code);
+            MUST(found == (valid && has[me] && place(block, n) < count));
+            MUST(code == (found ? place(block, n) : 77));
+        } else if (kind == 3) {
+            const uint8_t *text = block;
+            size_t len = 77, wanted = below(8) == 0 ? below(SIZE_MAX) : below(count + 2);
+            const bool found = elsa_shared_at(&handles[me], wanted, &text, &len);
+            MUST(found == (has[me] && wanted < count));
+            if (found) MUST(len == names[wanted].n && (len == 0 || memcmp(text, names[wanted].p, len) == 0));
+            else MUST(len == 77 && text == block);
+        } else if (kind == 4) {
+            elsa_shared_free(&handles[me]);
+            sharing -= has[me];
+            has[me] = false;
+            if (sharing == 0)
+                while (count > 0) free(names[--count].p);
+        } else if (sharing == 0) {
+            const elsa_seed seed = {below(SIZE_MAX), below(SIZE_MAX)};
+            failing = failed ? (long)below(5) : -1;
+            const uint32_t fault = elsa_shared_new(&handles[me], &seed);
+            failing = -1;
+            MUST(fault == (refused > before ? ELSA_MEMORY : ELSA_OK));
+            has[me] = fault == ELSA_OK;
+            sharing += has[me];
+        } else if (me != you && !(has[you] && sharing == 1)) {
+            failing = failed ? 0 : -1;
+            const uint32_t fault = elsa_shared_again(&handles[me], &handles[you]);
+            failing = -1;
+            MUST(fault == (!has[me] ? ELSA_NO_NAMES : refused > before ? ELSA_MEMORY : ELSA_OK));
+            sharing -= has[you];
+            has[you] = fault == ELSA_OK;
+            sharing += has[you];
+            if (sharing == 0)
+                while (count > 0) free(names[--count].p);
+        }
+        for (size_t i = 0; i < HANDLES; i++) MUST(elsa_shared_len(&handles[i]) == (has[i] ? count : 0));
+    }
+    for (size_t i = 0; i < HANDLES; i++) {
+        elsa_shared_free(&handles[i]);
+        elsa_shared_free(&handles[i]);
+    }
+    while (count > 0) free(names[--count].p);
+    printf("shared: put %zu, find %zu, at %zu, free %zu, new and again %zu; %ld allocations failed\n", kinds[0] + kinds[1],
+        kinds[2], kinds[3], kinds[4], kinds[5], refused - begun);
+}
+
 int main(int argc, char **argv) {
     size_t calls = argc > 1 ? (size_t)atol(argv[1]) : 10000, kinds[6] = {0};
     names = __real_malloc((calls * 30 + 1) * sizeof *names);
@@ -210,8 +282,10 @@ int main(int argc, char **argv) {
     elsa_dictionary_free(&words);
     elsa_dictionary_free(&words);
     while (count > 0) free(names[--count].p);
+    const long failed = refused;
+    try_shared(calls);
     free(names);
     printf("put %zu, find %zu, at %zu, put_many %zu, factorize %zu; %ld allocations failed\n", kinds[0], kinds[1], kinds[2],
-        kinds[3], kinds[4] + kinds[5], refused);
+        kinds[3], kinds[4] + kinds[5], failed);
     return 0;
 }

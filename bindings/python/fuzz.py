@@ -2,12 +2,14 @@
 
 usage: fuzz.py SECONDS [THREADS [SEED]]
 
-All threads share one interner, and each has its own objects too. Results are compared with plain Python. The last line has
+All threads share one interner and one SharedInterner, and each has its own objects too. In every second round the calls of
+the library run at once, as they do in a Python without a GIL. Results are compared with plain Python. The last line has
 the number of calls; the status is 1 at the first wrong result or unexpected exception, whose seed is printed. A fault of
 memory ends the process: run it with the sanitized shared object (`tools/bindings --sanitized DIR`) or under valgrind.
 """
 import array
 import copy
+import ctypes
 import itertools
 import os
 import pickle
@@ -18,19 +20,31 @@ import time
 import traceback
 
 import elsa_proved
-from elsa_proved import Fault, Interner, factorize, factorize_block, firsts
+from elsa_proved import Fault, Interner, SharedInterner, factorize, factorize_block, firsts
 
 numpy = elsa_proved.numpy
 try:
     import pandas
 except ImportError:
     pandas = None
+# The greatest number of seconds of a round, which has interners of its own.
+ROUND = 20
 # What a call may raise for a wrong argument.
 REFUSED = (TypeError, ValueError, IndexError, OverflowError, BufferError, NotImplementedError, ZeroDivisionError)
 
 
 class Differs(Exception):
     pass
+
+
+def overlapping():
+    """The library by a CDLL, which releases the GIL during a call."""
+    own = elsa_proved._so
+    other = ctypes.CDLL(own._name)
+    for name, call in vars(own).items():
+        if name.startswith("elsa_"):
+            getattr(other, name).restype, getattr(other, name).argtypes = call.restype, call.argtypes
+    return other
 
 
 def must(fact, *shown):
@@ -100,8 +114,8 @@ def numbered(block, ends):
 
 
 class Thread:
-    def __init__(self, seed, shared):
-        self.random, self.shared, self.calls = random.Random(seed), shared, 0
+    def __init__(self, seed, shared, of_threads):
+        self.random, self.shared, self.of_threads, self.calls = random.Random(seed), shared, of_threads, 0
         self.own, self.known = Interner(), {}
 
     def text(self):
@@ -165,7 +179,7 @@ class Thread:
 
     def try_garbage(self):
         """A call of garbage may only return or raise one of the expected exceptions."""
-        names = self.random.choice([self.own, self.shared, Interner()])
+        names = self.random.choice([self.own, self.shared, self.of_threads, Interner(), SharedInterner()])
         one, two = self.garbage(), self.garbage()
         calls = [
             lambda: factorize(one),
@@ -178,6 +192,8 @@ class Thread:
             lambda: names.get(one),
             lambda: Interner(one),
             lambda: Interner().put(one),
+            lambda: SharedInterner().put(one),
+            lambda: SharedInterner(one),
             lambda: Interner().put_many(one),
             lambda: Interner().put_block(one, two),
             lambda: Interner().put_block(b"abcdefgh" * 4, two),
@@ -274,9 +290,21 @@ class Thread:
             listed = list(copy.copy(self.shared))
             must(len(set(listed)) == len(listed))
 
+    def try_of_threads(self):
+        """Calls of the interner whose calls overlap: a text keeps its code, a code its text, and no code is left out."""
+        names = self.of_threads
+        for text in self.texts():
+            code = names.put(text)
+            must(names[code] == text and names.get(text) == code and code < len(names), text, code)
+        if self.random.random() < 0.002:
+            listed = list(names)
+            must(len(set(listed)) == len(listed) and all(names.get(it) == code for code, it in enumerate(listed)))
+
     def run(self, until):
+        calls = [self.try_garbage, self.try_own, self.try_list, self.try_block, self.try_shared, self.try_of_threads]
+        calls += [self.try_garbage, self.try_of_threads]
         while time.monotonic() < until:
-            call = self.random.choice([self.try_garbage, self.try_garbage, self.try_own, self.try_list, self.try_block, self.try_shared])
+            call = self.random.choice(calls)
             for _ in range(20):
                 call()
                 self.calls += 1
@@ -285,15 +313,17 @@ class Thread:
 def main(seconds, threads=4, seed=None):
     seed = int.from_bytes(os.urandom(4), "little") if seed is None else int(seed)
     sys.setswitchinterval(1e-5)
+    length = min(ROUND, float(seconds) / 2)
     until, failed, total = time.monotonic() + float(seconds), [], 0
-    rounds = itertools.count()
+    rounds, libraries = itertools.count(), [elsa_proved._so, overlapping()]
     while time.monotonic() < until and not failed:
-        at, shared = next(rounds), Interner()
-        pool = [Thread(f"{seed} {at} {it}", shared) for it in range(int(threads))]
+        at, shared, of_threads = next(rounds), Interner(), SharedInterner()
+        elsa_proved._so = libraries[at % 2]
+        pool = [Thread(f"{seed} {at} {it}", shared, of_threads) for it in range(int(threads))]
 
         def run(thread):
             try:
-                thread.run(min(until, time.monotonic() + 20))
+                thread.run(min(until, time.monotonic() + length))
             except BaseException:
                 failed.append(traceback.format_exc())
 
@@ -305,6 +335,9 @@ def main(seconds, threads=4, seed=None):
         total += sum(it.calls for it in pool)
         listed = list(shared)
         must(len(set(listed)) == len(listed) and list(shared.put_many(listed)) == list(range(len(listed))))
+        listed = list(of_threads)
+        must(len(set(listed)) == len(listed) and [of_threads.put(it) for it in listed] == list(range(len(listed))))
+        of_threads.close()
     if failed:
         print(f"seed {seed}:\n{failed[0]}")
         return 1

@@ -1,5 +1,6 @@
 """The calls of elsa_proved against plain models in Python."""
 import copy
+import pathlib
 import pickle
 import random
 import subprocess
@@ -7,10 +8,12 @@ import sys
 import threading
 import time
 import unittest
+import unittest.mock
 from array import array
 
 import elsa_proved
-from elsa_proved import Fault, Interner, OutOfMemory, factorize, factorize_block, firsts
+import fuzz
+from elsa_proved import ClosedInterner, Fault, Interner, OutOfMemory, SharedInterner, factorize, factorize_block, firsts
 
 numpy = elsa_proved.numpy
 try:
@@ -136,6 +139,135 @@ class TestThreads(unittest.TestCase):
             yield "b"
 
         self.assertEqual(list(names.put_many(texts())), [1, 0])
+
+
+def overlapping():
+    """Lets calls of the library run at once, as a Python without a GIL does."""
+    return unittest.mock.patch.object(elsa_proved, "_so", fuzz.overlapping())
+
+
+class TestShared(unittest.TestCase):
+    """The interner that threads share, with calls that take turns and with calls that overlap."""
+
+    def setUp(self):
+        self.random = random.Random(2026)
+
+    def compare(self, count):
+        """Four threads put the same texts, each in an order of its own."""
+        names, found = SharedInterner(), {}
+
+        def put(thread):
+            codes = {}
+            for at in range(count):
+                text = f"text {(at * (2 * thread + 1) + thread * 1000) % count}"
+                codes[text] = names.put(text)
+                self.assertEqual((names[codes[text]], names.get(text)), (text, codes[text]))
+            found[thread] = codes
+
+        at_once([lambda it=it: put(it) for it in range(4)])
+        self.assertTrue(all(it == found[0] for it in found.values()))
+        self.assertEqual(sorted(found[0].values()), list(range(count)))
+        self.assertEqual({text: code for code, text in enumerate(names)}, found[0])
+
+    def test_threads_get_different_codes_of_one_text(self):
+        self.compare(4_001)
+
+    def test_threads_whose_calls_overlap_get_different_codes_of_one_text(self):
+        with overlapping():
+            self.compare(20_011)
+
+    def test_it_differs_from_a_dict(self):
+        names, known = SharedInterner(), {}
+        for _ in range(10_000):
+            longest = 100_000 if self.random.random() < 0.001 else 5
+            text = "".join(self.random.choices("abé語😀", k=self.random.randrange(longest + 1)))
+            if self.random.random() < 0.3:
+                self.assertEqual((names.get(text), text in names), (known.get(text), text in known))
+            else:
+                self.assertEqual(names.put(text), known.setdefault(text, len(known)))
+                self.assertEqual(names[known[text]], text)
+            self.assertEqual(len(names), len(known))
+        self.assertEqual(list(names), list(known))
+        for copied in (copy.copy(names), pickle.loads(pickle.dumps(names))):
+            copied.put("of the copy")
+            self.assertEqual(list(copied), [*known, "of the copy"])
+        self.assertEqual(len(names), len(known))
+
+    def test_many_keys_are_lost(self):
+        names = SharedInterner(map(str, range(200_000)))
+        self.assertEqual([names.get(str(it)) for it in range(0, 200_000, 7)], list(range(0, 200_000, 7)))
+        self.assertEqual((len(names), names[199_999], names[-200_000]), (200_000, "199999", "0"))
+
+    def test_what_is_no_text_or_no_code_is_taken(self):
+        names = SharedInterner(["fig", ""])
+        for it in (None, 3, b"fig", ["fig"], object()):
+            self.assertNotIn(it, names)
+            for call in (names.put, names.get):
+                self.assertRaises(TypeError, call, it)
+        self.assertRaises(UnicodeEncodeError, names.put, "\ud800")
+        self.assertIsNone(names.get("\ud800"))
+        for code in (2, -3, 2**64, 2**200):
+            self.assertRaises(IndexError, lambda: names[code])
+        self.assertRaises(TypeError, lambda: names["fig"])
+        self.assertEqual((names[0], names[-1], names[::-1]), ("fig", "", ["", "fig"]))
+
+    def test_a_closed_one_is_used(self):
+        with SharedInterner(["fig"]) as names:
+            self.assertEqual(names.put("plum"), 1)
+        names.close()
+        calls = (lambda: names.put("fig"), lambda: names.get("fig"), lambda: names[0], lambda: len(names), lambda: list(names))
+        for call in calls:
+            self.assertRaises(ClosedInterner, call)
+
+    def test_a_close_during_calls_ends_one_of_them_otherwise(self):
+        for _ in range(20):
+            names, begun = SharedInterner(), threading.Barrier(4)
+
+            def put():
+                begun.wait()
+                try:
+                    for number in range(100_000):
+                        self.assertEqual(names[names.put(str(number))], str(number))
+                except ClosedInterner:
+                    pass
+
+            def close():
+                begun.wait()
+                time.sleep(0.002)
+                names.close()
+
+            with overlapping():
+                at_once([put, put, put, close])
+            self.assertEqual((len(names._free), names._first), (0, None))
+
+    def test_a_closed_one_keeps_its_memory(self):
+        def resident():
+            return int(pathlib.Path("/proc/self/statm").read_text().split()[1]) * 4096
+
+        def once():
+            with SharedInterner(map(str, range(2_000))) as names:
+                at_once([lambda: names.put("fig")] * 4)
+
+        for _ in range(20):
+            once()
+        before = resident()
+        for _ in range(150):
+            once()
+        self.assertLess(resident() - before, 20_000_000)
+
+    def test_memory_that_runs_out_is_no_memory_error(self):
+        text = """
+import resource, elsa_proved
+large, names = "x" * 200_000_000, elsa_proved.SharedInterner(["fig"])
+used = int(open("/proc/self/statm").read().split()[0]) * resource.getpagesize()
+resource.setrlimit(resource.RLIMIT_AS, (used + 300_000_000, -1))
+try:
+    names.put(large)
+except MemoryError as fault:
+    print(type(fault).__name__, fault.number, names.put("plum"), list(names))
+"""
+        done = subprocess.run([sys.executable, "-c", text], capture_output=True, text=True)
+        self.assertEqual(done.stdout, "OutOfMemory 1 1 ['fig', 'plum']\n", done.stderr)
 
 
 class TestCopies(unittest.TestCase):
@@ -374,6 +506,8 @@ class TestSurface(unittest.TestCase):
         self.assertTrue(all(hasattr(elsa_proved, it) for it in elsa_proved.__all__))
         self.assertRegex(elsa_proved.__version__, r"^\d+\.\d+\.\d+$")
         for it in (factorize, factorize_block, firsts, Interner.put, Interner.get, Interner.put_many, Interner.put_block):
+            self.assertIn("return", it.__annotations__)
+        for it in (SharedInterner.put, SharedInterner.get, SharedInterner.close):
             self.assertIn("return", it.__annotations__)
         self.assertEqual(repr(Interner(["fig"])), "Interner(['fig'])")
         self.assertEqual(repr(Interner(map(str, range(11)))), "<Interner of 11 texts>")

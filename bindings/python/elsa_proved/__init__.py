@@ -1,4 +1,4 @@
-"""Numbers for texts, by the proved code of elsa_c: `factorize(texts)` and `Interner`.
+"""Numbers for texts, by the proved code of elsa_c: `factorize(texts)`, `Interner`, and `SharedInterner` for threads.
 
 Codes are arrays of int64: of NumPy if it is installed, and else of the module `array`. Hashes have a secret, as those of
 str have: the wrapper takes it from os.urandom. The shared object libelsa_c.so is next to this file, or at the path in
@@ -11,7 +11,9 @@ import os
 import pathlib
 import sys
 import threading
+import time
 from array import array
+from collections import deque
 from itertools import accumulate
 from typing import Any, Iterable, Iterator, List, Optional, Sequence, Tuple, Union, overload
 
@@ -21,13 +23,23 @@ except ImportError:
     numpy = None
 
 __version__ = "0.4.0"
-__all__ = ["Fault", "Interner", "OutOfMemory", "factorize", "factorize_block", "firsts"]
+__all__ = [
+    "ClosedInterner",
+    "Fault",
+    "Interner",
+    "OutOfMemory",
+    "SharedInterner",
+    "factorize",
+    "factorize_block",
+    "firsts",
+]
 
 Block = Union[bytes, bytearray, memoryview, Any]
 Codes = Sequence[int]
 
 # A PyDLL keeps the GIL during a call. So no two calls are inside the library at once, and nothing that a call reads changes;
-# in a Python without a GIL each dictionary has a lock, and what others could write is copied before it is passed.
+# in a Python without a GIL each dictionary has a lock, each call of a shared interner has a handle of its own, and what
+# others could write is copied before it is passed.
 _so = ctypes.PyDLL(os.environ.get("ELSA_SO", str(pathlib.Path(__file__).resolve().parent / "libelsa_c.so")))
 _size, _numbers_at = ctypes.c_size_t, ctypes.c_void_p
 
@@ -56,7 +68,17 @@ class _Dictionary(ctypes.Structure):
         free(at(self))
 
 
+class _Shared(ctypes.Structure):
+    """A handle of shared names, as C has it. It is freed at its own end."""
+
+    _fields_ = [("names", ctypes.c_void_p), ("kept", ctypes.c_bool)]
+
+    def __del__(self, free=_so.elsa_shared_free, at=ctypes.byref):
+        free(at(self))
+
+
 _held = ctypes.POINTER(_Dictionary)
+_sharing = ctypes.POINTER(_Shared)
 _found = ctypes.POINTER(_size)
 for _name, _result, _given in [
     (
@@ -75,6 +97,13 @@ for _name, _result, _given in [
     ("elsa_dictionary_at", ctypes.c_bool, [_held, _size, ctypes.POINTER(ctypes.c_void_p), _found]),
     ("elsa_dictionary_len", _size, [_held]),
     ("elsa_dictionary_free", None, [_held]),
+    ("elsa_shared_new", ctypes.c_uint32, [_sharing, ctypes.POINTER(_Seed)]),
+    ("elsa_shared_again", ctypes.c_uint32, [_sharing, _sharing]),
+    ("elsa_shared_find", ctypes.c_bool, [_sharing, ctypes.c_char_p, _size, _found]),
+    ("elsa_shared_try_put", ctypes.c_uint32, [_sharing, ctypes.c_char_p, _size, _found]),
+    ("elsa_shared_at", ctypes.c_bool, [_sharing, _size, ctypes.POINTER(ctypes.c_void_p), _found]),
+    ("elsa_shared_len", _size, [_sharing]),
+    ("elsa_shared_free", None, [_sharing]),
 ]:
     getattr(_so, _name).restype, getattr(_so, _name).argtypes = _result, _given
 
@@ -89,6 +118,13 @@ class Fault(ValueError):
 
 class OutOfMemory(Fault, MemoryError):
     """The fault of an allocation that failed. It is a MemoryError too."""
+
+
+class ClosedInterner(ValueError):
+    """A call of a SharedInterner that was closed."""
+
+    def __init__(self) -> None:
+        super().__init__("the interner was closed")
 
 
 def _fault(number: int, codes: Codes) -> Fault:
@@ -214,7 +250,76 @@ def factorize(texts: Iterable[Optional[str]]) -> Tuple[Codes, List[str]]:
     return codes, [present[it] for it in firsts(known).tolist()]
 
 
-class Interner:
+def _encoded(text: Any) -> bytes:
+    if not isinstance(text, str):
+        raise TypeError(f"a text is a str, not {type(text).__name__}")
+    return str.encode(text)
+
+
+class _Texts:
+    """A sequence of texts, each with a code."""
+
+    __slots__ = ()
+
+    def __len__(self) -> int:
+        raise NotImplementedError
+
+    def _find(self, text: bytes, code: Any) -> bool:
+        """Writes the code of a text to `code`, and returns whether it has one."""
+        raise NotImplementedError
+
+    def _at(self, code: int) -> Optional[bytes]:
+        """The text with this code."""
+        raise NotImplementedError
+
+    def __reduce__(self) -> Any:
+        return type(self), (list(self),), getattr(self, "__dict__", None)
+
+    def __repr__(self) -> str:
+        count, name = len(self), type(self).__name__
+        return f"{name}({self[:]})" if count <= 10 else f"<{name} of {count} texts>"
+
+    def get(self, text: str, default: Optional[int] = None) -> Optional[int]:
+        """Returns the code of a text, or `default` if it was never put."""
+        try:
+            given, code = _encoded(text), _size()
+        except UnicodeEncodeError:
+            return default
+        return code.value if self._find(given, code) else default
+
+    def __contains__(self, text: object) -> bool:
+        return isinstance(text, str) and self.get(text) is not None
+
+    @overload
+    def __getitem__(self, code: int) -> str: ...
+    @overload
+    def __getitem__(self, code: slice) -> List[str]: ...
+    def __getitem__(self, code):
+        """Returns the text with this code; one below 0 counts from the end. Raises IndexError if there is none."""
+        if isinstance(code, slice):
+            return [self[it] for it in range(*code.indices(len(self)))]
+        wanted = operator.index(code)
+        count = len(self)
+        if not -count <= wanted < count:
+            raise IndexError(f"there is no text {wanted}: {count} texts")
+        found = self._at(wanted % count)
+        if found is None:
+            raise IndexError(f"there is no text {wanted}")
+        return found.decode()
+
+    def __iter__(self) -> Iterator[str]:
+        return (self[code] for code in range(len(self)))
+
+
+def _read(call: Any, handle: Any, code: int) -> Optional[bytes]:
+    """A copy of the text with this code, by a call of C. Nobody frees the text meanwhile."""
+    at, length = ctypes.c_void_p(), _size()
+    if not call(handle, code, at, length):
+        return None
+    return ctypes.string_at(at, length.value) if length.value else b""
+
+
+class Interner(_Texts):
     """Texts, each with a code: the first has 0, the next 1, and so on. Threads may share it; their calls take turns.
 
     It is a sequence of its texts. A copy, and one that was pickled, has the same texts with the same codes.
@@ -231,22 +336,13 @@ class Interner:
     def __init__(self, texts: Iterable[str] = ()) -> None:
         self.put_many(texts)
 
-    def __reduce__(self) -> Any:
-        return type(self), (list(self),), getattr(self, "__dict__", None)
-
     def __len__(self) -> int:
         with self._lock:
             return _so.elsa_dictionary_len(self._raw)
 
-    def __repr__(self) -> str:
-        count = len(self)
-        return f"Interner({self[:]})" if count <= 10 else f"<Interner of {count} texts>"
-
     def put(self, text: str) -> int:
         """Returns the code of a text, which is kept if it is new."""
-        if not isinstance(text, str):
-            raise TypeError(f"a text is a str, not {type(text).__name__}")
-        given, code = str.encode(text), _size()
+        given, code = _encoded(text), _size()
         with self._lock:
             number = _so.elsa_dictionary_put(self._raw, given, len(given), code)
         if number:
@@ -268,40 +364,103 @@ class Interner:
         with self._lock:
             return _codes(_so.elsa_dictionary_put_many, block, ends, self._raw)
 
-    def get(self, text: str, default: Optional[int] = None) -> Optional[int]:
-        """Returns the code of a text, or `default` if it was never put."""
-        if not isinstance(text, str):
-            raise TypeError(f"a text is a str, not {type(text).__name__}")
+    def _find(self, text: bytes, code: Any) -> bool:
+        with self._lock:
+            return _so.elsa_dictionary_find(self._raw, text, len(text), code)
+
+    def _at(self, code: int) -> Optional[bytes]:
+        with self._lock:
+            return _read(_so.elsa_dictionary_at, self._raw, code)
+
+
+# What a call returns that did not wait while another thread put a text.
+_BUSY = 6
+
+
+class SharedInterner(_Texts):
+    """Texts, each with a code, which threads share: a text has one code, whichever thread puts it first.
+
+    The calls of threads need not take turns: in a Python without a GIL they run at once. It is a sequence of its texts. A
+    copy, and one that was pickled, has the same texts with the same codes, and shares nothing with the original. It can be
+    closed, also by `with`; calls raise ClosedInterner then.
+    """
+
+    __slots__ = ("_first", "_lock", "_free", "__weakref__")
+
+    def __new__(cls, *_given: Any, **_named: Any) -> "SharedInterner":
+        made = super().__new__(cls)
+        # Others are made of the first handle, under the lock, so that it is given to one call at a time. Those that no call
+        # has are in the deque, whose calls are atomic.
+        made._first, made._lock, made._free = _Shared(), threading.RLock(), deque()
+        number = _so.elsa_shared_new(made._first, _secret())
+        if number:
+            raise _fault(number, [])
+        return made
+
+    def __init__(self, texts: Iterable[str] = ()) -> None:
+        for it in texts:
+            self.put(it)
+
+    def _take(self) -> _Shared:
+        """A handle for one call."""
         try:
-            given, code = str.encode(text), _size()
-        except UnicodeEncodeError:
-            return default
+            handle = self._free.pop()
+        except IndexError:
+            handle = _Shared()
+            with self._lock:
+                first = self._first
+                number = 0 if first is None else _so.elsa_shared_again(first, handle)
+            if number:
+                raise _fault(number, [])
+        if self._first is None:
+            raise ClosedInterner
+        return handle
+
+    def _give(self, handle: _Shared) -> None:
+        """Keeps the handle for the next call, or frees it if the interner was closed meanwhile."""
+        self._free.append(handle)
+        if self._first is None:
+            self._free.clear()
+
+    def close(self) -> None:
+        """Frees the texts, once the calls of other threads have returned. It may be called again."""
         with self._lock:
-            found = _so.elsa_dictionary_find(self._raw, given, len(given), code)
-        return code.value if found else default
+            self._first = None
+        self._free.clear()
 
-    def __contains__(self, text: object) -> bool:
-        return isinstance(text, str) and self.get(text) is not None
+    def __enter__(self) -> "SharedInterner":
+        return self
 
-    @overload
-    def __getitem__(self, code: int) -> str: ...
-    @overload
-    def __getitem__(self, code: slice) -> List[str]: ...
-    def __getitem__(self, code):
-        """Returns the text with this code; one below 0 counts from the end. Raises IndexError if there is none."""
-        if isinstance(code, slice):
-            return [self[it] for it in range(*code.indices(len(self)))]
-        wanted = operator.index(code)
-        count = len(self)
-        if not -count <= wanted < count:
-            raise IndexError(f"there is no text {wanted}: {count} texts")
-        at, length = ctypes.c_void_p(), _size()
-        with self._lock:
-            # The texts are copied under the lock, so that none is freed meanwhile.
-            if not _so.elsa_dictionary_at(self._raw, wanted % count, at, length):
-                raise IndexError(f"there is no text {wanted}")
-            copied = ctypes.string_at(at, length.value) if length.value else b""
-        return copied.decode()
+    def __exit__(self, *_why: Any) -> None:
+        self.close()
 
-    def __iter__(self) -> Iterator[str]:
-        return (self[code] for code in range(len(self)))
+    def __len__(self) -> int:
+        handle = self._take()
+        count = _so.elsa_shared_len(handle)
+        self._give(handle)
+        return count
+
+    def put(self, text: str) -> int:
+        """Returns the code of a text, which is kept if it is new."""
+        given, code = _encoded(text), _size()
+        handle = self._take()
+        number = _so.elsa_shared_try_put(handle, given, len(given), code)
+        while number == _BUSY:
+            time.sleep(0)
+            number = _so.elsa_shared_try_put(handle, given, len(given), code)
+        self._give(handle)
+        if number:
+            raise _fault(number, [])
+        return code.value
+
+    def _find(self, text: bytes, code: Any) -> bool:
+        handle = self._take()
+        found = _so.elsa_shared_find(handle, text, len(text), code)
+        self._give(handle)
+        return found
+
+    def _at(self, code: int) -> Optional[bytes]:
+        handle = self._take()
+        found = _read(_so.elsa_shared_at, handle, code)
+        self._give(handle)
+        return found

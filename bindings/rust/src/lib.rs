@@ -1,8 +1,8 @@
 //! Numbers for texts, by the proved code of `elsa_c`.
 //!
-//! [`Interner`] gives each distinct text a [`Symbol`]. [`factorize`] numbers a whole list at once. The code that compares,
-//! hashes and stores the texts is proved to meet its contracts; this crate passes it valid pointers. Each hash has a secret
-//! of `RandomState`.
+//! [`Interner`] gives each distinct text a [`Symbol`], and [`SharedInterner`] does so for threads. [`factorize`] numbers a
+//! whole list at once. The code that compares, hashes and stores the texts is proved to meet its contracts; this crate passes
+//! it valid pointers. Each hash has a secret of `RandomState`.
 //!
 //! ```
 //! # fn main() -> Result<(), Box<dyn std::error::Error>> {
@@ -14,6 +14,10 @@
 //! # Ok(())
 //! # }
 //! ```
+
+mod shared;
+
+pub use shared::SharedInterner;
 
 use std::collections::hash_map::RandomState;
 use std::fmt::{self, Debug, Display, Formatter};
@@ -323,14 +327,33 @@ impl<'a> IntoIterator for &'a Interner {
     }
 }
 
-/// The texts of an [`Interner`] with their symbols.
-pub struct Iter<'a> {
-    interner: &'a Interner,
+/// What an [`Iter`] reads. No other crate can implement it.
+pub trait Texts: sealed::Sealed {
+    #[doc(hidden)]
+    fn text(&self, symbol: Symbol) -> Option<&str>;
+}
+
+mod sealed {
+    pub trait Sealed {}
+
+    impl Sealed for crate::Interner {}
+    impl Sealed for crate::SharedInterner {}
+}
+
+impl Texts for Interner {
+    fn text(&self, symbol: Symbol) -> Option<&str> {
+        self.resolve(symbol)
+    }
+}
+
+/// The texts of an [`Interner`] or a [`SharedInterner`] with their symbols.
+pub struct Iter<'a, I: Texts = Interner> {
+    interner: &'a I,
     next: usize,
     end: usize,
 }
 
-impl<'a> Iterator for Iter<'a> {
+impl<'a, I: Texts> Iterator for Iter<'a, I> {
     type Item = (Symbol, &'a str);
 
     fn next(&mut self) -> Option<(Symbol, &'a str)> {
@@ -339,7 +362,7 @@ impl<'a> Iterator for Iter<'a> {
         }
         let symbol = Symbol::from_index(self.next)?;
         self.next += 1;
-        Some((symbol, self.interner.resolve(symbol)?))
+        Some((symbol, self.interner.text(symbol)?))
     }
 
     fn size_hint(&self) -> (usize, Option<usize>) {
@@ -347,7 +370,7 @@ impl<'a> Iterator for Iter<'a> {
     }
 }
 
-impl ExactSizeIterator for Iter<'_> {}
+impl<I: Texts> ExactSizeIterator for Iter<'_, I> {}
 
 /// Returns the symbol of each text: equal texts have equal symbols, from 0 on in the order of first texts.
 ///

@@ -1,3 +1,5 @@
 mod AsBox
+mod AsSharedBox
 mod CodeLemmas
+mod SharedLemmas
 mod TextLemmas

@@ -29,7 +29,7 @@ found_alone names text i one_to_one there =
         omega (arith, one_to_one k i text there_too there, lt))
 
 -- a text that is at no place is not found
-found_never : (names : List (List ℕ)) (text : List ℕ) → ((i : ℕ) → slice_get names i ≡ Some text → ⊥) → position (bytes_eq text) names ≡ None
+pub found_never : (names : List (List ℕ)) (text : List ℕ) → ((i : ℕ) → slice_get names i ≡ Some text → ⊥) → position (bytes_eq text) names ≡ None
 found_never names text never =
     let last : position_or_len (bytes_eq text) names ≡ length names = position_or_len_is (bytes_eq text) names (length names) [] (omega arith) none_passes (λ lt. absurd (omega arith)) in
     grind (arith, common_steps, last)

@@ -6,7 +6,7 @@ use Rattle.std.specs.Option.{option_map}
 use mathlib.Core.List.{IsPrefix}
 use Rattle.elsa_interner.specs.Names.{IsFull, Puts}
 use Rattle.elsa_c.specs.declared.fault.Fault.{Fault}
-use Rattle.elsa_c.specs.declared.fault.Fault.TheVariants.{Memory, NotUtf8, EndsOutOfOrder, Full, TooFewCodes}
+use Rattle.elsa_c.specs.declared.fault.Fault.TheVariants.{Memory, NotUtf8, EndsOutOfOrder, Full, TooFewCodes, Busy, NoNames}
 
 -- Where text i of a block begins: at the end of the text before it, and the first text at 0.
 abbrev pub start_of : List ℕ → ℕ → ℕ
@@ -43,6 +43,8 @@ fault_code NotUtf8 = 2
 fault_code EndsOutOfOrder = 3
 fault_code Full = 4
 fault_code TooFewCodes = 5
+fault_code Busy = 6
+fault_code NoNames = 7
 
 -- The number that C has for how a call ended: 0 is success.
 abbrev pub status_code : Option Fault → ℕ
@@ -56,6 +58,8 @@ IsNoText bytes start end EndsOutOfOrder = (end < start) ⊎ (length bytes < end)
 IsNoText bytes start end Memory = ⊥
 IsNoText bytes start end Full = ⊥
 IsNoText bytes start end TooFewCodes = ⊥
+IsNoText bytes start end Busy = ⊥
+IsNoText bytes start end NoNames = ⊥
 
 -- Why a text did not get a number: it is new.
 abbrev pub IsRefused : List (List ℕ) → List ℕ → Fault → Type 0
@@ -64,6 +68,8 @@ IsRefused names text Full = (position (bytes_eq text) names ≡ None) × IsFull 
 IsRefused names text NotUtf8 = ⊥
 IsRefused names text EndsOutOfOrder = ⊥
 IsRefused names text TooFewCodes = ⊥
+IsRefused names text Busy = ⊥
+IsRefused names text NoNames = ⊥
 
 -- The call ended after `count` texts: after all of them, or at the first that is no text or did not get a number. With
 -- too few codes it ended before the first.

@@ -15,6 +15,10 @@ pub enum Fault {
     Full,
     /// The array of codes has fewer elements than there are texts, so no text was coded.
     TooFewCodes,
+    /// Another thread adds a text, and the call does not wait for it: call again.
+    Busy,
+    /// The handle has no names: it is zeroed, or was freed.
+    NoNames,
 }
 
 impl Fault {
@@ -28,6 +32,8 @@ impl Fault {
             Fault::EndsOutOfOrder => 3,
             Fault::Full => 4,
             Fault::TooFewCodes => 5,
+            Fault::Busy => 6,
+            Fault::NoNames => 7,
         }
     }
 }

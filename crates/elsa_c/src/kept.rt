@@ -12,6 +12,17 @@ use std::alloc::Global;
 use std::marker::Model;
 use std::ptr::{from_ref, null};
 
+/// Returns the address and the length of a text. The address of an empty text is null.
+pub fn address_of(text: &str) -> (*const u8, usize)
+    ensures length { result.1 ≡ length text.now }
+{
+    let bytes = text.as_bytes();
+    let Some(first) = bytes.first() else {
+        return (null(), 0);
+    };
+    (from_ref(first), bytes.len())
+}
+
 /// The names of a dictionary. A handle of C points to it.
 #[derive(Drop)]
 pub struct Kept {
@@ -81,11 +92,7 @@ impl Kept {
         let Some(text) = self.names.at(number) else {
             return None;
         };
-        let bytes = text.as_bytes();
-        let Some(first) = bytes.first() else {
-            return Some((null(), 0));
-        };
-        Some((from_ref(first), bytes.len()))
+        Some(address_of(text))
     }
 
     /// Returns the number of texts.

@@ -1,0 +1,86 @@
+-- `none` moves two fields, and what they own goes with them.
+use Rattle.std.proofs.Common.{None, refl, sym, subst}
+use lib.Dec.{T}
+use mathlib.Core.List.{List, [], ◌∷◌, ◌++◌}
+use seplogic.Ra.Ura.{Ura}
+use mir.Val.{Val, vstruct, vcons, vnil, has_ty, WT}
+use base.Logic.{SProp, ent, emp, id⊢}
+use base.Fml.{ftrue, fsep}
+use prog.Memory.{Memory}
+use prog.Routine.{Routine}
+use prog.Wp.{WpFn, Tables}
+use types.Logic.{Logic}
+use contract.Monad.{Fun}
+use contract.Running.{tables, tables_of}
+use sound.WpLaws.{WpFn-mono}
+use types.Kit.{Item, ‵, raw, feq_i, feq_l, fpack, ◌⊛◌, ◌$◌, ◌∵◌, !, qed, by, move, drop, use1, join, split, fsplit, fjoin, suffices, done}
+use types.Part.{agg}
+use types.Run.{no_more, and_then, returns, enter}
+use types.ByLocal.{alloc_all, pass_all, free_all, look_at, get, sets}
+use denote.Exit.{yes}
+use denote.Signature.{type_at, plain}
+use denote.Steps.{nothing}
+use denote.RattleType.{RattleType, Valss}
+use denote.Param.{layout}
+use denote.Builtin.{RawPtr}
+use denote.RawPtr.{Ptr, block_ptr, null_ptr, ptr_val}
+use denote.Struct.Struct.{within}
+use denote.Struct.Owning.{shape, to}
+use Rattle.core.proofs.alloc.Calls.{handle_tells}
+use Rattle.core.proofs.cell.Inside.{Good}
+use Rattle.std_alloc.proofs.ResultValues.{and_tt}
+use Rattle.core.proofs.atomic.Steps.{Ptr-Good}
+use denote.Triple.Spec.{triple_of}
+use denote.Triple.Table.{entered}
+use denote.Triple.Walked.{says, Stays, stay_dropped, walk_of, ends_at, Goes-dropped, walk_Meets}
+use Rattle.elsa_c.specs.contracts.shared_handle.SharedHandle as handle
+use Rattle.std_alloc.proofs.BoxSteps.Form.{box_ty}
+use Rattle.elsa_c.proofs.AsSharedBox.{E}
+use Rattle.elsa_c.specs.contracts.shared_handle.SharedHandle.none as F
+use Rattle.elsa_c.specs.contracts.shared_handle.SharedHandle.none.Key.{name as #self}
+use Rattle.elsa_c.proofs.shared_handle.SharedHandle.none.Statement as stated
+use Rattle.elsa_c.proofs.shared_handle.SharedHandle.none.Code as code
+
+abbrev Z : RattleType
+Z = E.al.row
+
+abbrev stayed : Stays (F.ended).signature.params (F.ended).kept
+stayed = (stay_dropped (plain (λ _. RawPtr)) yes, (stay_dropped (plain (λ _. Z)) yes, tt))
+
+abbrev both : Ptr → Val → Val
+both p h = vstruct (vcons (ptr_val p) (vcons h vnil))
+
+typed : (p : Ptr) (h : Val) → Good (layout Z) h → T (has_ty (box_ty E) (both p h)) × WT (both p h)
+typed (block_ptr b o) h fits = (and_tt (has_ty (layout Z) h) fits.0, (tt, (fits.1, tt)))
+typed null_ptr h fits = (and_tt (has_ty (layout Z) h) fits.0, ((Ptr-Good null_ptr).1, (fits.1, tt)))
+
+module _ {M : Type 1} {𝓤 : Ura M} (𝓛 : Logic 𝓤) (at_mem : Memory → SProp 𝓤) (run : Routine → Fun 𝓤) (𝓣 : Tables 𝓤 𝓛.H) where
+  open 𝓛 use {H}
+
+  walk : (z : (walk_of 𝓛 F.ended stayed (F.clauses 𝓛 at_mem run)).Ghost)
+      → ent 𝓤 ((walk_of 𝓛 F.ended stayed (F.clauses 𝓛 at_mem run)).pre z) (WpFn 𝓤 H 𝓣.C 𝓣.Λ code.function (z.0.4.0 ++ (z.0.4.1.0 ++ [])) ((walk_of 𝓛 F.ended stayed (F.clauses 𝓛 at_mem run)).post z))
+  walk z =
+      let Post = (walk_of 𝓛 F.ended stayed (F.clauses 𝓛 at_mem run)).post z in
+      let p = z.0.3.0 in let a = z.0.3.1.0 in
+      let To = type_at (F.signature).result tt in
+      let made : To.Denot = record { ptr = p; alloc = a; value = None } in
+      qed 𝓛 ((‵ ftrue ⊛ ‵ (fsep (RawPtr.own_val p z.0.4.0) (fsep (Z.own_val a z.0.4.1.0) ftrue))) ∷ raw (emp 𝓤) ∷ []) ∵ split ! $ drop ! $ fsplit ! $ feq_l ! (λ ep. fsplit ! $ handle_tells E.al ! a z.0.4.1.0 (λ h ea fits.
+      let w = both p h in
+      nothing ! $ nothing ! $ move ! (2 ∷ 0 ∷ []) $ fjoin ! $ feq_i ! (List Val) (ptr_val p ∷ []) (ptr_val p ∷ []) refl $ fjoin ! $ feq_i ! (List Val) (w ∷ []) (w ∷ []) refl $ fjoin ! $
+      fpack ! (Valss (RawPtr ∷ Z ∷ [])) (within (shape handle.the_type) (to handle.the_type made) (w ∷ [])) (ptr_val p ∷ [], (h ∷ [], tt)) $ fjoin ! $
+      use1 𝓛 (‵ (To.own_val made (w ∷ []))) (id⊢ 𝓤 _) $ move ! (1 ∷ 2 ∷ []) $ drop ! $ drop ! $
+      let Γ : List (Item 𝓤) = ‵ (To.own_val made (w ∷ [])) ∷ [] in
+      by ! (subst (λ (us : List Val). ent 𝓤 (types.Kit.⋆ 𝓛 Γ) (WpFn 𝓤 H 𝓣.C 𝓣.Λ code.function (us ++ (z.0.4.1.0 ++ [])) Post)) (sym ep)
+      (subst (λ (us : List Val). ent 𝓤 (types.Kit.⋆ 𝓛 Γ) (WpFn 𝓤 H 𝓣.C 𝓣.Λ code.function (ptr_val p ∷ (us ++ [])) Post)) (sym ea)
+      (qed 𝓛 Γ ∵ enter ! 𝓣.C 𝓣.Λ code.function (ptr_val p ∷ h ∷ []) _ $ alloc_all ! (λ ls. pass_all ! refl (Ptr-Good p, (fits, tt)) $
+      sets ! (agg ! (and_then ! (get ! refl) (and_then ! (get ! refl) (no_more !)))) refl (typed p h fits) $ returns ! (look_at ! 0 refl) $ free_all ! refl $
+      suffices ! _ (ends_at 𝓛 F.ended stayed (F.clauses 𝓛 at_mem run) z w made (tt, (tt, tt)) (tt, (tt, tt))) $ says ! refl $
+      nothing ! $ nothing ! $ fjoin ! $ nothing ! $ fjoin ! $ join ! $ nothing ! $ join ! $ done !))))))
+
+pub none_spec : {M : Type 1} → stated.statement M
+unfolding tables_of
+none_spec 𝓤 𝓛 𝓜 𝓡 wired =
+    let 𝓣 : Tables 𝓤 𝓛.H = tables_of 𝓤 𝓛.H 𝓜 (tables 𝓤 𝓛.H 𝓜 𝓡 𝓡.env) in
+    entered 𝓤 𝓛.H (triple_of 𝓛 F.signature (F.spec 𝓛 𝓜.mem 𝓡.returns)) 𝓣.C 𝓣.Λ #self code.function (code.unfolded 𝓤 𝓛.H 𝓜 𝓡 wired)
+    (walk_Meets 𝓛 F.ended stayed (Goes-dropped 𝓛 0 (plain (λ _. RawPtr)) yes (λ κs x f. refl), (Goes-dropped 𝓛 0 (plain (λ _. Z)) yes (λ κs x f. refl), tt)) (F.clauses 𝓛 𝓜.mem 𝓡.returns) (WpFn 𝓤 𝓛.H 𝓣.C 𝓣.Λ code.function) (WpFn-mono 𝓤 𝓛.H 𝓛.laws 𝓣 code.function)
+    (walk 𝓛 𝓜.mem 𝓡.returns 𝓣))
