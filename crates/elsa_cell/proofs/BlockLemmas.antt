@@ -3,11 +3,19 @@ use Rattle.std.proofs.Common.{◌≡◌, ℕ, zero, suc, ◌+◌, ◌-◌, ◌<�
 use Rattle.std.proofs.lemmas.Bool.{cases_lt}
 use Rattle.std.proofs.lemmas.List.{length-append, length-drop, length-set, length-take-le, take-append-drop, take-set, take_all, take_more}
 use Rattle.std.proofs.lemmas.List.Concat.{flat_map-append, get_or-flat_map}
-use Rattle.std.proofs.lemmas.List.Edits.{insert-append_left, insert-append_right}
+use Rattle.std.proofs.lemmas.List.Edits.{insert-append_left, insert-append_right, length-insert}
 use Rattle.std.proofs.lemmas.List.Folds.{length-flat_map-take}
 use Rattle.std.proofs.lemmas.Option.{none-some, same_Some, slice_get_within, slice_get-get_or, get_or_from_slice_get}
 use Rattle.std.specs.List.{AllByRecursion, flat_map, insert}
-use Rattle.elsa_cell.specs.Ordered.{IsFilled, IsWalkAt, joined, rank_of}
+use Rattle.std.specs.declared.cmp.Ordering.{Ordering}
+use Rattle.std.specs.Cmp.{IsTotalOrder}
+use Rattle.elsa_cell.specs.Ordered.{IsBlockGap, IsFilled, IsGap, IsOrdered, IsTableFor, IsWalkAt, joined, rank_of}
+use Rattle.elsa_cell.proofs.OrderLemmas.{counted, ordered_none, ordered_put}
+
+-- A number that equals one which is not 0.
+pub positive : (n m : ℕ) → n ≡ m → (n ≡ 0 → ⊥) → 0 < m
+positive n zero e some = absurd (some e)
+positive n (suc m) e some = omega arith
 
 module _ {B : Type 0} (of : B → List ℕ) where
   -- A block is within the table.
@@ -26,6 +34,12 @@ module _ {B : Type 0} (of : B → List ℕ) where
       let fits = rank_fits blocks at b there in
       let sum : rank_of of blocks at + place < length (joined of blocks) = omega (arith, low, fits) in
       slice_get-get_or (joined of blocks) (rank_of of blocks at + place) i sum ∙ ap Some (get_or-flat_map of blocks at place b i lt inside ∙ (ap (λ x. get_or (of x) place i) same ∙ get_or_from_slice_get (of b) place i i here))
+
+  -- A block's first index has the block's rank.
+  pub first_joined : (blocks : List B) (at : ℕ) (b : B) (i : ℕ) → slice_get blocks at ≡ Some b → slice_get (of b) 0 ≡ Some i → slice_get (joined of blocks) (rank_of of blocks at) ≡ Some i
+  first_joined blocks at b i there here =
+      let e : rank_of of blocks at + 0 ≡ rank_of of blocks at = omega arith in
+      subst (λ r. slice_get (joined of blocks) r ≡ Some i) e (get_joined blocks at b 0 i there here)
 
   -- The next block begins after a block's last index.
   pub rank_next : (blocks : List B) (at : ℕ) (b : B) → slice_get blocks at ≡ Some b → rank_of of blocks (at + 1) ≡ rank_of of blocks at + length (of b)
@@ -197,3 +211,50 @@ module _ {B : Type 0} (of : B → List ℕ) where
           | inr all ↦ absurd (let e = rank_all blocks (at + 1) all in let q : ⊥ = omega (arith, e, next, c, end, more, some) in q)
         ];
       }
+
+-- An insertion into a block that has room.
+pub table_put : {K B : Type 0} (of : B → List ℕ) (cmp : K → K → Ordering) (total : IsTotalOrder cmp) (blocks : List B) (count : ℕ) (keys : List K) (key : K) (end : ℕ × ℕ) (b new : B) → IsTableFor of cmp blocks count keys → IsBlockGap of (cmp key) blocks keys end
+    → slice_get blocks end.0 ≡ Some b → end.1 ≤ length (of b) → of new ≡ insert (of b) end.1 count → IsTableFor of cmp (set blocks end.0 new) (count + 1) (keys ++ key ∷ [])
+table_put of cmp total blocks count keys key end b new t g there le is =
+    let order = joined of blocks in
+    let size = counted cmp order keys t.ordered in
+    let number : length order ≡ count = size ∙ sym t.counted in
+    let put = joined_insert of blocks end.0 b new end.1 count there le is ∙ ap (insert order (rank_of of blocks end.0 + end.1)) (sym number) in
+    let long = ap length is ∙ length-insert (of b) end.1 count le in
+    record {
+      ordered = subst (λ l. IsOrdered cmp l (keys ++ key ∷ [])) (sym put) (ordered_put cmp total order keys key (rank_of of blocks end.0 + end.1) t.ordered g.gap);
+      filled = filled_replaced of blocks end.0 b new there (λ _. omega (arith, long)) t.filled;
+      counted = (let l = length-append keys (key ∷ []) in let c = t.counted in omega (arith, l, c));
+    }
+
+-- The table of no blocks, and with a first block without indices.
+pub table_none : {K B : Type 0} (of : B → List ℕ) (cmp : K → K → Ordering) → IsTableFor of cmp [] 0 []
+table_none of cmp = record { ordered = ordered_none cmp; filled = λ lt. absurd (let q : ⊥ = omega (arith, lt) in q); counted = refl }
+
+pub gap_first : {K B : Type 0} (of : B → List ℕ) (against : K → Ordering) (blocks new : List B) (keys : List K) (end : ℕ × ℕ) (b : B) → IsBlockGap of against blocks keys end → blocks ≡ [] → new ≡ b ∷ [] → of b ≡ [] → IsBlockGap of against new keys (0, 0)
+gap_first of against blocks new keys end b g none is empty =
+    let old : joined of blocks ≡ [] = ap (joined of) none in
+    let now : joined of new ≡ [] = ap (joined of) is ∙ ap (λ l. l ++ []) empty in
+    let low = g.gap.within in
+    let zero_long = ap length old in
+    let at : rank_of of blocks end.0 + end.1 ≡ 0 = omega (arith, low, zero_long) in
+    let first : slice_get new 0 ≡ Some b = ap (λ l. slice_get l 0) is in
+    record {
+      gap = subst (λ n. IsGap against (joined of new) keys n) at (subst (λ l. IsGap against l keys (rank_of of blocks end.0 + end.1)) (old ∙ sym now) g.gap);
+      there = λ _. (b, first, omega arith);
+    }
+
+-- A table whose joined indices are those of another.
+pub table_same : {K B : Type 0} (of : B → List ℕ) (cmp : K → K → Ordering) (blocks new : List B) (count number : ℕ) (keys : List K) → joined of new ≡ joined of blocks → (IsFilled of blocks → IsFilled of new) → number ≡ count → IsTableFor of cmp blocks count keys → IsTableFor of cmp new number keys
+table_same of cmp blocks new count number keys same filled n t = record {
+  ordered = subst (λ l. IsOrdered cmp l keys) (sym same) t.ordered;
+  filled = filled t.filled;
+  counted = n ∙ t.counted;
+}
+
+pub gap_same : {K B : Type 0} (of : B → List ℕ) (against : K → Ordering) (blocks new : List B) (keys : List K) (end to : ℕ × ℕ) (b : B) → IsBlockGap of against blocks keys end → joined of new ≡ joined of blocks → rank_of of new to.0 + to.1 ≡ rank_of of blocks end.0 + end.1 → slice_get new to.0 ≡ Some b → to.1 ≤ length (of b)
+    → IsBlockGap of against new keys to
+gap_same of against blocks new keys end to b g same rank there le = record {
+  gap = subst (λ n. IsGap against (joined of new) keys n) (sym rank) (subst (λ l. IsGap against l keys (rank_of of blocks end.0 + end.1)) (sym same) g.gap);
+  there = λ _. (b, there, le);
+}

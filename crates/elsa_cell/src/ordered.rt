@@ -146,7 +146,8 @@ fn block_of<K: Ord, Q: OrderQuery<K>, L: KeyList<K>, A: Allocator>(
         let index = blocks[middle][0] as usize;
         match query.compare(keys.key_at(index)) {
             Ordering::Less => high = middle,
-            Ordering::Greater | Ordering::Equal => low = middle,
+            Ordering::Greater => low = middle,
+            Ordering::Equal => low = middle,
         }
     }
     low
@@ -210,7 +211,10 @@ fn cut_of(place: usize, is_last: bool) -> usize
 
 impl<A: Allocator + Copy> Ordered<A> {
     /// Makes a table without indices. It allocates nothing.
-    pub(crate) fn new(alloc: A) -> Ordered<A> {
+    pub(crate) fn new(alloc: A) -> Ordered<A>
+        ensures empty { result.blocks.items ≡ [] }
+        ensures count { result.count ≡ 0 }
+    {
         Ordered {
             blocks: Vec::new(alloc),
             count: 0,
@@ -431,6 +435,20 @@ impl<'h, 'm, K, V, A: Allocator + Copy> Model for Ascending<'h, 'm, K, V, A> {
         × ((r i : ℕ) → slice_get (joined vec_items it.blocks.now) r ≡ Some i → i < length it.observed.seen) };
 }
 
+/// Returns the place after `place` of the block `at`, which has `len` places. It is in the next
+/// block after the last one.
+fn next_place(at: usize, place: usize, len: usize) -> (usize, usize)
+    requires place { place < len }
+    requires fits { at + 1 < 2 ^ 64 }
+    ensures within { place + 1 < len → result ≡ (at, place + 1) }
+    ensures past { place + 1 ≡ len → result ≡ (at + 1, 0) }
+{
+    if place + 1 < len {
+        return (at, place + 1);
+    }
+    (at + 1, 0)
+}
+
 impl<'h, 'm, K, V, A: Allocator + Copy> Iterator for Ascending<'h, 'm, K, V, A> {
     type Item = &'m Entry<K, V>;
 
@@ -443,14 +461,12 @@ impl<'h, 'm, K, V, A: Allocator + Copy> Iterator for Ascending<'h, 'm, K, V, A> 
             return None;
         }
         let block = self.blocks[self.at].as_slice();
-        let index = block[self.next] as usize;
+        let entry = self.observed.item(block[self.next] as usize);
+        let (at, next) = next_place(self.at, self.next, block.len());
+        self.at = at;
+        self.next = next;
         self.left -= 1;
-        self.next += 1;
-        if self.next == block.len() {
-            self.at += 1;
-            self.next = 0;
-        }
-        Some(self.observed.item(index))
+        Some(entry)
     }
 
     fn size_hint(&self) -> (usize, Option<usize>) {

@@ -1,5 +1,5 @@
 use Rattle.std.proofs.Common.{◌≡◌, ◌+◌, ◌-◌, ◌<◌, ◌≤◌, ◌++◌, drop, get_or, length, set, take, vec_items, vec_capacity, arith, ap, sym, ◌∙◌}
-use Rattle.std.proofs.lemmas.List.{take_rest}
+use Rattle.std.proofs.lemmas.List.{length-drop, length-take-le, take_rest}
 use Rattle.std.proofs.lemmas.Option.{get_or_from_slice_get}
 use Rattle.std.specs.List.{insert}
 use Rattle.elsa_cell.proofs.BlockLemmas.{is_split}
@@ -16,7 +16,7 @@ returns-then-place-cut-clause-same g c =
     let size = c.requires.there.2 in
     let some = c.cut_of-cut.ensures.0 in let less = c.cut_of-cut.ensures.1 in
     let is = c.in-Ok-insert.ensures.items ∙ ap (λ l. insert (set l c.args.at c.truncate.new.self) (c.args.at + 1) c.extend_from_slice.new.self) reserved in
-    let s = is_split vec_items blocks c.insert.new.self.items c.args.at cut b c.truncate.new.self c.extend_from_slice.new.self there is head tail some (omega (arith, less, size.0)) in
+    let s = is_split vec_items blocks c.insert.new.self.items c.args.at cut b c.truncate.new.self c.extend_from_slice.new.self there is head tail some (omega (arith, less, size)) in
     s.same
 
 pub returns-then-place-cut-clause-filled : goal.returns-then-place-cut-clause-filled
@@ -30,7 +30,7 @@ returns-then-place-cut-clause-filled g c =
     let size = c.requires.there.2 in
     let some = c.cut_of-cut.ensures.0 in let less = c.cut_of-cut.ensures.1 in
     let is = c.in-Ok-insert.ensures.items ∙ ap (λ l. insert (set l c.args.at c.truncate.new.self) (c.args.at + 1) c.extend_from_slice.new.self) reserved in
-    let s = is_split vec_items blocks c.insert.new.self.items c.args.at cut b c.truncate.new.self c.extend_from_slice.new.self there is head tail some (omega (arith, less, size.0)) in
+    let s = is_split vec_items blocks c.insert.new.self.items c.args.at cut b c.truncate.new.self c.extend_from_slice.new.self there is head tail some (omega (arith, less, size)) in
     s.filled
 
 pub returns-then-place-cut-clause-room : goal.returns-then-place-cut-clause-room
@@ -44,8 +44,10 @@ returns-then-place-cut-clause-room g c =
     let size = c.requires.there.2 in
     let some = c.cut_of-cut.ensures.0 in let less = c.cut_of-cut.ensures.1 in
     let is = c.in-Ok-insert.ensures.items ∙ ap (λ l. insert (set l c.args.at c.truncate.new.self) (c.args.at + 1) c.extend_from_slice.new.self) reserved in
-    let s = is_split vec_items blocks c.insert.new.self.items c.args.at cut b c.truncate.new.self c.extend_from_slice.new.self there is head tail some (omega (arith, less, size.0)) in
-    (let q : ⊥ = (b.ok, size) in absurd q)
+    let s = is_split vec_items blocks c.insert.new.self.items c.args.at cut b c.truncate.new.self c.extend_from_slice.new.self there is head tail some (omega (arith, less, size)) in
+    let long = ap length head ∙ length-take-le cut b.items (omega (arith, less, size)) in
+    let whole = c.truncate.ensures.capacity ∙ ap vec_capacity same in let fits = b.ok.0 in let block = b.ok.1 in
+    ((c.truncate.new.self, s.first, omega (arith, long, c.if-place-cut.true), omega (arith, long, whole, fits, block, size, less)), ap (λ n. n + c.args.place) s.rank)
 
 pub returns-clause-same : goal.returns-clause-same
 returns-clause-same g c =
@@ -58,7 +60,7 @@ returns-clause-same g c =
     let size = c.requires.there.2 in
     let some = c.cut_of-cut.ensures.0 in let less = c.cut_of-cut.ensures.1 in
     let is = c.in-Ok-insert.ensures.items ∙ ap (λ l. insert (set l c.args.at c.truncate.new.self) (c.args.at + 1) c.extend_from_slice.new.self) reserved in
-    let s = is_split vec_items blocks c.insert.new.self.items c.args.at cut b c.truncate.new.self c.extend_from_slice.new.self there is head tail some (omega (arith, less, size.0)) in
+    let s = is_split vec_items blocks c.insert.new.self.items c.args.at cut b c.truncate.new.self c.extend_from_slice.new.self there is head tail some (omega (arith, less, size)) in
     s.same
 
 pub returns-clause-filled : goal.returns-clause-filled
@@ -72,7 +74,7 @@ returns-clause-filled g c =
     let size = c.requires.there.2 in
     let some = c.cut_of-cut.ensures.0 in let less = c.cut_of-cut.ensures.1 in
     let is = c.in-Ok-insert.ensures.items ∙ ap (λ l. insert (set l c.args.at c.truncate.new.self) (c.args.at + 1) c.extend_from_slice.new.self) reserved in
-    let s = is_split vec_items blocks c.insert.new.self.items c.args.at cut b c.truncate.new.self c.extend_from_slice.new.self there is head tail some (omega (arith, less, size.0)) in
+    let s = is_split vec_items blocks c.insert.new.self.items c.args.at cut b c.truncate.new.self c.extend_from_slice.new.self there is head tail some (omega (arith, less, size)) in
     s.filled
 
 pub returns-clause-room : goal.returns-clause-room
@@ -86,5 +88,9 @@ returns-clause-room g c =
     let size = c.requires.there.2 in
     let some = c.cut_of-cut.ensures.0 in let less = c.cut_of-cut.ensures.1 in
     let is = c.in-Ok-insert.ensures.items ∙ ap (λ l. insert (set l c.args.at c.truncate.new.self) (c.args.at + 1) c.extend_from_slice.new.self) reserved in
-    let s = is_split vec_items blocks c.insert.new.self.items c.args.at cut b c.truncate.new.self c.extend_from_slice.new.self there is head tail some (omega (arith, less, size.0)) in
-    (let q : ⊥ = (b.ok, size) in absurd q)
+    let s = is_split vec_items blocks c.insert.new.self.items c.args.at cut b c.truncate.new.self c.extend_from_slice.new.self there is head tail some (omega (arith, less, size)) in
+    let long = ap length head ∙ length-take-le cut b.items (omega (arith, less, size)) in
+    let whole = c.truncate.ensures.capacity ∙ ap vec_capacity same in let fits = b.ok.0 in let block = b.ok.1 in
+    let left = ap length tail ∙ length-drop cut b.items in let past = c.if-place-cut.false in let most = c.requires.there.3 in
+    let first = c.in_ok-tail.ensures.capacity in let kept = c.in-Ok.ensures.capacity in let next = s.next in
+    ((c.extend_from_slice.new.self, s.second, omega (arith, left, size, most, past), omega (arith, left, size, some, first, kept)), omega (arith, next, long, past))
