@@ -111,7 +111,7 @@ module _ {B : Type 0} (of : B → List ℕ) where
       let past : length (of x) ≤ rank_of of (x ∷ xs) (suc at) + place = omega (arith, long) in
       let left : rank_of of xs at + place ≡ rank_of of (x ∷ xs) (suc at) + place - length (of x) = omega (arith, long) in
       ap (λ l. of x ++ l) (joined_insert xs at b new place y there le e ∙ ap (λ k. insert (joined of xs) k y) left)
-          ∙ sym (insert-append_right (of x) (joined of xs) (length (of x)) (rank_of of (x ∷ xs) (suc at) + place) y refl past)
+      ∙ sym (insert-append_right (of x) (joined of xs) (length (of x)) (rank_of of (x ∷ xs) (suc at) + place) y refl past)
 
   -- A block that is split in two.
   pub joined_split : (blocks : List B) (at : ℕ) (b head tail : B) → slice_get blocks at ≡ Some b → of head ++ of tail ≡ of b → joined of (insert (set blocks at head) (suc at) tail) ≡ joined of blocks

@@ -123,7 +123,8 @@ impl<U: Ord, A: Allocator> OrderQuery<Vec<U, A>> for &[U] {
     }
 }
 
-/// The greatest number of indices in a block.
+/// The greatest number of indices in a block. Smaller blocks move fewer indices in an insertion,
+/// and more blocks in a split. With 256, both are some 500 bytes at a million keys.
 const FULL: usize = 256;
 
 /// Returns the last block whose first key is not greater than the query's, or 0 if there is none.
@@ -146,6 +147,7 @@ fn block_of<K: Ord, Q: OrderQuery<K>, L: KeyList<K>, A: Allocator>(
         let index = blocks[middle][0] as usize;
         match query.compare(keys.key_at(index)) {
             Ordering::Less => high = middle,
+            // A key that equals the query is found in its block.
             Ordering::Greater => low = middle,
             Ordering::Equal => low = middle,
         }
@@ -186,20 +188,23 @@ fn search<K: Ord, Q: OrderQuery<K>, L: KeyList<K>, A: Allocator>(
 }
 
 /// A table that has the index of each key of a map in the ascending order of the keys, 4 bytes for
-/// each, in blocks: the table of a [`FrozenBTreeMap`].
+/// each, in blocks of at most 256: the table of a [`FrozenBTreeMap`].
 #[derive(Drop)]
 pub struct Ordered<A: Allocator + Copy> {
-    /// The indices. If there are several blocks, none is empty.
+    // The indices of all blocks, one block after the other, are those of ascending keys. If there
+    // are several blocks, none is empty: the search reads the first index of each.
     pub(crate) blocks: Vec<Vec<u32, A>, A>,
-    /// The number of indices.
+    // The number of indices.
     pub(crate) count: usize,
 }
 
 /// Returns the number of indices that stay in a full block when it is split for an insertion at
-/// `place`. Keys that rise leave full blocks behind, and so do keys that fall.
+/// `place`.
 fn cut_of(place: usize, is_last: bool) -> usize
     ensures { (0 < result) × (result < 256) }
 {
+    // Ascending keys are inserted at the end of the last block, and leave full blocks behind.
+    // Descending keys are inserted at the start of the first block, and do so too.
     if place == 0 {
         1
     } else if is_last && place == FULL {
@@ -261,14 +266,18 @@ impl<A: Allocator + Copy> Ordered<A> {
         requires there { (b : _) × (slice_get self.old.blocks.items at ≡ Some b)
             × (length b.items ≡ 256) × (place ≤ 256) }
         ensures count { self.new.count ≡ self.old.count }
-        ensures same { joined vec_items self.new.blocks.items ≡ joined vec_items self.old.blocks.items }
-        ensures filled { IsFilled vec_items self.old.blocks.items → IsFilled vec_items self.new.blocks.items }
+        ensures same { joined vec_items self.new.blocks.items
+            ≡ joined vec_items self.old.blocks.items }
+        ensures filled { IsFilled vec_items self.old.blocks.items →
+            IsFilled vec_items self.new.blocks.items }
         ensures room { IfOk result (λ e. HasRoomAt vec_items vec_capacity self.new.blocks.items e
             × (rank_of vec_items self.new.blocks.items e.0 + e.1
             ≡ rank_of vec_items self.old.blocks.items at + place)) }
     {
         let mut tail = Vec::with_capacity(*self.blocks.allocator(), FULL)?;
         self.blocks.reserve(1)?;
+
+        // From here on nothing fails: both vectors have room.
         let next = at + 1;
         let cut = cut_of(place, next == self.blocks.len());
         let block = &mut self.blocks[at];
@@ -364,9 +373,10 @@ impl<K: Ord, Q: OrderQuery<K>, A: Allocator + Copy> Seeks<K, Ordered<A>> for Q {
 /// Keys need `Ord`, and two keys are equal if they compare as `Equal`. The index of an entry is its
 /// place in the order of insertion.
 ///
-/// The table is one vector of 4 bytes for each key. A look-up makes `O(log n)` comparisons; an
-/// insertion also moves the 4 bytes of each greater key, so `n` insertions in falling order move
-/// `O(n^2)` bytes.
+/// The table has 4 bytes for each key, in blocks of at most 256 keys. A look-up makes `O(log n)`
+/// comparisons. An insertion also moves at most 1 kB within a block. If the block is full, it is
+/// split in two first: this allocates 1 kB, and moves some 24 bytes for each block of greater keys.
+/// `reserve` makes room for the list of blocks, not for the blocks themselves.
 pub type FrozenBTreeMap<K, V, A = Global, R = AnyEntries> = Frozen<K, V, Ordered<A>, A, R>;
 
 /// The handle of a [`FrozenBTreeMap`].
@@ -435,8 +445,8 @@ impl<'h, 'm, K, V, A: Allocator + Copy> Model for Ascending<'h, 'm, K, V, A> {
         × ((r i : ℕ) → slice_get (joined vec_items it.blocks.now) r ≡ Some i → i < length it.observed.seen) };
 }
 
-/// Returns the place after `place` of the block `at`, which has `len` places. It is in the next
-/// block after the last one.
+/// Returns the place after `place` of the block `at`, which has `len` places: the first one of the
+/// next block after its last one.
 fn next_place(at: usize, place: usize, len: usize) -> (usize, usize)
     requires place { place < len }
     requires fits { at + 1 < 2 ^ 64 }

@@ -12,10 +12,12 @@ loop-low-init g c =
     let rank = rank_of vec_items blocks at in
     let there = slice_get_read blocks (length blocks) at v refl c.block_of-at.ensures.within c.index-blocks-at.is in
     let zero : rank ≡ rank + 0 = omega arith in
-    let all = rank_next vec_items blocks at v there ∙ ap (λ l. rank + length l) (sym c.as_slice-order.ensures.value) in
-    (omega arith, omega arith,
+    let all = rank_next vec_items blocks at v there ∙ ap (λ l. rank + length l) (sym c.as_slice-order.ensures.value) in (
+      omega arith,
+      omega arith,
       subst (λ n. IsBetween (g.Q.OrderQuery.against c.args.query) table keys n (rank + length order)) zero
-          (subst (λ n. IsBetween (g.Q.OrderQuery.against c.args.query) table keys rank n) all c.block_of-at.ensures.between))
+          (subst (λ n. IsBetween (g.Q.OrderQuery.against c.args.query) table keys rank n) all c.block_of-at.ensures.between),
+    )
 
 pub key_at-requires : goal.key_at-requires
 key_at-requires g c =
@@ -51,9 +53,12 @@ loop-low-preserved g c =
     let place = c.loop-low.low + (c.loop-low.high - c.loop-low.low) / 2 in let i = slice_index_or order place 0 in
     let small : place < length order = omega (arith, low, end) in
     let has = get_joined vec_items blocks at v place i there (subst (λ l. slice_get l place ≡ Some i) c.as_slice-order.ensures.value (slice_get-get_or order place 0 small)) in
-    let up : rank + place + 1 ≡ rank + (place + 1) = omega arith in
-    (omega (arith, low), end, subst (λ n. IsBetween (g.Q.OrderQuery.against c.args.query) table keys n (rank + c.loop-low.high)) up
-        (between_up g.K.Ord.cmp g.met.K.Ord.total (g.Q.OrderQuery.against c.args.query) (g.met.Q.OrderQuery.lower c.args.query) table keys (rank + c.loop-low.low) (rank + c.loop-low.high) (rank + place) c.key_at.result.now c.requires.ordered inv.2 (i, has, c.key_at.ensures) (sym c.in-Greater.ensures)))
+    let up : rank + place + 1 ≡ rank + (place + 1) = omega arith in (
+      omega (arith, low),
+      end,
+      subst (λ n. IsBetween (g.Q.OrderQuery.against c.args.query) table keys n (rank + c.loop-low.high)) up
+          (between_up g.K.Ord.cmp g.met.K.Ord.total (g.Q.OrderQuery.against c.args.query) (g.met.Q.OrderQuery.lower c.args.query) table keys (rank + c.loop-low.low) (rank + c.loop-low.high) (rank + place) c.key_at.result.now c.requires.ordered inv.2 (i, has, c.key_at.ensures) (sym c.in-Greater.ensures)),
+    )
 
 pub returns-clause-gap : goal.returns-clause-gap
 returns-clause-gap g c =

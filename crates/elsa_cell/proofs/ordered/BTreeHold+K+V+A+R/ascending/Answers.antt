@@ -11,9 +11,10 @@ invariant_of-result g c =
     let es = c.self.inside.state.value.list.prefix.items in let blocks = c.self.inside.state.value.table.blocks.items in let table = c.self.invariant.0.1 in
     let s = ap (λ v. v.seen) (c.self.view_is ∙ sym c.observed.ensures.same_view) in
     let same = c.as_slice.ensures.value ∙ ap (λ b. b.table.blocks.items) c.deref.ensures in
-    let left = ap (λ b. b.table.count) c.deref-2.ensures ∙ (table.counted ∙ sym (counted g.K.Ord.cmp (joined vec_items blocks) (map key_of es) table.ordered)) in
-    (subst (λ l. IsWalkAt vec_items l 0 0 c.deref-2.result.now.table.count) (sym same) (walk_first vec_items blocks c.deref-2.result.now.table.count table.filled left),
-      λ r i at. subst (λ l. i < length l) s (entries_within g.K.Ord.cmp es (joined vec_items blocks) table.ordered r i (sym (ap (λ l. slice_get (joined vec_items l) r) same) ∙ at)))
+    let left = ap (λ b. b.table.count) c.deref-2.ensures ∙ (table.counted ∙ sym (counted g.K.Ord.cmp (joined vec_items blocks) (map key_of es) table.ordered)) in (
+      subst (λ l. IsWalkAt vec_items l 0 0 c.deref-2.result.now.table.count) (sym same) (walk_first vec_items blocks c.deref-2.result.now.table.count table.filled left),
+      λ r i at. subst (λ l. i < length l) s (entries_within g.K.Ord.cmp es (joined vec_items blocks) table.ordered r i (sym (ap (λ l. slice_get (joined vec_items l) r) same) ∙ at)),
+    )
 
 pub returns : goal.returns
 returns g c =

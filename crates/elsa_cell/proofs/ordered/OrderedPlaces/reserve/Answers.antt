@@ -15,9 +15,9 @@ returns-then-is_empty-clause-room g c =
     let count = c.open.ensures.same in let few = c.if-self-ge-MOST.false in
     let below : c.open.new.self.count < 4294967295 = omega (arith, count, few) in
     IfOk-weaker c.open.result _ _ (λ e first keys key gap.
-      let empty = ap length first.3 in let room = first.4 in
-      subst (λ end. HasRoomAt vec_items vec_capacity new end × IsBlockGap vec_items (g.K.Ord.cmp key) new keys end × (c.open.new.self.count < 4294967295)) (sym first.2)
-      ((first.0, ap (λ l. slice_get l 0) first.1, omega arith, omega (arith, empty, room)), gap_first vec_items (g.K.Ord.cmp key) blocks new keys c.args.end first.0 gap none first.1 first.3, below)) c.open.ensures.first
+    let empty = ap length first.3 in let room = first.4 in
+    subst (λ end. HasRoomAt vec_items vec_capacity new end × IsBlockGap vec_items (g.K.Ord.cmp key) new keys end × (c.open.new.self.count < 4294967295)) (sym first.2)
+    ((first.0, ap (λ l. slice_get l 0) first.1, omega arith, omega (arith, empty, room)), gap_first vec_items (g.K.Ord.cmp key) blocks new keys c.args.end first.0 gap none first.1 first.3, below)) c.open.ensures.first
 
 pub index-requires : goal.index-requires
 index-requires g c =
@@ -44,7 +44,7 @@ returns-then-len-eq-FULL-clause-room g c =
     let count = c.split.ensures.count in let few = c.if-self-ge-MOST.false in
     let below : c.split.new.self.count < 4294967295 = omega (arith, count, few) in
     IfOk-weaker c.split.result _ _ (λ e room keys key gap.
-      (room.0, gap_same vec_items (g.K.Ord.cmp key) blocks new keys c.args.end e room.0.0 gap c.split.ensures.same room.1 room.0.1 room.0.2, below)) c.split.ensures.room
+    (room.0, gap_same vec_items (g.K.Ord.cmp key) blocks new keys c.args.end e room.0.0 gap c.split.ensures.same room.1 room.0.1 room.0.2, below)) c.split.ensures.room
 
 pub index_mut-requires : goal.index_mut-requires
 index_mut-requires g c =
@@ -62,7 +62,7 @@ returns-in_err-reserve-clause-stays g c keys table =
     let new = c.reserve.new.self in
     let e : new.items ≡ b.items = c.in_err-reserve.ensures.items ∙ ap vec_items same in
     table_same vec_items g.K.Ord.cmp blocks (set blocks c.args.end.0 new) c.args.self.now.count c.args.self.now.count keys (joined_same vec_items blocks c.args.end.0 b new there e)
-        (filled_replaced vec_items blocks c.args.end.0 b new there (λ some. subst (λ l. 0 < length l) (sym e) some)) refl table
+    (filled_replaced vec_items blocks c.args.end.0 b new there (λ some. subst (λ l. 0 < length l) (sym e) some)) refl table
 
 pub returns-clause-stays : goal.returns-clause-stays
 returns-clause-stays g c keys table =
@@ -73,7 +73,7 @@ returns-clause-stays g c keys table =
     let new = c.reserve.new.self in
     let e : new.items ≡ b.items = c.in_ok-reserve.ensures.items ∙ ap vec_items same in
     table_same vec_items g.K.Ord.cmp blocks (set blocks c.args.end.0 new) c.args.self.now.count c.args.self.now.count keys (joined_same vec_items blocks c.args.end.0 b new there e)
-        (filled_replaced vec_items blocks c.args.end.0 b new there (λ some. subst (λ l. 0 < length l) (sym e) some)) refl table
+    (filled_replaced vec_items blocks c.args.end.0 b new there (λ some. subst (λ l. 0 < length l) (sym e) some)) refl table
 
 pub returns-clause-room : goal.returns-clause-room
 returns-clause-room g c keys key gap =
@@ -85,8 +85,9 @@ returns-clause-room g c keys key gap =
     let e : new.items ≡ b.items = c.in_ok-reserve.ensures.items ∙ ap vec_items same in
     let long = ap length e in let room = c.in_ok-reserve.ensures.ok in let own = new.ok.0 in
     let put = get_set vec_items blocks c.args.end.0 b new there in
-    let low : c.args.end.1 ≤ length new.items = omega (arith, le, long) in
-    ((new, put, low, omega (arith, room, own)),
+    let low : c.args.end.1 ≤ length new.items = omega (arith, le, long) in (
+      (new, put, low, omega (arith, room, own)),
       gap_same vec_items (g.K.Ord.cmp key) blocks (set blocks c.args.end.0 new) keys c.args.end c.args.end new gap (joined_same vec_items blocks c.args.end.0 b new there e)
           (ap (λ n. n + c.args.end.1) (rank_set vec_items blocks c.args.end.0 new)) put low,
-      c.if-self-ge-MOST.false)
+      c.if-self-ge-MOST.false,
+    )
