@@ -136,7 +136,7 @@ module _ {K : Type 0} (cmp : K → K → Ordering) (total : IsTotalOrder cmp) (a
     above = b.above;
   }
 
-  -- The search over the first keys of blocks: it goes on from a key that is not greater.
+  -- The search over the first keys of blocks: it continues from a key that is not greater.
   pub between_greater : ((x y : K) → cmp x y ≡ Less → against y ≡ Greater → against x ≡ Greater) → (order : List ℕ) (keys : List K) (low high middle : ℕ) (key : K) → IsOrdered cmp order keys → IsBetween against order keys low high → HasAt order keys middle key
       → against key ≡ Greater → IsBetween against order keys middle high
   between_greater lower order keys low high middle key o b at greater = record {

@@ -203,8 +203,8 @@ pub struct Ordered<A: Allocator + Copy> {
 fn cut_of(place: usize, is_last: bool) -> usize
     ensures { (0 < result) × (result < 256) }
 {
-    // Ascending keys are inserted at the end of the last block, and leave full blocks behind.
-    // Descending keys are inserted at the start of the first block, and do so too.
+    // Ascending keys are inserted at the end of the last block, and descending ones at the start
+    // of the first: these splits leave full blocks.
     if place == 0 {
         1
     } else if is_last && place == FULL {

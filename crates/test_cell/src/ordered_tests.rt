@@ -285,7 +285,8 @@ fn refusals<A: Allocator + Copy>(alloc: A, order: u8, count: u64) -> Option<usiz
             Err(CellFault::InUse(_value) | CellFault::Full(_value)) => return None,
         }
     }
-    if map.len() != (count as usize).wrapping_sub(refused) || count_ascending(&map) != Some(map.len())
+    if map.len() != (count as usize).wrapping_sub(refused)
+        || count_ascending(&map) != Some(map.len())
     {
         return None;
     }
@@ -440,7 +441,10 @@ fn a_random_key_of_many_was_not_found_or_out_of_order(rt: HostRuntime) -> Result
 #[test]
 fn an_ordered_key_of_many_had_another_value(rt: HostRuntime) -> Result<(), Fail> {
     for order in [0, 1, 2] {
-        assert!(rt; each_key_has_its_value(rt.alloc(), order, 100_000)?, "{order}");
+        assert!(rt;
+            each_key_has_its_value(rt.alloc(), order, 100_000)?,
+            "{order}"
+        );
     }
     Ok(())
 }
