@@ -442,7 +442,7 @@ fn a_random_key_of_many_was_not_found_or_out_of_order(rt: HostRuntime) -> Result
 fn an_ordered_key_of_many_had_another_value(rt: HostRuntime) -> Result<(), Fail> {
     for order in [0, 1, 2] {
         assert!(rt;
-            each_key_has_its_value(rt.alloc(), order, 100_000)?,
+            each_key_has_its_value(rt.alloc(), order, 20_000)?,
             "{order}"
         );
     }
