@@ -196,6 +196,8 @@ pub struct Ordered<A: Allocator + Copy> {
     pub(crate) blocks: Vec<Vec<u32, A>, A>,
     // The number of indices.
     pub(crate) count: usize,
+    // Blocks without indices, for later splits.
+    pub(crate) spare: Vec<Vec<u32, A>, A>,
 }
 
 /// Returns the number of indices that stay in a full block when it is split for an insertion at
@@ -223,6 +225,7 @@ impl<A: Allocator + Copy> Ordered<A> {
         Ordered {
             blocks: Vec::new(alloc),
             count: 0,
+            spare: Vec::new(alloc),
         }
     }
 
@@ -246,6 +249,34 @@ impl<A: Allocator + Copy> Ordered<A> {
         block[block.len() - 1] as usize
     }
 
+    /// Returns a block without indices, with room for `room` of them: a spare one if there is one.
+    fn new_block(&mut self, room: usize) -> Result<Vec<u32, A>, AllocError>
+        ensures same { (self.new.blocks ≡ self.old.blocks) × (self.new.count ≡ self.old.count) }
+        ensures items { IfOk result (λ b. b.items ≡ []) }
+        ensures capacity { IfOk result (λ b. room ≤ vec_capacity b) }
+    {
+        let Some(mut block) = self.spare.pop() else {
+            return Vec::with_capacity(*self.blocks.allocator(), room);
+        };
+        block.clear();
+        block.reserve(room)?;
+        Ok(block)
+    }
+
+    /// Makes room for `more` spare blocks, and for as many blocks in the list.
+    fn reserve_blocks(&mut self, more: usize) -> Result<(), AllocError>
+        ensures same { (self.new.blocks.items ≡ self.old.blocks.items)
+            × (self.new.count ≡ self.old.count) }
+    {
+        self.blocks.reserve(more)?;
+        self.spare.reserve(more)?;
+        while self.spare.len() < more {
+            let block = Vec::with_capacity(*self.blocks.allocator(), FULL)?;
+            self.spare.push(block)?;
+        }
+        Ok(())
+    }
+
     /// Makes the first block, with room for an index, and returns where that goes.
     fn open(&mut self) -> Result<(usize, usize), AllocError>
         requires { self.old.blocks.items ≡ [] }
@@ -254,9 +285,8 @@ impl<A: Allocator + Copy> Ordered<A> {
         ensures first { IfOk result (λ e. (b : _) × (self.new.blocks.items ≡ b ∷ [])
             × (e ≡ (0, 0)) × (b.items ≡ []) × (0 < vec_capacity b)) }
     {
-        let mut first = Vec::new(*self.blocks.allocator());
-        first.reserve(1)?;
         self.blocks.reserve(1)?;
+        let first = self.new_block(4)?;
         self.blocks.push_reserved(first);
         Ok((0, 0))
     }
@@ -274,8 +304,8 @@ impl<A: Allocator + Copy> Ordered<A> {
             × (rank_of vec_items self.new.blocks.items e.0 + e.1
             ≡ rank_of vec_items self.old.blocks.items at + place)) }
     {
-        let mut tail = Vec::with_capacity(*self.blocks.allocator(), FULL)?;
         self.blocks.reserve(1)?;
+        let mut tail = self.new_block(FULL)?;
 
         // From here on nothing fails: both vectors have room.
         let next = at + 1;
@@ -336,7 +366,9 @@ impl<K: Ord, A: Allocator + Copy> Places<K> for Ordered<A> {
     }
 
     fn reserve_more(&mut self, more: usize) -> Result<(), AllocError> {
-        self.blocks.reserve(more / (FULL / 2) + 1)
+        // Each split but the first of a block comes after at least 64 insertions.
+        let splits = self.blocks.len().saturating_add(more / 64 + 2);
+        self.reserve_blocks(more.min(splits))
     }
 
     fn add(&mut self, end: (usize, usize)) {
@@ -376,7 +408,8 @@ impl<K: Ord, Q: OrderQuery<K>, A: Allocator + Copy> Seeks<K, Ordered<A>> for Q {
 /// The table has 4 bytes for each key, in blocks of at most 256 keys. A look-up makes `O(log n)`
 /// comparisons. An insertion also moves at most 1 kB within a block. If the block is full, it is
 /// split in two first: this allocates 1 kB, and moves some 24 bytes for each block of greater keys.
-/// `reserve` makes room for the list of blocks, not for the blocks themselves.
+/// `reserve` allocates the blocks that splits may need. Exception: while a map has one block, this
+/// block may still grow to 256 keys.
 pub type FrozenBTreeMap<K, V, A = Global, R = AnyEntries> = Frozen<K, V, Ordered<A>, A, R>;
 
 /// The handle of a [`FrozenBTreeMap`].

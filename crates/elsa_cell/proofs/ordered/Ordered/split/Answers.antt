@@ -8,7 +8,7 @@ use Rattle.elsa_cell.proofs.ordered.Ordered.split.Goals as goal
 pub returns-then-place-cut-clause-same : goal.returns-then-place-cut-clause-same
 returns-then-place-cut-clause-same g c =
     let blocks = c.args.self.now.blocks.items in let b = c.requires.there.0 in let there = c.requires.there.1 in
-    let reserved = c.in_ok-reserve.ensures.items in let cut = c.cut_of-cut.result in
+    let reserved = ap vec_items c.new_block.ensures.same.0 ∙ c.in_ok-reserve.ensures.items in let cut = c.cut_of-cut.result in
     let same : c.index_mut-block.result.now ≡ b = c.index_mut-block.ensures.value ∙ (ap (λ l. get_or l c.args.at c.index_mut-block.result.now) reserved ∙ get_or_from_slice_get blocks c.args.at b c.index_mut-block.result.now there) in
     let head : c.truncate.new.self.items ≡ take cut b.items = c.truncate.ensures.items ∙ ap (λ x. take cut (vec_items x)) same in
     let order = c.deref.result.now in
@@ -22,7 +22,7 @@ returns-then-place-cut-clause-same g c =
 pub returns-then-place-cut-clause-filled : goal.returns-then-place-cut-clause-filled
 returns-then-place-cut-clause-filled g c =
     let blocks = c.args.self.now.blocks.items in let b = c.requires.there.0 in let there = c.requires.there.1 in
-    let reserved = c.in_ok-reserve.ensures.items in let cut = c.cut_of-cut.result in
+    let reserved = ap vec_items c.new_block.ensures.same.0 ∙ c.in_ok-reserve.ensures.items in let cut = c.cut_of-cut.result in
     let same : c.index_mut-block.result.now ≡ b = c.index_mut-block.ensures.value ∙ (ap (λ l. get_or l c.args.at c.index_mut-block.result.now) reserved ∙ get_or_from_slice_get blocks c.args.at b c.index_mut-block.result.now there) in
     let head : c.truncate.new.self.items ≡ take cut b.items = c.truncate.ensures.items ∙ ap (λ x. take cut (vec_items x)) same in
     let order = c.deref.result.now in
@@ -36,7 +36,7 @@ returns-then-place-cut-clause-filled g c =
 pub returns-then-place-cut-clause-room : goal.returns-then-place-cut-clause-room
 returns-then-place-cut-clause-room g c =
     let blocks = c.args.self.now.blocks.items in let b = c.requires.there.0 in let there = c.requires.there.1 in
-    let reserved = c.in_ok-reserve.ensures.items in let cut = c.cut_of-cut.result in
+    let reserved = ap vec_items c.new_block.ensures.same.0 ∙ c.in_ok-reserve.ensures.items in let cut = c.cut_of-cut.result in
     let same : c.index_mut-block.result.now ≡ b = c.index_mut-block.ensures.value ∙ (ap (λ l. get_or l c.args.at c.index_mut-block.result.now) reserved ∙ get_or_from_slice_get blocks c.args.at b c.index_mut-block.result.now there) in
     let head : c.truncate.new.self.items ≡ take cut b.items = c.truncate.ensures.items ∙ ap (λ x. take cut (vec_items x)) same in
     let order = c.deref.result.now in
@@ -52,7 +52,7 @@ returns-then-place-cut-clause-room g c =
 pub returns-clause-same : goal.returns-clause-same
 returns-clause-same g c =
     let blocks = c.args.self.now.blocks.items in let b = c.requires.there.0 in let there = c.requires.there.1 in
-    let reserved = c.in_ok-reserve.ensures.items in let cut = c.cut_of-cut.result in
+    let reserved = ap vec_items c.new_block.ensures.same.0 ∙ c.in_ok-reserve.ensures.items in let cut = c.cut_of-cut.result in
     let same : c.index_mut-block.result.now ≡ b = c.index_mut-block.ensures.value ∙ (ap (λ l. get_or l c.args.at c.index_mut-block.result.now) reserved ∙ get_or_from_slice_get blocks c.args.at b c.index_mut-block.result.now there) in
     let head : c.truncate.new.self.items ≡ take cut b.items = c.truncate.ensures.items ∙ ap (λ x. take cut (vec_items x)) same in
     let order = c.deref.result.now in
@@ -66,7 +66,7 @@ returns-clause-same g c =
 pub returns-clause-filled : goal.returns-clause-filled
 returns-clause-filled g c =
     let blocks = c.args.self.now.blocks.items in let b = c.requires.there.0 in let there = c.requires.there.1 in
-    let reserved = c.in_ok-reserve.ensures.items in let cut = c.cut_of-cut.result in
+    let reserved = ap vec_items c.new_block.ensures.same.0 ∙ c.in_ok-reserve.ensures.items in let cut = c.cut_of-cut.result in
     let same : c.index_mut-block.result.now ≡ b = c.index_mut-block.ensures.value ∙ (ap (λ l. get_or l c.args.at c.index_mut-block.result.now) reserved ∙ get_or_from_slice_get blocks c.args.at b c.index_mut-block.result.now there) in
     let head : c.truncate.new.self.items ≡ take cut b.items = c.truncate.ensures.items ∙ ap (λ x. take cut (vec_items x)) same in
     let order = c.deref.result.now in
@@ -80,7 +80,7 @@ returns-clause-filled g c =
 pub returns-clause-room : goal.returns-clause-room
 returns-clause-room g c =
     let blocks = c.args.self.now.blocks.items in let b = c.requires.there.0 in let there = c.requires.there.1 in
-    let reserved = c.in_ok-reserve.ensures.items in let cut = c.cut_of-cut.result in
+    let reserved = ap vec_items c.new_block.ensures.same.0 ∙ c.in_ok-reserve.ensures.items in let cut = c.cut_of-cut.result in
     let same : c.index_mut-block.result.now ≡ b = c.index_mut-block.ensures.value ∙ (ap (λ l. get_or l c.args.at c.index_mut-block.result.now) reserved ∙ get_or_from_slice_get blocks c.args.at b c.index_mut-block.result.now there) in
     let head : c.truncate.new.self.items ≡ take cut b.items = c.truncate.ensures.items ∙ ap (λ x. take cut (vec_items x)) same in
     let order = c.deref.result.now in
