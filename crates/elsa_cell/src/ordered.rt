@@ -263,7 +263,7 @@ impl<A: Allocator + Copy> Ordered<A> {
         Ok(block)
     }
 
-    /// Makes room for `more` spare blocks, and for as many blocks in the list.
+    /// Makes room for `more` blocks in the list, and allocates spare ones until there are `more`.
     fn reserve_blocks(&mut self, more: usize) -> Result<(), AllocError>
         ensures same { (self.new.blocks.items ≡ self.old.blocks.items)
             × (self.new.count ≡ self.old.count) }
