@@ -1,5 +1,6 @@
 pub mod EntryLemmas
 pub mod OrderLemmas
+pub mod BlockLemmas
 pub mod WalkLemmas
 pub mod RuleLemmas
 pub mod ScanLemmas

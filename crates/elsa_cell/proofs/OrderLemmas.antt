@@ -136,6 +136,21 @@ module _ {K : Type 0} (cmp : K → K → Ordering) (total : IsTotalOrder cmp) (a
     above = b.above;
   }
 
+  -- The search over the first keys of blocks: it continues from a key that is not greater.
+  pub between_greater : ((x y : K) → cmp x y ≡ Less → against y ≡ Greater → against x ≡ Greater) → (order : List ℕ) (keys : List K) (low high middle : ℕ) (key : K) → IsOrdered cmp order keys → IsBetween against order keys low high → HasAt order keys middle key
+      → against key ≡ Greater → IsBetween against order keys middle high
+  between_greater lower order keys low high middle key o b at greater = record {
+    below = λ r x lt there. lower x key (o.ascending r middle x key lt there at) greater;
+    above = b.above;
+  }
+
+  pub between_equal : ((x y : K) → against x ≡ Equal → against y ≡ cmp x y) → (order : List ℕ) (keys : List K) (low high middle : ℕ) (key : K) → IsOrdered cmp order keys → IsBetween against order keys low high → HasAt order keys middle key
+      → against key ≡ Equal → IsBetween against order keys middle high
+  between_equal alike order keys low high middle key o b at equal = record {
+    below = λ r x lt there. alike key x equal ∙ turned_less total x key (o.ascending r middle x key lt there at);
+    above = b.above;
+  }
+
   pub between_down : ((x y : K) → cmp x y ≡ Less → against x ≡ Less → against y ≡ Less) → (order : List ℕ) (keys : List K) (low high middle : ℕ) (key : K) → IsOrdered cmp order keys → IsBetween against order keys low high → HasAt order keys middle key
       → against key ≡ Less → IsBetween against order keys low middle
   between_down higher order keys low high middle key o b at less = record {

@@ -1,8 +1,8 @@
 -- An ordered table: the indices of keys in a list, in the ascending order of the keys.
-use Rattle.std.specs.Prelude.{ℕ, ◌≡◌, ◌<◌, ◌≤◌, false, List, [], ◌∷◌, Option, None, Some, IsPermutation, length, map, slice_get}
+use Rattle.std.specs.Prelude.{ℕ, ◌≡◌, ◌+◌, ◌<◌, ◌≤◌, false, List, [], ◌∷◌, Option, None, Some, IsPermutation, length, map, slice_get, take}
 use Rattle.std.specs.declared.cmp.Ordering.{Ordering}
 use Rattle.std.specs.declared.cmp.Ordering.TheVariants.{Less, Greater}
-use Rattle.std.specs.List.{range_with_len}
+use Rattle.std.specs.List.{AllByRecursion, flat_map, range_with_len}
 use Rattle.std.specs.List.Sorted.{IsStrictlySortedBy}
 use Rattle.std.specs.Ordering.{is_gt, is_lt}
 use Rattle.elsa_cell.specs.Entries.{key_of}
@@ -37,6 +37,34 @@ module _ {K : Type 0} where
     pub within : gap ≤ length order
     pub between : IsBetween against order keys gap gap
 
+-- A table in blocks: `of` has the indices of a block.
+module _ {B : Type 0} (of : B → List ℕ) where
+  -- The indices of all blocks, in order: the table.
+  abbrev pub joined : List B → List ℕ
+  joined = flat_map of
+
+  -- The rank of the first index of the block `at`.
+  abbrev pub rank_of : List B → ℕ → ℕ
+  rank_of blocks at = length (joined (take at blocks))
+
+  -- If there are several blocks, none is empty.
+  abbrev pub IsFilled : List B → Type 0
+  IsFilled blocks = 1 < length blocks → AllByRecursion (λ b. 0 < length (of b)) blocks
+
+  -- There is a block `at`, and `place` is one of its places or its end.
+  abbrev pub HasPlace : List B → ℕ → ℕ → Type 0
+  HasPlace blocks at place = (b : B) × (slice_get blocks at ≡ Some b) × (place ≤ length (of b))
+
+  -- There is a block `at`, it has room, and `place` is one of its places or its end.
+  abbrev pub HasRoomAt : (B → ℕ) → List B → ℕ × ℕ → Type 0
+  HasRoomAt room blocks end = (b : B) × (slice_get blocks end.0 ≡ Some b) × (end.1 ≤ length (of b)) × (length (of b) < room b)
+
+  -- A walk is before the index at `place` of the block `at`, or at its end, and `left` are left.
+  pub record IsWalkAt (blocks : List B) (at place left : ℕ) : Type 0 where
+    pub filled : IsFilled blocks
+    pub counted : rank_of blocks at + place + left ≡ length (joined blocks)
+    pub there : 0 < left → (b : B) × (slice_get blocks at ≡ Some b) × (place < length (of b))
+
 -- What is at an index, if there is something, before a list.
 abbrev pub before_rest : {X : Type 0} → Option X → List X → List X
 before_rest None xs = xs
@@ -52,3 +80,15 @@ module _ {K V : Type 0} where
   pub record IsInOrder (cmp : K → K → Ordering) (entries all : List (Entry K V)) : Type 0 where
     pub same : IsPermutation entries all
     pub ascending : IsStrictlySortedBy cmp (map key_of all)
+
+module _ {K B : Type 0} (of : B → List ℕ) where
+  -- The blocks have the index of each key, in the ascending order of the keys.
+  pub record IsTableFor (cmp : K → K → Ordering) (blocks : List B) (count : ℕ) (keys : List K) : Type 0 where
+    pub ordered : IsOrdered cmp (joined of blocks) keys
+    pub filled : IsFilled of blocks
+    pub counted : count ≡ length keys
+
+  -- The search for a key ended in a block, at the place at which its index would be.
+  pub record IsBlockGap (against : K → Ordering) (blocks : List B) (keys : List K) (end : ℕ × ℕ) : Type 0 where
+    pub gap : IsGap against (joined of blocks) keys (rank_of of blocks end.0 + end.1)
+    pub there : 0 < length blocks → HasPlace of blocks end.0 end.1

@@ -1,5 +1,5 @@
 //! [`FrozenBTreeMap`]: the map whose table has the keys in their order.
-ghost use Rattle.std.specs.Prelude.{◌≡◌, ◌+◌, ◌-◌, ◌<◌, ◌^◌, ℕ, [], None, Some, IfErr, IfOk, IfSome, length, map, slice_get, vec_capacity, vec_len};
+ghost use Rattle.std.specs.Prelude.{◌≡◌, ◌+◌, ◌-◌, ◌<◌, ◌≤◌, ◌^◌, ◌∷◌, ℕ, [], List, None, Some, IfErr, IfOk, IfSome, OnErr, length, map, slice_get, vec_capacity, vec_items, vec_len};
 ghost use Rattle.std.specs.declared.cmp.Ordering.{Ordering};
 ghost use Rattle.std.specs.declared.cmp.Ordering.TheVariants.{Equal, Greater, Less};
 ghost use Rattle.std.specs.Iterator.{UpTo, YieldsFirstRef, item_count};
@@ -9,7 +9,7 @@ ghost use Rattle.std.specs.Cmp.Lexicographic.{slice_cmp};
 ghost use Rattle.std.specs.Ordering.{eq_by_cmp, is_eq, nat_cmp};
 ghost use Rattle.std.specs.String.{string_bytes};
 ghost use Rattle.std.proofs.lemmas.Cmp.{lists_total, nat_list_cmp_total};
-ghost use Rattle.elsa_cell.specs.Ordered.{IsGap, IsGreatest, IsInOrder, IsLeast, IsOrdered};
+ghost use Rattle.elsa_cell.specs.Ordered.{HasPlace, HasRoomAt, IsBetween, IsBlockGap, IsFilled, IsGreatest, IsInOrder, IsLeast, IsOrdered, IsTableFor, joined, rank_of};
 ghost use Rattle.elsa_cell.specs.Queries.{equal_alike, higher_stays, lower_stays};
 
 use crate::map::{Entry, Frozen};
@@ -123,17 +123,56 @@ impl<U: Ord, A: Allocator> OrderQuery<Vec<U, A>> for &[U] {
     }
 }
 
-/// Returns the index of the key that equals the query, or `Err` with the rank at which it would be.
-fn search<K: Ord, Q: OrderQuery<K>, L: KeyList<K>>(
-    order: &[u32],
+/// The greatest number of indices in a block. Smaller blocks move fewer indices in an insertion,
+/// and more blocks in a split. With 256, both are some 500 bytes at a million keys.
+const FULL: usize = 256;
+
+/// Returns the last block whose first key is not greater than the query's, or 0 if there is none.
+fn block_of<K: Ord, Q: OrderQuery<K>, L: KeyList<K>, A: Allocator>(
+    blocks: &[Vec<u32, A>],
     keys: &L,
     query: Q,
-) -> Result<usize, usize>
-    requires { IsOrdered K.cmp order.now (L.keys keys.now) }
+) -> usize
+    requires ordered { IsOrdered K.cmp (joined vec_items blocks.now) (L.keys keys.now) }
+    requires filled { IsFilled vec_items blocks.now }
+    requires some { 0 < length blocks.now }
+    ensures within { result < length blocks.now }
+    ensures between { IsBetween (Q.against query) (joined vec_items blocks.now) (L.keys keys.now)
+        (rank_of vec_items blocks.now result) (rank_of vec_items blocks.now (result + 1)) }
+{
+    let mut low = 0;
+    let mut high = blocks.len();
+    while 1 < high - low {
+        let middle = low + (high - low) / 2;
+        let index = blocks[middle][0] as usize;
+        match query.compare(keys.key_at(index)) {
+            Ordering::Less => high = middle,
+            // A key that equals the query is found in its block.
+            Ordering::Greater => low = middle,
+            Ordering::Equal => low = middle,
+        }
+    }
+    low
+}
+
+/// Returns the index of the key that equals the query, or `Err` with the block in which it would
+/// be, and its place in the block.
+fn search<K: Ord, Q: OrderQuery<K>, L: KeyList<K>, A: Allocator>(
+    blocks: &[Vec<u32, A>],
+    keys: &L,
+    query: Q,
+) -> Result<usize, (usize, usize)>
+    requires ordered { IsOrdered K.cmp (joined vec_items blocks.now) (L.keys keys.now) }
+    requires filled { IsFilled vec_items blocks.now }
     ensures found { IfOk result (λ i. (key : K) × (slice_get (L.keys keys.now) i ≡ Some key)
         × (Q.against query key ≡ Equal)) }
-    ensures gap { IfErr result (IsGap (Q.against query) order.now (L.keys keys.now)) }
+    ensures gap { IfErr result (IsBlockGap vec_items (Q.against query) blocks.now (L.keys keys.now)) }
 {
+    if blocks.is_empty() {
+        return Err((0, 0));
+    }
+    let at = block_of(blocks, keys, query);
+    let order = blocks[at].as_slice();
     let mut low = 0;
     let mut high = order.len();
     while low < high {
@@ -145,57 +184,201 @@ fn search<K: Ord, Q: OrderQuery<K>, L: KeyList<K>>(
             Ordering::Equal => return Ok(index),
         }
     }
-    Err(low)
+    Err((at, low))
 }
 
 /// A table that has the index of each key of a map in the ascending order of the keys, 4 bytes for
-/// each: the table of a [`FrozenBTreeMap`].
+/// each, in blocks of at most 256: the table of a [`FrozenBTreeMap`].
 #[derive(Drop)]
 pub struct Ordered<A: Allocator + Copy> {
-    pub(crate) order: Vec<u32, A>,
+    // The indices of all blocks, one block after the other, are those of ascending keys. If there
+    // are several blocks, none is empty: the search reads the first index of each.
+    pub(crate) blocks: Vec<Vec<u32, A>, A>,
+    // The number of indices.
+    pub(crate) count: usize,
+    // Blocks without indices, for later splits.
+    pub(crate) spare: Vec<Vec<u32, A>, A>,
+}
+
+/// Returns the number of indices that stay in a full block when it is split for an insertion at
+/// `place`.
+fn cut_of(place: usize, is_last: bool) -> usize
+    ensures { (0 < result) × (result < 256) }
+{
+    // Ascending keys are inserted at the end of the last block, and descending ones at the start
+    // of the first: these splits leave full blocks.
+    if place == 0 {
+        1
+    } else if is_last && place == FULL {
+        FULL - 1
+    } else {
+        FULL / 2
+    }
+}
+
+impl<A: Allocator + Copy> Ordered<A> {
+    /// Makes a table without indices. It allocates nothing.
+    pub(crate) fn new(alloc: A) -> Ordered<A>
+        ensures empty { result.blocks.items ≡ [] }
+        ensures count { result.count ≡ 0 }
+    {
+        Ordered {
+            blocks: Vec::new(alloc),
+            count: 0,
+            spare: Vec::new(alloc),
+        }
+    }
+
+    /// Returns the first index.
+    fn first(&self) -> usize
+        requires filled { IsFilled vec_items self.now.blocks.items }
+        requires some { 0 < length (joined vec_items self.now.blocks.items) }
+        ensures { slice_get (joined vec_items self.now.blocks.items) 0 ≡ Some result }
+    {
+        self.blocks[0][0] as usize
+    }
+
+    /// Returns the last index.
+    fn last(&self) -> usize
+        requires filled { IsFilled vec_items self.now.blocks.items }
+        requires some { 0 < length (joined vec_items self.now.blocks.items) }
+        ensures { (r : ℕ) × (slice_get (joined vec_items self.now.blocks.items) r ≡ Some result)
+            × (r + 1 ≡ length (joined vec_items self.now.blocks.items)) }
+    {
+        let block = self.blocks[self.blocks.len() - 1].as_slice();
+        block[block.len() - 1] as usize
+    }
+
+    /// Returns a block without indices, with room for `room` of them: a spare one if there is one.
+    fn new_block(&mut self, room: usize) -> Result<Vec<u32, A>, AllocError>
+        ensures same { (self.new.blocks ≡ self.old.blocks) × (self.new.count ≡ self.old.count) }
+        ensures items { IfOk result (λ b. b.items ≡ []) }
+        ensures capacity { IfOk result (λ b. room ≤ vec_capacity b) }
+    {
+        let Some(mut block) = self.spare.pop() else {
+            return Vec::with_capacity(*self.blocks.allocator(), room);
+        };
+        block.clear();
+        block.reserve(room)?;
+        Ok(block)
+    }
+
+    /// Makes room for `more` blocks in the list, and allocates spare ones until there are `more`.
+    fn reserve_blocks(&mut self, more: usize) -> Result<(), AllocError>
+        ensures same { (self.new.blocks.items ≡ self.old.blocks.items)
+            × (self.new.count ≡ self.old.count) }
+    {
+        self.blocks.reserve(more)?;
+        self.spare.reserve(more)?;
+        while self.spare.len() < more {
+            let block = Vec::with_capacity(*self.blocks.allocator(), FULL)?;
+            self.spare.push(block)?;
+        }
+        Ok(())
+    }
+
+    /// Makes the first block, with room for an index, and returns where that goes.
+    fn open(&mut self) -> Result<(usize, usize), AllocError>
+        requires { self.old.blocks.items ≡ [] }
+        ensures same { self.new.count ≡ self.old.count }
+        ensures err { OnErr result (self.new.blocks.items ≡ []) }
+        ensures first { IfOk result (λ e. (b : _) × (self.new.blocks.items ≡ b ∷ [])
+            × (e ≡ (0, 0)) × (b.items ≡ []) × (0 < vec_capacity b)) }
+    {
+        self.blocks.reserve(1)?;
+        let first = self.new_block(4)?;
+        self.blocks.push_reserved(first);
+        Ok((0, 0))
+    }
+
+    /// Splits the full block `at` in two, and returns where an index for `place` in it goes.
+    fn split(&mut self, at: usize, place: usize) -> Result<(usize, usize), AllocError>
+        requires there { (b : _) × (slice_get self.old.blocks.items at ≡ Some b)
+            × (length b.items ≡ 256) × (place ≤ 256) }
+        ensures count { self.new.count ≡ self.old.count }
+        ensures same { joined vec_items self.new.blocks.items
+            ≡ joined vec_items self.old.blocks.items }
+        ensures filled { IsFilled vec_items self.old.blocks.items →
+            IsFilled vec_items self.new.blocks.items }
+        ensures room { IfOk result (λ e. HasRoomAt vec_items vec_capacity self.new.blocks.items e
+            × (rank_of vec_items self.new.blocks.items e.0 + e.1
+            ≡ rank_of vec_items self.old.blocks.items at + place)) }
+    {
+        self.blocks.reserve(1)?;
+        let mut tail = self.new_block(FULL)?;
+
+        // From here on nothing fails: both vectors have room.
+        let next = at + 1;
+        let cut = cut_of(place, next == self.blocks.len());
+        let block = &mut self.blocks[at];
+        match tail.extend_from_slice(&block[cut..]) {
+            Ok(()) => {}
+            Err(_) => unreachable!(),
+        }
+        block.truncate(cut);
+        match self.blocks.insert(next, tail) {
+            Ok(()) => {}
+            Err(_) => unreachable!(),
+        }
+        if place <= cut {
+            return Ok((at, place));
+        }
+        Ok((next, place - cut))
+    }
 }
 
 impl<K: Ord, A: Allocator + Copy> Places<K> for Ordered<A> {
-    ghost use Rattle.std.specs.Prelude.{◌<◌, ◌-◌, ◌^◌, length, vec_capacity};
+    ghost use Rattle.std.specs.Prelude.{◌<◌, ◌-◌, ◌^◌, vec_capacity, vec_items};
     ghost use Rattle.std.specs.Cmp.{eq_by_cmp_equiv};
     ghost use Rattle.std.specs.Ordering.{eq_by_cmp};
-    ghost use Rattle.elsa_cell.specs.Ordered.{IsGap, IsOrdered};
+    ghost use Rattle.elsa_cell.specs.Ordered.{HasRoomAt, IsBlockGap, IsTableFor};
 
     ghost same = { eq_by_cmp K.cmp };
 
     ghost equivalence = { eq_by_cmp_equiv K.Ord.total };
 
-    ghost is_for = { λ t keys. IsOrdered K.cmp t.order.items keys };
+    ghost is_for = { λ t keys. IsTableFor vec_items K.cmp t.blocks.items t.count keys };
 
-    type End = usize;
+    type End = (usize, usize);
 
-    ghost ends = { λ t keys key gap. IsGap (K.cmp key) t.order.items keys gap };
+    ghost ends = { λ t keys key end. IsBlockGap vec_items (K.cmp key) t.blocks.items keys end };
 
-    ghost has_room = { λ t keys key gap. IsGap (K.cmp key) t.order.items keys gap
-        × (length t.order.items < vec_capacity t.order) × (length t.order.items < 2 ^ 32 - 1) };
+    ghost has_room = { λ t keys key end. HasRoomAt vec_items vec_capacity t.blocks.items end
+        × IsBlockGap vec_items (K.cmp key) t.blocks.items keys end × (t.count < 2 ^ 32 - 1) };
 
-    fn seek<L: KeyList<K>>(&self, keys: &L, key: &K) -> Result<usize, usize> {
-        search(self.order.as_slice(), keys, key)
+    fn seek<L: KeyList<K>>(&self, keys: &L, key: &K) -> Result<usize, (usize, usize)> {
+        search(self.blocks.as_slice(), keys, key)
     }
 
-    fn reserve(&mut self, end: usize) -> Result<usize, AllocError> {
-        if self.order.len() >= MOST {
+    fn reserve(&mut self, end: (usize, usize)) -> Result<(usize, usize), AllocError> {
+        if self.count >= MOST {
             return Err(AllocError);
         }
-        self.order.reserve(1)?;
+        if self.blocks.is_empty() {
+            return self.open();
+        }
+        let (at, place) = end;
+        if self.blocks[at].len() == FULL {
+            return self.split(at, place);
+        }
+        self.blocks[at].reserve(1)?;
         Ok(end)
     }
 
     fn reserve_more(&mut self, more: usize) -> Result<(), AllocError> {
-        self.order.reserve(more)
+        // Each split but the first of a block comes after at least 64 insertions.
+        let splits = self.blocks.len().saturating_add(more / 64 + 2);
+        self.reserve_blocks(more.min(splits))
     }
 
-    fn add(&mut self, end: usize) {
-        let next = self.order.len() as u32;
-        match self.order.insert(end, next) {
+    fn add(&mut self, end: (usize, usize)) {
+        let (at, place) = end;
+        let next = self.count as u32;
+        match self.blocks[at].insert(place, next) {
             Ok(()) => {}
             Err(_) => unreachable!(),
         }
+        self.count += 1;
     }
 }
 
@@ -205,7 +388,7 @@ impl<K: Ord, Q: OrderQuery<K>, A: Allocator + Copy> Seeks<K, Ordered<A>> for Q {
     ghost finds = { λ q k. is_eq (Q.against q k) };
 
     fn seek<L: KeyList<K>>(self, table: &Ordered<A>, keys: &L) -> Option<usize> {
-        match search(table.order.as_slice(), keys, self) {
+        match search(table.blocks.as_slice(), keys, self) {
             Ok(index) => Some(index),
             Err(_) => None,
         }
@@ -222,9 +405,11 @@ impl<K: Ord, Q: OrderQuery<K>, A: Allocator + Copy> Seeks<K, Ordered<A>> for Q {
 /// Keys need `Ord`, and two keys are equal if they compare as `Equal`. The index of an entry is its
 /// place in the order of insertion.
 ///
-/// The table is one vector of 4 bytes for each key. A look-up makes `O(log n)` comparisons; an
-/// insertion also moves the 4 bytes of each greater key, so `n` insertions in falling order move
-/// `O(n^2)` bytes.
+/// The table has 4 bytes for each key, in blocks of at most 256 keys. A look-up makes `O(log n)`
+/// comparisons. An insertion also moves at most 1 kB within a block. If the block is full, it is
+/// split in two first: this allocates 1 kB, and moves some 24 bytes for each block of greater keys.
+/// `reserve` allocates the blocks that splits may need. Exception: while a map has one block, this
+/// block may still grow to 256 keys.
 pub type FrozenBTreeMap<K, V, A = Global, R = AnyEntries> = Frozen<K, V, Ordered<A>, A, R>;
 
 /// The handle of a [`FrozenBTreeMap`].
@@ -262,8 +447,7 @@ impl<K: Ord + Drop, V: Drop, A: Allocator + Copy, R: EntryRule<K, V>> FrozenBTre
     /// # Allocates
     /// The directory of its buffers, and a block for what insertions change.
     pub fn with_rule(alloc: A) -> Result<Self, AllocError> {
-        let order = Vec::new(alloc);
-        Frozen::over(alloc, Ordered { order })
+        Frozen::over(alloc, Ordered::new(alloc))
     }
 }
 
@@ -271,22 +455,41 @@ impl<K: Ord + Drop, V: Drop, A: Allocator + Copy, R: EntryRule<K, V>> FrozenBTre
 /// entries that are left.
 #[derive(Drop)]
 pub struct Ascending<'h, 'm, K, V, A: Allocator + Copy = Global> {
-    order: &'h [u32],
+    blocks: &'h [Vec<u32, A>],
     observed: Observed<'m, Entry<K, V>, A>,
+    /// The block of the next index, and its place in it.
+    at: usize,
     next: usize,
+    /// The number of indices that are left.
+    left: usize,
 }
 
 impl<'h, 'm, K, V, A: Allocator + Copy> Model for Ascending<'h, 'm, K, V, A> {
-    ghost use Rattle.std.specs.Prelude.{◌≡◌, ◌<◌, ◌≤◌, ℕ, List, Some, drop, length, slice_get};
-    ghost use Rattle.elsa_cell.specs.Ordered.{picked};
+    ghost use Rattle.std.specs.Prelude.{◌≡◌, ◌+◌, ◌<◌, ℕ, List, Some, drop, length, slice_get, vec_items};
+    ghost use Rattle.elsa_cell.specs.Ordered.{IsWalkAt, joined, picked, rank_of};
     ghost use Rattle.elsa_cell.specs.declared.map.Entry.{Entry};
 
     ghost Value = { List (Entry K V) };
 
-    ghost view = { λ it. picked it.observed.seen (drop it.next it.order.now) };
+    ghost view = { λ it. picked it.observed.seen
+        (drop (rank_of vec_items it.blocks.now it.at + it.next) (joined vec_items it.blocks.now)) };
 
-    ghost invariant = { λ it. (it.next ≤ length it.order.now) × ((r i : ℕ) →
-        slice_get it.order.now r ≡ Some i → i < length it.observed.seen) };
+    ghost invariant = { λ it. IsWalkAt vec_items it.blocks.now it.at it.next it.left
+        × ((r i : ℕ) → slice_get (joined vec_items it.blocks.now) r ≡ Some i → i < length it.observed.seen) };
+}
+
+/// Returns the place after `place` of the block `at`, which has `len` places: the first one of the
+/// next block after its last one.
+fn next_place(at: usize, place: usize, len: usize) -> (usize, usize)
+    requires place { place < len }
+    requires fits { at + 1 < 2 ^ 64 }
+    ensures within { place + 1 < len → result ≡ (at, place + 1) }
+    ensures past { place + 1 ≡ len → result ≡ (at + 1, 0) }
+{
+    if place + 1 < len {
+        return (at, place + 1);
+    }
+    (at + 1, 0)
 }
 
 impl<'h, 'm, K, V, A: Allocator + Copy> Iterator for Ascending<'h, 'm, K, V, A> {
@@ -297,20 +500,20 @@ impl<'h, 'm, K, V, A: Allocator + Copy> Iterator for Ascending<'h, 'm, K, V, A> 
     ghost remaining = { item_count (λ left. left) };
 
     fn next(&mut self) -> Option<&'m Entry<K, V>> {
-        let rank = self.next;
-        let order = self.order;
-        if rank >= order.len() {
+        if self.left == 0 {
             return None;
         }
-        let index = order[rank] as usize;
-        self.next = rank + 1;
-        Some(self.observed.item(index))
+        let block = self.blocks[self.at].as_slice();
+        let entry = self.observed.item(block[self.next] as usize);
+        let (at, next) = next_place(self.at, self.next, block.len());
+        self.at = at;
+        self.next = next;
+        self.left -= 1;
+        Some(entry)
     }
 
     fn size_hint(&self) -> (usize, Option<usize>) {
-        let order = self.order;
-        let left = order.len() - self.next;
-        (left, Some(left))
+        (self.left, Some(self.left))
     }
 }
 
@@ -329,23 +532,30 @@ impl<'m, K: Ord + Drop, V: Drop, A: Allocator + Copy, R: EntryRule<K, V>> BTreeH
         ensures in_order { IsInOrder K.cmp self.now.seen result }
     {
         Ascending {
-            order: self.state.table.order.as_slice(),
+            blocks: self.state.table.blocks.as_slice(),
             observed: self.observed(),
+            at: 0,
             next: 0,
+            left: self.state.table.count,
         }
     }
 
-    /// Returns the entry at a rank, the number of its lesser keys.
-    fn entry_at_rank(&self, rank: usize) -> &'m Entry<K, V>
-        requires { rank < length self.now.seen }
+    /// Returns the entry of the least key.
+    fn first_entry(&self) -> &'m Entry<K, V>
+        requires { 0 < length self.now.seen }
         ensures entry { (i : ℕ) × (slice_get self.now.seen i ≡ Some result.now) }
-        ensures first { rank ≡ 0 → IsLeast K.cmp (key_of result.now) (map key_of self.now.seen) }
-        ensures last { rank + 1 ≡ length self.now.seen →
-            IsGreatest K.cmp (key_of result.now) (map key_of self.now.seen) }
+        ensures least { IsLeast K.cmp (key_of result.now) (map key_of self.now.seen) }
     {
-        let order = self.state.table.order.as_slice();
-        let index = order[rank] as usize;
-        self.entry_at(index)
+        self.entry_at(self.state.table.first())
+    }
+
+    /// Returns the entry of the greatest key.
+    fn last_entry(&self) -> &'m Entry<K, V>
+        requires { 0 < length self.now.seen }
+        ensures entry { (i : ℕ) × (slice_get self.now.seen i ≡ Some result.now) }
+        ensures greatest { IsGreatest K.cmp (key_of result.now) (map key_of self.now.seen) }
+    {
+        self.entry_at(self.state.table.last())
     }
 
     /// Returns references to the least key and its value, or `None` exactly if the map has no
@@ -363,7 +573,7 @@ impl<'m, K: Ord + Drop, V: Drop, A: Allocator + Copy, R: EntryRule<K, V>> BTreeH
         if self.len() == 0 {
             return None;
         }
-        let entry = self.entry_at_rank(0);
+        let entry = self.first_entry();
         Some((entry.key(), entry.value()))
     }
 
@@ -379,11 +589,10 @@ impl<'m, K: Ord + Drop, V: Drop, A: Allocator + Copy, R: EntryRule<K, V>> BTreeH
         ensures greatest { IfSome result (λ r.
             IsGreatest K.cmp r.0.now (map key_of self.now.seen)) }
     {
-        let count = self.len();
-        if count == 0 {
+        if self.len() == 0 {
             return None;
         }
-        let entry = self.entry_at_rank(count - 1);
+        let entry = self.last_entry();
         Some((entry.key(), entry.value()))
     }
 }

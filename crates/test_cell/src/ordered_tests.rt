@@ -98,7 +98,7 @@ fn each_key_has_its_value(alloc: Global, order: u8, count: u64) -> Result<bool, 
 
 #[test]
 fn an_ordered_key_had_another_value(rt: HostRuntime) -> Result<(), Fail> {
-    for count in [0, 1, 2, 3, 4, 15, 16, 511, 512, 513, 1025, 3000] {
+    for count in [0, 1, 2, 4, 16, 255, 256, 257, 258, 512, 513, 1025, 3000] {
         for order in [0, 1, 2] {
             assert!(rt;
                 each_key_has_its_value(rt.alloc(), order, count)?,
@@ -247,13 +247,28 @@ fn a_value_of_the_ordered_map_was_not_dropped_once(rt: HostRuntime) -> Result<()
     Ok(())
 }
 
-/// Makes forty insertions over a budget. Returns the number of those that failed, or `None` if a
-/// returned value was changed or the map lost one.
-fn refusals<A: Allocator + Copy>(alloc: A) -> Option<usize> {
+/// Returns the number of entries of the walk over a map, or `None` if it doesn't ascend.
+fn count_ascending<A: Allocator + Copy>(map: &FrozenBTreeMap<u64, u64, A>) -> Option<usize> {
+    let hold = map.hold().ok()?;
+    let mut count = 0_usize;
+    let mut least = 0_u64;
+    for entry in hold.ascending() {
+        if *entry.key() < least {
+            return None;
+        }
+        least = entry.key().wrapping_add(1);
+        count = count.wrapping_add(1);
+    }
+    Some(count)
+}
+
+/// Makes `count` insertions over a budget, rising, falling or in a mixed order. Returns the number
+/// of those that failed, or `None` if a returned value was changed or the map lost one.
+fn refusals<A: Allocator + Copy>(alloc: A, order: u8, count: u64) -> Option<usize> {
     let map: FrozenBTreeMap<u64, u64, A> = FrozenBTreeMap::new(alloc).ok()?;
     let mut refused = 0_usize;
-    for n in 0..40 {
-        let key = key_of(2, n, 40);
+    for n in 0..count {
+        let key = key_of(order, n, count);
         let wanted = key.wrapping_add(100);
         match map.insert(key, wanted) {
             Ok(kept) => {
@@ -270,7 +285,9 @@ fn refusals<A: Allocator + Copy>(alloc: A) -> Option<usize> {
             Err(CellFault::InUse(_value) | CellFault::Full(_value)) => return None,
         }
     }
-    if map.len() != 40_usize.wrapping_sub(refused) {
+    if map.len() != (count as usize).wrapping_sub(refused)
+        || count_ascending(&map) != Some(map.len())
+    {
         return None;
     }
     Some(refused)
@@ -278,16 +295,16 @@ fn refusals<A: Allocator + Copy>(alloc: A) -> Option<usize> {
 
 /// Returns whether exactly one insertion fails if one request is denied, for each request except
 /// those of `new`.
-fn each_refusal_gives_back(alloc: Global) -> bool {
+fn each_refusal_gives_back(alloc: Global, order: u8, count: u64) -> bool {
     let budget = Budget::new(alloc);
-    if refusals(&budget) != Some(0) {
+    if refusals(&budget, order, count) != Some(0) {
         return false;
     }
     let asked = budget.asked();
     for request in 2..asked {
         let budget = Budget::new(alloc);
         budget.refuse(request, request + 1);
-        if refusals(&budget) != Some(1) || budget.given() != budget.granted() {
+        if refusals(&budget, order, count) != Some(1) || budget.given() != budget.granted() {
             return false;
         }
     }
@@ -296,7 +313,17 @@ fn each_refusal_gives_back(alloc: Global) -> bool {
 
 #[test]
 fn a_failed_insertion_of_the_ordered_map_lost_its_value(rt: HostRuntime) -> Result<(), Fail> {
-    assert!(rt; each_refusal_gives_back(rt.alloc()));
+    for order in [0, 1, 2] {
+        assert!(rt; each_refusal_gives_back(rt.alloc(), order, 40), "{order}");
+    }
+    Ok(())
+}
+
+#[test]
+fn a_failed_split_of_the_ordered_map_lost_a_key(rt: HostRuntime) -> Result<(), Fail> {
+    for order in [0, 1, 2] {
+        assert!(rt; each_refusal_gives_back(rt.alloc(), order, 700), "{order}");
+    }
     Ok(())
 }
 
@@ -357,6 +384,66 @@ fn an_ordered_map_differs_from_a_plain_list(rt: HostRuntime) -> Result<(), Fail>
         assert!(rt;
             equals_a_plain_list(rt.alloc(), seed, count)?,
             "seed {seed}, size {count}"
+        );
+    }
+    Ok(())
+}
+
+/// Returns whether each key of a list is in a map, with its value and at that index.
+fn finds_all(map: &FrozenBTreeMap<u64, u64>, plain: &[(u64, u64)]) -> bool {
+    for entry in plain {
+        let Some((index, key, value)) = map.get_full(&entry.0) else {
+            return false;
+        };
+        if index as u64 != entry.1 || *key != entry.0 || *value != entry.1 {
+            return false;
+        }
+    }
+    true
+}
+
+/// Inserts `count` random keys, none of them twice, with the numbers from 0 on. Returns whether
+/// each is found at its index, and the walk has the sorted list.
+fn finds_random_keys(alloc: Global, seed: u64, count: u64) -> Result<bool, AllocError> {
+    let map: FrozenBTreeMap<u64, u64> = FrozenBTreeMap::new(alloc)?;
+    let mut plain: Vec<(u64, u64)> = Vec::new(alloc);
+    let mut key = seed;
+    for n in 0..count {
+        key = key
+            .wrapping_mul(6_364_136_223_846_793_005)
+            .wrapping_add(1_442_695_040_888_963_407);
+        let Ok(done) = map.insert_new(key, n) else {
+            return Ok(false);
+        };
+        if !done.is_new || done.index as u64 != n {
+            return Ok(false);
+        }
+        plain.push((key, n))?;
+    }
+    let found = finds_all(&map, plain.as_slice());
+    plain.sort()?;
+    Ok(found && walks_over(&map, plain.as_slice()))
+}
+
+#[test]
+fn a_random_key_of_many_was_not_found_or_out_of_order(rt: HostRuntime) -> Result<(), Fail> {
+    let since = SystemTime::now(&rt)?.duration_since(UNIX_EPOCH)?;
+    let seed = (since.subsec_nanos() as u64) ^ (since.as_secs() << 30);
+    for count in [1000, 20_000, 200_000] {
+        assert!(rt;
+            finds_random_keys(rt.alloc(), seed, count)?,
+            "seed {seed}, size {count}"
+        );
+    }
+    Ok(())
+}
+
+#[test]
+fn an_ordered_key_of_many_had_another_value(rt: HostRuntime) -> Result<(), Fail> {
+    for order in [0, 1, 2] {
+        assert!(rt;
+            each_key_has_its_value(rt.alloc(), order, 20_000)?,
+            "{order}"
         );
     }
     Ok(())
