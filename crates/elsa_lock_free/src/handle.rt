@@ -274,7 +274,8 @@ impl<'v, T: Drop, A: Allocator + Copy, K: ItemRule<T>> Handle<'v, T, A, K> {
         Ok(place)
     }
 
-    /// Pushes an item and returns its index, as [`push`](Self::push) does, but never blocks.
+    /// Pushes an item and returns its index, as [`push`](Self::push) does, but never waits for the
+    /// lock.
     ///
     /// # Errors
     /// Fails with `Busy` if another thread has the lock, or has pushed first in each of four
@@ -456,7 +457,7 @@ impl<'v, T: Copy + Drop, A: Allocator + Copy, K: ItemRule<T>> Handle<'v, T, A, K
     /// of the two.
     ///
     /// The length is read first, and only the items below it are copied, so other threads may push
-    /// meanwhile. It takes no lock and never blocks.
+    /// meanwhile. It takes no lock.
     ///
     /// # Errors
     /// Fails if an allocation fails. All memory that was allocated is then deallocated.

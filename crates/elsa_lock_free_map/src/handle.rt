@@ -478,7 +478,8 @@ impl<
         self.insert_absent(rt, key, value)
     }
 
-    /// Inserts a key and its value, as [`insert_ref`](Self::insert_ref) does, but never blocks.
+    /// Inserts a key and its value, as [`insert_ref`](Self::insert_ref) does, but never waits for
+    /// the lock.
     ///
     /// # Errors
     /// Fails with `Busy` if another thread has the lock, or has inserted first in each of four
@@ -488,8 +489,8 @@ impl<
     ///
     /// # Allocates
     /// A buffer and its row of index entries, as `insert_ref` does. The call then has the lock
-    /// while it enters all keys into the row. That takes long and waits for no thread; the
-    /// insertions of other threads find the map busy meanwhile.
+    /// while it enters all keys into the row. That takes long and waits for no thread but in the
+    /// allocator; the insertions of other threads find the map busy meanwhile.
     ///
     /// # Cost
     /// That of `insert_ref`, with at most four exchanges of the state word to take the lock.
@@ -622,7 +623,7 @@ impl<
     }
 
     /// Inserts a key with its value, as [`try_insert_ref`](Self::try_insert_ref) does, and returns
-    /// a copy of the value that the key has. It never blocks.
+    /// a copy of the value that the key has. It never waits for the lock.
     ///
     /// # Errors
     /// Fails as `try_insert_ref` does. Nothing is inserted; the same insertion may succeed later.

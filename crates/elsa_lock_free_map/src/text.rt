@@ -56,7 +56,7 @@ impl<'m, 'a, V: Copy + Drop, S: BuildHasher + Copy + Drop, A: Allocator + Copy> 
     }
 
     /// Inserts a text of any lifetime with its value, as [`insert_text`](Self::insert_text) does,
-    /// but never blocks.
+    /// but never waits for the lock.
     ///
     /// # Errors
     /// Fails with `Busy` as [`try_insert`](Self::try_insert) does: the error has the copy of the

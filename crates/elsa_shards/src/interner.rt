@@ -240,7 +240,7 @@ impl<
     }
 
     /// Returns the number of a name, and adds the name if no thread has added it, as
-    /// [`put`](Self::put) does, but never blocks.
+    /// [`put`](Self::put) does, but never waits for the lock.
     ///
     /// # Errors
     /// Fails with `Busy` if another thread has the lock of the name's shard, or has added a name
@@ -451,7 +451,7 @@ impl<'i, 'a, S: BuildHasher + Copy + Drop, A: Allocator + Copy> ShardedNameHandl
     }
 
     /// Returns the number of a text of any lifetime and length, as [`put_text`](Self::put_text)
-    /// does, but never blocks.
+    /// does, but never waits for the lock.
     ///
     /// # Errors
     /// Fails with `Busy` as [`try_put`](Self::try_put) does: the error has the copy of the text,

@@ -331,7 +331,8 @@ impl<
         self.handles[index].insert_ref(rt, key, value)
     }
 
-    /// Inserts a key and its value, as [`insert_ref`](Self::insert_ref) does, but never blocks.
+    /// Inserts a key and its value, as [`insert_ref`](Self::insert_ref) does, but never waits for
+    /// the lock.
     ///
     /// # Errors
     /// Fails with `Busy` if another thread has the lock of the key's shard, or has inserted into it
@@ -430,7 +431,7 @@ impl<
     }
 
     /// Inserts a key with its value, as [`try_insert_ref`](Self::try_insert_ref) does, and returns
-    /// a copy of the value that the key has. It never blocks.
+    /// a copy of the value that the key has. It never waits for the lock.
     ///
     /// # Errors
     /// Fails as `try_insert_ref` does. Nothing is inserted; the same insertion may succeed later.

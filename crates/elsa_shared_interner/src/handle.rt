@@ -116,7 +116,7 @@ impl<'i, T: Copy + Drop + Hash, S: BuildHasher + Copy + Drop, A: Allocator + Cop
     }
 
     /// Returns the index of a name, and adds the name if no thread has added it, as
-    /// [`put`](Self::put) does, but never blocks.
+    /// [`put`](Self::put) does, but never waits for the lock.
     ///
     /// # Errors
     /// Fails with `Busy` if another thread has the lock, or has added a name first in each of four
@@ -125,8 +125,8 @@ impl<'i, T: Copy + Drop + Hash, S: BuildHasher + Copy + Drop, A: Allocator + Cop
     ///
     /// # Allocates
     /// A buffer and its row of index entries, as `put` does. The call then has the lock while it
-    /// enters all names into the row. That takes long and waits for no thread; other threads that
-    /// add a name find the interner busy meanwhile.
+    /// enters all names into the row. That takes long and waits for no thread but in the
+    /// allocator; other threads that add a name find the interner busy meanwhile.
     ///
     /// # Cost
     /// That of `put`, with at most four exchanges of the state word to take the lock.
@@ -290,7 +290,7 @@ impl<'i, 'a, S: BuildHasher + Copy + Drop, A: Allocator + Copy> NameHandle<'i, &
     }
 
     /// Returns the index of a text of any lifetime and length, as [`put_text`](Self::put_text)
-    /// does, but never blocks.
+    /// does, but never waits for the lock.
     ///
     /// # Errors
     /// Fails with `Busy` as [`try_put`](Self::try_put) does: the error has the copy of the text,

@@ -88,8 +88,8 @@ impl Templates {
     ///
     /// # Errors
     /// `IncludesItself` or `TooDeep` if the inclusions are circular or nested too deeply, `Missing`
-    /// if a file can't be read, `Memory` if an allocation fails, `Store` if the loader can't store it.
-    /// The template is then not loaded; templates that it includes may be.
+    /// if a file can't be read, `Memory` if an allocation fails, `Store` if the loader can't store
+    /// it. The template is then not loaded; templates that it includes may be.
     pub fn load<R: Files + AllocGlobal>(&self, rt: &R, path: &str) -> Result<&Template, LoadFault> {
         self.load_below(rt, path, None, DEEPEST)
     }

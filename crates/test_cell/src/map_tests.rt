@@ -143,7 +143,7 @@ fn a_value_or_a_key_was_not_dropped_once(rt: HostRuntime) -> Result<(), Fail> {
 type Over<A> = FrozenMap<u64, u64, BuildHasherDefault<FoldHasher>, A>;
 
 /// Inserts by one of three calls. Returns the value that the key then has, or the value that comes
-/// back if an allocation is refused.
+/// back if an allocation fails.
 fn insert_by_kind<A: Allocator + Copy>(
     map: &Over<A>,
     kind: u64,
@@ -169,8 +169,8 @@ fn insert_by_kind<A: Allocator + Copy>(
     }
 }
 
-/// Inserts ten keys. Returns the number of insertions that were refused memory, or `None` if a
-/// returned value was changed or the map lost one.
+/// Inserts ten keys. Returns the number of insertions that failed for lack of memory, or `None` if
+/// a returned value was changed or the map lost one.
 fn refusals<A: Allocator + Copy>(alloc: A, kind: u64) -> Option<usize> {
     let map: Over<A> = FrozenMap::new(alloc).ok()?;
     let mut refused = 0_usize;
