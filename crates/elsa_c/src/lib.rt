@@ -1,4 +1,5 @@
-//! The calls of C: numbers for texts, a dictionary that a caller keeps, and names that threads share.
+//! The calls of C: numbers for texts, a dictionary that a caller keeps, and names that threads
+//! share.
 //!
 //! Every call is total: any bytes, ends and codes may be passed, and a failure is a number
 //! ([`Fault`](fault::Fault)). What C owes is that each pointer is valid for its length, and that a
@@ -292,8 +293,8 @@ pub extern "C" fn elsa_shared_try_put(
 }
 
 /// Returns whether there is a text with this code, and writes its address and its length to `text`
-/// and `len` if there is. The bytes stay there until the last handle of the names is freed. It takes
-/// no lock and waits for no thread.
+/// and `len` if there is. The bytes stay there until the last handle of the names is freed. It
+/// takes no lock and waits for no thread.
 #[unsafe(no_mangle)]
 pub extern "C" fn elsa_shared_at(
     alloc: Global,

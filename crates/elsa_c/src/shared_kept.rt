@@ -71,8 +71,8 @@ fn text_at<'a>(names: &'a Names<'_>, number: usize) -> Option<&'a str>
 
 /// A handle of names that threads share: the names, and what the handle has observed of them.
 ///
-/// In contracts it is a view: which names, its number as a writer, and the texts that it has observed,
-/// each as its bytes; a text's number is its index there.
+/// In contracts it is a view: which names, its number as a writer, and the texts that it has
+/// observed, each as its bytes; a text's number is its index there.
 #[derive(Drop)]
 pub struct SharedKept {
     pub(crate) names: Arc<LockFreeFrozenMap<String, (), SeededState, Global>, Global>,

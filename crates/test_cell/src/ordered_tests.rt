@@ -250,16 +250,19 @@ fn a_value_of_the_ordered_map_was_not_dropped_once(rt: HostRuntime) -> Result<()
 /// Returns the number of entries of the walk over a map, or `None` if it doesn't ascend.
 fn count_ascending<A: Allocator + Copy>(map: &FrozenBTreeMap<u64, u64, A>) -> Option<usize> {
     let hold = map.hold().ok()?;
-    let mut count = 0_usize;
+    let mut walk = hold.ascending();
     let mut least = 0_u64;
-    for entry in hold.ascending() {
+    for _ in 0..map.len() {
+        let entry = walk.next()?;
         if *entry.key() < least {
             return None;
         }
         least = entry.key().wrapping_add(1);
-        count = count.wrapping_add(1);
     }
-    Some(count)
+    if walk.next().is_some() {
+        return None;
+    }
+    Some(map.len())
 }
 
 /// Makes `count` insertions over a budget, rising, falling or in a mixed order. Returns the number
