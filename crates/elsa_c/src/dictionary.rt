@@ -78,7 +78,8 @@ impl Dictionary {
 
     /// Writes the code of a text to `code`. A new text is copied, and has the next code.
     pub fn put(&mut self, alloc: Global, text: &[u8], code: &mut usize) -> Option<Fault>
-        ensures end { IsPutEnd text.now (names_of self.old) (names_of self.new) code.old code.new result }
+        ensures end { IsPutEnd text.now (names_of self.old) (names_of self.new)
+            code.old code.new result }
         ensures seed { self.new.seed ≡ self.old.seed }
     {
         let Ok(text) = str::from_utf8(text) else {

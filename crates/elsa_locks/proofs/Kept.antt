@@ -3,10 +3,6 @@ use Rattle.std.proofs.Common.{◌≡◌, ◌∙◌, ap, sym, subst, refl, Bool, 
 use Rattle.std.specs.Cmp.{IsEquivalence}
 use Rattle.std.specs.Option.{option_map, UnwrapsOrElse}
 use Rattle.std.specs.Map.{lookup}
-use Rattle.std.specs.Fn.{Once, FnOnceTakesAt, FnOnceReturnsAt}
-use Rattle.std.specs.Borrow.{Bor}
-use Rattle.std.specs.declared.sync.Arc.{Arc}
-use Rattle.std.specs.Arc.{arc_value}
 use Rattle.elsa_specs.specs.FirstWins.{value_at}
 use Rattle.elsa_locks.specs.Shared.{Leaves}
 use Rattle.elsa_tables.specs.Rules.{HoldsAt, IsKept}

@@ -1,6 +1,5 @@
 -- Lemmas on what comes back.
 use Rattle.std.proofs.Common.{◌≡◌, ◌≢◌, ℕ, ◌+◌, Bool, true, false, true≢false, cond, List, [], ◌∷◌, ◌++◌, Option, Some, None, length, map, refl, subst, sym, ap, ◌∙◌, append_assoc, append-nil, arith}
-use Rattle.std.specs.Option.{option_map}
 use Rattle.serde.specs.Event.{Event, Log, Logs, WritesEach, WritesEntry, WritesMap, WritesSeq, seq_begins, seq_ends, map_begins, map_ends, key_begins, key_ends}
 use Rattle.serde.specs.declared.deserializer.Deserializer.{Deserializer}
 use Rattle.elsa_serde.specs.Read.{ReadsEvents, entry_events, events_of_each, map_events, seq_events}

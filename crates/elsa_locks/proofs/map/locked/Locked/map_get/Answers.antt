@@ -1,5 +1,4 @@
 use Rattle.std.proofs.Common.{refl, subst, sym}
-use Rattle.std.specs.Map.{lookup}
 use Rattle.std.specs.Fn.{FnOnceReturnsAt, FnOnceTakesAt}
 use Rattle.elsa_tables.specs.Rules.{HoldsAt}
 use Rattle.elsa_tables.proofs.RuleLemmas.{found_holds}
