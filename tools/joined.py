@@ -13,7 +13,7 @@ from repository import lines, root, stands_on
 
 HANDLES = "pub fn main<R: std::rt::Runtime + Alloc<A = std::alloc::Global> + std::random::RandomSource + std::thread::Threads + std::sync::Wait + Sync + Copy>(rt: R, host: HostRuntime)"
 # The libraries that the programs of pages use, besides those of this repository that they import.
-PAGE_LIBRARIES = ("bumpalo", "elsa", "elsa_serde", "indexmap", "serde_json")
+PAGE_LIBRARIES = ("bumpalo", "elsa", "elsa_serde", "futures", "indexmap", "serde_json")
 MAIN = """
 use std::process::ExitCode;
 use std::{env, io};
