@@ -31,8 +31,6 @@ mod locked_text_tests;
 #[cfg(test)]
 mod map_form_tests;
 #[cfg(test)]
-mod map_machine_tests;
-#[cfg(test)]
 mod name_handle_tests;
 #[cfg(test)]
 mod names;

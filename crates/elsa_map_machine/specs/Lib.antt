@@ -1,4 +1,0 @@
-pub mod Machine
-pub mod Progress
-pub mod Turns
-pub mod Worlds
