@@ -52,6 +52,11 @@ where
 pub type FrozenIndexSet<'a, T, S = BuildHasherDefault<FoldHasher>, A = Global, P = Global> =
     FrozenIndexSetIn<&'a Bump<P>, T, S, A>;
 
+/// The [`FrozenIndexSet`] by another name.
+#[deprecated(since = "0.5.0", note = "use `FrozenIndexSet`, which is the same type")]
+pub type FrozenSet<'a, T, S = BuildHasherDefault<FoldHasher>, A = Global, P = Global> =
+    FrozenIndexSet<'a, T, S, A, P>;
+
 impl<R: Copy, T, S: BuildHasher, A: Allocator + Copy> Model for FrozenIndexSetIn<R, T, S, A>
 where
     T: StableDeref<R>,
@@ -542,10 +547,11 @@ impl<'a, S: BuildHasher, A: Allocator + Copy, P: Allocator> FrozenIndexSet<'a, &
     ///
     /// # Cost
     /// That of `insert_full_text`.
-    #[tactic(auto, using(elsa_maps::proofs::Places::found_at))]
+    #[tactic(auto, using(elsa_maps::proofs::Places::found_at, elsa_index::proofs::Texts::found_text))]
     pub fn insert_text(&mut self, text: &str) -> Result<&'a str, AllocError>
         ensures accepted { IfOk result (λ b.
             (i : ℕ) × TextInserted self.old text.now i b self.new) }
+        ensures reads { IfOk result (λ b. b.now ≡ text.now) }
         ensures value_after { IfOk result (λ b. find (reads text.now) self.new ≡ Some b) }
         ensures refused { OnErr result (
             (self.new ≡ self.old) × (position (reads text.now) self.old ≡ None)) }

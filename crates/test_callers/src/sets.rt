@@ -1,13 +1,13 @@
-//! Words that are stored once: a set of texts, and the ordered set of their lengths.
+//! Words that are stored once: a set of texts, and the sorted set of their lengths.
 ghost use Rattle.std.specs.Prelude.{◌≡◌, IfOk};
 
 use bumpalo::Bump;
-use elsa::{FrozenBTreeSet, FrozenSet};
+use elsa::{FrozenBTreeSet, FrozenIndexSet};
 use std::alloc::{AllocError, Global};
 use std::test::*;
 
 /// Inserts a word, and returns the one in the set.
-fn kept<'a>(seen: &mut FrozenSet<'a, &'a str>, word: &str) -> Result<&'a str, AllocError>
+fn kept<'a>(seen: &mut FrozenIndexSet<'a, &'a str>, word: &str) -> Result<&'a str, AllocError>
     ensures { IfOk result (λ kept. kept.now ≡ word.now) }
 {
     seen.insert_text(word)
@@ -19,14 +19,20 @@ fn told<'a>(
     alloc: Global,
     arena: &'a Bump,
 ) -> Result<(usize, Option<usize>, Option<usize>, &'a str), AllocError> {
-    let mut seen = FrozenSet::new(alloc, arena);
+    let mut seen = FrozenIndexSet::new(alloc, arena);
     let mut lengths: FrozenBTreeSet<'_, usize> = FrozenBTreeSet::new(alloc, arena);
     let mut last = "";
     for word in ["to", "be", "or", "not", "to", "be"] {
         last = kept(&mut seen, word)?;
-        lengths.insert(word.len())?;
+        lengths.insert(word.len(), ())?;
     }
-    Ok((seen.len(), lengths.first(), lengths.last(), last))
+    let (least, greatest) = (lengths.first_key_value(), lengths.last_key_value());
+    Ok((
+        seen.len(),
+        least.map(|entry| entry.0),
+        greatest.map(|entry| entry.0),
+        last,
+    ))
 }
 
 #[test]

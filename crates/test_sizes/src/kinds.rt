@@ -4,7 +4,7 @@ use bumpalo::Bump;
 use elsa::interner::Interner;
 use elsa::{
     FrozenAppendMap, FrozenBTreeMap, FrozenBTreeSet, FrozenIndexMap, FrozenIndexSet, FrozenMap,
-    FrozenSet, FrozenVec, Own, cell,
+    FrozenVec, Own, cell,
 };
 use std::alloc::{AllocError, Allocator};
 use std::hash::{BuildHasherDefault, FoldHasher};
@@ -115,37 +115,19 @@ impl<A: Allocator + Copy> Grows for FrozenIndexSet<'_, Own<u64>, Hasher, A> {
     }
 }
 
-impl<A: Allocator + Copy> Grows for FrozenSet<'_, u64, Hasher, A> {
-    fn stored(&self, key: u64, _value: u64) -> u64 {
-        key
-    }
-
-    fn insert(&mut self, key: u64, _value: u64) -> Result<u64, AllocError> {
-        let _is_new = self.insert(key)?;
-        Ok(key)
-    }
-
-    fn get(&self, key: u64) -> Option<u64> {
-        self.get(&key)
-    }
-
-    fn count(&self) -> usize {
-        self.len()
-    }
-}
-
 impl<A: Allocator + Copy> Grows for FrozenBTreeSet<'_, u64, A> {
     fn stored(&self, key: u64, _value: u64) -> u64 {
         key
     }
 
     fn insert(&mut self, key: u64, _value: u64) -> Result<u64, AllocError> {
-        let _is_new = self.insert(key)?;
+        let _is_new = self.insert_new(key, ())?;
         Ok(key)
     }
 
     fn get(&self, key: u64) -> Option<u64> {
-        self.get(&key)
+        let (kept, ()) = self.get_key_value(&key)?;
+        Some(kept)
     }
 
     fn count(&self) -> usize {

@@ -3,7 +3,7 @@
 use crate::grows::Grows;
 use crate::kinds::Hasher;
 use elsa::interner::Interner;
-use elsa::{FrozenAppendMap, FrozenIndexMap, FrozenIndexSet, FrozenMap, FrozenSet, FrozenVec, Own};
+use elsa::{FrozenAppendMap, FrozenIndexMap, FrozenIndexSet, FrozenMap, FrozenVec, Own};
 use std::alloc::{AllocError, Allocator, Global};
 use test_alloc::Budget;
 
@@ -58,16 +58,6 @@ impl<A: Allocator + Copy> Roomy for FrozenAppendMap<'_, u64, Own<u64>, Hasher, A
 }
 
 impl<A: Allocator + Copy> Roomy for FrozenIndexSet<'_, Own<u64>, Hasher, A> {
-    fn reserve(&mut self, additional: usize) -> Result<(), AllocError> {
-        self.reserve(additional)
-    }
-
-    fn room(&mut self) -> usize {
-        self.capacity()
-    }
-}
-
-impl<A: Allocator + Copy> Roomy for FrozenSet<'_, u64, Hasher, A> {
     fn reserve(&mut self, additional: usize) -> Result<(), AllocError> {
         self.reserve(additional)
     }

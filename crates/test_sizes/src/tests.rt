@@ -7,7 +7,7 @@ use elsa::append_map::AppendMap;
 use elsa::interner::Interner;
 use elsa::{
     FrozenAppendMap, FrozenBTreeMap, FrozenBTreeSet, FrozenIndexMap, FrozenIndexSet, FrozenMap,
-    FrozenSet, FrozenVec, Own, cell,
+    FrozenVec, Own, cell,
 };
 use std::alloc::{AllocError, Global};
 use std::test::Fail;
@@ -214,39 +214,6 @@ fn index_set_has_room(alloc: Global, size: u64) -> Result<bool, AllocError> {
 fn an_index_set_allocates_in_reserved_room(rt: HostRuntime) -> Result<(), Fail> {
     let (_seed, size) = drawn(&rt)?;
     assert!(rt; index_set_has_room(rt.alloc(), size)?, "size {size}");
-    Ok(())
-}
-
-fn set_is_right(alloc: Global, seed: u64, size: u64) -> Result<bool, AllocError> {
-    let heap = Budget::new(alloc);
-    let arena = Bump::new(alloc);
-    let mut grown: FrozenSet<'_, u64, Hasher, _> = FrozenSet::new(&heap, &arena);
-    let right = is_right(alloc, &heap, &mut grown, seed, size)?;
-    drop(grown);
-    Ok(right && heap.given() == heap.granted())
-}
-
-#[test]
-fn a_set_differs_from_a_list_at_a_random_size(rt: HostRuntime) -> Result<(), Fail> {
-    let (seed, size) = drawn(&rt)?;
-    assert!(rt;
-        set_is_right(rt.alloc(), seed, size)?,
-        "seed {seed}, size {size}"
-    );
-    Ok(())
-}
-
-fn set_has_room(alloc: Global, size: u64) -> Result<bool, AllocError> {
-    let heap = Budget::new(alloc);
-    let arena = Bump::new(alloc);
-    let mut grown: FrozenSet<'_, u64, Hasher, _> = FrozenSet::new(&heap, &arena);
-    has_room(&heap, &mut grown, size)
-}
-
-#[test]
-fn a_set_allocates_in_reserved_room(rt: HostRuntime) -> Result<(), Fail> {
-    let (_seed, size) = drawn(&rt)?;
-    assert!(rt; set_has_room(rt.alloc(), size)?, "size {size}");
     Ok(())
 }
 

@@ -1,5 +1,5 @@
-//! Tests of `elsa_vec`, `elsa_maps` and `elsa_sets`, used as by any other crate: examples, tables
-//! of the calls of a search, unusual keys, and allocation failures.
+//! Tests of `elsa_vec` and `elsa_maps`, used as by any other crate: examples, tables of the calls
+//! of a search, unusual keys, and allocation failures.
 #![tactic(auto)]
 
 #[cfg(test)]

@@ -37,6 +37,15 @@ pub type FrozenBTreeMapIn<R, K, V, A = Global> = Frozen<
 /// the arena.
 pub type FrozenBTreeMap<'a, K, V, A = Global, P = Global> = FrozenBTreeMapIn<&'a Bump<P>, K, V, A>;
 
+/// A sorted set over the arena to which an `R` refers: an ordered map to `()`.
+pub type FrozenBTreeSetIn<R, K, A = Global> = FrozenBTreeMapIn<R, K, (), A>;
+
+/// The sorted set whose texts are copied into a `Bump` of lifetime `'a` and of the allocator `P`.
+///
+/// It is an ordered map to `()`: `set.insert_new(key, ())` returns whether the key is new,
+/// `contains_key` and `get_key_value` look it up, and `keys` and `range` walk in order.
+pub type FrozenBTreeSet<'a, K, A = Global, P = Global> = FrozenBTreeSetIn<&'a Bump<P>, K, A>;
+
 impl<R: Copy, K: Ord + Drop, V: StableDeref<R>, A: Allocator + Copy> FrozenBTreeMapIn<R, K, V, A> {
     /// Makes an empty map. Its values are stored in `arena`, and `alloc` allocates its tree. It
     /// allocates nothing.
