@@ -18,7 +18,7 @@ BEGIN, END = "<!-- costs: begin -->\n", "<!-- costs: end -->"
 LEAST = 5
 # The rows of the table, and the crates of each.
 FAMILIES = {
-    "one thread": r"elsa_(specs|arena|vec|tables|maps|append|index|cell|cache|run)",
+    "one thread": r"elsa_(specs|arena|vec|tables|maps|index|cell|cache|run)",
     "names": r"elsa_(hash|buckets|interner|serde)",
     "shared by threads": r"elsa_(locks|history|slots|lock_free\w*|hash_index|shared_interner|shards|\w*machine)",
     "the whole, programs, C": r"elsa(_program|_cli|_c)?|test_callers",

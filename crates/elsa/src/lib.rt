@@ -10,7 +10,6 @@
 //! (`elsa_maps::map::Frozen`): name the crate in your line of crates.txt.
 #![tactic(auto)]
 
-pub use elsa_append::FrozenAppendMap;
 pub use elsa_arena::arena::TypedArena;
 pub use elsa_cache as cache;
 pub use elsa_hash::seeded::SeededState;
@@ -19,7 +18,7 @@ pub use elsa_index::index_set::{FrozenIndexSet, FrozenSet};
 pub use elsa_index::look_up::LookUp;
 pub use elsa_maps::index_map;
 pub use elsa_maps::index_map::FrozenIndexMap;
-pub use elsa_maps::map::{FrozenBTreeMap, FrozenBTreeSet, FrozenMap, MapForm};
+pub use elsa_maps::map::{FrozenAppendMap, FrozenBTreeMap, FrozenBTreeSet, FrozenMap, MapForm};
 pub use elsa_program::command::job;
 pub use elsa_program::{Job, shared};
 pub use elsa_run::run;

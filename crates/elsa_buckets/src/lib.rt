@@ -7,8 +7,13 @@
 //! item's index would go, so an item that is looked up and then added is searched for once.
 //!
 //! [`query`] has the values by which a collection looks its keys up in such a table.
+//! [`append_map::AppendMap`] is the map for large collections: its entries are in a list, in the
+//! order of their insertion, next to such a table. It implements [`Table`](elsa_tables::Table), so
+//! all code over any map implementation works with it.
 #![tactic(auto)]
 
+pub mod append_map;
+pub mod by;
 pub mod query;
 mod slots;
 pub mod table;

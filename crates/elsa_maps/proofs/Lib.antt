@@ -1,3 +1,4 @@
+pub mod Appended
 pub mod Clones
 pub mod Collecting
 pub mod Copied

@@ -1,7 +1,8 @@
 //! Worked cases of the calls, over maps of a few entries.
 use bumpalo::Bump;
-use elsa_append::{AppendMap, FrozenAppendMap, keeps_earlier_pairs};
-use elsa_maps::map::{InsertFault, MapForm};
+use elsa_buckets::append_map::AppendMap;
+use elsa_maps::map::laws::keeps_earlier_pairs;
+use elsa_maps::map::{FrozenAppendMap, InsertFault, MapForm};
 use elsa_tables::{IntoPairs, Table};
 use elsa_vec::stable::Own;
 use std::alloc::{AllocError, Global};
@@ -11,7 +12,7 @@ type Ages<'a> = FrozenAppendMap<'a, u32, Own<u64>>;
 
 // A map with the entries 30: 3, 10: 1, 20: 2, in this order.
 fn three<'a>(alloc: Global, arena: &'a Bump) -> Result<Ages<'a>, AllocError> {
-    let mut map = Ages::over(alloc, arena, AppendMap::new(alloc));
+    let mut map = Ages::new(alloc, arena);
     map.insert(30, Own(3))?;
     map.insert_with(10, || Own(1))?;
     map.insert_new(20, Own(2))?;

@@ -1,6 +1,7 @@
 //! Maps of thousands of entries, and reserved room.
 use bumpalo::Bump;
-use elsa_append::{AppendMap, FrozenAppendMap, RoomFault};
+use elsa_buckets::append_map::RoomFault;
+use elsa_maps::map::FrozenAppendMap;
 use elsa_vec::stable::Own;
 use std::alloc::{AllocError, Allocator, Global};
 use std::hash::{BuildHasherDefault, FoldHasher};
@@ -50,12 +51,12 @@ fn are_in_order(entries: &[(u64, &u64)]) -> bool {
 #[test]
 fn a_map_of_twenty_thousand_entries_finds_each(rt: HostRuntime) -> Result<(), Fail> {
     let arena = Bump::new(rt.alloc());
-    let mut map = Numbers::over(rt.alloc(), &arena, AppendMap::new(rt.alloc()));
+    let mut map = Numbers::new(rt.alloc(), &arena);
     fill(&mut map, 0, 20_000)?;
-    assert!(rt; has_first(&map, 20_000) && are_in_order(map.as_mut().entries()));
+    assert!(rt; has_first(&map, 20_000) && are_in_order(map.entries()));
     let copy = map.as_mut().clone()?;
     map.rebase(copy);
-    assert!(rt; has_first(&map, 20_000) && !map.as_mut().is_full());
+    assert!(rt; has_first(&map, 20_000) && !map.is_full());
     Ok(())
 }
 
@@ -63,12 +64,12 @@ fn a_map_of_twenty_thousand_entries_finds_each(rt: HostRuntime) -> Result<(), Fa
 fn needs_no_memory(alloc: Global, arena: &Bump, from: u64, count: u64) -> Result<bool, AllocError> {
     let heap = Budget::new(alloc);
     let end = from.saturating_add(count);
-    let mut map: Numbers<'_, &Budget<Global>> = Numbers::over(&heap, arena, AppendMap::new(&heap));
+    let mut map: Numbers<'_, &Budget<Global>> = Numbers::new(&heap, arena);
     fill(&mut map, 0, from)?;
-    if map.as_mut().reserve(count as usize).is_err() {
+    if map.reserve(count as usize).is_err() {
         return Ok(false);
     }
-    let has_room = map.as_mut().capacity() as u64 >= end;
+    let has_room = map.capacity() as u64 >= end;
     heap.refuse_next(u64::MAX);
     let before = heap.asked();
     let filled = fill(&mut map, from, end);
@@ -89,7 +90,7 @@ fn insertions_into_reserved_room_allocate_nothing(rt: HostRuntime) -> Result<(),
 
 // Whether a reservation fails for this reason, and leaves the content.
 fn has_fault(map: &mut Numbers<'_, &Budget<Global>>, additional: usize, is_full: bool) -> bool {
-    let Err(fault) = map.as_mut().reserve(additional) else {
+    let Err(fault) = map.reserve(additional) else {
         return false;
     };
     matches!(fault, RoomFault::Full) == is_full && has_first(map, 10)
@@ -98,7 +99,7 @@ fn has_fault(map: &mut Numbers<'_, &Budget<Global>>, additional: usize, is_full:
 #[test]
 fn a_reservation_reports_why_it_failed(rt: HostRuntime) -> Result<(), Fail> {
     let (heap, arena) = (Budget::new(rt.alloc()), Bump::new(rt.alloc()));
-    let mut map: Numbers<'_, &Budget<Global>> = Numbers::over(&heap, &arena, AppendMap::new(&heap));
+    let mut map: Numbers<'_, &Budget<Global>> = Numbers::new(&heap, &arena);
     fill(&mut map, 0, 10)?;
     heap.refuse_next(u64::MAX);
     assert!(rt; has_fault(&mut map, 0xFFFF_FFFF, true) && has_fault(&mut map, usize::MAX, true));

@@ -1,5 +1,5 @@
-//! Tests of `elsa_append` through its public calls: worked cases, keys with an odd `Hash` or `Eq`,
-//! allocation failures, reserved room, and maps of thousands of entries.
+//! Tests of the map for large collections through its public calls: worked cases, keys with an odd
+//! `Hash` or `Eq`, allocation failures, reserved room, and maps of thousands of entries.
 #![tactic(auto)]
 
 #[cfg(test)]

@@ -2,7 +2,8 @@
 ghost use Rattle.std.specs.Prelude.{[], refl};
 
 use bumpalo::Bump;
-use elsa_append::{AppendMap, FrozenAppendMap};
+use elsa_buckets::append_map::AppendMap;
+use elsa_maps::map::FrozenAppendMap;
 use elsa_vec::stable::Own;
 use std::alloc::{AllocError, Global};
 use std::hash::{Hash, Hasher};
@@ -22,11 +23,7 @@ impl Hash for SameHash {
 
 // Whether each of `count` keys with one hash has its value.
 fn keeps_apart(alloc: Global, arena: &Bump, count: u32) -> Result<bool, AllocError> {
-    let mut map: FrozenAppendMap<'_, SameHash, Own<u32>> = FrozenAppendMap::over(
-        alloc,
-        arena,
-        AppendMap::new(alloc),
-    );
+    let mut map: FrozenAppendMap<'_, SameHash, Own<u32>> = FrozenAppendMap::new(alloc, arena);
     for number in 0..count {
         map.insert(SameHash(number), Own(number))?;
     }

@@ -2,7 +2,9 @@
 ghost use Rattle.std.specs.Prelude.{◌==◌};
 
 use bumpalo::Bump;
-use elsa_append::{AppendMap, By, FrozenAppendMap};
+use elsa_buckets::append_map::AppendMap;
+use elsa_buckets::by::By;
+use elsa_maps::map::FrozenAppendMap;
 use elsa_vec::stable::Own;
 use std::alloc::{AllocError, Global};
 use std::test::Fail;
@@ -12,7 +14,7 @@ type Texts<'a> = FrozenAppendMap<'a, String, Own<u64>>;
 type Slices<'a> = FrozenAppendMap<'a, Vec<u32>, Own<u64>>;
 
 fn texts<'a>(alloc: Global, arena: &'a Bump) -> Result<Texts<'a>, AllocError> {
-    let mut map = Texts::over(alloc, arena, AppendMap::new(alloc));
+    let mut map = Texts::new(alloc, arena);
     map.insert(String::from_str(alloc, "")?, Own(0))?;
     map.insert(String::from_str(alloc, "ann")?, Own(1))?;
     map.insert(String::from_str(alloc, "Ann")?, Own(2))?;
@@ -50,11 +52,7 @@ fn a_text_finds_the_index_of_its_entry(rt: HostRuntime) -> Result<(), Fail> {
 #[test]
 fn a_borrowed_text_finds_a_borrowed_text(rt: HostRuntime) -> Result<(), Fail> {
     let arena = Bump::new(rt.alloc());
-    let mut map: FrozenAppendMap<'_, &str, &str> = FrozenAppendMap::over(
-        rt.alloc(),
-        &arena,
-        AppendMap::new(rt.alloc()),
-    );
+    let mut map: FrozenAppendMap<'_, &str, &str> = FrozenAppendMap::new(rt.alloc(), &arena);
     map.insert("one", "1")?;
     let copy = String::from_str(rt.alloc(), "one")?;
     assert!(rt; map.get(By(copy.as_str())) == Some("1") && map.get(&"two").is_none());
@@ -62,7 +60,7 @@ fn a_borrowed_text_finds_a_borrowed_text(rt: HostRuntime) -> Result<(), Fail> {
 }
 
 fn slices<'a>(alloc: Global, arena: &'a Bump) -> Result<Slices<'a>, AllocError> {
-    let mut map = Slices::over(alloc, arena, AppendMap::new(alloc));
+    let mut map = Slices::new(alloc, arena);
     map.insert(Vec::new(alloc), Own(0))?;
     map.insert(Vec::from_array(alloc, [1, 2])?, Own(12))?;
     Ok(map)

@@ -1,7 +1,8 @@
 //! Allocation failures: each allocation of a script fails in turn, and each doubling of the
 //! buckets.
 use bumpalo::Bump;
-use elsa_append::{AppendMap, By, FrozenAppendMap};
+use elsa_buckets::by::By;
+use elsa_maps::map::FrozenAppendMap;
 use elsa_tables::IntoPairs;
 use elsa_vec::stable::Own;
 use std::alloc::{AllocError, Global};
@@ -77,8 +78,8 @@ fn clones(map: &mut Map<'_, '_>, count: usize) -> Result<bool, AllocError> {
 }
 
 fn reserves(map: &mut Map<'_, '_>, number: usize) -> Result<bool, AllocError> {
-    match map.as_mut().reserve(number) {
-        Ok(()) => Ok(map.as_mut().capacity() >= number),
+    match map.reserve(number) {
+        Ok(()) => Ok(map.capacity() >= number),
         Err(_) => Err(AllocError),
     }
 }
@@ -122,7 +123,7 @@ fn goes<'b>(
     squeezed: Squeeze,
 ) -> Option<u64> {
     let keys = words(alloc, open).ok()?;
-    let map = Map::over(heap, arena, AppendMap::new(heap));
+    let map = Map::new(heap, arena);
     let mut script = Calls { heap, map, keys };
     goes_through(&mut script, CALLS, heap, arena, squeezed)
 }
@@ -187,7 +188,7 @@ fn fails_and_succeeds(map: &mut Numbers<'_, '_>, heap: Heap<'_>, number: u64) ->
 // The number of insertions that failed, if each of `count` left what it must.
 fn failed_doublings(alloc: Global, arena: &Bump, count: u64) -> Option<u64> {
     let heap = Budget::new(alloc);
-    let mut map: Numbers<'_, '_> = Numbers::over(&heap, arena, AppendMap::new(&heap));
+    let mut map: Numbers<'_, '_> = Numbers::new(&heap, arena);
     let mut failures = 0u64;
     for number in 0..count {
         let refused = heap.refused();

@@ -3,11 +3,10 @@
 //! Reading fails, or it gives exactly the collection that the text has. The parser of
 //! `serde_json::Value`, which is proved by itself, says what a text has.
 use bumpalo::Bump;
-use elsa_append::{AppendMap, FrozenAppendMap};
 use elsa_index::index_set::FrozenIndexSet;
 use elsa_interner::interner::Interner;
 use elsa_maps::index_map::FrozenIndexMap;
-use elsa_maps::map::{Frozen, FrozenBTreeMap, FrozenMap};
+use elsa_maps::map::{Frozen, FrozenAppendMap, FrozenBTreeMap, FrozenMap};
 use elsa_serde::{Entries, Items, Names, ReadFault};
 use elsa_tables::Table;
 use elsa_vec::stable::Own;
@@ -291,11 +290,7 @@ fn maps_have(alloc: Global, bytes: &[u8], entries: &[Entry]) -> Result<bool, Err
     let mut hashed: FrozenMap<'_, String, Own<u64>> = FrozenMap::new(alloc, &arena);
     let mut ordered: FrozenBTreeMap<'_, String, Own<u64>> = FrozenBTreeMap::new(alloc, &arena);
     let mut indexed: FrozenIndexMap<'_, String, Own<u64>> = FrozenIndexMap::new(alloc, &arena);
-    let mut large: FrozenAppendMap<'_, String, Own<u64>> = FrozenAppendMap::over(
-        alloc,
-        &arena,
-        AppendMap::new(alloc),
-    );
+    let mut large: FrozenAppendMap<'_, String, Own<u64>> = FrozenAppendMap::new(alloc, &arena);
     Ok(
         map_has(alloc, bytes, entries, &mut hashed)?
             && map_has(alloc, bytes, entries, &mut ordered)?

@@ -1,10 +1,9 @@
 //! Each collection has its text, and is the same after it was read back.
 use bumpalo::Bump;
-use elsa_append::{AppendMap, FrozenAppendMap};
 use elsa_index::index_set::FrozenIndexSet;
 use elsa_interner::interner::Interner;
 use elsa_maps::index_map::FrozenIndexMap;
-use elsa_maps::map::{FrozenBTreeMap, FrozenMap};
+use elsa_maps::map::{FrozenAppendMap, FrozenBTreeMap, FrozenMap};
 use elsa_serde::{Entries, Items, Names, Stored};
 use elsa_vec::stable::Own;
 use elsa_vec::vec::FrozenVec;
@@ -100,11 +99,7 @@ fn index_map_goes_round(alloc: Global, text: &str) -> Result<bool, Error> {
 
 fn append_map_goes_round(alloc: Global, text: &str) -> Result<bool, Error> {
     let arena = Bump::new(alloc);
-    let mut map: FrozenAppendMap<'_, String, Own<u64>> = FrozenAppendMap::over(
-        alloc,
-        &arena,
-        AppendMap::new(alloc),
-    );
+    let mut map: FrozenAppendMap<'_, String, Own<u64>> = FrozenAppendMap::new(alloc, &arena);
     let read: Entries<String, Own<u64>> = serde_json::from_str(alloc, text)?;
     let is_inserted = read.insert_into(&mut map) == Ok(());
     let table = map.into_map();

@@ -46,14 +46,14 @@ impl<A: Allocator + Copy> Roomy for FrozenIndexMap<'_, u64, Own<u64>, Hasher, A>
 
 impl<A: Allocator + Copy> Roomy for FrozenAppendMap<'_, u64, Own<u64>, Hasher, A> {
     fn reserve(&mut self, additional: usize) -> Result<(), AllocError> {
-        match self.as_mut().reserve(additional) {
+        match self.reserve(additional) {
             Ok(()) => Ok(()),
             Err(_) => Err(AllocError),
         }
     }
 
     fn room(&mut self) -> usize {
-        self.as_mut().capacity()
+        self.capacity()
     }
 }
 

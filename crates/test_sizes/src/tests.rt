@@ -3,7 +3,6 @@ use crate::kinds::Hasher;
 use crate::room::has_room;
 use crate::script::{Draws, is_right};
 use bumpalo::Bump;
-use elsa::append_map::AppendMap;
 use elsa::interner::Interner;
 use elsa::{
     FrozenAppendMap, FrozenBTreeMap, FrozenBTreeSet, FrozenIndexMap, FrozenIndexSet, FrozenMap,
@@ -146,10 +145,8 @@ fn an_index_map_allocates_in_reserved_room(rt: HostRuntime) -> Result<(), Fail> 
 fn append_map_is_right(alloc: Global, seed: u64, size: u64) -> Result<bool, AllocError> {
     let heap = Budget::new(alloc);
     let arena = Bump::new(alloc);
-    let mut grown: FrozenAppendMap<'_, u64, Own<u64>, Hasher, _> = FrozenAppendMap::over(
-        &heap,
-        &arena,
-        AppendMap::new(&heap),
+    let mut grown: FrozenAppendMap<'_, u64, Own<u64>, Hasher, _> = FrozenAppendMap::new(
+        &heap, &arena,
     );
     let right = is_right(alloc, &heap, &mut grown, seed, size)?;
     drop(grown);
@@ -169,10 +166,8 @@ fn an_append_map_differs_from_a_list_at_a_random_size(rt: HostRuntime) -> Result
 fn append_map_has_room(alloc: Global, size: u64) -> Result<bool, AllocError> {
     let heap = Budget::new(alloc);
     let arena = Bump::new(alloc);
-    let mut grown: FrozenAppendMap<'_, u64, Own<u64>, Hasher, _> = FrozenAppendMap::over(
-        &heap,
-        &arena,
-        AppendMap::new(&heap),
+    let mut grown: FrozenAppendMap<'_, u64, Own<u64>, Hasher, _> = FrozenAppendMap::new(
+        &heap, &arena,
     );
     has_room(&heap, &mut grown, size)
 }

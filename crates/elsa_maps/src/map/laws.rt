@@ -2,13 +2,15 @@
 //! the calls.
 //!
 //! The laws follow from the contracts of the maps alone, as a caller's own proofs do.
-ghost use Rattle.std.specs.Prelude.{◌≡◌, ◌+◌, ◌⊎◌, ◌↔◌, All, Bool, false, true, IfOk, IsSome, IsTrue, None, OnErr, Some, if◌then◌else◌, length};
+ghost use Rattle.std.specs.Prelude.{◌≡◌, ◌+◌, ◌++◌, ◌∷◌, ◌⊎◌, ◌↔◌, [], All, Bool, false, true, IfOk, IsSome, IsTrue, None, OnErr, Some, if◌then◌else◌, length};
 ghost use Rattle.elsa_maps.specs.FirstWins.{Inserts, Keeps, SameAt, value_at};
+ghost use Rattle.elsa_specs.specs.Insertions.{Grows};
 
-use super::MapForm;
+use super::{Frozen, FrozenAppendMapIn, MapForm};
 use elsa_specs::for_its_clause;
 use elsa_vec::stable::StableDeref;
-use std::alloc::AllocError;
+use std::alloc::{AllocError, Allocator};
+use std::hash::{BuildHasher, Hash};
 
 /// Inserts the value. Whether it succeeds or fails, each key that had a value keeps it. After a
 /// success, the key has the returned value, the flag is true exactly if the key was new, and then
@@ -104,4 +106,29 @@ where
     map.insert(key, value)?;
     copy.insert(other_key, other_value)?;
     Ok(copy)
+}
+
+/// Inserts a value into a map for large collections, and returns the value that the key then has
+/// and whether the key was new. Each earlier entry keeps its index, and a new one gets the next.
+///
+/// # Errors
+/// Fails if an allocation fails, only for a new key. The entries are unchanged.
+pub fn keeps_earlier_pairs<
+    R: Copy,
+    K: Eq + Hash + Drop,
+    V: StableDeref<R>,
+    S: BuildHasher,
+    A: Allocator + Copy,
+>(
+    map: &mut FrozenAppendMapIn<R, K, V, S, A>,
+    key: K,
+    value: V,
+) -> Result<(V::Borrow, bool), AllocError>
+    ensures kept { Grows map.old map.new }
+    ensures found_after { IfOk result (λ r. value_at K.eq map.new key ≡ Some r.0) }
+    ensures flag { IfOk result (λ r. IsTrue r.1 ↔ (value_at K.eq map.old key ≡ None)) }
+    ensures grows { IfOk result (λ r. IsTrue r.1 → map.new ≡ map.old ++ (key, r.0) ∷ []) }
+    ensures refused { OnErr result (map.new ≡ map.old) }
+{
+    Frozen::insert_new(map, key, value)
 }

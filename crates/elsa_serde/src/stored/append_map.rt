@@ -3,7 +3,7 @@ ghost use Rattle.std.specs.Prelude.{OnOk};
 ghost use Rattle.serde.specs.Event.{WritesMap};
 
 use super::{Stored, write_entry};
-use elsa_append::AppendMap;
+use elsa_buckets::append_map::AppendMap;
 use serde::{Described, Serialize, Serializer};
 use std::alloc::Allocator;
 use std::hash::{BuildHasher, Hash};

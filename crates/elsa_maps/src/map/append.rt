@@ -1,0 +1,132 @@
+//! The map for large collections.
+ghost use Rattle.std.specs.Prelude.{◌≡◌, ◌↔◌, ◌+◌, ◌<◌, ◌≤◌, [], Some, IfErr, IfSome, IsOk, IsTrue, length, position, slice_get};
+ghost use Rattle.std.specs.List.{IsDistinct};
+ghost use Rattle.std.specs.Map.{keys_of, lookup};
+ghost use Rattle.std.specs.Option.{option_map};
+ghost use Rattle.elsa_buckets.specs.Room.{most_entries, IfRoomFault, IsFull};
+
+use super::Frozen;
+use bumpalo::Bump;
+use elsa_buckets::append_map::{AppendMap, RoomFault};
+use elsa_buckets::query::Query;
+use elsa_vec::stable::StableDeref;
+use std::alloc::{Allocator, Global};
+use std::hash::{BuildHasher, BuildHasherDefault, FoldHasher, Hash};
+
+/// A map for large collections: the first value of a key stays, and the entries keep the order of
+/// their insertion. It stores its values in the arena to which an `R` refers.
+///
+/// It is the [`Frozen`] over an [`AppendMap`], which `into_map` returns. It has at most 2^32 - 1
+/// entries.
+pub type FrozenAppendMapIn<R, K, V, S = BuildHasherDefault<FoldHasher>, A = Global> = Frozen<
+    R,
+    K,
+    V,
+    AppendMap<K, <V as StableDeref<R>>::Borrow, S, A>,
+    A,
+>;
+
+/// The map for large collections whose values are stored in a `Bump` of lifetime `'a`. `P` is the
+/// allocator of the arena.
+pub type FrozenAppendMap<'a, K, V, S = BuildHasherDefault<FoldHasher>, A = Global, P = Global> =
+    FrozenAppendMapIn<&'a Bump<P>, K, V, S, A>;
+
+impl<R: Copy, K, V, A> FrozenAppendMapIn<R, K, V, BuildHasherDefault<FoldHasher>, A>
+where
+    K: Eq + Hash + Drop,
+    V: StableDeref<R>,
+    A: Allocator + Copy,
+{
+    /// Makes an empty map with the default hasher. Its values are stored in `arena`, and `alloc`
+    /// allocates its list of pairs and its buckets. It allocates nothing.
+    ///
+    /// The default hasher is fast and has a fixed seed. For keys from untrusted input, pass a
+    /// `SeededState` to [`with_hasher`](FrozenAppendMapIn::with_hasher).
+    pub fn new(alloc: A, arena: R) -> Self
+        ensures { result ≡ [] }
+    {
+        FrozenAppendMapIn::with_hasher(alloc, arena, BuildHasherDefault::new())
+    }
+}
+
+impl<R: Copy, K: Eq + Hash + Drop, V, S: BuildHasher, A> FrozenAppendMapIn<R, K, V, S, A>
+where
+    V: StableDeref<R>,
+    A: Allocator + Copy,
+{
+    /// Makes an empty map that hashes its keys by `hash_builder`. It allocates nothing.
+    pub fn with_hasher(alloc: A, arena: R, hash_builder: S) -> Self
+        ensures { result ≡ [] }
+    {
+        Frozen::over(alloc, arena, AppendMap::with_hasher(alloc, hash_builder))
+    }
+
+    /// Returns the entries, in the order of their insertion.
+    ///
+    /// # Cost
+    /// `O(1)`.
+    pub fn entries(&self) -> &[(K, V::Borrow)]
+        ensures entries { result.now ≡ self.now }
+        ensures distinct { IsDistinct K.eq (keys_of self.now) }
+    {
+        self.table.entries()
+    }
+
+    /// Returns the index, the stored key and the value of the entry whose key `query` finds, or
+    /// `None` if the map has no such key.
+    ///
+    /// # Cost
+    /// One hash and one search.
+    #[inline(always)]
+    pub fn get_full<Q: Query<K>>(&self, query: Q) -> Option<(usize, K, V::Borrow)>
+    where
+        K: Copy,
+        ensures place { option_map (λ r. r.0) result ≡ position (Q.finds query) (keys_of self.now) }
+        ensures pair { IfSome result (λ r. slice_get self.now r.0 ≡ Some (r.1, r.2)) }
+        ensures value { option_map (λ r. r.2) result ≡ lookup (Q.finds query) self.now }
+    {
+        let (index, found, value) = self.table.get_full(query)?;
+        Some((index, *found, *value))
+    }
+
+    /// Returns whether the map has the greatest number of entries, 2^32 - 1. An insertion of a new
+    /// key then fails.
+    ///
+    /// # Cost
+    /// `O(1)`.
+    pub fn is_full(&self) -> bool
+        ensures { IsTrue result ↔ IsFull self.now }
+    {
+        self.table.is_full()
+    }
+
+    /// Returns the number of entries that the map can have before it allocates, but for the values
+    /// in the arena.
+    ///
+    /// # Cost
+    /// `O(1)`.
+    pub fn capacity(&self) -> usize
+        ensures { length self.now ≤ result }
+    {
+        self.table.capacity()
+    }
+
+    /// Reserves capacity for at least `additional` more entries. Inserting that many allocates only
+    /// in the arena.
+    ///
+    /// # Errors
+    /// Fails with [`RoomFault::Full`] if the map would have more than 2^32 - 1 entries, and with
+    /// [`RoomFault::Memory`] if an allocation fails. The entries are unchanged.
+    ///
+    /// # Cost
+    /// `O(n)` if the list of pairs or the buckets grow.
+    pub fn reserve(&mut self, additional: usize) -> Result<(), RoomFault>
+        ensures content { self.new ≡ self.old }
+        ensures cause { IfErr result (λ e. IfRoomFault e
+            (most_entries < length self.old + additional)
+            (length self.old + additional ≤ most_entries)) }
+        ensures full { most_entries < length self.old + additional → ¬ (IsOk result) }
+    {
+        self.table.reserve(additional)
+    }
+}
