@@ -12,8 +12,9 @@ pub use elsa_lock_free_map::map::{LockFreeFrozenMap, MapPass};
 pub use elsa_locks::map::{FrozenBTreeMap, FrozenMap};
 pub use elsa_locks::vec;
 pub use elsa_locks::vec::{FrozenVec, Iter};
-pub use elsa_machine::{geometry, machine};
+pub use elsa_machine::machine;
 pub use elsa_shards::{LockFreeShardedMap, ShardedHandle, ShardedMap};
+pub use elsa_slots::geometry;
 pub use elsa_tables::Inserted;
 
 pub mod history;

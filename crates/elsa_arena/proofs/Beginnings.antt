@@ -9,7 +9,7 @@ use types.Logic.{Logic, sem}
 use types.Kit.{‵, raw, ◌⊛◌, ◌$◌, ◌∵◌, !, qed, move, drop, split, fsplit3, fpick, use0, use2, rewrite, done}
 use denote.Steps.{heard}
 use denote.RattleType.{RattleType}
-use Rattle.elsa_machine.proofs.GeometryLemmas.OneToOne.{one_slot}
+use Rattle.elsa_slots.proofs.GeometryLemmas.OneToOne.{one_slot}
 use Rattle.elsa_slots.specs.Slot.{written}
 use Rattle.elsa_slots.specs.WrittenPrefix.{place_written, prefix_written}
 use Rattle.elsa_slots.proofs.SlotLemmas.Tokens.{written_agree}

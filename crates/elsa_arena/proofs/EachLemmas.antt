@@ -1,6 +1,6 @@
 -- Facts that hold of each item of a list.
 use Rattle.std.proofs.Common.{◌≡◌, ◌≤◌, ◌⊎◌, ℕ, inl, inr, List, [], ◌∷◌, ◌++◌, length, slice_get, Some, sym, subst}
-use Rattle.elsa_machine.proofs.MachineLemmas.Growth.{get_push}
+use Rattle.elsa_slots.proofs.ListLemmas.Pushed.{get_push}
 use Rattle.elsa_arena.specs.Observed.{EachHolds}
 
 module _ {T : Type 0} (holds : T → Type 0) where

@@ -1,8 +1,8 @@
 -- How the buffers that are ready change: the first is opened, or another is added.
 use Rattle.std.proofs.Common.{◌≡◌, ℕ, suc, ◌+◌, ◌-◌, ◌<◌, ◌≤◌, ◌^◌, refl, Option, Some, None, List, [], ◌∷◌, ◌++◌, length, drop, ap, ◌∙◌, arith}
 use Rattle.std.proofs.lemmas.List.{length-drop}
-use Rattle.elsa_machine.specs.Geometry.{size_of, slots_before}
-use Rattle.elsa_machine.proofs.GeometryLemmas.Powers.{before_power}
+use Rattle.elsa_slots.specs.Geometry.{size_of, slots_before}
+use Rattle.elsa_slots.proofs.GeometryLemmas.Powers.{before_power}
 use native.Mathlib.Decide.{dec_lt}
 use Rattle.elsa_slots.specs.Ahead.{GoesOn}
 use Rattle.elsa_slots.specs.declared.slots.rights.Written.{Written}

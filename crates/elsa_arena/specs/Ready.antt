@@ -1,6 +1,6 @@
 -- Buffers that are ready before an item needs them: an item that has room in one takes no memory.
 use Rattle.std.specs.Prelude.{ℕ, suc, ◌≡◌, ◌+◌, ◌-◌, ◌≤◌, List, [], ◌∷◌, length}
-use Rattle.elsa_machine.specs.Geometry.{size_of, slots_before}
+use Rattle.elsa_slots.specs.Geometry.{size_of, slots_before}
 use Rattle.elsa_arena.specs.declared.state.Fresh.{Fresh}
 use Rattle.elsa_arena.specs.declared.state.State.{State}
 

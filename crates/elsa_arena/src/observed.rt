@@ -5,7 +5,7 @@ ghost use Rattle.std.specs.Option.{option_map};
 ghost use Rattle.elsa_arena.specs.Observed.{Continues};
 
 use crate::state::begins;
-use elsa_machine::geometry::locate;
+use elsa_slots::geometry::locate;
 use elsa_slots::iter::walk_from;
 use elsa_slots::slots::{Buffer, Slots, WrittenPrefix};
 use std::alloc::{Allocator, Global};

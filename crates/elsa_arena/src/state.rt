@@ -4,12 +4,12 @@ ghost use Rattle.std.specs.Prelude.{◌≡◌, suc, ◌+◌, ◌^◌, ◌++◌, 
 ghost use mathlib.Core.List.{IsPrefix};
 ghost use Rattle.elsa_arena.specs.Observed.{IsStateOf};
 ghost use Rattle.elsa_arena.specs.Ready.{AreNext, AreReady, capacity_of, end_of};
-ghost use Rattle.elsa_machine.specs.Geometry.{IsAt, size_of};
 ghost use Rattle.elsa_slots.specs.Ahead.{GoesOn, IsClosedAt, IsOpenAt};
+ghost use Rattle.elsa_slots.specs.Geometry.{IsAt, size_of};
 
 use boxcar::tag::Tag;
 use counted_slot::Fits;
-use elsa_machine::geometry::{buffer_size, locate};
+use elsa_slots::geometry::{buffer_size, locate};
 use elsa_slots::slots::{
     Ahead, Buffer, HasSlots, Sink, Slots, WriteRights, Written, WrittenPrefix,
 };

@@ -4,7 +4,7 @@ use Rattle.std.specs.Prelude.{ℕ, Bool, true, false, List, [], ◌∷◌, ◌++
 use Rattle.elsa_lock_free.specs.declared.event.Entry.{Entry}
 use Rattle.elsa_lock_free.specs.declared.event.Event.{Event}
 use Rattle.elsa_lock_free.specs.declared.event.Event.TheVariants.{Acquired, Published, Extended, Cloned, Released, OfferOf}
-use Rattle.elsa_machine.specs.AtomicSteps.{Shared}
+use Rattle.elsa_lock_free.specs.AtomicSteps.{Shared}
 use Rattle.elsa_lock_free.specs.SharedList.{authored, copied}
 
 module _ {T : Type 0} where

@@ -4,7 +4,7 @@ use Rattle.std.specs.Prelude.{ℕ, ◌≡◌, ◌<◌, ◌^◌, ◌==◌, true, 
 use mathlib.Core.List.{IsPrefix}
 use Rattle.logbook.specs.Pages.{Cell, Step, View, Book, Named}
 use Rattle.elsa_lock_free.specs.declared.event.Event.{Event}
-use Rattle.elsa_machine.specs.AtomicSteps as steps
+use Rattle.elsa_lock_free.specs.AtomicSteps as steps
 use Rattle.elsa_lock_free.specs.Distinct.{EachIsNew}
 use Rattle.elsa_lock_free.specs.History.{list_of, is_held, shared_by}
 use Rattle.elsa_lock_free.specs.SharedList.{items_of}

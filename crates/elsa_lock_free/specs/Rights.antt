@@ -13,12 +13,12 @@ use types.Keyed.{ticket, tickets_from}
 use denote.RattleType.{RattleType}
 use Rattle.elsa_slots.specs.Slot.{written, write_rights}
 pub use Rattle.elsa_slots.specs.WrittenPrefix.{Location, place_written_at, place_written, prefix_written}
-use Rattle.elsa_machine.specs.Geometry.{IsAt}
+use Rattle.elsa_slots.specs.Geometry.{IsAt}
 use Rattle.elsa_lock_free.specs.declared.event.Entry.{Entry}
 use Rattle.elsa_lock_free.specs.declared.event.Event.{Event}
 use Rattle.elsa_lock_free.specs.declared.event.Event.TheVariants.{Acquired, Published, Extended, Cloned, Released, OfferOf}
 use Rattle.elsa_lock_free.specs.SharedList.{authored, copied, count, items_of}
-use Rattle.elsa_machine.specs.AtomicSteps.{Acquires as IsAcquire, Extends as IsExtension, Looks as IsLook, Opens as IsOpening, Publishes as IsPublish, Releases as IsRelease}
+use Rattle.elsa_lock_free.specs.AtomicSteps.{Acquires as IsAcquire, Extends as IsExtension, Looks as IsLook, Opens as IsOpening, Publishes as IsPublish, Releases as IsRelease}
 use Rattle.elsa_lock_free.specs.History.{list_of, is_held, shared_by, added, author_of, used_of, pushes_of, others}
 
 -- the histories of added, by how they grow

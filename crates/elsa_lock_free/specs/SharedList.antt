@@ -3,8 +3,8 @@
 use Rattle.std.specs.Prelude.{ℕ, zero, suc, ◌≡◌, ◌+◌, ◌<◌, ◌≤◌, ◌==◌, List, [], ◌∷◌, ◌++◌, length, map, if◌then◌else◌, Contains, nat_le}
 use mathlib.Core.List.{IsPrefix}
 use Rattle.logbook.specs.Pages.{Book}
-pub use Rattle.elsa_machine.specs.AtomicSteps.{bit}
-use Rattle.elsa_machine.specs.Geometry.{slots_before}
+pub use Rattle.elsa_lock_free.specs.AtomicSteps.{bit}
+use Rattle.elsa_slots.specs.Geometry.{slots_before}
 use Rattle.elsa_lock_free.specs.declared.event.Entry.{Entry}
 
 -- which vector a pass is of

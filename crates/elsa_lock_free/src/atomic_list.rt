@@ -26,7 +26,7 @@ use crate::item_rule::ItemRule;
 use crate::rule::{Log, Nothing, OneWord, PlainRead, ReadGain, ReadLength};
 use crate::tokens::{Author, evidence, offer_read};
 use crossbeam_utils::CachePadded;
-use elsa_machine::geometry::locate;
+use elsa_slots::geometry::locate;
 use elsa_slots::iter::{Iter, walk, walk_from};
 use elsa_slots::slots::{Beside, Buffer, Sink, Slots, WrittenPrefix};
 use logbook::{Gained, Offer, Seen, Word};

@@ -14,7 +14,7 @@ use crate::may_lock::{AttemptFault, Busy, LockPermit};
 use crate::pass::Pass;
 use crate::rule::{AcquireGain, Log};
 use crate::tokens::{bounded_by_tickets, evidence, take_acquired_closed, take_acquired_open};
-use elsa_machine::geometry::{buffer_size, locate};
+use elsa_slots::geometry::{buffer_size, locate};
 use elsa_slots::slots::{Beside, Buffer};
 use logbook::Gained;
 use std::alloc::{AllocError, AllocFailed, Allocator};
@@ -43,7 +43,7 @@ pub struct Hold<'v, T, A: Allocator, K: ItemRule<T>, X: Beside<T>> {
 
 impl<'v, T, A: Allocator, K: ItemRule<T>, X: Beside<T>> Model for Hold<'v, T, A, K, X> {
     ghost use Rattle.std.specs.Prelude.{◌≡◌, ◌+◌, ◌<◌, ◌^◌, [], ◌∷◌, ◌++◌, length};
-    ghost use Rattle.elsa_machine.specs.Geometry.{IsAt};
+    ghost use Rattle.elsa_slots.specs.Geometry.{IsAt};
     ghost use Rattle.elsa_lock_free.specs.SharedList.{View};
     ghost use Rattle.elsa_lock_free.specs.History.{list_of};
     ghost use Rattle.elsa_lock_free.specs.declared.event.Event.TheVariants.{Acquired};

@@ -9,7 +9,7 @@ ghost use base.Stored.{coded_list, coded_ℕ};
 ghost use base.Share.{three_quarters};
 ghost use base.Growing.{latest};
 ghost use Rattle.elsa_slots.specs.Ahead.{IsClosedAt, IsInOpenBuffer, IsOpenAt};
-ghost use Rattle.elsa_machine.specs.Geometry.{IsAt};
+ghost use Rattle.elsa_slots.specs.Geometry.{IsAt};
 ghost use Rattle.elsa_lock_free.specs.declared.event.Event.TheVariants.{Acquired, Published, Extended, Cloned, Released, OfferOf};
 ghost use Rattle.elsa_lock_free.specs.declared.event.Entry.{Entry};
 ghost use Rattle.elsa_lock_free.specs.History.{list_of, added, author_of, used_of, pushes_of, others, behind};

@@ -1,7 +1,7 @@
 //! Examples of the geometry: the buffer of an index, and the moment when a buffer is opened.
 use crate::schedule_rows::{PlanRow, plans_of, schedule_of};
-use elsa_machine::geometry::{buffer_index, buffer_size, locate, prior_total_buffer_size};
 use elsa_machine::machine::run;
+use elsa_slots::geometry::{buffer_index, buffer_size, locate, prior_total_buffer_size};
 use std::alloc::AllocError;
 
 #[test]

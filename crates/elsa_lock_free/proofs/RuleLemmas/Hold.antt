@@ -2,9 +2,9 @@
 use Rattle.std.proofs.Common.{◌≡◌, ℕ, zero, suc, ◌+◌, ◌-◌, ◌^◌, ◌<◌, ◌==◌, true, false, refl, sym, subst, arith}
 use Rattle.std.specs.Prelude.{MatchBool}
 use Rattle.std.proofs.lemmas.Bool.Decides.{nat_tests}
-use Rattle.elsa_machine.specs.Geometry.{IsAt}
-use Rattle.elsa_machine.proofs.GeometryLemmas.OneToOne.{one_slot}
-use Rattle.elsa_machine.proofs.GeometryLemmas.Powers.{before_power, four_pos}
+use Rattle.elsa_slots.specs.Geometry.{IsAt}
+use Rattle.elsa_slots.proofs.GeometryLemmas.OneToOne.{one_slot}
+use Rattle.elsa_slots.proofs.GeometryLemmas.Powers.{before_power, four_pos}
 use Rattle.elsa_lock_free.specs.SharedList.{BeginsABuffer}
 
 -- the first slot of a buffer

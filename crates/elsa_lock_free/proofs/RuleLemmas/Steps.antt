@@ -8,7 +8,7 @@ use Rattle.logbook.specs.Pages.{Cell, cell, keeps, no_nib, step, Moves, Goes}
 use Rattle.elsa_lock_free.specs.declared.event.Event.{Event}
 use Rattle.elsa_lock_free.specs.declared.event.Event.TheVariants.{Acquired, Published, Extended, Cloned, Released, OfferOf}
 use Rattle.elsa_lock_free.specs.declared.event.Entry.{Entry}
-use Rattle.elsa_machine.specs.AtomicSteps.{bit, Acquires as IsAcquire, Extends as IsExtension, Opens as IsOpening, Publishes as IsPublish, Releases as IsRelease}
+use Rattle.elsa_lock_free.specs.AtomicSteps.{bit, Acquires as IsAcquire, Extends as IsExtension, Opens as IsOpening, Publishes as IsPublish, Releases as IsRelease}
 use Rattle.elsa_lock_free.specs.Distinct.{EachIsNew}
 use Rattle.elsa_lock_free.specs.History.{list_of, entries, begins_hold, is_held, shared_by}
 use Rattle.elsa_lock_free.specs.SharedList.{authored, copied, items_of}

@@ -10,9 +10,9 @@ use types.Tokens.{res_dup}
 use denote.Steps.{nothing}
 use denote.RattleType.{RattleType}
 use Rattle.elsa_slots.specs.Slot.{written, write_rights}
-use Rattle.elsa_machine.specs.Geometry.{IsAt}
-use Rattle.elsa_machine.proofs.GeometryLemmas.OneToOne.{one_slot}
-use Rattle.elsa_machine.proofs.GeometryLemmas.Powers.{four_suc, four_pos}
+use Rattle.elsa_slots.specs.Geometry.{IsAt}
+use Rattle.elsa_slots.proofs.GeometryLemmas.OneToOne.{one_slot}
+use Rattle.elsa_slots.proofs.GeometryLemmas.Powers.{four_suc, four_pos}
 use Rattle.elsa_lock_free.specs.Rights.{fact, Location, Tail, at_new_buffer, in_buffer, place_written_at, place_written, IsTailAt, tail_rights, tail_owns, rights_from}
 
 starts : (n b : ℕ) → n + 1 ≡ 4 ^ b → IsAt n b 0

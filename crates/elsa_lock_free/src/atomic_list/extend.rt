@@ -18,7 +18,7 @@ use crate::tokens::{
     Author, Held, evidence, offer_extend_closed, offer_extend_open, take_acquired_closed,
     take_acquired_open, take_extended,
 };
-use elsa_machine::geometry::locate;
+use elsa_slots::geometry::locate;
 use elsa_slots::slots::{Ahead, Buffer, WriteRights};
 use logbook::{Gained, Offer};
 use std::alloc::Allocator;

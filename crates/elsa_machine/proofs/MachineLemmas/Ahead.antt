@@ -10,11 +10,11 @@ use Rattle.elsa_machine.specs.declared.machine.World.{World}
 use Rattle.elsa_machine.specs.declared.machine.turns.Phase.{Phase}
 use Rattle.elsa_machine.specs.declared.machine.turns.Phase.TheVariants.{Ready, Peeked, Acquired, Written, Filling, Denied, Looked, Done}
 use Rattle.elsa_machine.specs.declared.machine.turns.Thread.{Thread}
-use Rattle.elsa_machine.specs.Geometry.{slots_before}
+use Rattle.elsa_slots.specs.Geometry.{slots_before}
 use Rattle.elsa_machine.specs.Machine.{world_of, machine_of}
 use Rattle.elsa_machine.specs.Worlds.{authored, list_of, placed, AreAhead, AreWritten, HasFewSlots, HasWritesInOrder, is_extender, is_extending, items_placed}
 use Rattle.elsa_machine.specs.Turns.{IsHolding}
-use Rattle.elsa_machine.proofs.GeometryLemmas.Powers.{before_power}
+use Rattle.elsa_slots.proofs.GeometryLemmas.Powers.{before_power}
 use Rattle.elsa_machine.proofs.MachineLemmas.Kept.{authored_length, take_length, writes_length, HolderOk, next_items, one_of, WorldOk}
 use Rattle.elsa_machine.proofs.MachineLemmas.Pushers.{IsPushing}
 use Rattle.elsa_machine.proofs.MachineLemmas.Extenders.{IsExtending}

@@ -15,7 +15,7 @@ use Rattle.elsa_machine.specs.declared.machine.World.{World}
 use Rattle.elsa_machine.specs.declared.machine.turns.Phase.{Phase}
 use Rattle.elsa_machine.specs.declared.machine.turns.Phase.TheVariants.{Ready, Peeked, Acquired, Written, Filling, Denied, Looked, Done}
 use Rattle.elsa_machine.specs.declared.machine.turns.Thread.{Thread}
-use Rattle.elsa_machine.specs.Geometry.{slots_before}
+use Rattle.elsa_slots.specs.Geometry.{slots_before}
 use Rattle.elsa_machine.specs.Machine.{can_reserve, Moved, thread_turn, Machine, turned, opening, machine_of}
 use Rattle.elsa_machine.specs.Worlds.{authored, list_of}
 use Rattle.elsa_machine.specs.Turns.{WritesNext}

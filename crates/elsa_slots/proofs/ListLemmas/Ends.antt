@@ -6,7 +6,7 @@ use lib.Seq.{drop-cons}
 use native.Mathlib.Decide.{dec_lt}
 use native.Mathlib.Nat.{min-eq_left, min-eq_right}
 use Prim.Native.Nat.{min}
-use Rattle.elsa_machine.proofs.GeometryLemmas.Powers.{four_mono}
+use Rattle.elsa_slots.proofs.GeometryLemmas.Powers.{four_mono}
 use Rattle.std.proofs.lemmas.List.{length-drop}
 
 head : List ℕ → ℕ

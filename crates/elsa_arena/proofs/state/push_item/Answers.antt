@@ -1,5 +1,5 @@
 use Rattle.std.proofs.Common.{◌≡◌, ◌∷◌, [], ◌+◌, length, length-append, refl, subst, sym, ap, ◌∙◌, arith}
-use Rattle.elsa_machine.specs.Geometry.{slots_before}
+use Rattle.elsa_slots.specs.Geometry.{slots_before}
 use Rattle.elsa_slots.specs.Ahead.{GoesOn}
 use Rattle.elsa_slots.proofs.ListLemmas.Copies.{begins_rise, behind, closed_here}
 use Rattle.elsa_arena.specs.Ready.{AreReady, end_of}

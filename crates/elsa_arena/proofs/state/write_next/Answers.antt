@@ -1,5 +1,5 @@
 use Rattle.std.proofs.Common.{◌≡◌, ◌+◌, arith}
-use Rattle.elsa_machine.specs.Geometry.{size_of}
+use Rattle.elsa_slots.specs.Geometry.{size_of}
 use Rattle.elsa_slots.proofs.ListLemmas.Copies.{goes_further}
 use Rattle.elsa_arena.proofs.state.write_next.Goals as goal
 

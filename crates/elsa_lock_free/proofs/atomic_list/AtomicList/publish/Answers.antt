@@ -1,6 +1,6 @@
 use lib.Seq.{drop-cons}
 use Rattle.std.proofs.Common.{true, ◌≡◌, ◌++◌, ◌∷◌, [], List, ◌*◌, ◌+◌, ◌<◌, ◌^◌, ℕ, suc, length, length-append, slice_index_or, drop as drops, refl, ap, sym, ◌∙◌, arith, subst}
-use Rattle.elsa_machine.specs.Geometry.{IsAt}
+use Rattle.elsa_slots.specs.Geometry.{IsAt}
 use Rattle.elsa_lock_free.specs.declared.event.Entry.{Entry}
 use Rattle.elsa_lock_free.specs.declared.event.Event.TheVariants.{Published}
 use Rattle.elsa_lock_free.specs.Distinct.{EachIsNew}

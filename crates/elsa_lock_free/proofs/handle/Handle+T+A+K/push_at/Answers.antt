@@ -1,5 +1,5 @@
 use Rattle.std.proofs.Common.{◌≡◌, ◌^◌, refl, arith}
-use Rattle.elsa_machine.proofs.GeometryLemmas.Powers.{before_power}
+use Rattle.elsa_slots.proofs.GeometryLemmas.Powers.{before_power}
 use Rattle.elsa_lock_free.proofs.handle.Handle+T+A+K.push_at.Goals as goal
 
 pub returns-then-n-eq-LIMIT-clause-refused : goal.returns-then-n-eq-LIMIT-clause-refused

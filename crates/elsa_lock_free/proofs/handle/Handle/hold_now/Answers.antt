@@ -1,5 +1,5 @@
 use Rattle.std.proofs.Common.{◌≡◌, ◌^◌, suc, length, refl, ap, sym, ◌∙◌, arith}
-use Rattle.elsa_machine.proofs.GeometryLemmas.Powers.{before_power}
+use Rattle.elsa_slots.proofs.GeometryLemmas.Powers.{before_power}
 use Rattle.elsa_lock_free.specs.SharedList.{count}
 use Rattle.elsa_lock_free.specs.History.{list_of}
 use Rattle.elsa_lock_free.proofs.RuleLemmas.History.{list_prefix}

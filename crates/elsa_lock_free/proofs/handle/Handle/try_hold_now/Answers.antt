@@ -1,5 +1,5 @@
 use Rattle.std.proofs.Common.{◌≡◌, ◌^◌, refl, arith}
-use Rattle.elsa_machine.proofs.GeometryLemmas.Powers.{before_power}
+use Rattle.elsa_slots.proofs.GeometryLemmas.Powers.{before_power}
 use Rattle.elsa_lock_free.proofs.handle.Handle.try_hold_now.Goals as goal
 
 pub returns-then-seen_len-eq-LIMIT-clause-full : goal.returns-then-seen_len-eq-LIMIT-clause-full

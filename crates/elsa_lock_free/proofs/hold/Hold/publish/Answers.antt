@@ -1,7 +1,7 @@
 use Rattle.std.proofs.Common.{◌≡◌, ◌∷◌, [], ◌-◌, ◌<◌, ℕ, List, true, suc, Some, slice_get, length, length-append, refl, ap, sym, ◌∙◌, arith, subst}
 use Rattle.std.proofs.lemmas.List.{append-nil}
-use Rattle.elsa_machine.specs.Geometry.{IsAt}
-use Rattle.elsa_machine.proofs.GeometryLemmas.Powers.{four_pos}
+use Rattle.elsa_slots.specs.Geometry.{IsAt}
+use Rattle.elsa_slots.proofs.GeometryLemmas.Powers.{four_pos}
 use Rattle.elsa_lock_free.specs.declared.event.Entry.{Entry}
 use Rattle.elsa_lock_free.specs.declared.event.Event.TheVariants.{Acquired}
 use Rattle.elsa_lock_free.specs.SharedList.{BeginsABuffer, count, entry, items_of}

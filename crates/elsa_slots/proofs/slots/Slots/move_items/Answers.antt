@@ -1,6 +1,6 @@
 use Rattle.std.proofs.Common.{◌≡◌, suc, ◌+◌, ◌-◌, ◌*◌, ◌^◌, ◌<◌, length, take, refl, sym, ap, ◌∙◌, arith}
-use Rattle.elsa_machine.specs.Geometry.{slots_before}
-use Rattle.elsa_machine.proofs.GeometryLemmas.Powers.{before_power, four_suc}
+use Rattle.elsa_slots.specs.Geometry.{slots_before}
+use Rattle.elsa_slots.proofs.GeometryLemmas.Powers.{before_power, four_suc}
 use Rattle.elsa_slots.proofs.ListLemmas.Ends.{later_of, not_end, none_left, whole_one}
 use Rattle.std.proofs.lemmas.List.{nil_from_length, take_all}
 use Rattle.std.proofs.Math.Nat.{min-le_right}

@@ -1,7 +1,7 @@
 use Rattle.std.proofs.Common.{◌≡◌, ◌++◌, ◌+◌, List, ℕ, true, Some, length, length-append, take, refl, ap, sym, subst, ◌∙◌, arith}
 use Rattle.std.proofs.lemmas.List.{length-take}
 use Rattle.std.proofs.Math.Nat.{min-eq_left}
-use Rattle.elsa_machine.specs.Geometry.{slots_before}
+use Rattle.elsa_slots.specs.Geometry.{slots_before}
 use Rattle.elsa_slots.specs.Ahead.{GoesOn, IsClosedAt}
 use Rattle.elsa_lock_free.specs.declared.event.Event.TheVariants.{Acquired}
 use Rattle.elsa_lock_free.specs.History.{added, is_held, list_of}

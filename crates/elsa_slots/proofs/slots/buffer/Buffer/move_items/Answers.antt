@@ -1,6 +1,6 @@
 use Rattle.std.proofs.Common.{◌≡◌, suc, ◌+◌, ◌<◌, ◌∷◌, ◌++◌, [], length, drop, take, slice_get, sym, ap, ◌∙◌, arith}
 use Rattle.std.proofs.lemmas.List.{length-take-le}
-use Rattle.elsa_machine.specs.Geometry.{size_of, slots_before}
+use Rattle.elsa_slots.specs.Geometry.{size_of, slots_before}
 use Rattle.elsa_slots.proofs.ListLemmas.Copies.{ends_below, one_more}
 use Rattle.elsa_slots.proofs.ListLemmas.Ends.{same_later}
 use Rattle.elsa_slots.proofs.slots.buffer.Buffer.move_items.Goals as goal

@@ -1,5 +1,5 @@
 use Rattle.std.proofs.Common.{◌≡◌, ◌+◌, drop, length, take}
-use Rattle.elsa_machine.specs.Geometry.{slots_before}
+use Rattle.elsa_slots.specs.Geometry.{slots_before}
 use Rattle.elsa_slots.proofs.slots.buffer.Buffer.move_items.Given as goal
 
 -- The slots from this one on are as they were, and the items before it were received.
