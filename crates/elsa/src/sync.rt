@@ -3,8 +3,8 @@
 //! A locked collection is locked only during a call. A call that can block requires the permission
 //! to block (`Wait`). Reads of a [`LockFreeFrozenVec`] and look-ups of a [`LockFreeFrozenMap`]
 //! never block. A [`ShardedMap`] and a [`LockFreeShardedMap`] are maps of shards, for many threads
-//! that insert. [`history`] has the recorder, and [`machine`] the model of every schedule of the
-//! concurrent vector.
+//! that insert. [`history`] has the recorder, [`machine`] the model of every schedule of the
+//! concurrent vector, and [`tie`] the law that ties it to the vector.
 pub use elsa_lock_free::lock_free::{Handle, LockFreeFrozenVec, Pass};
 pub use elsa_lock_free::may_lock::{AttemptFault, LockPermit};
 pub use elsa_lock_free_map::handle::MapHandle;
@@ -12,7 +12,7 @@ pub use elsa_lock_free_map::map::{LockFreeFrozenMap, MapPass};
 pub use elsa_locks::map::{FrozenBTreeMap, FrozenMap};
 pub use elsa_locks::vec;
 pub use elsa_locks::vec::{FrozenVec, Iter};
-pub use elsa_machine::machine;
+pub use elsa_machine::{machine, tie};
 pub use elsa_shards::{LockFreeShardedMap, ShardedHandle, ShardedMap};
 pub use elsa_slots::geometry;
 pub use elsa_tables::Inserted;

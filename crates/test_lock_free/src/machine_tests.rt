@@ -2,7 +2,9 @@
 use crate::schedule_rows::{
     AnswerRow, EventRow, PlanRow, Row, plans_of, schedule_of, world_of, wrong_row,
 };
-use elsa_machine::machine::{Items, Plan, Turn, run};
+use elsa_lock_free::item_rule::{AnyItems, DistinctItems};
+use elsa_machine::machine::{Items, Plan, Turn, every_schedule, run};
+use elsa_machine::tie::runs_on_machine;
 use std::alloc::{AllocError, Allocator, Global};
 use test_alloc::Budget;
 
@@ -442,5 +444,13 @@ fn items_stay_in_order(rt: HostRuntime) -> Result<(), AllocError> {
     items.push(7)?;
     items.push(9)?;
     assert_eq!(rt; items.into_vec().as_slice(), [7, 9].as_slice());
+    Ok(())
+}
+
+#[test]
+fn laws_apply_to_each_rule_of_items(_rt: HostRuntime) -> Result<(), AllocError> {
+    every_schedule::<Global>();
+    runs_on_machine::<u64, AnyItems, Global>();
+    runs_on_machine::<String, DistinctItems, Global>();
     Ok(())
 }
