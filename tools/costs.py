@@ -20,7 +20,7 @@ LEAST = 5
 FAMILIES = {
     "one thread": r"elsa_(specs|arena|vec|tables|maps|index|cell|cache|run)",
     "names": r"elsa_(hash|buckets|interner|serde)",
-    "shared by threads": r"elsa_(locks|history|slots|lock_free\w*|hash_index|shared_interner|shards|\w*machine)",
+    "shared by threads": r"elsa_(locks|history|slots|lock_free\w*|hash_index|shared_interner|shards|machine)",
     "the whole, programs, C": r"elsa(_program|_cli|_c)?|test_callers",
     "examples": r"example_\w+",
     "tests": r"test_(?!callers)\w+|elsa_bench",
