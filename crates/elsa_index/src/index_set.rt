@@ -547,7 +547,7 @@ impl<'a, S: BuildHasher, A: Allocator + Copy, P: Allocator> FrozenIndexSet<'a, &
     ///
     /// # Cost
     /// That of `insert_full_text`.
-    #[tactic(auto, using(elsa_maps::proofs::Places::found_at, elsa_index::proofs::Texts::found_text))]
+    #[tactic(auto, using(elsa_maps::proofs::Places::found_at))]
     pub fn insert_text(&mut self, text: &str) -> Result<&'a str, AllocError>
         ensures accepted { IfOk result (λ b.
             (i : ℕ) × TextInserted self.old text.now i b self.new) }
