@@ -13,12 +13,12 @@ fn kept<'a>(seen: &mut FrozenIndexSet<'a, &'a str>, word: &str) -> Result<&'a st
     seen.insert_text(word)
 }
 
-// Returns the number of words, the shortest and the greatest length, and the last word after the
-// set's end.
+// Returns the number of words, the shortest and the greatest length, each as an entry, and the last
+// word after the set's end.
 fn told<'a>(
     alloc: Global,
     arena: &'a Bump,
-) -> Result<(usize, Option<usize>, Option<usize>, &'a str), AllocError> {
+) -> Result<(usize, Option<(usize, ())>, Option<(usize, ())>, &'a str), AllocError> {
     let mut seen = FrozenIndexSet::new(alloc, arena);
     let mut lengths: FrozenBTreeSet<'_, usize> = FrozenBTreeSet::new(alloc, arena);
     let mut last = "";
@@ -26,11 +26,10 @@ fn told<'a>(
         last = kept(&mut seen, word)?;
         lengths.insert(word.len(), ())?;
     }
-    let (least, greatest) = (lengths.first_key_value(), lengths.last_key_value());
     Ok((
         seen.len(),
-        least.map(|entry| entry.0),
-        greatest.map(|entry| entry.0),
+        lengths.first_key_value(),
+        lengths.last_key_value(),
         last,
     ))
 }
@@ -38,6 +37,9 @@ fn told<'a>(
 #[test]
 fn each_word_is_seen_once(rt: HostRuntime) -> Result<(), Fail> {
     let arena = Bump::new(rt.alloc());
-    assert!(rt; told(rt.alloc(), &arena)? == (4, Some(2), Some(3), "be"));
+    assert_eq!(rt;
+        told(rt.alloc(), &arena)?,
+        (4, Some((2, ())), Some((3, ())), "be")
+    );
     Ok(())
 }
