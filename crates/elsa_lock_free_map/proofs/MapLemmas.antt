@@ -13,6 +13,7 @@ use Rattle.elsa_lock_free.specs.Distinct.{AgreeOnPlaces, one_answer}
 use Rattle.elsa_lock_free.specs.SharedList.{BeginsABuffer, Continues, View, entry, item_of, items_of}
 use Rattle.elsa_lock_free.specs.declared.event.Entry.{Entry as Listed}
 use Rattle.elsa_lock_free.proofs.RuleLemmas.EachNew.{agree_on_places, one_to_one}
+use Rattle.elsa_lock_free.proofs.RuleLemmas.History.{items_prefix}
 use Rattle.elsa_tables.specs.declared.put.Inserted.{Inserted}
 use Rattle.elsa_tables.specs.Rules.{HoldsAt}
 use Rattle.elsa_lock_free_map.specs.Entries.{AgreeOnEntries, Came, HasAt, HoldsEach, InsertsOnce, Lacks, MayFollow, PushesPair, is_text, pairs_of}
@@ -165,6 +166,11 @@ came_since a b c on false i came = came ∙ on.2
 pub inserts_since : {Q K V S : Type 0} (equal : Q → K → Bool) (a b c : View (Entry K V S)) (key : Q) (r : Inserted V ℕ) → Continues a b → Lacks equal (items_of a.seen) key
     → HasAt equal (items_of c.seen) r.index key r.value → Came r.is_new b c r.index → InsertsOnce equal a c key r
 inserts_since equal a b c key r on lacks here came = (here, came_since a b c on r.is_new r.index came, λ j v h. absurd (not_lacking equal (items_of a.seen) key j h.0 lacks h.1 h.2))
+
+-- what an insertion left by a pass that has gone on since
+pub inserts_later : {Q K V S : Type 0} (equal : Q → K → Bool) (a b c : View (Entry K V S)) (key : Q) (r : Inserted V ℕ) → Continues a b → InsertsOnce equal b c key r → InsertsOnce equal a c key r
+inserts_later equal a b c key r on done =
+    (done.0, came_since a b c on r.is_new r.index done.1, λ j v h. done.2 j v (h.0, later_at (items_of a.seen) (items_of b.seen) j h.0 (items_prefix a.seen b.seen on.1) h.1, h.2, h.3))
 
 -- what holds of an item if there is one, where there is one
 pub some_has : {A : Type 0} (o : Option A) (P : A → Type 0) → IfSome o P → is_some o ≡ true → (x : A) × P x

@@ -1,5 +1,5 @@
 -- What a map's list holds: entries of a key and a value, each with evidence of the row in which its key was entered.
-use Rattle.std.specs.Prelude.{◌≡◌, ℕ, ◌+◌, ◌*◌, ◌/◌, ◌%◌, ◌^◌, ◌<◌, ◌≤◌, Bool, true, false, List, [], ◌∷◌, ◌++◌, length, map, slice_get, Some}
+use Rattle.std.specs.Prelude.{◌≡◌, ℕ, ◌+◌, ◌*◌, ◌/◌, ◌%◌, ◌^◌, ◌<◌, ◌≤◌, ◌⊎◌, Bool, true, false, List, [], ◌∷◌, ◌++◌, length, map, slice_get, Some}
 use Rattle.std.specs.Borrow.{Bor}
 use Rattle.std.specs.Str.{bytes_eq}
 use Rattle.elsa_hash_index.specs.declared.entry.Entry.{Entry}
@@ -67,3 +67,11 @@ abbrev pub InsertsOnce : {Q K V S : Type 0} → (Q → K → Bool) → View (Ent
 InsertsOnce {V = V} equal before after key r =
     HasAt equal (items_of after.seen) r.index key r.value × Came r.is_new before after r.index
     × ((j : ℕ) (v : V) → HasAt equal (items_of before.seen) j key v → (r.index ≡ j) × (r.value ≡ v) × (r.is_new ≡ false))
+
+-- the effect of a successful insertion by a query: the key that it finds stays with its value, or what was made for a
+-- query without a key was inserted
+abbrev pub GetsOrInserts : {Q K V S : Type 0} → (K → K → Bool) → (Q → K → Bool) → (K → V → Type 0) → View (Entry K V S) → View (Entry K V S) → Q → Inserted V ℕ → Type 0
+GetsOrInserts {K = K} {V = V} equal finds made before after query r =
+    ((r.is_new ≡ false) × InsertsOnce finds before after query r)
+    ⊎ ((key : K) × (value : V) × made key value × Lacks finds (items_of before.seen) query
+    × InsertsOnce equal before after key r × (r.is_new ≡ true → r.value ≡ value))

@@ -5,14 +5,14 @@
 //!
 //! A look-up reads through the handle itself: the entries that it has observed, and the row of
 //! index entries next to each buffer of them.
-ghost use Rattle.std.specs.Prelude.{◌≡◌, ◌↔◌, ◌+◌, ◌≤◌, ◌<◌, ◌^◌, true, false, IsTrue, IfOk, IfErr, IfSome, IfNone, Some, length, slice_get};
+ghost use Rattle.std.specs.Prelude.{◌≡◌, ◌↔◌, ◌⊎◌, ◌+◌, ◌≤◌, ◌<◌, ◌^◌, true, false, IsTrue, IfOk, IfErr, IfSome, IfNone, Some, Ok, Err, alloc_error, length, slice_get};
 ghost use Rattle.elsa_lock_free.specs.Attempts.{IfBusy};
 ghost use Rattle.elsa_lock_free.specs.SharedList.{Continues, IsLaterPass, IsSamePass, Meet, SeesAlike, items_of, mine};
 ghost use Rattle.elsa_lock_free.specs.Distinct.{AgreeOnPlaces, IsOneToOne};
 ghost use Rattle.elsa_hash_index.specs.declared.entry.Entry.{Entry};
 ghost use Rattle.elsa_hash_index.specs.Entries.{keys_of};
 ghost use Rattle.elsa_tables.specs.Rules.{HoldsAt};
-ghost use Rattle.elsa_lock_free_map.specs.Entries.{AgreeOnEntries, Has, HoldsEach, InsertsOnce, Lacks, PushesPair, pairs_of};
+ghost use Rattle.elsa_lock_free_map.specs.Entries.{AgreeOnEntries, GetsOrInserts, Has, HoldsEach, InsertsOnce, Lacks, PushesPair, pairs_of};
 
 use crate::entries::{EntriesHandle, Index, NewKeys, Query, hash_of, one_to_one, same_place};
 use crate::iter::{MapIter, walk};
@@ -222,6 +222,20 @@ impl<
             return Some(&self.entry(place).value);
         }
         None
+    }
+
+    /// Returns whether an entry has the key: `false` if no entry that the handle has then observed
+    /// has it. A query is as in [`find`](Self::find).
+    ///
+    /// # Cost
+    /// That of [`find`](Self::find).
+    pub fn contains_key<Q: Equivalent<K>>(&mut self, query: Q) -> bool
+        ensures continues { Continues self.old self.new }
+        ensures present { result ≡ true →
+            (v : V) × Has Q.equivalent (items_of self.new.seen) query v }
+        ensures absent { result ≡ false → Lacks Q.equivalent (items_of self.new.seen) query }
+    {
+        self.get_ref(query).is_some()
     }
 
     /// Returns the number of entries, by one load of the length. It takes no lock, allocates
@@ -519,6 +533,113 @@ impl<
         self.try_insert_absent(may, key, value)
     }
 
+    /// Inserts a key with the value that `make` returns, unless a thread has inserted an equal key.
+    /// Returns a reference to the value that the key then has, as
+    /// [`insert_ref`](Self::insert_ref) does.
+    ///
+    /// If the handle finds the key, as [`find`](Self::find) does, the call doesn't call `make`.
+    /// Otherwise `make` runs under no lock, and may use the map by another handle. If another
+    /// thread then inserts the key first, `key` and the value of `make` are dropped.
+    ///
+    /// # Errors
+    /// Fails if an allocation fails, or if the map has `2^32 - 1` entries. Then nothing is
+    /// inserted, and `key` and the value of `make` are dropped; the same insertion may succeed
+    /// later.
+    ///
+    /// # Blocks
+    /// While another thread pushes, unless the key was found.
+    ///
+    /// # Allocates
+    /// As [`insert_ref`](Self::insert_ref) does, unless the key was found.
+    ///
+    /// # Cost
+    /// That of [`find`](Self::find) if it finds the key. Otherwise that of `insert_ref` besides.
+    pub fn get_or_insert_with<R: Wait, F: FnOnce() -> V + Drop>(
+        &mut self,
+        rt: &R,
+        key: K,
+        make: F,
+    ) -> Result<Inserted<&'m V, usize>, AllocError>
+        requires callable { Lacks K.eq (items_of self.old.seen) key → F.pre make }
+        requires rule { (v : V) → F.post make v → L.holds key v }
+        ensures later { IsLaterPass self.old self.new }
+        ensures inserted { IfOk result (λ r. InsertsOnce K.eq self.old self.new key
+            (record { value = r.value.now; index = r.index; is_new = r.is_new })) }
+        ensures value { IfOk result (λ r. (r.is_new ≡ true → F.post make r.value.now)
+            × HoldsAt L.holds (K.eq key) r.value.now) }
+        ensures refused { IfErr result (λ e. mine self.new ≡ mine self.old) }
+    {
+        if let Some(known) = self.find(&key) {
+            self.one_to_one();
+            self.obeys_rule();
+            return Ok(Inserted {
+                value: &self.entry(known).value,
+                index: known,
+                is_new: false,
+            });
+        }
+        let inserted = self.insert_absent(rt, key, make())?;
+        self.obeys_rule();
+        Ok(inserted)
+    }
+
+    /// Looks up the key that `query` finds, and inserts the key and the value that `make` returns
+    /// if there is no such key: both are made only if they are needed, and `make` may fail.
+    ///
+    /// `make` runs under no lock, and may use the map by another handle. If the map then has the
+    /// key that `make` returned, the first value of that key stays, and the made ones are dropped.
+    ///
+    /// # Errors
+    /// Fails with the error of `make`, or with one that is made of an `AllocError` if an allocation
+    /// fails or the map has `2^32 - 1` entries. Then nothing is inserted, and what `make` returned
+    /// is dropped; the same insertion may succeed later.
+    ///
+    /// # Blocks
+    /// While another thread pushes, unless the key was found.
+    ///
+    /// # Allocates
+    /// As [`insert_ref`](Self::insert_ref) does, unless the key was found.
+    ///
+    /// # Cost
+    /// That of [`find`](Self::find) if it finds the key. Otherwise that of `insert_ref` besides.
+    pub fn insert_by<R, Q, E, F>(
+        &mut self,
+        rt: &R,
+        query: Q,
+        make: F,
+    ) -> Result<Inserted<&'m V, usize>, E>
+    where
+        R: Wait,
+        Q: Equivalent<K>,
+        E: From<AllocError>,
+        F: FnOnce() -> Result<(K, V), E> + Drop,
+        requires callable { Lacks Q.equivalent (items_of self.old.seen) query → F.pre make }
+        requires rule { (k : K) (v : V) → F.post make (Ok (k, v)) → L.holds k v }
+        ensures later { IsLaterPass self.old self.new }
+        ensures inserted { IfOk result (λ r. GetsOrInserts K.eq Q.equivalent
+            (λ k v. F.post make (Ok (k, v))) self.old self.new query
+            (record { value = r.value.now; index = r.index; is_new = r.is_new })) }
+        ensures refused { IfErr result (λ e. (mine self.new ≡ mine self.old)
+            × (F.post make (Err e) ⊎ E.from_gives alloc_error e)) }
+    {
+        if let Some(present) = self.find(query) {
+            self.one_to_one();
+            return Ok(Inserted {
+                value: &self.entry(present).value,
+                index: present,
+                is_new: false,
+            });
+        }
+        let (key, value) = match make() {
+            Ok(made) => made,
+            Err(error) => return Err(error),
+        };
+        match self.insert_ref(rt, key, value) {
+            Ok(inserted) => Ok(inserted),
+            Err(failed) => Err(E::from(failed)),
+        }
+    }
+
     /// Proves that each entry that the handle has observed obeys the rule. It does nothing at run
     /// time.
     pub fn obeys_rule(&self)
@@ -641,59 +762,6 @@ impl<
             × IfBusy f (λ pair. pair ≡ (key, value))) }
     {
         Ok(copied(self.try_insert_ref(may, key, value)?))
-    }
-
-    /// Returns whether an entry has the key: `false` if no entry that the handle has then observed
-    /// has it.
-    ///
-    /// # Cost
-    /// That of [`find`](Self::find).
-    pub fn contains_key(&mut self, key: K) -> bool
-        ensures continues { Continues self.old self.new }
-        ensures present { result ≡ true → (v : V) × Has K.eq (items_of self.new.seen) key v }
-        ensures absent { result ≡ false → Lacks K.eq (items_of self.new.seen) key }
-    {
-        self.get(key).is_some()
-    }
-
-    /// Inserts a key with the value that `make` returns, unless a thread has inserted an equal key.
-    ///
-    /// If the handle finds the key, as [`find`](Self::find) does, the call returns its value and
-    /// doesn't call `make`. Otherwise `make` runs under no lock, and may use the map by another
-    /// handle. If another thread then inserts the key first, the value of `make` is dropped.
-    ///
-    /// # Errors
-    /// Fails if an allocation fails, or if the map has `2^32 - 1` entries. Then nothing is
-    /// inserted; the same insertion may succeed later.
-    ///
-    /// # Blocks
-    /// While another thread pushes, unless the key was found.
-    pub fn get_or_insert_with<R: Wait, F: FnOnce() -> V + Drop>(
-        &mut self,
-        rt: &R,
-        key: K,
-        make: F,
-    ) -> Result<Inserted<V, usize>, AllocError>
-        requires callable { Lacks K.eq (items_of self.old.seen) key → F.pre make }
-        requires rule { (v : V) → F.post make v → L.holds key v }
-        ensures later { IsLaterPass self.old self.new }
-        ensures inserted { IfOk result (λ r. InsertsOnce K.eq self.old self.new key r) }
-        ensures value { IfOk result (λ r. (r.is_new ≡ true → F.post make r.value)
-            × HoldsAt L.holds (K.eq key) r.value) }
-        ensures refused { IfErr result (λ e. mine self.new ≡ mine self.old) }
-    {
-        if let Some(known) = self.find(&key) {
-            self.one_to_one();
-            self.obeys_rule();
-            return Ok(Inserted {
-                value: self.entry(known).value,
-                index: known,
-                is_new: false,
-            });
-        }
-        let inserted = self.insert_absent(rt, key, make())?;
-        self.obeys_rule();
-        Ok(copied(inserted))
     }
 
     /// Returns the key and the value at an index in the order of insertion, or `None` if the index

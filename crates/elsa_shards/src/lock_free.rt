@@ -1,5 +1,5 @@
 //! [`LockFreeShardedMap`]: a map of shards whose look-ups take no lock.
-ghost use Rattle.std.specs.Prelude.{◌≡◌, ◌<◌, ◌≤◌, [], true, All, IfOk, IfErr, IfSome, IfNone, length, map};
+ghost use Rattle.std.specs.Prelude.{◌≡◌, ◌<◌, ◌≤◌, [], true, false, All, IfOk, IfErr, IfSome, IfNone, length, map};
 ghost use Rattle.elsa_lock_free.specs.Attempts.{IfBusy};
 ghost use Rattle.elsa_lock_free.specs.SharedList.{Continues, IsLaterPass, items_of, mine};
 ghost use Rattle.elsa_lock_free_map.specs.Entries.{Has, InsertsOnce, Lacks};
@@ -294,6 +294,24 @@ impl<
         self.handles[index].get_ref(query)
     }
 
+    /// Returns whether an entry has the key: `false` if no entry of the key's shard that the handle
+    /// has then observed has it. A query is as in [`get_ref`](Self::get_ref).
+    ///
+    /// # Cost
+    /// That of [`get_ref`](Self::get_ref).
+    pub fn contains_key<Q: Equivalent<K>>(&mut self, query: Q) -> bool
+        ensures same_map { IsSameMap self.old self.new }
+        ensures on_shard { OnShard self.old.0 self.new.0
+            (shard_of S.BuildHasher S.Hasher.Hasher self.old.1 (length self.old.0)
+            (Q.hash_input query))
+            (λ before after. Continues before after
+            × (result ≡ true → (v : V) × Has Q.equivalent (items_of after.seen) query v)
+            × (result ≡ false → Lacks Q.equivalent (items_of after.seen) query)) }
+    {
+        let index = self.shard_index(query);
+        self.handles[index].contains_key(query)
+    }
+
     /// Inserts a key and its value unless a thread has inserted an equal key: the first insertion
     /// wins, for every thread. Returns a reference to the value that the key then has, its index in
     /// its shard, and whether it is new. If the key isn't new, `key` and `value` are dropped.
@@ -368,6 +386,50 @@ impl<
     {
         let index = self.shard_index(&key);
         self.handles[index].try_insert_ref(may, key, value)
+    }
+
+    /// Inserts a key with the value that `make` returns, unless a thread has inserted an equal key.
+    /// Returns a reference to the value that the key then has, as
+    /// [`insert_ref`](Self::insert_ref) does.
+    ///
+    /// If the handle finds the key, the call doesn't call `make`. Otherwise `make` runs under no
+    /// lock, and may use the map by another handle. If another thread then inserts the key first,
+    /// `key` and the value of `make` are dropped.
+    ///
+    /// # Errors
+    /// Fails if an allocation fails, or if the shard has `2^32 - 1` entries. Then nothing is
+    /// inserted, and `key` and the value of `make` are dropped; the same insertion may succeed
+    /// later.
+    ///
+    /// # Blocks
+    /// While another thread inserts into the same shard, unless the key was found.
+    ///
+    /// # Allocates
+    /// As [`insert_ref`](Self::insert_ref) does, unless the key was found.
+    ///
+    /// # Cost
+    /// Two hashes and one search, and those of `make`.
+    pub fn get_or_insert_with<R: Wait, F: FnOnce() -> V + Drop>(
+        &mut self,
+        rt: &R,
+        key: K,
+        make: F,
+    ) -> Result<Inserted<&'m V, usize>, AllocError>
+        requires callable { F.pre make }
+        requires rule { (v : V) → F.post make v → L.holds key v }
+        ensures same_map { IsSameMap self.old self.new }
+        ensures on_shard { OnShard self.old.0 self.new.0
+            (shard_of S.BuildHasher S.Hasher.Hasher self.old.1 (length self.old.0)
+            (K.hash_input key))
+            (λ before after. IsLaterPass before after
+            × IfOk result (λ r. InsertsOnce K.eq before after key
+            (record { value = r.value.now; index = r.index; is_new = r.is_new }))
+            × IfErr result (λ e. mine after ≡ mine before)) }
+        ensures value { IfOk result (λ r. (r.is_new ≡ true → F.post make r.value.now)
+            × HoldsAt L.holds (K.eq key) r.value.now) }
+    {
+        let index = self.shard_index(&key);
+        self.handles[index].get_or_insert_with(rt, key, make)
     }
 }
 
@@ -454,42 +516,5 @@ impl<
     {
         let index = self.shard_index(&key);
         self.handles[index].try_insert(may, key, value)
-    }
-
-    /// Inserts a key with the value that `make` returns, unless a thread has inserted an equal key.
-    ///
-    /// If the handle finds the key, the call returns its value and doesn't call `make`. Otherwise
-    /// `make` runs under no lock, and may use the map by another handle. If another thread then
-    /// inserts the key first, the value of `make` is dropped.
-    ///
-    /// # Errors
-    /// Fails if an allocation fails, or if the shard has `2^32 - 1` entries. Then nothing is
-    /// inserted; the same insertion may succeed later.
-    ///
-    /// # Blocks
-    /// While another thread inserts into the same shard, unless the key was found.
-    ///
-    /// # Cost
-    /// Two hashes and one search, and those of `make`.
-    pub fn get_or_insert_with<R: Wait, F: FnOnce() -> V + Drop>(
-        &mut self,
-        rt: &R,
-        key: K,
-        make: F,
-    ) -> Result<Inserted<V, usize>, AllocError>
-        requires callable { F.pre make }
-        requires rule { (v : V) → F.post make v → L.holds key v }
-        ensures same_map { IsSameMap self.old self.new }
-        ensures on_shard { OnShard self.old.0 self.new.0
-            (shard_of S.BuildHasher S.Hasher.Hasher self.old.1 (length self.old.0)
-            (K.hash_input key))
-            (λ before after. IsLaterPass before after
-            × IfOk result (InsertsOnce K.eq before after key)
-            × IfErr result (λ e. mine after ≡ mine before)) }
-        ensures value { IfOk result (λ r. (r.is_new ≡ true → F.post make r.value)
-            × HoldsAt L.holds (K.eq key) r.value) }
-    {
-        let index = self.shard_index(&key);
-        self.handles[index].get_or_insert_with(rt, key, make)
     }
 }

@@ -62,7 +62,7 @@ fn number<R: Wait>(rt: &R, memo: &mut MemoHandle<'_>, place: u64) -> Result<Opti
     let Some(value) = one.checked_add(two) else {
         return Ok(None);
     };
-    Ok(Some(memo.get_or_insert_with(rt, place, || value)?.value))
+    Ok(Some(*memo.get_or_insert_with(rt, place, || value)?.value))
 }
 
 /// Computes the numbers at every fourth index from the worker's own number on, and records each.

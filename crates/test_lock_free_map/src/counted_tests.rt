@@ -97,7 +97,7 @@ fn takes_many<'c, R: Wait>(rt: &R, map: &mut Seen<'_, 'c>, counts: &'c Counts) -
 fn answers<'c, R: Wait>(rt: &R, map: &mut Seen<'_, 'c>, call: u64, key: Key<'c>) -> bool {
     match call {
         0 => map.get(key) == Some(key.number),
-        1 => map.contains_key(key),
+        1 => map.contains_key(&key),
         _ => matches!(map.insert(rt, key, 7), Ok(put) if put.value == key.number),
     }
 }

@@ -2,6 +2,8 @@
 #![tactic(auto)]
 
 #[cfg(test)]
+mod by_tests;
+#[cfg(test)]
 mod counted_tests;
 #[cfg(test)]
 mod first_value;

@@ -14,7 +14,7 @@ fn keeps_what_another_inserted<R: Wait>(rt: &R, map: &Map) -> Result<bool, Alloc
     let mut handle = map.handle();
     map.handle().insert(rt, 3, 9)?;
     let found = handle.get_or_insert_with(rt, 3, || made.fetch_add(1, Ordering::SeqCst))?;
-    Ok(!found.is_new && found.value == 9 && made.load(Ordering::SeqCst) == 0)
+    Ok(!found.is_new && *found.value == 9 && made.load(Ordering::SeqCst) == 0)
 }
 
 /// Returns whether two calls make one value, which both return.
@@ -24,7 +24,7 @@ fn makes_once<R: Wait>(rt: &R, map: &Map) -> Result<bool, AllocError> {
     let first = handle.get_or_insert_with(rt, 7, || made.fetch_add(1, Ordering::SeqCst))?;
     let second = handle.get_or_insert_with(rt, 7, || made.fetch_add(1, Ordering::SeqCst))?;
     let once = made.load(Ordering::SeqCst) == 41;
-    Ok(first.is_new && !second.is_new && first.value == 40 && second.value == 40 && once)
+    Ok(first.is_new && !second.is_new && *first.value == 40 && *second.value == 40 && once)
 }
 
 #[test]
@@ -48,7 +48,7 @@ fn inserted_beside<R: Wait>(rt: &R, map: &Map, key: u64) -> u64 {
 fn overtaken<R: Wait>(rt: &R, map: &Map) -> Result<u64, AllocError> {
     let mut handle = map.handle();
     let done = handle.get_or_insert_with(rt, 5, || inserted_beside(rt, map, 5))?;
-    if done.is_new { Ok(0) } else { Ok(done.value) }
+    if done.is_new { Ok(0) } else { Ok(*done.value) }
 }
 
 #[test]

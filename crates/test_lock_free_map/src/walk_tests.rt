@@ -50,9 +50,9 @@ fn a_walk_gives_what_was_seen_when_it_began(rt: HostRuntime) -> Result<(), Fail>
 /// Returns whether a new handle contains a key that another inserted, and no other key.
 fn contains_what_another_inserted<R: Wait>(rt: &R, map: &Map) -> Result<bool, AllocError> {
     let mut fresh = map.handle();
-    let before = fresh.contains_key(5);
+    let before = fresh.contains_key(&5);
     map.handle().insert(rt, 5, 25)?;
-    Ok(!before && fresh.contains_key(5) && !fresh.contains_key(6))
+    Ok(!before && fresh.contains_key(&5) && !fresh.contains_key(&6))
 }
 
 #[test]

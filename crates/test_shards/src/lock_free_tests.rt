@@ -31,7 +31,7 @@ fn inserts_once(
     let second = handle.insert_ref(rt, key, 1)?;
     let third = handle.get_or_insert_with(rt, key, || 2)?;
     let same = first.value == key.wrapping_mul(3) && *second.value == first.value;
-    Ok(same && third.value == first.value && first.is_new && !second.is_new && !third.is_new)
+    Ok(same && *third.value == first.value && first.is_new && !second.is_new && !third.is_new)
 }
 
 fn fill(rt: &impl Wait, handle: &mut NumbersHandle<'_>) -> Result<bool, AllocError> {
@@ -48,7 +48,9 @@ fn finds_each(handle: &mut NumbersHandle<'_>) -> bool {
     for key in 0..MANY {
         let copy = handle.get(key);
         let is_lent = handle.get_ref(&key) == Some(&key.wrapping_mul(3));
-        let is_absent = handle.get(key.wrapping_add(MANY)).is_none();
+        let is_absent = handle.get(key.wrapping_add(MANY)).is_none()
+            && !handle.contains_key(&key.wrapping_add(MANY))
+            && handle.contains_key(&key);
         finds = finds && copy == Some(key.wrapping_mul(3)) && is_lent && is_absent;
     }
     finds
@@ -127,11 +129,14 @@ fn finds_a_text(rt: &impl Wait, alloc: Global) -> Result<bool, AllocError> {
     handle.insert_ref(rt, String::from_str(alloc, "one")?, first)?;
     let second = String::from_str(alloc, "second")?;
     handle.insert_ref(rt, String::from_str(alloc, "one")?, second)?;
+    let third = String::from_str(alloc, "third")?;
+    let made = handle.get_or_insert_with(rt, String::from_str(alloc, "one")?, || third)?;
+    let is_kept = !made.is_new && made.value.as_str() == "first" && handle.contains_key("one");
     let Some(found) = handle.get_ref("one") else {
         return Ok(false);
     };
-    let is_absent = handle.get_ref("on").is_none() && handle.get_ref("one!").is_none();
-    Ok(found.as_str() == "first" && is_absent && handle.shard_index("one") < 64)
+    let is_absent = handle.get_ref("on").is_none() && !handle.contains_key("one!");
+    Ok(is_kept && found.as_str() == "first" && is_absent && handle.shard_index("one") < 64)
 }
 
 #[test]

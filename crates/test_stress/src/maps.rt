@@ -104,13 +104,17 @@ impl<'h> Form for FreeMap<'h> {
         value: u64,
     ) -> Result<(Entry, bool), AllocError> {
         let mut handle = by_pass(&self.map, pass);
-        let stands = handle.get_or_insert_with(rt, key, move || value);
+        let stands = if value % 2 == 0 {
+            handle.get_or_insert_with(rt, key, move || value)
+        } else {
+            handle.insert_by(rt, &key, move || Ok((key, value)))
+        };
         *pass = handle.into_pass();
         let stands = stands?;
         let entry = Entry {
             number: stands.index as u64,
             key,
-            value: stands.value,
+            value: *stands.value,
         };
         Ok((entry, stands.is_new))
     }

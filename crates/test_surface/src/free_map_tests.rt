@@ -40,7 +40,7 @@ fn walks_to_the_last(rt: &impl Wait, ages: &Ages) -> Result<bool, AllocError> {
     let contains = handle.contains_key("eve") && !handle.contains_key("zoe");
     let seen = handle.pass().seen_len() == 3;
     let last = handle.iter().last();
-    Ok(made.is_new && kept.value == 50 && contains && seen && last == Some(("eve", 50)))
+    Ok(made.is_new && *kept.value == 50 && contains && seen && last == Some(("eve", 50)))
 }
 
 /// Returns whether a handle of a map with three entries does the same.

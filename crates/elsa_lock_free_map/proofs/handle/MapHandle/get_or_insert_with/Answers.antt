@@ -1,8 +1,7 @@
-use Rattle.std.proofs.Common.{◌≡◌, true, refl, rules, subst, sym, ◌∙◌}
+use Rattle.std.proofs.Common.{◌≡◌, true, refl, rules, sym, ◌∙◌}
 use Rattle.elsa_lock_free.specs.SharedList.{items_of}
 use Rattle.elsa_lock_free.proofs.RuleLemmas.History.{items_prefix}
-use Rattle.elsa_lock_free_map.specs.Entries.{InsertsOnce}
-use Rattle.elsa_lock_free_map.proofs.MapLemmas.{inserts_since, key_at, lacks_before, later_at, one_value, stands_at, stands_holds}
+use Rattle.elsa_lock_free_map.proofs.MapLemmas.{inserts_later, key_at, lacks_before, later_at, one_value, stands_at, stands_holds}
 use Rattle.elsa_lock_free_map.proofs.handle.MapHandle.get_or_insert_with.Goals as goal
 
 pub returns-in-Some-clause-inserted : goal.returns-in-Some-clause-inserted
@@ -27,11 +26,7 @@ make-requires g c =
 
 pub returns-clause-inserted : goal.returns-clause-inserted
 returns-clause-inserted g c =
-    let old = items_of c.args.self.now.seen in
-    let p = items_prefix c.args.self.now.seen c.find.new.self.seen c.find.ensures.continues.1 in
-    let lacks = lacks_before g.K.PartialEq.eq old (items_of c.find.new.self.seen) c.args.key p c.in_default.ensures.absent in
-    let s = subst (λ r. InsertsOnce g.K.PartialEq.eq c.find.new.self c.insert_absent.new.self c.args.key r) (sym c.copied.ensures) c.in_ok-inserted.ensures.inserted in
-    inserts_since g.K.PartialEq.eq c.args.self.now c.find.new.self c.insert_absent.new.self c.args.key c.copied.result c.find.ensures.continues lacks s.0 s.1
+    inserts_later g.K.PartialEq.eq c.args.self.now c.find.new.self c.insert_absent.new.self c.args.key _ c.find.ensures.continues c.in_ok-inserted.ensures.inserted
 
 pub returns-in-Some-clause-value : goal.returns-in-Some-clause-value
 returns-in-Some-clause-value g c =
@@ -40,6 +35,6 @@ returns-in-Some-clause-value g c =
 
 pub returns-clause-value : goal.returns-clause-value
 returns-clause-value g c =
-    let s = subst (λ r. InsertsOnce g.K.PartialEq.eq c.find.new.self c.insert_absent.new.self c.args.key r) (sym c.copied.ensures) c.in_ok-inserted.ensures.inserted in
-    let made : c.copied.result.is_new ≡ true → goal.F-post g c.args.make c.copied.result.value = search rules in
-    (made, stands_holds g.K.PartialEq.eq g.L.EntryRule.holds (items_of c.insert_absent.new.self.seen) c.args.key c.copied.result.index c.copied.result.value c.obeys_rule-2.ensures s.0)
+    let r = c.in_ok-inserted.inserted in
+    let made : r.is_new ≡ true → goal.F-post g c.args.make r.value.now = search rules in
+    (made, stands_holds g.K.PartialEq.eq g.L.EntryRule.holds (items_of c.insert_absent.new.self.seen) c.args.key r.index r.value.now c.obeys_rule-2.ensures c.in_ok-inserted.ensures.inserted.0)
