@@ -9,6 +9,7 @@ pub use elsa_lock_free::lock_free::{Handle, LockFreeFrozenVec, Pass};
 pub use elsa_lock_free::may_lock::{AttemptFault, LockPermit};
 pub use elsa_lock_free_map::handle::MapHandle;
 pub use elsa_lock_free_map::map::{LockFreeFrozenMap, MapPass};
+pub use elsa_lock_free_map::once::{Made, OnceMap, OnceValue};
 pub use elsa_locks::map::{FrozenBTreeMap, FrozenMap};
 pub use elsa_locks::vec;
 pub use elsa_locks::vec::{FrozenVec, Iter};

@@ -7,6 +7,7 @@ pub mod handle;
 mod into_pairs;
 pub mod iter;
 pub mod map;
+pub mod once;
 mod pairs;
 pub mod place_text;
 mod text;

@@ -12,6 +12,7 @@ mod form;
 mod lists;
 mod maps;
 mod names;
+mod once;
 mod owned;
 mod recorded;
 mod script;
@@ -20,13 +21,14 @@ mod shards;
 use crate::lists::{FreeList, LockedList, TriedList};
 use crate::maps::{FreeMap, HashedMap, OrderedMap, TriedMap};
 use crate::names::{Names, ShardedNames};
+use crate::once::MadeOnce;
 use crate::owned::{OwnedList, OwnedMap};
 use crate::script::Script;
 use crate::shards::{FreeShards, LockedShards};
 use elsa::interner::{ShardedInterner, SharedInterner};
 use elsa::sync::{
     FrozenBTreeMap, FrozenMap, FrozenVec, LockFreeFrozenMap, LockFreeFrozenVec, LockFreeShardedMap,
-    LockPermit, ShardedMap,
+    LockPermit, OnceMap, ShardedMap,
 };
 use std::alloc::{AllocError, Global};
 use std::hash::BuildHasherDefault;
@@ -42,13 +44,14 @@ const USAGE: &str = "usage: test_stress SEED SECONDS PAIRS CALLS";
 const SHARDS: usize = 3;
 
 /// The names of the collections.
-const FORMS: [&str; 14] = [
+const FORMS: [&str; 15] = [
     "LockFreeFrozenVec",
     "LockFreeFrozenMap",
     "LockFreeFrozenVec without waiting",
     "LockFreeFrozenMap without waiting",
     "LockFreeFrozenVec of owners",
     "LockFreeFrozenMap of owners",
+    "OnceMap",
     "FrozenVec",
     "FrozenMap",
     "FrozenBTreeMap",
@@ -91,6 +94,10 @@ fn of_form<R: Threads + Wait + Sync>(
         "LockFreeFrozenMap of owners" => {
             let map = OwnedMap::new(alloc, heap)?;
             Ok(form::runs_well(rt, alloc, heap, &map, script)? && map.ends_well())
+        }
+        "OnceMap" => {
+            let map = OnceMap::new(heap)?;
+            form::runs_well(rt, alloc, heap, &MadeOnce { map }, script)
         }
         "FrozenVec" => {
             let vector = FrozenVec::new(heap);
