@@ -1,27 +1,10 @@
 """The rows that are measured: what each side runs, and the goals."""
-from job import (
-    ALONE,
-    APPEND_GROWTH,
-    CELLS,
-    CRAFTED,
-    FREE,
-    FREE_MAP,
-    FREE_SHARDS,
-    LOCKED,
-    LONGEST,
-    MAP_GROWTH,
-    NAMES,
-    NAMES_GROWTH,
-    OUR_HASH,
-    OWNED,
-    OWNERS,
-    SHARDS,
-    SHARED,
-    SHARED_SHARDS,
-    WORKERS,
-    Job,
-)
+from job import ALONE, CELLS, CRAFTED, FREE, FREE_MAP, FREE_SHARDS, LOCKED, LONGEST, NAMES, OUR_HASH, OWNED, OWNERS
+from job import APPEND_GROWTH, MAP_GROWTH, NAMES_GROWTH, SHARDS, SHARED, SHARED_SHARDS, WORKERS, Job
 from programs import CORPORA, CRAFTED_KEYS, FLOODS, SIZES, crafted_name
+
+# How often a row of growth is run, for each time that another one is.
+OFTEN = {10_000: 3, 100_000: 2, 10_000_000: 0.4}
 
 
 def names_jobs(peers, cli):
@@ -55,8 +38,10 @@ def names_jobs(peers, cli):
         )
 
 
-def of_threads(title, threads):
-    return f"{title}, {threads} threads" if threads != "1" else f"{title}, 1 thread"
+def by_threads(group, title, threads, sides, goal="", peer_goal="", **more):
+    """The row of a job by so many threads, whose programs print the time themselves."""
+    name = f"{title}, {threads} threads" if threads != "1" else f"{title}, 1 thread"
+    return Job(group, name, sides, goal, peer_goal, by="inside", threads=int(threads), **more)
 
 
 def calls(peers, bench, form, best, count):
@@ -100,14 +85,8 @@ def alone_jobs(peers, bench):
         sides = calls(peers, bench, form, best, str(count)) | hashed
         yield Job(ALONE, title, sides, "", "1", by="inside", references=tuple(hashed))
     for size in SIZES:
-        yield Job(
-            MAP_GROWTH,
-            f"{size:,}",
-            calls(peers, bench, "map_insert", "arena and hashbrown", str(size)),
-            by="inside",
-            often={10_000: 3, 100_000: 2, 10_000_000: 0.4}.get(size, 1),
-            entries=size,
-        )
+        sides = calls(peers, bench, "map_insert", "arena and hashbrown", str(size))
+        yield Job(MAP_GROWTH, f"{size:,}", sides, by="inside", often=OFTEN.get(size, 1), entries=size)
 
 
 def append_jobs(peers, bench):
@@ -117,34 +96,16 @@ def append_jobs(peers, bench):
         others = calls(peers, bench, f"map_{call}", "arena and hashbrown", str(size))
         return others | {"elsa": [bench, f"append_map_{call}", "1", str(size)]}
 
-    often = {10_000: 3, 100_000: 2, 10_000_000: 0.4}
     for size in SIZES:
         goal, memory = ("0.75", "0.8") if size == 10_000_000 else ("", "")
-        yield Job(
-            APPEND_GROWTH,
-            f"{size:,}",
-            sides("insert", size),
-            "",
-            goal,
-            by="inside",
-            often=often.get(size, 1),
-            entries=size,
-            memory_goal=memory,
-        )
+        how = dict(by="inside", often=OFTEN.get(size, 1), entries=size, memory_goal=memory)
+        yield Job(APPEND_GROWTH, f"{size:,}", sides("insert", size), "", goal, **how)
     for call, title, goal in (("clone", "clone", "1.6"), ("collect", "collecting", "")):
         name = f"`FrozenAppendMap`, {title}, of 1,000,000"
         yield Job(ALONE, name, sides(call, 1_000_000), "", goal, by="inside", often=0.4)
     for size in (1_000_000, 10_000_000):
-        yield Job(
-            APPEND_GROWTH,
-            f"{size:,}, get",
-            sides("get", size),
-            "",
-            "1.3",
-            by="inside",
-            often=often.get(size, 1),
-            entries=size,
-        )
+        how = dict(by="inside", often=OFTEN.get(size, 1), entries=size)
+        yield Job(APPEND_GROWTH, f"{size:,}, get", sides("get", size), "", "1.3", **how)
 
 
 def crafted_jobs(peers, bench):
@@ -213,29 +174,16 @@ def locked_jobs(peers, bench):
             sides = {"elsa": [bench, form, threads, "2000000"]}
             same = form.removeprefix("shards_")
             sides |= {side: [peers / "sync_map", word, same, threads, "2000000"] for side, word in others.items()}
-            yield Job(
-                group,
-                of_threads(title, threads),
-                sides,
-                goal,
-                "0.7" if group == SHARDS and threads == "4" else "",
-                by="inside",
-                threads=int(threads),
-            )
+            peer_goal = "0.7" if group == SHARDS and threads == "4" else ""
+            yield by_threads(group, title, threads, sides, goal, peer_goal)
     for threads in ("1", "4"):
         sides = {
             "elsa": [bench, "recorded", threads, "500000"],
             "the same map, not recorded": [bench, "copy", threads, "500000"],
             "lock, map and two lists": [peers / "sync_map", "parking_lot", "recorded", threads, "500000"],
         }
-        yield Job(
-            "recorder",
-            f"500,000 calls, {threads} threads" if threads != "1" else "500,000 calls, 1 thread",
-            sides,
-            by="inside",
-            threads=int(threads),
-            references=("the same map, not recorded",),
-        )
+        references = ("the same map, not recorded",)
+        yield by_threads("recorder", "500,000 calls", threads, sides, references=references)
 
 
 def free_jobs(peers, bench):
@@ -243,18 +191,9 @@ def free_jobs(peers, bench):
 
     def job(title, form, threads, count, goal, others=locks):
         sides = {"elsa": [bench, form, threads, count]}
-        sides |= {
-            side: [peers / "lock_free", word, form, threads, count]
-            for side, word in ({"upstream": "upstream", "slots": "slots"} | others).items()
-        }
-        return Job(
-            FREE,
-            f"{title}, {threads} threads" if threads != "1" else f"{title}, 1 thread",
-            sides,
-            goal,
-            by="inside",
-            threads=int(threads),
-        )
+        words = {"upstream": "upstream", "slots": "slots"} | others
+        sides |= {side: [peers / "lock_free", word, form, threads, count] for side, word in words.items()}
+        return by_threads(FREE, title, threads, sides, goal)
 
     for threads in ("1", "2", "4"):
         pushes = job("pushes", "push", threads, "1000000", "1.3")
@@ -281,14 +220,8 @@ def free_jobs(peers, bench):
             yield job(title, form, threads, "2000000" if others else "20000000", at_rest, others)
     for title, form, others, _, by_one, by_more in reads:
         for threads in ("1", "2", "4"):
-            during = job(
-                f"{title}, during pushes",
-                f"{form}_beside",
-                threads,
-                "1000000" if others else "10000000",
-                by_one if threads == "1" else by_more,
-                others,
-            )
+            goal, count = by_one if threads == "1" else by_more, "1000000" if others else "10000000"
+            during = job(f"{title}, during pushes", f"{form}_beside", threads, count, goal, others)
             during.threads += 1
             yield during
     yield job("ten walks over a million items", "walk", "1", "1000000", "0.4")
@@ -302,17 +235,8 @@ def free_map_jobs(peers, bench):
         sides = {"elsa": [bench, form, threads, count]}
         same = form.removeprefix("shards_")
         sides |= {side: [peers / "free_map", word, same, threads, count] for side, word in others.items()}
-        return Job(
-            group,
-            of_threads(title, threads),
-            sides,
-            "",
-            goal,
-            by="inside",
-            threads=int(threads),
-            compared_with="dashmap",
-            memory_goal=memory_goal,
-        )
+        goals = dict(peer_goal=goal, memory_goal=memory_goal)
+        return by_threads(group, title, threads, sides, compared_with="dashmap", **goals)
 
     insertions = {"dashmap": "dashmap", "dashmap, by entries": "dashmap_entry"} | locks
     for form, title, goals in (
@@ -331,15 +255,8 @@ def free_map_jobs(peers, bench):
     ):
         for ending, words in (("", ""), ("_beside", ", during insertions")):
             for threads in ("1", "2", "4"):
-                row = job(
-                    title + words,
-                    form + ending,
-                    threads,
-                    "2000000",
-                    goals.get(threads, ""),
-                    "",
-                    {"dashmap": "dashmap"} | locks,
-                )
+                others = {"dashmap": "dashmap"} | locks
+                row = job(title + words, form + ending, threads, "2000000", goals.get(threads, ""), "", others)
                 row.threads += 1 if ending else 0
                 yield row
     for form, title, goals in (
@@ -369,7 +286,7 @@ def owned_jobs(peers, bench):
             sides = {"elsa": [bench, form, threads, "4000000"]}
             sides |= {side: [peers / "owned", side, form, threads, "4000000"] for side in ("upstream", peer)}
             goal = "1" if threads == "4" else ""
-            yield Job(OWNED, of_threads(title, threads), sides, goal, goal, by="inside", threads=int(threads))
+            yield by_threads(OWNED, title, threads, sides, goal, goal)
 
 
 def shared_jobs(peers, bench):
@@ -382,17 +299,8 @@ def shared_jobs(peers, bench):
         form = f"names_{words}"
         sides = {"elsa": [bench, shards + form, threads, count]}
         sides |= {side: [peers / "shared_names", word, form, threads, count] for side, word in others.items()}
-        return Job(
-            SHARED_SHARDS if shards else SHARED,
-            of_threads(title, threads),
-            sides,
-            "",
-            goal,
-            by="inside",
-            threads=int(threads),
-            compared_with="dashmap",
-            memory_goal=memory_goal,
-        )
+        goals, group = dict(peer_goal=goal, memory_goal=memory_goal), SHARED_SHARDS if shards else SHARED
+        return by_threads(group, title, threads, sides, compared_with="dashmap", **goals)
 
     for words, title, goals in (
         ("zipf", "by Zipf", {"1": "0.95", "4": "0.6"}),

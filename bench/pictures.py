@@ -2,8 +2,8 @@
 import html, re
 
 from job import CRAFTED, LONGEST, NAMES_GROWTH, WORKERS
+from sizes import rows_of
 from tables import here
-from uses import rows_of
 
 INK = {"elsa": "#2e7d32", "upstream": "#5f6b7a", "peer": "#9c5d00"}
 HEAD = '<svg xmlns="http://www.w3.org/2000/svg" viewBox="0 0 {0} {1}" width="{0}" height="{1}" font-family="sans-serif" font-size="{2}">'

@@ -35,8 +35,12 @@ def installed(package, program):
     return program
 
 
-def build_peers(elsa):
+def build_peers(elsa, bindings=None):
+    """Builds the programs of the other sides; with the calls from Rust too if the folder has the archive of elsa_c."""
     command = ["cargo", "build", "--release", "--quiet"]
+    if bindings:
+        os.environ["ELSA_LIB"] = str(bindings)
+        command += ["--features", "peers/bindings"]
     if elsa:
         # cargo caps the lints of a registry's crates, and not of one in a folder
         os.environ["RUSTFLAGS"] = "--cap-lints=warn"
@@ -67,22 +71,24 @@ def build_ours():
     )
 
 
-def build_quickly():
+def build_quickly(as_built):
     """Our two programs, built without their proofs; returns their files."""
     QUICK.mkdir(parents=True, exist_ok=True)
-    for crate, words in [("elsa_cli", ["intern"]), ("elsa_bench", ["copy", "1", "1"])]:
+    for crate, words in [("elsa_cli", ["intern"]), ("elsa_bench", ["copy", "1", "1"])] if not as_built else []:
         subprocess.run([root / "tools" / "quick", crate, QUICK / crate, *words], stdout=subprocess.DEVNULL, check=True)
     return QUICK / "elsa_cli", QUICK / "elsa_bench"
 
 
-def write_corpora():
-    """Writes the inputs of the names' rows, unless an earlier run did."""
-    wanted = ["zipf", "distinct", "words", "symbols", "long", *(str(size) for size in SIZES)]
-    lacking = [name for name in wanted if not (CORPORA / name).exists()]
+ALL = ("zipf", "distinct", "words", "symbols", "long", *map(str, SIZES), *FLOODS, "empty")
+
+
+def write_corpora(wanted=ALL):
+    """Writes these inputs, unless an earlier run did."""
+    lacking = [name for name in wanted if not (CORPORA / name).exists() and name not in (*FLOODS, "empty")]
     if lacking:
         subprocess.run([here / "corpora", CORPORA, *lacking], check=True)
     (CORPORA / "empty").write_bytes(b"")
-    for name in FLOODS:
+    for name in [name for name in FLOODS if name in wanted]:
         if not (CORPORA / name).exists():
             made = subprocess.run([root / "tools" / "program_checks", "names", name, "400000"], capture_output=True, check=True)
             (CORPORA / name).write_bytes(made.stdout)

@@ -4,8 +4,8 @@ import xml.etree.ElementTree
 
 from scripts import root
 
-import pictures, tables, uses
-from job import ALONE, CRAFTED, NAMES, NAMES_GROWTH, OUR_HASH, Job
+import first_hour, pictures, sizes, tables
+from job import ALONE, CRAFTED, NAMES, NAMES_GROWTH, Job
 from jobs import all_jobs
 from measuring import spread_of
 from programs import CRAFTED_KEYS, FLOODS, crafted_name
@@ -89,62 +89,58 @@ class TestTables(unittest.TestCase):
         self.assertEqual(tables.crafted_note(jobs[:2]), "")
 
 
-class TestUses(unittest.TestCase):
+class TestSizes(unittest.TestCase):
     page = "### One thread\n\n" + tables.table(
         [
             measured(
                 ALONE,
                 "`FrozenVec`, push",
                 {"elsa": 0.01, "upstream": 0.04, "arena and `Vec`": 0.02},
-                {"elsa": 16384, "upstream": 32768, "arena and `Vec`": 65536},
-                memory_goal="1",
             )
         ]
     )
 
     def test_a_row_of_the_page_is_read_as_it_was_written(self):
-        row = uses.rows_of(self.page)["One thread", "`FrozenVec`, push"]
+        row = sizes.rows_of(self.page)["One thread", "`FrozenVec`, push"]
         self.assertEqual(row.times, {"elsa": 10.0, "upstream": 40.0, "peer": 20.0})
-        self.assertEqual(row.memory, {"elsa": 16.0, "upstream": 32.0, "peer": 64.0})
         self.assertEqual(row.peer, "arena and `Vec`")
-
-    def test_upstream_with_our_hash_has_the_third_figure(self):
-        times = {"elsa": 0.1, "upstream": 0.3, OUR_HASH: 0.2, "peer": 0.4}
-        row = measured(ALONE, "`FrozenMap`, get, u64 keys", times, references=(OUR_HASH,))
-        page = "### One thread\n\n" + tables.table([row])
-        self.assertEqual(list(uses.rows_of(page)), [("One thread", "`FrozenMap`, get, u64 keys")])
-        self.assertIn("| 100 / 300 / 200 / 400 |", uses.uses(page))
-
-    def test_a_use_has_the_figures_of_its_row(self):
-        self.assertIn(
-            "| append items | `FrozenVec` | 10 / 40 / – / 20 | 17 / 34 / 67 | arena and `Vec` |", uses.uses(self.page)
-        )
-        self.assertEqual(len(uses.uses(self.page).strip().split("\n")), 3)
-
-    def test_the_longest_calls_have_a_column_if_they_were_measured(self):
-        page = (
-            self.page
-            + "\n### Longest insertion\n\n"
-            + tables.table([measured("longest", "`FrozenMap`, of 1,000,000", {"elsa": 0.25})])
-        )
-        self.assertIn("longest call in ms", uses.uses(page))
-        self.assertNotIn("longest call in ms", uses.uses(self.page))
-
-    def test_the_published_uses_are_those_of_the_published_rows(self):
-        page, rows = ((root / "bench" / name).read_text() for name in ("RESULTS.md", "TABLES.md"))
-        self.assertIn(uses.uses(rows), page, "run bench/run --pictures")
-        self.assertEqual(len(uses.uses(rows).strip().split("\n")), 2 + len(uses.USES))
 
     def test_the_published_sizes_are_those_of_the_published_rows(self):
         page, rows = ((root / "bench" / name).read_text() for name in ("RESULTS.md", "TABLES.md"))
-        self.assertIn(uses.sizes(rows), page, "run bench/run --pictures")
-        self.assertEqual(len(uses.sizes(rows).strip().split("\n")), 2 + len(uses.SIZES))
+        self.assertIn(sizes.sizes(rows), page, "run bench/run --pictures")
+        self.assertEqual(len(sizes.sizes(rows).strip().split("\n")), 2 + len(sizes.SIZES))
 
     def test_a_size_has_the_nanoseconds_of_each_side(self):
         self.assertEqual(
-            uses.sizes(page_of(*growth())).strip().split("\n")[2:],
+            sizes.sizes(page_of(*growth())).strip().split("\n")[2:],
             ["| name | `elsa intern` | 100 / 400 / 90 | 100 / 400 / 90 | hand-written |"],
         )
+
+
+class TestFirstHour(unittest.TestCase):
+    def rows(self):
+        return list(first_hour.first_jobs(pathlib.Path("peers"), "cli", "bench"))
+
+    def test_a_type_has_a_row_for_each_size(self):
+        small = [job for job in self.rows() if job.threads == 1 and job.group != job.name and job.name != "`elsa intern`"]
+        for at in range(0, len(small), len(first_hour.SIZES)):
+            row = small[at : at + len(first_hour.SIZES)]
+            self.assertEqual({(job.group, job.name) for job in row}, {(row[0].group, row[0].name)})
+            self.assertEqual([int(job.sides["elsa"][-1]) for job in row], list(first_hour.SIZES))
+
+    def test_the_ratio_is_the_median_of_the_ratios_of_one_round(self):
+        job = measured("look up", "map", {"elsa": 1.0, "peer": 1.0}, entries=1000)
+        job.runs = {"elsa": [1.0, 9.0, 2.0], "peer": [2.0, 3.0, 4.0]}
+        self.assertEqual(first_hour.ratio_of(job, "peer"), "**0.50** (0.50 to 3.00)")
+
+    def test_a_row_has_the_cells_of_its_head(self):
+        jobs = self.rows()[: len(first_hour.SIZES)]
+        for job in jobs:
+            job.runs = {side: [0.002, 0.004, 0.003] for side in job.sides}
+            job.times = {side: 0.003 for side in job.sides}
+        (line,) = first_hour.rows_of_uses(jobs)
+        self.assertEqual(line[-2:], [first_hour.HASHBROWN, "1.00 / 1.00 / 1.00 / 1.00"])
+        self.assertEqual(line[3:-2], ["**1.00** (1.00 to 1.00)"] * len(first_hour.SIZES))
 
 
 def page_of(*rows):

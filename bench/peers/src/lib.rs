@@ -186,6 +186,7 @@ impl std::hash::Hasher for SeededHasher {
 }
 
 /// Its builder, with the two secret words.
+#[derive(Clone)]
 pub struct Seeded {
     start: u64,
     factor: u64,

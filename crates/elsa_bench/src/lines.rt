@@ -1,7 +1,11 @@
-//! The map for large collections with texts of standard input as keys, which may be crafted against
-//! its hasher: COUNT insertions.
+//! The first COUNT lines of standard input as texts: insertions into the map for large collections,
+//! against whose hasher they may be crafted; puts of all threads into an interner that they share.
+ghost use Rattle.std.specs.Prelude.{◌≡◌, ◌<◌};
+
 use bumpalo::Bump;
 use elsa::append_map::{AppendMap, By};
+use elsa::interner::{ShardedInterner, SharedInterner};
+use elsa::sync::LockFreeFrozenMap;
 use elsa::{FrozenAppendMap, Own, SeededState};
 use elsa_vec::stable::KeepsText;
 use std::alloc::{AllocError, Global};
@@ -9,6 +13,9 @@ use std::hash::{BuildHasher, BuildHasherDefault, FoldHasher};
 use std::io::{self, BufRead, BufReader, Input};
 use std::random::RandomSource;
 use std::rt::Clock;
+use std::sync::Wait;
+use std::thread;
+use std::thread::Threads;
 use std::time::Instant;
 
 /// The hasher of the map.
@@ -91,4 +98,133 @@ pub fn timed<R: Clock + Input + RandomSource>(
         }
         Hashed::Seeded => timed_insertions(rt, alloc, SeededState::new(rt)?, texts.as_slice()),
     }
+}
+
+/// What all threads put texts into.
+#[derive(Clone, Copy)]
+pub enum Interned {
+    /// `SharedInterner` of the texts where they are.
+    Shared,
+    /// `ShardedInterner` of the texts where they are.
+    Shards,
+    /// A lock-free map of copies of the texts, which is what `elsa_c` has.
+    Copied,
+}
+
+/// The map of [`Interned::Copied`].
+type Copies = LockFreeFrozenMap<String, (), SeededState>;
+
+fn puts<'t, R: Wait>(
+    rt: &R,
+    names: &SharedInterner<&'t str, SeededState>,
+    texts: &'t [String],
+    first: usize,
+    each: usize,
+) -> u64 {
+    let mut names = names.handle();
+    let mut sum = 0u64;
+    for place in first..first.saturating_add(each) {
+        if let Some(text) = texts.get(place) {
+            if let Ok(number) = names.put(rt, text.as_str()) {
+                sum = sum.wrapping_add(number as u64);
+            }
+        }
+    }
+    sum
+}
+
+fn puts_in_shards<'t, R: Wait>(
+    rt: &R,
+    names: &ShardedInterner<&'t str, SeededState>,
+    texts: &'t [String],
+    first: usize,
+    each: usize,
+) -> u64 {
+    let mut sum = 0u64;
+    let Ok(mut names) = names.handle() else {
+        return sum;
+    };
+    for place in first..first.saturating_add(each) {
+        if let Some(text) = texts.get(place) {
+            if let Ok(number) = names.put(rt, text.as_str()) {
+                sum = sum.wrapping_add(number as u64);
+            }
+        }
+    }
+    sum
+}
+
+fn puts_of_copies<R: Wait>(
+    rt: &R,
+    alloc: Global,
+    names: &Copies,
+    texts: &[String],
+    first: usize,
+    each: usize,
+) -> u64 {
+    let mut names = names.handle();
+    let mut sum = 0u64;
+    for place in first..first.saturating_add(each) {
+        let Some(text) = texts.get(place) else {
+            return sum;
+        };
+        let number = match names.find(text.as_str()) {
+            Some(number) => number,
+            None => {
+                let Ok(name) = String::from_str(alloc, text.as_str()) else {
+                    return sum;
+                };
+                let Ok(put) = names.insert_ref(rt, name, ()) else {
+                    return sum;
+                };
+                put.index
+            }
+        };
+        sum = sum.wrapping_add(number as u64);
+    }
+    sum
+}
+
+/// Returns the nanoseconds that the puts of all threads took, each of its part of the first `count`
+/// texts of standard input, and the sum of the numbers.
+///
+/// # Errors
+/// Fails if the clock, an allocation, the source of random bytes or standard input fails, or if a
+/// thread can't be started.
+pub fn timed_interned<R: Wait + Threads + Sync + Clock + Input + RandomSource>(
+    rt: &R,
+    alloc: Global,
+    interned: Interned,
+    threads: usize,
+    count: usize,
+) -> io::Result<(u128, u64)>
+    requires { 0 < threads }
+{
+    let texts = read_texts(rt, alloc, count)?;
+    let texts = texts.as_slice();
+    let each = texts.len() / threads;
+    let seeded = SeededState::new(rt)?;
+    let shared = SharedInterner::with_hasher(alloc, seeded)?;
+    let shards = ShardedInterner::with_shards(alloc, 64, seeded)?;
+    let copies = Copies::with_hasher(alloc, seeded)?;
+    let (shared, shards, copies) = (&shared, &shards, &copies);
+    let start = Instant::now(rt)?;
+    let sums = thread::map_indices(
+        rt,
+        alloc,
+        threads,
+        &|i| {
+            let first = i.wrapping_mul(each);
+            match interned {
+                Interned::Shared => puts(rt, shared, texts, first, each),
+                Interned::Shards => puts_in_shards(rt, shards, texts, first, each),
+                Interned::Copied => puts_of_copies(rt, alloc, copies, texts, first, each),
+            }
+        },
+    )?;
+    let nanos = start.elapsed(rt)?.as_nanos();
+    Ok((
+        nanos,
+        sums.iter().fold(0u64, |sum, one| sum.wrapping_add(*one)),
+    ))
 }

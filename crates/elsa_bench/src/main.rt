@@ -21,6 +21,9 @@
 //! - `FrozenAppendMap` with the first COUNT lines of standard input as keys, `put ` before each of
 //!   them left out: `lines_default` (insertions, with the default hasher), `lines_seeded` (with
 //!   `SeededState`).
+//! - Interners that all threads put the first COUNT lines of standard input into, each thread its
+//!   part of them: `lines_shared`, `lines_shards`, and `lines_copied` (a lock-free map of copies of
+//!   the texts, which is what `elsa_c` has).
 //! - Interners: `names_zipf` and `names_distinct` (COUNT puts of names in all, into a shared
 //!   interner), `shards_names_zipf` and `shards_names_distinct` (the same into an interner of
 //!   shards), `texts_zipf` and `texts_distinct` (short-lived texts, put into a shared interner by
@@ -36,6 +39,11 @@
 //! - `cell::FrozenVec`: `cell_vec_push`, `cell_vec_get` and `cell_vec_walk` (ten times), and
 //!   `cell::FrozenMap`: `cell_map_insert` and `cell_map_get`, as those of the collections of one
 //!   thread.
+//! - Collections of COUNT entries, with the number of repetitions in place of THREADS: `map`,
+//!   `map_text`, `append_map`, `append_map_text`, `index_map`, `tree`, `cell_map` and `cell_tree`,
+//!   each followed by `_fill` (made, filled and dropped), `_present` or `_absent` (COUNT look-ups);
+//!   `vec_fill` and `numbers_fill` (a `TypedArena` of numbers); `map`, `index_map` and `tree`
+//!   followed by `_walks` or `_copies`; `vec_walks`.
 //! - `TypedArena`: `arena_alloc`, `arena_walk` (ten times) and `arena_drop`, of COUNT values that
 //!   own memory.
 #![tactic(auto)]
@@ -52,6 +60,7 @@ mod names;
 mod owned;
 mod owners;
 mod recorded;
+mod small;
 mod tables;
 mod vector;
 mod whole_maps;
@@ -60,9 +69,10 @@ use crate::cells::CellCall;
 use crate::draws::Words;
 use crate::free_map::{Free, Sought};
 use crate::items::ItemCall;
-use crate::lines::Hashed;
+use crate::lines::{Hashed, Interned};
 use crate::locked_map::{LAST, LAST_OF_FEW, Locked};
 use crate::owners::OwnerCall;
+use crate::small::{Kind, SmallCall};
 use crate::tables::TableCall;
 use crate::whole_maps::WholeMap;
 use elsa::sync::{FrozenMap, LockFreeFrozenMap, LockFreeShardedMap, ShardedMap};
@@ -106,6 +116,34 @@ fn sought_of(form: &str) -> Option<(Sought, bool)> {
         "free_get_absent_beside" => Some((Sought::Absent, true)),
         _ => None,
     }
+}
+
+/// Returns a collection of a few entries, and what this form times of it. `None` for any other
+/// form.
+fn small_of(form: &str) -> Option<(Kind, SmallCall)> {
+    let (kind, call) = form.rsplit_once('_')?;
+    let call = match call {
+        "fill" => SmallCall::Fill,
+        "present" => SmallCall::Present,
+        "absent" => SmallCall::Absent,
+        "walks" => SmallCall::Walk,
+        "copies" => SmallCall::Copy,
+        _ => return None,
+    };
+    let kind = match kind {
+        "map" => Kind::Map,
+        "map_text" => Kind::MapText,
+        "append_map" => Kind::AppendMap,
+        "append_map_text" => Kind::AppendMapText,
+        "index_map" => Kind::IndexMap,
+        "tree" => Kind::Tree,
+        "cell_map" => Kind::CellMap,
+        "cell_tree" => Kind::CellTree,
+        "vec" => Kind::Items,
+        "numbers" => Kind::Arena,
+        _ => return None,
+    };
+    Some((kind, call))
 }
 
 /// Returns what this form times of a `TypedArena`. `None` for any other form.
@@ -309,6 +347,16 @@ fn hashed_of(form: &str) -> Option<Hashed> {
     }
 }
 
+/// Returns what lines of standard input are put into by all threads. `None` for any other form.
+fn interned_of(form: &str) -> Option<Interned> {
+    match form {
+        "lines_shared" => Some(Interned::Shared),
+        "lines_shards" => Some(Interned::Shards),
+        "lines_copied" => Some(Interned::Copied),
+        _ => None,
+    }
+}
+
 fn main(rt: HostRuntime) -> io::Result<ExitCode> {
     let words: Vec<String> = env::args(&rt)?.skip(1).collect(rt.alloc())?;
     let [form, threads, count] = words.as_slice() else {
@@ -319,6 +367,16 @@ fn main(rt: HostRuntime) -> io::Result<ExitCode> {
     let count = count.as_str().parse::<usize>().unwrap_or(0);
     if let Some(words) = words_in_shards(form.as_str()) {
         let (nanos, sum) = names::timed_shards(&rt, rt.alloc(), words, threads, count)?;
+        println!(rt; "{nanos} {sum}")?;
+        return Ok(ExitCode::SUCCESS);
+    }
+    if let Some((kind, call)) = small_of(form.as_str()) {
+        let (nanos, sum) = small::timed(&rt, rt.alloc(), kind, call, threads, count)?;
+        println!(rt; "{nanos} {sum}")?;
+        return Ok(ExitCode::SUCCESS);
+    }
+    if let Some(it) = interned_of(form.as_str()) {
+        let (nanos, sum) = lines::timed_interned(&rt, rt.alloc(), it, threads, count)?;
         println!(rt; "{nanos} {sum}")?;
         return Ok(ExitCode::SUCCESS);
     }

@@ -20,7 +20,7 @@ pub enum TableCall {
 }
 
 /// A map whose keys are made from indices.
-trait Table: Drop {
+pub trait Table: Drop {
     /// Inserts the key of the index, and returns its value.
     fn insert(&mut self, place: usize) -> Result<u64, AllocError>;
 
@@ -30,15 +30,15 @@ trait Table: Drop {
 
 /// A map with numbers as keys.
 #[derive(Drop)]
-struct Numbers<M> {
-    map: M,
+pub struct Numbers<M> {
+    pub map: M,
 }
 
 /// A map with texts as keys.
 #[derive(Drop)]
-struct Texts<'t, M> {
-    map: M,
-    texts: &'t [String],
+pub struct Texts<'t, M> {
+    pub map: M,
+    pub texts: &'t [String],
 }
 
 impl<'a, T> Table for Numbers<Frozen<&'a Bump, u64, Own<u64>, T>>
@@ -166,7 +166,11 @@ fn timed<R: Clock, T: Table>(
     Ok((start.elapsed(rt)?.as_nanos(), sum))
 }
 
-fn made_texts(alloc: Global, count: usize) -> Result<Vec<String>, AllocError> {
+/// Makes the texts of the indices below COUNT.
+///
+/// # Errors
+/// Fails if an allocation fails.
+pub fn made_texts(alloc: Global, count: usize) -> Result<Vec<String>, AllocError> {
     let mut texts = Vec::new(alloc);
     for place in 0..count {
         texts.push(format!(in alloc; "name{place}")?)?;

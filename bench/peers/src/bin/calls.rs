@@ -1,10 +1,10 @@
 //! The collections of one thread: upstream's (`upstream`), and what an expert takes instead (`best`): a bump arena, and beside it a `Vec`, hashbrown's
-//! map, std's ordered map, or `indexmap`, the hashed ones with the same hash as ours. `upstream_folded` is upstream's `FrozenMap` with that hash, for
-//! `map_insert` and `map_get`.
+//! map, std's ordered map, or `indexmap`, the hashed ones with the same hash as ours. `upstream_folded` is upstream's `FrozenMap` with that hash.
 //!
-//! usage: calls SIDE FORM 1 COUNT. A form is a collection and a call, as `map_text_insert`; `main` at the end of this file has them all. It prints the
+//! usage: calls SIDE FORM TURNS COUNT. A form is a collection and a call, as `map_text_insert`; `main` at the end of this file has them all. It prints the
 //! nanoseconds of COUNT calls (of `walk`, `clone` and `collect`: ten times over COUNT items; of `longest`: of the longest of COUNT insertions) and a sum
-//! of what was read. `lines_default` and `lines_seeded` are insertions of the first COUNT lines of standard input, `put ` before each of them left out:
+//! of what was read. TURNS times are done: `fill` (make the collection, fill it, drop it), `present` and `absent` (COUNT look-ups), `walks` and `copies`.
+//! `numbers_fill` is of an arena of plain numbers: `best` is the bump arena, and `typed-arena` the crate of that name. `lines_default` and `lines_seeded` are insertions of the first COUNT lines of standard input, `put ` before each of them left out:
 //! `best` takes the fixed hash for the former, and that of std, which has a secret, for the latter.
 use bumpalo::Bump;
 use elsa::{FrozenBTreeMap, FrozenIndexMap, FrozenMap, FrozenVec};
@@ -82,7 +82,7 @@ fn fill(items: &mut impl Items, count: usize) -> u64 {
     items.get(count - 1).unwrap_or(0)
 }
 
-fn vec_calls(mut items: impl Items, call: &str, count: usize) -> Answer {
+fn vec_calls(mut items: impl Items, call: &str, turns: usize, count: usize) -> Answer {
     if call == "push" {
         return timed(|| fill(&mut items, count));
     }
@@ -93,9 +93,49 @@ fn vec_calls(mut items: impl Items, call: &str, count: usize) -> Answer {
             (0..count).fold(0, |sum: u64, _| sum.wrapping_add(items.get(draws.below(count)).unwrap_or(0)))
         }),
         "walk" => timed(|| (0..TIMES).fold(0, |sum: u64, _| sum.wrapping_add(items.walk()))),
+        "walks" => timed(|| (0..turns).fold(0, |sum: u64, _| sum.wrapping_add(black_box(&items).walk()))),
         "clone" => timed(|| (0..TIMES).fold(0, |sum, _| sum + items.copy())),
         _ => panic!("no such call"),
     }
+}
+
+/// The sum of some turns.
+fn turned(turns: usize, turn: impl FnMut(usize) -> u64) -> u64 {
+    (0..turns).map(turn).fold(0, u64::wrapping_add)
+}
+
+/// Makes a list, fills it and drops it.
+fn vec_fills(side: &str, turns: usize, count: usize) -> Answer {
+    timed(|| {
+        turned(turns, |_| {
+            if side == "upstream" {
+                return fill(&mut FrozenVec::<Box<u64>>::new(), count);
+            }
+            let arena = Bump::new();
+            let last = fill(&mut BestItems { arena: &arena, items: Vec::new() }, count);
+            last
+        })
+    })
+}
+
+/// Makes an arena of numbers, fills it and drops it.
+fn numbers_fills(side: &str, turns: usize, count: usize) -> Answer {
+    timed(|| {
+        turned(turns, |_| match side {
+            "upstream" => {
+                let arena = FrozenVec::<Box<u64>>::new();
+                (0..count as u64).fold(0u64, |sum, number| sum.wrapping_add(*arena.push_get(Box::new(number))))
+            }
+            "typed-arena" => {
+                let arena = typed_arena::Arena::<u64>::new();
+                (0..count as u64).fold(0u64, |sum, number| sum.wrapping_add(*black_box(arena.alloc(number))))
+            }
+            _ => {
+                let arena = Bump::new();
+                (0..count as u64).fold(0u64, |sum, number| sum.wrapping_add(*black_box(arena.alloc(number))))
+            }
+        })
+    })
 }
 
 fn vec_collect(side: &str, count: usize) -> Answer {
@@ -117,6 +157,10 @@ trait Table {
     fn insert(&mut self, key: &Self::Key, value: u64) -> u64;
     fn get(&self, key: &Self::Key) -> Option<u64>;
     fn copy(&self) -> u64;
+    /// The sum of all values, of a map that is walked.
+    fn walk(&self) -> u64 {
+        panic!("it can't be walked by &self")
+    }
     /// The value of the entry at a place, of a map that keeps an order.
     fn at(&self, _place: usize) -> Option<u64> {
         None
@@ -152,6 +196,7 @@ upstream_table!(FrozenMap<u64, Box<u64>>, u64, |key| *key, |map| map.len());
 upstream_table!(FrozenMap<String, Box<u64>>, str, |key| key.to_owned(), |map| map.len());
 // Upstream's map tells its length only with the hash of std.
 upstream_table!(FrozenMap<u64, Box<u64>, Fold>, u64, |key| *key, |_map| panic!("it has no length"));
+upstream_table!(FrozenMap<String, Box<u64>, Fold>, str, |key| key.to_owned(), |_map| panic!("it has no length"));
 upstream_table!(FrozenBTreeMap<u64, Box<u64>>, u64, |key| *key, |map| map.len());
 upstream_table!(FrozenBTreeMap<String, Box<u64>>, str, |key| key.to_owned(), |map| map.len());
 // Upstream's index map tells no place for keys that are plain numbers.
@@ -180,6 +225,10 @@ impl<'a> Table for Best<'a, hashbrown::HashMap<u64, &'a u64, Fold>> {
 
     fn copy(&self) -> u64 {
         black_box(self.map.clone()).len() as u64
+    }
+
+    fn walk(&self) -> u64 {
+        self.map.values().fold(0, |sum, value| sum.wrapping_add(**value))
     }
 }
 
@@ -226,6 +275,10 @@ impl<'a> Table for Best<'a, BTreeMap<u64, &'a u64>> {
     fn copy(&self) -> u64 {
         black_box(self.map.clone()).len() as u64
     }
+
+    fn walk(&self) -> u64 {
+        self.map.values().fold(0, |sum, value| sum.wrapping_add(**value))
+    }
 }
 
 impl<'a> Table for Best<'a, BTreeMap<&'a str, &'a u64>> {
@@ -266,7 +319,11 @@ impl<'a> Table for Best<'a, indexmap::IndexMap<u64, &'a u64, Fold>> {
     }
 
     fn copy(&self) -> u64 {
-        black_box(self.map.clone()).len().min(1) as u64
+        black_box(self.map.clone()).len() as u64
+    }
+
+    fn walk(&self) -> u64 {
+        self.map.values().fold(0, |sum, value| sum.wrapping_add(**value))
     }
 
     #[inline(always)]
@@ -294,7 +351,7 @@ impl<'a> Table for Best<'a, indexmap::IndexMap<&'a str, &'a u64, Fold>> {
     }
 
     fn copy(&self) -> u64 {
-        black_box(self.map.clone()).len().min(1) as u64
+        black_box(self.map.clone()).len() as u64
     }
 
     #[inline(always)]
@@ -324,7 +381,11 @@ impl Keys<str> for Vec<String> {
     }
 }
 
-fn table_calls<T: Table>(mut table: T, call: &str, count: usize, keys: &impl Keys<T::Key>) -> Answer {
+fn filled<T: Table>(table: &mut T, count: usize, keys: &impl Keys<T::Key>) -> u64 {
+    turned(count, |place| keys.with(place, |key| table.insert(key, place as u64)))
+}
+
+fn table_calls<T: Table>(mut table: T, call: &str, turns: usize, count: usize, keys: &impl Keys<T::Key>) -> Answer {
     if call == "longest" {
         let mut most = 0;
         let mut sum = 0u64;
@@ -335,16 +396,20 @@ fn table_calls<T: Table>(mut table: T, call: &str, count: usize, keys: &impl Key
         }
         return (most, sum);
     }
-    let mut fill = || (0..count).fold(0, |sum: u64, place| sum.wrapping_add(keys.with(place, |key| table.insert(key, place as u64))));
     if call == "insert" {
-        return timed(fill);
+        return timed(|| filled(&mut table, count, keys));
     }
-    fill();
+    filled(&mut table, count, keys);
     let draws = &mut Draws(1);
+    let mut sought = |first: usize, absent: u64| keys.with(first + draws.below(count), |key| table.get(key)).unwrap_or(absent);
     match call {
-        "get" => timed(|| (0..count).fold(0, |sum: u64, _| sum.wrapping_add(keys.with(draws.below(count), |key| table.get(key)).unwrap_or(0)))),
-        "at" => timed(|| (0..count).fold(0, |sum: u64, _| sum.wrapping_add(table.at(draws.below(count)).unwrap_or(0)))),
-        "clone" => timed(|| (0..TIMES).fold(0, |sum, _| sum + table.copy())),
+        "get" => timed(|| turned(count, |_| sought(0, 0))),
+        "present" => timed(|| turned(turns * count, |_| sought(0, 1))),
+        "absent" => timed(|| turned(turns * count, |_| sought(count, 1))),
+        "at" => timed(|| turned(count, |_| table.at(draws.below(count)).unwrap_or(0))),
+        "clone" => timed(|| turned(TIMES, |_| table.copy())),
+        "copies" => timed(|| turned(turns, |_| table.copy())),
+        "walks" => timed(|| turned(turns, |_| black_box(&table).walk())),
         _ => panic!("no such call"),
     }
 }
@@ -372,40 +437,60 @@ fn lines(count: usize) -> Vec<String> {
 }
 
 fn main() {
-    let arena = Bump::new();
-    let arena = &arena;
     let mut words = std::env::args().skip(1);
-    let side = words.next().expect("upstream, upstream_folded or best");
-    let (form, _threads, count) = peers::words_of(words);
+    let side = words.next().expect("upstream, upstream_folded, best or typed-arena");
+    let (form, turns, count) = peers::words_of(words);
     let best = side == "best";
     let (collection, call) = form.rsplit_once('_').expect("a form");
     let texts: Vec<String> = match collection {
         "lines" => lines(count),
-        _ if collection.ends_with("text") => (0..count).map(text).collect(),
+        _ if collection.ends_with("text") => (0..if call == "absent" { 2 * count } else { count }).map(text).collect(),
         _ => Vec::new(),
     };
     let (number, text) = (&Numbers, &texts);
+    let folded = side == "upstream_folded";
+    // One call of a map over an arena, or its `fill`, which makes both anew each time.
+    macro_rules! map_calls {
+        (|$arena:ident| $table:expr, $keys:expr) => {{
+            let turn = |call: &str| {
+                let $arena = &Bump::new();
+                let (mut table, keys) = ($table, $keys);
+                if call == "fill" {
+                    return (0, filled(&mut table, count, keys));
+                }
+                table_calls(table, call, turns, count, keys)
+            };
+            if call == "fill" {
+                timed(|| turned(turns, |_| turn(call).1))
+            } else {
+                turn(call)
+            }
+        }};
+    }
     let (nanos, sum) = match (collection, call, best) {
         ("vec", "collect", _) => vec_collect(&side, count),
         ("map", "collect", _) => map_collect(&side, count),
-        ("vec", _, false) => vec_calls(FrozenVec::<Box<u64>>::new(), call, count),
-        ("vec", _, true) => vec_calls(BestItems { arena, items: Vec::new() }, call, count),
-        ("map", _, false) if side == "upstream_folded" => table_calls(FrozenMap::<u64, Box<u64>, Fold>::default(), call, count, number),
-        ("map", _, false) => table_calls(FrozenMap::<u64, Box<u64>>::new(), call, count, number),
-        ("map", _, true) => table_calls(Best { arena, map: hashbrown::HashMap::<u64, &u64, Fold>::default() }, call, count, number),
-        ("map_text", _, false) => table_calls(FrozenMap::<String, Box<u64>>::new(), call, count, text),
-        ("map_text", _, true) => table_calls(Best { arena, map: hashbrown::HashMap::<&str, &u64, Fold>::default() }, call, count, text),
-        ("lines", _, false) => table_calls(FrozenMap::<String, Box<u64>>::new(), "insert", texts.len(), text),
-        ("lines", "default", true) => table_calls(Best { arena, map: hashbrown::HashMap::<&str, &u64, Fold>::default() }, "insert", texts.len(), text),
-        ("lines", _, true) => table_calls(Best { arena, map: hashbrown::HashMap::<&str, &u64, RandomState>::default() }, "insert", texts.len(), text),
-        ("tree", _, false) => table_calls(FrozenBTreeMap::<u64, Box<u64>>::new(), call, count, number),
-        ("tree", _, true) => table_calls(Best { arena, map: BTreeMap::<u64, &u64>::new() }, call, count, number),
-        ("tree_text", _, false) => table_calls(FrozenBTreeMap::<String, Box<u64>>::new(), call, count, text),
-        ("tree_text", _, true) => table_calls(Best { arena, map: BTreeMap::<&str, &u64>::new() }, call, count, text),
-        ("index_map", _, false) => table_calls(FrozenIndexMap::<Box<u64>, Box<u64>>::new(), call, count, number),
-        ("index_map", _, true) => table_calls(Best { arena, map: indexmap::IndexMap::<u64, &u64, Fold>::default() }, call, count, number),
-        ("index_map_text", _, false) => table_calls(FrozenIndexMap::<String, Box<u64>>::new(), call, count, text),
-        ("index_map_text", _, true) => table_calls(Best { arena, map: indexmap::IndexMap::<&str, &u64, Fold>::default() }, call, count, text),
+        ("vec", "fill", _) => vec_fills(&side, turns, count),
+        ("numbers", "fill", _) => numbers_fills(&side, turns, count),
+        ("vec", _, false) => vec_calls(FrozenVec::<Box<u64>>::new(), call, turns, count),
+        ("vec", _, true) => vec_calls(BestItems { arena: &Bump::new(), items: Vec::new() }, call, turns, count),
+        ("map", _, false) if folded => map_calls!(|_arena| FrozenMap::<u64, Box<u64>, Fold>::default(), number),
+        ("map", _, false) => map_calls!(|_arena| FrozenMap::<u64, Box<u64>>::new(), number),
+        ("map", _, true) => map_calls!(|arena| Best { arena, map: hashbrown::HashMap::<u64, &u64, Fold>::default() }, number),
+        ("map_text", _, false) if folded => map_calls!(|_arena| FrozenMap::<String, Box<u64>, Fold>::default(), text),
+        ("map_text", _, false) => map_calls!(|_arena| FrozenMap::<String, Box<u64>>::new(), text),
+        ("map_text", _, true) => map_calls!(|arena| Best { arena, map: hashbrown::HashMap::<&str, &u64, Fold>::default() }, text),
+        ("lines", _, false) => table_calls(FrozenMap::<String, Box<u64>>::new(), "insert", 1, texts.len(), text),
+        ("lines", "default", true) => table_calls(Best { arena: &Bump::new(), map: hashbrown::HashMap::<&str, &u64, Fold>::default() }, "insert", 1, texts.len(), text),
+        ("lines", _, true) => table_calls(Best { arena: &Bump::new(), map: hashbrown::HashMap::<&str, &u64, RandomState>::default() }, "insert", 1, texts.len(), text),
+        ("tree", _, false) => map_calls!(|_arena| FrozenBTreeMap::<u64, Box<u64>>::new(), number),
+        ("tree", _, true) => map_calls!(|arena| Best { arena, map: BTreeMap::<u64, &u64>::new() }, number),
+        ("tree_text", _, false) => map_calls!(|_arena| FrozenBTreeMap::<String, Box<u64>>::new(), text),
+        ("tree_text", _, true) => map_calls!(|arena| Best { arena, map: BTreeMap::<&str, &u64>::new() }, text),
+        ("index_map", _, false) => map_calls!(|_arena| FrozenIndexMap::<Box<u64>, Box<u64>>::new(), number),
+        ("index_map", _, true) => map_calls!(|arena| Best { arena, map: indexmap::IndexMap::<u64, &u64, Fold>::default() }, number),
+        ("index_map_text", _, false) => map_calls!(|_arena| FrozenIndexMap::<String, Box<u64>>::new(), text),
+        ("index_map_text", _, true) => map_calls!(|arena| Best { arena, map: indexmap::IndexMap::<&str, &u64, Fold>::default() }, text),
         _ => panic!("no such form"),
     };
     println!("{nanos} {sum}");
