@@ -320,6 +320,19 @@ fn timed_whole<R: Clock, T: Whole>(
     Ok((start.elapsed(rt)?.as_nanos(), sum))
 }
 
+fn timed_calls<R: Clock, T: Whole>(
+    rt: &R,
+    table: T,
+    call: SmallCall,
+    turns: usize,
+    count: usize,
+) -> io::Result<(u128, u64)> {
+    match &call {
+        SmallCall::Walk | SmallCall::Copy => timed_whole(rt, table, call, turns, count),
+        _ => timed_look_ups(rt, table, call, turns, count),
+    }
+}
+
 fn timed_item_walks<R: Clock>(
     rt: &R,
     alloc: Global,
@@ -356,19 +369,13 @@ pub fn timed<R: Clock>(
     if matches!(&call, SmallCall::Fill) {
         return timed_fills(rt, alloc, kind, turns, count);
     }
-    let whole = matches!(&call, SmallCall::Walk | SmallCall::Copy);
     let texts = texts_of(alloc, kind, count)?;
     let texts = texts.as_slice();
     let arena = Bump::new(alloc);
     match kind {
         Kind::Map => {
-            let table = Numbers {
-                map: FrozenMap::new(alloc, &arena),
-            };
-            if whole {
-                return timed_whole(rt, table, call, turns, count);
-            }
-            timed_look_ups(rt, table, call, turns, count)
+            let map = FrozenMap::new(alloc, &arena);
+            timed_calls(rt, Numbers { map }, call, turns, count)
         }
         Kind::MapText => {
             let map = FrozenMap::new(alloc, &arena);
@@ -388,34 +395,20 @@ pub fn timed<R: Clock>(
             timed_look_ups(rt, table, call, turns, count)
         }
         Kind::IndexMap => {
-            let table = Numbers {
-                map: FrozenIndexMap::new(alloc, &arena),
-            };
-            if whole {
-                return timed_whole(rt, table, call, turns, count);
-            }
-            timed_look_ups(rt, table, call, turns, count)
+            let map = FrozenIndexMap::new(alloc, &arena);
+            timed_calls(rt, Numbers { map }, call, turns, count)
         }
         Kind::Tree => {
-            let table = Numbers {
-                map: FrozenBTreeMap::new(alloc, &arena),
-            };
-            if whole {
-                return timed_whole(rt, table, call, turns, count);
-            }
-            timed_look_ups(rt, table, call, turns, count)
+            let map = FrozenBTreeMap::new(alloc, &arena);
+            timed_calls(rt, Numbers { map }, call, turns, count)
         }
         Kind::CellMap => {
-            let table = CellNumbers {
-                map: cell::FrozenMap::new(alloc)?,
-            };
-            timed_look_ups(rt, table, call, turns, count)
+            let map = cell::FrozenMap::new(alloc)?;
+            timed_look_ups(rt, CellNumbers { map }, call, turns, count)
         }
         Kind::CellTree => {
-            let table = CellNumbers {
-                map: cell::FrozenBTreeMap::new(alloc)?,
-            };
-            timed_look_ups(rt, table, call, turns, count)
+            let map = cell::FrozenBTreeMap::new(alloc)?;
+            timed_look_ups(rt, CellNumbers { map }, call, turns, count)
         }
         Kind::Items | Kind::Arena => timed_item_walks(rt, alloc, turns, count),
     }
