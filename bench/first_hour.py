@@ -89,7 +89,7 @@ def first_jobs(peers, cli, bench):
 
 
 def shared_jobs(peers, bench, inputs, threads=(1, 2, 4)):
-    """The interner of threads from Rust, beside ours inside the language and two others, for lines of a corpus."""
+    """The interner of threads from Rust, compared with ours inside the language and two others, for lines of a corpus."""
     for corpus, count in inputs:
         for number in threads:
             words = [str(number), str(count)]

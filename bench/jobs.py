@@ -39,7 +39,7 @@ def names_jobs(peers, cli):
 
 
 def by_threads(group, title, threads, sides, goal="", peer_goal="", **more):
-    """The row of a job by so many threads, whose programs print the time themselves."""
+    """The row of a job by these threads, whose programs print the time themselves."""
     name = f"{title}, {threads} threads" if threads != "1" else f"{title}, 1 thread"
     return Job(group, name, sides, goal, peer_goal, by="inside", threads=int(threads), **more)
 

@@ -39,7 +39,7 @@
 //! - `cell::FrozenVec`: `cell_vec_push`, `cell_vec_get` and `cell_vec_walk` (ten times), and
 //!   `cell::FrozenMap`: `cell_map_insert` and `cell_map_get`, as those of the collections of one
 //!   thread.
-//! - Collections of COUNT entries, with the number of repetitions in place of THREADS: `map`,
+//! - Collections of COUNT entries, with the number of repetitions instead of THREADS: `map`,
 //!   `map_text`, `append_map`, `append_map_text`, `index_map`, `tree`, `cell_map` and `cell_tree`,
 //!   each followed by `_fill` (made, filled and dropped), `_present` or `_absent` (COUNT look-ups);
 //!   `vec_fill` and `numbers_fill` (a `TypedArena` of numbers); `map`, `index_map` and `tree`

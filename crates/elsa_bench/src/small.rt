@@ -271,7 +271,7 @@ fn timed_fills<R: Clock>(
     Ok((start.elapsed(rt)?.as_nanos(), sum))
 }
 
-/// Looks up COUNT keys TURNS times, of the present ones or of so many absent ones.
+/// Looks up COUNT keys TURNS times, of the present ones or of COUNT absent ones.
 fn timed_look_ups<R: Clock, T: Table>(
     rt: &R,
     table: T,
