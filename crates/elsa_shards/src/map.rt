@@ -336,7 +336,8 @@ where
     /// # Cost
     /// The number of shards.
     pub fn len(&self, rt: &impl Wait) -> usize
-        ensures { AtMoments K.eq R.holds self.now.0 (λ shards. result ≡ count_in_all length shards) }
+        ensures { AtMoments K.eq R.holds self.now.0 (λ shards.
+            result ≡ count_in_all length shards) }
     {
         let mut sum = 0usize;
         for shard in &self.shards {

@@ -37,7 +37,8 @@ where
         &'q str: Seeks<String<A>, Arc<V, A>, T>,
         requires { HoldsOfText string_bytes R.holds key.now value }
         ensures { IfOk result (λ a.
-            HoldsAt R.holds (⟦<&'q str as Seeks<String<A>, Arc<V, A>, T>>⟧.finds key.entry) (arc_value a)
+            HoldsAt R.holds
+            (⟦<&'q str as Seeks<String<A>, Arc<V, A>, T>>⟧.finds key.entry) (arc_value a)
             ⊎ HoldsAtText string_bytes T.same R.holds key.now (arc_value a)) }
     {
         let found = self.get(rt, key)?;
