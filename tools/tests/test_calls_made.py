@@ -7,7 +7,7 @@ import re, unittest
 from scripts import root
 
 # For each page of the reference the variables that have the collection, its types, and the crates or files.
-LIST = ("list|arena|moved", "FrozenVec|TypedArena", ("test_arena", "test_cell"))
+LIST = ("list", "FrozenVec", ("test_calls",))
 ORDERED = "test_cell/src/ordered_tests.rt", "test_cell/src/plain_tests.rt"
 PAGES = {
     "cell-FrozenVec": LIST,
@@ -19,7 +19,12 @@ PAGES = {
 }
 # The code of these calls is that of a `cell::FrozenMap`, whose tests make them.
 SAME_CODE = "handle_since", "get_since", "map_get", "is_full", "with_rule"
-OTHERS = {("cell-FrozenBTreeMap", it) for it in SAME_CODE}
+# The script makes a list with room, and its `get_since` makes such a handle.
+IN_OTHERS = "new", "handle_since"
+OTHERS = {
+    *(("cell-FrozenBTreeMap", it) for it in SAME_CODE),
+    *((page, it) for page in ("cell-FrozenVec", "TypedArena") for it in IN_OTHERS),
+}
 
 
 def calls_of(page):

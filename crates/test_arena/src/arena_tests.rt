@@ -54,44 +54,6 @@ fn a_value_is_dropped_once_and_not_before_its_arena(rt: HostRuntime) -> Result<(
     Ok(())
 }
 
-/// Returns whether a walk visits the numbers below `count` in order, and `get` returns the same.
-fn walks<A: Allocator + Copy>(arena: &TypedArena<usize, A>, count: usize) -> bool {
-    let numbers = arena.iter();
-    let mut next = 0usize;
-    for number in numbers {
-        if *number != next || arena.get(next) != Some(&next) {
-            return false;
-        }
-        next = next.wrapping_add(1);
-    }
-    next == count && arena.get(count).is_none() && arena.is_empty() == (count == 0)
-}
-
-/// Returns whether a walk visits the values in order if they are stored alternately by `alloc` and
-/// by `push`.
-fn is_walked(alloc: Global, count: usize) -> Result<bool, AllocError> {
-    let arena = TypedArena::new(alloc)?;
-    for number in 0..count {
-        let placed = if number % 2 == 0 {
-            arena.alloc(number).is_ok()
-        } else {
-            arena.push(number).is_ok()
-        };
-        if !placed {
-            return Ok(false);
-        }
-    }
-    Ok(walks(&arena, count))
-}
-
-#[test]
-fn a_walk_gives_the_values_in_the_order_of_their_placing(rt: HostRuntime) -> Result<(), Fail> {
-    for count in [0, 1, 3, 4, 15, 16, 500] {
-        assert!(rt; is_walked(rt.alloc(), count)?, "{count}");
-    }
-    Ok(())
-}
-
 /// Returns whether a walk visits no value that was stored after it began.
 fn walks_to_its_beginnings_end(alloc: Global) -> Result<bool, AllocError> {
     let arena = TypedArena::new(alloc)?;

@@ -6,36 +6,6 @@ use std::sync::Arc;
 use std::test::*;
 use test_alloc::Budget;
 
-/// Pushes `count` items and takes the list apart. Returns whether each comes back at its index.
-fn items_come_back(alloc: Global, count: u64) -> Result<bool, AllocError> {
-    let list: FrozenVec<u64> = FrozenVec::new(alloc)?;
-    for number in 0..count {
-        if list.push(number.wrapping_mul(3)).is_err() {
-            return Ok(false);
-        }
-    }
-    let handle = list.handle();
-    let seen = handle.observed().evidence();
-    drop(handle);
-    let Ok(all) = list.into_vec(alloc, &seen) else {
-        return Ok(false);
-    };
-    for (number, item) in all.iter().enumerate() {
-        if *item != (number as u64).wrapping_mul(3) {
-            return Ok(false);
-        }
-    }
-    Ok(all.len() as u64 == count)
-}
-
-#[test]
-fn an_item_did_not_come_back(rt: HostRuntime) -> Result<(), Fail> {
-    for count in [0, 1, 2, 3, 4, 15, 16, 63, 64, 255, 5000] {
-        assert!(rt; items_come_back(rt.alloc(), count)?, "{count}");
-    }
-    Ok(())
-}
-
 /// Returns whether a list with owners comes back without a drop, of which no handle had observed
 /// the last two.
 fn owners_come_back(alloc: Global) -> Result<bool, AllocError> {
