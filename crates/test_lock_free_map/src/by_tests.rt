@@ -150,9 +150,9 @@ fn a_value_was_made_for_an_owner_that_the_map_had(rt: HostRuntime) -> Result<(),
 fn overtaken<R: Wait>(
     rt: &R,
     alloc: Global,
+    map: &Owners<Global>,
     owner: &Arc<u64, Global>,
 ) -> Result<(u64, bool, usize), AllocError> {
-    let map: Owners<Global> = LockFreeFrozenMap::new(alloc)?;
     let mut handle = map.handle();
     let make = || -> Result<(String<Global>, Value), AllocError> {
         let _ = by_query(rt, alloc, &mut map.handle(), owner, "eve", 1);
@@ -165,8 +165,10 @@ fn overtaken<R: Wait>(
 #[test]
 fn an_entry_that_came_while_one_was_made_was_replaced(rt: HostRuntime) -> Result<(), Fail> {
     let owner = Arc::new(rt.alloc(), 7u64)?;
+    let map: Owners<Global> = LockFreeFrozenMap::new(rt.alloc())?;
     // The value of the other handle, and of the closure none.
-    assert_eq!(rt; overtaken(&rt, rt.alloc(), &owner)?, (1, false, 2));
+    assert_eq!(rt; overtaken(&rt, rt.alloc(), &map, &owner)?, (1, false, 2));
+    drop(map);
     assert_eq!(rt; Arc::strong_count(&owner), 1);
     Ok(())
 }
@@ -240,8 +242,11 @@ fn stubborn<R: Wait>(
     let mut refused = 0u64;
     for number in 1..17u64 {
         let text = format!(in alloc; "key {number}")?;
-        let (mut turn, mut done) = (0u32, false);
-        while !done && turn < 2 {
+        let mut done = false;
+        for _ in 0..2 {
+            if done {
+                break;
+            }
             let tried = if number % 2 == 0 {
                 by_query(rt, alloc, &mut handle, owner, text.as_str(), number)
             } else {
@@ -255,7 +260,6 @@ fn stubborn<R: Wait>(
                 }
                 refused = refused.wrapping_add(1);
             }
-            turn += 1;
         }
         if !done {
             return Ok(None);
