@@ -185,6 +185,78 @@ fn puts_of_copies<R: Wait>(
     sum
 }
 
+/// Returns the sum of the numbers of all threads.
+fn sum_of(sums: &[u64]) -> u64 {
+    let mut all = 0u64;
+    for sum in sums {
+        all = all.wrapping_add(*sum);
+    }
+    all
+}
+
+fn timed_shared<R: Wait + Threads + Sync + Clock>(
+    rt: &R,
+    alloc: Global,
+    seeded: SeededState,
+    threads: usize,
+    texts: &[String],
+) -> io::Result<(u128, u64)>
+    requires { 0 < threads }
+{
+    let each = texts.len() / threads;
+    let names = SharedInterner::with_hasher(alloc, seeded)?;
+    let start = Instant::now(rt)?;
+    let sums = thread::map_indices(
+        rt,
+        alloc,
+        threads,
+        &|i| puts(rt, &names, texts, i.wrapping_mul(each), each),
+    )?;
+    Ok((start.elapsed(rt)?.as_nanos(), sum_of(sums.as_slice())))
+}
+
+fn timed_shards<R: Wait + Threads + Sync + Clock>(
+    rt: &R,
+    alloc: Global,
+    seeded: SeededState,
+    threads: usize,
+    texts: &[String],
+) -> io::Result<(u128, u64)>
+    requires { 0 < threads }
+{
+    let each = texts.len() / threads;
+    let names = ShardedInterner::with_shards(alloc, 64, seeded)?;
+    let start = Instant::now(rt)?;
+    let sums = thread::map_indices(
+        rt,
+        alloc,
+        threads,
+        &|i| puts_in_shards(rt, &names, texts, i.wrapping_mul(each), each),
+    )?;
+    Ok((start.elapsed(rt)?.as_nanos(), sum_of(sums.as_slice())))
+}
+
+fn timed_copies<R: Wait + Threads + Sync + Clock>(
+    rt: &R,
+    alloc: Global,
+    seeded: SeededState,
+    threads: usize,
+    texts: &[String],
+) -> io::Result<(u128, u64)>
+    requires { 0 < threads }
+{
+    let each = texts.len() / threads;
+    let names = Copies::with_hasher(alloc, seeded)?;
+    let start = Instant::now(rt)?;
+    let sums = thread::map_indices(
+        rt,
+        alloc,
+        threads,
+        &|i| puts_of_copies(rt, alloc, &names, texts, i.wrapping_mul(each), each),
+    )?;
+    Ok((start.elapsed(rt)?.as_nanos(), sum_of(sums.as_slice())))
+}
+
 /// Returns the nanoseconds that the puts of all threads took, each of its part of the first `count`
 /// texts of standard input, and the sum of the numbers.
 ///
@@ -201,30 +273,10 @@ pub fn timed_interned<R: Wait + Threads + Sync + Clock + Input + RandomSource>(
     requires { 0 < threads }
 {
     let texts = read_texts(rt, alloc, count)?;
-    let texts = texts.as_slice();
-    let each = texts.len() / threads;
     let seeded = SeededState::new(rt)?;
-    let shared = SharedInterner::with_hasher(alloc, seeded)?;
-    let shards = ShardedInterner::with_shards(alloc, 64, seeded)?;
-    let copies = Copies::with_hasher(alloc, seeded)?;
-    let (shared, shards, copies) = (&shared, &shards, &copies);
-    let start = Instant::now(rt)?;
-    let sums = thread::map_indices(
-        rt,
-        alloc,
-        threads,
-        &|i| {
-            let first = i.wrapping_mul(each);
-            match interned {
-                Interned::Shared => puts(rt, shared, texts, first, each),
-                Interned::Shards => puts_in_shards(rt, shards, texts, first, each),
-                Interned::Copied => puts_of_copies(rt, alloc, copies, texts, first, each),
-            }
-        },
-    )?;
-    let nanos = start.elapsed(rt)?.as_nanos();
-    Ok((
-        nanos,
-        sums.iter().fold(0u64, |sum, one| sum.wrapping_add(*one)),
-    ))
+    match interned {
+        Interned::Shared => timed_shared(rt, alloc, seeded, threads, texts.as_slice()),
+        Interned::Shards => timed_shards(rt, alloc, seeded, threads, texts.as_slice()),
+        Interned::Copied => timed_copies(rt, alloc, seeded, threads, texts.as_slice()),
+    }
 }
