@@ -39,7 +39,7 @@ OWN = REASONS[:3]
 # About the processor seconds of a kind's checks in one crate: those of the first step, and those of each check. The
 # mutants of the crates in SLOW take more.
 SECONDS = {"mutant": (30, 12), "function": (20, 6), "fault": (60, 4), "example": (0, 80), "stress": (600, 0)}
-SLOW = {"elsa_run": 26, "elsa_specs": 16}
+SLOW = {"elsa_run": 26}
 
 Piece = collections.namedtuple("Piece", "kind name text")
 # A check that is due, the reason, and whether the check itself is new or changed.
@@ -95,8 +95,9 @@ def self_type(head):
     word = re.match(r"(?:[&\[(]|'\w+|\bmut\b|\bdyn\b|\s)*(?:\w+::)*(\w+)", target)
     name = word[1] if word else ""
     if trait and (not name or re.search(rf"[<,] ?{name}\s*[:,>]", trait)):
-        found = re.findall(r"(\w+)(?:<[^>]*>)?$", trait)
-        return found[0] if found else name
+        while "<" in trait and trait != (trait := re.sub(r"<[^<>]*>", "", trait.replace("->", ""))):
+            pass
+        return re.findall(r"\w+", trait)[-1]
     return name
 
 
@@ -298,12 +299,18 @@ def minutes_of(due):
 # ---- what is due
 
 
+def meant(piece):
+    """What a piece says, in whichever crate it stands; the texts of the check itself stand where they do."""
+    return piece if piece.kind in OWN else piece._replace(name=piece.name.rpartition("/")[2])
+
+
 def difference(old, new):
     """Why a check with the content `new` is due if it ran with `old`: a sentence, and whether the check itself has
     changed; None if it isn't due. `old` is None if there was no such check."""
     if old is None:
         return "new", True
-    changed = sorted(old ^ new, key=lambda it: (REASONS.index(it.kind), it.name))
+    apart = {meant(it) for it in old} ^ {meant(it) for it in new}
+    changed = sorted((it for it in old | new if meant(it) in apart), key=lambda it: (REASONS.index(it.kind), it.name))
     if not changed:
         return None
     first = changed[0]

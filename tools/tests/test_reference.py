@@ -9,8 +9,8 @@ SOURCE = """//! A module.
 
 pub use crate::{one, two::{Three, Four as Five}};
 
-ghost use Rattle.elsa_specs.specs.Insertions.{Grows, place_of};
-ghost use Rattle.elsa_specs.specs.FirstWins as first;
+ghost use Rattle.elsa_tables.specs.Insertions.{Grows, place_of};
+ghost use Rattle.elsa_tables.specs.FirstWins as first;
 
 /// A list.
 #[derive(Clone, Drop)]

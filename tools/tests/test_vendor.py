@@ -47,7 +47,7 @@ class TestVendor(unittest.TestCase):
         self.add_line("mine: bumpalo elsa elsa_hash")
         printed, message = called(self.target, "hash")
         self.assertEqual(message, "")
-        self.assertIn("which had the parts interner hash: elsa_specs elsa_tables elsa_buckets elsa_interner\n", printed)
+        self.assertIn("which had the parts interner hash: elsa_tables elsa_buckets elsa_interner\n", printed)
         self.assertEqual(self.crates(), ["elsa", "elsa_hash"])
 
     def test_a_copy_of_the_same_parts_removes_nothing(self):

@@ -1,4 +1,3 @@
 //! The map for large collections.
 pub use elsa_buckets::append_map::{AppendMap, RoomFault};
-pub use elsa_buckets::by::By;
 pub use elsa_maps::map::FrozenAppendMap;

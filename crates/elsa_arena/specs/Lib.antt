@@ -1,5 +1,6 @@
 pub mod Faults
 pub mod Kept
 pub mod Observed
+pub mod Parts
 pub mod Ready
 pub mod Search

@@ -2,6 +2,7 @@
 use Rattle.std.specs.Prelude.{ℕ, ◌≡◌, ◌<◌, ◌^◌, List, [], ◌∷◌, ◌++◌, Some, length, slice_get}
 use mathlib.Core.List.{IsPrefix}
 use Rattle.elsa_slots.specs.Ahead.{GoesOn}
+use Rattle.elsa_slots.specs.Geometry.{IsAt}
 use Rattle.elsa_arena.specs.declared.state.State.{State}
 use Rattle.elsa_arena.specs.Ready.{AreReady}
 
@@ -37,12 +38,13 @@ module _ {T : Type 0} where
   abbrev pub Appends : List T → List T → ℕ → T → Type 0
   Appends old new place x = (before : List T) × IsPrefix old before × (length before ≡ place) × (new ≡ before ++ x ∷ [])
 
--- The state of a collection with these buffers: its length, the evidence of all its items, the
--- rights to the slots after them, and the buffers that are ready.
+-- The state of a collection with these buffers: its length, the slot of the next index, the evidence
+-- of all its items, the rights to the slots after them, and the buffers that are ready.
 pub record IsStateOf {T A : Type 0} (buffers : List ℕ) (s : State T A) : Type 0 where
   pub names : s.prefix.buffer_slots ≡ buffers
   pub all : length buffers ≡ 31
   pub count : s.count ≡ length s.prefix.items
   pub limit : s.count < 2 ^ 62
+  pub place : IsAt s.count s.buffer s.slot
   pub ahead : GoesOn buffers s.count s.ahead.opened s.ahead.slots.of s.ahead.further.of
   pub ready : AreReady s.ahead.further.of s.ready.items

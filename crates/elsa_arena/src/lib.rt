@@ -8,6 +8,7 @@
 pub mod arena;
 pub mod fault;
 mod kept;
+pub mod list_cell;
 pub mod observed;
 mod search;
 pub mod shared;

@@ -190,6 +190,18 @@ impl<T, A: Allocator> Model for Seen<T, A> {
     ghost invariant = { λ s. (s.count ≡ length s.prefix.items) × (s.count < 2 ^ 62) };
 }
 
+impl<T, A: Allocator> Seen<T, A> {
+    /// Returns a copy of the evidence.
+    pub(crate) fn again(&self) -> Seen<T, A>
+        ensures { result ≡ self.now }
+    {
+        Seen {
+            prefix: self.prefix.again(),
+            count: self.count,
+        }
+    }
+}
+
 impl<T, A: Allocator> Drop for Seen<T, A> {
     fn drop(self) {
         let Self { prefix, count: _ } = self;

@@ -127,10 +127,19 @@ impl<T, A: Allocator + Copy, L: Bounds<T>> Shown<T, A, L> {
         requires limit { length state.now.prefix.items ≤ L.most }
         requires holds { EachHolds L.holds state.now.prefix.items }
     {
-        let seen = Seen {
+        self.show(Seen {
             prefix: state.prefix.again(),
             count: state.count,
-        };
+        });
+    }
+
+    /// Shows the items of the evidence.
+    #[inline(always)]
+    pub fn show(&self, seen: Seen<T, A>)
+        requires same_vector { seen.vector ≡ self.now }
+        requires limit { length seen.seen ≤ L.most }
+        requires holds { EachHolds L.holds seen.seen }
+    {
         let _before = self.cell.replace(Within {
             seen,
             limit: PhantomData,

@@ -1,12 +1,14 @@
 //! The state of a list of items in slots: its length, the evidence of its items, the rights to the
 //! slots after them, and the buffers that are ready for later items.
-ghost use Rattle.std.specs.Prelude.{◌≡◌, suc, ◌+◌, ◌^◌, ◌++◌, ◌∷◌, ◌<◌, ◌≤◌, [], drop, length, None, IfErr, IfOk, OnErr, OnOk};
+ghost use Rattle.std.specs.Prelude.{◌≡◌, suc, ◌+◌, ◌^◌, ◌++◌, ◌∷◌, ◌<◌, ◌≤◌, [], drop, length, None, IfErr, IfOk, IfSome, OnErr, OnOk};
 ghost use mathlib.Core.List.{IsPrefix};
 ghost use Rattle.elsa_arena.specs.Observed.{IsStateOf};
+ghost use Rattle.elsa_arena.specs.Parts.{IsLaterOf, IsNextSlotOf};
 ghost use Rattle.elsa_arena.specs.Ready.{AreNext, AreReady, capacity_of, end_of};
 ghost use Rattle.elsa_slots.specs.Ahead.{GoesOn, IsClosedAt, IsOpenAt};
 ghost use Rattle.elsa_slots.specs.Geometry.{IsAt, size_of};
 
+use crate::list_cell::{Later, ListCell, NextSlot};
 use boxcar::tag::Tag;
 use counted_slot::Fits;
 use elsa_slots::geometry::{buffer_size, locate};
@@ -45,6 +47,9 @@ impl<T, A: Allocator + Copy> Drop for Fresh<T, A> {
 /// and the buffers that are ready for later items.
 pub struct State<T, A: Allocator + Copy> {
     pub count: usize,
+    // The buffer of the next index, and its slot there.
+    pub buffer: usize,
+    pub slot: usize,
     pub prefix: WrittenPrefix<T, Buffer<T, A>>,
     pub ahead: Ahead<T, A>,
     pub ready: Vec<Fresh<T, A>, A>,
@@ -66,6 +71,14 @@ struct Opened<T, A: Allocator + Copy> {
     further: WriteRights,
 }
 
+/// A reference to an item that was written, the rights after it, and where the next index is.
+struct After<'v, T, A: Allocator + Copy> {
+    lent: &'v T,
+    ahead: Ahead<T, A>,
+    buffer: usize,
+    slot: usize,
+}
+
 impl<T, A: Allocator + Copy> State<T, A> {
     /// Makes the state of an empty list, from the rights to open its buffers.
     pub fn first(alloc: A, further: WriteRights) -> State<T, A>
@@ -81,6 +94,8 @@ impl<T, A: Allocator + Copy> State<T, A> {
         };
         State {
             count: 0,
+            buffer: 0,
+            slot: 0,
             prefix,
             ahead,
             ready: Vec::new(alloc),
@@ -92,11 +107,62 @@ impl<T, A: Allocator + Copy> State<T, A> {
     {
         let Self {
             count,
+            buffer: _,
+            slot: _,
             prefix,
             ahead,
             ready: _,
         } = self;
         (count, prefix, ahead)
+    }
+
+    /// Splits the state into the next slot of the open buffer, and what later buffers need.
+    pub fn split(self, _cell: &ListCell<T, A>) -> (Option<NextSlot<T, A>>, Later<T, A>)
+        requires { IsStateOf _cell.now self }
+        ensures next { IfSome result.0 (IsNextSlotOf _cell.now) }
+        ensures later { IsLaterOf _cell.now result.1 }
+    {
+        let Self {
+            count,
+            buffer,
+            slot,
+            prefix,
+            ahead,
+            ready,
+        } = self;
+        let Ahead {
+            opened,
+            slots,
+            further,
+        } = ahead;
+        if let Some(opened) = opened {
+            let next = NextSlot {
+                count,
+                buffer,
+                slot,
+                prefix,
+                opened,
+                slots,
+            };
+            return (
+                Some(next),
+                Later {
+                    first: buffer + 1,
+                    further,
+                    ready,
+                },
+            );
+        }
+        prefix.discard();
+        slots.discard();
+        (
+            None,
+            Later {
+                first: buffer,
+                further,
+                ready,
+            },
+        )
     }
 }
 
@@ -175,6 +241,8 @@ fn next_fresh<T, A: Allocator + Copy>(
 ///
 /// # Errors
 /// Fails with `further` itself if an allocation fails.
+#[cold]
+#[inline(never)]
 fn open_fresh<T, A: Allocator + Copy>(
     into: &Slots<T, A>,
     further: WriteRights,
@@ -255,23 +323,26 @@ fn open_next<T, A: Allocator + Copy>(
 
 /// Writes an item at the index `_n`, into the slot `slot` of the open buffer `buffer`, and returns
 /// the rights after it.
-fn write_next<T, A: Allocator + Copy>(
-    into: &Slots<T, A>,
+fn write_next<'v, T, A: Allocator + Copy>(
+    into: &'v Slots<T, A>,
     from: Opened<T, A>,
     item: T,
     prefix: &mut WrittenPrefix<T, Buffer<T, A>>,
     buffer: usize,
     slot: usize,
     _n: usize,
-) -> Ahead<T, A>
+) -> After<'v, T, A>
     requires open { IsOpenAt into.now _n buffer slot
         from.buffer.of from.buffer.value.0 from.slots.of from.further.of }
     requires buffer_count { buffer < 31 }
     requires prefix { (prefix.old.buffer_slots ≡ into.now) × (length prefix.old.items ≡ _n) }
     ensures written { (prefix.new.buffer_slots ≡ prefix.old.buffer_slots)
         × (prefix.new.items ≡ prefix.old.items ++ item ∷ []) }
-    ensures ahead { GoesOn into.now (_n + 1) result.opened result.slots.of result.further.of }
-    ensures further { result.further.of ≡ from.further.of }
+    ensures ahead { GoesOn into.now (_n + 1)
+        result.ahead.opened result.ahead.slots.of result.ahead.further.of }
+    ensures further { result.ahead.further.of ≡ from.further.of }
+    ensures location { IsAt (_n + 1) result.buffer result.slot }
+    ensures lent { result.lent.now ≡ item }
 {
     let Opened {
         buffer: opened,
@@ -280,38 +351,51 @@ fn write_next<T, A: Allocator + Copy>(
     } = from;
     let mut slots = slots;
     let right = slots.take();
-    let written = into.write(buffer, slot, item, &opened, right);
+    let size = into.buffer_len(buffer, &opened);
+    let (lent, written) = into.write_lent(buffer, slot, item, &opened, right);
     prefix.add(buffer, slot, &opened, written);
-    if slot + 1 < buffer_size(buffer) {
-        return Ahead {
+    if slot + 1 < size {
+        let ahead = Ahead {
             opened: Some(opened),
             slots,
             further,
         };
+        return After {
+            lent,
+            ahead,
+            buffer,
+            slot: slot + 1,
+        };
     }
     opened.discard();
-    Ahead {
+    let ahead = Ahead {
         opened: None,
         slots,
         further,
+    };
+    After {
+        lent,
+        ahead,
+        buffer: buffer + 1,
+        slot: 0,
     }
 }
 
-/// Appends an item to the list of the state, and returns its index.
+/// Appends an item to the list of the state, and returns its index and a reference to it.
 ///
 /// # Errors
 /// Fails with `item` itself if an allocation fails, or if the list has the greatest number of
 /// items.
-pub fn push_item<T, A: Allocator + Copy>(
-    into: &Slots<T, A>,
+pub fn push_item<'v, T, A: Allocator + Copy>(
+    into: &'v Slots<T, A>,
     state: &mut State<T, A>,
     item: T,
-) -> Result<usize, T>
+) -> Result<(usize, &'v T), T>
     requires { IsStateOf into.now state.old }
     ensures same_vector { IsStateOf into.now state.new }
-    ensures pushed { IfOk result (λ n. (n ≡ length state.old.prefix.items)
-        × (state.new.prefix.items ≡ state.old.prefix.items ++ item ∷ [])) }
-    ensures limit { IfOk result (λ n. n + 1 < 2 ^ 62) }
+    ensures pushed { IfOk result (λ r. (r.0 ≡ length state.old.prefix.items)
+        × (r.1.now ≡ item) × (state.new.prefix.items ≡ state.old.prefix.items ++ item ∷ [])) }
+    ensures limit { IfOk result (λ r. r.0 + 1 < 2 ^ 62) }
     ensures refused { IfErr result (λ x.
         (x ≡ item) × (state.new.prefix.items ≡ state.old.prefix.items)) }
     ensures capacity { capacity_of state.old ≤ capacity_of state.new }
@@ -322,7 +406,7 @@ pub fn push_item<T, A: Allocator + Copy>(
     if count >= MOST {
         return Err(item);
     }
-    let (buffer, slot) = locate(count);
+    let (buffer, slot) = (state.buffer, state.slot);
     let none = Ahead {
         opened: None,
         slots: WriteRights::none(),
@@ -332,11 +416,19 @@ pub fn push_item<T, A: Allocator + Copy>(
     match open_next(into, ahead, &mut state.ready, buffer, count, slot) {
         Ok(opened) => {
             let prefix = &mut state.prefix;
-            let ahead = write_next(into, opened, item, prefix, buffer, slot, count);
+            let after = write_next(into, opened, item, prefix, buffer, slot, count);
+            let After {
+                lent,
+                ahead,
+                buffer,
+                slot,
+            } = after;
             let none = std::mem::replace(&mut state.ahead, ahead);
             discard(none);
             state.count = count + 1;
-            Ok(count)
+            state.buffer = buffer;
+            state.slot = slot;
+            Ok((count, lent))
         }
         Err(ahead) => {
             let none = std::mem::replace(&mut state.ahead, ahead);

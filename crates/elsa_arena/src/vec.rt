@@ -10,11 +10,12 @@ ghost use Rattle.elsa_arena.specs.Observed.{Appends, Continues, IsStateOf, view_
 ghost use Rattle.elsa_arena.specs.Search.{Searched, Brackets, IsBetween, Answered, AnswersByItem, AnswersByPlace, CallableAtItems, Compares, ComparesAt, Falls, Parts, Rises, Splits};
 
 use crate::fault::{CellFault, Fault, InUse};
+use crate::list_cell::ListCell;
 use crate::observed::{Iter, Observed, Seen};
-use crate::shared::{OfSlots, Shared};
+use crate::shared::OfSlots;
 use crate::shown::{Shown, observed_since};
 use crate::state::{self, MOST, State, push_item};
-use crate::views::{is_behind, is_evidence_behind, observe, slots_of};
+use crate::views::{is_before, is_behind, is_evidence_behind, observe, slots_of};
 use boxcar::tag::Tag;
 use elsa_slots::slots::Slots;
 use std::alloc::{AllocError, Allocator, Global};
@@ -30,7 +31,7 @@ pub struct FrozenVec<T, A: Allocator + Copy = Global> {
     // The items, the state of insertions, which one call has at a time, and the length that reads
     // take.
     slots: Slots<T, A>,
-    cell: Shared<State<T, A>>,
+    cell: ListCell<T, A>,
     shown: Shown<T, A>,
 }
 
@@ -42,15 +43,14 @@ impl<T, A: Allocator + Copy> Model for FrozenVec<T, A> {
     ghost view = { λ v. v.slots };
 
     // The state and the length that reads take are of this list.
-    ghost invariant = { λ v. (v.cell.numbers ≡ v.slots) × (v.shown ≡ v.slots) };
+    ghost invariant = { λ v. (v.cell ≡ v.slots) × (v.shown ≡ v.slots) };
 }
 
 // Drops each item once, in order.
 impl<T: Drop, A: Allocator + Copy> Drop for FrozenVec<T, A> {
     fn drop(self) {
         let Self { slots, cell, shown } = self;
-        drop(shown);
-        match cell.into_state() {
+        match cell.take(&shown) {
             Some(state) => state.end(slots),
             None => drop(slots),
         }
@@ -69,7 +69,7 @@ impl<T, A: Allocator + Copy> FrozenVec<T, A> {
         let (slots, further) = Slots::new(alloc)?;
         let tag = Tag::of::<Slots<T, A>, OfSlots>(&slots);
         let shown = Shown::first(&further, &tag);
-        let cell = Shared::new(State::first(alloc, further), &tag);
+        let cell = ListCell::new(State::first(alloc, further), &tag);
         Ok(FrozenVec { slots, cell, shown })
     }
 
@@ -92,7 +92,7 @@ impl<T, A: Allocator + Copy> FrozenVec<T, A> {
         let shown = Shown::first(&further, &tag);
         let mut state = State::first(alloc, further);
         state::reserve(&slots, &mut state, count)?;
-        let cell = Shared::new(state, &tag);
+        let cell = ListCell::new(state, &tag);
         Ok(FrozenVec { slots, cell, shown })
     }
 
@@ -175,7 +175,7 @@ impl<T, A: Allocator + Copy> FrozenVec<T, A> {
     pub fn hold(&self) -> Result<Hold<'_, T, A>, InUse>
         ensures same_vector { IfOk result (λ h. h.vector ≡ self.now) }
     {
-        let Some(state) = self.cell.take() else {
+        let Some(state) = self.cell.take(&self.shown) else {
             return Err(InUse);
         };
         Ok(Hold {
@@ -199,7 +199,22 @@ impl<T, A: Allocator + Copy> FrozenVec<T, A> {
     ///
     /// # Cost
     /// `O(1)`.
+    #[inline(always)]
     pub fn push(&self, item: T) -> Result<usize, CellFault<T>>
+        ensures limit { IfOk result (λ i. i + 1 < 2 ^ 62) }
+        ensures given_back { IfErr result (GivesBack item) }
+    {
+        let Some(next) = self.cell.take_next() else {
+            return self.push_held(item);
+        };
+        let (_lent, seen) = self.cell.append(&self.slots, &self.shown, next, item);
+        Ok(seen.count - 1)
+    }
+
+    /// Appends an item under a guard: the call opens a buffer, or another has the state.
+    #[cold]
+    #[inline(never)]
+    fn push_held(&self, item: T) -> Result<usize, CellFault<T>>
         ensures limit { IfOk result (λ i. i + 1 < 2 ^ 62) }
         ensures given_back { IfErr result (GivesBack item) }
     {
@@ -223,7 +238,22 @@ impl<T, A: Allocator + Copy> FrozenVec<T, A> {
     ///
     /// # Cost
     /// `O(1)`.
+    #[inline(always)]
     pub fn alloc(&self, item: T) -> Result<&T, CellFault<T>>
+        ensures pushed { IfOk result (λ r. r.now ≡ item) }
+        ensures given_back { IfErr result (GivesBack item) }
+    {
+        let Some(next) = self.cell.take_next() else {
+            return self.alloc_held(item);
+        };
+        let (lent, _seen) = self.cell.append(&self.slots, &self.shown, next, item);
+        Ok(lent)
+    }
+
+    /// Appends an item as [`push_held`](Self::push_held) does, and returns a reference to it.
+    #[cold]
+    #[inline(never)]
+    fn alloc_held(&self, item: T) -> Result<&T, CellFault<T>>
         ensures pushed { IfOk result (λ r. r.now ≡ item) }
         ensures given_back { IfErr result (GivesBack item) }
     {
@@ -370,8 +400,8 @@ impl<T, A: Allocator + Copy> FrozenVec<T, A> {
     {
         let tag = Tag::of::<Slots<T, A>, OfSlots>(&slots);
         let cell = match state {
-            Some(state) => Shared::new(state, &tag),
-            None => Shared::lost(&tag),
+            Some(state) => ListCell::new(state, &tag),
+            None => ListCell::lost(&tag),
         };
         FrozenVec { slots, cell, shown }
     }
@@ -399,7 +429,7 @@ impl<T, A: Allocator + Copy> FrozenVec<T, A> {
             ⊎ (f ≡ CellFault.InUse self)) }
     {
         let Self { slots, cell, shown } = self;
-        let Some(state) = cell.into_state() else {
+        let Some(state) = cell.take(&shown) else {
             return Err(CellFault::InUse(FrozenVec::again(slots, shown, None)));
         };
         if !is_evidence_behind(seen, &state) {
@@ -432,7 +462,7 @@ impl<T, A: Allocator + Copy> FrozenVec<T, A> {
 /// What a handle has observed stays, whatever other calls append.
 #[derive(Drop)]
 pub struct Handle<'v, T, A: Allocator + Copy = Global> {
-    cell: &'v Shared<State<T, A>>,
+    cell: &'v ListCell<T, A>,
     shown: &'v Shown<T, A>,
     observed: Observed<'v, T, A>,
 }
@@ -446,7 +476,7 @@ impl<'v, T, A: Allocator + Copy> Model for Handle<'v, T, A> {
     ghost view = { λ h. h.observed };
 
     // The state and the length that reads take are of the observed list.
-    ghost invariant = { λ h. (h.cell.now.numbers ≡ h.observed.vector)
+    ghost invariant = { λ h. (h.cell.now ≡ h.observed.vector)
         × (h.shown.now ≡ h.observed.vector) };
 }
 
@@ -605,7 +635,7 @@ impl<'v, T, A: Allocator + Copy> Handle<'v, T, A> {
         ensures items { IfOk result (λ h. IsPrefix self.now.seen h.seen) }
     {
         let cell = self.cell;
-        let Some(state) = cell.take() else {
+        let Some(state) = cell.take(self.shown) else {
             return Err(InUse);
         };
         if !is_behind(&self.observed, &state) {
@@ -656,7 +686,31 @@ impl<'v, T, A: Allocator + Copy> Handle<'v, T, A> {
     ///
     /// # Cost
     /// `O(1)`.
+    #[inline(always)]
     pub fn push(&mut self, item: T) -> Result<usize, CellFault<T>>
+        ensures continues { Continues self.old self.new }
+        ensures pushed { IfOk result (λ i. Appends self.old.seen self.new.seen i item) }
+        ensures limit { IfOk result (λ i. i + 1 < 2 ^ 62) }
+        ensures given_back { IfErr result (GivesBack item) }
+    {
+        let cell = self.cell;
+        let Some(next) = cell.take_next() else {
+            return self.push_held(item);
+        };
+        if !is_before(&self.observed, &next) {
+            cell.put_next(next);
+            return Err(CellFault::InUse(item));
+        }
+        let slots = slots_of(&self.observed);
+        let (_lent, seen) = cell.append(slots, self.shown, next, item);
+        let _before = std::mem::replace(&mut self.observed, observed_since(slots, &seen));
+        Ok(seen.count - 1)
+    }
+
+    /// Appends an item under a guard: the call opens a buffer, or another has the state.
+    #[cold]
+    #[inline(never)]
+    fn push_held(&mut self, item: T) -> Result<usize, CellFault<T>>
         ensures continues { Continues self.old self.new }
         ensures pushed { IfOk result (λ i. Appends self.old.seen self.new.seen i item) }
         ensures limit { IfOk result (λ i. i + 1 < 2 ^ 62) }
@@ -705,7 +759,7 @@ impl<'v, T, A: Allocator + Copy> Handle<'v, T, A> {
 /// It is the form for a loop of insertions, and for what needs the whole list unchanged.
 pub struct Hold<'v, T, A: Allocator + Copy = Global> {
     slots: &'v Slots<T, A>,
-    cell: &'v Shared<State<T, A>>,
+    cell: &'v ListCell<T, A>,
     shown: &'v Shown<T, A>,
     state: State<T, A>,
 }
@@ -724,7 +778,7 @@ impl<'v, T, A: Allocator + Copy> Model for Hold<'v, T, A> {
     } };
 
     // The guard has the state of this list, and at its end puts it into the same list.
-    ghost invariant = { λ h. IsStateOf h.slots.now h.state × (h.cell.now.numbers ≡ h.slots.now)
+    ghost invariant = { λ h. IsStateOf h.slots.now h.state × (h.cell.now ≡ h.slots.now)
         × (h.shown.now ≡ h.slots.now) };
 }
 
@@ -836,7 +890,7 @@ impl<'v, T, A: Allocator + Copy> Hold<'v, T, A> {
     {
         let slots = self.slots;
         match push_item(slots, &mut self.state, item) {
-            Ok(index) => {
+            Ok((index, _)) => {
                 self.shown.set(&self.state);
                 Ok(index)
             }

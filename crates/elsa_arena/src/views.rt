@@ -3,7 +3,9 @@
 ghost use Rattle.std.specs.Prelude.{◌≡◌, true};
 ghost use mathlib.Core.List.{IsPrefix};
 ghost use Rattle.elsa_arena.specs.Observed.{IsStateOf};
+ghost use Rattle.elsa_arena.specs.Parts.{IsNextSlotOf};
 
+use crate::list_cell::NextSlot;
 use crate::observed::{Observed, Seen};
 use crate::state::{State, begins};
 use elsa_slots::slots::Slots;
@@ -42,6 +44,23 @@ pub fn is_behind<T, A: Allocator + Copy>(observed: &Observed<'_, T, A>, state: &
         return false;
     }
     begins(&observed.prefix, &state.prefix);
+    true
+}
+
+/// Returns whether the items before the next slot have all observed items. They always have, as
+/// [`is_behind`] says.
+#[inline(always)]
+pub fn is_before<T, A: Allocator + Copy>(
+    observed: &Observed<'_, T, A>,
+    next: &NextSlot<T, A>,
+) -> bool
+    requires { IsNextSlotOf observed.now.vector next.now }
+    ensures { result ≡ true → IsPrefix observed.now.seen next.now.prefix.items }
+{
+    if next.count < observed.count {
+        return false;
+    }
+    begins(&observed.prefix, &next.prefix);
     true
 }
 

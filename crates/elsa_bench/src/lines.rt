@@ -3,7 +3,7 @@
 ghost use Rattle.std.specs.Prelude.{◌≡◌, ◌<◌};
 
 use bumpalo::Bump;
-use elsa::append_map::{AppendMap, By};
+use elsa::append_map::AppendMap;
 use elsa::interner::{ShardedInterner, SharedInterner};
 use elsa::sync::LockFreeFrozenMap;
 use elsa::{FrozenAppendMap, Own, SeededState};
@@ -51,7 +51,7 @@ fn insertions<'a, S: BuildHasher + Drop>(
     let mut sum = 0u64;
     let mut place = 0u64;
     for text in texts {
-        let value = match map.get(By(text.as_str())) {
+        let value = match map.get(text.as_str()) {
             Some(found) => *found,
             None => {
                 let kept = arena.keep_text(text.as_str())?;

@@ -3,7 +3,7 @@
 use crate::draws::{Draws, key};
 use crate::tables::{Numbers, Table, Texts, made_texts};
 use bumpalo::Bump;
-use elsa::append_map::{AppendMap, By};
+use elsa::append_map::AppendMap;
 use elsa::{
     FrozenAppendMap, FrozenBTreeMap, FrozenIndexMap, FrozenMap, FrozenVec, Own, TypedArena, cell,
 };
@@ -78,7 +78,7 @@ impl<'a, 't> Table for AppendTexts<'a, 't> {
             return Ok(0);
         };
         let text = text.as_str();
-        if let Some(found) = self.map.get(By(text)) {
+        if let Some(found) = self.map.get(text) {
             return Ok(*found);
         }
         let kept = self.arena.keep_text(text)?;
@@ -88,7 +88,7 @@ impl<'a, 't> Table for AppendTexts<'a, 't> {
     #[inline(always)]
     fn get(&self, place: usize) -> Option<u64> {
         let text = self.texts.get(place)?;
-        self.map.get(By(text.as_str())).copied()
+        self.map.get(text.as_str()).copied()
     }
 }
 

@@ -9,7 +9,7 @@ use Rattle.std.specs.Map.{keys_of, lookup, lookup_key}
 use Rattle.std.specs.Option.{option_map}
 use Rattle.std_collections.proofs.HashLookup.{get_key, get_value}
 use Rattle.indexmap.proofs.MapLemmas.{Found-position}
-use Rattle.elsa_specs.specs.Insertions.{IsCloneOf}
+use Rattle.elsa_tables.specs.Insertions.{IsCloneOf}
 use Rattle.elsa_buckets.specs.Table.{Entries, Has}
 use Rattle.elsa_buckets.specs.Placed.{IsPlaced}
 
@@ -53,7 +53,6 @@ placed_alike same laws hash table ks cs respects placed counted alike = record {
       let lt : i < length ks = omega (arith, slice_get_within cs i c there, counted) in
       let agrees : hash (get_or ks i c) ≡ hash c = respects _ _ (alike i c lt) ∙ ap hash (get_or_from_slice_get cs i c c there) in
       subst (λ n. Has table n i) agrees (placed.entered i (get_or ks i c) (slice_get-get_or ks i c lt));
-  within = λ h p has. omega (arith, placed.within h p has, counted);
 }
 
 -- The table of the entries is for their clones.

@@ -1,5 +1,5 @@
 -- What the hash table's indices show of the keys, and what an insertion leaves.
-use Rattle.std.proofs.Common.{◌≡◌, ℕ, ◌+◌, ◌<◌, ◌⊎◌, Bool, true, false, List, [], ◌∷◌, ◌++◌, cond, length, get_or, position, slice_get, None, Some, refl, ap, subst, sym, ◌∙◌, inl, inr, arith}
+use Rattle.std.proofs.Common.{◌≡◌, ℕ, ◌+◌, ◌<◌, Bool, true, false, List, [], ◌∷◌, ◌++◌, cond, length, get_or, position, slice_get, None, Some, refl, ap, subst, sym, ◌∙◌, inl, inr, arith}
 use Rattle.std.proofs.lemmas.Bool.{both_ways, cases_Bool, cases_lt, lt-ltb, le-ltb}
 use Rattle.std.proofs.lemmas.List.{length-append, get_or_append_left, get_or_push}
 use Rattle.std.proofs.lemmas.List.Folds.{Any-from_list_any}
@@ -10,18 +10,30 @@ use Rattle.std.specs.Cmp.{IsEquivalence}
 use Rattle.std.specs.Bool.{nat_lt}
 use Rattle.std.specs.List.{IsDistinct, list_any, position_or_len}
 use Rattle.std.specs.Map.{IsKeyTest}
-use Rattle.elsa_buckets.specs.Table.{Entries, places, Has, HasSame, AddsPlace}
+use Rattle.elsa_buckets.specs.Table.{Entries, hashes, places, Has, HasSame, AddsPlace}
 use Rattle.elsa_buckets.specs.Placed.{IsPlaced}
+use Rattle.elsa_buckets.proofs.GroupLemmas.{split_last}
 
--- After a push, an item of the list is an earlier item or the pushed one.
-split_last : {X : Type 0} (xs : List X) (x : X) (i : ℕ) (y : X) → slice_get (xs ++ x ∷ []) i ≡ Some y → (slice_get xs i ≡ Some y) ⊎ ((i ≡ length xs) × (x ≡ y))
-split_last xs x i y there = elim ((slice_get_cases xs i).1) [
-  | inl h ↦ inl (slice_get-get_or xs i y h.1 ∙ ap Some (sym (get_or_append_left xs (x ∷ []) y i h.1) ∙ get_or_from_slice_get (xs ++ x ∷ []) i y y there))
-  | inr h ↦
-      let within = slice_get_within (xs ++ x ∷ []) i y there in
-      let last : i ≡ length xs = omega (arith, h.0, within, length-append xs (x ∷ [])) in
-      inr (last, sym (get_or_push xs x y i (sym last)) ∙ get_or_from_slice_get (xs ++ x ∷ []) i y y there)
-]
+-- A table with the same hashes has the same indices.
+pub has_same : (before after : Entries) (h p : ℕ) → HasSame before after → Has before h p → Has after h p
+has_same before after h p same has = subst (λ l. slice_get l p ≡ Some h) (sym same) has
+
+-- An addition adds an index, and keeps the earlier ones.
+module _ (before after : Entries) (hash place : ℕ) (adds : AddsPlace before hash place after) where
+  abbrev old : List ℕ
+  old = hashes before
+
+  pub has_kept : (h p : ℕ) → Has before h p → Has after h p
+  has_kept h p has =
+      let lt = slice_get_within old p h has in
+      subst (λ l. slice_get l p ≡ Some h) (sym adds.1)
+      (slice_get-get_or (old ++ hash ∷ []) p h (omega (arith, lt, length-append old (hash ∷ [])))
+      ∙ ap Some (get_or_append_left old (hash ∷ []) h p lt ∙ get_or_from_slice_get old p h h has))
+
+  pub has_added : Has after hash place
+  has_added =
+      subst (λ l. slice_get l place ≡ Some hash) (sym adds.1)
+      (slice_get-get_or (old ++ hash ∷ []) place hash (omega (arith, adds.0, length-append old (hash ∷ []))) ∙ ap Some (get_or_push old hash hash place (sym adds.0)))
 
 module _ {K : Type 0} (test : K → Bool) (keys : List K) where
   -- The first index is that of `position`.
@@ -60,12 +72,12 @@ module _ {K : Type 0} (same : K → K → Bool) (laws : IsEquivalence same) (has
       (λ _. ap test here ∙ passes))
       within
 
-  -- The table has the accepted index under some hash.
-  pub found_at : (test : K → Bool) → IsKeyTest same test → (table : Entries) (keys : List K) (h i : ℕ) → IsPlaced same hash table keys → Has table h i → ((k : K) → slice_get keys i ≡ Some k → test k ≡ true)
+  -- The accepted index is one of the table.
+  pub found_at : (test : K → Bool) → IsKeyTest same test → (table : Entries) (keys : List K) (i : ℕ) → IsPlaced same hash table keys → i < places table → ((k : K) → slice_get keys i ≡ Some k → test k ≡ true)
       → position test keys ≡ Some i
-  found_at test one table keys h i placed has passes = elim ((slice_get_cases keys i).1) [
+  found_at test one table keys i placed within passes = elim ((slice_get_cases keys i).1) [
     | inl here ↦ found_here test one table keys i here.0 placed here.2 (passes here.0 here.2)
-    | inr past ↦ absurd (omega (arith, past.0, placed.within h i has))
+    | inr past ↦ absurd (omega (arith, past.0, within, placed.counted))
   ]
 
   -- If the search rejected each index with the hash, the test finds no key.
@@ -92,14 +104,10 @@ module _ {K : Type 0} (same : K → K → Bool) (laws : IsEquivalence same) (has
     distinct = IsDistinct-push laws keys key old.distinct (none_passes (same key) keys none);
     counted = omega (arith, more, old.counted, length-append keys (key ∷ []));
     entered = λ i k there. elim (split_last keys key i k there) [
-      | inl earlier ↦ adds.kept (hash k) i (old.entered i k earlier)
+      | inl earlier ↦ has_kept before after h place adds (hash k) i (old.entered i k earlier)
       | inr last ↦
           let at : place ≡ i = omega (arith, placed, old.counted, last.0) in
-          subst (λ n. Has after (hash k) n) at (subst (λ n. Has after n place) (hashed ∙ ap hash last.1) adds.added)
-    ];
-    within = λ x p has. elim (adds.only x p has) [
-      | inl earlier ↦ omega (arith, old.within x p earlier, length-append keys (key ∷ []))
-      | inr last ↦ omega (arith, last.1, placed, old.counted, length-append keys (key ∷ []))
+          subst (λ n. Has after (hash k) n) at (subst (λ n. Has after n place) (hashed ∙ ap hash last.1) (has_added before after h place adds))
     ];
   }
 
@@ -108,16 +116,14 @@ module _ {K : Type 0} (same : K → K → Bool) (laws : IsEquivalence same) (has
   placed_same before after keys old count stays = record {
     distinct = old.distinct;
     counted = count ∙ old.counted;
-    entered = λ i k there. stays.kept (hash k) i (old.entered i k there);
-    within = λ h p has. old.within h p (stays.only h p has);
+    entered = λ i k there. has_same before after (hash k) i stays (old.entered i k there);
   }
 
   -- A table without indices is for no keys.
-  pub placed_none : (table : Entries) → places table ≡ 0 → ((h i : ℕ) → Has table h i → ⊥) → IsPlaced same hash table []
+  pub placed_none : (table : Entries) → places table ≡ 0 → IsPlaced same hash table []
   unfolding IsDistinct
-  placed_none table none empty = record {
+  placed_none table none = record {
     distinct = tt;
     counted = none;
     entered = λ i k there. absurd (omega (arith, slice_get_within {A = K} [] i k there));
-    within = λ h i has. absurd (empty h i has);
   }

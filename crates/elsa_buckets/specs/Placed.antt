@@ -1,5 +1,5 @@
 -- The keys of a collection in the order of their insertion, and the hash table that finds their indices.
-use Rattle.std.specs.Prelude.{◌≡◌, ◌<◌, ℕ, ◌/◌, ◌%◌, ◌^◌, Bool, List, Some, length, slice_get, fold, bit_xor}
+use Rattle.std.specs.Prelude.{◌≡◌, ℕ, ◌/◌, ◌%◌, ◌^◌, Bool, List, Some, length, slice_get, fold, bit_xor}
 use Rattle.std.specs.Hash.{HashWrites}
 use Rattle.std.specs.List.{IsDistinct}
 use Rattle.std.specs.declared.hash.BuildHasher as builder
@@ -14,12 +14,11 @@ key_hash b h state writes =
     bit_xor hash (hash / 2 ^ 32) % 2 ^ 32
 
 -- No two keys are equal. The table has the index of each key under the key's hash, and no other
--- index.
+-- index: the number of its indices is that of the keys.
 pub record IsPlaced {K : Type 0} (same : K → K → Bool) (hash : K → ℕ) (table : Entries) (keys : List K) : Type 0 where
   pub distinct : IsDistinct same keys
   pub counted : places table ≡ length keys
   pub entered : (i : ℕ) (key : K) → slice_get keys i ≡ Some key → Has table (hash key) i
-  pub within : (h place : ℕ) → Has table h place → place < length keys
 
 -- `post i b` relates each index to what a comparison of the key there returns: `test` of that key.
 abbrev pub AreCompared : {K : Type 0} → (ℕ → Bool → Type 0) → (K → Bool) → List K → Type 0

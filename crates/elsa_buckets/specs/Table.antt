@@ -1,18 +1,22 @@
--- A hash table from hashes to indices: its buckets, and the number of its indices.
-use Rattle.std.specs.Prelude.{◌≡◌, ℕ, ◌+◌, ◌-◌, ◌^◌, ◌<◌, ◌≤◌, ◌⊎◌, List, length}
-use Rattle.elsa_buckets.specs.declared.slots.Slot.{Slot}
+-- A hash table from hashes to indices: its groups of buckets, and the hash of each index.
+use Rattle.std.specs.Prelude.{◌≡◌, ℕ, ◌+◌, ◌-◌, ◌^◌, ◌<◌, ◌≤◌, ◌⊎◌, List, [], ◌∷◌, ◌++◌, Some, length, slice_get}
+use Rattle.elsa_buckets.specs.declared.groups.Group.{Group}
 use Rattle.elsa_buckets.specs.declared.table.Vacancy.{Vacancy}
-use Rattle.elsa_buckets.specs.Slots.{slot_of, load_limit, wider_count, EndsAt, Holds, IsFewest}
+use Rattle.elsa_buckets.specs.Groups.{load_limit, wider_count, EndsAt, IsFewest}
 
--- The value of a table: its buckets, and the number of its indices.
+-- The value of a table: its groups of buckets, and the hash of each index.
 abbrev pub Entries : Type 0
-Entries = List Slot × ℕ
+Entries = List Group × List ℕ
+
+-- The hash of each index.
+abbrev pub hashes : Entries → List ℕ
+hashes table = table.1
 
 -- The number of indices in the table.
 abbrev pub places : Entries → ℕ
-places table = table.1
+places table = length (hashes table)
 
--- The greatest number of indices: a bucket has 32 bits for an index plus 1.
+-- The greatest number of indices: their number has 32 bits.
 abbrev pub most_places : ℕ
 most_places = 2 ^ 32 - 1
 
@@ -20,42 +24,40 @@ most_places = 2 ^ 32 - 1
 abbrev pub IsCount : ℕ → Type 0
 IsCount count = count ≤ most_places
 
--- The number of buckets of the table.
-abbrev pub slots : Entries → ℕ
-slots table = length table.0
+-- The number of groups of the table.
+abbrev pub groups : Entries → ℕ
+groups table = length table.0
 
 -- The table has the index `place` under the hash.
 abbrev pub Has : Entries → ℕ → ℕ → Type 0
-Has table hash place = Holds table.0 (slot_of hash place)
+Has table hash place = slice_get (hashes table) place ≡ Some hash
 
--- A search for the hash ended at this vacancy, unless the vacancy is none of the buckets.
+-- A search for the hash ended at this vacancy, unless the vacancy is in none of the groups.
 abbrev pub IsVacancy : Entries → ℕ → Vacancy → Type 0
-IsVacancy table hash vacancy = vacancy.slot < length table.0 → EndsAt table.0 hash vacancy.slot
+IsVacancy table hash vacancy = vacancy.bucket.group < groups table → EndsAt table.0 hash vacancy.bucket
 
--- A probe for the hash ends at this vacancy, and the buckets suffice for another index: an index
+-- A probe for the hash ends at this vacancy, and the groups suffice for another index: an index
 -- under the hash can go there.
 abbrev pub IsRoom : Entries → ℕ → Vacancy → Type 0
-IsRoom table hash vacancy = EndsAt table.0 hash vacancy.slot × places table < load_limit (slots table)
+IsRoom table hash vacancy = EndsAt table.0 hash vacancy.bucket × places table < load_limit (groups table)
 
--- If the buckets suffice for another index and the vacancy is one of them, their number is
--- unchanged; otherwise it is unchanged or doubles.
+-- If the groups suffice for another index and the vacancy is in one of them, their number is
+-- unchanged; otherwise it is unchanged or grows once.
 pub record Widens (before : Entries) (vacancy : Vacancy) (after : Entries) : Type 0 where
-  pub stays : places before < load_limit (slots before) → vacancy.slot < slots before → slots after ≡ slots before
-  pub doubles : (slots after ≡ slots before) ⊎ (slots after ≡ wider_count (slots before))
+  pub stays : places before < load_limit (groups before) → vacancy.bucket.group < groups before → groups after ≡ groups before
+  pub grows : (groups after ≡ groups before) ⊎ (groups after ≡ wider_count (groups before))
 
--- The buckets suffice for `more` additional indices. Their number is that of before, or the
+-- The groups suffice for `more` additional indices. Their number is that of before, or the
 -- smallest one, by doubling, that suffices.
 pub record HasRoom (before : Entries) (more : ℕ) (after : Entries) : Type 0 where
-  pub enough : places after + more ≤ load_limit (slots after)
-  pub fewest : (slots after ≡ slots before) ⊎ IsFewest (slots before) (places before + more) (slots after)
+  pub enough : places after + more ≤ load_limit (groups after)
+  pub fewest : (groups after ≡ groups before) ⊎ IsFewest (groups before) (places before + more) (groups after)
 
 -- The indices afterwards are those of before, each under its hash.
-pub record HasSame (before after : Entries) : Type 0 where
-  pub kept : (h p : ℕ) → Has before h p → Has after h p
-  pub only : (h p : ℕ) → Has after h p → Has before h p
+abbrev pub HasSame : Entries → Entries → Type 0
+HasSame before after = hashes after ≡ hashes before
 
--- The indices afterwards are those of before, each under its hash, and `place` under `hash`.
-pub record AddsPlace (before : Entries) (hash place : ℕ) (after : Entries) : Type 0 where
-  pub kept : (h p : ℕ) → Has before h p → Has after h p
-  pub added : Has after hash place
-  pub only : (h p : ℕ) → Has after h p → Has before h p ⊎ ((h ≡ hash) × (p ≡ place))
+-- The indices afterwards are those of before, each under its hash, and the next index, which is
+-- `place`, under `hash`.
+abbrev pub AddsPlace : Entries → ℕ → ℕ → Entries → Type 0
+AddsPlace before hash place after = (place ≡ places before) × (hashes after ≡ hashes before ++ hash ∷ [])

@@ -3,7 +3,7 @@ ghost use Rattle.std.specs.Prelude.{◌≡◌, ◌↔◌, ◌++◌, ◌∷◌, �
 ghost use Rattle.std.specs.List.{IsDistinct};
 ghost use Rattle.std.specs.Map.{keys_of, lookup, lookup_key};
 ghost use Rattle.std.specs.Option.{option_map};
-ghost use Rattle.elsa_specs.specs.Insertions.{IsCloneOf};
+ghost use Rattle.elsa_tables.specs.Insertions.{IsCloneOf};
 ghost use Rattle.elsa_buckets.specs.Room.{most_entries, IfRoomFault, IsFull};
 ghost use Rattle.elsa_buckets.specs.Placed.{key_hash, IsPlaced};
 ghost use Rattle.elsa_buckets.specs.Table.{IsVacancy};
@@ -95,8 +95,8 @@ fn cloned_pairs<K: Eq + Clone, B: Copy, A: Allocator>(
 /// A map whose entries keep the order of their insertion, and from which none is removed.
 ///
 /// It is for millions of entries: when its buckets double, no key is read or hashed again. It has
-/// at most 2^32 - 1 entries. `alloc` allocates the list of pairs and the buckets, 11 to 21 bytes an
-/// entry. Contracts see the map as the list of its entries.
+/// at most 2^32 - 1 entries. `alloc` allocates the list of pairs and the hash table, which takes 11
+/// to 22 bytes an entry. Contracts see the map as the list of its entries.
 ///
 /// [`Table`] has its insertion.
 #[derive(Drop)]

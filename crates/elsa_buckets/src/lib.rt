@@ -1,8 +1,9 @@
 //! A hash table that maps hashes to indices, for a collection that stores its items in a list of
 //! its own.
 //!
-//! [`table::PlaceTable`] finds the index of an item by the item's hash, in buckets of 8 bytes: 32
-//! bits of hash, and the index. The table doesn't see the items: the caller of a search decides
+//! [`table::PlaceTable`] finds the index of an item by the item's hash. Its buckets are in groups
+//! of twelve. Each bucket has an index and a tag of 8 bits of the item's hash, and the tags of a
+//! group are compared at once. The table doesn't see the items: the caller of a search decides
 //! which index is the right one. A search that finds nothing ends at the bucket into which the
 //! item's index would go, so an item that is looked up and then added is searched for once.
 //!
@@ -13,7 +14,7 @@
 #![tactic(auto)]
 
 pub mod append_map;
-pub mod by;
+mod groups;
 pub mod query;
-mod slots;
+mod seek;
 pub mod table;

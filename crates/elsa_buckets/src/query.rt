@@ -1,6 +1,6 @@
 //! The values by which a key is looked up ([`Query`]), and the search of a table for the index of a
 //! key.
-ghost use Rattle.std.specs.Prelude.{◌≡◌, ℕ, Bool, IsTrue, List, None, Some, IfErr, IfOk, OnErr, position};
+ghost use Rattle.std.specs.Prelude.{◌≡◌, ◌<◌, ℕ, Bool, IsTrue, List, None, Some, IfErr, IfOk, OnErr, position};
 ghost use Rattle.std.proofs.Common.{ap};
 ghost use Rattle.std.specs.Cmp.Lexicographic.{bytes_decides, lists_equiv, nat_list_eq_equiv, pointwise};
 ghost use Rattle.std.specs.Hash as fed;
@@ -8,7 +8,7 @@ ghost use Rattle.std.specs.Hash.{items_Alike};
 ghost use Rattle.std.specs.Str.{bytes_eq};
 ghost use Rattle.std.specs.String.{string_bytes};
 ghost use Rattle.elsa_buckets.specs.Placed.{key_hash, AreCompared, IsPlaced};
-ghost use Rattle.elsa_buckets.specs.Table.{Has, IsVacancy};
+ghost use Rattle.elsa_buckets.specs.Table.{places, IsVacancy};
 
 use crate::table::{PlaceTable, Vacancy};
 use std::alloc::Allocator;
@@ -120,8 +120,8 @@ pub struct Missing {
 /// Returns the index of the key that `query` finds, or `Err` with the end of the search, in a table
 /// that has the indices of a list of distinct keys.
 ///
-/// `is_it` returns whether the query finds the key at an index. It is called only for indices that
-/// the table has under the query's hash. The search allocates nothing.
+/// `is_it` returns whether the query finds the key at an index. It is called only for indices whose
+/// hash has the same upper 8 bits as the query's. The search allocates nothing.
 ///
 /// # Cost
 /// One hash, and `O(1)` if the hashes are well distributed.
@@ -132,7 +132,7 @@ pub fn search<K: Eq + Hash, Q: Query<K>, S: BuildHasher, A: Allocator + Copy, F:
     query: Q,
     is_it: F,
 ) -> Result<usize, Missing>
-    requires { (hash place : ℕ) → Has table.now hash place → F.pre is_it place }
+    requires { (place : ℕ) → place < places table.now → F.pre is_it place }
 
     // If the table is for `keys`, and `is_it` compares them with the query.
     ensures found { IfOk result (λ i. (keys : List K) → IsPlaced K.eq (λ k.

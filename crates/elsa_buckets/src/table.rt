@@ -1,53 +1,62 @@
 //! [`PlaceTable`]: from hashes to indices, by open addressing.
 //!
-//! Contracts see a table as its buckets and the number of its indices. The definition `Has` states
-//! that it has an index under a hash (`specs/Table.antt`).
-ghost use Rattle.std.specs.Prelude.{◌≡◌, ◌↔◌, ◌+◌, ◌<◌, ◌≤◌, ◌⊎◌, ℕ, [], true, false, IfOk, IfErr, IsTrue, OnOk, OnErr};
-ghost use Rattle.elsa_buckets.specs.Slots.{load_limit, wider_count, PassesTaken};
-ghost use Rattle.elsa_buckets.specs.Table.{most_places, places, slots, Has, HasRoom, HasSame, IsRoom, IsVacancy, AddsPlace, Widens};
+//! Contracts see a table as its groups of buckets, and the list of the hashes of its indices. The
+//! definition `Has` states that it has an index under a hash (`specs/Table.antt`).
+ghost use Rattle.std.specs.Prelude.{◌≡◌, ◌↔◌, ◌+◌, ◌<◌, ◌≤◌, ◌⊎◌, ℕ, [], true, false, length, IfOk, IfErr, IsTrue, OnOk, OnErr};
+ghost use Rattle.elsa_buckets.specs.Groups.{load_limit, wider_count, Indexes, PassesFull};
+ghost use Rattle.elsa_buckets.specs.Table.{most_places, places, groups, hashes, Has, HasRoom, HasSame, IsRoom, IsVacancy, AddsPlace, Widens};
 
-use crate::slots::{LEAST, Slot, slots_for, vacant, walk, widened};
+use crate::groups::{
+    Bucket, Group, first_of, rest_of, size_for, tag_of, vacant, walk, widened, wider_size,
+};
 use std::alloc::{AllocError, Allocator};
 use std::marker::Model;
 
-/// The greatest number of indices: a bucket has 32 bits for the index plus 1.
+/// The greatest number of indices, of which a bucket has the 32 bits.
 const MOST: usize = 0xFFFF_FFFF;
 
 /// The bucket at which a search ended that found nothing, or in which [`PlaceTable::reserve`] made
 /// room. It is valid until the table changes.
 #[derive(Clone, Copy)]
 pub struct Vacancy {
-    slot: usize,
+    bucket: Bucket,
 }
 
 /// A hash table from hashes to indices. The first index that is added is 0, the next one is 1, and
 /// so on. Each is stored under the hash with which it was added.
 ///
-/// Several indices may have the same hash. `alloc` allocates the buckets: 8 bytes each, a power of
-/// two of them, of which at most three quarters are taken. So an index takes 11 to 21 bytes. While
-/// the number of buckets doubles, the old buckets still exist, and an index takes 32 bytes.
+/// Several indices may have the same hash. `alloc` allocates the buckets, in groups of twelve that
+/// take 64 bytes, and a list of the hashes, 4 bytes each. The number of groups is a power of two,
+/// and on average at most nine buckets of a group are taken. So an index takes 11 to 22 bytes in a
+/// table of more than 147 indices, and up to 41 bytes in one of 13 to 147. While the number of
+/// groups doubles, the old groups still exist, and an index takes 30 bytes.
 #[derive(Drop)]
 pub struct PlaceTable<A: Allocator> {
-    slots: Vec<Slot, A>,
-    // The number of indices, and the number of indices for which these buckets suffice.
-    count: usize,
+    // The buckets. A bucket is found by its group's number, and its number in the group.
+    groups: Vec<Group, A>,
+    // The hash of each index, by which it is entered again after growth. It has capacity for
+    // `limit` hashes.
+    hashes: Vec<u32, A>,
+    // The number of indices for which these groups suffice.
     limit: usize,
 }
 
 impl<A: Allocator> Model for PlaceTable<A> {
-    ghost use Rattle.std.specs.Prelude.{◌≡◌, ◌≤◌, List, ℕ, length};
-    ghost use Rattle.elsa_buckets.specs.declared.slots.Slot.{Slot};
+    ghost use Rattle.std.specs.Prelude.{◌≡◌, ◌≤◌, List, ℕ, length, vec_capacity};
+    ghost use Rattle.elsa_buckets.specs.declared.groups.Group.{Group};
 
-    ghost Value = { List Slot × ℕ };
+    ghost Value = { List Group × List ℕ };
 
-    ghost view = { λ t. (t.slots.items, t.count) };
+    ghost view = { λ t. (t.groups.items, t.hashes.items) };
 
-    ghost use Rattle.elsa_buckets.specs.Slots.{load_limit, IsFindable};
+    ghost use Rattle.elsa_buckets.specs.Groups.{load_limit, Indexes};
     ghost use Rattle.elsa_buckets.specs.Table.{IsCount};
 
-    // At most three quarters of the buckets are taken, and `limit` is that number.
-    ghost invariant = { λ t. IsFindable t.slots.items × IsCount t.count
-        × (t.limit ≡ load_limit (length t.slots.items)) × t.count ≤ t.limit };
+    // The groups have the index of each hash. There are at most `limit` indices, for which the
+    // groups suffice and the list of hashes has capacity.
+    ghost invariant = { λ t. Indexes t.groups.items t.hashes.items
+        × IsCount (length t.hashes.items) × (t.limit ≡ load_limit (length t.groups.items))
+        × length t.hashes.items ≤ t.limit × t.limit ≤ vec_capacity t.hashes };
 }
 
 impl<A: Allocator + Copy> PlaceTable<A> {
@@ -57,62 +66,78 @@ impl<A: Allocator + Copy> PlaceTable<A> {
         ensures empty { (hash place : ℕ) → ¬ Has result hash place }
     {
         PlaceTable {
-            slots: Vec::new(alloc),
-            count: 0,
+            groups: Vec::new(alloc),
+            hashes: Vec::new(alloc),
             limit: 0,
         }
     }
 
-    /// Returns the index with this hash that `is_it` accepts, or `Err` with the bucket into which
-    /// one would be added.
+    /// Returns the index that `is_it` accepts, or `Err` with the bucket into which one with this
+    /// hash would be added.
     ///
-    /// `is_it` is called only for indices with this hash, until it returns `true`. The search
-    /// allocates nothing.
+    /// `is_it` is called for indices whose hash has the same upper 8 bits, among them each index
+    /// with this hash, until it returns `true`. The search allocates nothing.
     ///
     /// # Cost
     /// `O(1)` if the hashes are well distributed.
     #[inline(always)]
     pub fn search<F: Fn(usize) -> bool>(&self, hash: u32, is_it: F) -> Result<usize, Vacancy>
-        requires { (place : ℕ) → Has self.now hash place → F.pre is_it place }
+        requires { (place : ℕ) → place < places self.now → F.pre is_it place }
 
-        // `is_it` accepted an index with the hash; or it rejected each such index, and an index can
-        // be added.
-        ensures found { IfOk result (λ p. Has self.now hash p × F.post is_it p true) }
+        // `is_it` accepted an index; or it rejected each index with the hash, and an index can be
+        // added.
+        ensures found { IfOk result (λ p. (p < places self.now) × F.post is_it p true) }
         ensures absent { OnErr result ((p : ℕ) → Has self.now hash p → F.post is_it p false) }
         ensures vacancy { IfErr result (IsVacancy self.now hash) }
 
-        // There is a vacancy, or each bucket that a search for the hash reaches is taken.
-        ensures room { IfErr result (λ v. v.slot < slots self.now
-            ⊎ PassesTaken self.now.0 hash (slots self.now)) }
+        // There is a vacancy, or each group that a search for the hash reaches is full.
+        ensures room { IfErr result (λ v. v.bucket.group < groups self.now
+            ⊎ PassesFull self.now.0 hash (groups self.now)) }
     {
-        let slots = self.slots.as_slice();
-        let count = slots.len();
+        let groups = self.groups.as_slice();
+        let count = groups.len();
+        let tag = tag_of(hash);
         for step in 0..count {
             let at = walk(count, hash, step);
-            let slot = slots[at];
-            if slot.number == 0 {
-                return Err(Vacancy { slot: at });
-            }
-            if slot.hash == hash {
-                let place = slot.number as usize - 1;
+            let group = &groups[at];
+            let mut same = group.with_tag(tag);
+            while same != 0 {
+                let place = group.number(first_of(same));
                 if is_it(place) {
                     return Ok(place);
                 }
+                same = rest_of(same);
+            }
+            let free = group.with_tag(0);
+            if free != 0 {
+                let lane = first_of(free);
+                return Err(Vacancy {
+                    bucket: Bucket { group: at, lane },
+                });
             }
         }
-        Err(Vacancy { slot: count })
+        Err(Vacancy {
+            bucket: Bucket {
+                group: count,
+                lane: 0,
+            },
+        })
     }
 
-    /// Returns an index that may have this hash, read from one bucket, or any other number: nothing
+    /// Returns an index that may have this hash, read from one group, or any other number: nothing
     /// is proved about it. It allocates nothing.
     #[inline(always)]
     pub fn guess(&self, hash: u32) -> usize {
-        let first = hash as usize & self.slots.len().wrapping_sub(1);
-        let Some(slot) = self.slots.get(first).copied() else {
+        let first = hash as usize & self.groups.len().wrapping_sub(1);
+        let Some(group) = self.groups.get(first) else {
             return usize::MAX;
         };
-        let place = (slot.number as usize).wrapping_sub(1);
-        if slot.hash == hash { place } else { usize::MAX }
+        let same = group.with_tag(tag_of(hash));
+        if same != 0 {
+            group.number(first_of(same))
+        } else {
+            usize::MAX
+        }
     }
 
     /// Returns whether the table has the greatest number of indices, 2^32 - 1. It allocates
@@ -124,15 +149,15 @@ impl<A: Allocator + Copy> PlaceTable<A> {
     pub fn is_full(&self) -> bool
         ensures { IsTrue result ↔ (places self.now ≡ most_places) }
     {
-        self.count >= MOST
+        self.hashes.len() >= MOST
     }
 
     /// Makes room for another index under the hash, and returns its bucket, for
     /// [`PlaceTable::add`].
     ///
     /// `vacancy` is the result of a search for this hash, after which the table was not changed. If
-    /// three quarters of the buckets are taken, or if the search found no free bucket, their number
-    /// doubles, and they are copied once.
+    /// the groups suffice for no further index, or if the search found no free bucket, their number
+    /// grows, and all indices are entered again by their hashes.
     ///
     /// # Errors
     /// Fails if an allocation fails, or if the table is full ([`PlaceTable::is_full`]). The table
@@ -153,81 +178,78 @@ impl<A: Allocator + Copy> PlaceTable<A> {
         ensures grows { OnOk result (Widens self.old vacancy self.new) }
         ensures refused { OnErr result (self.new ≡ self.old) }
 
-        // It fails only if the table is full, if its buckets suffice for no further index, or if
+        // It fails only if the table is full, if its groups suffice for no further index, or if
         // there was no vacancy.
         ensures cause { OnErr result ((places self.old ≡ most_places)
-            ⊎ load_limit (slots self.old) ≤ places self.old ⊎ slots self.old ≤ vacancy.slot) }
+            ⊎ load_limit (groups self.old) ≤ places self.old
+            ⊎ groups self.old ≤ vacancy.bucket.group) }
     {
-        if self.count >= MOST {
+        let count = self.hashes.len();
+        if count >= MOST {
             return Err(AllocError);
         }
-        if self.count < self.limit && vacancy.slot < self.slots.len() {
+        if count < self.limit && vacancy.bucket.group < self.groups.len() {
             return Ok(vacancy);
         }
         self.grow(hash)
     }
 
-    /// Doubles the number of buckets, and returns the bucket for an index under the hash. It is not
-    /// inlined, so that a caller's own loop stays short.
+    /// Makes more groups, and returns the bucket for an index under the hash. It is not inlined, so
+    /// that a caller's own loop stays short.
     #[cold]
     #[inline(never)]
     fn grow(&mut self, hash: u32) -> Result<Vacancy, AllocError>
         ensures room { IfOk result (IsRoom self.new hash) }
         ensures places { places self.new ≡ places self.old }
         ensures same { HasSame self.old self.new }
-        ensures doubles { OnOk result (slots self.new ≡ wider_count (slots self.old)) }
+        ensures doubles { OnOk result (groups self.new ≡ wider_count (groups self.old)) }
         ensures refused { OnErr result (self.new ≡ self.old) }
     {
-        let Some(twice) = self.slots.len().checked_mul(2) else {
+        let Some(next) = wider_size(self.groups.len()) else {
             return Err(AllocError);
         };
-        let wider = widened(
-            *self.slots.allocator(),
-            self.slots.as_slice(),
-            twice.max(LEAST),
-        )?;
-        let Some(slot) = vacant(wider.as_slice(), hash) else {
+        let wider = widened(&mut self.hashes, next)?;
+        let Some(bucket) = vacant(wider.as_slice(), hash) else {
             return Err(AllocError);
         };
-        self.limit = wider.len() / 4 * 3;
-        self.slots = wider;
-        Ok(Vacancy { slot })
+        self.limit = next.limit;
+        self.groups = wider;
+        Ok(Vacancy { bucket })
     }
 
-    /// Returns the number of indices for which the buckets suffice: three quarters of the number of
-    /// buckets. It allocates nothing.
+    /// Returns the number of indices for which the groups suffice. It allocates nothing.
     ///
     /// # Cost
     /// `O(1)`.
     #[inline]
     pub fn capacity(&self) -> usize
-        ensures capacity { result ≡ load_limit (slots self.now) }
+        ensures capacity { result ≡ load_limit (groups self.now) }
         ensures places { places self.now ≤ result }
     {
-        self.slots.len() / 4 * 3
+        self.limit
     }
 
     /// Reserves room for `more` additional indices: that many additions allocate nothing.
     ///
-    /// If the buckets don't suffice, their number doubles as often as necessary, and they are
-    /// copied once.
+    /// If the groups don't suffice, their number doubles as often as necessary, and all indices are
+    /// entered again by their hashes, once.
     ///
     /// # Errors
     /// Fails if an allocation fails, or if the table would have more than 2^32 - 1 indices. The
     /// table is then unchanged.
     ///
     /// # Cost
-    /// `O(n)` in the number of buckets if it copies them, otherwise `O(1)`.
+    /// `O(n)` in the number of groups if that grows, otherwise `O(1)`.
     pub fn reserve_places(&mut self, more: usize) -> Result<(), AllocError>
-        // The buckets suffice for `more` additional indices, their number is the smallest possible,
+        // The groups suffice for `more` additional indices, their number is the smallest possible,
         // and no index changes. A call that fails changes nothing.
         ensures room { OnOk result (HasRoom self.old more self.new) }
         ensures places { places self.new ≡ places self.old }
         ensures same { HasSame self.old self.new }
         ensures refused { OnErr result (self.new ≡ self.old) }
-        ensures cause { OnErr result (load_limit (slots self.old) < places self.old + more) }
+        ensures cause { OnErr result (load_limit (groups self.old) < places self.old + more) }
     {
-        let Some(wanted) = self.count.checked_add(more) else {
+        let Some(wanted) = self.hashes.len().checked_add(more) else {
             return Err(AllocError);
         };
         if wanted <= self.limit {
@@ -236,11 +258,11 @@ impl<A: Allocator + Copy> PlaceTable<A> {
         if wanted > MOST {
             return Err(AllocError);
         }
-        let Some(count) = slots_for(self.slots.len(), wanted) else {
+        let Some(size) = size_for(self.groups.len(), wanted) else {
             return Err(AllocError);
         };
-        self.slots = widened(*self.slots.allocator(), self.slots.as_slice(), count)?;
-        self.limit = count / 4 * 3;
+        self.groups = widened(&mut self.hashes, size)?;
+        self.limit = size.limit;
         Ok(())
     }
 
@@ -250,15 +272,18 @@ impl<A: Allocator + Copy> PlaceTable<A> {
     /// Fails if an allocation fails.
     ///
     /// # Cost
-    /// `O(n)` in the number of buckets.
+    /// `O(n)` in the number of groups.
     pub fn clone(&self) -> Result<Self, AllocError>
         ensures { IfOk result (λ copy. copy ≡ self.now) }
     {
-        let mut slots = Vec::with_capacity(*self.slots.allocator(), self.slots.len())?;
-        slots.extend_from_slice(self.slots.as_slice())?;
+        let alloc = *self.groups.allocator();
+        let mut groups = Vec::with_capacity(alloc, self.groups.len())?;
+        groups.extend_from_slice(self.groups.as_slice())?;
+        let mut hashes = Vec::with_capacity(alloc, self.limit)?;
+        hashes.extend_from_slice(self.hashes.as_slice())?;
         Ok(PlaceTable {
-            slots,
-            count: self.count,
+            groups,
+            hashes,
             limit: self.limit,
         })
     }
@@ -281,16 +306,13 @@ impl<A: Allocator + Copy> PlaceTable<A> {
         ensures places { places self.new ≡ places self.old + 1 }
         ensures adds { AddsPlace self.old hash result self.new }
 
-        // The number of buckets is unchanged, and at most three quarters of them are taken.
-        ensures slots { slots self.new ≡ slots self.old }
-        ensures load { places self.new ≤ load_limit (slots self.new) }
+        // The number of groups is unchanged, and they suffice for the indices.
+        ensures groups { groups self.new ≡ groups self.old }
+        ensures load { places self.new ≤ load_limit (groups self.new) }
     {
-        let place = self.count;
-        self.slots[room.slot] = Slot {
-            hash,
-            number: (place + 1) as u32,
-        };
-        self.count = place + 1;
+        let place = self.hashes.len();
+        self.groups[room.bucket.group].fill(room.bucket.lane, hash, place as u32);
+        self.hashes.push_reserved(hash);
         place
     }
 }

@@ -10,7 +10,7 @@ ghost use Rattle.std.specs.Global.{Global};
 ghost use Rattle.std_alloc.specs.String.{string_bytes};
 ghost use mathlib.Core.List.{IsPrefix};
 ghost use Rattle.elsa_interner.specs.Names.{Puts, IsFull, IsOneToOne, text_hash};
-ghost use Rattle.elsa_buckets.specs.Table.{Has, IsVacancy};
+ghost use Rattle.elsa_buckets.specs.Table.{places, Has, IsVacancy};
 ghost use Rattle.elsa_c.specs.Codes.{PutsAll, IsEnd, IsRefused, status_code, text_of};
 
 use crate::block::text_between;
@@ -48,11 +48,11 @@ fn search(
     hash: u32,
     text: &str,
 ) -> Result<usize, Vacancy>
-    // The table has each number of the text under the hash, and none beyond the names, which are
-    // one to one.
+    // The table has each number of the text under the hash, and as many indices as there are names,
+    // which are one to one.
     requires entered { (i : ℕ) → slice_get (map (λ s. string_bytes s) names.now) i ≡ Some text.now →
         Has table.now hash i }
-    requires within { (h i : ℕ) → Has table.now h i → i < length names.now }
+    requires counted { places table.now ≡ length names.now }
     requires one_to_one { IsOneToOne (map (λ s. string_bytes s) names.now) }
 
     // The number of the text, or that it is no name, and where it would go.

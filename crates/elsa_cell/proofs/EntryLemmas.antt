@@ -98,6 +98,10 @@ last_item (y ∷ xs) x = last_item xs x
 pub entry_last : {K V : Type 0} (es ns : List (Entry K V)) (e f : Entry K V) (i : ℕ) → ns ≡ es ++ e ∷ [] → i ≡ length es → slice_get ns i ≡ Some f → f ≡ e
 entry_last es ns e f i grown at is = same_Some f e (sym is ∙ (ap (λ l. slice_get l i) grown ∙ (ap (slice_get (es ++ e ∷ [])) at ∙ last_item es e)))
 
+-- The item that was appended is at the index that was the length.
+pub appended_at : {X : Type 0} (xs ns : List X) (x y : X) (i : ℕ) → ns ≡ xs ++ x ∷ [] → i ≡ length xs → y ≡ x → slice_get ns i ≡ Some y
+appended_at xs ns x y i grown at is = ap (λ l. slice_get l i) grown ∙ (ap (slice_get (xs ++ x ∷ [])) at ∙ (last_item xs x ∙ ap (λ z. Some z) (sym is)))
+
 -- The pair at an index is that of the entry there.
 pub pair_at : {K V : Type 0} (es : List (Entry K V)) (i : ℕ) (e : Entry K V) → slice_get es i ≡ Some e → slice_get (pairs_of es) i ≡ Some (pair_of e)
 pair_at es i e at = get_map pair_of es i ∙ ap (option_map pair_of) at

@@ -24,7 +24,7 @@ pub struct Hashed<S: BuildHasher + Drop, A: Allocator + Copy> {
 /// The map that finds its keys by their hash. Its entries have an index
 /// ([`get_full`](Frozen::get_full), [`get_index`](Frozen::get_index)).
 ///
-/// Keys need `Eq` and `Hash`. The table has 8 bytes for each bucket.
+/// Keys need `Eq` and `Hash`. The table takes 11 to 22 bytes an entry.
 pub type FrozenMap<K, V, S = BuildHasherDefault<FoldHasher>, A = Global, R = AnyEntries> = Frozen<
     K,
     V,

@@ -132,6 +132,7 @@ impl<K: Drop, V, T: Places<K> + Drop, A: Allocator + Copy, R: EntryRule<K, V>> M
 
     ghost view = { λ m. m.slots };
 
+    // The state and the length that reads take are of this map's entries.
     ghost invariant = { λ m. (m.cell.numbers ≡ m.slots) × (m.shown ≡ m.slots) };
 }
 

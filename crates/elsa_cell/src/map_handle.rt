@@ -52,6 +52,8 @@ impl<'m, K: Drop, V, T: Places<K> + Drop, A: Allocator + Copy, R: EntryRule<K, V
 
     ghost view = { λ h. h.observed };
 
+    // The state and the length are those of the observed list, which has at most 2^32 - 1 entries,
+    // and the rule holds for each.
     ghost invariant = { λ h. (h.cell.now.numbers ≡ h.observed.vector)
         × (h.shown.now ≡ h.observed.vector) × (length h.observed.seen ≤ 2 ^ 32 - 1)
         × HoldsEach R.holds h.observed.seen };

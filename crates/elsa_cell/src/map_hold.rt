@@ -50,6 +50,7 @@ impl<'m, K: Drop, V, T: Places<K> + Drop, A: Allocator + Copy, R: EntryRule<K, V
 
     ghost view = { λ h. record { vector = h.slots.now; seen = h.state.value.list.prefix.items } };
 
+    // The table has the index of each key in the state's list, and the rule holds for each entry.
     ghost invariant = { λ h. IsMapOf T.is_for
         h.slots.now h.state.value.list h.state.value.table × (h.cell.now.numbers ≡ h.slots.now)
         × (h.shown.now ≡ h.slots.now) × HoldsEach R.holds h.state.value.list.prefix.items };
@@ -319,13 +320,13 @@ impl<'m, K: Drop, V: Drop, T: Places<K> + Drop, A: Allocator + Copy, R: EntryRul
         };
         let slots = self.slots;
         match self.state.add(slots, missing, Entry { key, value }) {
-            Ok(index) => {
+            Ok((index, entry)) => {
                 self.shown.set(&self.state.list);
-                Ok(Inserted {
-                    value: self.entry_at(index),
+                return Ok(Inserted {
+                    value: entry,
                     index,
                     is_new: true,
-                })
+                });
             }
             Err(entry) => Err(entry),
         }

@@ -215,25 +215,26 @@ impl<K: Drop, V, T: Places<K> + Drop, A: Allocator + Copy> MapState<K, V, T, A> 
         state::reserve(slots, &mut self.list, additional)
     }
 
-    /// Appends an entry whose key the map lacks, and returns its index. `end` is the end of a
-    /// search for the key.
+    /// Appends an entry whose key the map lacks, and returns its index and a reference to it. `end`
+    /// is the end of a search for the key.
     ///
     /// # Errors
     /// Fails with `entry` itself if an allocation fails, or if the map has the greatest number of
     /// entries.
-    pub(crate) fn add(
+    pub(crate) fn add<'v>(
         &mut self,
-        slots: &Slots<Entry<K, V>, A>,
+        slots: &'v Slots<Entry<K, V>, A>,
         end: T::End,
         entry: Entry<K, V>,
-    ) -> Result<usize, Entry<K, V>>
+    ) -> Result<(usize, &'v Entry<K, V>), Entry<K, V>>
         requires state { IsMapOf T.is_for slots.now self.old.list self.old.table }
         requires absent { position (T.same entry.key) (map key_of self.old.list.prefix.items) ≡ None }
         requires end { T.ends self.old.table (map key_of self.old.list.prefix.items) entry.key end }
 
         // The entry is the last one, or the list is unchanged.
         ensures state { IsMapOf T.is_for slots.now self.new.list self.new.table }
-        ensures pushed { IfOk result (λ i. (i ≡ length self.old.list.prefix.items)
+        ensures pushed { IfOk result (λ r. (r.0 ≡ length self.old.list.prefix.items)
+            × (r.1.now ≡ entry)
             × (self.new.list.prefix.items ≡ self.old.list.prefix.items ++ entry ∷ [])) }
         ensures refused { IfErr result (λ e. (e ≡ entry)
             × (self.new.list.prefix.items ≡ self.old.list.prefix.items)) }
@@ -245,9 +246,9 @@ impl<K: Drop, V, T: Places<K> + Drop, A: Allocator + Copy> MapState<K, V, T, A> 
             return Err(entry);
         };
         match push_item(slots, &mut self.list, entry) {
-            Ok(index) => {
+            Ok(pushed) => {
                 self.table.add(room);
-                Ok(index)
+                Ok(pushed)
             }
             Err(entry) => Err(entry),
         }

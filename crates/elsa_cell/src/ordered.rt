@@ -474,6 +474,8 @@ impl<'h, 'm, K, V, A: Allocator + Copy> Model for Ascending<'h, 'm, K, V, A> {
     ghost view = { λ it. picked it.observed.seen
         (drop (rank_of vec_items it.blocks.now it.at + it.next) (joined vec_items it.blocks.now)) };
 
+    // The next index is in the block `at`, and each index of the blocks is that of an observed
+    // entry.
     ghost invariant = { λ it. IsWalkAt vec_items it.blocks.now it.at it.next it.left
         × ((r i : ℕ) → slice_get (joined vec_items it.blocks.now) r ≡ Some i → i < length it.observed.seen) };
 }

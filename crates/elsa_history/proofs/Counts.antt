@@ -11,7 +11,7 @@ use Rattle.std.proofs.lemmas.List.{length-map}
 use Rattle.std.proofs.lemmas.List.Sums.{sum_by-cons, sum_by-set}
 use Rattle.std.proofs.lemmas.Option.{get_or_from_slice_get, slice_get_within}
 use Rattle.std.proofs.lemmas.Bool.{cases_lt}
-use Rattle.elsa_specs.specs.FirstWins.{value_at, HasCount}
+use Rattle.elsa_tables.specs.FirstWins.{value_at, HasCount}
 use Rattle.elsa_history.specs.Receipts.{receipts_for, receipts_at, receipt_count, AreReceipts, AreOf, LacksAReceipt, IsTakenFrom}
 use Rattle.elsa_history.proofs.Receipts.{each_below, sum_zero, test_at, test_off}
 

@@ -2,7 +2,7 @@
 -- next. A content is a partial function from keys to values. Each line states which reply is
 -- possible, and which content follows.
 use Rattle.std.specs.Prelude.{◌≡◌, ◌↔◌, Bool, Option, Some, None, IsTrue}
-use Rattle.elsa_specs.specs.FirstWins.{inserted, HasCount}
+use Rattle.elsa_tables.specs.FirstWins.{inserted, HasCount}
 use Rattle.elsa_history.specs.declared.map_core.MapCommand.{MapCommand}
 use Rattle.elsa_history.specs.declared.map_core.MapCommand.TheVariants.{Insert, InsertNew, Get, Len}
 use Rattle.elsa_history.specs.declared.map_core.MapReply.{MapReply}

@@ -1,6 +1,6 @@
 //! A sequential object with the list of its calls, which is legal by its type.
 ghost use Rattle.std.specs.Prelude.{◌≡◌, [], ◌∷◌, ◌++◌, length, IfOk, OnErr};
-ghost use Rattle.elsa_specs.specs.Replay.{Replays, IsRecorded};
+ghost use Rattle.elsa_tables.specs.Replay.{Replays, IsRecorded};
 
 use crate::{AtOpening, Core, Start};
 use std::alloc::{AllocError, Allocator, Global};
@@ -26,7 +26,7 @@ pub struct History<C: Core, A: Allocator = Global, S: Start<C> = AtOpening> {
 
 impl<C: Core, A: Allocator, S: Start<C>> Model for History<C, A, S> {
     ghost use Rattle.std.specs.Prelude.{ℕ, List};
-    ghost use Rattle.elsa_specs.specs.Replay.{Replays};
+    ghost use Rattle.elsa_tables.specs.Replay.{Replays};
 
     ghost Value = { C × List (ℕ × C.Command × C.Reply) };
 
@@ -91,7 +91,7 @@ impl<C: Core, A: Allocator + Copy, S: Start<C>> History<C, A, S> {
     ///
     /// # Errors
     /// Fails if an allocation fails. The object's state and the entries are then unchanged.
-    #[tactic(auto, using(elsa_specs::proofs::Replay::replays_more, elsa_specs::proofs::Replay::recorded_last))]
+    #[tactic(auto, using(elsa_tables::proofs::Replay::replays_more, elsa_tables::proofs::Replay::recorded_last))]
     pub(crate) fn record(
         &mut self,
         number: u64,

@@ -2,7 +2,7 @@
 //! that makes only public calls.
 ghost use Rattle.std.specs.Prelude.{◌≡◌, ◌++◌, ◌⊎◌, ℕ, List, length, IfErr, IfOk, IfSome};
 ghost use Rattle.elsa_history.specs.Receipts.{IsOneCall};
-ghost use Rattle.elsa_specs.specs.Replay.{Replays};
+ghost use Rattle.elsa_tables.specs.Replay.{Replays};
 
 use crate::{AtOpening, CloseFault, Core, Entries, History, ReceiptsFault, Recorder, Start};
 use std::alloc::{AllocError, Allocator};

@@ -34,7 +34,7 @@ pub enum MapReply<V> {
 impl<K: Copy + Eq + Hash, V: Copy + Eq, A: Allocator + Copy> Core
     for MapState<K, V, BuildHasherDefault<FoldHasher>, A> {
     ghost use Rattle.std.specs.Prelude.{None, Option};
-    ghost use Rattle.elsa_specs.specs.FirstWins.{value_at};
+    ghost use Rattle.elsa_tables.specs.FirstWins.{value_at};
     ghost use Rattle.elsa_history.specs.MapStep.{MapStep};
 
     type Command = MapCommand<K, V>;
@@ -69,7 +69,7 @@ impl<K: Copy + Eq + Hash, V: Copy + Eq, A: Allocator + Copy> Core
 impl<K: Copy + Ord, V: Copy + Eq, A: Allocator + Copy> Core for TreeState<K, V, A> {
     ghost use Rattle.std.specs.Prelude.{None, Option};
     ghost use Rattle.std.specs.Ordering.{eq_by_cmp};
-    ghost use Rattle.elsa_specs.specs.FirstWins.{value_at};
+    ghost use Rattle.elsa_tables.specs.FirstWins.{value_at};
     ghost use Rattle.elsa_history.specs.MapStep.{MapStep};
 
     type Command = MapCommand<K, V>;

@@ -1,7 +1,7 @@
 //! The receipts of a caller, and whether the receipts of all callers are the history.
 ghost use Rattle.std.specs.Prelude.{◌≡◌, ℕ, List, [], ◌∷◌, ◌++◌, length, ◌+◌, ◌<◌, ◌≤◌, All, IfOk, IfSome, IfNone, IsSomeAnd, OnErr, MatchOption, slice_get, true, false, ◌↔◌};
 ghost use Rattle.elsa_history.specs.Receipts.{AreOf, EndsElsewhere, IsCall, IsTakenFrom, KnowsWhoLacks, receipt_count, receipts_at, receipts_for};
-ghost use Rattle.elsa_specs.specs.Replay.{IsRecorded};
+ghost use Rattle.elsa_tables.specs.Replay.{IsRecorded};
 
 use crate::{Core, History, Start};
 use std::alloc::{AllocError, Allocator, Global};

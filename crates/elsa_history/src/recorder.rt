@@ -1,6 +1,6 @@
 //! A sequential object under a lock, with the history of its calls.
 ghost use Rattle.std.specs.Prelude.{◌≡◌, ℕ, List, [], ◌∷◌, ◌++◌, ◌⊎◌, length, IfOk, IfErr, OnErr};
-ghost use Rattle.elsa_specs.specs.Replay.{Replays, IsRecorded};
+ghost use Rattle.elsa_tables.specs.Replay.{Replays, IsRecorded};
 ghost use Rattle.elsa_history.specs.Receipts.{AreOf, AreReceipts, LacksAReceipt, receipt_count};
 
 use crate::record_pass::count_receipts;

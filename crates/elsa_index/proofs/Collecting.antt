@@ -7,9 +7,9 @@ use Rattle.std.proofs.lemmas.List.Elements.{All-nil, All-push}
 use Rattle.std.proofs.lemmas.List.Folds.{list_any_at}
 use Rattle.std.proofs.lemmas.List.Quantifiers.{position-Some}
 use Rattle.std.proofs.lemmas.Option.{get_or_from_slice_get}
-use Rattle.elsa_specs.specs.Insertions.{first_of_each, SetInserted, SetCollects}
+use Rattle.elsa_tables.specs.Insertions.{first_of_each, SetInserted, SetCollects}
 use Rattle.elsa_maps.proofs.Places.{none_passes}
-use Rattle.elsa_specs.proofs.FirstOfEach.{first_of_each_push, same_any}
+use Rattle.elsa_tables.proofs.FirstOfEach.{first_of_each_push, same_any}
 
 module _ {B V T : Type 0} (eq : B → B → Bool) (laws : IsEquivalence eq) (target : V → T) (shown : B → T) (finds : V → B → Bool)
     (finds_target : (v : V) (b k : B) → shown b ≡ target v → finds v k ≡ eq b k) where

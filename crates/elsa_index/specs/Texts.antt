@@ -3,7 +3,7 @@
 use Rattle.std.specs.Prelude.{Bool, List, ℕ}
 use Rattle.std.specs.Borrow.{Bor}
 use Rattle.std.specs.Str.{bytes_eq}
-use Rattle.elsa_specs.specs.Insertions.{SetInserted}
+use Rattle.elsa_tables.specs.Insertions.{SetInserted}
 
 -- Whether a stored text has these bytes.
 abbrev pub reads : List ℕ → Bor (List ℕ) → Bool

@@ -1,8 +1,8 @@
 //! Laws of index maps and index sets that callers may rely on beyond one call: each is the contract
 //! of a function that makes only public calls.
 ghost use Rattle.std.specs.Prelude.{◌≡◌, ◌+◌, ◌↔◌, ℕ, All, List, None, Some, false, true, if◌then◌else◌, length, position, slice_get, IfOk, IsSome, OnErr, IsTrue};
-ghost use Rattle.elsa_specs.specs.FirstWins.{value_at};
-ghost use Rattle.elsa_specs.specs.Insertions.{place_of, Grows, Inserted, IsCloneOf};
+ghost use Rattle.elsa_tables.specs.FirstWins.{value_at};
+ghost use Rattle.elsa_tables.specs.Insertions.{place_of, Grows, Inserted, IsCloneOf};
 
 use crate::index_set::FrozenIndexSetIn;
 use crate::look_up::LookUp;

@@ -6,7 +6,7 @@ ghost use Rattle.std.specs.Iterator.{Drains, IsFinite};
 ghost use Rattle.std.specs.List.{IsDistinct};
 ghost use Rattle.std.specs.Map.Iter.{ShowsInOrder, ShowsInReverse, deref};
 ghost use Rattle.std.specs.Option.{option_map};
-ghost use Rattle.elsa_specs.specs.Insertions.{SetInserted, SetInsertedNew, SetCollects};
+ghost use Rattle.elsa_tables.specs.Insertions.{SetInserted, SetInsertedNew, SetCollects};
 ghost use Rattle.elsa_index.specs.EqualityLaws.{same_set_equiv};
 ghost use Rattle.elsa_index.specs.Equality.{same_set, HaveSameValues};
 ghost use Rattle.elsa_index.specs.Lent.{lends_values};
@@ -14,7 +14,7 @@ ghost use Rattle.elsa_index.specs.Texts.{reads, TextInserted};
 
 use crate::look_up::{LookUp, SeeksValue};
 use bumpalo::Bump;
-use elsa_specs::for_its_clause;
+use elsa_tables::for_its_clause;
 use elsa_vec::stable::StableDeref;
 use indexmap::IndexSet;
 use indexmap::set::Iter;

@@ -17,6 +17,7 @@ use Rattle.std.proofs.lemmas.Bool.{cases_lt, false_from_ne_true}
 use Rattle.std.proofs.lemmas.Option.{slice_get-get_or, slice_get-map, slice_get_cases, slice_get_within, get_or_from_slice_get}
 use Rattle.elsa_interner.specs.Names.{Puts, IsOneToOne, IsNumbered}
 use Rattle.elsa_buckets.specs.Table.{Entries, places, Has, HasSame, AddsPlace}
+use Rattle.elsa_buckets.proofs.PlacedLemmas.{has_added, has_kept, has_same}
 
 abbrev shown : List (Bor (List ℕ)) → List (List ℕ)
 shown ks = map (λ b. b.now) ks
@@ -156,14 +157,10 @@ pub numbered_put : (hash : List ℕ → ℕ) (before after : Entries) (names : L
 numbered_put hash before after names text h place old hashed placed more adds none = record {
   counted = omega (arith, more, old.counted, length-append names (text ∷ []));
   entered = λ i word there. elim (split_last names text i word there) [
-    | inl earlier ↦ adds.kept (hash word) i (old.entered i word earlier)
+    | inl earlier ↦ has_kept before after h place adds (hash word) i (old.entered i word earlier)
     | inr last ↦
         let at : place ≡ i = omega (arith, placed, old.counted, last.0) in
-        subst (λ n. Has after (hash word) n) at (subst (λ n. Has after n place) (hashed ∙ ap hash last.1) adds.added)
-  ];
-  within = λ x p has. elim (adds.only x p has) [
-    | inl earlier ↦ omega (arith, old.within x p earlier, length-append names (text ∷ []))
-    | inr last ↦ omega (arith, last.1, placed, old.counted, length-append names (text ∷ []))
+        subst (λ n. Has after (hash word) n) at (subst (λ n. Has after n place) (hashed ∙ ap hash last.1) (has_added before after h place adds))
   ];
   one_to_one = λ i j word at_i at_j. elim (split_last names text i word at_i) [
     | inl a ↦ elim (split_last names text j word at_j) [
@@ -182,17 +179,15 @@ pub numbered_same : (hash : List ℕ → ℕ) (before after : Entries) (names : 
     → IsNumbered hash after names
 numbered_same hash before after names old count same = record {
   counted = count ∙ old.counted;
-  entered = λ i text there. same.kept (hash text) i (old.entered i text there);
-  within = λ h p has. old.within h p (same.only h p has);
+  entered = λ i text there. has_same before after (hash text) i same (old.entered i text there);
   one_to_one = old.one_to_one;
 }
 
 -- A table without indices numbers no names.
-pub numbered_none : (hash : List ℕ → ℕ) (table : Entries) → places table ≡ 0 → ((h i : ℕ) → Has table h i → ⊥) → IsNumbered hash table []
-numbered_none hash table none empty = record {
+pub numbered_none : (hash : List ℕ → ℕ) (table : Entries) → places table ≡ 0 → IsNumbered hash table []
+numbered_none hash table none = record {
   counted = none;
   entered = λ i text there. absurd (omega (arith, slice_get_within {A = List ℕ} [] i text there));
-  within = λ h i has. absurd (empty h i has);
   one_to_one = λ i j text at_i at_j. absurd (omega (arith, slice_get_within {A = List ℕ} [] i text at_i));
 }
 

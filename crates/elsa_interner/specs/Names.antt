@@ -31,10 +31,9 @@ text_hash b h state text =
     let hash = h.finish (h.write (b.build_hasher state) text) in
     bit_xor hash (hash / 2 ^ 32) % 2 ^ 32
 
--- A table has the index of each name under the hash of the name, and no other index; and no two
--- names are equal.
+-- A table has the index of each name under the hash of the name, and no other index: the number of
+-- its indices is that of the names. No two names are equal.
 pub record IsNumbered (hash : List ℕ → ℕ) (table : Entries) (names : List (List ℕ)) : Type 0 where
   pub counted : places table ≡ length names
   pub entered : (i : ℕ) (text : List ℕ) → slice_get names i ≡ Some text → Has table (hash text) i
-  pub within : (h place : ℕ) → Has table h place → place < length names
   pub one_to_one : IsOneToOne names

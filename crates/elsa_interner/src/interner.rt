@@ -210,7 +210,7 @@ impl<'a, S: BuildHasher, A: Allocator + Copy, P: Allocator> Interner<'a, S, A, P
     /// Fails if an allocation fails, or if there would be more than 2^32 - 1 names.
     ///
     /// # Allocates
-    /// With `alloc`: 16 bytes for each name in the list, and 11 to 21 bytes in the table.
+    /// With `alloc`: 16 bytes for each name in the list, and 11 to 22 bytes in the table.
     ///
     /// # Cost
     /// `O(n)` if the list or the table grows, otherwise `O(1)`.

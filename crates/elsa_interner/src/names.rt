@@ -4,7 +4,7 @@ ghost use Rattle.std.specs.Prelude.{◌≡◌, ◌↔◌, ℕ, [], List, length,
 ghost use Rattle.std.specs.Borrow.{Bor};
 ghost use Rattle.std.specs.Str.{bytes_eq};
 ghost use Rattle.elsa_interner.specs.Names.{Puts, IsFull, IsOneToOne, text_hash};
-ghost use Rattle.elsa_buckets.specs.Table.{Has, IsVacancy};
+ghost use Rattle.elsa_buckets.specs.Table.{places, Has, IsVacancy};
 
 use bumpalo::Bump;
 use elsa_buckets::table::{PlaceTable, Vacancy};
@@ -76,11 +76,11 @@ fn search<A: Allocator + Copy>(
     text: &str,
     known: Known,
 ) -> Result<usize, Vacancy>
-    // The table has each index of the text under the hash, and no index that isn't below the number
-    // of names. No two names are equal.
+    // The table has each index of the text under the hash, and the number of its indices is that of
+    // the names. No two names are equal.
     requires entered { (i : ℕ) → slice_get (map (λ b. b.now) names.now) i ≡ Some text.now →
         Has table.now known.hash i }
-    requires within { (h i : ℕ) → Has table.now h i → i < length names.now }
+    requires counted { places table.now ≡ length names.now }
     requires one_to_one { IsOneToOne (map (λ b. b.now) names.now) }
 
     // The result is the number of the text; or the text isn't a name, and the bucket is a vacancy

@@ -9,7 +9,7 @@ use Rattle.std.specs.Arc.{arc_value}
 use Rattle.std.proofs.lemmas.Map.Made.{is_some-lookup, length-from_keys, IsDistinct-from_count}
 use Rattle.std.proofs.lemmas.Slice.Zip.{AllZip-long}
 use Rattle.std_collections.proofs.SetLists.{member_clones}
-use Rattle.elsa_specs.specs.FirstWins.{value_at, IsKeys, IsSameContent, CloneIsEqual}
+use Rattle.elsa_tables.specs.FirstWins.{value_at, IsKeys, IsSameContent, CloneIsEqual}
 use Rattle.elsa_locks.specs.Shared.{shown, shown_items}
 
 -- Clones of `Arc`s show the same items.

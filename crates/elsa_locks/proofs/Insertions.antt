@@ -5,7 +5,7 @@ use Rattle.std.specs.Map.{lookup}
 use Rattle.std.specs.declared.sync.Arc.{Arc}
 use Rattle.std.specs.Arc.{arc_value}
 use Rattle.elsa_tables.specs.Tables.{AddsNew}
-use Rattle.elsa_specs.specs.FirstWins.{value_at}
+use Rattle.elsa_tables.specs.FirstWins.{value_at}
 use Rattle.elsa_locks.specs.Shared.{shown, Leaves}
 use Rattle.elsa_locks.proofs.Shared.{lookup_shown, adds_shown}
 

@@ -3,7 +3,7 @@ use Rattle.std.proofs.Common.{◌≡◌, ◌∙◌, ap, sym, subst, refl, Bool, 
 use Rattle.std.specs.Cmp.{IsEquivalence}
 use Rattle.std.specs.Option.{option_map, UnwrapsOrElse}
 use Rattle.std.specs.Map.{lookup}
-use Rattle.elsa_specs.specs.FirstWins.{value_at}
+use Rattle.elsa_tables.specs.FirstWins.{value_at}
 use Rattle.elsa_locks.specs.Shared.{Leaves}
 use Rattle.elsa_tables.specs.Rules.{HoldsAt, IsKept}
 use Rattle.elsa_tables.proofs.RuleLemmas.{found_holds, inserted_kept, same_kept}

@@ -4,7 +4,7 @@ use Rattle.std.specs.declared.sync.Arc.{Arc}
 use Rattle.std.specs.Arc.{arc_value}
 use Rattle.std.specs.List.{IsDistinct}
 use Rattle.std.specs.Map.{keys_of}
-use Rattle.elsa_specs.specs.FirstWins.{value_at, IsInserted}
+use Rattle.elsa_tables.specs.FirstWins.{value_at, IsInserted}
 use Rattle.elsa_tables.specs.Rules.{HoldsAt, IsKept}
 
 -- The entries, each with the value of its `Arc`.

@@ -1,8 +1,8 @@
 -- What an insertion leaves of the entries, if a new entry is the last one.
 use Rattle.std.proofs.Common.{◌≡◌, ◌↔◌, Bool, is_some, false, true, true≢false, Result, Ok, Err, IfOk, OnErr, List, [], ◌∷◌, ◌++◌, None, Option, Some, refl, sym, ap, subst, ◌∙◌}
 use Rattle.std.proofs.lemmas.List.{append-nil}
-use Rattle.elsa_specs.specs.FirstWins.{value_at}
-use Rattle.elsa_specs.specs.Insertions.{Grows}
+use Rattle.elsa_tables.specs.FirstWins.{value_at}
+use Rattle.elsa_tables.specs.Insertions.{Grows}
 
 module _ {K B E : Type 0} (eq : K → K → Bool) (es fs : List (K × B)) (k : K) (result : Result (B × Bool) E) (present : (x : B) → value_at eq es k ≡ Some x → (result ≡ Ok (x, false)) × (fs ≡ es))
     (new_last : value_at eq es k ≡ None → IfOk result (λ r. fs ≡ es ++ (k, r.0) ∷ [])) where

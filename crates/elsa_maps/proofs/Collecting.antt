@@ -8,8 +8,8 @@ use Rattle.std.proofs.lemmas.Slice.Zip.{all_zipped_more}
 use Rattle.indexmap.specs.IndexMap.{insert_entry}
 use Rattle.indexmap.specs.IndexSet.{insert_key}
 use Rattle.indexmap.proofs.SetLemmas.{keys_insert_entry}
-use Rattle.elsa_specs.specs.Insertions.{first_of_each, CollectsTargets}
-use Rattle.elsa_specs.proofs.FirstOfEach.{first_of_each_push, same_any}
+use Rattle.elsa_tables.specs.Insertions.{first_of_each, CollectsTargets}
+use Rattle.elsa_tables.proofs.FirstOfEach.{first_of_each_push, same_any}
 
 module _ {K B : Type 0} (eq : K → K → Bool) (laws : IsEquivalence eq) where
   last_first : (ps : List (K × B)) (k : K) (b : B) (q : K) → lookup (eq q) (reverse (ps ++ (k, b) ∷ [])) ≡ cond (eq k q) (Some b) (lookup (eq q) (reverse ps))

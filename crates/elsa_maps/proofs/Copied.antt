@@ -5,7 +5,7 @@ use Rattle.std.specs.List.{AllZip}
 use Rattle.std.specs.Map.{values_of}
 use Rattle.std.specs.Map.Calls.{RetainsPairs}
 use Rattle.elsa_maps.specs.FirstWins.{value_at}
-use Rattle.elsa_specs.specs.Insertions.{IsCloneOf}
+use Rattle.elsa_tables.specs.Insertions.{IsCloneOf}
 
 -- the key is a clone by C, and the value is the same
 abbrev pub HasValueOf : {K B : Type 0} → (K → K → Type 0) → K × B → K × B → Type 0

@@ -6,10 +6,10 @@ use Rattle.std.specs.Map.{keys_of, lookup}
 use Rattle.std.specs.Option.{option_eq}
 use Rattle.std.proofs.lemmas.List.{length-map, map-append}
 use Rattle.indexmap.proofs.MapLemmas.{lookup_permutation}
-use Rattle.elsa_specs.specs.FirstWins.{same_values, value_at}
-use Rattle.elsa_specs.specs.Insertions.{place_of, Inserted}
-use Rattle.elsa_specs.proofs.Entries.{found_last}
-use Rattle.elsa_specs.proofs.MapEquality.{same_from_each}
+use Rattle.elsa_tables.specs.FirstWins.{same_values, value_at}
+use Rattle.elsa_tables.specs.Insertions.{place_of, Inserted}
+use Rattle.elsa_tables.proofs.Entries.{found_last}
+use Rattle.elsa_tables.proofs.MapEquality.{same_from_each}
 use Rattle.elsa_maps.proofs.Places.{no_value, place_of_last, value_there}
 
 -- after an insertion the key stands at the place that was answered, and has the value that was answered

@@ -10,7 +10,7 @@ use Rattle.std.specs.List.{list_any, position_or_len}
 use Rattle.std.specs.Map.{keys_of, lookup}
 use Rattle.indexmap.specs.IndexSet.{insert_key}
 use Rattle.indexmap.proofs.MapLemmas.{some_index}
-use Rattle.elsa_specs.specs.Insertions.{place_of, InsertedNew}
+use Rattle.elsa_tables.specs.Insertions.{place_of, InsertedNew}
 
 -- where nothing passes, the count of those before the first is the length
 pub none_found : {X : Type 0} (t : X → Bool) (xs : List X) → position t xs ≡ None → position_or_len t xs ≡ length xs

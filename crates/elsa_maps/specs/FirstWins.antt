@@ -1,7 +1,7 @@
 -- The words of first-wins content: those of the model, and what an insertion into a map leaves, in which the contracts of the maps speak.
 use Rattle.std.specs.Prelude.{◌≡◌, ◌+◌, Bool, List, None, length}
-use Rattle.elsa_specs.specs.FirstWins.{Adds, value_at}
-pub use Rattle.elsa_specs.specs.FirstWins.{value_at, entry_at, Adds, Keeps, SameAt, same_values, Inserts, HoldsLast}
+use Rattle.elsa_tables.specs.FirstWins.{Adds, value_at}
+pub use Rattle.elsa_tables.specs.FirstWins.{value_at, entry_at, Adds, Keeps, SameAt, same_values, Inserts, HoldsLast}
 
 module _ {K B : Type 0} (eq : K → K → Bool) where
   -- the borrow b shows the target of v, and new is old with it under k, at each key that equals k, and one entry longer

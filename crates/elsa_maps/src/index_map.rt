@@ -9,14 +9,13 @@ ghost use Rattle.std.specs.Map.{keys_of, lookup, values_of};
 ghost use Rattle.std.specs.Map.Iter.{ShowsInOrder, ShowsInReverse, deref, deref_pair};
 ghost use Rattle.std.specs.Option.{option_map};
 ghost use Rattle.indexmap.specs.IndexMap.{insert_entry};
-ghost use Rattle.elsa_specs.proofs.MapEquality.{same_values_equivalence, same_values_laws};
-ghost use Rattle.elsa_specs.specs.FirstWins.{IsEqualMap, same_values, value_at};
-ghost use Rattle.elsa_specs.specs.Insertions.{place_of, Inserted, InsertedNew, IsCloneOf, CollectsTargets};
+ghost use Rattle.elsa_tables.proofs.MapEquality.{same_values_equivalence, same_values_laws};
+ghost use Rattle.elsa_tables.specs.FirstWins.{IsEqualMap, same_values, value_at};
+ghost use Rattle.elsa_tables.specs.Insertions.{place_of, Inserted, InsertedNew, IsCloneOf, CollectsTargets};
 
 use crate::map::Frozen;
 use bumpalo::Bump;
-use elsa_specs::for_its_clause;
-use elsa_tables::SeeksIndex;
+use elsa_tables::{SeeksIndex, for_its_clause};
 use elsa_vec::stable::{KeepsText, StableDeref};
 use indexmap::IndexMap;
 use indexmap::map::{Entry, Iter, Keys, Values};
@@ -94,7 +93,7 @@ where
     /// One hash and one search.
     pub fn get_index_of<Q>(&self, query: Q) -> Option<usize>
     where
-        Q: SeeksIndex<K, V::Borrow, IndexMap<K, V::Borrow, S, A>>,
+        Q: SeeksIndex<IndexMap<K, V::Borrow, S, A>, K, V::Borrow>,
         ensures { result ≡ position (Q.finds query) (keys_of self.now) }
     {
         let (index, _, _) = query.seek_full(&self.table)?;
@@ -109,7 +108,7 @@ where
     pub fn get_full<Q>(&self, query: Q) -> Option<(usize, K, V::Borrow)>
     where
         K: Copy,
-        Q: SeeksIndex<K, V::Borrow, IndexMap<K, V::Borrow, S, A>>,
+        Q: SeeksIndex<IndexMap<K, V::Borrow, S, A>, K, V::Borrow>,
         ensures place { option_map (λ r. r.0) result ≡ position (Q.finds query) (keys_of self.now) }
         ensures pair { IfSome result (λ r. slice_get self.now r.0 ≡ Some (r.1, r.2)) }
         ensures value { option_map (λ r. r.2) result ≡ lookup (Q.finds query) self.now }

@@ -1,9 +1,9 @@
 -- The replays of an index map.
 use Rattle.std.proofs.Common.{◌≡◌, ℕ, Bool, false, List, Some, append-nil, length, Result, Ok, Err}
 use Rattle.std.specs.Cmp.{IsEquivalence}
-use Rattle.elsa_specs.specs.FirstWins.{value_at}
-use Rattle.elsa_specs.specs.Insertions.{place_of, InsertedNew}
-use Rattle.elsa_specs.specs.Replay.{Answered}
+use Rattle.elsa_tables.specs.FirstWins.{value_at}
+use Rattle.elsa_tables.specs.Insertions.{place_of, InsertedNew}
+use Rattle.elsa_tables.specs.Replay.{Answered}
 use Rattle.elsa_run.specs.Runs.{InsertionAnswers, changed, epoch_from, held, Added}
 use Rattle.elsa_run.specs.IndexRun.{Answers, IndexRunsTo, Step, change}
 use Rattle.elsa_run.specs.declared.run_index.IndexCommand.{IndexCommand}

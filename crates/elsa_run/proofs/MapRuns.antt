@@ -7,9 +7,9 @@ use Rattle.elsa_run.specs.declared.run_map.MapCommand.{MapCommand}
 use Rattle.elsa_run.specs.declared.run_map.MapCommand.TheVariants.{Insert, InsertNew, Get, Len, IsEmpty, Rebase}
 use Rattle.elsa_run.specs.declared.run_map.MapReply.{MapReply}
 use Rattle.elsa_run.specs.declared.run_map.MapReply.TheVariants.{Item, New, Found, Count, NoMemory}
-use Rattle.elsa_specs.specs.FirstWins.{Adds, value_at}
-use Rattle.elsa_specs.specs.Replay.{Answered}
-use Rattle.elsa_specs.proofs.Entries.{adds_last}
+use Rattle.elsa_tables.specs.FirstWins.{Adds, value_at}
+use Rattle.elsa_tables.specs.Replay.{Answered}
+use Rattle.elsa_tables.proofs.Entries.{adds_last}
 use Rattle.elsa_run.specs.Runs.{Change, Epoch, changed, epoch_from, held, Kept, Added}
 use Rattle.elsa_run.specs.MapRun.{Answers, InsertAnswers, InsertStep, IsSame, MapRunsTo, Step, change}
 use Rattle.elsa_run.proofs.Runs.{held_more, runs_to}

@@ -3,10 +3,10 @@ use Rattle.std.proofs.Common.{◌≡◌, ℕ, inl, inr, length, Option, None, Ma
 use Rattle.std.specs.Cmp.{IsEquivalence}
 use Rattle.std.specs.List.{list_any}
 use Rattle.std.proofs.lemmas.List.{map-append}
-use Rattle.elsa_specs.specs.Insertions.{first_of_each}
-use Rattle.elsa_specs.specs.Replay.{Answered}
+use Rattle.elsa_tables.specs.Insertions.{first_of_each}
+use Rattle.elsa_tables.specs.Replay.{Answered}
 use Rattle.elsa_run.specs.Runs.{Change, Epoch, changed, held, epoch_from, InsertionAnswers, Run, RunsTo, StepsTo, Kept, Added, Replaced}
-use Rattle.elsa_specs.proofs.FirstOfEach.{first_of_each_push, same_any}
+use Rattle.elsa_tables.proofs.FirstOfEach.{first_of_each_push, same_any}
 
 module _ {X K : Type 0} (eq : K → K → Bool) (key : X → K) (laws : IsEquivalence eq) where
   -- Another accepted item is appended, unless the content has its key.

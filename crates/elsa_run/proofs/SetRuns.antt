@@ -4,8 +4,8 @@ use Rattle.std.specs.Cmp.{IsEquivalence}
 use Rattle.std.specs.List.{list_any}
 use Rattle.std.proofs.lemmas.List.Folds.{list_any_at}
 use Rattle.std.proofs.lemmas.Option.{slice_get_within, get_or_from_slice_get}
-use Rattle.elsa_specs.specs.Insertions.{SetInsertedNew}
-use Rattle.elsa_specs.specs.Replay.{Answered}
+use Rattle.elsa_tables.specs.Insertions.{SetInsertedNew}
+use Rattle.elsa_tables.specs.Replay.{Answered}
 use Rattle.elsa_run.specs.Runs.{InsertionAnswers, changed, epoch_from, held, Added}
 use Rattle.elsa_run.specs.SetRun.{Answers, SetRunsTo, Step, change}
 use Rattle.elsa_run.specs.declared.run_set.SetCommand.{SetCommand}

@@ -3,7 +3,7 @@ use Rattle.std.proofs.Common.{◌≡◌, ◌-◌, ℕ, Bool, List, [], ◌∷◌
 use Rattle.std.specs.Option.{option_map}
 use Rattle.std.proofs.lemmas.List.{length-map}
 use Rattle.std.proofs.lemmas.Option.{slice_get-map}
-use Rattle.elsa_specs.specs.Replay.{Answered}
+use Rattle.elsa_tables.specs.Replay.{Answered}
 use Rattle.elsa_run.specs.VecRun.{Answers, Step, VecRunsTo, change, pushed_on}
 use Rattle.elsa_run.specs.declared.run_vec.VecCommand.{VecCommand}
 use Rattle.elsa_run.specs.declared.run_vec.VecReply.{VecReply}

@@ -1,7 +1,7 @@
 -- The possible replies to the commands of `run_index`, and the effect of each of them.
 use Rattle.std.specs.Prelude.{◌≡◌, ◌↔◌, ℕ, Bool, List, [], length, Some, IsTrue}
-use Rattle.elsa_specs.specs.FirstWins.{value_at}
-use Rattle.elsa_specs.specs.Insertions.{place_of}
+use Rattle.elsa_tables.specs.FirstWins.{value_at}
+use Rattle.elsa_tables.specs.Insertions.{place_of}
 use Rattle.elsa_run.specs.Runs.{Change, held, InsertionAnswers, RunsTo, StepsTo, Kept, Added, Replaced}
 use Rattle.elsa_run.specs.declared.run_index.IndexCommand.{IndexCommand}
 use Rattle.elsa_run.specs.declared.run_index.IndexCommand.TheVariants.{Insert, InsertFull, InsertNew, InsertFullNew, Get, IndexOf, IsEmpty, Rebase}

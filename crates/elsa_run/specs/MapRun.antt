@@ -3,7 +3,7 @@
 -- first accepted insertion of each other key: by the value at each key, and by the number of
 -- entries.
 use Rattle.std.specs.Prelude.{◌≡◌, ◌+◌, ◌↔◌, ◌⊎◌, Bool, true, false, IsTrue, List, length, None, Some}
-use Rattle.elsa_specs.specs.FirstWins.{Adds, SameAt, value_at}
+use Rattle.elsa_tables.specs.FirstWins.{Adds, SameAt, value_at}
 use Rattle.elsa_run.specs.Runs.{Change, held, RunsTo, Kept, Added, Replaced}
 use Rattle.elsa_run.specs.declared.run_map.MapCommand.{MapCommand}
 use Rattle.elsa_run.specs.declared.run_map.MapCommand.TheVariants.{Insert, InsertNew, Get, Len, IsEmpty, Rebase}

@@ -1,7 +1,7 @@
 -- Replays of commands. The content of a collection isn't carried from call to call: it is computed
 -- from the content at the start of the epoch and from all accepted insertions of the epoch.
 use Rattle.std.specs.Prelude.{◌≡◌, ◌⊎◌, ℕ, Bool, true, false, List, [], ◌∷◌, ◌++◌, map, Option, None, Some}
-use Rattle.elsa_specs.specs.Insertions.{first_of_each}
+use Rattle.elsa_tables.specs.Insertions.{first_of_each}
 
 -- An epoch: the content at its start, and its accepted insertions with the values of their replies,
 -- in order.

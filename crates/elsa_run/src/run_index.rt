@@ -6,7 +6,7 @@ ghost use Rattle.std.specs.Prelude.{◌≡◌, IfOk, OnErr, length};
 ghost use Rattle.elsa_run.specs.IndexRun.{IndexRunsTo};
 
 use elsa_maps::index_map::FrozenIndexMapIn;
-use elsa_specs::{Call, run};
+use elsa_tables::{Call, run};
 use elsa_vec::stable::StableDeref;
 use indexmap::IndexMap;
 use std::alloc::{AllocError, Allocator};

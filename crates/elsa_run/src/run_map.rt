@@ -6,7 +6,7 @@ ghost use Rattle.std.specs.Prelude.{◌≡◌, IfOk, OnErr, length};
 ghost use Rattle.elsa_run.specs.MapRun.{MapRunsTo};
 
 use elsa_maps::map::MapForm;
-use elsa_specs::{Call, for_its_clause, run};
+use elsa_tables::{Call, for_its_clause, run};
 use elsa_vec::stable::StableDeref;
 use std::alloc::{AllocError, Allocator};
 

@@ -7,7 +7,7 @@ ghost use Rattle.elsa_run.specs.SetRun.{SetRunsTo};
 
 use elsa_index::index_set::FrozenIndexSetIn;
 use elsa_index::look_up::LookUp;
-use elsa_specs::{Call, run};
+use elsa_tables::{Call, run};
 use elsa_vec::stable::StableDeref;
 use indexmap::IndexSet;
 use std::alloc::{AllocError, Allocator};

@@ -5,7 +5,7 @@
 ghost use Rattle.std.specs.Prelude.{◌≡◌, IfOk, OnErr, length, map};
 ghost use Rattle.elsa_run.specs.VecRun.{VecRunsTo};
 
-use elsa_specs::{Call, run};
+use elsa_tables::{Call, run};
 use elsa_vec::stable::StableDeref;
 use elsa_vec::vec::FrozenVecIn;
 use std::alloc::{AllocError, Allocator};

@@ -48,16 +48,16 @@ up_to_all step size all rest old new before none =
 -- The content after an item that failed, by what is known about the failure.
 pub up_to_stops : {S X : Type 0} (step : S → X → S → Type 0) (size : S → ℕ) (present : S → X → Type 0) (full : S → Type 0) (all rest left : List X) (x : X) (old mid new : S) (fault : ReadFault)
     → UpTo step size all rest old mid → rest ≡ x ∷ left → new ≡ mid
-    → ((place : ℕ) → fault ≡ Duplicate place → (place ≡ size mid - size old) × present mid x) → (fault ≡ TooMany → full mid)
+    → ((index : ℕ) → fault ≡ Duplicate index → (index ≡ size mid - size old) × present mid x) → (fault ≡ TooMany → full mid)
     → Stops step present full old all fault new
-up_to_stops step size present full all rest left x old mid new (Duplicate place) before next same duplicate too_many =
+up_to_stops step size present full all rest left x old mid new (Duplicate index) before next same duplicate too_many =
     let sum = before.3 in
-    let at = (duplicate place refl).0 in (
+    let at = (duplicate index refl).0 in (
       before.0,
       x,
       (left, before.1 ∙ ap (λ ys. before.0 ++ ys) next, subst (λ m. InTurn step old before.0 m) (sym same) before.2),
       omega (arith, sum, at),
-      subst (λ m. present m x) (sym same) (duplicate place refl).1,
+      subst (λ m. present m x) (sym same) (duplicate index refl).1,
     )
 up_to_stops step size present full all rest left x old mid new TooMany before next same duplicate too_many =
     (before.0, x, (left, before.1 ∙ ap (λ ys. before.0 ++ ys) next, subst (λ m. InTurn step old before.0 m) (sym same) before.2), subst full (sym same) (too_many refl))

@@ -16,8 +16,8 @@ StopsAt {X = X} step old xs done x new = (rest : List X) × (xs ≡ done ++ x �
 -- duplicate, its number is the index of x, and x was present then. If it is `TooMany`, the
 -- collection is full.
 abbrev pub Stops : {S X : Type 0} → (S → X → S → Type 0) → (S → X → Type 0) → (S → Type 0) → S → List X → ReadFault → S → Type 0
-Stops {X = X} step present full old xs (Duplicate place) new =
-    (done : List X) × (x : X) × StopsAt step old xs done x new × (place ≡ length done) × present new x
+Stops {X = X} step present full old xs (Duplicate index) new =
+    (done : List X) × (x : X) × StopsAt step old xs done x new × (index ≡ length done) × present new x
 Stops {X = X} step present full old xs TooMany new = (done : List X) × (x : X) × StopsAt step old xs done x new × full new
 Stops {X = X} step present full old xs Memory new = (done : List X) × (x : X) × StopsAt step old xs done x new
 

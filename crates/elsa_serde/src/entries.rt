@@ -60,17 +60,17 @@ fn insert_next<R, M: MapForm<R>>(
     ensures added { OnOk result (AddsPair M.same M.Value.target M.Value.shown M.extends
         (M.entries map.old) (key, value) (M.entries map.new)) }
     ensures refused { OnErr result (M.entries map.new ≡ M.entries map.old) }
-    ensures duplicate { (place : ℕ) → result ≡ Err (Duplicate place) →
-        (place ≡ length (M.entries map.old) - before)
+    ensures duplicate { (index : ℕ) → result ≡ Err (Duplicate index) →
+        (index ≡ length (M.entries map.old) - before)
         × (value_at M.same (M.entries map.old) key ≢ None) }
     ensures fits { result ≢ Err TooMany }
 {
-    let place = map.len() - before;
+    let index = map.len() - before;
     let (_, is_new) = map.insert_new(key, value)?;
     if is_new {
         Ok(())
     } else {
-        Err(ReadFault::Duplicate(place))
+        Err(ReadFault::Duplicate(index))
     }
 }
 

@@ -19,9 +19,9 @@ pub enum ReadFault {
 impl fmt::Display for ReadFault {
     fn fmt<W: fmt::Write>(&self, f: &mut fmt::Formatter<W>) -> fmt::Result {
         match self {
-            ReadFault::Duplicate(place) => write!(
+            ReadFault::Duplicate(index) => write!(
                 f,
-                "what was read at place {place} is a duplicate"
+                "what was read at index {index} is a duplicate"
             ),
             ReadFault::TooMany => f.write_str("more names than an interner has numbers for"),
             ReadFault::Memory => f.write_str("out of memory"),

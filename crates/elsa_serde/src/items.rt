@@ -83,16 +83,16 @@ where
     requires { before ≤ length set.old }
     ensures added { OnOk result (AddsValue T.target T.shown T.finds set.old value set.new) }
     ensures refused { OnErr result (set.new ≡ set.old) }
-    ensures duplicate { (place : ℕ) → result ≡ Err (Duplicate place) →
-        (place ≡ length set.old - before) × (position (T.finds value) set.old ≢ None) }
+    ensures duplicate { (index : ℕ) → result ≡ Err (Duplicate index) →
+        (index ≡ length set.old - before) × (position (T.finds value) set.old ≢ None) }
     ensures fits { result ≢ Err TooMany }
 {
-    let place = set.len() - before;
+    let index = set.len() - before;
     let (_, is_new) = set.insert_new(value)?;
     if is_new {
         Ok(())
     } else {
-        Err(ReadFault::Duplicate(place))
+        Err(ReadFault::Duplicate(index))
     }
 }
 

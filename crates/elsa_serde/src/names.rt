@@ -58,8 +58,8 @@ fn put_next<S: BuildHasher, A: Allocator + Copy, P: Allocator>(
     requires { before ≤ length names.old }
     ensures added { OnOk result (AddsName names.old text.now names.new) }
     ensures refused { OnErr result (names.new ≡ names.old) }
-    ensures duplicate { (place : ℕ) → result ≡ Err (Duplicate place) →
-        (place ≡ length names.old - before)
+    ensures duplicate { (index : ℕ) → result ≡ Err (Duplicate index) →
+        (index ≡ length names.old - before)
         × (position (bytes_eq text.now) names.old ≢ None) }
     ensures too_many { result ≡ Err TooMany → IsFull names.old }
 {

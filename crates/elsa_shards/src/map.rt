@@ -225,7 +225,7 @@ where
     /// Two hashes and one search.
     pub fn get<Q>(&self, rt: &impl Wait, query: Q) -> Result<Option<Arc<V, A>>, AllocError>
     where
-        Q: Hash + Seeks<K, Arc<V, A>, HashMap<K, Arc<V, A>, S, A>>,
+        Q: Hash + Seeks<HashMap<K, Arc<V, A>, S, A>, K, Arc<V, A>>,
         ensures { IfOk result (λ found. IfSome found (λ a.
             HoldsAt R.holds (Q.finds query) (arc_value a))) }
     {
@@ -245,7 +245,7 @@ where
     /// Two hashes and one search.
     pub fn map_get<X, Q, F>(&self, rt: &impl Wait, query: Q, f: F) -> Option<X>
     where
-        Q: Hash + Seeks<K, Arc<V, A>, HashMap<K, Arc<V, A>, S, A>>,
+        Q: Hash + Seeks<HashMap<K, Arc<V, A>, S, A>, K, Arc<V, A>>,
         F: FnOnce(&V) -> X + Drop,
         requires { (v : V) → HoldsAt R.holds (Q.finds query) v → FnOnceTakesAt F.FnOnce f v }
         ensures { IfSome result (λ r.
@@ -378,7 +378,7 @@ where
     /// Two hashes and one search.
     pub fn get_copy<Q>(&self, rt: &impl Wait, query: Q) -> Option<V>
     where
-        Q: Hash + Seeks<K, Arc<V, A>, HashMap<K, Arc<V, A>, S, A>>,
+        Q: Hash + Seeks<HashMap<K, Arc<V, A>, S, A>, K, Arc<V, A>>,
         ensures { IfSome result (HoldsAt R.holds (Q.finds query)) }
     {
         self.shard(query).get_copy(rt, query)

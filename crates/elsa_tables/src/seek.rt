@@ -19,7 +19,7 @@ use std::hash::{BuildHasher, Hash};
 /// and `&str` keys, and a `&[U]` of those with `Vec<U>` and `&[U]` keys. A type of the caller's own
 /// becomes a query by an implementation of this trait: a key `(String, u32)` is then looked up by a
 /// struct of a `&str` and a number.
-pub trait Seeks<K, B, T: Table<K, B>>: Copy {
+pub trait Seeks<T: Table<K, B>, K, B>: Copy {
     // Whether the query finds a key.
     ghost finds: { Self → K → Bool };
 
@@ -38,7 +38,7 @@ pub trait Seeks<K, B, T: Table<K, B>>: Copy {
 }
 
 /// A query that also finds the index of the entry, in a table whose entries are numbered.
-pub trait SeeksIndex<K, B, T: Table<K, B>>: Seeks<K, B, T> {
+pub trait SeeksIndex<T: Table<K, B>, K, B>: Seeks<T, K, B> {
     /// Returns the index of the entry that the query finds, its key and its value, or `None` if the
     /// table has no such key.
     ///
@@ -53,7 +53,7 @@ pub trait SeeksIndex<K, B, T: Table<K, B>>: Seeks<K, B, T> {
             ≡ lookup (Self.finds self) (T.entries table.now) };
 }
 
-impl<'k, K, B, T: Table<K, B>> Seeks<K, B, T> for &'k K {
+impl<'k, K, B, T: Table<K, B>> Seeks<T, K, B> for &'k K {
     ghost finds = { λ q. T.same q.now };
 
     ghost finds_equals = { λ q. T.equivalence.congr q.now };
@@ -64,9 +64,9 @@ impl<'k, K, B, T: Table<K, B>> Seeks<K, B, T> for &'k K {
 }
 
 impl<'k, K: Eq + Hash + Drop, B, S: BuildHasher, A: Allocator + Copy> SeeksIndex<
+    IndexMap<K, B, S, A>,
     K,
     B,
-    IndexMap<K, B, S, A>,
 > for &'k K {
     fn seek_full<'t>(self, table: &'t IndexMap<K, B, S, A>) -> Option<(usize, &'t K, &'t B)> {
         table.get_full(self)
@@ -76,9 +76,9 @@ impl<'k, K: Eq + Hash + Drop, B, S: BuildHasher, A: Allocator + Copy> SeeksIndex
 // ---- texts
 
 impl<'q, B, S: BuildHasher, A: Allocator + Copy, Z: Allocator> Seeks<
+    HashMap<String<Z>, B, S, A>,
     String<Z>,
     B,
-    HashMap<String<Z>, B, S, A>,
 > for &'q str {
     ghost finds = { λ q k. bytes_eq q.now (string_bytes k) };
 
@@ -89,7 +89,7 @@ impl<'q, B, S: BuildHasher, A: Allocator + Copy, Z: Allocator> Seeks<
     }
 }
 
-impl<'q, 'a, B, S: BuildHasher, A: Allocator + Copy> Seeks<&'a str, B, HashMap<&'a str, B, S, A>>
+impl<'q, 'a, B, S: BuildHasher, A: Allocator + Copy> Seeks<HashMap<&'a str, B, S, A>, &'a str, B>
     for &'q str {
     ghost finds = { ⟦<&'a str as PartialEq>⟧.eq };
 
@@ -100,7 +100,7 @@ impl<'q, 'a, B, S: BuildHasher, A: Allocator + Copy> Seeks<&'a str, B, HashMap<&
     }
 }
 
-impl<'q, B, A: Allocator + Copy, Z: Allocator> Seeks<String<Z>, B, BTreeMap<String<Z>, B, A>>
+impl<'q, B, A: Allocator + Copy, Z: Allocator> Seeks<BTreeMap<String<Z>, B, A>, String<Z>, B>
     for &'q str {
     ghost finds = { λ q k. eq_by_cmp (slice_cmp nat_cmp) q.now (string_bytes k) };
 
@@ -112,7 +112,7 @@ impl<'q, B, A: Allocator + Copy, Z: Allocator> Seeks<String<Z>, B, BTreeMap<Stri
     }
 }
 
-impl<'q, 'a, B, A: Allocator + Copy> Seeks<&'a str, B, BTreeMap<&'a str, B, A>> for &'q str {
+impl<'q, 'a, B, A: Allocator + Copy> Seeks<BTreeMap<&'a str, B, A>, &'a str, B> for &'q str {
     ghost finds = { eq_by_cmp ⟦<&'a str as Ord>⟧.cmp };
 
     ghost finds_equals = { λ q x y. (eq_by_cmp_equiv nat_list_cmp_total).congr q.now x.now y.now };
@@ -123,9 +123,9 @@ impl<'q, 'a, B, A: Allocator + Copy> Seeks<&'a str, B, BTreeMap<&'a str, B, A>> 
 }
 
 impl<'q, B, S: BuildHasher, A: Allocator + Copy, Z: Allocator> Seeks<
+    IndexMap<String<Z>, B, S, A>,
     String<Z>,
     B,
-    IndexMap<String<Z>, B, S, A>,
 > for &'q str {
     ghost finds = { λ q k. bytes_eq q.now (string_bytes k) };
 
@@ -137,9 +137,9 @@ impl<'q, B, S: BuildHasher, A: Allocator + Copy, Z: Allocator> Seeks<
 }
 
 impl<'q, B, S: BuildHasher, A: Allocator + Copy, Z: Allocator> SeeksIndex<
+    IndexMap<String<Z>, B, S, A>,
     String<Z>,
     B,
-    IndexMap<String<Z>, B, S, A>,
 > for &'q str {
     fn seek_full<'t>(
         self,
@@ -149,7 +149,7 @@ impl<'q, B, S: BuildHasher, A: Allocator + Copy, Z: Allocator> SeeksIndex<
     }
 }
 
-impl<'q, 'a, B, S: BuildHasher, A: Allocator + Copy> Seeks<&'a str, B, IndexMap<&'a str, B, S, A>>
+impl<'q, 'a, B, S: BuildHasher, A: Allocator + Copy> Seeks<IndexMap<&'a str, B, S, A>, &'a str, B>
     for &'q str {
     ghost finds = { ⟦<&'a str as PartialEq>⟧.eq };
 
@@ -161,9 +161,9 @@ impl<'q, 'a, B, S: BuildHasher, A: Allocator + Copy> Seeks<&'a str, B, IndexMap<
 }
 
 impl<'q, 'a, B, S: BuildHasher, A: Allocator + Copy> SeeksIndex<
+    IndexMap<&'a str, B, S, A>,
     &'a str,
     B,
-    IndexMap<&'a str, B, S, A>,
 > for &'q str {
     fn seek_full<'t>(
         self,
@@ -176,9 +176,9 @@ impl<'q, 'a, B, S: BuildHasher, A: Allocator + Copy> SeeksIndex<
 // ---- slices
 
 impl<'q, U: Eq + Hash + Drop, B, S: BuildHasher, A: Allocator + Copy, Z: Allocator> Seeks<
+    HashMap<Vec<U, Z>, B, S, A>,
     Vec<U, Z>,
     B,
-    HashMap<Vec<U, Z>, B, S, A>,
 > for &'q [U] {
     ghost finds = { λ q k. pointwise U.eq q.now k.items };
 
@@ -190,9 +190,9 @@ impl<'q, U: Eq + Hash + Drop, B, S: BuildHasher, A: Allocator + Copy, Z: Allocat
 }
 
 impl<'q, U: Ord + Drop, B, A: Allocator + Copy, Z: Allocator> Seeks<
+    BTreeMap<Vec<U, Z>, B, A>,
     Vec<U, Z>,
     B,
-    BTreeMap<Vec<U, Z>, B, A>,
 > for &'q [U] {
     ghost finds = { λ q k. eq_by_cmp (slice_cmp U.cmp) q.now k.items };
 
@@ -204,9 +204,9 @@ impl<'q, U: Ord + Drop, B, A: Allocator + Copy, Z: Allocator> Seeks<
 }
 
 impl<'q, U: Eq + Hash + Drop, B, S: BuildHasher, A: Allocator + Copy, Z: Allocator> Seeks<
+    IndexMap<Vec<U, Z>, B, S, A>,
     Vec<U, Z>,
     B,
-    IndexMap<Vec<U, Z>, B, S, A>,
 > for &'q [U] {
     ghost finds = { λ q k. pointwise U.eq q.now k.items };
 
@@ -218,9 +218,9 @@ impl<'q, U: Eq + Hash + Drop, B, S: BuildHasher, A: Allocator + Copy, Z: Allocat
 }
 
 impl<'q, U: Eq + Hash + Drop, B, S: BuildHasher, A: Allocator + Copy, Z: Allocator> SeeksIndex<
+    IndexMap<Vec<U, Z>, B, S, A>,
     Vec<U, Z>,
     B,
-    IndexMap<Vec<U, Z>, B, S, A>,
 > for &'q [U] {
     fn seek_full<'t>(
         self,
@@ -231,9 +231,9 @@ impl<'q, U: Eq + Hash + Drop, B, S: BuildHasher, A: Allocator + Copy, Z: Allocat
 }
 
 impl<'q, 'a, U: Eq + Hash, B, S: BuildHasher, A: Allocator + Copy> Seeks<
+    HashMap<&'a [U], B, S, A>,
     &'a [U],
     B,
-    HashMap<&'a [U], B, S, A>,
 > for &'q [U] {
     ghost finds = { ⟦<&'a [U] as PartialEq>⟧.eq };
 
@@ -244,7 +244,7 @@ impl<'q, 'a, U: Eq + Hash, B, S: BuildHasher, A: Allocator + Copy> Seeks<
     }
 }
 
-impl<'q, 'a, U: Ord, B, A: Allocator + Copy> Seeks<&'a [U], B, BTreeMap<&'a [U], B, A>>
+impl<'q, 'a, U: Ord, B, A: Allocator + Copy> Seeks<BTreeMap<&'a [U], B, A>, &'a [U], B>
     for &'q [U] {
     ghost finds = { eq_by_cmp ⟦<&'a [U] as Ord>⟧.cmp };
 
@@ -256,9 +256,9 @@ impl<'q, 'a, U: Ord, B, A: Allocator + Copy> Seeks<&'a [U], B, BTreeMap<&'a [U],
 }
 
 impl<'q, 'a, U: Eq + Hash, B, S: BuildHasher, A: Allocator + Copy> Seeks<
+    IndexMap<&'a [U], B, S, A>,
     &'a [U],
     B,
-    IndexMap<&'a [U], B, S, A>,
 > for &'q [U] {
     ghost finds = { ⟦<&'a [U] as PartialEq>⟧.eq };
 
@@ -270,9 +270,9 @@ impl<'q, 'a, U: Eq + Hash, B, S: BuildHasher, A: Allocator + Copy> Seeks<
 }
 
 impl<'q, 'a, U: Eq + Hash, B, S: BuildHasher, A: Allocator + Copy> SeeksIndex<
+    IndexMap<&'a [U], B, S, A>,
     &'a [U],
     B,
-    IndexMap<&'a [U], B, S, A>,
 > for &'q [U] {
     fn seek_full<'t>(
         self,

@@ -11,7 +11,7 @@
 #![tactic(auto)]
 
 ghost use Rattle.std.specs.Prelude.{◌≡◌, ◌++◌, IfOk, IfSome};
-ghost use Rattle.elsa_specs.specs.Replay.{Replays};
+ghost use Rattle.elsa_tables.specs.Replay.{Replays};
 ghost use Rattle.example_account.specs.Account.{AccountStep};
 
 mod account;

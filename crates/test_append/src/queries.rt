@@ -3,7 +3,6 @@ ghost use Rattle.std.specs.Prelude.{◌==◌};
 
 use bumpalo::Bump;
 use elsa_buckets::append_map::AppendMap;
-use elsa_buckets::by::By;
 use elsa_maps::map::FrozenAppendMap;
 use elsa_vec::stable::Own;
 use std::alloc::{AllocError, Global};
@@ -25,8 +24,8 @@ fn texts<'a>(alloc: Global, arena: &'a Bump) -> Result<Texts<'a>, AllocError> {
 fn a_text_finds_the_string_that_reads_like_it(rt: HostRuntime) -> Result<(), Fail> {
     let arena = Bump::new(rt.alloc());
     let map = texts(rt.alloc(), &arena)?;
-    assert!(rt; map.get(By("ann")) == Some(&1) && map.get(By("Ann")) == Some(&2));
-    assert!(rt; map.get(By("")) == Some(&0) && map.get(By("an")).is_none());
+    assert!(rt; map.get("ann") == Some(&1) && map.get("Ann") == Some(&2));
+    assert!(rt; map.get("") == Some(&0) && map.get("an").is_none());
     Ok(())
 }
 
@@ -55,7 +54,7 @@ fn a_borrowed_text_finds_a_borrowed_text(rt: HostRuntime) -> Result<(), Fail> {
     let mut map: FrozenAppendMap<'_, &str, &str> = FrozenAppendMap::new(rt.alloc(), &arena);
     map.insert("one", "1")?;
     let copy = String::from_str(rt.alloc(), "one")?;
-    assert!(rt; map.get(By(copy.as_str())) == Some("1") && map.get(&"two").is_none());
+    assert!(rt; map.get(copy.as_str()) == Some("1") && map.get(&"two").is_none());
     Ok(())
 }
 
@@ -70,7 +69,7 @@ fn slices<'a>(alloc: Global, arena: &'a Bump) -> Result<Slices<'a>, AllocError> 
 fn a_slice_finds_the_vector_with_its_items(rt: HostRuntime) -> Result<(), Fail> {
     let arena = Bump::new(rt.alloc());
     let map = slices(rt.alloc(), &arena)?;
-    assert!(rt; map.get(By([1, 2].as_slice())) == Some(&12));
-    assert!(rt; map.get(By([2, 1].as_slice())).is_none());
+    assert!(rt; map.get([1, 2].as_slice()) == Some(&12));
+    assert!(rt; map.get([2, 1].as_slice()).is_none());
     Ok(())
 }

@@ -37,7 +37,7 @@ impl<'q> Equivalent<Service> for At<'q> {
 }
 
 // The search of an index map by the parts.
-impl<'q, B, S: BuildHasher, A: Allocator + Copy> Seeks<Service, B, IndexMap<Service, B, S, A>>
+impl<'q, B, S: BuildHasher, A: Allocator + Copy> Seeks<IndexMap<Service, B, S, A>, Service, B>
     for At<'q> {
     ghost finds = { λ at key. are_parts at.host.now at.port (string_bytes key.0) key.1 };
 
@@ -48,7 +48,7 @@ impl<'q, B, S: BuildHasher, A: Allocator + Copy> Seeks<Service, B, IndexMap<Serv
     }
 }
 
-impl<'q, B, S: BuildHasher, A: Allocator + Copy> SeeksIndex<Service, B, IndexMap<Service, B, S, A>>
+impl<'q, B, S: BuildHasher, A: Allocator + Copy> SeeksIndex<IndexMap<Service, B, S, A>, Service, B>
     for At<'q> {
     fn seek_full<'t>(
         self,

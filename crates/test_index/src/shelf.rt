@@ -1,6 +1,6 @@
 //! An index map whose keys are copied texts and whose values own memory.
 ghost use Rattle.std.specs.Prelude.{◌≡◌, IfOk, Some};
-ghost use Rattle.elsa_specs.specs.FirstWins.{value_at};
+ghost use Rattle.elsa_tables.specs.FirstWins.{value_at};
 
 use bumpalo::Bump;
 use elsa_arena::arena::TypedArena;

@@ -189,18 +189,18 @@ fn names_take(heap: &Bump, arena: &Bump, count: usize) -> Result<usize, AllocErr
     })
 }
 
-/// Checks that a name takes 16 bytes of the list and 11 to 21 of the hash table. A list that has
+/// Checks that a name takes 16 bytes of the list and 11 to 22 of the hash table. A list that has
 /// doubled may have room for the same number of names again, and the blocks that both grew from
-/// have the same size again. For one name, the hash table has eight buckets of 8 bytes and the list
-/// has room for four.
+/// have the same size again. For one name, the hash table has a group of 64 bytes and room for
+/// twelve hashes, and the list has room for four names.
 #[test]
-fn a_name_takes_sixteen_bytes_of_the_list_and_at_most_twenty_one_of_the_table(
+fn a_name_takes_sixteen_bytes_of_the_list_and_at_most_twenty_two_of_the_table(
     rt: HostRuntime,
 ) -> Result<(), Fail> {
     let heap = heap_of_a_megabyte(rt.alloc())?;
     let arena = Bump::new(rt.alloc());
-    assert!(rt; names_take(&heap, &arena, 1)? <= 8 * 8 + 4 * 16 + 16);
-    assert!(rt; names_take(&heap, &arena, MANY)? <= MANY * 2 * (2 * 16 + 21));
+    assert!(rt; names_take(&heap, &arena, 1)? <= 64 + 12 * 4 + 4 * 16 + 16);
+    assert!(rt; names_take(&heap, &arena, MANY)? <= MANY * 2 * (2 * 16 + 22));
     Ok(())
 }
 
@@ -241,7 +241,7 @@ fn a_line_takes_a_few_times_its_length(rt: HostRuntime) -> Result<(), Fail> {
     let budget = Budget::new(rt.alloc());
     let arena = Bump::new(rt.alloc());
     assert!(rt; line_takes(rt.alloc(), &heap, &arena)? <= 40_000);
-    // For three names, the engine requests a list and a hash table.
-    assert!(rt; line_asks(rt.alloc(), &budget, &arena) == 2);
+    // For three names, the engine requests a list, and of a hash table the groups and the hashes.
+    assert!(rt; line_asks(rt.alloc(), &budget, &arena) == 3);
     Ok(())
 }

@@ -56,9 +56,9 @@ fn leaves_no_copy(alloc: Global, count: usize, granted: u64) -> bool {
 fn a_put_that_the_tables_are_refused_leaves_no_copy_in_the_arena(
     rt: HostRuntime,
 ) -> Result<(), Fail> {
-    // Without names, the list allocates before the hash table. The list grows at the fifth and at
-    // the ninth name, the hash table at the seventh.
-    for (count, granted) in [(0, 0), (0, 1), (4, 0), (6, 0), (8, 0)] {
+    // Without names, the list allocates before the hash table, which makes two requests. The list
+    // grows at the fifth and at the ninth name, the hash table at the thirteenth.
+    for (count, granted) in [(0, 0), (0, 1), (0, 2), (4, 0), (8, 0), (12, 0), (12, 1)] {
         assert!(rt;
             leaves_no_copy(rt.alloc(), count, granted),
             "{count} names, {granted} granted"

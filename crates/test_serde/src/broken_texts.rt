@@ -187,7 +187,7 @@ fn a_refusal_printed_another_text(rt: HostRuntime) -> Result<(), Fail> {
     for (fault, text) in [
         (
             ReadFault::Duplicate(7),
-            "what was read at place 7 is a duplicate",
+            "what was read at index 7 is a duplicate",
         ),
         (
             ReadFault::TooMany,

@@ -1,6 +1,6 @@
 ghost use Rattle.std.specs.Prelude.{◌<◌};
 
-use elsa::sync::{LockFreeShardedMap, ShardedHandle};
+use elsa::sync::{LockFreeShardedMap, LockPermit, ShardedHandle};
 use std::alloc::{AllocError, Allocator, Global};
 use std::hash::{BuildHasherDefault, FoldHasher};
 use std::sync::Wait;
@@ -239,5 +239,69 @@ fn a_length_lacked_an_entry_of_another_handle(rt: HostRuntime) -> Result<(), Fai
         let map = with_shards(rt.alloc(), count)?;
         assert_eq!(rt; reads_each_length(&rt, &map)?, MANY);
     }
+    Ok(())
+}
+
+// The value that one attempt found or inserted, and whether the key was new.
+fn tried(
+    handle: &mut NumbersHandle<'_>,
+    may: LockPermit,
+    key: u64,
+    value: u64,
+) -> Option<(u64, bool)> {
+    match handle.try_insert(may, key, value) {
+        Ok(done) => Some((done.value, done.is_new)),
+        Err(_) => None,
+    }
+}
+
+// The same by the call that returns a reference.
+fn tried_ref(
+    handle: &mut NumbersHandle<'_>,
+    may: LockPermit,
+    key: u64,
+    value: u64,
+) -> Option<(u64, bool)> {
+    match handle.try_insert_ref(may, key, value) {
+        Ok(done) => Some((*done.value, done.is_new)),
+        Err(_) => None,
+    }
+}
+
+// Inserts each key below `MANY` by one handle with three times itself, then by another with
+// another value. Returns the first key for which a reply was wrong.
+fn first_wrong_attempt(map: &Numbers, may: LockPermit) -> Result<Option<u64>, AllocError> {
+    let mut one = map.handle()?;
+    let mut other = map.handle()?;
+    let mut wrong = None;
+    for key in 0..MANY {
+        let own = key.wrapping_mul(3);
+        let replies = if key % 2 == 0 {
+            (
+                tried(&mut one, may, key, own),
+                tried_ref(&mut other, may, key, 1),
+            )
+        } else {
+            (
+                tried_ref(&mut one, may, key, own),
+                tried(&mut other, may, key, 1),
+            )
+        };
+        if replies != (Some((own, true)), Some((own, false))) && wrong.is_none() {
+            wrong = Some(key);
+        }
+    }
+    Ok(wrong)
+}
+
+#[test]
+fn an_insertion_without_waiting_returned_another_value(rt: HostRuntime) -> Result<(), Fail> {
+    let map = with_shards(rt.alloc(), 7)?;
+    assert_eq!(rt;
+        first_wrong_attempt(&map, LockPermit::trying(rt.alloc()))?,
+        None
+    );
+    let mut handle = map.handle()?;
+    assert_eq!(rt; handle.get(MANY - 1), Some((MANY - 1) * 3));
     Ok(())
 }

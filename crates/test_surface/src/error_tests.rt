@@ -281,7 +281,7 @@ fn prints_what_was_read(alloc: Global) -> Result<bool, AllocError> {
         prints(
             alloc,
             ReadFault::Duplicate(3),
-            "what was read at place 3 is a duplicate",
+            "what was read at index 3 is a duplicate",
         )? && prints(alloc, ReadFault::TooMany, many)?
             && prints(alloc, ReadFault::Memory, "out of memory")?,
     )

@@ -6,7 +6,7 @@ ghost use Rattle.std.specs.Ordering.{eq_by_cmp};
 ghost use Rattle.std.specs.List.Sorted.{IsStrictlySortedBy};
 ghost use Rattle.std.specs.Map.{keys_of};
 ghost use Rattle.std.specs.Iterator.{IsFinite};
-ghost use Rattle.elsa_specs.specs.FirstWins.{CloneIsEqual};
+ghost use Rattle.elsa_tables.specs.FirstWins.{CloneIsEqual};
 ghost use Rattle.elsa_locks.specs.Shared.{shown, AtAMoment};
 ghost use Rattle.elsa_locks.specs.Walks.{IsCopyOf, VisitsAll};
 ghost use Rattle.elsa_tables.specs.Rules.{IsKept};

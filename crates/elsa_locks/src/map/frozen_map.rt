@@ -2,7 +2,7 @@
 ghost use Rattle.std.specs.Prelude.{IfOk};
 ghost use Rattle.std.specs.List.{IsDistinct};
 ghost use Rattle.std.specs.Map.{keys_of};
-ghost use Rattle.elsa_specs.specs.FirstWins.{value_at, CloneIsEqual, IsKeys};
+ghost use Rattle.elsa_tables.specs.FirstWins.{value_at, CloneIsEqual, IsKeys};
 ghost use Rattle.elsa_locks.specs.Shared.{shown, AtAMoment};
 ghost use Rattle.elsa_locks.specs.Walks.{VisitsAll};
 ghost use Rattle.elsa_tables.specs.Rules.{IsKept};

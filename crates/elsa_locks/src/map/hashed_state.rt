@@ -2,7 +2,7 @@
 ghost use Rattle.std.specs.Prelude.{◌≡◌, [], IfOk, IsTrue, ◌↔◌};
 ghost use Rattle.std.specs.List.{IsDistinct, AllZip};
 ghost use Rattle.std.specs.Map.{keys_of};
-ghost use Rattle.elsa_specs.specs.FirstWins.{value_at, IsSameContent, IsEqualMap, IsKeys, CloneIsEqual};
+ghost use Rattle.elsa_tables.specs.FirstWins.{value_at, IsSameContent, IsEqualMap, IsKeys, CloneIsEqual};
 ghost use Rattle.elsa_locks.specs.Shared.{shown};
 ghost use Rattle.elsa_tables.specs.Rules.{IsKept};
 ghost use Rattle.elsa_locks.specs.Walks.{VisitsAll};

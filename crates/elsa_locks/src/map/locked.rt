@@ -62,7 +62,7 @@ where
     /// While a thread writes or waits to write.
     pub fn get<Q>(&self, rt: &impl Wait, query: Q) -> Result<Option<Arc<V, A>>, AllocError>
     where
-        Q: Seeks<K, Arc<V, A>, T>,
+        Q: Seeks<T, K, Arc<V, A>>,
         V: Drop,
         ensures { IfOk result (λ found. IfSome found (λ a.
             HoldsAt R.holds (Q.finds query) (arc_value a))) }
@@ -83,7 +83,7 @@ where
     /// While a thread writes or waits to write.
     pub fn map_get<X, Q, F>(&self, rt: &impl Wait, query: Q, f: F) -> Option<X>
     where
-        Q: Seeks<K, Arc<V, A>, T>,
+        Q: Seeks<T, K, Arc<V, A>>,
         F: FnOnce(&V) -> X + Drop,
         V: Drop,
         requires { (v : V) → HoldsAt R.holds (Q.finds query) v → FnOnceTakesAt F.FnOnce f v }
@@ -109,7 +109,7 @@ where
     ///
     /// # Blocks
     /// While a thread writes or waits to write.
-    pub fn get_copy<Q: Seeks<K, Arc<V, A>, T>>(&self, rt: &impl Wait, query: Q) -> Option<V>
+    pub fn get_copy<Q: Seeks<T, K, Arc<V, A>>>(&self, rt: &impl Wait, query: Q) -> Option<V>
     where
         V: Copy,
         ensures { IfSome result (HoldsAt R.holds (Q.finds query)) }

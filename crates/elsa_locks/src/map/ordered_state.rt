@@ -7,15 +7,14 @@ ghost use Rattle.std.specs.List.{AllZip};
 ghost use Rattle.std.specs.List.Sorted.{IsStrictlySortedBy};
 ghost use Rattle.std.specs.Map.{keys_of};
 ghost use Rattle.std.specs.Ordering.{eq_by_cmp};
-ghost use Rattle.elsa_specs.specs.FirstWins.{value_at, IsSameContent, IsEqualMap, IsCollected, IsKeys, CloneIsEqual};
+ghost use Rattle.elsa_tables.specs.FirstWins.{value_at, IsSameContent, IsEqualMap, IsCollected, IsKeys, CloneIsEqual};
 ghost use Rattle.elsa_locks.specs.Shared.{shown};
 ghost use Rattle.elsa_tables.specs.Rules.{IsKept};
 ghost use Rattle.elsa_locks.specs.Walks.{VisitsAll, IsCopyOf};
 
 use super::State;
 use super::walks::{copied_entry, visit};
-use elsa_specs::for_its_clause;
-use elsa_tables::{AnyEntries, EntryRule};
+use elsa_tables::{AnyEntries, EntryRule, for_its_clause};
 use std::alloc::{AllocError, Allocator, Global};
 use std::collections::BTreeMap;
 use std::ops::RangeBounds;

@@ -5,7 +5,7 @@ ghost use Rattle.std.specs.Arc.{arc_value};
 ghost use Rattle.std.specs.Fn.{FnOnceReturnsAt, FnOnceTakesAt};
 ghost use Rattle.std.specs.List.{IsDistinct};
 ghost use Rattle.std.specs.Map.{keys_of, lookup};
-ghost use Rattle.elsa_specs.specs.FirstWins.{value_at};
+ghost use Rattle.elsa_tables.specs.FirstWins.{value_at};
 ghost use Rattle.elsa_locks.specs.Shared.{shown, Leaves};
 ghost use Rattle.elsa_tables.specs.Rules.{HoldsAt, IsKept};
 
@@ -49,7 +49,7 @@ where
 }
 
 /// Returns the `Arc` at the key that `query` finds, or `None` if the table has no such key.
-fn find<'m, K: 'm, V, A: Allocator, T: Table<K, Arc<V, A>>, Q: Seeks<K, Arc<V, A>, T>>(
+fn find<'m, K: 'm, V, A: Allocator, T: Table<K, Arc<V, A>>, Q: Seeks<T, K, Arc<V, A>>>(
     table: &'m T,
     query: Q,
 ) -> Option<&'m Arc<V, A>>
@@ -118,7 +118,7 @@ where
     ///
     /// # Cost
     /// One search.
-    pub fn get<Q: Seeks<K, Arc<V, A>, T>>(&self, query: Q) -> Result<Option<Arc<V, A>>, AllocError>
+    pub fn get<Q: Seeks<T, K, Arc<V, A>>>(&self, query: Q) -> Result<Option<Arc<V, A>>, AllocError>
     where
         V: Drop,
         ensures answer { IfOk result (λ a. option_map arc_value a ≡ lookup (Q.finds query) self.now) }
@@ -132,7 +132,7 @@ where
     ///
     /// # Cost
     /// One search.
-    pub fn get_copy<Q: Seeks<K, Arc<V, A>, T>>(&self, query: Q) -> Option<V>
+    pub fn get_copy<Q: Seeks<T, K, Arc<V, A>>>(&self, query: Q) -> Option<V>
     where
         V: Copy,
         ensures { result ≡ lookup (Q.finds query) self.now }
@@ -147,7 +147,7 @@ where
     /// One search.
     pub fn map_get<X, Q, F>(&self, query: Q, f: F) -> Option<X>
     where
-        Q: Seeks<K, Arc<V, A>, T>,
+        Q: Seeks<T, K, Arc<V, A>>,
         F: FnOnce(&V) -> X + Drop,
         requires { IfSome (lookup (Q.finds query) self.now) (FnOnceTakesAt F.FnOnce f) }
         ensures called { IfSome result (λ r.

@@ -34,11 +34,11 @@ where
         value: V,
     ) -> Result<Arc<V, A>, AllocError>
     where
-        &'q str: Seeks<String<A>, Arc<V, A>, T>,
+        &'q str: Seeks<T, String<A>, Arc<V, A>>,
         requires { HoldsOfText string_bytes R.holds key.now value }
         ensures { IfOk result (λ a.
             HoldsAt R.holds
-            (⟦<&'q str as Seeks<String<A>, Arc<V, A>, T>>⟧.finds key.entry) (arc_value a)
+            (⟦<&'q str as Seeks<T, String<A>, Arc<V, A>>>⟧.finds key.entry) (arc_value a)
             ⊎ HoldsAtText string_bytes T.same R.holds key.now (arc_value a)) }
     {
         let found = self.get(rt, key)?;

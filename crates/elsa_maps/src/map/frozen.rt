@@ -132,7 +132,7 @@ where
     ///
     /// # Cost
     /// One search, and one hash if the table hashes.
-    pub fn get<Q: Seeks<K, V::Borrow, T>>(&self, query: Q) -> Option<V::Borrow>
+    pub fn get<Q: Seeks<T, K, V::Borrow>>(&self, query: Q) -> Option<V::Borrow>
         ensures { result ≡ lookup (Q.finds query) self.now }
     {
         let (_, value) = query.seek(&self.table)?;
@@ -146,7 +146,7 @@ where
     ///
     /// # Cost
     /// That of [`get`](Frozen::get).
-    pub fn get_key_value<Q: Seeks<K, V::Borrow, T>>(&self, query: Q) -> Option<(K, V::Borrow)>
+    pub fn get_key_value<Q: Seeks<T, K, V::Borrow>>(&self, query: Q) -> Option<(K, V::Borrow)>
     where
         K: Copy,
         ensures { result ≡ lookup_entry (Q.finds query) self.now }
@@ -166,7 +166,7 @@ where
     /// That of [`get`](Frozen::get).
     pub fn map_get<X, Q, F>(&self, query: Q, f: F) -> Option<X>
     where
-        Q: Seeks<K, V::Borrow, T>,
+        Q: Seeks<T, K, V::Borrow>,
         F: FnOnce(V::Borrow) -> X,
         requires callable { ForSome (lookup (Q.finds query) self.now) (F.pre f) }
         ensures { MatchOption (lookup (Q.finds query) self.now) (result ≡ None) (λ value.
@@ -182,7 +182,7 @@ where
     ///
     /// # Cost
     /// That of [`get`](Frozen::get).
-    pub fn contains_key<Q: Seeks<K, V::Borrow, T>>(&self, query: Q) -> bool
+    pub fn contains_key<Q: Seeks<T, K, V::Borrow>>(&self, query: Q) -> bool
         ensures { result ≡ is_some (lookup (Q.finds query) self.now) }
     {
         query.seek(&self.table).is_some()
@@ -389,7 +389,7 @@ where
         make: F,
     ) -> Result<Inserted<V::Borrow>, InsertFault<E>>
     where
-        Q: Seeks<K, V::Borrow, T>,
+        Q: Seeks<T, K, V::Borrow>,
         E: Drop,
         F: FnOnce() -> Result<(K, V), E> + Drop,
         requires callable { lookup (Q.finds query) self.old ≡ None → F.pre make }
@@ -473,7 +473,7 @@ impl<R: Copy, K, V, T, A: Allocator + Copy, Q> Index<Q> for Frozen<R, K, V, T, A
 where
     V: StableDeref<R>,
     T: Table<K, V::Borrow>,
-    Q: Seeks<K, V::Borrow, T>,
+    Q: Seeks<T, K, V::Borrow>,
 {
     type Output = V::Borrow;
 

@@ -5,8 +5,8 @@ ghost use Rattle.std.specs.List.{IsDistinct};
 ghost use Rattle.std.specs.Map.{keys_of, values_of};
 ghost use Rattle.std.specs.Map.Iter.{ShowsInOrder, deref, deref_pair};
 ghost use Rattle.elsa_maps.specs.FirstWins.{AddsNew, HoldsLast, IsRefused, SameAt, same_values, value_at};
-ghost use Rattle.elsa_specs.proofs.MapEquality.{same_values_equivalence, same_values_laws};
-ghost use Rattle.elsa_specs.specs.FirstWins.{IsEqualMap};
+ghost use Rattle.elsa_tables.proofs.MapEquality.{same_values_equivalence, same_values_laws};
+ghost use Rattle.elsa_tables.specs.FirstWins.{IsEqualMap};
 
 use super::Frozen;
 use bumpalo::Bump;

@@ -4,10 +4,10 @@
 //! The laws follow from the contracts of the maps alone, as a caller's own proofs do.
 ghost use Rattle.std.specs.Prelude.{◌≡◌, ◌+◌, ◌++◌, ◌∷◌, ◌⊎◌, ◌↔◌, [], All, Bool, false, true, IfOk, IsSome, IsTrue, None, OnErr, Some, if◌then◌else◌, length};
 ghost use Rattle.elsa_maps.specs.FirstWins.{Inserts, Keeps, SameAt, value_at};
-ghost use Rattle.elsa_specs.specs.Insertions.{Grows};
+ghost use Rattle.elsa_tables.specs.Insertions.{Grows};
 
 use super::{Frozen, FrozenAppendMapIn, MapForm};
-use elsa_specs::for_its_clause;
+use elsa_tables::for_its_clause;
 use elsa_vec::stable::StableDeref;
 use std::alloc::{AllocError, Allocator};
 use std::hash::{BuildHasher, Hash};

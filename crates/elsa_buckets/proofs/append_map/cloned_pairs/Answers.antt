@@ -1,7 +1,7 @@
 use Rattle.std.proofs.Common.{◌≡◌, ◌+◌, true, refl, subst, sym}
 use Rattle.std.specs.Prelude.{take}
 use Rattle.std.proofs.lemmas.List.Elements.{all_zip_more}
-use Rattle.elsa_specs.specs.Insertions.{IsCloneOf}
+use Rattle.elsa_tables.specs.Insertions.{IsCloneOf}
 use Rattle.elsa_buckets.proofs.append_map.cloned_pairs.Goals as goal
 
 pub loop-pair-preserved : goal.loop-pair-preserved

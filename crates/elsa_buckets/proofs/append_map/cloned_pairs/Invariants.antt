@@ -1,5 +1,5 @@
 use Rattle.std.specs.Prelude.{take}
-use Rattle.elsa_specs.specs.Insertions.{IsCloneOf}
+use Rattle.elsa_tables.specs.Insertions.{IsCloneOf}
 use Rattle.elsa_buckets.proofs.append_map.cloned_pairs.Given as goal
 
 abbrev pub invariant-loop-pair : goal.invariant-loop-pair

@@ -8,9 +8,7 @@ use Rattle.elsa_buckets.proofs.AppendLemmas.{compared_keys, key_there, value_the
 use Rattle.elsa_buckets.proofs.append_map.search.Goals as goal
 
 pub search-requires : goal.search-requires
-search-requires g c hash place has =
-    let within = c.requires.within hash place has in let l = length-map c.args.pairs.now (λ e. e.0) in
-    omega (arith, within, l)
+search-requires g c place within = omega (arith, within, c.requires.counted, length-map c.args.pairs.now (λ e. e.0))
 
 -- The index of the first key that the query finds, and the entry there.
 pub returns-clause-found : goal.returns-clause-found

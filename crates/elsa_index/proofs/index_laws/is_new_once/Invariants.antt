@@ -1,6 +1,6 @@
 use Rattle.std.specs.Map.{keys_of}
-use Rattle.elsa_specs.specs.Insertions.{Grows}
-use Rattle.elsa_specs.proofs.Growing.{AreFound}
+use Rattle.elsa_tables.specs.Insertions.{Grows}
+use Rattle.elsa_tables.proofs.Growing.{AreFound}
 use Rattle.elsa_index.proofs.index_laws.is_new_once.Given as goal
 
 abbrev pub invariant-loop-pair : goal.invariant-loop-pair

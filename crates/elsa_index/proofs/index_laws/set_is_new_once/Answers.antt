@@ -1,8 +1,8 @@
 use Rattle.std.proofs.Common.{◌∙◌, position, slice_get}
 use Rattle.std.proofs.lemmas.Iterator.Adapters.{YieldsList-from_vec}
 use Rattle.std.proofs.lemmas.Iterator.Consumers.{YieldsList-end}
-use Rattle.elsa_specs.specs.Insertions.{Grows}
-use Rattle.elsa_specs.proofs.Growing.{found_all, found_more, grows_on, item_stays, place_stays}
+use Rattle.elsa_tables.specs.Insertions.{Grows}
+use Rattle.elsa_tables.proofs.Growing.{found_all, found_more, grows_on, item_stays, place_stays}
 use Rattle.elsa_index.proofs.Laws.{told_again}
 use Rattle.elsa_index.proofs.index_laws.set_is_new_once.Goals as goal
 

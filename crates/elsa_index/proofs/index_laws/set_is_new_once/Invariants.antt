@@ -1,5 +1,5 @@
-use Rattle.elsa_specs.specs.Insertions.{Grows}
-use Rattle.elsa_specs.proofs.Growing.{AreFound}
+use Rattle.elsa_tables.specs.Insertions.{Grows}
+use Rattle.elsa_tables.proofs.Growing.{AreFound}
 use Rattle.elsa_index.proofs.index_laws.set_is_new_once.Given as goal
 
 abbrev pub invariant-loop-value : goal.invariant-loop-value

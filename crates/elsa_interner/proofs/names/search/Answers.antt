@@ -1,11 +1,11 @@
-use Rattle.std.proofs.Common.{ap, sym, ◌∙◌}
+use Rattle.std.proofs.Common.{ap, sym, ◌∙◌, arith}
 use Rattle.std.proofs.lemmas.Result.{IfOk-weaker, on_err_weaker}
 use Rattle.std.specs.Str.{bytes_eq}
 use Rattle.elsa_interner.proofs.NameLemmas.{found_here, found_nowhere}
 use Rattle.elsa_interner.proofs.names.search.Goals as goal
 
 pub search-requires : goal.search-requires
-search-requires g c place has = c.requires.within c.args.known.hash place has
+search-requires g c place within = omega (arith, within, c.requires.counted)
 
 pub returns-then-same_text-clause-found : goal.returns-then-same_text-clause-found
 returns-then-same_text-clause-found g c =
@@ -19,7 +19,7 @@ returns g c =
     let ks = c.args.names.now in
     let text = c.args.text.now in
     record {
-      found = IfOk-weaker c.search.result _ _ (λ i h. found_here ks text i c.requires.one_to_one (c.requires.within c.args.known.hash i h.0) h.1) c.search.ensures.found;
+      found = IfOk-weaker c.search.result _ _ (λ i h. found_here ks text i c.requires.one_to_one (omega (arith, h.0, c.requires.counted)) h.1) c.search.ensures.found;
       absent = on_err_weaker c.search.result (λ h. found_nowhere ks text (λ i there. h i (c.requires.entered i there))) c.search.ensures.absent;
       vacancy = c.search.ensures.vacancy;
     }

@@ -1,6 +1,6 @@
 use Rattle.std.proofs.Common.{◌≡◌, true, ap, subst, sym}
 use Rattle.std.specs.Map.{keys_of}
-use Rattle.elsa_specs.specs.Insertions.{IsCloneOf}
+use Rattle.elsa_tables.specs.Insertions.{IsCloneOf}
 use Rattle.elsa_buckets.specs.Placed.{key_hash, IsPlaced}
 use Rattle.elsa_buckets.proofs.AppendLemmas.{placed_clones}
 use Rattle.elsa_buckets.proofs.append_map.AppendMap.clone.Goals as goal

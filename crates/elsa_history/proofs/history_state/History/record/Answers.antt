@@ -1,5 +1,5 @@
 use Rattle.std.proofs.Common.{◌≡◌, length, ap, arith}
-use Rattle.elsa_specs.proofs.Replay.{recorded_last}
+use Rattle.elsa_tables.proofs.Replay.{recorded_last}
 use Rattle.elsa_history.proofs.history_state.History.record.Goals as goal
 
 pub returns-clause-recorded : goal.returns-clause-recorded

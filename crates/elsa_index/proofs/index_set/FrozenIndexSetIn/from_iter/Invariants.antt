@@ -1,4 +1,4 @@
-use Rattle.elsa_specs.specs.Insertions.{SetCollects}
+use Rattle.elsa_tables.specs.Insertions.{SetCollects}
 use Rattle.elsa_index.proofs.index_set.FrozenIndexSetIn.from_iter.Given as goal
 
 abbrev pub invariant-loop-value : goal.invariant-loop-value

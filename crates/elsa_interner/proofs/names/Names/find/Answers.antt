@@ -5,9 +5,9 @@ use Rattle.std.specs.Str.{bytes_eq}
 use Rattle.elsa_interner.proofs.NameLemmas.{few_places, named_place}
 use Rattle.elsa_interner.proofs.names.Names.find.Goals as goal
 
-pub search-requires-clause-within : goal.search-requires-clause-within
-search-requires-clause-within g c h i has =
-    omega (arith, c.self.invariant.0.within h i has, length-map c.self.inside.list.items (λ (b : Bor (List ℕ)). b.now), ap length c.as_slice.ensures.value)
+pub search-requires-clause-counted : goal.search-requires-clause-counted
+search-requires-clause-counted g c =
+    omega (arith, c.self.invariant.0.counted, length-map c.self.inside.list.items (λ (b : Bor (List ℕ)). b.now), ap length c.as_slice.ensures.value)
 
 pub returns-clause-named : goal.returns-clause-named
 returns-clause-named g c =

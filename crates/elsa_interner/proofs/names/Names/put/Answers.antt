@@ -8,9 +8,9 @@ use Rattle.elsa_interner.proofs.NameLemmas.{numbered_put, numbered_same, put_new
 use Rattle.elsa_interner.proofs.names.Names.put.Goals as goal
 use Rattle.elsa_interner.proofs.names.Names.put.Goals.{in-Some, in_default+in_ok-name}
 
-pub search-requires-clause-within : goal.search-requires-clause-within
-search-requires-clause-within g c h i has =
-    omega (arith, c.self.invariant.0.within h i has, length-map c.self.inside.list.items (λ (b : Bor (List ℕ)). b.now), ap length c.as_slice.ensures.value)
+pub search-requires-clause-counted : goal.search-requires-clause-counted
+search-requires-clause-counted g c =
+    omega (arith, c.self.invariant.0.counted, length-map c.self.inside.list.items (λ (b : Bor (List ℕ)). b.now), ap length c.as_slice.ensures.value)
 
 -- If the copy fails, the table has made room that is not used.
 pub invariant_of-self-in_err-name : goal.invariant_of-self-in_err-name

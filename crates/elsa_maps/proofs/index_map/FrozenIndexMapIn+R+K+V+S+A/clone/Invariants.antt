@@ -1,5 +1,5 @@
 use Rattle.std.proofs.Common.{take}
-use Rattle.elsa_specs.specs.Insertions.{IsCloneOf}
+use Rattle.elsa_tables.specs.Insertions.{IsCloneOf}
 use Rattle.elsa_maps.proofs.index_map.FrozenIndexMapIn+R+K+V+S+A.clone.Given as goal
 
 abbrev pub invariant-loop-i : goal.invariant-loop-i

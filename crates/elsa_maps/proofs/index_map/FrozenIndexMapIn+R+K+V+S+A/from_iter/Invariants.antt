@@ -1,4 +1,4 @@
-use Rattle.elsa_specs.specs.Insertions.{CollectsTargets}
+use Rattle.elsa_tables.specs.Insertions.{CollectsTargets}
 use Rattle.elsa_maps.proofs.index_map.FrozenIndexMapIn+R+K+V+S+A.from_iter.Given as goal
 
 abbrev pub invariant-loop-pair : goal.invariant-loop-pair

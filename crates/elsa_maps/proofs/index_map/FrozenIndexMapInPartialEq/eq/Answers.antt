@@ -1,5 +1,5 @@
 use Rattle.std.proofs.Common.{◌∙◌}
-use Rattle.elsa_specs.proofs.MapEquality.{equal_as_maps, same_by_hash}
+use Rattle.elsa_tables.proofs.MapEquality.{equal_as_maps, same_by_hash}
 use Rattle.elsa_maps.proofs.Pairs.{same_in_any_order}
 use Rattle.elsa_maps.proofs.index_map.FrozenIndexMapInPartialEq.eq.Goals as goal
 

@@ -4,7 +4,7 @@ use Rattle.std.proofs.lemmas.Iterator.Adapters.{YieldsList-from_vec}
 use Rattle.std.proofs.lemmas.Iterator.Consumers.{YieldsList-end}
 use Rattle.std.proofs.lemmas.List.Elements.{All-nil}
 use Rattle.std.specs.HashMap.Eq.{lookup_congr}
-use Rattle.elsa_specs.proofs.Growing.{all_more, all_of, some_stays}
+use Rattle.elsa_tables.proofs.Growing.{all_more, all_of, some_stays}
 use Rattle.elsa_maps.specs.FirstWins.{value_at}
 use Rattle.elsa_maps.proofs.map.laws.is_new_once.Goals as goal
 

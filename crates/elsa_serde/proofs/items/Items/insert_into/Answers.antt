@@ -40,4 +40,4 @@ returns-in_err-insert_next-clause-refused g c =
     at_fault c.from_residual.result c.in_err-insert_next.field-0.0 _ c.from_residual.ensures.1
     (up_to_stops (AddsValue g.T.HasTarget.target g.T.HasTarget.shown g.T.LookUp.finds) length (λ kept v. position (g.T.LookUp.finds v) kept ≢ None) (λ _. ⊥) _ _ _ c.in-Some.value _ _ _ _
     before.went c.in-Some.ensures.steps.0 failed.refused
-    (λ place is. let f = failed.duplicate place (ap Err is) in let at = f.0 in (omega (arith, at, count), f.1)) (λ is. failed.fits (ap Err is)))
+    (λ index is. let f = failed.duplicate index (ap Err is) in let at = f.0 in (omega (arith, at, count), f.1)) (λ is. failed.fits (ap Err is)))

@@ -3,7 +3,7 @@ use Rattle.std.specs.Arc.{arc_value}
 use Rattle.std.specs.Cmp.{eq_by_cmp_equiv}
 use Rattle.std.specs.Cmp.Derive.Mapped.{pointwise-map}
 use Rattle.std.specs.Ordering.{eq_by_cmp}
-use Rattle.elsa_specs.proofs.MapEquality.{equal_as_maps, same_by_order}
+use Rattle.elsa_tables.proofs.MapEquality.{equal_as_maps, same_by_order}
 use Rattle.elsa_locks.specs.Shared.{shown}
 use Rattle.elsa_locks.proofs.map.ordered_state.State+K+V+BTreeMap+K+Arc+V+A+A+A+R.same.Goals as goal
 

@@ -2,7 +2,7 @@ use Rattle.elsa_tables.proofs.RuleLemmas.{any_kept}
 use Rattle.std.proofs.Common.{◌≡◌, Bool, List, [], ◌∷◌, ◌++◌, Some, refl, if◌then◌else◌}
 use Rattle.std.proofs.lemmas.List.{reverse-append}
 use Rattle.std.specs.Cmp.{IsEquivalence, eq_by_cmp_equiv}
-use Rattle.elsa_specs.specs.FirstWins.{value_at, IsCollected}
+use Rattle.elsa_tables.specs.FirstWins.{value_at, IsCollected}
 use Rattle.elsa_locks.proofs.map.ordered_state.State+K+V+BTreeMap+K+Arc+V+A+A+A.from_iter.Goals as goal
 
 -- If a pair is stored at its key, over what was collected before, the result is what is collected

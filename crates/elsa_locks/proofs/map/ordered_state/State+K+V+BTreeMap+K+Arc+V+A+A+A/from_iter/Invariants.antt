@@ -1,5 +1,5 @@
 use Rattle.std.specs.Ordering.{eq_by_cmp}
-use Rattle.elsa_specs.specs.FirstWins.{IsCollected}
+use Rattle.elsa_tables.specs.FirstWins.{IsCollected}
 use Rattle.elsa_locks.specs.Shared.{shown}
 use Rattle.elsa_locks.proofs.map.ordered_state.State+K+V+BTreeMap+K+Arc+V+A+A+A.from_iter.Given as goal
 

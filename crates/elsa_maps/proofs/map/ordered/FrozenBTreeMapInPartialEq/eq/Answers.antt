@@ -1,7 +1,7 @@
 use Rattle.std.proofs.Common.{◌∙◌}
 use Rattle.std.specs.Cmp.{eq_by_cmp_equiv}
 use Rattle.std.specs.Ordering.{eq_by_cmp}
-use Rattle.elsa_specs.proofs.MapEquality.{equal_as_maps, same_by_order}
+use Rattle.elsa_tables.proofs.MapEquality.{equal_as_maps, same_by_order}
 use Rattle.elsa_maps.proofs.map.ordered.FrozenBTreeMapInPartialEq.eq.Goals as goal
 
 pub returns-clause-decides : goal.returns-clause-decides

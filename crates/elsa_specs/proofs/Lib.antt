@@ -1,5 +1,0 @@
-pub mod Entries
-pub mod FirstOfEach
-pub mod Growing
-pub mod MapEquality
-pub mod Replay

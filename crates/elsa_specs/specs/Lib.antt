@@ -1,3 +1,0 @@
-pub mod FirstWins
-pub mod Insertions
-pub mod Replay
