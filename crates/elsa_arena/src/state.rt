@@ -9,8 +9,6 @@ ghost use Rattle.elsa_slots.specs.Ahead.{GoesOn, IsClosedAt, IsOpenAt};
 ghost use Rattle.elsa_slots.specs.Geometry.{IsAt, size_of};
 
 use crate::list_cell::{Later, ListCell, NextSlot};
-use boxcar::tag::Tag;
-use counted_slot::Fits;
 use elsa_slots::geometry::{buffer_size, locate};
 use elsa_slots::slots::{
     Ahead, Buffer, HasSlots, Sink, Slots, WriteRights, Written, WrittenPrefix,
@@ -53,14 +51,6 @@ pub struct State<T, A: Allocator + Copy> {
     pub prefix: WrittenPrefix<T, Buffer<T, A>>,
     pub ahead: Ahead<T, A>,
     pub ready: Vec<Fresh<T, A>, A>,
-}
-
-impl<T, A: Allocator + Copy> Fits for State<T, A> {
-    ghost use Rattle.elsa_arena.specs.Observed.{IsStateOf};
-
-    type Tag = Tag;
-
-    ghost fits = { λ tag state. IsStateOf tag.numbers state };
 }
 
 /// An open buffer, the rights to its slots from the next index on, and the rights to open the later

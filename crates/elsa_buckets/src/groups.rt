@@ -135,7 +135,7 @@ pub(crate) fn vacant(groups: &[Group], hash: u32) -> Option<Bucket>
 /// Returns a free bucket for `hash`, if the group at which its probe begins had one before: the
 /// bucket `lane`, or any other number. Nothing is proved about it.
 #[inline(always)]
-fn guess(groups: &[Group], hash: u32) -> usize {
+fn likely_lane(groups: &[Group], hash: u32) -> usize {
     let first = hash as usize & groups.len().wrapping_sub(1);
     match groups.get(first) {
         Some(group) => group.with_tag(0).trailing_zeros() as usize,
@@ -172,12 +172,12 @@ fn filled<A: Allocator>(alloc: A, hashes: &[u32], count: usize) -> Result<Vec<Gr
 {
     let mut groups = Vec::with_capacity(alloc, count)?;
     groups.resize(count, Group::empty())?;
-    let mut guesses = [0usize; AHEAD];
+    let mut lanes = [0usize; AHEAD];
     for number in 0..hashes.len() {
         let hash = hashes[number];
-        let lane = guesses[number % AHEAD];
-        guesses[number % AHEAD] = match hashes.get(number + AHEAD) {
-            Some(later) => guess(groups.as_slice(), *later),
+        let lane = lanes[number % AHEAD];
+        lanes[number % AHEAD] = match hashes.get(number + AHEAD) {
+            Some(later) => likely_lane(groups.as_slice(), *later),
             None => 0,
         };
         let Some(bucket) = vacant_at(groups.as_slice(), hash, lane) else {

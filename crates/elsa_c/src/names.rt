@@ -48,7 +48,7 @@ fn search(
     hash: u32,
     text: &str,
 ) -> Result<usize, Vacancy>
-    // The table has each number of the text under the hash, and as many indices as there are names,
+    // The table has each number of the text under the hash, and an index for each of the names,
     // which are one to one.
     requires entered { (i : ℕ) → slice_get (map (λ s. string_bytes s) names.now) i ≡ Some text.now →
         Has table.now hash i }
