@@ -107,7 +107,7 @@ class TestCalls(unittest.TestCase):
         self.assertEqual(set(self.items), {"Frozen", "Map", "Other"})
         for name in self.items:
             self.assertEqual([it.name for it in self.library.methods("crate", self.items[name])], ["get"], name)
-        self.assertEqual([it for it, _, _ in self.library.aliases_of("Frozen")], ["crate::Map"])
+        self.assertEqual([it for it, _ in self.library.aliases_of("Frozen", "crate")], ["crate::Map"])
 
     def test_a_call_is_told_with_the_bounds_of_its_impl(self):
         (get,) = self.library.methods("crate", self.items["Frozen"])
