@@ -3,11 +3,11 @@
 use Rattle.std.specs.Prelude.{ℕ, ◌≡◌, ◌<◌, ◌^◌, ◌==◌, true, false, List, [], ◌∷◌, ◌++◌, length, MatchBool, Some}
 use mathlib.Core.List.{IsPrefix}
 use Rattle.logbook.specs.Pages.{Cell, Step, View, Book, Named}
+use Rattle.elsa_lock_free.specs.declared.event.Entry.{Entry}
 use Rattle.elsa_lock_free.specs.declared.event.Event.{Event}
 use Rattle.elsa_lock_free.specs.AtomicSteps as steps
 use Rattle.elsa_lock_free.specs.Distinct.{EachIsNew}
 use Rattle.elsa_lock_free.specs.History.{list_of, is_held, shared_by}
-use Rattle.elsa_lock_free.specs.SharedList.{items_of}
 
 -- the vector's word is the first of its book
 abbrev pub word_in : Book → Named
@@ -19,11 +19,11 @@ module _ {T : Type 0} where
   word_of log = steps.word_of (shared_by log)
 
   -- the rule: the state word has the length of the list and whether a thread has the lock; a second word, which no
-  -- thread uses, stays 0. Each item of the list was new to the items before it, by the vector's rule for items
-  pub record IsKept (is_new : List T → T → Type 0) (cells : List Cell) (log : List (Event T)) : Type 0 where
+  -- thread uses, stays 0. Each entry of the list was new to those before it, by the vector's rule for items
+  pub record IsKept (is_new : List (Entry T) → Entry T → Type 0) (cells : List Cell) (log : List (Event T)) : Type 0 where
     pub words : cells ≡ (word_of log, true) ∷ (0, true) ∷ []
     pub small : length (list_of log) < 2 ^ 62
-    pub each_is_new : EachIsNew is_new (items_of (list_of log))
+    pub each_is_new : EachIsNew is_new (list_of log)
 
   -- a read of the word: the history so far was seen
   abbrev pub Sees : Step (Event T) → View (Event T) (List (Event T)) → ℕ → View (Event T) (List (Event T)) → Type 0

@@ -38,6 +38,11 @@ module _ {T : Type 0} where
   places_from author first [] = []
   places_from author first (e ∷ es) = (if e.author == author then first ∷ [] else []) ++ places_from author (suc first) es
 
+  -- the items of an author's entries, in the order of the list
+  abbrev pub pushed_by : ℕ → List (Entry T) → List T
+  pushed_by author [] = []
+  pushed_by author (e ∷ es) = (if e.author == author then e.item ∷ [] else []) ++ pushed_by author es
+
   -- how many entries are of this author
   abbrev pub count : ℕ → List (Entry T) → ℕ
   count author [] = 0

@@ -9,7 +9,6 @@ ghost use Rattle.std.specs.Prelude.{◌≡◌, ◌^◌, ◌<◌, ◌≤◌, [], 
 ghost use lib.Pointwise.{pointwise};
 ghost use mathlib.Core.List.{IsPrefix};
 ghost use Rattle.elsa_lock_free.specs.Distinct.{EachIsNew};
-ghost use Rattle.elsa_lock_free.specs.SharedList.{items_of};
 ghost use Rattle.elsa_lock_free.specs.declared.event.Event.TheVariants.{OfferOf};
 ghost use Rattle.elsa_lock_free.specs.History.{list_of};
 ghost use Rattle.elsa_lock_free.specs.Rights.{buffer_slots_of};
@@ -52,10 +51,10 @@ pub struct AtomicList<T, A: Allocator, K: ItemRule<T>, X: Beside<T> = ()> {
     ghost empty: { first.log ≡ [] },
 }
 
-/// What holds of a history that was seen: each item of its list was new to those before it, and the
+/// What holds of a history that was seen: each entry of its list was new to those before it, and the
 /// list is below the limit. It does nothing when it runs.
 pub fn obeys_rule<T, A: Allocator, K: ItemRule<T>, X: Beside<T>>(seen: &SeenHistory<T, A, K, X>)
-    ensures obeys_rule { EachIsNew K.is_new (items_of (list_of seen.now.log)) }
+    ensures obeys_rule { EachIsNew K.is_new (list_of seen.now.log) }
     ensures limit { length (list_of seen.now.log) < 2 ^ 62 }
 {
     let mut known = seen.again();

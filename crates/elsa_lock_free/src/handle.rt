@@ -4,9 +4,10 @@
 //! have a condition. Each call of the vector is written here, once, for every rule of the items and
 //! for whatever is stored next to the slots. The calls on the vector itself are short forms.
 ghost use Rattle.std.specs.Prelude.{◌≡◌, ◌≤◌, ◌<◌, ◌^◌, ◌+◌, [], List, drop, length, slice_get, take, IfOk, IfErr, IfSome, IfNone, Some};
-ghost use Rattle.elsa_lock_free.specs.SharedList.{BeginsABuffer, BeginsAmong, Continues, IsLaterPass, Meet, PushedAll, Pushes, PushesNext, copied, items_of, mine};
+ghost use Rattle.elsa_lock_free.specs.SharedList.{BeginsABuffer, BeginsAmong, Continues, IsLaterPass, Meet, PushedAll, Pushes, PushesNext, copied, entry, items_of, mine};
+ghost use Rattle.elsa_lock_free.specs.declared.event.Entry.{Entry};
 ghost use Rattle.elsa_lock_free.specs.Attempts.{IfBusy, IfFailed};
-ghost use Rattle.elsa_lock_free.specs.Distinct.{AgreeOnPlaces, EachIsNew, IsOneToOne};
+ghost use Rattle.elsa_lock_free.specs.Distinct.{AgreeOnPlaces, EachIsNew, EachItemIsNew, IsOneToOne};
 ghost use lib.Pointwise.{pointwise};
 
 use crate::atomic_list::{AtomicList, LIMIT, wait_a_little};
@@ -167,7 +168,8 @@ impl<'v, T: Drop, A: Allocator + Copy, K: ItemRule<T>, X: Beside<T> + Drop> Hand
     /// Proves what the vector's rule promises of all items that the handle has observed. It does
     /// nothing at run time.
     pub fn obeys_rule(&self)
-        ensures { EachIsNew K.is_new (items_of self.now.seen) }
+        ensures entries { EachIsNew K.is_new self.now.seen }
+        ensures items { EachItemIsNew K.is_new self.now.seen }
     {
         self.pass.obeys_rule();
     }
@@ -259,7 +261,7 @@ impl<'v, T: Drop, A: Allocator + Copy, K: ItemRule<T>> Handle<'v, T, A, K> {
     /// # Cost
     /// `O(1)`.
     pub fn push<R: Wait>(&mut self, rt: &R, item: T) -> Result<usize, AllocFailed<T>>
-        requires obeys_rule { (xs : List T) → K.is_new xs item }
+        requires obeys_rule { (es : List (Entry T)) → K.is_new es (entry self.old.author item) }
         ensures later { IsLaterPass self.old self.new }
         ensures pushed { IfOk result (λ i. Pushes self.old self.new i item) }
         ensures limit { IfOk result (λ i. i + 1 < 2 ^ 62) }
@@ -293,7 +295,7 @@ impl<'v, T: Drop, A: Allocator + Copy, K: ItemRule<T>> Handle<'v, T, A, K> {
         may: LockPermit,
         item: T,
     ) -> Result<usize, AttemptFault<T, AllocFailed<T>>>
-        requires obeys_rule { (xs : List T) → K.is_new xs item }
+        requires obeys_rule { (es : List (Entry T)) → K.is_new es (entry self.old.author item) }
         ensures later { IsLaterPass self.old self.new }
         ensures pushed { IfOk result (λ i. Pushes self.old self.new i item) }
         ensures limit { IfOk result (λ i. i + 1 < 2 ^ 62) }
@@ -409,7 +411,7 @@ impl<'v, T: Copy + Drop, A: Allocator + Copy, K: ItemRule<T>> Handle<'v, T, A, K
         item: T,
     ) -> Result<Option<usize>, AllocError>
         requires index { n ≤ length self.old.seen }
-        requires obeys_rule { K.is_new (take n (items_of self.old.seen)) item }
+        requires obeys_rule { K.is_new (take n self.old.seen) (entry self.old.author item) }
 
         // The pass is the same, later: its item is at the end of what it had seen, or it has pushed
         // nothing, since the list was longer, or a buffer begins at this place.

@@ -1,7 +1,7 @@
 //! A lock guard of a vector's state word, for a thread that must know the list while it makes the
 //! item to push.
 ghost use Rattle.std.specs.Prelude.{◌≡◌, ◌+◌, ◌-◌, ◌<◌, ◌^◌, MatchBool, IfOk, IfErr, OnErr, IfSome, IfNone, Some, length, slice_get, suc};
-ghost use Rattle.elsa_lock_free.specs.SharedList.{BeginsABuffer, Continues, IsLaterPass, IsSamePass, PushesNext, SeesAlike, items_of};
+ghost use Rattle.elsa_lock_free.specs.SharedList.{BeginsABuffer, Continues, IsLaterPass, IsSamePass, PushesNext, SeesAlike, entry, items_of};
 ghost use Rattle.elsa_lock_free.specs.Attempts.{IfFailed};
 ghost use Rattle.elsa_lock_free.specs.History.{list_of};
 ghost use Rattle.elsa_lock_free.specs.SeenHistory.{IsAtAcquire, IsOf};
@@ -247,7 +247,7 @@ impl<'v, T: Drop, A: Allocator + Copy, K: ItemRule<T>, X: Beside<T> + Drop> Hold
         // The hold's buffer takes the item.
         requires held { SeesAlike self handle.old }
         requires later { BeginsABuffer (length self.seen) → ⊥ }
-        requires obeys_rule { K.is_new (items_of self.seen) item }
+        requires obeys_rule { K.is_new self.seen (entry handle.old.author item) }
         requires fits { (x : X) (last : T) →
             slice_get (items_of self.seen) (length self.seen - 1) ≡ Some last →
             X.fits x last → X.fits x item }
@@ -303,7 +303,7 @@ impl<'v, T: Drop, A: Allocator + Copy, K: ItemRule<T>, X: Beside<T> + Drop> Hold
         // The item fits the new buffer.
         requires held { SeesAlike self handle.old }
         requires begins { BeginsABuffer (length self.seen) }
-        requires obeys_rule { K.is_new (items_of self.seen) item }
+        requires obeys_rule { K.is_new self.seen (entry handle.old.author item) }
         requires fits { X.fits beside item }
 
         // The item stands behind what was seen, and is the handle's, or nothing changed.
@@ -380,7 +380,7 @@ impl<'v, T: Drop, A: Allocator + Copy, K: ItemRule<T>> Hold<'v, T, A, K, ()> {
         item: T,
     ) -> Result<(), AllocFailed<T>>
         requires held { SeesAlike self handle.old }
-        requires obeys_rule { K.is_new (items_of self.seen) item }
+        requires obeys_rule { K.is_new self.seen (entry handle.old.author item) }
         ensures pushed { IfOk result (λ _. IsLaterPass handle.old handle.new
             × PushesNext handle.old handle.new item) }
         ensures refused { IfErr result (λ e. (handle.new ≡ handle.old) × (e.value ≡ item)

@@ -3,7 +3,7 @@
 ghost use Rattle.std.specs.Prelude.{◌≡◌, false, ◌≢◌, ◌≤◌, ◌<◌, ◌^◌, [], Some, length, slice_get, suc};
 ghost use mathlib.Core.List.{IsPrefix};
 ghost use Rattle.elsa_lock_free.specs.SharedList.{Apart, Continues, IsSamePass, Meet, count, items_of, longer, mine};
-ghost use Rattle.elsa_lock_free.specs.Distinct.{AgreeOnPlaces, EachIsNew, IsOneToOne};
+ghost use Rattle.elsa_lock_free.specs.Distinct.{AgreeOnPlaces, EachIsNew, EachItemIsNew, IsOneToOne};
 ghost use Rattle.elsa_lock_free.specs.History.{is_held, list_of};
 ghost use Rattle.elsa_lock_free.specs.Rights.{buffer_slots_of};
 ghost use Rattle.elsa_lock_free.specs.SeenHistory.{view_of};
@@ -158,8 +158,10 @@ impl<T, A: Allocator, K: ItemRule<T>, X: Beside<T>> Pass<T, A, K, X> {
 
     /// Proves what the vector's rule promises of all items that the view has observed. It does
     /// nothing at run time.
+    #[tactic(auto, using(crate::proofs::RuleLemmas::EachNew::each_item_is_new))]
     pub fn obeys_rule(&self)
-        ensures { EachIsNew K.is_new (items_of self.now.seen) }
+        ensures entries { EachIsNew K.is_new self.now.seen }
+        ensures items { EachItemIsNew K.is_new self.now.seen }
     {
         obeys_rule(&self.seen);
     }

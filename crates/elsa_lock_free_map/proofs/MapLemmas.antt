@@ -12,7 +12,7 @@ use Rattle.elsa_hash_index.proofs.EntryLemmas.{entry_at}
 use Rattle.elsa_lock_free.specs.Distinct.{AgreeOnPlaces, one_answer}
 use Rattle.elsa_lock_free.specs.SharedList.{BeginsABuffer, Continues, View, entry, item_of, items_of}
 use Rattle.elsa_lock_free.specs.declared.event.Entry.{Entry as Listed}
-use Rattle.elsa_lock_free.proofs.RuleLemmas.EachNew.{agree_on_places, one_to_one}
+use Rattle.elsa_lock_free.proofs.RuleLemmas.EachNew.{agree_on_places, items_are_new, one_to_one}
 use Rattle.elsa_lock_free.proofs.RuleLemmas.History.{items_prefix}
 use Rattle.elsa_tables.specs.declared.put.Inserted.{Inserted}
 use Rattle.elsa_tables.specs.Rules.{HoldsAt}
@@ -33,11 +33,11 @@ some_before zero later = absurd (later (0, omega arith, refl))
 some_before (suc n) later = omega arith
 
 -- items that obey a rule and another fact obey each of the two
-pub each_first : {A : Type 0} (rule : List A → A → Type 0) (more : A → Type 0) (es : List A) → EachIsNew (λ xs x. rule xs x × more x) es → EachIsNew rule es
-each_first rule more es all i e at = (all i e at).0
+pub each_first : {A : Type 0} (rule : List A → A → Type 0) (more : A → Type 0) (es : List (Listed A)) → EachIsNew (λ fs f. rule (items_of fs) f.item × more f.item) es → EachIsNew rule (items_of es)
+each_first rule more es all = items_are_new rule es (λ i e at. (all i e at).0)
 
-pub each_holds : {A : Type 0} (rule : List A → A → Type 0) (more : A → Type 0) (es : List A) → EachIsNew (λ xs x. rule xs x × more x) es → (i : ℕ) (x : A) → slice_get es i ≡ Some x → more x
-each_holds rule more es all i e at = (all i e at).1
+pub each_holds : {A : Type 0} (rule : List A → A → Type 0) (more : A → Type 0) (es : List (Listed A)) → EachIsNew (λ fs f. rule (items_of fs) f.item × more f.item) es → (i : ℕ) (x : A) → slice_get (items_of es) i ≡ Some x → more x
+each_holds rule more es all = items_are_new (λ xs x. more x) es (λ i e at. (all i e at).1)
 
 -- the value of an entry whose key equals the query holds
 pub stands_holds : {Q K V S : Type 0} (equal : Q → K → Bool) (holds : K → V → Type 0) (es : List (Entry K V S)) (key : Q) (i : ℕ) (value : V) → HoldsEach holds es → HasAt equal es i key value → HoldsAt holds (equal key) value

@@ -28,9 +28,10 @@ impl<K: Hash + Drop, V: Drop, S: BuildHasher + Copy + Drop, L: EntryRule<K, V>> 
 > for NewKeys<S, L> {
     ghost use Rattle.std.specs.Prelude.{false, fold};
     ghost use Rattle.elsa_lock_free.specs.Distinct.{one_answer};
+    ghost use Rattle.elsa_lock_free.specs.SharedList.{items_of};
     ghost use Rattle.elsa_lock_free_map.specs.Entries.{MayFollow, short};
 
-    ghost is_new = { λ es e. MayFollow K.eq (λ s k. short (S.Hasher.finish (fold S.Hasher.write (S.build_hasher s) (K.hash_input k)))) es e × L.holds e.key e.value };
+    ghost is_new = { λ es e. MayFollow K.eq (λ s k. short (S.Hasher.finish (fold S.Hasher.write (S.build_hasher s) (K.hash_input k)))) (items_of es) e.item × L.holds e.item.key e.item.value };
 
     ghost distinct = { false };
 

@@ -10,8 +10,9 @@ use Rattle.std.proofs.lemmas.Option.{get_or_from_slice_get, slice_get-get_or, sl
 use Rattle.elsa_lock_free.specs.declared.event.Entry.{Entry}
 use Rattle.elsa_program.specs.declared.shared.SharedFault.{SharedFault}
 use Rattle.elsa_program.specs.declared.shared.SharedFault.TheVariants.{Memory, Gate, Check, Thread}
-use Rattle.elsa_program.specs.Workers.{Each, EndsAfter, HasPushed, HaveWorked, numbers, pushed_by}
-use Rattle.elsa_program.proofs.Pushed.{nothing_earlier}
+use Rattle.elsa_lock_free.specs.SharedList.{pushed_by}
+use Rattle.elsa_program.specs.Workers.{Each, EndsAfter, HasPushed, HaveWorked, numbers}
+use Rattle.elsa_lock_free.proofs.Pushed.{nothing_earlier}
 
 -- An append doesn't change the first item.
 first_stays : (xs ys : List ℕ) (x : ℕ) → slice_get xs 0 ≡ Some x → slice_get (xs ++ ys) 0 ≡ Some x

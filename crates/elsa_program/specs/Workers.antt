@@ -1,15 +1,10 @@
 -- What workers push into the list that they share.
-use Rattle.std.specs.Prelude.{ℕ, zero, suc, ◌≡◌, ◌+◌, ◌*◌, ◌==◌, ◌<◌, ◌≤◌, All, Contains, IfSome, List, [], ◌∷◌, ◌++◌, length, slice_index_or, Option, Some, None, if◌then◌else◌}
+use Rattle.std.specs.Prelude.{ℕ, zero, suc, ◌≡◌, ◌+◌, ◌*◌, ◌<◌, ◌≤◌, All, Contains, IfSome, List, [], ◌∷◌, ◌++◌, length, slice_index_or, Option, Some, None}
 use Rattle.elsa_lock_free.specs.declared.event.Entry.{Entry}
-use Rattle.elsa_lock_free.specs.SharedList.{Vector, View}
+use Rattle.elsa_lock_free.specs.SharedList.{Vector, View, pushed_by}
 use Rattle.elsa_program.specs.declared.shared.Done.{Done}
 use Rattle.elsa_program.specs.declared.shared.SharedFault.{SharedFault}
 use Rattle.elsa_program.specs.declared.shared.SharedFault.TheVariants.{Memory, Gate, Check, Thread}
-
--- The items of a writer's entries, in order.
-abbrev pub pushed_by : {T : Type 0} → ℕ → List (Entry T) → List T
-pushed_by author [] = []
-pushed_by author (e ∷ es) = (if e.author == author then e.item ∷ [] else []) ++ pushed_by author es
 
 -- The n numbers from `first` on.
 abbrev pub numbers : ℕ → ℕ → List ℕ

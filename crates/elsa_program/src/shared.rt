@@ -5,8 +5,8 @@
 //! the vector.
 ghost use Rattle.std.specs.Prelude.{◌≡◌, ◌≢◌, ◌⊎◌, ◌+◌, ◌*◌, ◌<◌, ◌≤◌, [], ◌∷◌, All, IfErr, IfOk, None, length, map, vec_capacity, vec_len};
 ghost use mathlib.Core.List.{IsPrefix};
-ghost use Rattle.elsa_lock_free.specs.SharedList.{Continues, IsSamePass, mine};
-ghost use Rattle.elsa_program.specs.Workers.{Each, HasPushed, HaveHandedBack, HaveWorked, IsFirstFault, IsPromiseOf, IsWorkOf, pushed_by};
+ghost use Rattle.elsa_lock_free.specs.SharedList.{Continues, IsSamePass, mine, pushed_by};
+ghost use Rattle.elsa_program.specs.Workers.{Each, HasPushed, HaveHandedBack, HaveWorked, IsFirstFault, IsPromiseOf, IsWorkOf};
 
 use core::thread::Stack;
 use elsa_lock_free::lock_free::{LockFreeFrozenVec, Pass};

@@ -15,11 +15,11 @@ impl ItemRule<u64> for Even {
     ghost use Rattle.std.specs.Prelude.{◌≡◌, ◌%◌, false};
     ghost use Rattle.elsa_lock_free.specs.Distinct.{one_answer};
 
-    ghost is_new = { λ items item. item % 2 ≡ 0 };
+    ghost is_new = { λ entries entry. entry.item % 2 ≡ 0 };
 
     ghost distinct = { false };
 
-    ghost apart = { λ is items index item new at. one_answer is };
+    ghost apart = { λ is entries index entry new at. one_answer is };
 
     fn is_distinct() -> bool {
         false

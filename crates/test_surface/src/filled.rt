@@ -1,6 +1,7 @@
 //! What a caller can ensure of a vector that two workers filled.
 ghost use Rattle.std.specs.Prelude.{◌≡◌, ◌≢◌, ◌≤◌, ℕ, IfOk, IfSome};
-ghost use Rattle.elsa_program.specs.Workers.{numbers, pushed_by};
+ghost use Rattle.elsa_lock_free.specs.SharedList.{pushed_by};
+ghost use Rattle.elsa_program.specs.Workers.{numbers};
 
 use elsa::sync::{LockFreeFrozenVec, Pass};
 use elsa_program::shared::{Gate, first_fault, run_shared_into};

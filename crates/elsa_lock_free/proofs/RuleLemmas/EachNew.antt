@@ -2,7 +2,9 @@
 use Rattle.std.proofs.Common.{◌≡◌, ◌∙◌, Bool, ℕ, zero, suc, ◌<◌, ◌⊎◌, inl, inr, List, [], ◌∷◌, ◌++◌, take, refl, ap, sym, subst, arith, Some, slice_get}
 use Rattle.std.proofs.lemmas.List.{append-nil}
 use mathlib.Core.List.{IsPrefix}
-use Rattle.elsa_lock_free.specs.Distinct.{AgreeOnPlaces, EachIsNew, IsAbsent, IsOneToOne}
+use Rattle.elsa_lock_free.specs.Distinct.{AgreeOnPlaces, EachIsNew, EachItemIsNew, IsAbsent, IsOneToOne}
+use Rattle.elsa_lock_free.specs.SharedList.{entry, items_of}
+use Rattle.elsa_lock_free.specs.declared.event.Entry.{Entry}
 
 -- of two numbers, which is less
 order : (i j : ℕ) → (i ≡ j) ⊎ ((i < j) ⊎ (j < i))
@@ -77,3 +79,21 @@ module _ {A : Type 0} where
     -- such a list is one to one
     pub one_to_one : (xs : List A) → EachIsNew (IsAbsent equal) xs → IsOneToOne equal xs
     one_to_one xs all = agree_on_places xs xs xs ([], append-nil xs) ([], append-nil xs) all
+
+module _ {T : Type 0} where
+  -- an item is that of an entry, and the items before it are those of the entries before that one
+  entry_at : (es : List (Entry T)) (i : ℕ) (x : T) → slice_get (items_of es) i ≡ Some x → (e : Entry T) × (slice_get es i ≡ Some e) × (e.item ≡ x) × (items_of (take i es) ≡ take i (items_of es))
+  entry_at [] i x at = absurd (cc at)
+  entry_at (e ∷ es) zero x at = (e, refl, cc at, refl)
+  entry_at (e ∷ es) (suc i) x at = let f = entry_at es i x at in (f.0, f.1, f.2, ap (λ (l : List T). e.item ∷ l) f.3)
+
+  -- where a rule reads the items alone, each item is new to those before it
+  pub items_are_new : (is_new : List T → T → Type 0) (es : List (Entry T)) → EachIsNew (λ fs e. is_new (items_of fs) e.item) es → EachIsNew is_new (items_of es)
+  items_are_new is_new es all i x at =
+      let f = entry_at es i x at in
+      subst (λ (y : T). is_new (take i (items_of es)) y) f.2 (subst (λ (l : List T). is_new l f.0.item) f.3 (all i f.0 f.1))
+
+  -- where each entry is new, so is each item
+  pub each_item_is_new : (is_new : List (Entry T) → Entry T → Type 0) (es : List (Entry T)) → EachIsNew is_new es → EachItemIsNew is_new es
+  each_item_is_new is_new es all i x at =
+      let f = entry_at es i x at in (f.0.author, subst (λ (y : T). is_new (take i es) (entry f.0.author y)) f.2 (all i f.0 f.1))

@@ -11,7 +11,7 @@ use Rattle.elsa_lock_free.specs.declared.event.Entry.{Entry}
 use Rattle.elsa_lock_free.specs.AtomicSteps.{bit, Acquires as IsAcquire, Extends as IsExtension, Opens as IsOpening, Publishes as IsPublish, Releases as IsRelease}
 use Rattle.elsa_lock_free.specs.Distinct.{EachIsNew}
 use Rattle.elsa_lock_free.specs.History.{list_of, entries, begins_hold, is_held, shared_by}
-use Rattle.elsa_lock_free.specs.SharedList.{authored, copied, items_of}
+use Rattle.elsa_lock_free.specs.SharedList.{authored, copied}
 use Rattle.elsa_lock_free.specs.Rights.{IsStep}
 use Rattle.elsa_lock_free.specs.OneWord.{IsKept, Acquires, EndsHold, word_of}
 use Rattle.elsa_lock_free.proofs.RuleLemmas.History.{held_snoc, list_prefix, list_snoc, prefix_whole}
@@ -70,11 +70,11 @@ module _ (T : Type 0) where
       record { was_held = held; was_empty = none; length_is = ap length l; held_is = ap is_held is ∙ held_snoc true xs (Cloned cs); list_is = l }
 
   -- ---- acquire
-  module _ (is_new : List T → T → Type 0) (v : Log) (found : ℕ) (even : found % 2 ≡ 0) where
+  module _ (is_new : List (Entry T) → Entry T → Type 0) (v : Log) (found : ℕ) (even : found % 2 ≡ 0) where
     abbrev AcquireGoes : List Cell → Log → Type 0
     AcquireGoes cs log = Goes (IsKept is_new) shown (IsStep {T = T} Acquired) 0 (v, (no_nib, None)) (λ n. either (n == found) (found + 1) n) (Acquires (step 0 found (found + 1) Acquired) (v, (no_nib, None))) cs log
 
-    acquire_goes : (log : Log) → length (list_of log) < 2 ^ 62 → EachIsNew is_new (items_of (list_of log)) → (b : Bool) → (word_of log == found) ≡ b → AcquireGoes ((word_of log, true) ∷ (0, true) ∷ []) log
+    acquire_goes : (log : Log) → length (list_of log) < 2 ^ 62 → EachIsNew is_new (list_of log) → (b : Bool) → (word_of log == found) ≡ b → AcquireGoes ((word_of log, true) ∷ (0, true) ∷ []) log
     acquire_goes log tiny all_new true is =
         let here : word_of log ≡ found = grind (arith, nat_tests) in
         let small = bit_small (is_held log) in
@@ -86,7 +86,7 @@ module _ (T : Type 0) where
           Acquired ∷ [],
           Some log,
           tt,
-          record { words = ap (λ (k : ℕ). (k, true) ∷ (0, true) ∷ []) n; small = omega (arith, len, tiny); each_is_new = subst (λ (l : List (Entry T)). EachIsNew is_new (items_of l)) (sym (list_snoc log Acquired ∙ append-nil (list_of log))) all_new },
+          record { words = ap (λ (k : ℕ). (k, true) ∷ (0, true) ∷ []) n; small = omega (arith, len, tiny); each_is_new = subst (EachIsNew is_new) (sym (list_snoc log Acquired ∙ append-nil (list_of log))) all_new },
           inr (log, refl, refl, (refl, (refl, acquire_holds log (log ++ Acquired ∷ []) refl free))),
           rw is (log, refl, refl, refl, free, tiny),
         )
@@ -97,7 +97,7 @@ module _ (T : Type 0) where
           [],
           None,
           tt,
-          record { words = ap (λ (k : ℕ). (k, true) ∷ (0, true) ∷ []) n; small = subst (λ (x : Log). length (list_of x) < 2 ^ 62) (sym all) tiny; each_is_new = subst (λ (x : Log). EachIsNew is_new (items_of (list_of x))) (sym all) all_new },
+          record { words = ap (λ (k : ℕ). (k, true) ∷ (0, true) ∷ []) n; small = subst (λ (x : Log). length (list_of x) < 2 ^ 62) (sym all) tiny; each_is_new = subst (λ (x : Log). EachIsNew is_new (list_of x)) (sym all) all_new },
           inl (refl, all),
           rw is (ap word_of all),
         )
@@ -137,11 +137,11 @@ module _ (T : Type 0) where
   is_step Released xs ys r ends pl m = (m.0, elim m.1 [ inl s ↦ inl s | inr t ↦ inr (t.0, release_holds xs ys t.0 t.1) ])
   is_step (OfferOf a n) xs ys r ends pl m = absurd (cc pl)
 
-  module _ (is_new : List T → T → Type 0) (v : Log) (e : Event T) (held after : ℕ) (ends : begins_hold e ≡ false) (pl : plain e ≡ true) (may : MayFollow e (list_of v)) (low : length (list_of (v ++ e ∷ [])) < 2 ^ 62) (holds : is_held v ≡ true) (was : held ≡ word_of v) (will : after ≡ word_of (v ++ e ∷ [])) (new : EachIsNew is_new (items_of (list_of v)) → EachIsNew is_new (items_of (list_of v ++ entries e))) where
+  module _ (is_new : List (Entry T) → Entry T → Type 0) (v : Log) (e : Event T) (held after : ℕ) (ends : begins_hold e ≡ false) (pl : plain e ≡ true) (may : MayFollow e (list_of v)) (low : length (list_of (v ++ e ∷ [])) < 2 ^ 62) (holds : is_held v ≡ true) (was : held ≡ word_of v) (will : after ≡ word_of (v ++ e ∷ [])) (new : EachIsNew is_new (list_of v) → EachIsNew is_new (list_of v ++ entries e)) where
     abbrev EndGoes : List Cell → Log → Type 0
     EndGoes cs log = Goes (IsKept is_new) shown (IsStep e) 0 (v, (no_nib, None)) (λ n. either (n == held) after n) (EndsHold (step 0 held after e) (v, (no_nib, None))) cs log
 
-    end_goes : (log : Log) → length (list_of log) < 2 ^ 62 → EachIsNew is_new (items_of (list_of log)) → IsPrefix v log → (b : Bool) → (word_of log == held) ≡ b → EndGoes ((word_of log, true) ∷ (0, true) ∷ []) log
+    end_goes : (log : Log) → length (list_of log) < 2 ^ 62 → EachIsNew is_new (list_of log) → IsPrefix v log → (b : Bool) → (word_of log == held) ≡ b → EndGoes ((word_of log, true) ∷ (0, true) ∷ []) log
     end_goes log tiny all_new pre true is =
         let here : word_of log ≡ held = grind (arith, nat_tests) in
         let one = ap bit holds in let small = bit_small (is_held log) in
@@ -158,7 +158,7 @@ module _ (T : Type 0) where
           e ∷ [],
           Some log,
           tt,
-          record { words = ap (λ (k : ℕ). (k, true) ∷ (0, true) ∷ []) n; small = few; each_is_new = subst (λ (l : List (Entry T)). EachIsNew is_new (items_of l)) lists (new (subst (λ (l : List (Entry T)). EachIsNew is_new (items_of l)) (sym whole) all_new)) },
+          record { words = ap (λ (k : ℕ). (k, true) ∷ (0, true) ∷ []) n; small = few; each_is_new = subst (EachIsNew is_new) lists (new (subst (EachIsNew is_new) (sym whole) all_new)) },
           inr (log, refl, refl, is_step e log (log ++ e ∷ []) log ends pl (refl, inr (refl, on, may_follow e (list_of v) (list_of log) same may))),
           (log, pre, refl, refl, rw is refl),
         )
@@ -169,7 +169,7 @@ module _ (T : Type 0) where
           [],
           Some log,
           tt,
-          record { words = ap (λ (k : ℕ). (k, true) ∷ (0, true) ∷ []) n; small = subst (λ (x : Log). length (list_of x) < 2 ^ 62) (sym all) tiny; each_is_new = subst (λ (x : Log). EachIsNew is_new (items_of (list_of x))) (sym all) all_new },
+          record { words = ap (λ (k : ℕ). (k, true) ∷ (0, true) ∷ []) n; small = subst (λ (x : Log). length (list_of x) < 2 ^ 62) (sym all) tiny; each_is_new = subst (λ (x : Log). EachIsNew is_new (list_of x)) (sym all) all_new },
           inr (log, refl, refl, is_step e log (log ++ []) log ends pl (refl, inl all)),
           (log, pre, refl, refl, rw is all),
         )

@@ -47,7 +47,7 @@ impl<T: Drop, A: Allocator + Copy, K: ItemRule<T>, X: Beside<T> + Drop> AtomicLi
         requires slots { length slots ≡ 31 }
         requires prefix { (prefix.buffer_slots ≡ slots) × (n ≡ length prefix.items) × (n < 2 ^ 62) }
         requires ahead { GoesOn slots n ahead.opened ahead.slots.of ahead.further.of }
-        requires obeys_rule { EachIsNew K.is_new prefix.items }
+        requires obeys_rule { EachIsNew K.is_new (copied prefix.items) }
 
         // The history of the new list is that these items were published.
         ensures same_vector { IsOf result.1 result.0.first }
@@ -78,7 +78,7 @@ impl<T: Drop, A: Allocator + Copy, K: ItemRule<T>, X: Beside<T> + Drop> AtomicLi
             × (n ≡ length prefix.items) × (n < 2 ^ 62) }
         requires ahead { GoesOn (buffer_slots_of self.now.first.names) n
             ahead.opened ahead.slots.of ahead.further.of }
-        requires obeys_rule { EachIsNew K.is_new prefix.items }
+        requires obeys_rule { EachIsNew K.is_new (copied prefix.items) }
 
         // The history is that these items were published.
         ensures same_vector { IsOf result self.now.first }
@@ -115,7 +115,7 @@ impl<T: Drop, A: Allocator + Copy, K: ItemRule<T>, X: Beside<T> + Drop> AtomicLi
         requires same_vector { IsOf seen self.now.first × (seen.log ≡ []) }
         requires offer { (offer.names ≡ seen.names) × (offer.state ≡ None) }
         requires request { (xs : List T) × (offer.ask ≡ Cloned xs) × (n ≡ length xs) × (n < 2 ^ 62)
-            × EachIsNew K.is_new xs }
+            × EachIsNew K.is_new (copied xs) }
         requires about { (a : ℕ) × (k : ℕ) × (offer.about ≡ OfferOf a k ∷ []) }
 
         // The history is the one of the offer.

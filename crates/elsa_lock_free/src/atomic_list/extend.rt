@@ -3,6 +3,7 @@
 ghost use Rattle.std.specs.Prelude.{◌≡◌, true, false, ◌+◌, ◌^◌, ◌<◌, ◌≤◌, ◌∷◌, ◌++◌, [], length, List, None, suc, take};
 ghost use Rattle.elsa_slots.specs.Ahead.{GoesOn};
 ghost use Rattle.elsa_lock_free.specs.SharedList.{AppendsAll, BeginsAmong, authored, count};
+ghost use Rattle.elsa_lock_free.specs.declared.event.Entry.{Entry};
 ghost use Rattle.elsa_lock_free.specs.declared.event.Event.TheVariants.{Acquired, Extended, OfferOf};
 ghost use Rattle.elsa_lock_free.specs.History.{added, author_of, entries, is_held, list_of, used_of};
 ghost use Rattle.elsa_lock_free.specs.Rights.{head, buffer_slots_of};
@@ -81,7 +82,7 @@ impl<T: Copy + Drop, A: Allocator + Copy, K: ItemRule<T>> AtomicList<T, A, K> {
             × (pushed ≡ length xs) }
         requires mine { used_of offer.about
             ≤ count (suc (author_of offer.about)) (list_of seen.log) }
-        requires obeys_rule { (xs : List T) (x : T) → K.is_new xs x }
+        requires obeys_rule { (es : List (Entry T)) (e : Entry T) → K.is_new es e }
 
         // The word is free, the list has these entries more, and the author as many tickets fewer.
         ensures free { is_held result.0.log ≡ false }
@@ -122,7 +123,7 @@ impl<T: Copy + Drop, A: Allocator + Copy, K: ItemRule<T>> AtomicList<T, A, K> {
         requires right { IsAtAcquire right seen }
         requires length { (n ≡ length (list_of right.answer)) × (n < 2 ^ 62) }
         requires mine { author.used ≤ count (suc author.name) (list_of seen.log) }
-        requires obeys_rule { (xs : List T) (x : T) → K.is_new xs x }
+        requires obeys_rule { (es : List (Entry T)) (e : Entry T) → K.is_new es e }
 
         // The word is free, and the author's entries are its own.
         ensures free { is_held result.0.log ≡ false }
@@ -176,7 +177,7 @@ impl<T: Copy + Drop, A: Allocator + Copy, K: ItemRule<T>> AtomicList<T, A, K> {
         requires writer { by.now ≡ suc author.name }
         requires mine { count (suc author.name) (list_of seen.log) ≡ author.used }
         requires guess { guess < 2 ^ 62 }
-        requires obeys_rule { (xs : List T) (x : T) → K.is_new xs x }
+        requires obeys_rule { (es : List (Entry T)) (e : Entry T) → K.is_new es e }
 
         // The word is free, and the author's entries are its own.
         ensures free { is_held result.0.log ≡ false }

@@ -3,7 +3,7 @@
 ghost use Rattle.std.specs.Prelude.{◌≡◌, false, ◌+◌, ◌*◌, ◌^◌, ◌<◌, ◌≤◌, ◌%◌, [], ◌∷◌, ◌++◌, length, IfSome, IfNone, IfOk, IfErr, suc};
 ghost use mathlib.Core.List.{IsPrefix};
 ghost use Rattle.elsa_slots.specs.Ahead.{IsOpenAt};
-ghost use Rattle.elsa_lock_free.specs.SharedList.{count, entry, items_of};
+ghost use Rattle.elsa_lock_free.specs.SharedList.{count, entry};
 ghost use Rattle.elsa_lock_free.specs.declared.event.Event.TheVariants.{Acquired};
 ghost use Rattle.elsa_lock_free.specs.History.{is_held, list_of};
 ghost use Rattle.elsa_lock_free.specs.Rights.{buffer_slots_of};
@@ -252,7 +252,7 @@ impl<T: Drop, A: Allocator + Copy, K: ItemRule<T>, X: Beside<T> + Drop> AtomicLi
         // The place is the length.
         requires length { (ready.at ≡ length (list_of ready.seen.log)) × (ready.at + 1 < 2 ^ 62) }
         requires mine { ready.author.used ≤ count (suc ready.author.name) (list_of ready.seen.log) }
-        requires obeys_rule { K.is_new (items_of (list_of ready.seen.log)) item }
+        requires obeys_rule { K.is_new (list_of ready.seen.log) (entry (suc ready.author.name) item) }
 
         // The word is free, the list has one entry more, and the author one ticket fewer.
         ensures free { is_held result.0.log ≡ false }

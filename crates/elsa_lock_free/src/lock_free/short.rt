@@ -1,7 +1,7 @@
 //! Short forms of a handle's calls: with a view instead of a handle, or with a handle of their own,
 //! which they drop.
 ghost use Rattle.std.specs.Prelude.{◌≡◌, ◌≤◌, ◌<◌, ◌^◌, ◌+◌, [], length, slice_get, IfOk, IfErr, IfSome, IfNone, take};
-ghost use Rattle.elsa_lock_free.specs.SharedList.{BeginsABuffer, Continues, IsLaterPass, Pushes, PushesNext, copied, items_of, mine};
+ghost use Rattle.elsa_lock_free.specs.SharedList.{BeginsABuffer, Continues, IsLaterPass, Pushes, PushesNext, copied, entry, items_of, mine};
 ghost use lib.Pointwise.{pointwise};
 
 use super::{LockFreeFrozenVec, Pass};
@@ -113,7 +113,7 @@ impl<T: Copy + Drop, A: Allocator + Copy, K: ItemRule<T>> LockFreeFrozenVec<T, A
     ) -> Result<Option<usize>, AllocError>
         requires same_vector { pass.old.vector ≡ self.now }
         requires index { n ≤ length pass.old.seen }
-        requires obeys_rule { K.is_new (take n (items_of pass.old.seen)) item }
+        requires obeys_rule { K.is_new (take n pass.old.seen) (entry pass.old.author item) }
 
         // The pass is the same, later: its item is at the end of what it had seen, or it has pushed
         // nothing, where the list was longer, or a buffer begins at this place.

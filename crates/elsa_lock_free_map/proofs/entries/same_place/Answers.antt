@@ -14,7 +14,7 @@ returns-clause-index g c =
     let both = c.meet.ensures.1.1 ∙ sym c.meet.ensures.1.0 in
     let one = subst (λ l. IsPrefix l all) c.again-one.ensures.1 c.meet.ensures.0.0.1 in
     let other = subst (λ l. IsPrefix l all) c.again-two.ensures.1 (subst (λ l. IsPrefix c.again-two.result.seen l) both c.meet.ensures.0.1.1) in
-    let rule = each_first (MayFollow g.K.PartialEq.eq (λ s k. short (g.S.Hasher.Hasher.finish (fold g.S.Hasher.Hasher.write (g.S.BuildHasher.build_hasher s) (g.K.Hash.hash_input k))))) (λ e. g.L.EntryRule.holds e.key e.value) (items_of all) c.obeys_rule.ensures in
+    let rule = each_first (MayFollow g.K.PartialEq.eq (λ s k. short (g.S.Hasher.Hasher.finish (fold g.S.Hasher.Hasher.write (g.S.BuildHasher.build_hasher s) (g.K.Hash.hash_input k))))) (λ e. g.L.EntryRule.holds e.key e.value) all c.obeys_rule.ensures.entries in
     keys_agree g.K.PartialEq.eq (λ s k. short (g.S.Hasher.Hasher.finish (fold g.S.Hasher.Hasher.write (g.S.BuildHasher.build_hasher s) (g.K.Hash.hash_input k)))) g.met.K.Eq.laws.symm
     (items_of mine) (items_of theirs) (items_of all) (items_prefix mine all one) (items_prefix theirs all other) rule
 
@@ -26,6 +26,6 @@ returns-clause-value g c =
     let both = c.meet.ensures.1.1 ∙ sym c.meet.ensures.1.0 in
     let one = subst (λ l. IsPrefix l all) c.again-one.ensures.1 c.meet.ensures.0.0.1 in
     let other = subst (λ l. IsPrefix l all) c.again-two.ensures.1 (subst (λ l. IsPrefix c.again-two.result.seen l) both c.meet.ensures.0.1.1) in
-    let rule = each_first (MayFollow g.K.PartialEq.eq (λ s k. short (g.S.Hasher.Hasher.finish (fold g.S.Hasher.Hasher.write (g.S.BuildHasher.build_hasher s) (g.K.Hash.hash_input k))))) (λ e. g.L.EntryRule.holds e.key e.value) (items_of all) c.obeys_rule.ensures in
+    let rule = each_first (MayFollow g.K.PartialEq.eq (λ s k. short (g.S.Hasher.Hasher.finish (fold g.S.Hasher.Hasher.write (g.S.BuildHasher.build_hasher s) (g.K.Hash.hash_input k))))) (λ e. g.L.EntryRule.holds e.key e.value) all c.obeys_rule.ensures.entries in
     entries_agree g.K.PartialEq.eq (λ s k. short (g.S.Hasher.Hasher.finish (fold g.S.Hasher.Hasher.write (g.S.BuildHasher.build_hasher s) (g.K.Hash.hash_input k)))) g.met.K.Eq.laws.symm g.met.K.Eq.laws.congr
     (items_of mine) (items_of theirs) (items_of all) (items_prefix mine all one) (items_prefix theirs all other) rule

@@ -7,7 +7,7 @@ use Rattle.elsa_program.specs.declared.shared.Done.{Done}
 use Rattle.elsa_program.specs.declared.shared.SharedFault.TheVariants.{Thread}
 use Rattle.elsa_program.specs.Workers.{Each, IsWorkOf}
 use Rattle.elsa_program.proofs.Places.{Each-push}
-use Rattle.elsa_program.proofs.Pushed.{nothing_earlier, nothing_pushed}
+use Rattle.elsa_lock_free.proofs.Pushed.{nothing_earlier, nothing_pushed}
 use Rattle.elsa_program.proofs.shared.add_unstarted.Goals as goal
 
 -- A worker that wasn't started has pushed nothing.

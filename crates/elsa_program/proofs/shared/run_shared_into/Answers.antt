@@ -2,10 +2,10 @@ use Rattle.std.proofs.Common.{◌≡◌, ℕ, ◌∙◌, List, ap, map, subst, s
 use mathlib.Core.List.{IsPrefix}
 use Rattle.std.specs.Prelude.{Option}
 use Rattle.elsa_lock_free.specs.declared.event.Entry.{Entry}
-use Rattle.elsa_lock_free.specs.SharedList.{View}
+use Rattle.elsa_lock_free.specs.SharedList.{View, pushed_by}
 use Rattle.elsa_program.specs.declared.shared.Done.{Done}
 use Rattle.elsa_program.specs.declared.shared.SharedFault.{SharedFault}
-use Rattle.elsa_program.specs.Workers.{HaveWorked, pushed_by}
+use Rattle.elsa_program.specs.Workers.{HaveWorked}
 use Rattle.elsa_program.proofs.Authors.{have_worked}
 use Rattle.elsa_program.proofs.shared.run_shared_into.Goals as goal
 

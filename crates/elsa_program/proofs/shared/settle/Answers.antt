@@ -3,11 +3,10 @@ use Rattle.std.specs.Vec.Iter.{into_iter_items}
 use Rattle.std.proofs.lemmas.Grind.{common_steps}
 use Rattle.std.proofs.lemmas.List.Elements.{All-cons}
 use Rattle.elsa_lock_free.specs.declared.event.Entry.{Entry}
-use Rattle.elsa_lock_free.specs.SharedList.{View}
+use Rattle.elsa_lock_free.specs.SharedList.{View, pushed_by}
 use Rattle.elsa_program.specs.declared.shared.Done.{Done}
-use Rattle.elsa_program.specs.Workers.{pushed_by}
 use Rattle.elsa_program.proofs.Passes.{first_is_longer, same_view}
-use Rattle.elsa_program.proofs.Pushed.{pushes_none}
+use Rattle.elsa_lock_free.proofs.Pushed.{pushes_none}
 use Rattle.elsa_program.proofs.shared.settle.Goals as goal
 
 -- The worker's view has the observed prefix of `pass` now, and `pass` is unchanged.

@@ -1,6 +1,6 @@
 use Rattle.std.proofs.Common.{◌≡◌, ◌+◌, ◌≤◌, ◌++◌, All, length, map, vec_capacity, vec_len}
 use Rattle.std.specs.Vec.Iter.{into_iter_items, into_iter_len}
-use Rattle.elsa_program.specs.Workers.{pushed_by}
+use Rattle.elsa_lock_free.specs.SharedList.{pushed_by}
 use Rattle.elsa_program.proofs.shared.settle.Given as goal
 
 -- `pass` is unchanged, the faults so far are those of the workers, and what is true for the other

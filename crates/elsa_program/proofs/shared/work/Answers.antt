@@ -1,5 +1,6 @@
 use Rattle.std.proofs.Common.{◌+◌, ◌*◌, ◌∙◌, arith, refl}
-use Rattle.elsa_program.proofs.Pushed.{nothing_pushed, pushes_next, pushes_no_next}
+use Rattle.elsa_lock_free.proofs.Pushed.{nothing_pushed}
+use Rattle.elsa_program.proofs.Pushed.{pushes_next, pushes_no_next}
 use Rattle.elsa_program.proofs.shared.work.Goals as goal
 
 -- Before the first push the writer has pushed nothing.

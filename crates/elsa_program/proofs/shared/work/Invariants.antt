@@ -1,6 +1,6 @@
 use Rattle.std.proofs.Common.{◌≡◌, ◌*◌}
-use Rattle.elsa_lock_free.specs.SharedList.{IsSamePass}
-use Rattle.elsa_program.specs.Workers.{numbers, pushed_by}
+use Rattle.elsa_lock_free.specs.SharedList.{IsSamePass, pushed_by}
+use Rattle.elsa_program.specs.Workers.{numbers}
 use Rattle.elsa_program.proofs.shared.work.Given as goal
 
 -- The writer has pushed the numbers so far.

@@ -1,6 +1,7 @@
 use Rattle.std.proofs.Common.{rules, ◌≡◌, ℕ, ◌*◌, ◌<◌, ◌∙◌, All, List, Option, Some, None, false, is_some, length, ap, arith, subst}
 use Rattle.elsa_program.specs.declared.shared.SharedFault.{SharedFault}
-use Rattle.elsa_program.specs.Workers.{HasPushed, HaveWorked, IsFirstFault, numbers, pushed_by}
+use Rattle.elsa_lock_free.specs.SharedList.{pushed_by}
+use Rattle.elsa_program.specs.Workers.{HasPushed, HaveWorked, IsFirstFault, numbers}
 use Rattle.test_surface.proofs.filled.two_filled.Goals as goal
 
 -- If no first fault is returned, no worker had a fault.

@@ -1,13 +1,13 @@
 use lib.Seq.{drop-cons}
-use Rattle.std.proofs.Common.{true, ◌≡◌, ◌++◌, ◌∷◌, [], List, ◌*◌, ◌+◌, ◌<◌, ◌^◌, ℕ, suc, length, length-append, slice_index_or, drop as drops, refl, ap, sym, ◌∙◌, arith, subst}
+use Rattle.std.proofs.Common.{true, ◌≡◌, ◌++◌, ◌∷◌, [], ◌*◌, ◌+◌, ◌<◌, ◌^◌, ℕ, suc, length, length-append, slice_index_or, drop as drops, refl, ap, sym, ◌∙◌, arith, subst}
 use Rattle.elsa_slots.specs.Geometry.{IsAt}
 use Rattle.elsa_lock_free.specs.declared.event.Entry.{Entry}
 use Rattle.elsa_lock_free.specs.declared.event.Event.TheVariants.{Published}
 use Rattle.elsa_lock_free.specs.Distinct.{EachIsNew}
-use Rattle.elsa_lock_free.specs.SharedList.{entry, items_of}
+use Rattle.elsa_lock_free.specs.SharedList.{entry}
 use Rattle.elsa_lock_free.specs.History.{is_held, list_of}
 use Rattle.elsa_lock_free.proofs.RuleLemmas.EachNew.{snoc_is_new}
-use Rattle.elsa_lock_free.proofs.RuleLemmas.History.{held_snoc, items_append}
+use Rattle.elsa_lock_free.proofs.RuleLemmas.History.{held_snoc}
 use Rattle.elsa_lock_free.proofs.RuleLemmas.Steps.{end_moves}
 use Rattle.elsa_lock_free.proofs.RuleLemmas.HoldEnd.{exchange_was_at_known_history, held_word, published_list, published_word}
 use Rattle.elsa_lock_free.proofs.atomic_list.AtomicList.publish.Goals as goal
@@ -33,9 +33,9 @@ pub compare_exchange-requires : goal.compare_exchange-requires
 compare_exchange-requires g c = let h = c.deref-2.ensures ∙ (ap (λ w. w.value) c.deref.ensures ∙ c.args.self.now.word_is) in let offer = c.offer_publish-offer.ensures in let pen = c.no_pen-pen.ensures in
     let v = c.args.ready.seen.log in let n = c.args.ready.at in let x : Entry g.row.T.Denot = entry (suc c.args.ready.author.name) c.write-written.result.value in
     let low : length (list_of (v ++ Published x ∷ [])) < 2 ^ 62 = let l = ap length (published_list v (v ++ Published x ∷ []) x refl) in let a = length-append (list_of v) (x ∷ []) in let r = c.requires.length.0 in let s = c.requires.length.1 in omega (arith, l, a, r, s) in
-    let new : EachIsNew g.K.ItemRule.is_new (items_of (list_of v)) → EachIsNew g.K.ItemRule.is_new (items_of (list_of v ++ x ∷ [])) = λ all.
-    subst (λ (l : List g.row.T.Denot). EachIsNew g.K.ItemRule.is_new l) (sym (items_append (list_of v) (x ∷ [])))
-    (snoc_is_new g.K.ItemRule.is_new (items_of (list_of v)) c.write-written.result.value all (subst (λ (y : g.row.T.Denot). g.K.ItemRule.is_new (items_of (list_of v)) y) (sym c.write-written.ensures.1) c.requires.obeys_rule)) in (
+    let new : EachIsNew g.K.ItemRule.is_new (list_of v) → EachIsNew g.K.ItemRule.is_new (list_of v ++ x ∷ []) = λ all.
+    snoc_is_new g.K.ItemRule.is_new (list_of v) x all
+    (subst (λ (y : g.row.T.Denot). g.K.ItemRule.is_new (list_of v) (entry (suc c.args.ready.author.name) y)) (sym c.write-written.ensures.1) c.requires.obeys_rule) in (
       ap (λ w. w.tracked) h,
       c.requires.same_vector.0 ∙ sym (ap (λ w. w.book) h),
       pen.0 ∙ (c.requires.same_vector.0 ∙ sym (ap (λ w. w.book) h)),

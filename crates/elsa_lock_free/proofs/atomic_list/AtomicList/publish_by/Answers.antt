@@ -8,9 +8,8 @@ use Rattle.std.proofs.lemmas.List.{append-nil}
 use Rattle.elsa_lock_free.specs.declared.event.Event.{Event}
 use Rattle.elsa_lock_free.specs.SharedList.{copied}
 use Rattle.elsa_lock_free.specs.History.{entries}
-use Rattle.elsa_lock_free.specs.Distinct.{EachIsNew}
 use Rattle.elsa_lock_free.specs.OneWord.{word_of}
-use Rattle.elsa_lock_free.proofs.RuleLemmas.History.{copied_items, copied_length}
+use Rattle.elsa_lock_free.proofs.RuleLemmas.History.{copied_length}
 use Rattle.elsa_lock_free.proofs.RuleLemmas.Steps.{word_snoc}
 use Rattle.elsa_lock_free.proofs.atomic_list.AtomicList.publish_by.Goals as goal
 
@@ -23,7 +22,7 @@ compare_exchange-requires g c = let h = c.deref-2.ensures ∙ (ap (λ w. w.value
       c.requires.same_vector.0.0 ∙ sym (ap (λ w. w.book) h),
       pen.0 ∙ (c.requires.same_vector.0.0 ∙ sym (ap (λ w. w.book) h)),
       c.requires.offer.0,
-      rw (ap (λ w. w.key) h, pen.1, c.requires.request.1, c.requires.offer.1, c.requires.same_vector.1) (end_moves g.row.T.Denot g.K.ItemRule.is_new none e 1 (2 * n) refl refl refl low refl refl will (λ _. subst (λ (l : List g.row.T.Denot). EachIsNew g.K.ItemRule.is_new l) (sym (copied_items xs)) c.requires.request.4)),
+      rw (ap (λ w. w.key) h, pen.1, c.requires.request.1, c.requires.offer.1, c.requires.same_vector.1) (end_moves g.row.T.Denot g.K.ItemRule.is_new none e 1 (2 * n) refl refl refl low refl refl will (λ _. c.requires.request.4)),
     )
 
 pub returns-clause-history : goal.returns-clause-history

@@ -1,8 +1,6 @@
-use Rattle.std.proofs.Common.{true, ◌≡◌, ◌++◌, ◌∷◌, [], ◌*◌, ◌+◌, ◌<◌, ◌^◌, List, length, refl, ap, sym, ◌∙◌, subst, arith}
+use Rattle.std.proofs.Common.{true, ◌≡◌, ◌++◌, ◌∷◌, [], ◌*◌, ◌+◌, ◌<◌, ◌^◌, length, refl, ap, sym, ◌∙◌, subst, arith}
 use Rattle.std.proofs.lemmas.List.{append-nil}
-use Rattle.elsa_lock_free.specs.declared.event.Entry.{Entry}
 use Rattle.elsa_lock_free.specs.Distinct.{EachIsNew}
-use Rattle.elsa_lock_free.specs.SharedList.{items_of}
 use Rattle.elsa_lock_free.specs.declared.event.Event.TheVariants.{Acquired, Released}
 use Rattle.elsa_lock_free.specs.History.{is_held, list_of}
 use Rattle.elsa_lock_free.proofs.RuleLemmas.History.{held_snoc}
@@ -18,7 +16,7 @@ compare_exchange-requires g c = let h = c.deref-2.ensures ∙ (ap (λ w. w.value
       c.requires.same_vector.0 ∙ sym (ap (λ w. w.book) h),
       pen.0 ∙ (c.requires.same_vector.0 ∙ sym (ap (λ w. w.book) h)),
       offer.0,
-      rw (ap (λ w. w.key) h, pen.1, offer.1, offer.3) (end_moves g.row.T.Denot g.K.ItemRule.is_new v Released (2 * n + 1) (2 * n) refl refl tt low held (held_word v n len held) (released_word v n len) (λ all. subst (λ (l : List (Entry g.row.T.Denot)). EachIsNew g.K.ItemRule.is_new (items_of l)) (sym (append-nil (list_of v))) all)),
+      rw (ap (λ w. w.key) h, pen.1, offer.1, offer.3) (end_moves g.row.T.Denot g.K.ItemRule.is_new v Released (2 * n + 1) (2 * n) refl refl tt low held (held_word v n len held) (released_word v n len) (λ all. subst (EachIsNew g.K.ItemRule.is_new) (sym (append-nil (list_of v))) all)),
     )
 
 pub returns-clause-seen : goal.returns-clause-seen

@@ -1,9 +1,10 @@
 use Rattle.std.proofs.Common.{List, ap, subst}
 use mathlib.Core.List.{IsPrefix}
 use Rattle.elsa_lock_free.specs.declared.event.Event.{Event}
+use Rattle.elsa_lock_free.specs.Distinct.{IsAbsent}
 use Rattle.elsa_lock_free.specs.SharedList.{items_of}
 use Rattle.elsa_lock_free.specs.History.{list_of}
-use Rattle.elsa_lock_free.proofs.RuleLemmas.EachNew.{agree_on_places}
+use Rattle.elsa_lock_free.proofs.RuleLemmas.EachNew.{agree_on_places, items_are_new}
 use Rattle.elsa_lock_free.proofs.RuleLemmas.History.{items_prefix, list_prefix}
 use Rattle.elsa_lock_free.proofs.pass.Pass+T+A+DistinctItems.same_place.Goals as goal
 
@@ -13,4 +14,4 @@ returns g c =
     let mine : IsPrefix v all = subst (λ (l : List (Event g.row.T.Denot)). IsPrefix l all) (ap (λ z. z.log) c.again-both.ensures) c.learn.ensures.2 in
     let one = items_prefix (list_of v) (list_of all) (list_prefix v all mine) in
     let other = items_prefix (list_of w) (list_of all) (list_prefix w all c.learn.ensures.3) in
-    rw (← c.self.view_is, ← c.other.view_is) (agree_on_places g.T.PartialEq.eq g.met.T.Eq.laws.symm (items_of (list_of v)) (items_of (list_of w)) (items_of (list_of all)) one other c.obeys_rule.ensures.obeys_rule)
+    rw (← c.self.view_is, ← c.other.view_is) (agree_on_places g.T.PartialEq.eq g.met.T.Eq.laws.symm (items_of (list_of v)) (items_of (list_of w)) (items_of (list_of all)) one other (items_are_new (IsAbsent g.T.PartialEq.eq) (list_of all) c.obeys_rule.ensures.obeys_rule))

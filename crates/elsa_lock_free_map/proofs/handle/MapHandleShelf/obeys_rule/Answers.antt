@@ -8,4 +8,4 @@ use Rattle.elsa_lock_free_map.proofs.handle.MapHandleShelf.obeys_rule.Goals as g
 
 pub returns : goal.returns
 returns g c = subst (λ (w : View (Entry g.row.K.Denot g.row.V.Denot g.row.S.Denot)). EachIsNew (IsBehind g.K.PartialEq.eq (λ s k. short (g.S.Hasher.Hasher.finish (fold g.S.Hasher.Hasher.write (g.S.BuildHasher.build_hasher s) (g.K.Hash.hash_input k))))) (items_of w.seen)) c.self.view_is
-    (each_behind g.K.PartialEq.eq (λ s k. short (g.S.Hasher.Hasher.finish (fold g.S.Hasher.Hasher.write (g.S.BuildHasher.build_hasher s) (g.K.Hash.hash_input k)))) (items_of c.self.inside.list.seen) (each_first (MayFollow g.K.PartialEq.eq (λ s k. short (g.S.Hasher.Hasher.finish (fold g.S.Hasher.Hasher.write (g.S.BuildHasher.build_hasher s) (g.K.Hash.hash_input k))))) (λ e. g.L.EntryRule.holds e.key e.value) (items_of c.self.inside.list.seen) c.obeys_rule.ensures))
+    (each_behind g.K.PartialEq.eq (λ s k. short (g.S.Hasher.Hasher.finish (fold g.S.Hasher.Hasher.write (g.S.BuildHasher.build_hasher s) (g.K.Hash.hash_input k)))) (items_of c.self.inside.list.seen) (each_first (MayFollow g.K.PartialEq.eq (λ s k. short (g.S.Hasher.Hasher.finish (fold g.S.Hasher.Hasher.write (g.S.BuildHasher.build_hasher s) (g.K.Hash.hash_input k))))) (λ e. g.L.EntryRule.holds e.key e.value) c.self.inside.list.seen c.obeys_rule.ensures.entries))

@@ -3,7 +3,7 @@ use Rattle.elsa_lock_free.specs.declared.event.Event.{Event}
 use Rattle.elsa_lock_free.specs.declared.event.Event.TheVariants.{Extended}
 use Rattle.elsa_lock_free.specs.Distinct.{EachIsNew}
 use Rattle.elsa_lock_free.specs.OneWord.{word_of}
-use Rattle.elsa_lock_free.specs.SharedList.{authored, items_of}
+use Rattle.elsa_lock_free.specs.SharedList.{authored}
 use Rattle.elsa_lock_free.specs.History.{added_by, author_of, begins_hold, is_held, list_of, others, pushes_of, used_of}
 use Rattle.elsa_lock_free.proofs.RuleLemmas.EachNew.{any_is_new}
 use Rattle.elsa_lock_free.proofs.RuleLemmas.History.{authored_length, held_snoc, list_snoc}
@@ -16,7 +16,7 @@ compare_exchange-requires g c = let h = c.deref-2.ensures ∙ (ap (λ w. w.value
     let v = c.args.seen.log in let n = c.args.n in let xs : List g.row.T.Denot = c.requires.request.0 in let a : ℕ = suc (author_of c.args.offer.about) in let x : Event g.row.T.Denot = Extended a xs in let many = c.requires.request.2 in
     let low : length (list_of (v ++ x ∷ [])) < 2 ^ 62 = let l = ap length (extended_list v (v ++ x ∷ []) a xs refl) in let s = length-append (list_of v) (authored a xs) in let m = authored_length a xs in let r = c.requires.length.0 in let t = c.requires.length.1 in omega (arith, l, s, m, r, t, many) in
     let will : 2 * n + 2 * c.args.pushed ≡ word_of (v ++ x ∷ []) = let w = extended_word v n a xs c.requires.length.0 in omega (arith, w, many) in
-    let new : EachIsNew g.K.ItemRule.is_new (items_of (list_of v)) → EachIsNew g.K.ItemRule.is_new (items_of (list_of v ++ authored a xs)) = λ _. any_is_new g.K.ItemRule.is_new c.requires.obeys_rule (items_of (list_of v ++ authored a xs)) in (
+    let new : EachIsNew g.K.ItemRule.is_new (list_of v) → EachIsNew g.K.ItemRule.is_new (list_of v ++ authored a xs) = λ _. any_is_new g.K.ItemRule.is_new c.requires.obeys_rule (list_of v ++ authored a xs) in (
       ap (λ w. w.tracked) h,
       c.requires.same_vector.0.0 ∙ sym (ap (λ w. w.book) h),
       pen.0 ∙ (c.requires.same_vector.0.0 ∙ sym (ap (λ w. w.book) h)),

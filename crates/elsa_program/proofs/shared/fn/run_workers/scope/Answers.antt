@@ -2,12 +2,12 @@ use Rattle.std.proofs.Common.{rules, arith, ◌≡◌, ℕ, ◌∙◌, List, [],
 use Rattle.core.specs.declared.thread.PromisedHandle.{PromisedHandle}
 use Rattle.elsa_lock_free.specs.declared.event.Entry.{Entry}
 use mathlib.Core.List.{IsPrefix}
-use Rattle.elsa_lock_free.specs.SharedList.{Vector, View}
+use Rattle.elsa_lock_free.specs.SharedList.{Vector, View, pushed_by}
 use Rattle.elsa_program.specs.declared.shared.Done.{Done}
 use Rattle.elsa_program.specs.declared.shared.WorkOf.{WorkOf}
-use Rattle.elsa_program.specs.Workers.{Each, IsPromiseOf, IsWorkOf, pushed_by}
+use Rattle.elsa_program.specs.Workers.{Each, IsPromiseOf, IsWorkOf}
 use Rattle.elsa_program.proofs.Places.{Each-push}
-use Rattle.elsa_program.proofs.Pushed.{nothing_pushed}
+use Rattle.elsa_lock_free.proofs.Pushed.{nothing_pushed}
 use Rattle.elsa_program.proofs.shared.fn.run_workers.scope.Goals as goal
 use Rattle.elsa_program.proofs.shared.fn.run_workers.scope.Goals.{else-loop-worker-test, then-loop-worker-test+in_default}
 
