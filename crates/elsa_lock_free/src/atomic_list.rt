@@ -51,8 +51,8 @@ pub struct AtomicList<T, A: Allocator, K: ItemRule<T>, X: Beside<T> = ()> {
     ghost empty: { first.log ≡ [] },
 }
 
-/// What holds of a history that was seen: each entry of its list was new to those before it, and the
-/// list is below the limit. It does nothing when it runs.
+/// What holds of a history that was seen: each entry of its list was new to those before it, and
+/// the list is below the limit. It does nothing when it runs.
 pub fn obeys_rule<T, A: Allocator, K: ItemRule<T>, X: Beside<T>>(seen: &SeenHistory<T, A, K, X>)
     ensures obeys_rule { EachIsNew K.is_new (list_of seen.now.log) }
     ensures limit { length (list_of seen.now.log) < 2 ^ 62 }
