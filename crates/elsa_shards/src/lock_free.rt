@@ -1,8 +1,8 @@
 //! [`LockFreeShardedMap`]: a map of shards whose look-ups take no lock.
-ghost use Rattle.std.specs.Prelude.{◌≡◌, ◌<◌, ◌≤◌, [], true, false, All, IfOk, IfErr, IfSome, IfNone, length, map};
+ghost use Rattle.std.specs.Prelude.{◌≡◌, ◌⊎◌, ◌<◌, ◌≤◌, [], true, false, All, IfOk, IfErr, IfSome, IfNone, Ok, Err, alloc_error, length, map};
 ghost use Rattle.elsa_lock_free.specs.Attempts.{IfBusy};
 ghost use Rattle.elsa_lock_free.specs.SharedList.{Continues, IsLaterPass, items_of, mine};
-ghost use Rattle.elsa_lock_free_map.specs.Entries.{Has, InsertsOnce, Lacks};
+ghost use Rattle.elsa_lock_free_map.specs.Entries.{GetsOrInserts, Has, InsertsOnce, Lacks};
 ghost use Rattle.elsa_tables.specs.Rules.{HoldsAt};
 ghost use Rattle.elsa_shards.specs.Shards.{AllContinue, AllMeet, IsSameMap, OnShard, seen_in_all, shard_of};
 
@@ -430,6 +430,55 @@ impl<
     {
         let index = self.shard_index(&key);
         self.handles[index].get_or_insert_with(rt, key, make)
+    }
+
+    /// Looks up the key that `query` finds, and inserts the key and the value that `make` returns
+    /// if there is no such key: both are made only if they are needed, and `make` may fail.
+    ///
+    /// The query chooses the shard, so `make` must return a key that the query finds. It runs under
+    /// no lock, and may use the map by another handle. If another thread then inserts the key
+    /// first, the first value stays, and the made ones are dropped.
+    ///
+    /// # Errors
+    /// Fails with the error of `make`, or with one that is made of an `AllocError` if an allocation
+    /// fails or the shard has `2^32 - 1` entries. Then nothing is inserted, and what `make`
+    /// returned is dropped; the same insertion may succeed later.
+    ///
+    /// # Blocks
+    /// While another thread inserts into the same shard, unless the key was found.
+    ///
+    /// # Allocates
+    /// As [`insert_ref`](Self::insert_ref) does, unless the key was found.
+    ///
+    /// # Cost
+    /// Two hashes and one search, and those of `make`.
+    pub fn insert_by<R, Q, E, F>(
+        &mut self,
+        rt: &R,
+        query: Q,
+        make: F,
+    ) -> Result<Inserted<&'m V, usize>, E>
+    where
+        R: Wait,
+        Q: Equivalent<K>,
+        E: From<AllocError>,
+        F: FnOnce() -> Result<(K, V), E> + Drop,
+        requires callable { F.pre make }
+        requires key { (k : K) (v : V) → F.post make (Ok (k, v)) → Q.equivalent query k ≡ true }
+        requires rule { (k : K) (v : V) → F.post make (Ok (k, v)) → L.holds k v }
+        ensures same_map { IsSameMap self.old self.new }
+        ensures on_shard { OnShard self.old.0 self.new.0
+            (shard_of S.BuildHasher S.Hasher.Hasher self.old.1 (length self.old.0)
+            (Q.hash_input query))
+            (λ before after. IsLaterPass before after
+            × IfOk result (λ r. GetsOrInserts K.eq Q.equivalent
+            (λ k v. F.post make (Ok (k, v))) before after query
+            (record { value = r.value.now; index = r.index; is_new = r.is_new }))
+            × IfErr result (λ e. (mine after ≡ mine before)
+            × (F.post make (Err e) ⊎ E.from_gives alloc_error e))) }
+    {
+        let index = self.shard_index(query);
+        self.handles[index].insert_by(rt, query, make)
     }
 }
 

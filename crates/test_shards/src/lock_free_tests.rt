@@ -145,6 +145,50 @@ fn a_text_was_not_found_in_the_lock_free_shard_of_its_string(rt: HostRuntime) ->
     Ok(())
 }
 
+// Looks a number up, and inserts it with the value if it is absent. Returns the value that it has,
+// and whether it was new.
+fn by_number(
+    rt: &impl Wait,
+    handle: &mut NumbersHandle<'_>,
+    key: u64,
+    value: u64,
+) -> Result<(u64, bool), AllocError> {
+    let done = handle.insert_by(rt, &key, || Ok((key, value)))?;
+    Ok((*done.value, done.is_new))
+}
+
+// Returns whether nothing is inserted if the closure fails.
+fn inserts_nothing(rt: &impl Wait, handle: &mut NumbersHandle<'_>, key: u64) -> bool {
+    let failed = handle.insert_by(rt, &key, || Err(AllocError));
+    failed.is_err() && handle.get(key).is_none()
+}
+
+// Returns the number of keys at which a call by a query returned another value, or another flag.
+fn wrong_by_query(rt: &impl Wait, map: &Numbers) -> Result<u32, AllocError> {
+    let (mut handle, mut other, mut wrong) = (map.handle()?, map.handle()?, 0u32);
+    for key in 0..200u64 {
+        let absent = inserts_nothing(rt, &mut handle, key);
+        let first = by_number(rt, &mut handle, key, key.wrapping_mul(3))?;
+        let second = by_number(rt, &mut other, key, 7)?;
+        let is_right = first == (key.wrapping_mul(3), true)
+            && second == (key.wrapping_mul(3), false)
+            && other.get(key) == Some(key.wrapping_mul(3));
+        if !absent || !is_right {
+            wrong = wrong.wrapping_add(1);
+        }
+    }
+    Ok(wrong)
+}
+
+#[test]
+fn an_entry_by_a_query_was_not_the_first_of_its_key(rt: HostRuntime) -> Result<(), Fail> {
+    let map = with_shards(rt.alloc(), 7)?;
+    assert_eq!(rt; wrong_by_query(&rt, &map)?, 0);
+    let mut handle = map.handle()?;
+    assert_eq!(rt; handle.len(), 200);
+    Ok(())
+}
+
 // Returns whether a call inserts nothing if an allocation fails, and succeeds afterwards.
 fn keeps_its_content(
     rt: &impl Wait,
