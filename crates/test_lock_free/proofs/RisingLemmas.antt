@@ -17,10 +17,6 @@ take_whole : {T : Type 0} (xs : List T) → take (length xs) xs ≡ xs
 take_whole [] = refl
 take_whole (x ∷ xs) = ap (λ l. x ∷ l) (take_whole xs)
 
--- A writer that has seen nothing has pushed nothing.
-pub none_pushed : (view : View ℕ) → view.seen ≡ [] → AllBelow 0 (pushed_by view.author view.seen)
-none_pushed view none = rw none tt
-
 -- A writer that has pushed nothing since has still pushed numbers below its next one.
 pub stays_below : (old new : View ℕ) (next : ℕ) → Continues old new → AllBelow next (pushed_by old.author old.seen) → AllBelow next (pushed_by new.author new.seen)
 stays_below old new next (same, more, mine) all = rw (pushes_none old new same.1 more mine) all

@@ -58,7 +58,6 @@ impl<'v> Model for Writer<'v> {
 }
 
 /// Makes a writer that has pushed nothing.
-#[tactic(auto, using(crate::proofs::RisingLemmas::none_pushed))]
 fn first_writer(vector: &Rising) -> Writer<'_> {
     Writer {
         handle: vector.handle(),

@@ -153,14 +153,15 @@ fn by_number(
     key: u64,
     value: u64,
 ) -> Result<(u64, bool), AllocError> {
-    let done = handle.insert_by(rt, &key, || Ok((key, value)))?;
+    let make = || -> Result<(u64, u64), AllocError> { Ok((key, value)) };
+    let done = handle.insert_by(rt, &key, make)?;
     Ok((*done.value, done.is_new))
 }
 
 // Returns whether nothing is inserted if the closure fails.
 fn inserts_nothing(rt: &impl Wait, handle: &mut NumbersHandle<'_>, key: u64) -> bool {
-    let failed = handle.insert_by(rt, &key, || Err(AllocError));
-    failed.is_err() && handle.get(key).is_none()
+    let fail = || -> Result<(u64, u64), AllocError> { Err(AllocError) };
+    handle.insert_by(rt, &key, fail).is_err() && handle.get(key).is_none()
 }
 
 // Returns the number of keys at which a call by a query returned another value, or another flag.
