@@ -43,6 +43,21 @@ impl<T: Copy + Drop + Hash, S: BuildHasher + Copy + Drop, A: Allocator + Copy> M
 }
 
 impl<T: Copy + Drop + Hash, S: BuildHasher + Copy + Drop, A: Allocator + Copy> NamePass<T, S, A> {
+    /// Makes another view of the same interner, which has observed the same names and added none. It
+    /// allocates nothing and takes no atomic step.
+    ///
+    /// # Cost
+    /// `O(1)`.
+    pub fn again(&self) -> NamePass<T, S, A>
+        ensures same_vector { result.vector ≡ self.now.vector }
+        ensures same_names { result.seen ≡ self.now.seen }
+        ensures nothing_mine { mine result ≡ [] }
+    {
+        NamePass {
+            pass: self.pass.again(),
+        }
+    }
+
     /// Merges what two views have observed, so that each reads the names of the other without an
     /// atomic step. It allocates nothing and never blocks.
     ///

@@ -159,3 +159,69 @@ fn vectors_of_owned_texts_were_compared_wrongly(rt: HostRuntime) -> Result<(), F
     assert!(rt; !vec.handle().equals(&mut other.handle()));
     Ok(())
 }
+
+/// Makes a vector of texts by the vector's own pushes, and returns whether each had its index.
+fn push_texts<R: Wait>(
+    rt: &R,
+    alloc: Global,
+    vec: &LockFreeFrozenVec<String>,
+    texts: &[&str],
+) -> Result<bool, AllocError> {
+    let mut is_right = true;
+    for index in 0..texts.len() {
+        let text = String::from_str(alloc, texts[index])?;
+        is_right = vec.push(rt, text)? == index && is_right;
+    }
+    Ok(is_right)
+}
+
+#[test]
+fn texts_were_lost_or_compared_wrongly_without_a_handle(rt: HostRuntime) -> Result<(), Fail> {
+    let one: LockFreeFrozenVec<String> = LockFreeFrozenVec::new(rt.alloc())?;
+    let two: LockFreeFrozenVec<String> = LockFreeFrozenVec::new(rt.alloc())?;
+    let texts = ["", "ann", "bob", "ann", "eve"];
+    assert!(rt; push_texts(&rt, rt.alloc(), &one, &texts)?);
+    assert!(rt; push_texts(&rt, rt.alloc(), &two, &texts[..4])?);
+    assert!(rt; !one.equals(&two));
+    assert_eq!(rt; two.push(&rt, String::from_str(rt.alloc(), "eva")?)?, 4);
+    assert!(rt; !one.equals(&two));
+    assert_eq!(rt; one.push(&rt, String::from_str(rt.alloc(), "fay")?)?, 5);
+    let (mut handle, mut found) = (one.handle(), 0usize);
+    for text in handle.news().refs() {
+        found = found.wrapping_add(text.len());
+    }
+    assert_eq!(rt; found, 15);
+    Ok(())
+}
+
+#[test]
+fn equal_vectors_of_texts_were_unequal_without_a_handle(rt: HostRuntime) -> Result<(), Fail> {
+    let one: LockFreeFrozenVec<String> = LockFreeFrozenVec::new(rt.alloc())?;
+    let two: LockFreeFrozenVec<String> = LockFreeFrozenVec::new(rt.alloc())?;
+    assert!(rt; one.equals(&two));
+    assert!(rt; push_texts(&rt, rt.alloc(), &one, &["x", "yz"])?);
+    assert!(rt; push_texts(&rt, rt.alloc(), &two, &["x", "yz"])?);
+    assert!(rt; one.equals(&two));
+    Ok(())
+}
+
+#[test]
+fn an_item_of_a_refused_push_was_kept_without_a_handle(rt: HostRuntime) -> Result<(), Fail> {
+    let budget = Budget::new(rt.alloc());
+    let owner = Arc::new(rt.alloc(), 7u64)?;
+    let vec: LockFreeFrozenVec<Item, &Budget<Global>> = LockFreeFrozenVec::new(&budget)?;
+    let item = Item {
+        number: 1,
+        _owner: owner.clone()?,
+    };
+    budget.refuse_next(1);
+    assert!(rt; vec.push(&rt, item).is_err());
+    assert_eq!(rt; (vec.len(), Arc::strong_count(&owner)), (0, 1));
+    let item = Item {
+        number: 2,
+        _owner: owner.clone()?,
+    };
+    assert_eq!(rt; vec.push(&rt, item)?, 0);
+    assert_eq!(rt; (vec.len(), Arc::strong_count(&owner)), (1, 2));
+    Ok(())
+}

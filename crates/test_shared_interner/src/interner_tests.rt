@@ -296,6 +296,27 @@ fn passes_that_never_met_agree_on_what_both_have_seen(rt: HostRuntime) -> Result
     Ok(())
 }
 
+/// Returns the number of names that a second view of the first one's has observed, and whether it
+/// reads the first name and adds a third, of which the first view then knows nothing.
+fn sees_the_same<R: Wait>(rt: &R, interner: &SharedInterner) -> (usize, bool) {
+    let mut one = interner.pass();
+    let is_put = put(rt, interner, &mut one, "a") == Some(0)
+        && put(rt, interner, &mut one, "b") == Some(1);
+    let mut two = one.again();
+    let seen = two.seen_len();
+    let is_read = has(interner, &mut two, 0, "a")
+        && put(rt, interner, &mut two, "c") == Some(2)
+        && one.seen_len() == 2;
+    (seen, is_put && is_read)
+}
+
+#[test]
+fn a_second_view_of_an_interner_lost_names(rt: HostRuntime) -> Result<(), Fail> {
+    let interner = SharedInterner::<Name>::new(rt.alloc())?;
+    assert_eq!(rt; sees_the_same(&rt, &interner), (2, true));
+    Ok(())
+}
+
 /// Returns whether a handle puts a name, and another handle finds it and counts it.
 fn by_handles<R: Wait>(rt: &R, interner: &SharedInterner, name: Name, other: Name) -> bool {
     let mut one = interner.handle();

@@ -11,13 +11,14 @@ use elsa_slots::slots::Beside;
 use std::alloc::{AllocError, Allocator};
 use std::sync::Wait;
 
-impl<T: Copy + Drop, A: Allocator + Copy> LockFreeFrozenVec<T, A> {
+impl<T: Drop, A: Allocator + Copy> LockFreeFrozenVec<T, A> {
     /// Pushes an item by a view and returns its index, as [`Handle::push`](super::Handle::push)
     /// does.
     ///
     /// # Errors
     /// Fails if the buffer that begins at this length can't be allocated, or if the length is `2^62
-    /// - 1`, the greatest. The view has then pushed nothing; the same call may succeed later.
+    /// - 1`, the greatest. The view has then pushed nothing, and the item is dropped; the same call
+    /// may succeed later. [`Handle::push`](super::Handle::push) returns the item.
     ///
     /// # Blocks
     /// While another thread pushes.
@@ -46,7 +47,7 @@ impl<T: Copy + Drop, A: Allocator + Copy> LockFreeFrozenVec<T, A> {
     ///
     /// # Errors
     /// Fails if the buffer that begins at this length can't be allocated, or if the length is `2^62
-    /// - 1`, the greatest.
+    /// - 1`, the greatest. The item is then dropped.
     ///
     /// # Blocks
     /// While another thread pushes.
@@ -186,7 +187,7 @@ impl<T: Copy + Drop, A: Allocator + Copy, K: ItemRule<T>> LockFreeFrozenVec<T, A
     }
 }
 
-impl<T: Copy + Drop + PartialEq, A: Allocator + Copy, K: ItemRule<T>> LockFreeFrozenVec<T, A, K> {
+impl<T: Drop + PartialEq, A: Allocator + Copy, K: ItemRule<T>> LockFreeFrozenVec<T, A, K> {
     /// Returns whether two vectors have equal items in the same order, by a view of each, as
     /// [`Handle::equals`](super::Handle::equals) does.
     pub fn equals_as<L: ItemRule<T>>(
