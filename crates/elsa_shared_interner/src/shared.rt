@@ -43,8 +43,8 @@ impl<T: Copy + Drop + Hash, S: BuildHasher + Copy + Drop, A: Allocator + Copy> M
 }
 
 impl<T: Copy + Drop + Hash, S: BuildHasher + Copy + Drop, A: Allocator + Copy> NamePass<T, S, A> {
-    /// Makes another view of the same interner, which has observed the same names and added none. It
-    /// allocates nothing and takes no atomic step.
+    /// Makes another view of the same interner, which has observed the same names and added none.
+    /// It allocates nothing and takes no atomic step.
     ///
     /// # Cost
     /// `O(1)`.
