@@ -106,7 +106,7 @@ def counted(job, side):
         )
     figures = [
         re.search(rf"{name}:\s+([\d,]+)", done.stderr)
-        for name in ("I\\s+refs", "D1\\s+misses", "LLd misses", "Mispredicts")
+        for name in ("I\\s+refs", "D\\d\\s+misses", "LLd misses", "Mispredicts")
     ]
     return [int(figure.group(1).replace(",", "")) for figure in figures]
 
