@@ -8,17 +8,20 @@ from scripts import root
 
 # For each page of the reference the variables that have the collection, its types, and the crates or files.
 LIST = ("list", "FrozenVec", ("test_calls",))
-ORDERED = "test_cell/src/ordered_tests.rt", "test_cell/src/plain_tests.rt"
+ORDERED = (
+    *("test_cell/src/ordered_tests.rt", "test_cell/src/plain_tests.rt"),
+    *("test_calls/src/maps.rt", "test_calls/src/map_tests.rt"),
+)
 PAGES = {
     "cell-FrozenVec": LIST,
     "TypedArena": LIST,
-    "cell-FrozenMap": ("map|moved", "FrozenMap|FrozenIndexMap|Squares", ("test_cell", "test_index")),
+    "cell-FrozenMap": ("map|moved", "FrozenMap|Squares", ("test_cell", "test_calls")),
     "cell-FrozenBTreeMap": ("map|self", "FrozenBTreeMap", ORDERED),
-    "cell-FrozenIndexSet": ("set", "FrozenIndexSet", ("test_cell", "test_index")),
+    "cell-FrozenIndexSet": ("set", "FrozenSet|FrozenIndexSet", ("test_cell", "test_calls")),
     "sync-LockFreeFrozenVec": ("vector|vec", "LockFreeFrozenVec", ("test_lock_free", "test_shared_interner")),
 }
 # The code of these calls is that of a `cell::FrozenMap`, whose tests make them.
-SAME_CODE = "handle_since", "get_since", "map_get", "is_full", "with_rule"
+SAME_CODE = "handle_since", "with_rule"
 # The script makes a list with room, and its `get_since` makes such a handle.
 IN_OTHERS = "new", "handle_since"
 OTHERS = {

@@ -1,4 +1,4 @@
-"""What tools/vendor removes from a copy, and which arguments it rejects."""
+"""What tools/vendor removes from a copy and doesn't overwrite, the licences, and which arguments it rejects."""
 import contextlib, io, pathlib, re, sys, tempfile, unittest
 
 from scripts import root, script
@@ -54,6 +54,44 @@ class TestVendor(unittest.TestCase):
         first, _ = called(self.target, "hash")
         self.assertEqual(called(self.target, "hash"), (first, ""))
         self.assertNotIn("removed", first)
+
+    def test_a_changed_file_is_not_overwritten(self):
+        called(self.target, "hash")
+        source = self.target / "crates" / "elsa_hash" / "src" / "lib.rt"
+        source.write_text(source.read_text() + "// mine\n")
+        _, message = called(self.target, "hash")
+        self.assertIn("crates/elsa_hash/src/lib.rt (changed).", message)
+        self.assertIn("with --overwrite", message)
+        self.assertIn("// mine", source.read_text())
+        _, message = called(self.target, "hash", "--overwrite")
+        self.assertEqual(message, "")
+        self.assertNotIn("// mine", source.read_text())
+
+    def test_an_added_file_is_not_removed(self):
+        called(self.target, "interner", "hash")
+        mine = self.target / "crates" / "elsa_interner" / "proofs" / "mine.antt"
+        mine.write_text("-- mine\n")
+        _, message = called(self.target, "hash")
+        self.assertIn("crates/elsa_interner/proofs/mine.antt (added).", message)
+        self.assertTrue(mine.is_file())
+
+    def test_what_a_check_wrote_is_no_change(self):
+        first, _ = called(self.target, "hash")
+        out = self.target / "crates" / "elsa_hash" / "out"
+        out.mkdir()
+        (out / "stamp").write_text("made by a check")
+        self.assertEqual(called(self.target, "hash"), (first, ""))
+        self.assertTrue((out / "stamp").is_file())
+
+    def test_a_copy_has_both_licences(self):
+        called(self.target, "serde")
+        for it in ("LICENSE-MIT", "LICENSE-APACHE"):
+            self.assertEqual((self.target / f"elsa.{it}").read_bytes(), (root / it).read_bytes())
+
+    def test_the_version_names_the_commit_unless_it_is_the_tag(self):
+        printed, _ = called(self.target, "hash")
+        number = (root / "VERSION").read_text().strip()
+        self.assertRegex(printed, rf"^elsa {re.escape(number)}( and what has changed since, commit \w+)?: 2 crates, ")
 
     def test_a_wrong_folder_of_proofs_has_a_message_of_its_own(self):
         for words, wanted in (

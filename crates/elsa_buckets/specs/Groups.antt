@@ -74,6 +74,18 @@ pub record Stores (groups : List Group) (hash place : ℕ) : Type 0 where
   pub number : number_in (group_at groups at) lane ≡ place
   pub reached : Reaches groups hash at
 
+-- A taken bucket of the group has one of `count` indices.
+abbrev pub TakenBelow : Group → ℕ → Type 0
+TakenBelow group count = (lane : ℕ) → lane < 12 → 0 < tag_in group lane → number_in group lane < count
+
+-- A taken bucket has one of `count` indices.
+abbrev pub AllTakenBelow : List Group → ℕ → Type 0
+AllTakenBelow groups count = (at : ℕ) → at < length groups → TakenBelow (group_at groups at) count
+
+-- The index in each of the first `lanes` buckets of the group `from` is stored, under its hash.
+abbrev pub StoresAll : List Group → List ℕ → Group → ℕ → Type 0
+StoresAll groups hashes from lanes = (lane hash : ℕ) → lane < lanes → 0 < tag_in from lane → slice_get hashes (number_in from lane) ≡ Some hash → Stores groups hash (number_in from lane)
+
 -- A probe for each hash finds its index, and a taken bucket has the index of a hash.
 pub record Indexes (groups : List Group) (hashes : List ℕ) : Type 0 where
   pub stored : (i hash : ℕ) → slice_get hashes i ≡ Some hash → Stores groups hash i

@@ -1,16 +1,12 @@
 //! The buckets of a hash table, in groups of twelve: how they are probed, filled, and filled again
 //! after growth.
-ghost use Rattle.std.specs.Prelude.{◌≡◌, ◌≢◌, ◌<◌, ◌≤◌, ℕ, length, vec_capacity, IfOk, IfSome, OnOk};
+ghost use Rattle.std.specs.Prelude.{◌≡◌, ◌≢◌, ◌<◌, ◌≤◌, ℕ, length, slice_index, vec_capacity, IfOk, IfSome, OnOk};
 ghost use Rattle.std.specs.Int.{w32, trailing_zeros};
 ghost use Rattle.std_collections.specs.IndexTable.Group.{IsBitSet};
-ghost use Rattle.elsa_buckets.specs.Table.{most_places};
-ghost use Rattle.elsa_buckets.specs.Groups.{hash_tag, empty_group, tag_in, number_in, walk, load_limit, wider_count, EndsAt, Fills, Indexes, IsFewest, IsSize};
+ghost use Rattle.elsa_buckets.specs.Groups.{hash_tag, empty_group, tag_in, number_in, walk, load_limit, wider_count, AllTakenBelow, EndsAt, Fills, Indexes, IsFewest, IsSize, Stores, StoresAll, TakenBelow};
 
 use std::alloc::{AllocError, Allocator};
 use std::simd::prelude::*;
-
-/// The number of indices by which a group is read before its turn.
-const AHEAD: usize = 8;
 
 /// Twelve buckets, whose tags are compared at once. It has the 64 bytes of a cache line.
 #[derive(Clone, Copy)]
@@ -81,6 +77,17 @@ impl Group {
         (same.to_bitmask() & 0xFFF) as u32
     }
 
+    /// Returns the first bucket with this tag, or a number of 12 or greater if no bucket has it.
+    #[inline(always)]
+    pub(crate) fn first_with(&self, tag: u8) -> usize
+        ensures found { result < 12 → tag_in self.now result ≡ tag }
+        ensures absent { 12 ≤ result → (k : ℕ) → k < 12 → tag_in self.now k ≢ tag }
+    {
+        // All sixteen tags are compared: for twelve the compiler would load each by itself.
+        let same = u8x16::from_array(self.tags).simd_eq(u8x16::splat(tag));
+        same.to_bitmask().trailing_zeros() as usize
+    }
+
     /// Returns the index in a bucket.
     #[inline(always)]
     pub(crate) fn number(&self, lane: usize) -> usize
@@ -121,26 +128,12 @@ pub(crate) fn vacant(groups: &[Group], hash: u32) -> Option<Bucket>
     let count = groups.len();
     for step in 0..count {
         let at = walk(count, hash, step);
-        let free = groups[at].with_tag(0);
-        if free != 0 {
-            return Some(Bucket {
-                group: at,
-                lane: first_of(free),
-            });
+        let lane = groups[at].first_with(0);
+        if lane < 12 {
+            return Some(Bucket { group: at, lane });
         }
     }
     None
-}
-
-/// Returns a free bucket for `hash`, if the group at which its probe begins had one before: the
-/// bucket `lane`, or any other number. Nothing is proved about it.
-#[inline(always)]
-fn likely_lane(groups: &[Group], hash: u32) -> usize {
-    let first = hash as usize & groups.len().wrapping_sub(1);
-    match groups.get(first) {
-        Some(group) => group.with_tag(0).trailing_zeros() as usize,
-        None => 0,
-    }
 }
 
 /// Returns the bucket at which a probe for `hash` ends, as [`vacant`] does. It is the bucket `lane`
@@ -158,46 +151,93 @@ fn vacant_at(groups: &[Group], hash: u32, lane: usize) -> Option<Bucket>
     vacant(groups, hash)
 }
 
-/// Makes `count` groups that have the index of each hash.
+/// Returns the hash of the index in each bucket of a group. That of a free bucket has no meaning.
+#[inline(always)]
+fn hashes_in(group: &Group, hashes: &[u32]) -> [u32; 12]
+    ensures { (lane : ℕ) → lane < 12 →
+        slice_index result lane ≡ slice_index hashes.now (number_in group.now lane) }
+{
+    let mut read = [0u32; 12];
+    for lane in 0..12 {
+        read[lane] = hashes.get(group.number(lane)).copied().unwrap_or(0);
+    }
+    read
+}
+
+/// Enters the indices of a group under their hashes into the groups of a larger table.
 ///
-/// A group is read some steps before its turn, so that the reads of several groups overlap: they
-/// are at random places, and each would wait for memory.
+/// # Errors
+/// Fails if there are too few groups.
+fn enter_all(groups: &mut [Group], from: &Group, hashes: &[u32]) -> Result<(), AllocError>
+    requires known { TakenBelow from.now (length hashes.now) }
+    requires only { AllTakenBelow groups.old (length hashes.now) }
+    ensures entered { OnOk result (StoresAll groups.new hashes.now from.now 12) }
+    ensures stays { (hash n : ℕ) → Stores groups.old hash n → Stores groups.new hash n }
+    ensures only { AllTakenBelow groups.new (length hashes.now) }
+    ensures count { length groups.new ≡ length groups.old }
+{
+    // All hashes are read before the first one is used: they are at random places, so that their
+    // reads overlap.
+    let read = hashes_in(from, hashes);
+    // The indices go to two groups, if the number of groups has doubled: the next bucket of each.
+    let mut lanes = (0usize, 0usize);
+    let half = groups.len() / 2;
+    for lane in 0..12 {
+        if from.tags[lane] == 0 {
+            continue;
+        }
+        let hash = read[lane];
+        let is_upper = hash as usize & half != 0;
+        let likely = if is_upper { lanes.1 } else { lanes.0 };
+        let Some(bucket) = vacant_at(groups, hash, likely) else {
+            return Err(AllocError);
+        };
+        if is_upper {
+            lanes.1 = bucket.lane.saturating_add(1);
+        } else {
+            lanes.0 = bucket.lane.saturating_add(1);
+        }
+        groups[bucket.group].fill(bucket.lane, hash, from.numbers[lane]);
+    }
+    Ok(())
+}
+
+/// Makes `count` groups that have each index of the groups `old`, under its hash.
+///
+/// The old groups are read in order. As the numbers of groups are powers of two, the indices of an
+/// old group belong to a few new ones, which are then in the cache.
 ///
 /// # Errors
 /// Fails if an allocation fails, or if `count` is too small for the indices.
-fn filled<A: Allocator>(alloc: A, hashes: &[u32], count: usize) -> Result<Vec<Group, A>, AllocError>
-    requires { length hashes.now ≤ most_places }
+fn filled<A: Allocator>(
+    alloc: A,
+    old: &[Group],
+    hashes: &[u32],
+    count: usize,
+) -> Result<Vec<Group, A>, AllocError>
+    requires { Indexes old.now hashes.now }
     ensures indexes { IfOk result (λ groups. Indexes groups.items hashes.now) }
     ensures count { IfOk result (λ groups. length groups.items ≡ count) }
 {
     let mut groups = Vec::with_capacity(alloc, count)?;
     groups.resize(count, Group::empty())?;
-    let mut lanes = [0usize; AHEAD];
-    for number in 0..hashes.len() {
-        let hash = hashes[number];
-        let lane = lanes[number % AHEAD];
-        lanes[number % AHEAD] = match hashes.get(number + AHEAD) {
-            Some(later) => likely_lane(groups.as_slice(), *later),
-            None => 0,
-        };
-        let Some(bucket) = vacant_at(groups.as_slice(), hash, lane) else {
-            return Err(AllocError);
-        };
-        groups[bucket.group].fill(bucket.lane, hash, number as u32);
+    for at in 0..old.len() {
+        enter_all(groups.as_mut_slice(), &old[at], hashes)?;
     }
     Ok(groups)
 }
 
-/// Reserves capacity for the hashes of a table of this size, and makes its groups, which have the
-/// index of each hash.
+/// Reserves capacity for the hashes of a table of this size, and makes its groups, which have each
+/// index of the groups `old`.
 ///
 /// # Errors
 /// Fails if an allocation fails, or if the groups are too few for the indices.
 pub(crate) fn widened<A: Allocator + Copy>(
+    old: &[Group],
     hashes: &mut Vec<u32, A>,
     size: Size,
 ) -> Result<Vec<Group, A>, AllocError>
-    requires { length hashes.old.items ≤ most_places }
+    requires { Indexes old.now hashes.old.items }
     ensures indexes { IfOk result (λ groups. Indexes groups.items hashes.new.items) }
     ensures count { IfOk result (λ groups. length groups.items ≡ size.count) }
     ensures hashes { hashes.new.items ≡ hashes.old.items }
@@ -205,7 +245,7 @@ pub(crate) fn widened<A: Allocator + Copy>(
     ensures capacity { vec_capacity hashes.old ≤ vec_capacity hashes.new }
 {
     hashes.reserve_exact(size.limit.saturating_sub(hashes.len()))?;
-    filled(*hashes.allocator(), hashes.as_slice(), size.count)
+    filled(*hashes.allocator(), old, hashes.as_slice(), size.count)
 }
 
 /// A number of groups, and the number of indices for which they suffice.

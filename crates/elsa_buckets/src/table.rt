@@ -132,9 +132,9 @@ impl<A: Allocator + Copy> PlaceTable<A> {
         let Some(group) = self.groups.get(first) else {
             return usize::MAX;
         };
-        let same = group.with_tag(tag_of(hash));
-        if same != 0 {
-            group.number(first_of(same))
+        let lane = group.first_with(tag_of(hash));
+        if lane < 12 {
+            group.number(lane)
         } else {
             usize::MAX
         }
@@ -208,7 +208,7 @@ impl<A: Allocator + Copy> PlaceTable<A> {
         let Some(next) = wider_size(self.groups.len()) else {
             return Err(AllocError);
         };
-        let wider = widened(&mut self.hashes, next)?;
+        let wider = widened(self.groups.as_slice(), &mut self.hashes, next)?;
         let Some(bucket) = vacant(wider.as_slice(), hash) else {
             return Err(AllocError);
         };
@@ -261,7 +261,7 @@ impl<A: Allocator + Copy> PlaceTable<A> {
         let Some(size) = size_for(self.groups.len(), wanted) else {
             return Err(AllocError);
         };
-        self.groups = widened(&mut self.hashes, size)?;
+        self.groups = widened(self.groups.as_slice(), &mut self.hashes, size)?;
         self.limit = size.limit;
         Ok(())
     }

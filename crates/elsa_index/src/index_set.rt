@@ -2,13 +2,14 @@
 ghost use Rattle.std.specs.Prelude.{◌≡◌, ◌++◌, ◌∷◌, ◌<◌, ◌≤◌, ◌↔◌, [], ℕ, List, length, None, Ok, Some, false, slice_get, position, find, IfOk, IsOk, IfSome, OnOk, OnErr, IsPermutation, IsTrue, is_some};
 ghost use Rattle.std.specs.Borrow.{sem};
 ghost use Rattle.std.specs.Cmp.{partial_equiv_from_equiv};
-ghost use Rattle.std.specs.Iterator.{Drains, IsFinite};
+ghost use Rattle.std.specs.Iterator.{Drains, ExtendsWithItems, IsFinite};
 ghost use Rattle.std.specs.List.{IsDistinct};
 ghost use Rattle.std.specs.Map.Iter.{ShowsInOrder, ShowsInReverse, deref};
 ghost use Rattle.std.specs.Option.{option_map};
-ghost use Rattle.elsa_tables.specs.Insertions.{SetInserted, SetInsertedNew, SetCollects};
+ghost use Rattle.elsa_tables.specs.Insertions.{Grows, SetInserted, SetInsertedNew, SetCollects};
 ghost use Rattle.elsa_index.specs.EqualityLaws.{same_set_equiv};
 ghost use Rattle.elsa_index.specs.Equality.{same_set, HaveSameValues};
+ghost use Rattle.elsa_index.specs.Extended.{SetExtends};
 ghost use Rattle.elsa_index.specs.Lent.{lends_values};
 ghost use Rattle.elsa_index.specs.Texts.{reads, TextInserted};
 
@@ -298,6 +299,17 @@ where
         Ok(place)
     }
 
+    /// Returns the inner set by reference, for each call of it that only reads, such as `is_subset`
+    /// or `union`. Its values are the borrows.
+    ///
+    /// # Cost
+    /// `O(1)`. It allocates nothing.
+    pub fn inner(&self) -> &IndexSet<T::Borrow, S, A>
+        ensures content { result.now.keys ≡ self.now }
+    {
+        &self.set
+    }
+
     /// Returns the inner set, borrowed for writing. What it contains when the borrow ends is the
     /// set's content from then on.
     pub fn as_mut(&mut self) -> &mut IndexSet<T::Borrow, S, A>
@@ -470,6 +482,37 @@ where
         Ok(borrow)
     }
 
+    /// Inserts the iterator's values in their order: the first of equal new ones is appended, and a
+    /// present value keeps its index.
+    ///
+    /// The table reserves capacity for the lower bound of the iterator's `size_hint`. If that
+    /// fails, it grows value by value.
+    ///
+    /// # Errors
+    /// Fails if an allocation fails. The values before the one that failed are inserted, and the
+    /// others are dropped.
+    ///
+    /// # Allocates
+    /// The growth of the table, and each new value in the arena.
+    ///
+    /// # Cost
+    /// `O(1)` for each value: at most two hashes, plus one copy into the arena if it is new.
+    pub fn extend<I: IntoIterator<Item = T>>(&mut self, values: I) -> Result<(), AllocError>
+        requires ends { (s : I.IntoIter) → I.into_iter_gives values s →
+            I.IntoIter.can_next s × IsFinite (I.IntoIter.remaining s) }
+        ensures extended { ExtendsWithItems I.into_iter_gives I.IntoIter.next_gives
+            (SetExtends T.Borrow.eq T.target T.shown T.finds) values self.old self.new result }
+        ensures kept { Grows self.old self.new }
+    {
+        let values = values.into_iter();
+        // Values may be present, so only a failed insertion is an error.
+        let _room = self.reserve(values.size_hint().0);
+        for value in values {
+            self.insert_full(value)?;
+        }
+        Ok(())
+    }
+
     /// Makes a set of the iterator's values, which keeps the first of equal ones and drops the
     /// others.
     ///
@@ -497,13 +540,8 @@ where
             × Drains I.IntoIter.next_gives s xs
             × SetCollects T.Borrow.eq T.target T.shown T.finds xs m) }
     {
-        let values = values.into_iter();
         let mut set = FrozenIndexSetIn::with_hasher(alloc, arena, hash_builder);
-        // Equal values are stored once, so only a failed insertion is an error.
-        let _room = set.reserve(values.size_hint().0);
-        for value in values {
-            set.insert_full(value)?;
-        }
+        set.extend(values)?;
         Ok(set)
     }
 }
@@ -574,7 +612,7 @@ where
 
     // The value at this index, which the caller proves to be below the length.
     fn index(&self, index: usize) -> &T::Borrow {
-        &self.set[index]
+        &self.inner()[index]
     }
 }
 

@@ -1,10 +1,12 @@
 -- Names, numbered in the order in which they were put first. The names are a list of texts, each as
 -- its bytes; the number of a name is its index in the list. The result of a `put` is defined by the
 -- index of the text in the list before the call, without a table or an arena.
-use Rattle.std.specs.Prelude.{◌≡◌, ℕ, ◌-◌, ◌<◌, ◌/◌, ◌%◌, ◌^◌, List, [], ◌∷◌, ◌++◌, length, position, slice_get, Some, MatchOption, bit_xor}
+use Rattle.std.specs.Prelude.{◌≡◌, ℕ, ◌-◌, ◌<◌, ◌/◌, ◌%◌, ◌^◌, List, [], ◌∷◌, ◌++◌, length, map, position, slice_get, Some, MatchOption, bit_xor}
+use Rattle.std.specs.Borrow.{Bor}
 use Rattle.std.specs.Str.{bytes_eq}
 use Rattle.std.specs.declared.hash.BuildHasher as builder
 use Rattle.std.specs.declared.hash.Hasher as hasher
+use Rattle.elsa_tables.specs.Insertions.{first_of_each}
 use Rattle.elsa_buckets.specs.Table.{Entries, places, Has}
 
 -- A `put` of the text returns n, and the names are `after` then. If the text is a name, n is its
@@ -14,6 +16,11 @@ abbrev pub Puts : List (List ℕ) → List ℕ → ℕ → List (List ℕ) → T
 Puts names text n after = MatchOption (position (bytes_eq text) names)
     ((n ≡ length names) × (after ≡ names ++ text ∷ []))
     (λ i. (n ≡ i) × (after ≡ names))
+
+-- The names are `after` once the texts are put in their order: the names that there were, and then the
+-- first of each new text.
+abbrev pub PutsAll : List (List ℕ) → List (Bor (List ℕ)) → List (List ℕ) → Type 0
+PutsAll names texts after = after ≡ names ++ map (λ text. text.now) (first_of_each bytes_eq (λ text. text.now) names texts)
 
 -- There are 2^32 - 1 names, the greatest number.
 abbrev pub IsFull : List (List ℕ) → Type 0

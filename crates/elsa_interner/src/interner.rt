@@ -7,12 +7,14 @@
 ghost use Rattle.std.specs.Prelude.{◌≡◌, ◌↔◌, ℕ, [], List, length, None, Some, slice_get, position, map, is_some, ◌<◌, ◌≤◌, ◌-◌, ◌^◌, IfOk, IfSome, IsTrue, OnErr, OnOk};
 ghost use Rattle.std.specs.Borrow.{Bor};
 ghost use Rattle.std.specs.Fmt.{debug_list, debug_str};
+ghost use Rattle.std.specs.Iterator.{Drains, ExtendsWithItems, IsFinite};
 ghost use Rattle.std.specs.Iterator.Adapters.{IterYieldsInOrder, IterYieldsInReverse};
+ghost use Rattle.std.specs.List.{IsDistinct};
 ghost use Rattle.std.specs.Option.{option_map};
 ghost use Rattle.std.specs.Str.{bytes_eq};
 ghost use mathlib.Core.List.{IsPrefix};
 ghost use Rattle.std.specs.Slice.Iter.{iter_rest};
-ghost use Rattle.elsa_interner.specs.Names.{Puts, IsFull, IsOneToOne};
+ghost use Rattle.elsa_interner.specs.Names.{Puts, PutsAll, IsFull, IsOneToOne};
 
 pub use crate::devices::{Counted, Failed, Sink, Source};
 pub use crate::engine::{EngineFault, intern_engine, intern_engine_with_hasher};
@@ -62,6 +64,38 @@ impl<'a, A: Allocator + Copy, P: Allocator> Interner<'a, BuildHasherDefault<Fold
         ensures { result ≡ [] }
     {
         Interner::with_hasher(alloc, arena, BuildHasherDefault::new())
+    }
+
+    /// Makes an interner of the texts with the default hasher: `Interner::from_names(alloc, &arena,
+    /// ["fn", "let"])`. The names are the first of equal texts, in their order. So if the texts are
+    /// distinct, the name with number `i` is the text at index `i`.
+    ///
+    /// It makes room for the lower bound of the iterator's `size_hint` first, as
+    /// [`extend`](Interner::extend) does. For another hasher, extend the interner of
+    /// [`Interner::with_hasher`].
+    ///
+    /// # Errors
+    /// Fails if an allocation fails, or if there would be more than 2^32 - 1 names. The arena keeps
+    /// the names that were stored.
+    ///
+    /// # Cost
+    /// That of a [`put`](Interner::put) for each text.
+    pub fn from_names<'t, I: IntoIterator<Item = &'t str>>(
+        alloc: A,
+        arena: &'a Bump<P>,
+        texts: I,
+    ) -> Result<Self, AllocError>
+        requires ends { (s : I.IntoIter) → I.into_iter_gives texts s →
+            I.IntoIter.can_next s × IsFinite (I.IntoIter.remaining s) }
+        ensures names { IfOk result (λ names.
+            (s : I.IntoIter) × (given : List (Bor (List ℕ))) × I.into_iter_gives texts s
+            × Drains I.IntoIter.next_gives s given × PutsAll [] given names
+            × (IsDistinct bytes_eq (map (λ text. text.now) given) →
+            names ≡ map (λ text. text.now) given)) }
+    {
+        let mut names = Interner::new(alloc, arena);
+        names.extend(texts)?;
+        Ok(names)
     }
 
     /// Makes an empty interner with the default hasher and with capacity for `capacity` names, as
@@ -278,6 +312,37 @@ impl<'a, S: BuildHasher, A: Allocator + Copy, P: Allocator> Interner<'a, S, A, P
             position (bytes_eq word) self.new ≡ Some i }
     {
         self.names.put_in(self.arena, text, Some(text))
+    }
+
+    /// Puts the texts in their order. A present name keeps its number, and the first of equal new
+    /// texts has the next number.
+    ///
+    /// It makes room for the lower bound of the iterator's `size_hint` first. If that fails, the
+    /// list and the table grow name by name.
+    ///
+    /// # Errors
+    /// Fails as [`Interner::put`] does. The texts before the one that failed are put, and the
+    /// others are not.
+    ///
+    /// # Cost
+    /// That of a `put` for each text.
+    pub fn extend<'t, I: IntoIterator<Item = &'t str>>(
+        &mut self,
+        texts: I,
+    ) -> Result<(), AllocError>
+        requires ends { (s : I.IntoIter) → I.into_iter_gives texts s →
+            I.IntoIter.can_next s × IsFinite (I.IntoIter.remaining s) }
+        ensures extended { ExtendsWithItems I.into_iter_gives I.IntoIter.next_gives PutsAll texts
+            self.old self.new result }
+        ensures kept { IsPrefix self.old self.new }
+    {
+        let texts = texts.into_iter();
+        // Texts may be names, so only a failed `put` is an error.
+        let _room = self.reserve(texts.size_hint().0);
+        for text in texts {
+            self.put(text)?;
+        }
+        Ok(())
     }
 
     /// Returns the names without the arena, for look-ups only. Threads can share the result if they

@@ -3,7 +3,7 @@
 //! A handle belongs to its vector by its type, so only the calls that take two handles, or a view,
 //! have a condition. Each call of the vector is written here, once, for every rule of the items and
 //! for whatever is stored next to the slots. The calls on the vector itself are short forms.
-ghost use Rattle.std.specs.Prelude.{◌≡◌, ◌≤◌, ◌<◌, ◌^◌, ◌+◌, [], List, drop, length, slice_get, take, IfOk, IfErr, IfSome, IfNone, Some};
+ghost use Rattle.std.specs.Prelude.{◌≡◌, ℕ, ◌≤◌, ◌<◌, ◌^◌, ◌+◌, [], List, drop, length, slice_get, take, IfOk, IfErr, IfSome, IfNone, Some};
 ghost use Rattle.elsa_lock_free.specs.SharedList.{BeginsABuffer, BeginsAmong, Continues, IsLaterPass, Meet, PushedAll, Pushes, PushesNext, copied, entry, items_of, mine};
 ghost use Rattle.elsa_lock_free.specs.declared.event.Entry.{Entry};
 ghost use Rattle.elsa_lock_free.specs.Attempts.{IfBusy, IfFailed};
@@ -274,6 +274,46 @@ impl<'v, T: Drop, A: Allocator + Copy, K: ItemRule<T>> Handle<'v, T, A, K> {
         let place = hold.at();
         hold.end_with(self, item)?;
         Ok(place)
+    }
+
+    /// Pushes the item that `make` returns for its index, and returns the index: for items that
+    /// contain their own index.
+    ///
+    /// # Errors
+    /// Fails where [`push`](Self::push) does. The item of `make` is then dropped, and the handle
+    /// has pushed nothing. If the length is `2^62 - 1`, `make` isn't called.
+    ///
+    /// # Blocks
+    /// While another thread pushes. `make` runs under the lock: the pushes of other threads wait
+    /// for it, and it must not push to the same vector, which would wait for its own lock. Reads
+    /// take no lock.
+    ///
+    /// # Allocates
+    /// A buffer, four times as large as the one before, at the lengths where one begins.
+    ///
+    /// # Cost
+    /// `O(1)`, and that of `make`.
+    pub fn push_with<R: Wait, F: FnOnce(usize) -> T + Drop>(
+        &mut self,
+        rt: &R,
+        make: F,
+    ) -> Result<usize, AllocError>
+        requires callable { (i : ℕ) → i + 1 < 2 ^ 62 → F.pre make i }
+        requires obeys_rule { (i : ℕ) (item : T) (es : List (Entry T)) → F.post make i item →
+            K.is_new es (entry self.old.author item) }
+        ensures later { IsLaterPass self.old self.new }
+        ensures pushed { IfOk result (λ i.
+            (item : T) × F.post make i item × Pushes self.old self.new i item) }
+        ensures limit { IfOk result (λ i. i + 1 < 2 ^ 62) }
+        ensures refused { IfErr result (λ e. (mine self.new ≡ mine self.old)
+            × BeginsABuffer (length self.new.seen)) }
+    {
+        let Some(held) = self.hold_now(rt) else {
+            return Err(AllocError);
+        };
+        let at = held.at();
+        held.end_with(self, make(at))?;
+        Ok(at)
     }
 
     /// Pushes an item and returns its index, as [`push`](Self::push) does, but never waits for the

@@ -5,11 +5,16 @@ use Rattle.std.specs.Option.{is_some}
 use Rattle.std.specs.Borrow.{Bor}
 use Rattle.std.specs.Str.{bytes_eq}
 use mathlib.Core.List.{IsPrefix}
+use Rattle.std.specs.List.{IsDistinct}
+use Rattle.std.specs.Map.{keys_of as firsts_of}
+use Rattle.std.specs.Prelude.{get_or}
 use Rattle.std.proofs.lemmas.List.{length-map, map-append}
+use Rattle.std.proofs.lemmas.Map.Keys.{IsDistinct-from_apart}
+use Rattle.std.proofs.lemmas.Option.{slice_get-get_or}
 use Rattle.elsa_hash_index.specs.declared.entry.Entry.{Entry}
 use Rattle.elsa_hash_index.specs.Entries.{EachIsNew, IsAbsent, IsBehind, key_of, keys_of}
 use Rattle.elsa_hash_index.proofs.EntryLemmas.{entry_at}
-use Rattle.elsa_lock_free.specs.Distinct.{AgreeOnPlaces, one_answer}
+use Rattle.elsa_lock_free.specs.Distinct.{AgreeOnPlaces, IsOneToOne, one_answer}
 use Rattle.elsa_lock_free.specs.SharedList.{BeginsABuffer, Continues, View, entry, item_of, items_of}
 use Rattle.elsa_lock_free.specs.declared.event.Entry.{Entry as Listed}
 use Rattle.elsa_lock_free.proofs.RuleLemmas.EachNew.{agree_on_places, items_are_new, one_to_one}
@@ -203,3 +208,24 @@ module _ {V S : Type 0} (es : List (Entry (Bor (List ℕ)) V S)) (text : List �
 
   pub text_stands : (i : ℕ) (value : V) → HasAt (λ a b. bytes_eq a.now b.now) es i key value → HasAt is_text es i text value
   text_stands i value h = (h.0, h.1, sym (ap (λ t. bytes_eq t h.0.key.now) same) ∙ h.2, h.3)
+
+-- a test that can't be true is false
+is_refuted : (b : Bool) → (b ≡ true → ⊥) → b ≡ false
+is_refuted true refuted = absurd (refuted refl)
+is_refuted false refuted = refl
+
+-- keys that are at one index each are distinct
+distinct_from : {K : Type 0} (equal : K → K → Bool) (ks : List K) → IsOneToOne equal ks → IsDistinct equal ks
+distinct_from equal ks one = IsDistinct-from_apart equal ks (λ i j d lt within. is_refuted (equal (get_or ks i d) (get_or ks j d)) (λ same.
+    let low : i < length ks = omega (arith, lt, within) in
+    let one_index = one i j (get_or ks i d) (get_or ks j d) (slice_get-get_or ks i d low) (slice_get-get_or ks j d within) same in
+    omega (arith, one_index, lt)))
+
+-- the keys of the pairs are those of the entries
+keys_of_pairs : {K V S : Type 0} (es : List (Entry K V S)) → keys_of es ≡ firsts_of (pairs_of es)
+keys_of_pairs [] = refl
+keys_of_pairs (e ∷ es) = ap (λ l. e.key ∷ l) (keys_of_pairs es)
+
+-- so the pairs of entries have distinct keys
+pub distinct_pairs : {K V S : Type 0} (equal : K → K → Bool) (es : List (Entry K V S)) → IsOneToOne equal (keys_of es) → IsDistinct equal (firsts_of (pairs_of es))
+distinct_pairs equal es one = subst (IsDistinct equal) (keys_of_pairs es) (distinct_from equal (keys_of es) one)

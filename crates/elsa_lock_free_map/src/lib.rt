@@ -10,4 +10,5 @@ pub mod map;
 pub mod once;
 mod pairs;
 pub mod place_text;
+pub mod room;
 mod text;

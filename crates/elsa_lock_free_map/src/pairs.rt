@@ -1,5 +1,5 @@
 //! The receiver of a map's entries when they are moved out.
-ghost use Rattle.std.specs.Prelude.{◌≡◌, vec_capacity};
+ghost use Rattle.std.specs.Prelude.{◌≡◌, [], vec_capacity};
 ghost use Rattle.elsa_lock_free_map.specs.Entries.{pairs_of};
 
 use elsa_hash_index::entry::Entry;
@@ -14,6 +14,17 @@ pub(crate) struct Pairs<K: Drop, V: Drop, S: Drop, A: Allocator = Global> {
 }
 
 impl<K: Drop, V: Drop, S: Drop, A: Allocator> Pairs<K, V, S, A> {
+    /// Makes a receiver that stores the pairs in `pairs`, an empty list.
+    pub(crate) fn into(pairs: Vec<(K, V), A>) -> Pairs<K, V, S, A>
+        requires empty { pairs.items ≡ [] }
+        ensures { (result.received.items ≡ []) × (vec_capacity result.pairs ≡ vec_capacity pairs) }
+    {
+        Pairs {
+            pairs,
+            received: Received::none(),
+        }
+    }
+
     /// Returns the pairs.
     pub(crate) fn into_vec(self) -> Vec<(K, V), A>
         ensures { result.items ≡ pairs_of self.received.items }
@@ -39,9 +50,7 @@ impl<K: Drop, V: Drop, S: Drop, A: Allocator> Sink<Entry<K, V, S>> for Pairs<K, 
 
 impl<K: Drop, V: Drop, S: Drop, A: Allocator> Collection<Entry<K, V, S>, A> for Pairs<K, V, S, A> {
     fn with_capacity(alloc: A, count: usize) -> Result<Pairs<K, V, S, A>, AllocError> {
-        Ok(Pairs {
-            pairs: Vec::with_capacity(alloc, count)?,
-            received: Received::none(),
-        })
+        let pairs = Vec::with_capacity(alloc, count)?;
+        Ok(Pairs::into(pairs))
     }
 }

@@ -4,14 +4,15 @@
 //! that all maps share.
 ghost use Rattle.std.specs.Prelude.{◌≡◌, ◌≤◌, ◌↔◌, ◌∷◌, [], ℕ, List, length, false, true, None, Ok, Some, slice_get, position, IfOk, IsOk, IfSome, IsPermutation, IsTrue, OnErr, cond};
 ghost use Rattle.std.specs.Borrow.{Bor};
-ghost use Rattle.std.specs.Iterator.{Drains, IsFinite};
+ghost use Rattle.std.specs.Iterator.{Drains, ExtendsWithItems, IsFinite};
 ghost use Rattle.std.specs.Map.{keys_of, lookup, values_of};
 ghost use Rattle.std.specs.Map.Iter.{ShowsInOrder, ShowsInReverse, deref, deref_pair};
 ghost use Rattle.std.specs.Option.{option_map};
 ghost use Rattle.indexmap.specs.IndexMap.{insert_entry};
 ghost use Rattle.elsa_tables.proofs.MapEquality.{same_values_equivalence, same_values_laws};
 ghost use Rattle.elsa_tables.specs.FirstWins.{IsEqualMap, same_values, value_at};
-ghost use Rattle.elsa_tables.specs.Insertions.{place_of, Inserted, InsertedNew, IsCloneOf, CollectsTargets};
+ghost use Rattle.elsa_maps.specs.FirstWins.{AppendsFirsts, HoldsFirst};
+ghost use Rattle.elsa_tables.specs.Insertions.{Grows, place_of, Inserted, InsertedNew, IsCloneOf, CollectsTargets};
 
 use crate::map::Frozen;
 use bumpalo::Bump;
@@ -192,6 +193,36 @@ where
         ensures none_is_free { additional ≡ 0 → IsOk result }
     {
         self.table.reserve(additional)
+    }
+
+    /// Inserts the pairs in their order: each new key is appended with the value of its first pair.
+    /// A present key keeps its index and its value.
+    ///
+    /// The table reserves capacity for the lower bound of the iterator's `size_hint`. If that
+    /// fails, it grows entry by entry.
+    ///
+    /// # Errors
+    /// Fails if an allocation fails. The pairs before the one that failed are inserted, and
+    /// the others are dropped.
+    ///
+    /// # Allocates
+    /// The growth of the table, and each value of a new key in the arena.
+    ///
+    /// # Cost
+    /// `O(1)` for each pair, with one hash and one search.
+    pub fn extend<I: IntoIterator<Item = (K, V)>>(&mut self, pairs: I) -> Result<(), AllocError>
+        requires ends { (s : I.IntoIter) → I.into_iter_gives pairs s →
+            I.IntoIter.can_next s × IsFinite (I.IntoIter.remaining s) }
+        ensures extended { ExtendsWithItems I.into_iter_gives I.IntoIter.next_gives
+            (AppendsFirsts K.eq V.target V.shown) pairs self.old self.new result }
+        ensures values { ExtendsWithItems I.into_iter_gives I.IntoIter.next_gives
+            (HoldsFirst K.eq V.target V.shown) pairs self.old self.new result }
+        ensures kept { Grows self.old self.new }
+    {
+        let pairs = pairs.into_iter();
+        // Keys may be present, so only a failed insertion is an error.
+        let _room = self.reserve(pairs.size_hint().0);
+        self.insert_all(pairs)
     }
 
     /// Appends the entry unless the map has an equal key. Returns the index and the value that the

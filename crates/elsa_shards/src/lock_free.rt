@@ -1,18 +1,19 @@
 //! [`LockFreeShardedMap`]: a map of shards whose look-ups take no lock.
-ghost use Rattle.std.specs.Prelude.{◌≡◌, ◌⊎◌, ◌<◌, ◌≤◌, [], true, false, All, IfOk, IfErr, IfSome, IfNone, Ok, Err, alloc_error, length, map};
+ghost use Rattle.std.specs.Prelude.{◌≡◌, ◌⊎◌, ◌<◌, ◌≤◌, [], true, false, All, IfOk, IfErr, IfSome, IfNone, Ok, Err, alloc_error, flat_map, length, map, sum_by, vec_capacity, vec_len};
 ghost use Rattle.elsa_lock_free.specs.Attempts.{IfBusy};
 ghost use Rattle.elsa_lock_free.specs.SharedList.{Continues, IsLaterPass, items_of, mine};
 ghost use Rattle.elsa_lock_free_map.specs.Entries.{GetsOrInserts, Has, InsertsOnce, Lacks};
 ghost use Rattle.elsa_tables.specs.Rules.{HoldsAt};
-ghost use Rattle.elsa_shards.specs.Shards.{AllContinue, AllMeet, IsSameMap, OnShard, seen_in_all, shard_of};
+ghost use Rattle.elsa_shards.specs.Shards.{AllContinue, AllMeet, AtMoments, IsSameMap, OnShard, seen_in_all, shard_of};
 
 use crate::map::{SHARDS, index_of};
 use elsa_lock_free::may_lock::{AttemptFault, LockPermit};
 use elsa_lock_free_map::handle::MapHandle;
 use elsa_lock_free_map::map::LockFreeFrozenMap;
+use elsa_lock_free_map::room::Room;
 use elsa_tables::{AnyEntries, EntryRule, Inserted};
 use indexmap::Equivalent;
-use std::alloc::{AllocError, Allocator, Global};
+use std::alloc::{AllocError, AllocFailed, Allocator, Global};
 use std::hash::{BuildHasher, BuildHasherDefault, FoldHasher, Hash};
 use std::marker::Model;
 use std::sync::Wait;
@@ -156,6 +157,92 @@ impl<
             hash_builder: self.hash_builder,
         })
     }
+}
+
+/// Room for the entries of each shard of a map, and for those of all shards together.
+type Rooms<K, V, S, A> = (Vec<Room<K, V, S, A>, A>, Vec<(K, V), A>);
+
+impl<K: Drop + Hash, V: Drop, S: BuildHasher + Copy + Drop, A: Allocator + Copy> LockFreeShardedMap<
+    K,
+    V,
+    S,
+    A,
+> {
+    /// Returns all entries, each once as its key and its value: those of the first shard in the
+    /// order of their insertion, then those of the next one.
+    ///
+    /// # Errors
+    /// Fails if an allocation fails. The error has the map, with all its entries; by `?` it becomes
+    /// an `AllocError`, which drops them.
+    ///
+    /// # Allocates
+    /// Before it moves an entry, memory for all entries twice, by the map's allocator: the list of
+    /// the result, and a list for each shard, which is deallocated again. All other memory of the
+    /// map is deallocated.
+    ///
+    /// # Cost
+    /// `O(n)` and the number of shards: two moves for each entry.
+    pub fn into_tuple_vec(self) -> Result<Vec<(K, V), A>, AllocFailed<Self>>
+        ensures entries { IfOk result (λ v. AtMoments K.eq (λ k v. Unit {0}) (length self.0)
+            (λ shards. v.items ≡ flat_map (λ entries. entries) shards)) }
+        ensures refused { IfErr result (λ e. e.value ≡ self) }
+    {
+        let Ok((rooms, pairs)) = self.rooms() else {
+            return Err(AllocFailed { value: self });
+        };
+        let LockFreeShardedMap {
+            shards,
+            hash_builder: _,
+            alloc: _,
+        } = self;
+        Ok(moved_out(shards, rooms, pairs))
+    }
+
+    // Allocates room for all entries.
+    fn rooms(&self) -> Result<Rooms<K, V, S, A>, AllocError>
+        ensures same_vectors { IfOk result (λ r. map (λ room. room.vector) r.0.items ≡ self.now.0) }
+        ensures empty { IfOk result (λ r. (r.1.items ≡ []) × (vec_len r.1 ≡ 0)) }
+        ensures room { IfOk result (λ r.
+            sum_by (λ room. length room.seen) r.0.items ≤ vec_capacity r.1) }
+    {
+        let mut rooms = Vec::with_capacity(self.alloc, self.shards.len())?;
+        let mut total = 0usize;
+        for map in &self.shards {
+            let room = map.room()?;
+            let Some(sum) = total.checked_add(room.len()) else {
+                return Err(AllocError);
+            };
+            total = sum;
+            rooms.push(room)?;
+        }
+        let pairs = Vec::with_capacity(self.alloc, total)?;
+        Ok((rooms, pairs))
+    }
+}
+
+// Moves the entries of each shard into its room, and from there to `pairs`.
+fn moved_out<K: Drop + Hash, V: Drop, S: BuildHasher + Copy + Drop, A: Allocator + Copy>(
+    shards: Vec<LockFreeFrozenMap<K, V, S, A>, A>,
+    rooms: Vec<Room<K, V, S, A>, A>,
+    mut pairs: Vec<(K, V), A>,
+) -> Vec<(K, V), A>
+    requires same_vectors { map (λ room. room.vector) rooms.items ≡ shards.items }
+    requires empty { (pairs.items ≡ []) × (vec_len pairs ≡ 0) }
+    requires room { sum_by (λ room. length room.seen) rooms.items ≤ vec_capacity pairs }
+    ensures { AtMoments K.eq (λ k v. Unit {0}) (length shards.items)
+        (λ entries. result.items ≡ flat_map (λ es. es) entries) }
+{
+    let mut rooms_left = rooms.into_iter();
+    for shard in shards {
+        let Some(room) = rooms_left.next() else {
+            unreachable!()
+        };
+        let mut entries = shard.into_room(room);
+        let Ok(()) = pairs.append(&mut entries) else {
+            unreachable!()
+        };
+    }
+    pairs
 }
 
 /// The handles of all shards of a map. Contracts see the view of each, and the hash builder.

@@ -1,7 +1,8 @@
 //! [`ShardedMap`]: a hashed map of locked shards.
-ghost use Rattle.std.specs.Prelude.{◌≡◌, ◌↔◌, ◌<◌, true, IfOk, IfSome, IsTrue, length};
+ghost use Rattle.std.specs.Prelude.{◌≡◌, ◌↔◌, ◌<◌, true, IfOk, IfSome, IsTrue, flat_map, length};
 ghost use Rattle.std.specs.Arc.{arc_value};
 ghost use Rattle.std.specs.Fn.{FnOnceReturnsAt, FnOnceTakesAt};
+ghost use Rattle.elsa_locks.specs.Shared.{shown};
 ghost use Rattle.elsa_tables.specs.Rules.{HoldsAt};
 ghost use Rattle.elsa_shards.specs.Shards.{AtMoments, count_in_all, shard_of, spread_over};
 
@@ -427,5 +428,40 @@ where
         ensures { IfOk result (HoldsAt R.holds (K.eq key)) }
     {
         self.shard(&key).get_copy_or_insert_with(rt, key, f)
+    }
+}
+
+impl<K: Eq + Hash + Drop, V: Drop, A: Allocator + Copy, R: EntryRule<K, V>> ShardedMap<
+    K,
+    V,
+    BuildHasherDefault<FoldHasher>,
+    A,
+    R,
+> {
+    /// Returns the entries, each once: those of the first shard, then those of the next one, each
+    /// shard's in an unspecified order. It takes no lock, since the caller owns the map.
+    ///
+    /// # Errors
+    /// Fails if an allocation fails. The map is then dropped.
+    ///
+    /// # Allocates
+    /// The list, which grows, and for a time a list of each shard's entries.
+    ///
+    /// # Cost
+    /// `O(n)` and the number of shards.
+    pub fn into_tuple_vec(self) -> Result<Vec<(K, Arc<V, A>), A>, AllocError>
+        ensures { IfOk result (λ v. AtMoments K.eq R.holds self.0 (λ shards.
+            shown v.items ≡ flat_map (λ entries. entries) shards)) }
+    {
+        let ShardedMap {
+            shards,
+            hash_builder: _,
+        } = self;
+        let mut pairs = Vec::new(*shards.allocator());
+        for shard in shards {
+            let mut entries = shard.into_tuple_vec()?;
+            pairs.append(&mut entries)?;
+        }
+        Ok(pairs)
     }
 }

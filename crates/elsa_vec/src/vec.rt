@@ -348,7 +348,7 @@ impl<R: Copy, T: StableDeref<R>, A: Allocator + Copy> Index<usize> for FrozenVec
     ghost index_gives = { λ v i b. slice_get v i ≡ Some b };
 
     fn index(&self, index: usize) -> &T::Borrow {
-        &self.items[index]
+        &self.inner()[index]
     }
 }
 
@@ -505,6 +505,17 @@ impl<R: Copy, T: StableDeref<R>, A: Allocator + Copy> FrozenVecIn<R, T, A> {
         ensures runs_back { GivesInReverse T.Borrow }
     {
         IterIn::new(self)
+    }
+
+    /// Returns the inner vector by reference, for each call of it that only reads. Its items are
+    /// the borrows.
+    ///
+    /// # Cost
+    /// `O(1)`. It allocates nothing.
+    pub fn inner(&self) -> &Vec<T::Borrow, A>
+        ensures content { result.now.items ≡ self.now }
+    {
+        &self.items
     }
 
     /// Returns the inner vector, borrowed for writing. What it contains when the borrow ends is the

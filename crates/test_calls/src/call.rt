@@ -25,6 +25,7 @@ pub enum Kind {
     GetFullByGuard,
     GetIndexByHandle,
     ContainsKey,
+    ContainsKeyByHandle,
     MapGet,
     GetCopy,
     GetIndex,
@@ -32,6 +33,7 @@ pub enum Kind {
     Last,
     Len,
     LenByHandle,
+    LenByGuard,
     IsEmpty,
     IsFull,
     Iter,
@@ -66,7 +68,7 @@ pub const INSERTIONS: [Kind; 13] = [
 ];
 
 /// The other calls.
-pub const OTHERS: [Kind; 27] = [
+pub const OTHERS: [Kind; 29] = [
     Kind::Get,
     Kind::GetFull,
     Kind::GetSince,
@@ -75,6 +77,7 @@ pub const OTHERS: [Kind; 27] = [
     Kind::GetFullByGuard,
     Kind::GetIndexByHandle,
     Kind::ContainsKey,
+    Kind::ContainsKeyByHandle,
     Kind::MapGet,
     Kind::GetCopy,
     Kind::GetIndex,
@@ -82,6 +85,7 @@ pub const OTHERS: [Kind; 27] = [
     Kind::Last,
     Kind::Len,
     Kind::LenByHandle,
+    Kind::LenByGuard,
     Kind::IsEmpty,
     Kind::IsFull,
     Kind::Iter,

@@ -9,6 +9,12 @@ mod ends;
 mod list_tests;
 #[cfg(test)]
 mod lists;
+#[cfg(test)]
+mod map_tests;
+#[cfg(test)]
+mod maps;
 mod plain;
 mod replies;
 mod script;
+#[cfg(test)]
+mod sets;

@@ -113,6 +113,14 @@ fn hold<A: Allocator + Copy>(list: &FrozenVec<u64, A>) -> Reply {
     Reply::Flag(list.hold().is_ok())
 }
 
+/// Returns the number of items by a guard, unless another one exists.
+fn len_by_guard<A: Allocator + Copy>(list: &FrozenVec<u64, A>) -> Reply {
+    match list.hold() {
+        Ok(hold) => Reply::Count(hold.len()),
+        Err(_) => Reply::NotOffered,
+    }
+}
+
 fn search_by<A: Allocator + Copy>(list: &FrozenVec<u64, A>, value: u64) -> Reply {
     Reply::Search(list.binary_search_by(|item| item.cmp(&value)))
 }
@@ -154,6 +162,7 @@ fn on_list<A: Allocator + Copy>(calls: &mut ListCalls<'_, A>, call: Call) -> Opt
         Kind::Last => Reply::Value(list.last().copied()),
         Kind::Len => Reply::Count(list.len()),
         Kind::LenByHandle => Reply::Count(calls.handle.len()),
+        Kind::LenByGuard => len_by_guard(list),
         Kind::IsEmpty => Reply::Flag(list.is_empty()),
         Kind::Iter => iter(list),
         Kind::News => news(&mut calls.handle),

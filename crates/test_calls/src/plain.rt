@@ -82,6 +82,16 @@ impl Plain {
         Reply::Walk(count, sum)
     }
 
+    /// Returns the entries, ascending by key.
+    ///
+    /// # Errors
+    /// Fails if an allocation fails.
+    pub fn sorted(&self) -> Result<Vec<(u64, u64)>, AllocError> {
+        let mut all = self.entries.clone()?;
+        all.sort()?;
+        Ok(all)
+    }
+
     /// Returns what an insertion of an absent key returns.
     fn added(&self, call: Call) -> Reply {
         match call.kind {
@@ -134,10 +144,12 @@ impl Plain {
                 Reply::Full(self.full_of(call.key))
             }
             Kind::GetIndex | Kind::GetIndexByHandle => Reply::Full(self.full_at(call.key as usize)),
-            Kind::ContainsKey => Reply::Flag(self.index_of(call.key).is_some()),
+            Kind::ContainsKey | Kind::ContainsKeyByHandle => {
+                Reply::Flag(self.index_of(call.key).is_some())
+            }
             Kind::First => Reply::Value(self.value_at(0)),
             Kind::Last => Reply::Value(self.value_at(self.len().wrapping_sub(1))),
-            Kind::Len | Kind::LenByHandle => Reply::Count(self.len()),
+            Kind::Len | Kind::LenByHandle | Kind::LenByGuard => Reply::Count(self.len()),
             Kind::IsEmpty => Reply::Flag(self.len() == 0),
             Kind::IsFull => Reply::Flag(false),
             Kind::Iter | Kind::News | Kind::Clone => self.walk(0),

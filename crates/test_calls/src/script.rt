@@ -50,9 +50,9 @@ impl Draws {
         drawn.max(1).min(MOST)
     }
 
-    /// Returns true once in `count` times, or once in 64 if that is more seldom.
+    /// Returns true 16 times in `count`, or once in four if that is more seldom.
     fn seldom(&mut self, count: u64) -> bool {
-        self.below(count.max(64)) == 0
+        self.below(count.max(64)) < 16
     }
 }
 
@@ -89,7 +89,7 @@ fn drawn_kind(draws: &mut Draws) -> Option<Kind> {
     let drawn = draws.below(26) as usize;
     match INSERTIONS.get(drawn) {
         Some(kind) => Some(*kind),
-        None => OTHERS.get(draws.below(27) as usize).copied(),
+        None => OTHERS.get(draws.below(29) as usize).copied(),
     }
 }
 

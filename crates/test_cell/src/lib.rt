@@ -21,5 +21,7 @@ mod ordered_tests;
 #[cfg(test)]
 mod plain_tests;
 #[cfg(test)]
+mod refusals;
+#[cfg(test)]
 mod rules;
 mod squares;

@@ -5,6 +5,8 @@
 #[cfg(test)]
 mod ahead_tests;
 #[cfg(test)]
+mod bulk;
+#[cfg(test)]
 mod by_closure;
 #[cfg(test)]
 mod cache_tests;

@@ -128,157 +128,143 @@ const NODES: u64 = 48;
 /// that a thousand can be halved, plus 1.
 const HALVES: u64 = 11;
 
-/// Returns whether a call with a right result (`held`) hashed one key and compared it with few.
-fn is_hashed_once(counts: &Counts, held: bool) -> bool {
-    let (hashes, equalities, orders) = counts.taken();
-    held && hashes == 1 && equalities <= FEW && orders == 0
+/// The numbers of hashes of keys, of comparisons by `==`, and of comparisons by `cmp`.
+type Taken = (u64, u64, u64);
+
+/// A call, whether its result was right, and what it took.
+type Dear = (usize, bool, Taken);
+
+/// A collection with numbered calls, each of which looks a key up.
+trait Asked<'c> {
+    /// The number of calls.
+    const CALLS: usize;
+
+    /// Adds a key with its number.
+    fn add(&mut self, key: Key<'c>) -> Result<(), AllocError>;
+
+    /// Returns whether the call with this number has the right result for the key, which is 57, or
+    /// for an absent one.
+    fn answers(&mut self, call: usize, key: Key<'c>, absent: Key<'c>) -> Result<bool, AllocError>;
+}
+
+/// Adds a thousand keys, and makes each call. Returns the first one that has a wrong result, or
+/// takes other hashes or more comparisons than `most`.
+fn first_dear<'c, M: Asked<'c>>(
+    map: &mut M,
+    counts: &'c Counts,
+    most: Taken,
+) -> Result<Option<Dear>, AllocError> {
+    for number in 0..MANY {
+        map.add(key_of(counts, number))?;
+    }
+    for call in 0..M::CALLS {
+        let _ = counts.taken();
+        let held = map.answers(call, key_of(counts, 57), key_of(counts, MANY))?;
+        let taken = counts.taken();
+        if !held || taken.0 != most.0 || taken.1 > most.1 || taken.2 > most.2 {
+            return Ok(Some((call, held, taken)));
+        }
+    }
+    Ok(None)
 }
 
 // ---- maps and index collections
 
-const HASHED_CALLS: usize = 7;
+impl<'c> Asked<'c> for FrozenMap<'_, Key<'c>, Own<u64>> {
+    const CALLS: usize = 7;
 
-/// Returns whether the call with this number has the right result for the key, which is 57, or for
-/// an absent one.
-fn hashed_answers<'c>(
-    map: &mut FrozenMap<'_, Key<'c>, Own<u64>>,
-    call: usize,
-    key: Key<'c>,
-    absent: Key<'c>,
-) -> Result<bool, AllocError> {
-    Ok(match call {
-        0 => map.get(&key) == Some(&57),
-        1 => map.get(&absent).is_none(),
-        2 => map.contains_key(&key),
-        3 => map.map_get(&key, |value| *value) == Some(57),
-        4 => map.get_key_value(&key).is_some(),
-        5 => map.insert(key, Own(0))? == &57,
-        _ => map.insert(absent, Own(1))? == &1,
-    })
+    fn add(&mut self, key: Key<'c>) -> Result<(), AllocError> {
+        self.insert(key, Own(key.number))?;
+        Ok(())
+    }
+
+    fn answers(&mut self, call: usize, key: Key<'c>, absent: Key<'c>) -> Result<bool, AllocError> {
+        Ok(match call {
+            0 => self.get(&key) == Some(&57),
+            1 => self.get(&absent).is_none(),
+            2 => self.contains_key(&key),
+            3 => self.map_get(&key, |value| *value) == Some(57),
+            4 => self.get_key_value(&key).is_some(),
+            5 => self.insert(key, Own(0))? == &57,
+            _ => self.insert(absent, Own(1))? == &1,
+        })
+    }
 }
 
-fn hashed_searches_once(alloc: Global, arena: &Bump, counts: &Counts) -> Result<bool, AllocError> {
-    let mut map: FrozenMap<'_, Key<'_>, Own<u64>> = FrozenMap::new(alloc, arena);
-    for number in 0..MANY {
-        map.insert(key_of(counts, number), Own(number))?;
+impl<'c> Asked<'c> for FrozenIndexMap<'_, Key<'c>, Own<u64>> {
+    const CALLS: usize = 7;
+
+    fn add(&mut self, key: Key<'c>) -> Result<(), AllocError> {
+        self.insert(key, Own(key.number))?;
+        Ok(())
     }
-    for call in 0..HASHED_CALLS {
-        let _ = counts.taken();
-        let held = hashed_answers(&mut map, call, key_of(counts, 57), key_of(counts, MANY))?;
-        if !is_hashed_once(counts, held) {
-            return Ok(false);
-        }
+
+    fn answers(&mut self, call: usize, key: Key<'c>, absent: Key<'c>) -> Result<bool, AllocError> {
+        Ok(match call {
+            0 => self.get(&key) == Some(&57),
+            1 => self.get_index_of(&absent).is_none(),
+            2 => self.contains_key(&key),
+            3 => self.get_index_of(&key) == Some(57),
+            4 => self.get_full(&key).is_some(),
+            5 => self.insert_full(key, Own(0))? == (57, &57),
+            _ => self.insert(absent, Own(1))? == &1,
+        })
     }
-    Ok(true)
 }
 
-fn indexed_answers<'c>(
-    map: &mut FrozenIndexMap<'_, Key<'c>, Own<u64>>,
-    call: usize,
-    key: Key<'c>,
-    absent: Key<'c>,
-) -> Result<bool, AllocError> {
-    Ok(match call {
-        0 => map.get(&key) == Some(&57),
-        1 => map.get_index_of(&absent).is_none(),
-        2 => map.contains_key(&key),
-        3 => map.get_index_of(&key) == Some(57),
-        4 => map.get_full(&key).is_some(),
-        5 => map.insert_full(key, Own(0))? == (57, &57),
-        _ => map.insert(absent, Own(1))? == &1,
-    })
-}
+impl<'a, 'c: 'a> Asked<'c> for FrozenIndexSet<'a, Own<Key<'c>>> {
+    const CALLS: usize = 4;
 
-fn indexed_searches_once(alloc: Global, arena: &Bump, counts: &Counts) -> Result<bool, AllocError> {
-    let mut map: FrozenIndexMap<'_, Key<'_>, Own<u64>> = FrozenIndexMap::new(alloc, arena);
-    for number in 0..MANY {
-        map.insert(key_of(counts, number), Own(number))?;
+    fn add(&mut self, key: Key<'c>) -> Result<(), AllocError> {
+        self.insert(Own(key))?;
+        Ok(())
     }
-    for call in 0..HASHED_CALLS {
-        let _ = counts.taken();
-        let held = indexed_answers(&mut map, call, key_of(counts, 57), key_of(counts, MANY))?;
-        if !is_hashed_once(counts, held) {
-            return Ok(false);
-        }
-    }
-    Ok(true)
-}
 
-const SET_CALLS: usize = 4;
-
-fn set_answers<'a, 'c: 'a>(
-    set: &mut FrozenIndexSet<'a, Own<Key<'c>>>,
-    call: usize,
-    key: Key<'c>,
-    absent: Key<'c>,
-) -> Result<bool, AllocError> {
-    Ok(match call {
-        0 => set.get_index_of(&&key) == Some(57),
-        1 => set.contains(&&key),
-        2 => !set.contains(&&absent),
-        _ => set.insert_full(Own(key))?.0 == 57,
-    })
-}
-
-fn set_searches_once(alloc: Global, arena: &Bump, counts: &Counts) -> Result<bool, AllocError> {
-    let mut set: FrozenIndexSet<'_, Own<Key<'_>>> = FrozenIndexSet::new(alloc, arena);
-    for number in 0..MANY {
-        set.insert(Own(key_of(counts, number)))?;
+    fn answers(&mut self, call: usize, key: Key<'c>, absent: Key<'c>) -> Result<bool, AllocError> {
+        Ok(match call {
+            0 => self.get_index_of(&&key) == Some(57),
+            1 => self.contains(&&key),
+            2 => !self.contains(&&absent),
+            _ => self.insert_full(Own(key))?.0 == 57,
+        })
     }
-    for call in 0..SET_CALLS {
-        let _ = counts.taken();
-        let held = set_answers(&mut set, call, key_of(counts, 57), key_of(counts, MANY))?;
-        if !is_hashed_once(counts, held) {
-            return Ok(false);
-        }
-    }
-    Ok(true)
 }
 
 #[test]
 fn a_call_by_key_hashes_once_and_compares_with_few(rt: HostRuntime) -> Result<(), Fail> {
-    let arena = Bump::new(rt.alloc());
-    let counts = Counts::new();
-    assert!(rt; hashed_searches_once(rt.alloc(), &arena, &counts)?);
-    assert!(rt; indexed_searches_once(rt.alloc(), &arena, &counts)?);
-    assert!(rt; set_searches_once(rt.alloc(), &arena, &counts)?);
+    let (arena, counts, once) = (Bump::new(rt.alloc()), Counts::new(), (1, FEW, 0));
+    let mut hashed: FrozenMap<'_, Key<'_>, Own<u64>> = FrozenMap::new(rt.alloc(), &arena);
+    assert_eq!(rt; first_dear(&mut hashed, &counts, once)?, None);
+    let mut indexed: FrozenIndexMap<'_, Key<'_>, Own<u64>> = FrozenIndexMap::new(
+        rt.alloc(),
+        &arena,
+    );
+    assert_eq!(rt; first_dear(&mut indexed, &counts, once)?, None);
+    let mut set: FrozenIndexSet<'_, Own<Key<'_>>> = FrozenIndexSet::new(rt.alloc(), &arena);
+    assert_eq!(rt; first_dear(&mut set, &counts, once)?, None);
     Ok(())
 }
 
 // ---- ordered collections
 
-const ORDERED_CALLS: usize = 6;
+impl<'c> Asked<'c> for FrozenBTreeMap<'_, Key<'c>, Own<u64>> {
+    const CALLS: usize = 6;
 
-fn ordered_answers<'c>(
-    map: &mut FrozenBTreeMap<'_, Key<'c>, Own<u64>>,
-    call: usize,
-    key: Key<'c>,
-    absent: Key<'c>,
-) -> Result<bool, AllocError> {
-    Ok(match call {
-        0 => map.get(&key) == Some(&57),
-        1 => map.get(&absent).is_none(),
-        2 => map.contains_key(&key),
-        3 => map.map_get(&key, |value| *value) == Some(57),
-        4 => map.insert(key, Own(0))? == &57,
-        _ => map.insert(absent, Own(1))? == &1,
-    })
-}
+    fn add(&mut self, key: Key<'c>) -> Result<(), AllocError> {
+        self.insert(key, Own(key.number))?;
+        Ok(())
+    }
 
-fn ordered_searches_once(alloc: Global, arena: &Bump, counts: &Counts) -> Result<bool, AllocError> {
-    let mut map: FrozenBTreeMap<'_, Key<'_>, Own<u64>> = FrozenBTreeMap::new(alloc, arena);
-    for number in 0..MANY {
-        map.insert(key_of(counts, number), Own(number))?;
+    fn answers(&mut self, call: usize, key: Key<'c>, absent: Key<'c>) -> Result<bool, AllocError> {
+        Ok(match call {
+            0 => self.get(&key) == Some(&57),
+            1 => self.get(&absent).is_none(),
+            2 => self.contains_key(&key),
+            3 => self.map_get(&key, |value| *value) == Some(57),
+            4 => self.insert(key, Own(0))? == &57,
+            _ => self.insert(absent, Own(1))? == &1,
+        })
     }
-    for call in 0..ORDERED_CALLS {
-        let _ = counts.taken();
-        let held = ordered_answers(&mut map, call, key_of(counts, 57), key_of(counts, MANY))?;
-        let (hashes, _equalities, orders) = counts.taken();
-        if !held || hashes != 0 || orders > NODES {
-            return Ok(false);
-        }
-    }
-    Ok(true)
 }
 
 fn vector_halves<'a>(
@@ -306,7 +292,14 @@ fn vector_halves<'a>(
 fn an_ordered_search_compares_with_few(rt: HostRuntime) -> Result<(), Fail> {
     let arena = Bump::new(rt.alloc());
     let counts = Counts::new();
-    assert!(rt; ordered_searches_once(rt.alloc(), &arena, &counts)?);
+    let mut ordered: FrozenBTreeMap<'_, Key<'_>, Own<u64>> = FrozenBTreeMap::new(
+        rt.alloc(),
+        &arena,
+    );
+    assert_eq!(rt;
+        first_dear(&mut ordered, &counts, (0, u64::MAX, NODES))?,
+        None
+    );
     assert!(rt; vector_halves(rt.alloc(), &arena, &counts)?);
     Ok(())
 }

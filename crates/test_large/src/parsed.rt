@@ -50,53 +50,43 @@ fn goes_through(alloc: Global, heap: &Budget<Global>) -> Option<u64> {
     }
 }
 
-/// Returns whether all blocks are deallocated with no request denied, and with each request denied
-/// alone.
-fn gives_back(alloc: Global) -> bool {
+/// Returns the first request of which the denial left a block, or lost a path; or the number of
+/// requests if none did.
+fn first_lost(alloc: Global) -> Result<u64, u64> {
     let open = Budget::new(alloc);
-    if goes_through(alloc, &open) != Some(0)
-        || open.given() != open.granted()
-        || open.asked() == 0
-    {
-        return false;
+    if goes_through(alloc, &open) != Some(0) || open.given() != open.granted() {
+        return Err(u64::MAX);
     }
     for number in 0..open.asked() {
         let heap = Budget::new(alloc);
         heap.refuse(number, number.saturating_add(1));
-        if goes_through(alloc, &heap).is_none()
-            || heap.given() != heap.granted()
-            || heap.refused() != 1
-        {
-            return false;
+        let is_whole = goes_through(alloc, &heap).is_some();
+        if !is_whole || heap.given() != heap.granted() || heap.refused() != 1 {
+            return Err(number);
         }
     }
-    true
+    Ok(open.asked())
 }
 
 #[test]
 fn a_parsed_cache_gives_every_block_back(rt: HostRuntime) -> Result<(), Fail> {
-    assert!(rt; gives_back(rt.alloc()));
+    let lost = first_lost(rt.alloc());
+    assert!(rt; matches!(lost, Ok(asked) if asked > 0), "{lost:?}");
     Ok(())
-}
-
-/// Returns whether a path that has a value is read without a request, and without room of the
-/// arena.
-fn asks_nothing(alloc: Global, heap: &Budget<Global>, arena: &Bump) -> bool {
-    let mut cache: Cache<'_, '_> = ParsedCache::new(heap, arena);
-    if length_at(alloc, &mut cache, "path") != Ok(&8) {
-        return false;
-    }
-    let before = (heap.asked(), arena.chunk_capacity());
-    let kept = length_at(alloc, &mut cache, "path") == Ok(&8) && cache.len() == 1;
-    let found = cache.get("path") == Some(&8) && cache.text("path") == Some("pathpath");
-    kept && found && (heap.asked(), arena.chunk_capacity()) == before
 }
 
 #[test]
 fn a_parsed_path_asks_for_nothing(rt: HostRuntime) -> Result<(), Fail> {
-    let heap = Budget::new(rt.alloc());
-    let arena = Bump::new(rt.alloc());
+    let (heap, arena) = (Budget::new(rt.alloc()), Bump::new(rt.alloc()));
     assert!(rt; arena.try_alloc_str("a first text").is_ok() && arena.chunk_capacity() > 200);
-    assert!(rt; asks_nothing(rt.alloc(), &heap, &arena));
+    let mut cache: Cache<'_, '_> = ParsedCache::new(&heap, &arena);
+    assert_eq!(rt; length_at(rt.alloc(), &mut cache, "path"), Ok(&8));
+    let before = (heap.asked(), arena.chunk_capacity());
+    assert_eq!(rt; length_at(rt.alloc(), &mut cache, "path"), Ok(&8));
+    assert_eq!(rt;
+        (cache.get("path"), cache.text("path")),
+        (Some(&8), Some("pathpath"))
+    );
+    assert_eq!(rt; (heap.asked(), arena.chunk_capacity()), before);
     Ok(())
 }

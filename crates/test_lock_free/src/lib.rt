@@ -23,6 +23,8 @@ mod owner_tests;
 #[cfg(test)]
 mod pass_tests;
 #[cfg(test)]
+mod push_with_tests;
+#[cfg(test)]
 mod rising;
 #[cfg(test)]
 mod schedule_rows;

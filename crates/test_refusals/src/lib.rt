@@ -19,8 +19,6 @@ mod no_memory;
 #[cfg(test)]
 mod refusals;
 #[cfg(test)]
-mod room_ahead;
-#[cfg(test)]
 mod room_refusals;
 #[cfg(test)]
 mod run_refusals;

@@ -4,7 +4,7 @@ use bumpalo::Bump;
 use elsa::interner::Interner;
 use elsa::{
     FrozenAppendMap, FrozenBTreeMap, FrozenBTreeSet, FrozenIndexMap, FrozenIndexSet, FrozenMap,
-    FrozenVec, Own, cell,
+    FrozenVec, Own,
 };
 use std::alloc::{AllocError, Allocator};
 use std::hash::{BuildHasherDefault, FoldHasher};
@@ -181,43 +181,5 @@ impl<A: Allocator + Copy> Grows for Interner<'_, Hasher, A> {
             Ok(name) => self.find(name) == Some(index),
             Err(_) => false,
         }
-    }
-}
-
-impl<A: Allocator + Copy> Grows for cell::FrozenVec<u64, A> {
-    fn next_key(&self, _drawn: u64) -> u64 {
-        self.count() as u64
-    }
-
-    fn insert(&mut self, _key: u64, value: u64) -> Result<u64, AllocError> {
-        match self.alloc(value) {
-            Ok(stored) => Ok(*stored),
-            Err(_) => Err(AllocError),
-        }
-    }
-
-    fn get(&self, key: u64) -> Option<u64> {
-        self.get(key as usize).copied()
-    }
-
-    fn count(&self) -> usize {
-        self.len()
-    }
-}
-
-impl<A: Allocator + Copy> Grows for cell::FrozenMap<u64, u64, Hasher, A> {
-    fn insert(&mut self, key: u64, value: u64) -> Result<u64, AllocError> {
-        match self.insert_new(key, value) {
-            Ok(done) => Ok(*done.value),
-            Err(_) => Err(AllocError),
-        }
-    }
-
-    fn get(&self, key: u64) -> Option<u64> {
-        self.get(&key).copied()
-    }
-
-    fn count(&self) -> usize {
-        self.len()
     }
 }

@@ -77,48 +77,52 @@ impl<A: Allocator + Copy> Roomy for Interner<'_, Hasher, A> {
     }
 }
 
-/// Inserts the keys from `from` to `to - 1` while each request of the table fails. Returns whether
-/// each insertion succeeded.
-fn inserts_without_memory<G: Grows>(
+/// Inserts the keys from `from` to `to - 1` while each request of the table fails. Returns the
+/// first one of which the insertion failed or made a request.
+fn first_with_request<G: Grows>(
     heap: &Budget<Global>,
     grown: &mut G,
     from: u64,
     to: u64,
-) -> bool {
+) -> Option<u64> {
     let asked = heap.asked();
     heap.refuse(asked, u64::MAX);
     for key in from..to {
-        if grown.insert(key, key) != Ok(key) {
-            return false;
+        if grown.insert(key, key) != Ok(key) || heap.asked() != asked {
+            return Some(key);
         }
     }
     heap.refuse_next(0);
-    heap.asked() == asked
+    None
 }
 
-/// Reserves room for `size` entries, twice. Returns whether the room is there, and at most eight
-/// times as large.
+/// Inserts `size` keys into a collection with room for them, and `size` others after a reservation.
+/// Returns the first key of which the insertion made a request, or the number of keys for which
+/// there is no room, or more than eight times as much; or `None`.
 ///
 /// # Errors
 /// Fails if the room can't be allocated.
-pub fn has_room<G: Roomy>(
+pub fn first_without_room<G: Roomy>(
     heap: &Budget<Global>,
     grown: &mut G,
     size: u64,
-) -> Result<bool, AllocError> {
+) -> Result<Option<u64>, AllocError> {
     for round in 0..2_u64 {
         let (from, to) = (
             round.wrapping_mul(size),
             round.wrapping_add(1).wrapping_mul(size),
         );
-        grown.reserve(size as usize)?;
+        if round > 0 {
+            grown.reserve(size as usize)?;
+        }
         let room = grown.room() as u64;
         if room < to || room > to.wrapping_mul(8).wrapping_add(64) {
-            return Ok(false);
+            return Ok(Some(to));
         }
-        if !inserts_without_memory(heap, grown, from, to) {
-            return Ok(false);
+        let first = first_with_request(heap, grown, from, to);
+        if first.is_some() {
+            return Ok(first);
         }
     }
-    Ok(true)
+    Ok(None)
 }

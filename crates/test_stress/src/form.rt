@@ -1,6 +1,6 @@
 //! One run on a shared collection: pairs of threads, each thread with its own view. The two views
 //! of a pair are merged, and two other threads continue with them.
-use crate::script::{Draws, Entry, Log, Script};
+use crate::script::{Draws, Entry, Log, Script, Wrong};
 use std::alloc::{AllocError, Global};
 use std::sync::Wait;
 use std::sync::atomic::{AtomicU64, Ordering};
@@ -47,17 +47,19 @@ pub trait Form {
         requires { of self.now pass.old }
         ensures { of self.now pass.new };
 
-    /// Returns whether the collection has exactly the `new` entries that threads inserted. The
-    /// shared interner checks only that its names have their numbers.
-    fn has<R: Wait>(&self, rt: &R, pass: &mut Self::Pass, new: u64) -> bool
+    /// Returns the number of entries. The interners, of which no call returns whether a name is
+    /// new, return `new`, unless a name doesn't have its number.
+    fn count<R: Wait>(&self, rt: &R, pass: &mut Self::Pass, new: u64) -> u64
         requires { of self.now pass.old }
         ensures { of self.now pass.new };
 
-    /// Merges the two views, and returns whether both then have observed the same number of
-    /// entries.
-    fn meet(&self, one: &mut Self::Pass, other: &mut Self::Pass) -> bool
-        requires { of self.now one.old × of self.now other.old }
-        ensures { of self.now one.new × of self.now other.new };
+    /// Merges the two views, and returns the numbers of entries that they then have observed.
+    fn meet(&self, _one: &mut Self::Pass, _other: &mut Self::Pass) -> (usize, usize)
+        requires { of self.now _one.old × of self.now _other.old }
+        ensures { of self.now _one.new × of self.now _other.new }
+    {
+        (0, 0)
+    }
 }
 
 /// Makes one random call with one of `keys` keys.
@@ -89,25 +91,30 @@ fn call<R: Wait, F: Form>(
     }
 }
 
-/// Returns whether the collection has this entry.
-fn stands<R: Wait, F: Form>(rt: &R, form: &F, pass: &mut F::Pass, entry: Entry) -> bool
+/// Returns the entry with the number of this one, if it differs.
+fn differs<R: Wait, F: Form>(rt: &R, form: &F, pass: &mut F::Pass, entry: Entry) -> Option<Wrong>
     requires { F.of form.now pass.old }
     ensures { F.of form.now pass.new }
 {
-    form.at(rt, pass, entry.number) == Some(entry)
+    let found = form.at(rt, pass, entry.number);
+    if found == Some(entry) {
+        return None;
+    }
+    Some(Wrong::Entry(found, entry))
 }
 
-/// Returns whether the collection has all entries of a log.
-fn all_stand<R: Wait, F: Form>(rt: &R, form: &F, pass: &mut F::Pass, log: &Log) -> bool
+/// Returns an entry of a log that the collection has not, or has with another key or value.
+fn any_differs<R: Wait, F: Form>(rt: &R, form: &F, pass: &mut F::Pass, log: &Log) -> Option<Wrong>
     requires { F.of form.now pass.old }
     ensures { F.of form.now pass.new }
 {
     for entry in &log.entries {
-        if !stands(rt, form, pass, *entry) {
-            return false;
+        let wrong = differs(rt, form, pass, *entry);
+        if wrong.is_some() {
+            return wrong;
         }
     }
-    true
+    None
 }
 
 /// Counts this thread, and waits a bounded time until `count` threads are counted.
@@ -121,8 +128,8 @@ fn meet_all(there: &AtomicU64, count: u64) {
     }
 }
 
-/// Makes the calls of one thread, and records whether all entries that it observed are there at the
-/// end.
+/// Makes the calls of one thread, and records a wrong result, as an entry that it observed and that
+/// differs at the end.
 fn work<R: Wait, F: Form>(
     rt: &R,
     heap: &Budget<Global>,
@@ -139,13 +146,12 @@ fn work<R: Wait, F: Form>(
     let keys = calls.max(KEYS);
     for _turn in 0..calls {
         if call(rt, heap, form, pass, &mut draws, keys, log).is_err() {
-            log.fails();
+            log.notes(Some(Wrong::Stopped));
         }
     }
     log.calls = log.calls.saturating_add(calls);
-    if !all_stand(rt, form, pass, log) {
-        log.fails();
-    }
+    let wrong = any_differs(rt, form, pass, log);
+    log.notes(wrong);
 }
 
 /// Returns a view and its log after the calls of one thread.
@@ -203,8 +209,9 @@ fn pair<R: Threads + Wait + Sync, F: Form + Sync>(
     let other = (form.pass(), Log::new(alloc));
     let (one, other) = both_work(rt, heap, form, one, other, seed, calls);
     let ((mut pass, mut log), (mut other_pass, other_log)) = (one, other);
-    if !form.meet(&mut pass, &mut other_pass) {
-        log.fails();
+    let (observed, observed_too) = form.meet(&mut pass, &mut other_pass);
+    if observed != observed_too {
+        log.notes(Some(Wrong::Merged(observed, observed_too)));
     }
     let (one, other) = both_work(
         rt,
@@ -218,32 +225,38 @@ fn pair<R: Threads + Wait + Sync, F: Form + Sync>(
     (one.1, other.1)
 }
 
-/// Returns whether the collection has exactly the entries that the threads observed.
-fn checks<R: Wait, F: Form>(rt: &R, form: &F, logs: &[(Log, Log)]) -> bool {
+/// Returns what is wrong of the entries that the threads observed, or of the number of entries.
+fn checks<R: Wait, F: Form>(rt: &R, form: &F, logs: &[(Log, Log)]) -> Option<Wrong> {
     let mut pass = form.pass();
     let mut new = 0u64;
     for both in logs {
         let (one, other) = (&both.0, &both.1);
-        let well = one.well && other.well;
-        if !well || !all_stand(rt, form, &mut pass, one) || !all_stand(rt, form, &mut pass, other) {
-            return false;
+        let of_one = one.wrong.or(any_differs(rt, form, &mut pass, one));
+        let of_other = other.wrong.or(any_differs(rt, form, &mut pass, other));
+        let wrong = of_one.or(of_other);
+        if wrong.is_some() {
+            return wrong;
         }
         new = new.saturating_add(one.new).saturating_add(other.new);
     }
-    form.has(rt, &mut pass, new)
+    let count = form.count(rt, &mut pass, new);
+    if count == new {
+        return None;
+    }
+    Some(Wrong::Count(count, new))
 }
 
-/// Makes one run on the collection, and returns whether all results were right.
+/// Makes one run on the collection, and returns a result that was wrong.
 ///
 /// # Errors
 /// Fails if an allocation of the test itself fails.
-pub fn runs_well<R: Threads + Wait + Sync, F: Form + Sync>(
+pub fn runs<R: Threads + Wait + Sync, F: Form + Sync>(
     rt: &R,
     alloc: Global,
     heap: &Budget<Global>,
     form: &F,
     script: Script,
-) -> Result<bool, AllocError> {
+) -> Result<Option<Wrong>, AllocError> {
     let there = AtomicU64::new(0);
     let (met, all) = (&there, script.pairs as u64);
     let logs = thread::map_indices(

@@ -1,4 +1,4 @@
-//! The two lists. The number of an entry is its index, and its key is an item that no other thread
+//! The lists. The number of an entry is its index, and its key is an item that no other thread
 //! pushes.
 ghost use Rattle.std.specs.Prelude.{◌≡◌};
 
@@ -10,17 +10,11 @@ use std::sync::Wait;
 use std::thread;
 use test_alloc::Budget;
 
-/// The concurrent vector.
+/// The concurrent vector. With a permission, its pushes don't wait.
 #[derive(Drop)]
 pub struct FreeList<'h> {
     pub vector: LockFreeFrozenVec<u64, &'h Budget<Global>>,
-}
-
-/// The concurrent vector, with pushes that don't wait.
-#[derive(Drop)]
-pub struct TriedList<'h> {
-    pub vector: LockFreeFrozenVec<u64, &'h Budget<Global>>,
-    pub may: LockPermit,
+    pub may: Option<LockPermit>,
 }
 
 /// The locked vector.
@@ -35,56 +29,6 @@ fn entry(place: u64, item: u64) -> Entry {
         number: place,
         key: item,
         value: 0,
-    }
-}
-
-impl<'h> Form for FreeList<'h> {
-    type Pass = Pass<u64, &'h Budget<Global>>;
-
-    ghost of = { λ form pass. pass.vector ≡ form.vector };
-
-    fn pass(&self) -> Pass<u64, &'h Budget<Global>> {
-        self.vector.pass()
-    }
-
-    fn insert<R: Wait>(
-        &self,
-        rt: &R,
-        pass: &mut Pass<u64, &'h Budget<Global>>,
-        _key: u64,
-        value: u64,
-    ) -> Result<(Entry, bool), AllocError> {
-        let mut handle = Handle::of(&self.vector, std::mem::replace(pass, self.vector.pass()));
-        let place = if value % 2 == 0 {
-            handle.push(rt, value).map_err(AllocError::from)
-        } else {
-            handle.extend(rt, &[value])
-        };
-        *pass = handle.into_pass();
-        Ok((entry(place? as u64, value), true))
-    }
-
-    fn at<R: Wait>(
-        &self,
-        _rt: &R,
-        pass: &mut Pass<u64, &'h Budget<Global>>,
-        number: u64,
-    ) -> Option<Entry> {
-        let item = self.vector.get_as(pass, number as usize)?;
-        Some(entry(number, item))
-    }
-
-    fn has<R: Wait>(&self, _rt: &R, pass: &mut Pass<u64, &'h Budget<Global>>, new: u64) -> bool {
-        self.vector.len_as(pass) as u64 == new
-    }
-
-    fn meet(
-        &self,
-        one: &mut Pass<u64, &'h Budget<Global>>,
-        other: &mut Pass<u64, &'h Budget<Global>>,
-    ) -> bool {
-        one.meet(other);
-        one.seen_len() == other.seen_len()
     }
 }
 
@@ -110,7 +54,7 @@ fn push_patiently(
     Ok(usize::MAX)
 }
 
-impl<'h> Form for TriedList<'h> {
+impl<'h> Form for FreeList<'h> {
     type Pass = Pass<u64, &'h Budget<Global>>;
 
     ghost of = { λ form pass. pass.vector ≡ form.vector };
@@ -121,13 +65,18 @@ impl<'h> Form for TriedList<'h> {
 
     fn insert<R: Wait>(
         &self,
-        _rt: &R,
+        rt: &R,
         pass: &mut Pass<u64, &'h Budget<Global>>,
         _key: u64,
         value: u64,
     ) -> Result<(Entry, bool), AllocError> {
         let mut handle = Handle::of(&self.vector, std::mem::replace(pass, self.vector.pass()));
-        let place = push_patiently(&mut handle, self.may, value);
+        let place = match self.may {
+            Some(may) => push_patiently(&mut handle, may, value),
+            None if value % 3 == 0 => handle.push(rt, value).map_err(AllocError::from),
+            None if value % 3 == 1 => handle.extend(rt, &[value]),
+            None => handle.push_with(rt, |_index| value),
+        };
         *pass = handle.into_pass();
         Ok((entry(place? as u64, value), true))
     }
@@ -142,17 +91,17 @@ impl<'h> Form for TriedList<'h> {
         Some(entry(number, item))
     }
 
-    fn has<R: Wait>(&self, _rt: &R, pass: &mut Pass<u64, &'h Budget<Global>>, new: u64) -> bool {
-        self.vector.len_as(pass) as u64 == new
+    fn count<R: Wait>(&self, _rt: &R, pass: &mut Pass<u64, &'h Budget<Global>>, _new: u64) -> u64 {
+        self.vector.len_as(pass) as u64
     }
 
     fn meet(
         &self,
         one: &mut Pass<u64, &'h Budget<Global>>,
         other: &mut Pass<u64, &'h Budget<Global>>,
-    ) -> bool {
+    ) -> (usize, usize) {
         one.meet(other);
-        one.seen_len() == other.seen_len()
+        (one.seen_len(), other.seen_len())
     }
 }
 
@@ -183,11 +132,7 @@ impl<'h> Form for LockedList<'h> {
         }
     }
 
-    fn has<R: Wait>(&self, rt: &R, _pass: &mut (), new: u64) -> bool {
-        self.vector.len(rt) as u64 == new
-    }
-
-    fn meet(&self, _one: &mut (), _other: &mut ()) -> bool {
-        true
+    fn count<R: Wait>(&self, rt: &R, _pass: &mut (), _new: u64) -> u64 {
+        self.vector.len(rt) as u64
     }
 }

@@ -4,27 +4,24 @@
 //! `test_stress SEED SECONDS PAIRS CALLS` makes runs with the seeds from SEED on, at least one,
 //! until SECONDS seconds have passed. In a run, PAIRS pairs of threads make calls on each
 //! collection: CALLS calls by each of the first two threads, and by each of the two that continue
-//! with their views. The program prints `ok` and the number of runs, or the collection that failed
-//! and the seed of the run.
+//! with their views. The program prints `ok` and the number of runs, or the collection that failed,
+//! the seed of the run, and a result that was wrong.
 #![tactic(auto)]
 
 mod form;
 mod lists;
 mod maps;
 mod names;
-mod once;
 mod owned;
 mod recorded;
 mod script;
 mod shards;
 
-use crate::lists::{FreeList, LockedList, TriedList};
-use crate::maps::{FreeMap, HashedMap, OrderedMap, TriedMap};
+use crate::lists::{FreeList, LockedList};
+use crate::maps::{ByKey, FreeMap};
 use crate::names::{Names, ShardedNames};
-use crate::once::MadeOnce;
 use crate::owned::{OwnedList, OwnedMap};
-use crate::script::Script;
-use crate::shards::{FreeShards, LockedShards};
+use crate::script::{Script, Wrong};
 use elsa::interner::{ShardedInterner, SharedInterner};
 use elsa::sync::{
     FrozenBTreeMap, FrozenMap, FrozenVec, LockFreeFrozenMap, LockFreeFrozenVec, LockFreeShardedMap,
@@ -62,86 +59,95 @@ const FORMS: [&str; 15] = [
     "Recorder",
 ];
 
-/// Makes one run on the collection with this name, and returns whether all results were right.
+/// Makes one run on the collection with this name, and returns a result that was wrong.
 fn of_form<R: Threads + Wait + Sync>(
     rt: &R,
     alloc: Global,
     heap: &Budget<Global>,
     name: &str,
     script: Script,
-) -> Result<bool, AllocError> {
+) -> Result<Option<Wrong>, AllocError> {
     match name {
         "LockFreeFrozenVec" => {
-            let vector = LockFreeFrozenVec::new(heap)?;
-            form::runs_well(rt, alloc, heap, &FreeList { vector }, script)
+            let (vector, may) = (LockFreeFrozenVec::new(heap)?, None);
+            form::runs(rt, alloc, heap, &FreeList { vector, may }, script)
         }
         "LockFreeFrozenMap" => {
-            let map = LockFreeFrozenMap::new(heap)?;
-            form::runs_well(rt, alloc, heap, &FreeMap { map }, script)
+            let (map, may) = (LockFreeFrozenMap::new(heap)?, None);
+            form::runs(rt, alloc, heap, &FreeMap { map, may }, script)
         }
         "LockFreeFrozenVec without waiting" => {
-            let (vector, may) = (LockFreeFrozenVec::new(heap)?, LockPermit::trying(alloc));
-            form::runs_well(rt, alloc, heap, &TriedList { vector, may }, script)
+            let (vector, may) = (
+                LockFreeFrozenVec::new(heap)?,
+                Some(LockPermit::trying(alloc)),
+            );
+            form::runs(rt, alloc, heap, &FreeList { vector, may }, script)
         }
         "LockFreeFrozenMap without waiting" => {
-            let (map, may) = (LockFreeFrozenMap::new(heap)?, LockPermit::trying(alloc));
-            form::runs_well(rt, alloc, heap, &TriedMap { map, may }, script)
+            let (map, may) = (
+                LockFreeFrozenMap::new(heap)?,
+                Some(LockPermit::trying(alloc)),
+            );
+            form::runs(rt, alloc, heap, &FreeMap { map, may }, script)
         }
         "LockFreeFrozenVec of owners" => {
             let list = OwnedList::new(alloc, heap)?;
-            Ok(form::runs_well(rt, alloc, heap, &list, script)? && list.ends_well())
+            Ok(form::runs(rt, alloc, heap, &list, script)?.or(list.ends()))
         }
         "LockFreeFrozenMap of owners" => {
             let map = OwnedMap::new(alloc, heap)?;
-            Ok(form::runs_well(rt, alloc, heap, &map, script)? && map.ends_well())
+            Ok(form::runs(rt, alloc, heap, &map, script)?.or(map.ends()))
         }
         "OnceMap" => {
             let map = OnceMap::new(heap)?;
-            form::runs_well(rt, alloc, heap, &MadeOnce { map }, script)
+            form::runs(rt, alloc, heap, &ByKey { map }, script)
         }
         "FrozenVec" => {
             let vector = FrozenVec::new(heap);
-            form::runs_well(rt, alloc, heap, &LockedList { vector }, script)
+            form::runs(rt, alloc, heap, &LockedList { vector }, script)
         }
         "FrozenMap" => {
             let map = FrozenMap::new(heap);
-            form::runs_well(rt, alloc, heap, &HashedMap { map }, script)
+            form::runs(rt, alloc, heap, &ByKey { map }, script)
         }
         "FrozenBTreeMap" => {
             let map = FrozenBTreeMap::new(heap);
-            form::runs_well(rt, alloc, heap, &OrderedMap { map }, script)
+            form::runs(rt, alloc, heap, &ByKey { map }, script)
         }
         "ShardedMap" => {
             let map = ShardedMap::with_shards(heap, SHARDS, BuildHasherDefault::new())?;
-            form::runs_well(rt, alloc, heap, &LockedShards { map }, script)
+            form::runs(rt, alloc, heap, &ByKey { map }, script)
         }
         "LockFreeShardedMap" => {
             let map = LockFreeShardedMap::with_shards(heap, SHARDS, BuildHasherDefault::new())?;
-            form::runs_well(rt, alloc, heap, &FreeShards { map }, script)
+            form::runs(rt, alloc, heap, &ByKey { map }, script)
         }
         "SharedInterner" => {
             let names = SharedInterner::new(alloc)?;
-            form::runs_well(rt, alloc, heap, &Names { names }, script)
+            form::runs(rt, alloc, heap, &Names { names }, script)
         }
         "ShardedInterner" => {
             let names = ShardedInterner::with_shards(heap, SHARDS, BuildHasherDefault::new())?;
-            form::runs_well(rt, alloc, heap, &ShardedNames { names }, script)
+            form::runs(rt, alloc, heap, &ShardedNames { names }, script)
         }
-        _ => recorded::runs_well(rt, alloc, heap, heap, script),
+        _ => recorded::runs(rt, alloc, heap, heap, script),
     }
 }
 
-/// Returns whether one run on the collection had the right results and deallocated all memory of
-/// its budget. The shared interner has no budget.
-fn is_well<R: Threads + Wait + Sync>(
+/// Makes one run on the collection with this name. Returns a result that was wrong, or the memory
+/// of its budget if it was not all deallocated. The shared interner has no budget.
+fn wrong_of<R: Threads + Wait + Sync>(
     rt: &R,
     alloc: Global,
     name: &str,
     script: Script,
-) -> Result<bool, AllocError> {
+) -> Result<Option<Wrong>, AllocError> {
     let heap = Budget::new(alloc);
-    let well = of_form(rt, alloc, &heap, name, script)?;
-    Ok(well && heap.given() == heap.granted())
+    let wrong = of_form(rt, alloc, &heap, name, script)?;
+    if wrong.is_some() || heap.given() == heap.granted() {
+        return Ok(wrong);
+    }
+    Ok(Some(Wrong::Blocks(heap.given(), heap.granted())))
 }
 
 fn number_of(words: &[String], place: usize) -> u64 {
@@ -151,15 +157,15 @@ fn number_of(words: &[String], place: usize) -> u64 {
     }
 }
 
-/// Returns the first collection that failed, or `None`.
+/// Returns the first collection that failed, and what was wrong, or `None`.
 fn broken<R: Threads + Wait + Sync>(
     rt: &R,
     alloc: Global,
     script: Script,
-) -> Result<Option<&'static str>, AllocError> {
+) -> Result<Option<(&'static str, Wrong)>, AllocError> {
     for name in &FORMS {
-        if !is_well(rt, alloc, name, script)? {
-            return Ok(Some(*name));
+        if let Some(wrong) = wrong_of(rt, alloc, name, script)? {
+            return Ok(Some((*name, wrong)));
         }
     }
     Ok(None)
@@ -182,8 +188,8 @@ fn main(rt: HostRuntime) -> io::Result<()> {
         }
         let seed = first.wrapping_add(run);
         let script = Script { seed, pairs, calls };
-        if let Some(name) = broken(&rt, rt.alloc(), script)? {
-            return println!(rt; "{name} broke at the seed {seed}");
+        if let Some((name, wrong)) = broken(&rt, rt.alloc(), script)? {
+            return println!(rt; "{name} broke at the seed {seed}: {wrong:?}");
         }
         runs = run.saturating_add(1);
     }

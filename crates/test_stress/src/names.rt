@@ -81,21 +81,21 @@ impl Form for Names {
         }
     }
 
-    fn has<R: Wait>(&self, rt: &R, pass: &mut NamePass, _new: u64) -> bool {
+    fn count<R: Wait>(&self, rt: &R, pass: &mut NamePass, new: u64) -> u64 {
         for number in 0..u64::MAX {
             match self.at(rt, pass, number) {
                 Some(there) => if there.number != number {
-                    return false;
+                    return u64::MAX;
                 },
-                None => return true,
+                None => return new,
             }
         }
-        false
+        u64::MAX
     }
 
-    fn meet(&self, one: &mut NamePass, other: &mut NamePass) -> bool {
+    fn meet(&self, one: &mut NamePass, other: &mut NamePass) -> (usize, usize) {
         one.meet(other);
-        one.seen_len() == other.seen_len()
+        (one.seen_len(), other.seen_len())
     }
 }
 
@@ -165,22 +165,18 @@ impl<'h> Form for ShardedNames<'h> {
         found(rt, &mut handle, number)
     }
 
-    fn has<R: Wait>(&self, rt: &R, _pass: &mut (), _new: u64) -> bool {
+    fn count<R: Wait>(&self, rt: &R, _pass: &mut (), new: u64) -> u64 {
         let Ok(mut handle) = opened(self) else {
-            return false;
+            return u64::MAX;
         };
         let (all, count) = (handle.len() as u64, handle.shards().len() as u64);
         let mut sum = 0u64;
         for shard in 0..count {
             match in_shard(rt, &mut handle, shard, count) {
                 Some(names) => sum = sum.saturating_add(names),
-                None => return false,
+                None => return u64::MAX,
             }
         }
-        sum == all
-    }
-
-    fn meet(&self, _one: &mut (), _other: &mut ()) -> bool {
-        true
+        if sum == all { new } else { u64::MAX }
     }
 }

@@ -3,7 +3,7 @@
 ghost use Rattle.std.specs.Prelude.{◌≡◌};
 
 use crate::form::Form;
-use crate::script::Entry;
+use crate::script::{Entry, Moved, Wrong};
 use elsa::sync::{Handle, LockFreeFrozenMap, LockFreeFrozenVec, MapHandle, MapPass, Pass};
 use std::alloc::{AllocError, Global};
 use std::hash::{BuildHasherDefault, FoldHasher};
@@ -42,33 +42,37 @@ fn number_of(text: &str) -> u64 {
     text.parse::<u64>().unwrap_or(u64::MAX)
 }
 
-/// The number of entries, and a sum in which each entry and its index counts.
-#[derive(Clone, Copy, PartialEq, Eq)]
-struct Sum {
-    count: usize,
-    sum: u64,
-}
-
-impl Sum {
-    fn zero() -> Sum {
-        Sum { count: 0, sum: 0 }
-    }
-
-    /// Adds the next entry.
-    fn add(&mut self, key: u64, value: u64) {
-        self.count = self.count.wrapping_add(1);
-        self.sum = self
-            .sum
-            .wrapping_mul(0x9e37_79b9_7f4a_7c15)
-            .wrapping_add(key)
-            .wrapping_mul(0x9e37_79b9_7f4a_7c15)
-            .wrapping_add(value);
+/// No entries, of which the number has one owner.
+fn no_entries() -> Moved {
+    Moved {
+        count: 0,
+        sum: 0,
+        owners: [1, 1, 1],
     }
 }
 
-/// Returns whether the owner of one number has `items` further owners.
-fn has_owners(count: &Arc<u64, Global>, items: usize) -> bool {
-    Arc::strong_count(count) == items.wrapping_add(1)
+/// Adds the next entry.
+fn add(sum: &mut Moved, key: u64, value: u64) {
+    sum.count = sum.count.wrapping_add(1);
+    sum.sum = sum
+        .sum
+        .wrapping_mul(0x9e37_79b9_7f4a_7c15)
+        .wrapping_add(key)
+        .wrapping_mul(0x9e37_79b9_7f4a_7c15)
+        .wrapping_add(value);
+}
+
+/// Returns what was moved out, if it differs from what the collection had.
+fn differs(had: Moved, got: Moved) -> Option<Wrong> {
+    let owners = had.count.wrapping_add(1);
+    let wanted = Moved {
+        owners: [owners, owners, 1],
+        ..had
+    };
+    if got == wanted {
+        return None;
+    }
+    Some(Wrong::MovedOut(got, wanted))
 }
 
 /// A vector of items that own memory.
@@ -85,22 +89,22 @@ pub struct OwnedList<'h> {
     count: Arc<u64, Global>,
 }
 
-/// Returns the sum of a vector's items.
-fn sum_of_vector(vector: &Items<'_>) -> Sum {
-    let mut sum = Sum::zero();
+/// Returns the items of a vector.
+fn of_vector(vector: &Items<'_>) -> Moved {
+    let mut all = no_entries();
     for item in vector.handle().news().refs() {
-        sum.add(0, item.number());
+        add(&mut all, 0, item.number());
     }
-    sum
+    all
 }
 
-/// Returns the sum of items that came out.
-fn sum_of_items(items: &[Owner<'_>]) -> Sum {
-    let mut sum = Sum::zero();
+/// Returns the items that came out.
+fn of_items(items: &[Owner<'_>]) -> Moved {
+    let mut all = no_entries();
     for item in items {
-        sum.add(0, item.number());
+        add(&mut all, 0, item.number());
     }
-    sum
+    all
 }
 
 impl<'h> OwnedList<'h> {
@@ -112,28 +116,28 @@ impl<'h> OwnedList<'h> {
         })
     }
 
-    /// Moves all items out, after one failure to do so. Returns whether they are the vector's
-    /// items, each with one owner and dropped once.
-    pub fn ends_well(self) -> bool {
+    /// Moves all items out, after one failure to do so. Returns what was wrong, if they aren't the
+    /// vector's items, each with one owner and dropped once.
+    pub fn ends(self) -> Option<Wrong> {
         let Self {
             vector,
             heap,
             count,
         } = self;
-        let sum = sum_of_vector(&vector);
-        let owned = has_owners(&count, sum.count);
+        let (had, before) = (of_vector(&vector), Arc::strong_count(&count));
         heap.refuse_next(1);
         let Err(failed) = vector.into_vec() else {
             heap.refuse_next(0);
-            return sum.count == 0;
+            return differs(had, no_entries());
         };
         heap.refuse_next(0);
         let Ok(items) = failed.value.into_vec() else {
-            return false;
+            return Some(Wrong::Stopped);
         };
-        let whole = sum_of_items(&items) == sum && has_owners(&count, sum.count);
+        let (mut got, out) = (of_items(&items), Arc::strong_count(&count));
         drop(items);
-        owned && whole && has_owners(&count, 0)
+        got.owners = [before, out, Arc::strong_count(&count)];
+        differs(had, got)
     }
 }
 
@@ -177,13 +181,13 @@ impl<'h> Form for OwnedList<'h> {
         })
     }
 
-    fn has<R: Wait>(&self, _rt: &R, pass: &mut ItemsSeen<'h>, new: u64) -> bool {
-        self.vector.len_as(pass) as u64 == new
+    fn count<R: Wait>(&self, _rt: &R, pass: &mut ItemsSeen<'h>, _new: u64) -> u64 {
+        self.vector.len_as(pass) as u64
     }
 
-    fn meet(&self, one: &mut ItemsSeen<'h>, other: &mut ItemsSeen<'h>) -> bool {
+    fn meet(&self, one: &mut ItemsSeen<'h>, other: &mut ItemsSeen<'h>) -> (usize, usize) {
         one.meet(other);
-        one.seen_len() == other.seen_len()
+        (one.seen_len(), other.seen_len())
     }
 }
 
@@ -207,24 +211,24 @@ pub struct OwnedMap<'h> {
     count: Arc<u64, Global>,
 }
 
-/// Returns the sum of a map's entries.
-fn sum_of_map(map: &Entries<'_>) -> Sum {
-    let mut sum = Sum::zero();
+/// Returns the entries of a map.
+fn of_map(map: &Entries<'_>) -> Moved {
+    let mut all = no_entries();
     let mut handle = map.handle();
     handle.len();
     for (key, value) in handle.iter().refs() {
-        sum.add(number_of(key.as_str()), value.number());
+        add(&mut all, number_of(key.as_str()), value.number());
     }
-    sum
+    all
 }
 
-/// Returns the sum of entries that came out.
-fn sum_of_entries(entries: &[(Text<'_>, Owner<'_>)]) -> Sum {
-    let mut sum = Sum::zero();
+/// Returns the entries that came out.
+fn of_entries(entries: &[(Text<'_>, Owner<'_>)]) -> Moved {
+    let mut all = no_entries();
     for entry in entries {
-        sum.add(number_of(entry.0.as_str()), entry.1.number());
+        add(&mut all, number_of(entry.0.as_str()), entry.1.number());
     }
-    sum
+    all
 }
 
 /// Makes a handle of a view, and leaves a new view instead of it.
@@ -245,24 +249,24 @@ impl<'h> OwnedMap<'h> {
         })
     }
 
-    /// Moves all entries out, after one failure to do so. Returns whether they are the map's
-    /// entries, each with one owner and dropped once.
-    pub fn ends_well(self) -> bool {
+    /// Moves all entries out, after one failure to do so. Returns what was wrong, if they aren't
+    /// the map's entries, each with one owner and dropped once.
+    pub fn ends(self) -> Option<Wrong> {
         let Self { map, heap, count } = self;
-        let sum = sum_of_map(&map);
-        let owned = has_owners(&count, sum.count);
+        let (had, before) = (of_map(&map), Arc::strong_count(&count));
         heap.refuse_next(1);
         let Err(failed) = map.into_tuple_vec() else {
             heap.refuse_next(0);
-            return sum.count == 0;
+            return differs(had, no_entries());
         };
         heap.refuse_next(0);
         let Ok(entries) = failed.value.into_tuple_vec() else {
-            return false;
+            return Some(Wrong::Stopped);
         };
-        let whole = sum_of_entries(&entries) == sum && has_owners(&count, sum.count);
+        let (mut got, out) = (of_entries(&entries), Arc::strong_count(&count));
         drop(entries);
-        owned && whole && has_owners(&count, 0)
+        got.owners = [before, out, Arc::strong_count(&count)];
+        differs(had, got)
     }
 }
 
@@ -288,12 +292,7 @@ impl<'h> Form for OwnedMap<'h> {
         let stands = handle.insert_ref(rt, text, item);
         *pass = handle.into_pass();
         let stands = stands?;
-        let entry = Entry {
-            number: key,
-            key,
-            value: stands.value.number(),
-        };
-        Ok((entry, stands.is_new))
+        Ok((Entry::by_key(key, stands.value.number()), stands.is_new))
     }
 
     fn at<R: Wait>(&self, _rt: &R, pass: &mut EntriesSeen<'h>, number: u64) -> Option<Entry> {
@@ -301,23 +300,18 @@ impl<'h> Form for OwnedMap<'h> {
         let mut handle = by_pass(&self.map, pass);
         let found = handle.get_ref(digits.format(number));
         *pass = handle.into_pass();
-        let item = found?;
-        Some(Entry {
-            number,
-            key: number,
-            value: item.number(),
-        })
+        Some(Entry::by_key(number, found?.number()))
     }
 
-    fn has<R: Wait>(&self, _rt: &R, pass: &mut EntriesSeen<'h>, new: u64) -> bool {
+    fn count<R: Wait>(&self, _rt: &R, pass: &mut EntriesSeen<'h>, _new: u64) -> u64 {
         let mut handle = by_pass(&self.map, pass);
         let length = handle.len();
         *pass = handle.into_pass();
-        length as u64 == new
+        length as u64
     }
 
-    fn meet(&self, one: &mut EntriesSeen<'h>, other: &mut EntriesSeen<'h>) -> bool {
+    fn meet(&self, one: &mut EntriesSeen<'h>, other: &mut EntriesSeen<'h>) -> (usize, usize) {
         one.meet(other);
-        one.seen_len() == other.seen_len()
+        (one.seen_len(), other.seen_len())
     }
 }

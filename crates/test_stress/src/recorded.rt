@@ -1,7 +1,7 @@
 //! The recorder. The receipts of all passes are its history, and a plain table has the same replies
 //! to the same commands.
 use crate::form::KEYS;
-use crate::script::{Draws, Script};
+use crate::script::{Draws, Script, Wrong};
 use elsa::sync::history::{MapCommand, MapReply, RecordPass, Recorder};
 use elsa::sync::map::MapState;
 use std::alloc::{AllocError, Allocator, Global};
@@ -72,16 +72,16 @@ impl Plain {
         (value, true)
     }
 
-    /// Runs the command on the table, and returns whether the reply is that of the table.
-    fn replies(&mut self, command: MapCommand<u64, u64>, reply: MapReply<u64>) -> bool {
+    /// Runs the command on the table, and returns the table's reply.
+    fn reply(&mut self, command: MapCommand<u64, u64>) -> MapReply<u64> {
         match command {
-            MapCommand::Insert(key, value) => reply == MapReply::Value(self.insert(key, value).0),
+            MapCommand::Insert(key, value) => MapReply::Value(self.insert(key, value).0),
             MapCommand::InsertNew(key, value) => {
                 let (stands, is_new) = self.insert(key, value);
-                reply == MapReply::ValueNew(stands, is_new)
+                MapReply::ValueNew(stands, is_new)
             }
-            MapCommand::Get(key) => reply == MapReply::Found(self.get(key)),
-            MapCommand::Len => reply == MapReply::Count(self.count),
+            MapCommand::Get(key) => MapReply::Found(self.get(key)),
+            MapCommand::Len => MapReply::Count(self.count),
         }
     }
 }
@@ -102,36 +102,37 @@ fn calls<R: Wait, A: Allocator + Copy>(
     pass
 }
 
-/// Returns whether the receipts are the history, and its replies are those of a plain table.
+/// Returns the first reply in the history that is not that of a plain table.
 fn closes<A: Allocator + Copy>(
     alloc: Global,
     recorder: Recorder<Core<A>, A>,
     passes: Vec<Told<A>, A>,
-) -> Result<bool, AllocError> {
+) -> Result<Option<Wrong>, AllocError> {
     let Ok(history) = recorder.close(passes) else {
-        return Ok(false);
+        return Ok(Some(Wrong::Stopped));
     };
     let mut plain = Plain::new(alloc)?;
     for entry in history.entries() {
-        if !plain.replies(entry.1, entry.2) {
-            return Ok(false);
+        let wanted = plain.reply(entry.1);
+        if wanted != entry.2 {
+            return Ok(Some(Wrong::Reply(entry.2, wanted)));
         }
     }
-    Ok(true)
+    Ok(None)
 }
 
-/// Makes one run on a recorder, in which a second thread continues with each pass. Returns whether
-/// all results were right.
+/// Makes one run on a recorder, in which a second thread continues with each pass. Returns a result
+/// that was wrong.
 ///
 /// # Errors
 /// Fails if an allocation of the test itself fails.
-pub fn runs_well<R: Threads + Wait + Sync, A: Allocator + Copy + Send + Sync>(
+pub fn runs<R: Threads + Wait + Sync, A: Allocator + Copy + Send + Sync>(
     rt: &R,
     alloc: Global,
     heap: &Budget<Global>,
     scarce: A,
     script: Script,
-) -> Result<bool, AllocError> {
+) -> Result<Option<Wrong>, AllocError> {
     let recorder = Recorder::new(scarce, MapState::new(scarce));
     let shared = &recorder;
     let first = thread::map_indices(

@@ -1,4 +1,5 @@
 //! What the threads use: random numbers, and the log of what they read and inserted.
+use elsa::sync::history::MapReply;
 use std::alloc::{AllocError, Global};
 
 /// The parameters of a run: its seed, the number of pairs of threads, and the number of calls of
@@ -61,11 +62,40 @@ impl Draws {
 
 /// An entry that was read or inserted: the number by which it can be read again, an index or a key,
 /// and its key and value.
-#[derive(Clone, Copy, PartialEq, Eq)]
+#[derive(Clone, Copy, Debug, PartialEq, Eq)]
 pub struct Entry {
     pub number: u64,
     pub key: u64,
     pub value: u64,
+}
+
+/// A result that differed, and the one that was expected.
+#[derive(Clone, Copy, Debug, Drop)]
+pub enum Wrong {
+    /// The entry with a number that a thread had observed.
+    Entry(Option<Entry>, Entry),
+    /// The numbers of entries that two merged views have observed.
+    Merged(usize, usize),
+    /// The number of entries at the end.
+    Count(u64, u64),
+    /// What was moved out at the end.
+    MovedOut(Moved, Moved),
+    /// The reply in the history of a recorder.
+    Reply(MapReply<u64>, MapReply<u64>),
+    /// The number of deallocated blocks, and of allocated ones.
+    Blocks(u64, u64),
+    /// An allocation of the test itself failed in a thread, or a recorder was not closed.
+    Stopped,
+}
+
+/// The entries that were moved out of a collection, and the owners of one number: while the
+/// collection has the entries, while they are out, and after they are dropped.
+#[derive(Clone, Copy, Debug, PartialEq, Eq)]
+pub struct Moved {
+    pub count: usize,
+    /// A sum in which each entry and its index counts.
+    pub sum: u64,
+    pub owners: [usize; 3],
 }
 
 /// The calls of a thread so far, and the entries that it observed.
@@ -75,8 +105,19 @@ pub struct Log {
     /// The number of entries that it inserted.
     pub new: u64,
     pub calls: u64,
-    /// Whether each result was right so far.
-    pub well: bool,
+    /// A wrong result, if there was one.
+    pub wrong: Option<Wrong>,
+}
+
+impl Entry {
+    /// Makes the entry of a collection that finds it by its key.
+    pub fn by_key(key: u64, value: u64) -> Entry {
+        Entry {
+            number: key,
+            key,
+            value,
+        }
+    }
 }
 
 impl Log {
@@ -86,7 +127,7 @@ impl Log {
             entries: Vec::new(alloc),
             new: 0,
             calls: 0,
-            well: true,
+            wrong: None,
         }
     }
 
@@ -109,8 +150,10 @@ impl Log {
         self.saw(entry)
     }
 
-    /// Records a wrong result.
-    pub fn fails(&mut self) {
-        self.well = false;
+    /// Records a wrong result, if there is one.
+    pub fn notes(&mut self, wrong: Option<Wrong>) {
+        if wrong.is_some() {
+            self.wrong = wrong;
+        }
     }
 }

@@ -1,5 +1,5 @@
 //! Values that own memory in an arena, with the paths of `elsa`.
-use elsa::TypedArena;
+use elsa::{TypedArena, cell};
 use std::alloc::{AllocError, Global};
 use std::test::Fail;
 
@@ -38,5 +38,16 @@ fn keeps_texts(alloc: Global) -> Result<bool, AllocError> {
 #[test]
 fn values_that_own_memory_stay_where_they_were_placed(rt: HostRuntime) -> Result<(), Fail> {
     assert!(rt; keeps_texts(rt.alloc())?);
+    Ok(())
+}
+
+#[test]
+fn evidence_of_a_list_led_to_another_item(rt: HostRuntime) -> Result<(), Fail> {
+    let list: cell::FrozenVec<u64> = cell::FrozenVec::new(rt.alloc())?;
+    list.push(7)?;
+    let seen: cell::Seen<u64> = list.observed().evidence();
+    list.push(8)?;
+    assert_eq!(rt; list.get_since(&seen, 0), Some(&7));
+    assert_eq!(rt; list.handle_since(&seen).len(), 2);
     Ok(())
 }

@@ -295,3 +295,25 @@ fn an_error_of_a_recorder_or_a_program_printed_another_sentence(
     assert!(rt; prints_what_was_read(rt.alloc())?);
     Ok(())
 }
+
+#[test]
+fn a_fault_has_its_number(rt: HostRuntime) -> Result<(), AllocError> {
+    assert_eq!(rt;
+        (LoadFault::NotFound as u8, LoadFault::Memory as u8),
+        (1, 2)
+    );
+    assert_eq!(rt; (EngineFault::Read as u8, EngineFault::Write as u8), (1, 2));
+    assert_eq!(rt;
+        (EngineFault::Endless as u8, NameFault::TooLong as u8),
+        (3, 1)
+    );
+    assert_eq!(rt;
+        (SharedFault::Memory as u8, SharedFault::Gate as u8),
+        (1, 2)
+    );
+    assert_eq!(rt;
+        (SharedFault::Check as u8, SharedFault::Thread as u8),
+        (3, 4)
+    );
+    Ok(())
+}

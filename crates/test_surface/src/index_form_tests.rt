@@ -163,3 +163,16 @@ fn a_value_was_not_stored_or_not_found(rt: HostRuntime) -> Result<(), Fail> {
     assert!(rt; is_at_the_second(rt.alloc())? && is_placed(rt.alloc()));
     Ok(())
 }
+
+#[test]
+fn an_insertion_tells_the_index_the_value_and_whether_the_key_is_new(
+    rt: HostRuntime,
+) -> Result<(), AllocError> {
+    let arena = Bump::new(rt.alloc());
+    let mut map: FrozenIndexMap<'_, u64, String> = FrozenIndexMap::new(rt.alloc(), &arena);
+    let first = map.insert_full_new(12, String::from_str(rt.alloc(), "a")?)?;
+    assert_eq!(rt; first, (0, "a", true));
+    let again = map.insert_full_new(12, String::from_str(rt.alloc(), "b")?)?;
+    assert_eq!(rt; again, (0, "a", false));
+    Ok(())
+}

@@ -7,6 +7,8 @@ mod arena_form_tests;
 #[cfg(test)]
 mod base_form_tests;
 #[cfg(test)]
+mod bulk_form_tests;
+#[cfg(test)]
 mod error_tests;
 #[cfg(test)]
 mod filled;
@@ -55,15 +57,13 @@ mod shared_names;
 #[cfg(test)]
 mod shared_tests;
 #[cfg(test)]
-mod signatures;
-#[cfg(test)]
-mod signatures_repeated;
-#[cfg(test)]
 mod state_form_tests;
 #[cfg(test)]
 mod table_tests;
 #[cfg(test)]
 mod text_key_tests;
+#[cfg(test)]
+mod twice_tests;
 #[cfg(test)]
 mod upstream_tests;
 #[cfg(test)]

@@ -115,14 +115,19 @@ fn has_nine(rt: &impl Wait, list: &List) -> Result<bool, AllocError> {
     Ok(read && list.len(rt) == 3 && !list.is_empty(rt))
 }
 
-/// Returns whether a clone that was taken apart and made again is equal, and is empty after
-/// `clear`.
+/// Returns whether a clone that was taken apart and made again is equal, also as its inner vector,
+/// and is empty after `clear`.
 fn is_list_anew(rt: &impl Wait, list: &List) -> Result<bool, AllocError> {
     let copy = list.clone(rt)?;
     let mut again: List = FrozenVec::from_vec(copy.into_vec());
     let is_equal = list.equals(rt, &again)?;
-    again.as_mut().clear();
-    Ok(is_equal && again.is_empty(rt))
+    let inner = again.as_mut();
+    let ends = (
+        inner.first().map(|item| **item),
+        inner.last().map(|item| **item),
+    );
+    inner.clear();
+    Ok(is_equal && ends == (Some(7), Some(9)) && again.is_empty(rt))
 }
 
 #[test]

@@ -5,6 +5,8 @@
 #[cfg(test)]
 mod any_arena;
 #[cfg(test)]
+mod bulk;
+#[cfg(test)]
 mod by_closure;
 #[cfg(test)]
 mod law_tests;

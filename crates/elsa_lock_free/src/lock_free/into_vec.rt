@@ -2,12 +2,12 @@
 //!
 //! A handle borrows its vector, so these calls are on the vector, and no thread pushes meanwhile. A
 //! view borrows nothing: it survives the vector, and states which items came out.
-ghost use Rattle.std.specs.Prelude.{◌≡◌, IfOk, IfErr};
+ghost use Rattle.std.specs.Prelude.{◌≡◌, ◌≤◌, [], length, IfOk, IfErr};
 ghost use Rattle.elsa_lock_free.specs.SharedList.{Continues, items_of};
 
 use super::{LockFreeFrozenVec, Pass};
 use crate::item_rule::ItemRule;
-use elsa_slots::slots::{Beside, Collection};
+use elsa_slots::slots::{Beside, Collection, Sink};
 use std::alloc::{AllocFailed, Allocator};
 
 impl<T: Drop, A: Allocator + Copy, K: ItemRule<T>, X: Beside<T> + Drop> LockFreeFrozenVec<
@@ -35,11 +35,23 @@ impl<T: Drop, A: Allocator + Copy, K: ItemRule<T>, X: Beside<T> + Drop> LockFree
         let Ok(mut to) = S::with_capacity(self.list.slots.allocator(), len) else {
             return Err(AllocFailed { value: self });
         };
+        self.move_items_as(pass, &mut to);
+        Ok(to)
+    }
+
+    /// Moves the items that the view has observed to `to`, in order and each once. No thread has
+    /// pushed since the view read the length, so they are all items.
+    #[doc(hidden)]
+    pub fn move_items_as<S: Sink<T>>(self, pass: &Pass<T, A, K, X>, to: &mut S)
+        requires same_vector { pass.now.vector ≡ self }
+        requires room { (S.received to.old ≡ []) × (length pass.now.seen ≤ S.capacity to.old) }
+        ensures received { S.received to.new ≡ items_of pass.now.seen }
+    {
+        let len = pass.seen_len();
         let prefix = pass.evidence();
         let LockFreeFrozenVec { list } = self;
-        list.move_items(len, &prefix, &mut to);
+        list.move_items(len, &prefix, to);
         prefix.discard();
-        Ok(to)
     }
 
     /// Returns all items, in order and each once. The view then has observed all of them.

@@ -1,8 +1,11 @@
 //! The map for large collections.
 ghost use Rattle.std.specs.Prelude.{◌≡◌, ◌↔◌, ◌+◌, ◌<◌, ◌≤◌, [], Some, IfErr, IfSome, IsOk, IsTrue, length, position, slice_get};
+ghost use Rattle.std.specs.Iterator.{ExtendsWithItems, IsFinite};
 ghost use Rattle.std.specs.List.{IsDistinct};
 ghost use Rattle.std.specs.Map.{keys_of, lookup};
 ghost use Rattle.std.specs.Option.{option_map};
+ghost use Rattle.elsa_tables.specs.Insertions.{Grows};
+ghost use Rattle.elsa_maps.specs.FirstWins.{AppendsFirsts, HoldsFirst};
 ghost use Rattle.elsa_buckets.specs.Room.{most_entries, IfRoomFault, IsFull};
 
 use super::Frozen;
@@ -10,7 +13,7 @@ use bumpalo::Bump;
 use elsa_buckets::append_map::{AppendMap, RoomFault};
 use elsa_buckets::query::Query;
 use elsa_vec::stable::StableDeref;
-use std::alloc::{Allocator, Global};
+use std::alloc::{AllocError, Allocator, Global};
 use std::hash::{BuildHasher, BuildHasherDefault, FoldHasher, Hash};
 
 /// A map for large collections: the first value of a key stays, and the entries keep the order of
@@ -128,5 +131,36 @@ where
         ensures full { most_entries < length self.old + additional → ¬ (IsOk result) }
     {
         self.table.reserve(additional)
+    }
+
+    /// Inserts the pairs in their order: each new key is appended with the value of its first pair.
+    /// A present key keeps its index and its value.
+    ///
+    /// The map reserves capacity for the lower bound of the iterator's `size_hint`. If that fails,
+    /// it grows entry by entry.
+    ///
+    /// # Errors
+    /// Fails if an allocation fails, or for a new key if the map has 2^32 - 1 entries. The pairs
+    /// before the one that failed are inserted, and the others are dropped.
+    ///
+    /// # Allocates
+    /// The growth of the list of pairs and of the buckets, and each value of a new key in the
+    /// arena.
+    ///
+    /// # Cost
+    /// `O(1)` for each pair, with one hash and one search.
+    pub fn extend<I: IntoIterator<Item = (K, V)>>(&mut self, pairs: I) -> Result<(), AllocError>
+        requires ends { (s : I.IntoIter) → I.into_iter_gives pairs s →
+            I.IntoIter.can_next s × IsFinite (I.IntoIter.remaining s) }
+        ensures extended { ExtendsWithItems I.into_iter_gives I.IntoIter.next_gives
+            (AppendsFirsts K.eq V.target V.shown) pairs self.old self.new result }
+        ensures values { ExtendsWithItems I.into_iter_gives I.IntoIter.next_gives
+            (HoldsFirst K.eq V.target V.shown) pairs self.old self.new result }
+        ensures kept { Grows self.old self.new }
+    {
+        let pairs = pairs.into_iter();
+        // Keys may be present, so only a failed insertion is an error.
+        let _room = self.reserve(pairs.size_hint().0);
+        self.insert_all(pairs)
     }
 }

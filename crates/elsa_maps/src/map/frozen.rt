@@ -1,10 +1,11 @@
 //! The map over any table.
-ghost use Rattle.std.specs.Prelude.{◌≡◌, ◌↔◌, Ok, Err, None, Some, false, true, IfErr, IfOk, IsSome, IsSomeAnd, IsTrue, MatchOption, OnErr, is_some, length};
+ghost use Rattle.std.specs.Prelude.{◌≡◌, ◌↔◌, ◌++◌, ◌∷◌, [], List, MatchResult, Ok, Err, None, Some, false, true, IfErr, IfOk, IsSome, IsSomeAnd, IsTrue, MatchOption, OnErr, is_some, length};
 ghost use Rattle.std.specs.Borrow.{sem};
+ghost use Rattle.std.specs.Iterator.{Drains, IsFinite, Yields};
 ghost use Rattle.std.specs.List.{IsDistinct};
 ghost use Rattle.std.specs.Map.{keys_of, lookup, lookup_entry};
 ghost use Rattle.std.specs.Option.{ForSome};
-ghost use Rattle.elsa_maps.specs.FirstWins.{AddsNew, IsRefused, value_at};
+ghost use Rattle.elsa_maps.specs.FirstWins.{AddsNew, AppendsFirsts, HoldsFirst, IsRefused, value_at};
 ghost use Rattle.elsa_maps.specs.InsertFault.{IfCause};
 ghost use Rattle.elsa_tables.specs.Tables.{was_present};
 ghost use Rattle.elsa_maps.specs.Lent.{lends_table};
@@ -214,6 +215,17 @@ where
         (alloc, inner_map)
     }
 
+    /// Returns the inner map by reference, for each call of it that only reads. Its values are the
+    /// borrows.
+    ///
+    /// # Cost
+    /// `O(1)`. It allocates nothing.
+    pub fn inner(&self) -> &T
+        ensures content { T.entries result.now ≡ self.now }
+    {
+        &self.table
+    }
+
     /// Returns the inner map, borrowed for writing: the caller may change or remove any entry, and
     /// the map then has the entries that are left.
     pub fn as_mut(&mut self) -> &mut T
@@ -277,6 +289,30 @@ where
         ensures refused { OnErr result (IsRefused T.same self.old key self.new) }
     {
         Ok(self.insert_new(key, value)?.0)
+    }
+
+    // Inserts the pairs in their order: what `extend` is after it has reserved capacity.
+    pub(crate) fn insert_all<I: Iterator<Item = (K, V)>>(
+        &mut self,
+        pairs: I,
+    ) -> Result<(), AllocError>
+        requires ends { I.can_next pairs × IsFinite (I.remaining pairs) }
+
+        // The pairs before the one that failed are inserted. If each new entry is the last one,
+        // they are appended.
+        ensures extended { (xs : List (K × V))
+            × HoldsFirst T.same V.target V.shown self.old xs self.new
+            × (((es : List (K × V.Borrow)) (k : K) (b : V.Borrow) (fs : List (K × V.Borrow)) →
+            T.extends es k b fs → fs ≡ es ++ (k, b) ∷ []) →
+            AppendsFirsts T.same V.target V.shown self.old xs self.new)
+            × MatchResult result (λ _. Drains I.next_gives pairs xs)
+            (λ _. (t : I) × Yields I.next_gives pairs xs t) }
+    {
+        for pair in pairs {
+            let (key, value) = pair;
+            self.insert(key, value)?;
+        }
+        Ok(())
     }
 
     /// Inserts the result of `make` unless the map has an equal key, and returns the value that the

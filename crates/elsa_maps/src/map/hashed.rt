@@ -1,10 +1,10 @@
 //! The map that finds a key by its hash.
 ghost use Rattle.std.specs.Prelude.{◌≡◌, ◌≤◌, ◌↔◌, [], ◌∷◌, List, None, true, IfOk, IsOk, IsPermutation, IsTrue, OnErr, OnOk, Ok, Some, length};
-ghost use Rattle.std.specs.Iterator.{Drains, IsFinite};
+ghost use Rattle.std.specs.Iterator.{Drains, ExtendsWithItems, IsFinite};
 ghost use Rattle.std.specs.List.{IsDistinct};
 ghost use Rattle.std.specs.Map.{keys_of, values_of};
 ghost use Rattle.std.specs.Map.Iter.{ShowsInOrder, deref, deref_pair};
-ghost use Rattle.elsa_maps.specs.FirstWins.{AddsNew, HoldsLast, IsRefused, SameAt, same_values, value_at};
+ghost use Rattle.elsa_maps.specs.FirstWins.{AddsNew, HoldsFirst, HoldsLast, IsRefused, Keeps, SameAt, same_values, value_at};
 ghost use Rattle.elsa_tables.proofs.MapEquality.{same_values_equivalence, same_values_laws};
 ghost use Rattle.elsa_tables.specs.FirstWins.{IsEqualMap};
 
@@ -114,6 +114,34 @@ impl<
         ensures none_is_free { additional ≡ 0 → IsOk result }
     {
         self.table.reserve(additional)
+    }
+
+    /// Inserts the pairs in their order. The first value of a key wins: a present key keeps its
+    /// value, and of several pairs with an equal new key the first one is inserted.
+    ///
+    /// The table reserves capacity for the lower bound of the iterator's `size_hint`. If that
+    /// fails, it grows entry by entry.
+    ///
+    /// # Errors
+    /// Fails if an allocation fails. The pairs before the one that failed are inserted, and the
+    /// others are dropped.
+    ///
+    /// # Allocates
+    /// The growth of the table, and each value of a new key in the arena.
+    ///
+    /// # Cost
+    /// `O(1)` for each pair, with one hash and one search.
+    pub fn extend<I: IntoIterator<Item = (K, V)>>(&mut self, pairs: I) -> Result<(), AllocError>
+        requires ends { (s : I.IntoIter) → I.into_iter_gives pairs s →
+            I.IntoIter.can_next s × IsFinite (I.IntoIter.remaining s) }
+        ensures extended { ExtendsWithItems I.into_iter_gives I.IntoIter.next_gives
+            (HoldsFirst K.eq V.target V.shown) pairs self.old self.new result }
+        ensures kept { Keeps (value_at K.eq self.old) (value_at K.eq self.new) }
+    {
+        let pairs = pairs.into_iter();
+        // Keys may be present, so only a failed insertion is an error.
+        let _room = self.reserve(pairs.size_hint().0);
+        self.insert_all(pairs)
     }
 
     /// Returns an iterator over the entries, each once, in an unspecified order. An insertion while

@@ -2,12 +2,12 @@
 ghost use Rattle.std.specs.Prelude.{◌≡◌, ◌-◌, ◌↔◌, [], ◌∷◌, List, None, true, IfOk, IsTrue, OnErr, OnOk, Ok, Some, length, slice_get};
 ghost use Rattle.std.specs.BTreeMap.Range.{IsLeBy, IsLtBy, entries_between};
 ghost use Rattle.std.specs.Cmp.{eq_by_cmp_equiv};
-ghost use Rattle.std.specs.Iterator.{Drains, IsFinite};
+ghost use Rattle.std.specs.Iterator.{Drains, ExtendsWithItems, IsFinite};
 ghost use Rattle.std.specs.List.Sorted.{IsStrictlySortedBy};
 ghost use Rattle.std.specs.Map.{keys_of, values_of};
 ghost use Rattle.std.specs.Map.Iter.{ShowsInOrder, ShowsInReverse, deref, deref_pair};
 ghost use Rattle.std.specs.Ordering.{eq_by_cmp};
-ghost use Rattle.elsa_maps.specs.FirstWins.{AddsNew, HoldsLast, IsRefused, SameAt, same_values, value_at};
+ghost use Rattle.elsa_maps.specs.FirstWins.{AddsNew, HoldsFirst, HoldsLast, IsRefused, Keeps, SameAt, same_values, value_at};
 ghost use Rattle.elsa_tables.proofs.MapEquality.{same_values_equivalence, same_values_laws};
 ghost use Rattle.elsa_tables.specs.FirstWins.{IsEqualMap};
 
@@ -63,6 +63,29 @@ impl<R: Copy, K: Ord + Drop, V: StableDeref<R>, A: Allocator + Copy> FrozenBTree
         ensures { result ≡ map.entries }
     {
         Frozen::over(alloc, arena, map)
+    }
+
+    /// Inserts the pairs in their order. The first value of a key wins: a present key keeps its
+    /// value, and of several pairs with an equal new key the first one is inserted.
+    ///
+    /// # Errors
+    /// Fails if an allocation fails. The pairs before the one that failed are inserted, and the
+    /// others are dropped.
+    ///
+    /// # Allocates
+    /// The growth of the tree, and each value of a new key in the arena.
+    ///
+    /// # Cost
+    /// `O(log n)` for each pair.
+    pub fn extend<I: IntoIterator<Item = (K, V)>>(&mut self, pairs: I) -> Result<(), AllocError>
+        requires ends { (s : I.IntoIter) → I.into_iter_gives pairs s →
+            I.IntoIter.can_next s × IsFinite (I.IntoIter.remaining s) }
+        ensures extended { ExtendsWithItems I.into_iter_gives I.IntoIter.next_gives
+            (HoldsFirst (eq_by_cmp K.cmp) V.target V.shown) pairs self.old self.new result }
+        ensures kept { Keeps (value_at (eq_by_cmp K.cmp) self.old)
+            (value_at (eq_by_cmp K.cmp) self.new) }
+    {
+        self.insert_all(pairs.into_iter())
     }
 
     /// Returns an iterator over the entries, each once, ascending by key. It can be used from the

@@ -1,23 +1,51 @@
-use Rattle.std.proofs.Common.{◌≡◌, length, get_or, subst, sym, ◌∙◌, arith}
-use Rattle.std.specs.Prelude.{take}
-use Rattle.std.proofs.Math.ListN.{set, length-set}
-use Rattle.std.proofs.lemmas.List.{get_or_default, length-take-le, take_more}
-use Rattle.elsa_buckets.specs.Groups.{empty_group, EndsAt, Fills, Indexes}
-use Rattle.elsa_buckets.proofs.GroupLemmas.{indexes_push}
+use Rattle.std.proofs.Common.{◌≡◌, ◌<◌, ◌+◌, ℕ, inl, inr, length, replicate, rules, ap, subst, sym, ◌∙◌, arith}
+use Rattle.std.proofs.Math.ListN.{get_or-replicate, length-replicate}
+use Rattle.std.proofs.lemmas.Bool.{cases_lt}
+use Rattle.std.proofs.lemmas.List.{get_or_default, with_items_is}
+use Rattle.std.specs.Vec.{with_items}
+use Rattle.elsa_buckets.specs.Groups.{empty_group, group_at, number_in, AllTakenBelow, StoresAll, TakenBelow}
+use Rattle.elsa_buckets.proofs.GroupLemmas.{indexes_all, taken_none}
 use Rattle.elsa_buckets.proofs.groups.filled.Goals as goal
 
-pub loop-number-preserved : goal.loop-number-preserved
-loop-number-preserved g c =
-    let hashes = c.args.hashes.now in
-    let i = c.loop-number.number in
-    let groups = c.loop-number.groups.items in
-    let bucket = c.in-Some-vacant_at.bucket in
-    let hash = get_or hashes i 0 in
-    let counted : length (take i hashes) ≡ i = length-take-le i hashes (omega arith) in
-    let ends : EndsAt groups hash bucket = subst (λ l. EndsAt l hash bucket) c.as_slice-in-loop-number.ensures.value c.in-Some-vacant_at.ensures in
-    let fills : Fills (get_or groups bucket.group empty_group) bucket.lane hash (length (take i hashes)) c.fill.new.self
-    = subst (λ n. Fills (get_or groups bucket.group empty_group) bucket.lane hash n c.fill.new.self) (sym counted)
-    (subst (λ x. Fills x bucket.lane hash i c.fill.new.self) (c.index_mut.ensures.value ∙ get_or_default groups bucket.group _ empty_group ends.within) c.fill.ensures) in (
-      subst (Indexes (set groups bucket.group c.fill.new.self)) (sym (take_more hashes i 0 c.loop-number-test.true)) (indexes_push groups (take i hashes) hash bucket ends c.fill.new.self fills c.loop-number.invariant.0),
-      length-set groups bucket.group c.fill.new.self ∙ c.loop-number.invariant.1,
+pub loop-at-init : goal.loop-at-init
+loop-at-init g c =
+    let fresh : c.resize.new.self.items ≡ replicate c.args.count empty_group = search rules in
+    let count : length c.resize.new.self.items ≡ c.args.count = ap length fresh ∙ length-replicate c.args.count empty_group in (
+      λ i lt. absurd (omega arith),
+      taken_none c.resize.new.self.items (length c.args.hashes.now) (λ i lt. ap (λ gs. group_at gs i) fresh ∙ get_or-replicate c.args.count i empty_group empty_group (omega (arith, lt, count))),
+      count,
     )
+
+pub enter_all-requires-clause-known : goal.enter_all-requires-clause-known
+enter_all-requires-clause-known g c =
+    subst (λ group. TakenBelow group (length c.args.hashes.now)) (sym (get_or_default c.args.old.now c.loop-at.at _ empty_group c.loop-at-test.true))
+    (λ lane small taken. c.requires.only c.loop-at.at lane c.loop-at-test.true small taken)
+
+pub enter_all-requires-clause-only : goal.enter_all-requires-clause-only
+enter_all-requires-clause-only g c = subst (λ groups. AllTakenBelow groups (length c.args.hashes.now)) (sym c.as_mut_slice.ensures.value) c.loop-at.invariant.1
+
+pub loop-at-preserved : goal.loop-at-preserved
+loop-at-preserved g c =
+    let at = c.loop-at.at in
+    let old = c.args.old.now in
+    let groups = c.enter_all.new.groups in
+    let hashes = c.args.hashes.now in
+    let count : length groups ≡ length c.loop-at.groups.items = c.enter_all.ensures.count ∙ ap length c.as_mut_slice.ensures.value in
+    let whole : (with_items c.loop-at.groups groups).items ≡ groups = with_items_is c.loop-at.groups groups (count ∙ sym c.loop-at.groups.ok.0) in
+    let entered : StoresAll groups hashes (group_at old at) 12 = subst (λ group. StoresAll groups hashes group 12) (get_or_default old at _ empty_group c.loop-at-test.true) c.in_ok-enter_all.ensures.entered in
+    let stays : (i : ℕ) → i < at → StoresAll groups hashes (group_at old i) 12
+    = λ i lower lane hash small taken has.
+    c.enter_all.ensures.stays hash (number_in (group_at old i) lane)
+    (subst (λ gs. StoresAll gs hashes (group_at old i) 12) (sym c.as_mut_slice.ensures.value) (c.loop-at.invariant.0 i lower) lane hash small taken has) in
+    let all : (i : ℕ) → i < at + 1 → StoresAll groups hashes (group_at old i) 12
+    = λ i lt. elim (cases_lt i at) [
+      | inl lower ↦ stays i lower
+      | inr ge ↦ let e : ◌≡◌ {A = ℕ} at i = omega arith in subst (λ n. StoresAll groups hashes (group_at old n) 12) e entered
+    ] in
+    subst (λ gs. ((i : ℕ) → i < at + 1 → StoresAll gs hashes (group_at old i) 12) × AllTakenBelow gs (length hashes) × (length gs ≡ c.args.count)) (sym whole)
+    (all, c.enter_all.ensures.only, count ∙ c.loop-at.invariant.2)
+
+pub returns-clause-indexes : goal.returns-clause-indexes
+returns-clause-indexes g c =
+    let last : c.loop-at.at ≡ length c.args.old.now = omega (arith, c.loop-at-test.false, c.loop-at.auto.at-end) in
+    indexes_all c.args.old.now c.loop-at.groups.items c.args.hashes.now c.requires (λ i lt. c.loop-at.invariant.0 i (omega (arith, lt, last))) c.loop-at.invariant.1
