@@ -1,0 +1,4 @@
+import text.mod
+import math.mod
+fn main
+fn run

@@ -1,0 +1,2 @@
+import nowhere.mod
+fn lost

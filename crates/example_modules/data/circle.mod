@@ -1,0 +1,2 @@
+import round.mod
+fn there

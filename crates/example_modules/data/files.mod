@@ -1,0 +1,2 @@
+import text.mod
+fn read

@@ -1,0 +1,2 @@
+fn add
+fn sub

@@ -1,0 +1,2 @@
+import circle.mod
+fn back

@@ -1,0 +1,4 @@
+import math.mod
+fn split
+fn join
+fn trim

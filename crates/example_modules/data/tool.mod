@@ -1,0 +1,3 @@
+import text.mod
+import files.mod
+fn tool
