@@ -12,7 +12,7 @@ use Rattle.elsa_cell.proofs.EntryLemmas.{within_at}
 use Rattle.elsa_cell.proofs.ScanLemmas.{length_keys}
 
 module _ {K : Type 0} (test : K → Bool) where
-  -- A search that goes on in a second list.
+  -- A search that continues in a second list.
   from_append : (i : ℕ) (xs ys : List K) → position_from test i (xs ++ ys) ≡ option_or (position_from test i xs) (position_from test (i + length xs) ys)
   from_append i [] ys = let same : i ≡ i + 0 = omega arith in ap (λ n. position_from test n ys) same
   from_append i (x ∷ xs) ys = ap (cond (test x) (Some i)) (from_append (i + 1) xs ys ∙ ap (λ n. option_or (position_from test (i + 1) xs) (position_from test n ys)) moved) ∙ by (test x)
@@ -34,7 +34,7 @@ module _ {K : Type 0} (test : K → Bool) where
       by false rest later = let least = rest later in omega (arith, least)
 
 module _ {K V : Type 0} (test : K → Bool) (es all : List (Entry K V)) (begins : IsPrefix es all) where
-  -- The search among all goes on after those that were observed.
+  -- The search among all continues after those that were observed.
   goes_on : position test (map key_of all) ≡ option_or (position test (map key_of es)) (position_from test (length es) (map key_of begins.0))
   goes_on =
       let same = length_keys key_of es in let count : 0 + length (map key_of es) ≡ length es = omega (arith, same) in

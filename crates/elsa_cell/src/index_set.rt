@@ -201,8 +201,8 @@ impl<T: Eq + Hash + Drop, S: BuildHasher + Drop, A: Allocator + Copy> FrozenInde
         }
     }
 
-    /// Inserts the items in their order, each as [`insert_new`](Self::insert_new) does: the first of
-    /// equal items stays. The set is locked while the iterator runs.
+    /// Inserts the items in their order, each as [`insert_new`](Self::insert_new) does: the first
+    /// of equal items stays. The set is locked while the iterator runs.
     ///
     /// # Errors
     /// Fails with [`CellFault::InUse`] and `None` if the call is made inside another call of the

@@ -288,8 +288,8 @@ impl<'m, K: Drop, V: Drop, T: Places<K> + Drop, A: Allocator + Copy, R: EntryRul
         }
     }
 
-    /// Inserts the pairs in their order, each as [`insert_new`](Self::insert_new) does: each new key
-    /// is appended with the value of its first pair, and a present key keeps its index and its
+    /// Inserts the pairs in their order, each as [`insert_new`](Self::insert_new) does: each new
+    /// key is appended with the value of its first pair, and a present key keeps its index and its
     /// value.
     ///
     /// It reserves no room: a caller that has the number of new keys calls
