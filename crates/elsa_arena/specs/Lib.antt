@@ -1,3 +1,4 @@
+pub mod Extended
 pub mod Faults
 pub mod Kept
 pub mod Observed

@@ -1,10 +1,12 @@
 //! [`FrozenVec`], its [`Handle`] and its lock guard [`Hold`].
 ghost use Rattle.std.specs.Prelude.{◌≡◌, ◌⊎◌, ◌+◌, ◌-◌, ◌<◌, ◌≤◌, ◌^◌, ◌++◌, ◌∷◌, [], Bool, ℕ, drop, false, length, slice_get, true, IfErr, IfOk, IfSome, OnErr, OnOk};
+ghost use Rattle.std.specs.Iterator.{IsFinite};
 ghost use Rattle.std.specs.Option.{option_map};
 ghost use Rattle.std.specs.declared.cmp.Ordering.{Ordering};
 ghost use Rattle.std.specs.Fn.{CalledAt, TakesAt};
 ghost use Rattle.std.specs.List.Sorted.{IsBinarySearchResult, IsPartitionPoint, IsPartitionedBy, IsSearchInRange};
 ghost use mathlib.Core.List.{IsPrefix};
+ghost use Rattle.elsa_arena.specs.Extended.{AppendsAll, TakesAll};
 ghost use Rattle.elsa_arena.specs.Faults.{GivesBack, Refuses};
 ghost use Rattle.elsa_arena.specs.Observed.{Appends, Continues, IsStateOf, view_of};
 ghost use Rattle.elsa_arena.specs.Search.{Searched, Brackets, IsBetween, Answered, AnswersByItem, AnswersByPlace, CallableAtItems, Compares, ComparesAt, Falls, Parts, Rises, Splits};
@@ -265,6 +267,38 @@ impl<T, A: Allocator + Copy> FrozenVec<T, A> {
             unreachable!()
         };
         Ok(lent)
+    }
+
+    /// Appends the items in their order, as a guard's [`Hold::extend`] does. The list is locked
+    /// while the iterator runs.
+    ///
+    /// # Errors
+    /// Fails with [`CellFault::InUse`] and `None` if the call is made inside another call of the
+    /// list, or while a [`Hold`] of it exists; no item is then taken. Otherwise fails as
+    /// [`push`](Self::push) does, with the item that was not appended.
+    ///
+    /// # Allocates
+    /// As [`push`](Self::push) does.
+    ///
+    /// # Cost
+    /// `O(1)` for each item.
+    pub fn extend<I: IntoIterator<Item = T> + Drop>(
+        &self,
+        items: I,
+    ) -> Result<(), CellFault<Option<T>>>
+        requires ends { (s : I.IntoIter) → I.into_iter_gives items s →
+            I.IntoIter.can_next s × IsFinite (I.IntoIter.remaining s) }
+        ensures taken { TakesAll I.into_iter_gives I.IntoIter.next_gives (λ x. x) items result }
+    {
+        let Ok(mut hold) = self.hold() else {
+            return Err(CellFault::InUse(None));
+        };
+        match hold.extend(items) {
+            Ok(()) => Ok(()),
+            Err(CellFault::Memory(item)) => Err(CellFault::Memory(Some(item))),
+            Err(CellFault::InUse(item)) => Err(CellFault::InUse(Some(item))),
+            Err(CellFault::Full(item)) => Err(CellFault::Full(Some(item))),
+        }
     }
 
     /// Returns a reference to the item at an index, or `None` if the index is at or above the
@@ -897,5 +931,34 @@ impl<'v, T, A: Allocator + Copy> Hold<'v, T, A> {
             Err(item) if self.state.count < MOST => Err(CellFault::Memory(item)),
             Err(item) => Err(CellFault::Full(item)),
         }
+    }
+
+    /// Appends the items in their order, each as [`push`](Self::push) does.
+    ///
+    /// It reserves no capacity: a caller that has the number of items calls
+    /// [`reserve`](Self::reserve) first.
+    ///
+    /// # Errors
+    /// Fails with the item that was not appended, as [`push`](Self::push) does. The items before it
+    /// are appended, and the others are not taken.
+    ///
+    /// # Allocates
+    /// As [`push`](Self::push) does.
+    ///
+    /// # Cost
+    /// `O(1)` for each item.
+    pub fn extend<I: IntoIterator<Item = T>>(&mut self, items: I) -> Result<(), CellFault<T>>
+        requires ends { (s : I.IntoIter) → I.into_iter_gives items s →
+            I.IntoIter.can_next s × IsFinite (I.IntoIter.remaining s) }
+        ensures same { (self.new.vector ≡ self.old.vector)
+            × (self.old.capacity ≤ self.new.capacity) }
+        ensures extended { AppendsAll I.into_iter_gives I.IntoIter.next_gives (2 ^ 62 - 1)
+            items self.old.seen self.new.seen result }
+        ensures refused { OnErr result (self.new.capacity ≤ length self.new.seen) }
+    {
+        for item in items {
+            let _index = self.push(item)?;
+        }
+        Ok(())
     }
 }

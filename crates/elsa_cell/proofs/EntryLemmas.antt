@@ -27,7 +27,7 @@ map_append f [] ys = refl
 map_append f (x ∷ xs) ys = ap (λ l. f x ∷ l) (map_append f xs ys)
 
 -- The keys of the pairs are the keys of the entries.
-keys_pairs : {K V : Type 0} (es : List (Entry K V)) → keys_of (pairs_of es) ≡ map key_of es
+pub keys_pairs : {K V : Type 0} (es : List (Entry K V)) → keys_of (pairs_of es) ≡ map key_of es
 keys_pairs [] = refl
 keys_pairs (e ∷ es) = ap (λ l. key_of e ∷ l) (keys_pairs es)
 

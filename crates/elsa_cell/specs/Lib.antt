@@ -1,3 +1,4 @@
 pub mod Entries
+pub mod Extended
 pub mod Ordered
 pub mod Queries

@@ -1,6 +1,8 @@
 //! [`FrozenIndexSet`]: a map whose values are `()`.
 ghost use Rattle.std.specs.Prelude.{◌≡◌, ◌⊎◌, ◌-◌, ◌<◌, ◌≤◌, ◌^◌, true, length, map, IfErr, IfOk, IfSome, OnOk};
+ghost use Rattle.std.specs.Iterator.{IsFinite};
 ghost use mathlib.Core.List.{IsPrefix};
+ghost use Rattle.elsa_arena.specs.Extended.{TakesAll};
 ghost use Rattle.elsa_arena.specs.Faults.{GivesBack};
 ghost use Rattle.elsa_cell.specs.Entries.{key_of};
 
@@ -197,6 +199,47 @@ impl<T: Eq + Hash + Drop, S: BuildHasher + Drop, A: Allocator + Copy> FrozenInde
                 })
             }
         }
+    }
+
+    /// Inserts the items in their order, each as [`insert_new`](Self::insert_new) does: the first
+    /// of equal items stays. The set is locked while the iterator runs.
+    ///
+    /// # Errors
+    /// Fails with [`CellFault::InUse`] and `None` if the call is made inside another call of the
+    /// set, or while a [`MapHold`] of it exists; no item is then taken. Otherwise fails as
+    /// [`insert`](Self::insert) does, with the item that was not inserted; the items before it are
+    /// inserted.
+    ///
+    /// # Allocates
+    /// As [`FrozenMap::insert`](crate::FrozenMap::insert) does.
+    ///
+    /// # Cost
+    /// One hash and one search for each item.
+    pub fn extend<I: IntoIterator<Item = T> + Drop>(
+        &self,
+        items: I,
+    ) -> Result<(), CellFault<Option<T>>>
+        requires ends { (s : I.IntoIter) → I.into_iter_gives items s →
+            I.IntoIter.can_next s × IsFinite (I.IntoIter.remaining s) }
+        ensures taken { TakesAll I.into_iter_gives I.IntoIter.next_gives (λ x. x) items result }
+    {
+        let Ok(mut hold) = self.hold() else {
+            return Err(CellFault::InUse(None));
+        };
+        for item in items {
+            if let Err(entry) = hold.insert_entry(item, ()) {
+                let Entry {
+                    key: item,
+                    value: _,
+                } = entry;
+                return Err(if hold.len() < MOST {
+                    CellFault::Memory(Some(item))
+                } else {
+                    CellFault::Full(Some(item))
+                });
+            }
+        }
+        Ok(())
     }
 
     /// Returns a reference to the item that `query` finds, or `None` if the set has no such item.

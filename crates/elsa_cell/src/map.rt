@@ -1,12 +1,15 @@
 //! [`Frozen`]: a map that grows through `&self`, over any table that finds its keys.
 ghost use Rattle.std.specs.Prelude.{◌≡◌, ◌⊎◌, ◌-◌, ◌<◌, ◌≤◌, ◌^◌, [], Bool, List, true, Err, Ok, Some, length, map, position, slice_get, IfErr, IfOk, IfSome, OnOk};
 ghost use Rattle.std.specs.Fn.{FnOnceReturnsAt, FnOnceTakesAt};
+ghost use Rattle.std.specs.Iterator.{IsFinite};
 ghost use Rattle.std.specs.Map.{lookup};
 ghost use Rattle.std.specs.Option.{option_map};
 ghost use mathlib.Core.List.{IsPrefix};
+ghost use Rattle.elsa_arena.specs.Extended.{TakesAll};
 ghost use Rattle.elsa_arena.specs.Faults.{GivesBack};
 ghost use Rattle.elsa_arena.specs.declared.fault.Fault.{Fault};
 ghost use Rattle.elsa_cell.specs.Entries.{HoldsAtOrMade, HoldsEach, IsMapOf, key_of, pairs_of};
+ghost use Rattle.elsa_cell.specs.Extended.{YieldsHolding};
 ghost use Rattle.elsa_tables.specs.Rules.{HoldsAt};
 ghost use Rattle.elsa_cell.specs.declared.map.Entry.{Entry};
 
@@ -475,6 +478,42 @@ impl<K: Drop, V: Drop, T: Places<K> + Drop, A: Allocator + Copy, R: EntryRule<K,
         let inserted = hold.insert_new(key, value);
         hold.obeys_rule();
         inserted
+    }
+
+    /// Inserts the pairs in their order, as a guard's [`FrozenHold::extend`] does, whose contract
+    /// states the entries: each new key is appended with the value of its first pair. The map is
+    /// locked while the iterator runs.
+    ///
+    /// # Errors
+    /// Fails with [`CellFault::InUse`] and `None` if the call is made inside another call of the
+    /// map, or while a [`FrozenHold`] of it exists; no pair is then taken. Otherwise fails as
+    /// [`insert_new`](Self::insert_new) does, with the value of the pair that was not inserted; the
+    /// pairs before it are inserted.
+    ///
+    /// # Allocates
+    /// As [`insert_new`](Self::insert_new) does.
+    ///
+    /// # Cost
+    /// That of [`insert_new`](Self::insert_new) for each pair.
+    pub fn extend<I: IntoIterator<Item = (K, V)> + Drop>(
+        &self,
+        pairs: I,
+    ) -> Result<(), CellFault<Option<V>>>
+        requires ends { (s : I.IntoIter) → I.into_iter_gives pairs s →
+            I.IntoIter.can_next s × IsFinite (I.IntoIter.remaining s) }
+        requires rule { (s : I.IntoIter) → I.into_iter_gives pairs s →
+            YieldsHolding I.IntoIter.next_gives R.holds s }
+        ensures taken { TakesAll I.into_iter_gives I.IntoIter.next_gives (λ p. p.1) pairs result }
+    {
+        let Ok(mut hold) = self.hold() else {
+            return Err(CellFault::InUse(None));
+        };
+        match hold.extend(pairs) {
+            Ok(()) => Ok(()),
+            Err(CellFault::Memory(value)) => Err(CellFault::Memory(Some(value))),
+            Err(CellFault::InUse(value)) => Err(CellFault::InUse(Some(value))),
+            Err(CellFault::Full(value)) => Err(CellFault::Full(Some(value))),
+        }
     }
 
     /// Inserts a key with the value that `make` returns, unless the map has an equal key, as a

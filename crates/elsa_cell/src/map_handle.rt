@@ -190,6 +190,65 @@ impl<
         self.get(query).is_some()
     }
 
+    /// Finds a key among the entries that the handle has observed, and returns its index and the
+    /// reference to its entry. An entry is one of them exactly if its index is below their number.
+    #[tactic(auto, using(crate::proofs::SeenLemmas::seen_at, crate::proofs::SeenLemmas::later_at, crate::proofs::SeenLemmas::never_at, crate::proofs::SeenLemmas::seen_item, crate::proofs::EntryLemmas::absent_at))]
+    fn find_seen<Q: Seeks<K, T>>(&self, query: Q) -> Option<(usize, &'m Entry<K, V>)>
+        ensures index { option_map (λ f. f.0) result
+            ≡ position (Q.finds query) (map key_of self.now.seen) }
+        ensures entry { IfSome result (λ f. slice_get self.now.seen f.0 ≡ Some f.1.now) }
+        ensures value { option_map (λ f. f.1.now.value) result
+            ≡ lookup (Q.finds query) (pairs_of self.now.seen) }
+        ensures found_key { IfSome result (λ f. (Q.finds query (key_of f.1.now) ≡ true)
+            × R.holds (key_of f.1.now) f.1.now.value × (f.0 < 2 ^ 32 - 1)) }
+    {
+        let Ok(hold) = self.hold() else {
+            self.obeys_rule();
+            return find_beside::<K, V, T, Q, A, R>(&self.observed, query);
+        };
+        let (index, entry) = hold.find(query)?;
+        if index >= self.seen_len() {
+            return None;
+        }
+        Some((index, entry))
+    }
+
+    /// Returns a reference to the value of the key that `query` finds, or `None` exactly if no
+    /// entry that the handle has observed has such a key. Entries that others insert later change
+    /// nothing: a handle that is only borrowed is a consistent view of one moment of the map. It
+    /// allocates nothing.
+    ///
+    /// # Cost
+    /// As [`get`](Self::get).
+    pub fn seen_get<Q: Seeks<K, T>>(&self, query: Q) -> Option<&'m V>
+        ensures found { option_map (λ v. v.now) result
+            ≡ lookup (Q.finds query) (pairs_of self.now.seen) }
+        ensures holds { IfSome result (λ v. HoldsAt R.holds (Q.finds query) v.now) }
+    {
+        let (_, entry) = self.find_seen(query)?;
+        Some(entry.value())
+    }
+
+    /// Returns the index of the key that `query` finds, and references to the key and its value, or
+    /// `None` exactly if no entry that the handle has observed has such a key, as
+    /// [`seen_get`](Self::seen_get) does. It allocates nothing.
+    ///
+    /// # Cost
+    /// As [`get`](Self::get).
+    #[tactic(auto, using(crate::proofs::EntryLemmas::pair_at))]
+    pub fn seen_get_full<Q: Seeks<K, T>>(&self, query: Q) -> Option<(usize, &'m K, &'m V)>
+        ensures index { option_map (λ r. r.0) result
+            ≡ position (Q.finds query) (map key_of self.now.seen) }
+        ensures entry { IfSome result (λ r.
+            slice_get (pairs_of self.now.seen) r.0 ≡ Some (r.1.now, r.2.now)) }
+        ensures found_key { IfSome result (λ r. Q.finds query r.1.now ≡ true) }
+        ensures holds { IfSome result (λ r. R.holds r.1.now r.2.now) }
+        ensures limit { IfSome result (λ r. r.0 < 2 ^ 32 - 1) }
+    {
+        let (index, entry) = self.find_seen(query)?;
+        Some((index, entry.key(), entry.value()))
+    }
+
     /// Finds a key in the whole map, and returns its index and the reference to its entry. It never
     /// fails: inside a call that has the table it compares the query with one key after the other.
     fn find_entry<Q: Seeks<K, T>>(&mut self, query: Q) -> Option<(usize, &'m Entry<K, V>)>

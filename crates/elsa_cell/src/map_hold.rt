@@ -1,8 +1,10 @@
 //! [`FrozenHold`]: the lock guard of a map.
 ghost use Rattle.std.specs.Prelude.{◌≡◌, ◌↔◌, ◌+◌, ◌-◌, ◌<◌, ◌≤◌, ◌^◌, true, None, Some, length, map, position, slice_get, IfErr, IfOk, IfSome, IsTrue, OnOk};
+ghost use Rattle.std.specs.Iterator.{IsFinite};
 ghost use Rattle.std.specs.Map.{lookup};
 ghost use Rattle.std.specs.Option.{option_map};
 ghost use Rattle.elsa_cell.specs.Entries.{HoldsEach, Inserts, key_of, pair_of, pairs_of};
+ghost use Rattle.elsa_cell.specs.Extended.{ExtendsByFirsts, YieldsHolding};
 ghost use Rattle.elsa_tables.specs.Rules.{HoldsAt};
 ghost use Rattle.elsa_arena.specs.Faults.{Refuses};
 ghost use Rattle.elsa_arena.specs.Observed.{Continues};
@@ -284,6 +286,40 @@ impl<'m, K: Drop, V: Drop, T: Places<K> + Drop, A: Allocator + Copy, R: EntryRul
                 })
             }
         }
+    }
+
+    /// Inserts the pairs in their order, each as [`insert_new`](Self::insert_new) does: each new
+    /// key is appended with the value of its first pair, and a present key keeps its index and its
+    /// value.
+    ///
+    /// It reserves no room: a caller that has the number of new keys calls
+    /// [`reserve`](Self::reserve) first.
+    ///
+    /// # Errors
+    /// Fails with the value of the first pair that was not inserted, as
+    /// [`insert_new`](Self::insert_new) does. The pairs before it are inserted, and the others are
+    /// not taken.
+    ///
+    /// # Allocates
+    /// As [`insert_new`](Self::insert_new) does.
+    ///
+    /// # Cost
+    /// That of [`insert_new`](Self::insert_new) for each pair.
+    #[tactic(auto, using(crate::proofs::FirstsLemmas::firsts_none, crate::proofs::FirstsLemmas::firsts_more))]
+    pub fn extend<I: IntoIterator<Item = (K, V)>>(&mut self, pairs: I) -> Result<(), CellFault<V>>
+        requires ends { (s : I.IntoIter) → I.into_iter_gives pairs s →
+            I.IntoIter.can_next s × IsFinite (I.IntoIter.remaining s) }
+        requires rule { (s : I.IntoIter) → I.into_iter_gives pairs s →
+            YieldsHolding I.IntoIter.next_gives R.holds s }
+        ensures continues { Continues self.old self.new }
+        ensures extended { ExtendsByFirsts I.IntoIter.next_gives I.into_iter_gives T.same
+            pairs self.old.seen self.new.seen result }
+    {
+        for pair in pairs {
+            let (key, value) = pair;
+            let _inserted = self.insert_new(key, value)?;
+        }
+        Ok(())
     }
 
     /// Inserts an entry unless the map has an equal key, and returns the entry that the key then

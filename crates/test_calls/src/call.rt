@@ -15,6 +15,9 @@ pub enum Kind {
     GetOrTryInsert,
     InsertByHandle,
     InsertByGuard,
+    /// `extend` by an entry, and in a map or set by another one with the same key.
+    Extend,
+    ExtendByGuard,
     GetCopyOrInsert,
     GetCopyOrInsertWith,
     Get,
@@ -24,6 +27,10 @@ pub enum Kind {
     GetFullByHandle,
     GetFullByGuard,
     GetIndexByHandle,
+    /// `handle`, which is kept for the look-ups as of that moment.
+    Keep,
+    SeenGet,
+    SeenGetFull,
     ContainsKey,
     ContainsKeyByHandle,
     MapGet,
@@ -51,7 +58,7 @@ pub enum Kind {
 }
 
 /// The insertions, of which each second call is one.
-pub const INSERTIONS: [Kind; 13] = [
+pub const INSERTIONS: [Kind; 15] = [
     Kind::Insert,
     Kind::Push,
     Kind::InsertNew,
@@ -63,12 +70,14 @@ pub const INSERTIONS: [Kind; 13] = [
     Kind::GetOrTryInsert,
     Kind::InsertByHandle,
     Kind::InsertByGuard,
+    Kind::Extend,
+    Kind::ExtendByGuard,
     Kind::GetCopyOrInsert,
     Kind::GetCopyOrInsertWith,
 ];
 
 /// The other calls.
-pub const OTHERS: [Kind; 29] = [
+pub const OTHERS: [Kind; 32] = [
     Kind::Get,
     Kind::GetFull,
     Kind::GetSince,
@@ -76,6 +85,9 @@ pub const OTHERS: [Kind; 29] = [
     Kind::GetFullByHandle,
     Kind::GetFullByGuard,
     Kind::GetIndexByHandle,
+    Kind::Keep,
+    Kind::SeenGet,
+    Kind::SeenGetFull,
     Kind::ContainsKey,
     Kind::ContainsKeyByHandle,
     Kind::MapGet,

@@ -1,6 +1,6 @@
 //! The calls of the list in `cell`, which is also the typed arena. Its items ascend.
 use crate::call::{Call, Calls, Kind, Reply, walked};
-use crate::replies::{failed, failed_empty, inserted};
+use crate::replies::{failed, failed_empty, failed_made, inserted};
 use elsa_arena::fault::CellFault;
 use elsa_arena::vec::{FrozenVec, Handle};
 use std::alloc::Allocator;
@@ -48,6 +48,23 @@ fn push_by_guard<A: Allocator + Copy>(list: &FrozenVec<u64, A>, item: u64) -> Re
     };
     match hold.push(item) {
         Ok(index) => inserted(None, Some(index), Some(true)),
+        Err(fault) => failed(fault),
+    }
+}
+
+fn extend<A: Allocator + Copy>(list: &FrozenVec<u64, A>, item: u64) -> Reply {
+    match list.extend([item]) {
+        Ok(()) => inserted(None, None, None),
+        Err(fault) => failed_made(fault, 0),
+    }
+}
+
+fn extend_by_guard<A: Allocator + Copy>(list: &FrozenVec<u64, A>, item: u64) -> Reply {
+    let Ok(mut hold) = list.hold() else {
+        return failed(CellFault::InUse(item));
+    };
+    match hold.extend([item]) {
+        Ok(()) => inserted(None, None, None),
         Err(fault) => failed(fault),
     }
 }
@@ -141,6 +158,8 @@ fn on_item<A: Allocator + Copy>(calls: &mut ListCalls<'_, A>, kind: Kind, item: 
         Kind::Push => push(list, item),
         Kind::InsertByHandle => push_by_handle(&mut calls.handle, item),
         Kind::InsertByGuard => push_by_guard(list, item),
+        Kind::Extend => extend(list, item),
+        Kind::ExtendByGuard => extend_by_guard(list, item),
         Kind::BinarySearch => Reply::Search(list.binary_search(&item)),
         Kind::BinarySearchBy => search_by(list, item),
         Kind::BinarySearchByKey => search_by_key(list, item),

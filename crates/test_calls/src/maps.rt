@@ -1,16 +1,18 @@
 //! The calls of the maps in `cell`, over any table.
 use crate::call::{Call, Calls, Cause, Entry, Kind, Reply, walked};
-use crate::replies::{failed, failed_empty, inserted};
+use crate::replies::{failed, failed_empty, failed_made, inserted};
 use elsa_arena::fault::{CellFault, Fault};
 use elsa_cell::{Frozen, FrozenHandle, FrozenHold, Places, Seeks, TryFault};
 use elsa_tables::Inserted;
 use std::alloc::Allocator;
 
-/// A map, a handle of it that is as old as the map, and the keys by their numbers.
+/// A map, a handle of it that is as old as the map, one that observed a moment, and the keys by
+/// their numbers.
 #[derive(Drop)]
 pub struct MapCalls<'m, 'k, T: Places<u64> + Drop, A: Allocator + Copy> {
     map: &'m Frozen<u64, u64, T, A>,
     handle: FrozenHandle<'m, u64, u64, T, A>,
+    then: FrozenHandle<'m, u64, u64, T, A>,
     keys: &'k [u64],
     keeps_room: bool,
 }
@@ -24,6 +26,7 @@ impl<'m, 'k, T: Places<u64> + Drop, A: Allocator + Copy> MapCalls<'m, 'k, T, A> 
         MapCalls {
             map,
             handle: map.handle(),
+            then: map.handle(),
             keys,
             keeps_room,
         }
@@ -38,15 +41,6 @@ fn all_of(done: Inserted<&u64, usize>, calls: u64) -> Reply {
         is_new: Some(done.is_new),
         calls,
     })
-}
-
-/// The reply of an insertion that failed, after its closure had made the value or not.
-fn failed_made(fault: CellFault<Option<u64>>, calls: u64) -> Reply {
-    match fault {
-        CellFault::Memory(made) => Reply::Failed(Cause::Memory, made, calls),
-        CellFault::InUse(made) => Reply::Failed(Cause::InUse, made, calls),
-        CellFault::Full(made) => Reply::Failed(Cause::Full, made, calls),
-    }
 }
 
 fn insert<T: Places<u64> + Drop, A: Allocator + Copy>(
@@ -170,6 +164,37 @@ fn insert_by_guard<T: Places<u64> + Drop, A: Allocator + Copy>(
     }
 }
 
+fn extend<T: Places<u64> + Drop, A: Allocator + Copy>(
+    map: &Frozen<u64, u64, T, A>,
+    call: Call,
+) -> Reply {
+    let pairs = [
+        (call.key, call.value),
+        (call.key, call.value.wrapping_add(1)),
+    ];
+    match map.extend(pairs) {
+        Ok(()) => inserted(None, None, None),
+        Err(fault) => failed_made(fault, 0),
+    }
+}
+
+fn extend_by_guard<T: Places<u64> + Drop, A: Allocator + Copy>(
+    map: &Frozen<u64, u64, T, A>,
+    call: Call,
+) -> Reply {
+    let Ok(mut hold) = map.hold() else {
+        return failed(CellFault::InUse(call.value));
+    };
+    let pairs = [
+        (call.key, call.value),
+        (call.key, call.value.wrapping_add(1)),
+    ];
+    match hold.extend(pairs) {
+        Ok(()) => inserted(None, None, None),
+        Err(fault) => failed(fault),
+    }
+}
+
 /// Makes an insertion.
 fn on_entry<T: Places<u64> + Drop, Q: Seeks<u64, T>, A: Allocator + Copy>(
     map: &Frozen<u64, u64, T, A>,
@@ -187,6 +212,8 @@ fn on_entry<T: Places<u64> + Drop, Q: Seeks<u64, T>, A: Allocator + Copy>(
         Kind::GetOrTryInsert => get_or_try_insert(map, query, call),
         Kind::InsertByHandle => insert_by_handle(handle, call),
         Kind::InsertByGuard => insert_by_guard(map, call),
+        Kind::Extend => extend(map, call),
+        Kind::ExtendByGuard => extend_by_guard(map, call),
         _ => Reply::NotOffered,
     }
 }
@@ -267,6 +294,44 @@ fn on_key<T: Places<u64> + Drop, Q: Seeks<u64, T>, A: Allocator + Copy>(
     })
 }
 
+/// Makes a look-up as of the moment that a handle has observed.
+fn on_then<T: Places<u64> + Drop, Q: Seeks<u64, T>, A: Allocator + Copy>(
+    then: &FrozenHandle<'_, u64, u64, T, A>,
+    query: Q,
+    kind: Kind,
+) -> Option<Reply> {
+    Some(match kind {
+        Kind::SeenGet => Reply::Value(then.seen_get(query).copied()),
+        Kind::SeenGetFull => full(then.seen_get_full(query)),
+        _ => return None,
+    })
+}
+
+/// Makes a look-up of a kept moment, another read by a key, or an insertion.
+fn on_query<T: Places<u64> + Drop, Q: Seeks<u64, T>, A: Allocator + Copy>(
+    calls: &mut MapCalls<'_, '_, T, A>,
+    guard: &Option<FrozenHold<'_, u64, u64, T, A>>,
+    query: Q,
+    call: Call,
+) -> Reply {
+    let map = calls.map;
+    if let Some(reply) = on_then(&calls.then, query, call.kind) {
+        return reply;
+    }
+    match on_key(map, &mut calls.handle, guard, query, call.kind) {
+        Some(reply) => reply,
+        None => on_entry(map, &mut calls.handle, query, call),
+    }
+}
+
+/// Keeps a handle that has observed all entries, and returns their number.
+fn keep<T: Places<u64> + Drop, A: Allocator + Copy>(calls: &mut MapCalls<'_, '_, T, A>) -> Reply {
+    let handle = calls.map.handle();
+    let count = handle.seen_len();
+    calls.then = handle.again();
+    Reply::Count(count)
+}
+
 /// Walks over a map: at most one entry more than it says to have.
 fn iter<T: Places<u64> + Drop, A: Allocator + Copy>(map: &Frozen<u64, u64, T, A>) -> Reply {
     let mut walk = map.iter();
@@ -334,13 +399,13 @@ where
     fn reply(&mut self, call: Call) -> Reply {
         let map = self.map;
         let guard = if call.is_held { map.hold().ok() } else { None };
+        if matches!(call.kind, Kind::Keep) {
+            return keep(self);
+        }
         let reply = match on_map(map, &mut self.handle, call) {
             Some(reply) => Some(reply),
             None => match self.keys.get(call.key as usize) {
-                Some(query) => match on_key(map, &mut self.handle, &guard, query, call.kind) {
-                    Some(reply) => Some(reply),
-                    None => Some(on_entry(map, &mut self.handle, query, call)),
-                },
+                Some(query) => Some(on_query(self, &guard, query, call)),
                 None => None,
             },
         };

@@ -9,6 +9,8 @@ pub struct Plain {
     places: Vec<Option<usize>>,
     /// The number of entries up to which insertions need no memory.
     room: usize,
+    /// The number of entries at the moment that the kept handle has observed.
+    kept: usize,
 }
 
 impl Plain {
@@ -23,6 +25,7 @@ impl Plain {
             entries: Vec::new(alloc),
             places,
             room: 0,
+            kept: 0,
         })
     }
 
@@ -34,6 +37,26 @@ impl Plain {
     /// Notes that the collection was made with room for `room` entries.
     pub fn has_room(&mut self, room: usize) {
         self.room = room;
+    }
+
+    /// Notes that a handle of this moment is kept.
+    pub fn keep(&mut self) {
+        self.kept = self.len();
+    }
+
+    /// Returns the index, the key and the value of a key, as of the moment of the kept handle.
+    fn full_then(&self, key: u64) -> Option<(usize, u64, u64)> {
+        let found = self.full_of(key)?;
+        if found.0 < self.kept {
+            return Some(found);
+        }
+        None
+    }
+
+    /// Returns the value of a key, as of the moment of the kept handle.
+    fn value_then(&self, key: u64) -> Option<u64> {
+        let found = self.full_then(key)?;
+        Some(found.2)
     }
 
     /// Returns the index of a key.
@@ -108,7 +131,11 @@ impl Plain {
     /// Returns what an insertion returns.
     fn insertion(&self, call: Call) -> Reply {
         if call.is_held && !reads_first(call.kind) {
-            return Reply::Failed(Cause::InUse, given_back(call, 0), 0);
+            let value = match call.kind {
+                Kind::Extend => None,
+                _ => given_back(call, 0),
+            };
+            return Reply::Failed(Cause::InUse, value, 0);
         }
         if let Some(index) = self.index_of(call.key) {
             return Reply::Inserted(Entry {
@@ -144,12 +171,16 @@ impl Plain {
                 Reply::Full(self.full_of(call.key))
             }
             Kind::GetIndex | Kind::GetIndexByHandle => Reply::Full(self.full_at(call.key as usize)),
+            Kind::SeenGet => Reply::Value(self.value_then(call.key)),
+            Kind::SeenGetFull => Reply::Full(self.full_then(call.key)),
             Kind::ContainsKey | Kind::ContainsKeyByHandle => {
                 Reply::Flag(self.index_of(call.key).is_some())
             }
             Kind::First => Reply::Value(self.value_at(0)),
             Kind::Last => Reply::Value(self.value_at(self.len().wrapping_sub(1))),
-            Kind::Len | Kind::LenByHandle | Kind::LenByGuard => Reply::Count(self.len()),
+            Kind::Len | Kind::LenByHandle | Kind::LenByGuard | Kind::Keep => {
+                Reply::Count(self.len())
+            }
             Kind::IsEmpty => Reply::Flag(self.len() == 0),
             Kind::IsFull => Reply::Flag(false),
             Kind::Iter | Kind::News | Kind::Clone => self.walk(0),
@@ -195,6 +226,9 @@ impl Plain {
     /// # Errors
     /// Fails if an allocation fails.
     pub fn follow(&mut self, call: Call, reply: Reply) -> Result<(), AllocError> {
+        if matches!(call.kind, Kind::Keep) {
+            self.keep();
+        }
         match reply {
             Reply::Inserted(
                 Entry {

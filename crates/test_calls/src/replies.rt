@@ -20,6 +20,15 @@ pub fn failed(fault: CellFault<u64>) -> Reply {
     }
 }
 
+/// The reply of an insertion that failed, after its closure had made the value or not.
+pub fn failed_made(fault: CellFault<Option<u64>>, calls: u64) -> Reply {
+    match fault {
+        CellFault::Memory(made) => Reply::Failed(Cause::Memory, made, calls),
+        CellFault::InUse(made) => Reply::Failed(Cause::InUse, made, calls),
+        CellFault::Full(made) => Reply::Failed(Cause::Full, made, calls),
+    }
+}
+
 /// The reply of an insertion with the parts that it returns.
 pub fn inserted(value: Option<u64>, index: Option<usize>, is_new: Option<bool>) -> Reply {
     Reply::Inserted(Entry {

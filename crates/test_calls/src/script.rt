@@ -72,6 +72,7 @@ fn key_of<G: Calls>(grown: &G, kind: Kind, draws: &mut Draws, keys: u64, count: 
         Kind::GetIndex | Kind::GetIndexByHandle => draws.below(count.wrapping_add(2)),
         Kind::Get | Kind::GetSince | Kind::GetByHandle => draws.below(keys),
         Kind::GetFullByHandle | Kind::GetFullByGuard => draws.below(keys),
+        Kind::SeenGet | Kind::SeenGetFull => draws.below(keys),
         _ => {
             let drawn = draws.below(keys);
             grown.key(drawn, count)
@@ -86,10 +87,10 @@ fn visits_all(kind: Kind) -> bool {
 
 /// Returns the next kind of call: as often an insertion as another one.
 fn drawn_kind(draws: &mut Draws) -> Option<Kind> {
-    let drawn = draws.below(26) as usize;
+    let drawn = draws.below(30) as usize;
     match INSERTIONS.get(drawn) {
         Some(kind) => Some(*kind),
-        None => OTHERS.get(draws.below(29) as usize).copied(),
+        None => OTHERS.get(draws.below(32) as usize).copied(),
     }
 }
 
@@ -244,6 +245,7 @@ impl Script {
         grown: &mut G,
         count: u64,
     ) -> Result<(), AllocError> {
+        self.plain.keep();
         for number in 0..count {
             if !self.agrees() {
                 return Ok(());

@@ -1,17 +1,18 @@
 //! The calls of the set in `cell`. The value of an item is the item.
 use crate::call::{Call, Calls, Kind, Reply, walked};
-use crate::replies::{failed, failed_empty, inserted};
+use crate::replies::{failed, failed_empty, failed_made, inserted};
 use elsa_cell::{FrozenSet, MapHandle};
 use std::alloc::Allocator;
 use std::hash::{BuildHasherDefault, FoldHasher};
 
 type State = BuildHasherDefault<FoldHasher>;
 
-/// A set, and a handle of it that is as old as the set.
+/// A set, a handle of it that is as old as the set, and one that observed a moment.
 #[derive(Drop)]
 pub struct SetCalls<'s, A: Allocator + Copy> {
     set: &'s FrozenSet<u64, State, A>,
     handle: MapHandle<'s, u64, (), State, A>,
+    then: MapHandle<'s, u64, (), State, A>,
 }
 
 impl<'s, A: Allocator + Copy> SetCalls<'s, A> {
@@ -19,6 +20,7 @@ impl<'s, A: Allocator + Copy> SetCalls<'s, A> {
         SetCalls {
             set,
             handle: set.handle(),
+            then: set.handle(),
         }
     }
 }
@@ -44,6 +46,13 @@ fn insert_new<A: Allocator + Copy>(set: &FrozenSet<u64, State, A>, item: u64) ->
     }
 }
 
+fn extend<A: Allocator + Copy>(set: &FrozenSet<u64, State, A>, item: u64) -> Reply {
+    match set.extend([item, item]) {
+        Ok(()) => inserted(None, None, None),
+        Err(fault) => failed_made(fault, 0),
+    }
+}
+
 fn get_full<A: Allocator + Copy>(set: &FrozenSet<u64, State, A>, item: u64) -> Reply {
     match set.get_full(&item) {
         Some((index, kept)) => Reply::Full(Some((index, *kept, *kept))),
@@ -59,6 +68,21 @@ fn get_full_by_handle<A: Allocator + Copy>(
         Some((index, kept, ())) => Reply::Full(Some((index, *kept, *kept))),
         None => Reply::Full(None),
     }
+}
+
+fn seen_get_full<A: Allocator + Copy>(then: &MapHandle<'_, u64, (), State, A>, item: u64) -> Reply {
+    match then.seen_get_full(&item) {
+        Some((index, kept, ())) => Reply::Full(Some((index, *kept, *kept))),
+        None => Reply::Full(None),
+    }
+}
+
+/// Keeps a handle that has observed all items, and returns their number.
+fn keep<A: Allocator + Copy>(calls: &mut SetCalls<'_, A>) -> Reply {
+    let handle = calls.set.handle();
+    let count = handle.seen_len();
+    calls.then = handle.again();
+    Reply::Count(count)
 }
 
 fn get_index<A: Allocator + Copy>(set: &FrozenSet<u64, State, A>, index: usize) -> Reply {
@@ -95,9 +119,11 @@ fn on_item<A: Allocator + Copy>(calls: &mut SetCalls<'_, A>, kind: Kind, item: u
         Kind::Insert => insert(set, item),
         Kind::InsertFull => insert_full(set, item),
         Kind::InsertNew => insert_new(set, item),
+        Kind::Extend => extend(set, item),
         Kind::Get => Reply::Value(set.get(&item).copied()),
         Kind::GetFull => get_full(set, item),
         Kind::GetFullByHandle => get_full_by_handle(&mut calls.handle, item),
+        Kind::SeenGetFull => seen_get_full(&calls.then, item),
         Kind::ContainsKey => Reply::Flag(set.contains(&item)),
         Kind::ContainsKeyByHandle => Reply::Flag(calls.handle.contains_key(&item)),
         _ => Reply::NotOffered,
@@ -111,6 +137,7 @@ fn on_set<A: Allocator + Copy>(calls: &mut SetCalls<'_, A>, call: Call) -> Optio
         Kind::GetIndex => get_index(set, call.key as usize),
         Kind::Len => Reply::Count(set.len()),
         Kind::LenByHandle => Reply::Count(calls.handle.len()),
+        Kind::Keep => keep(calls),
         Kind::IsEmpty => Reply::Flag(set.is_empty()),
         Kind::IsFull => Reply::Flag(set.is_full()),
         Kind::Iter => iter(set),

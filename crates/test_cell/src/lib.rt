@@ -17,6 +17,8 @@ mod into_tests;
 #[cfg(test)]
 mod map_tests;
 #[cfg(test)]
+mod moment_tests;
+#[cfg(test)]
 mod ordered_tests;
 #[cfg(test)]
 mod plain_tests;
