@@ -345,6 +345,19 @@ impl<'a, S: BuildHasher, A: Allocator + Copy, P: Allocator> Interner<'a, S, A, P
         Ok(())
     }
 
+    /// Returns the names in the order of their numbers, and drops the table that finds them: the
+    /// name with the number `n` is at the index `n`. It allocates nothing.
+    ///
+    /// # Cost
+    /// `O(1)`.
+    pub fn into_names(self) -> Vec<&'a str, A>
+    where
+        S: Drop,
+        ensures names { map (λ name. name.now) result.items ≡ self.entry }
+    {
+        self.into_reader().into_names()
+    }
+
     /// Returns the names without the arena, for look-ups only. Threads can share the result if they
     /// can share `S` and `A`. It allocates nothing.
     ///

@@ -157,6 +157,20 @@ impl<'a, S: BuildHasher, A: Allocator + Copy> Names<'a, S, A> {
         self.list.as_slice()
     }
 
+    /// Returns the names in the order of their numbers, and drops the table. It allocates nothing.
+    pub fn into_list(self) -> Vec<&'a str, A>
+    where
+        S: Drop,
+        ensures names { map (λ b. b.now) result.items ≡ self.entry.0 }
+    {
+        let Names {
+            list,
+            table: _,
+            hash_builder: _,
+        } = self;
+        list
+    }
+
     /// Returns whether there are 2^32 - 1 names, the greatest number. It allocates nothing.
     #[inline]
     pub fn is_full(&self) -> bool

@@ -136,6 +136,20 @@ impl<'a, S: BuildHasher, A: Allocator + Copy> InternerReader<'a, S, A> {
         self.names.as_slice().iter()
     }
 
+    /// Returns the names in the order of their numbers, and drops the table that finds them: the
+    /// name with the number `n` is at the index `n`. It allocates nothing.
+    ///
+    /// # Cost
+    /// `O(1)`.
+    pub fn into_names(self) -> Vec<&'a str, A>
+    where
+        S: Drop,
+        ensures names { map (λ name. name.now) result.items ≡ self.entry }
+    {
+        let InternerReader { names } = self;
+        names.into_list()
+    }
+
     /// Returns the number of names that there can be before the table or the list of names
     /// allocates.
     pub(crate) fn capacity(&self) -> usize

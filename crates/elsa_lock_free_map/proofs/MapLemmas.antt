@@ -21,7 +21,7 @@ use Rattle.elsa_lock_free.proofs.RuleLemmas.EachNew.{agree_on_places, items_are_
 use Rattle.elsa_lock_free.proofs.RuleLemmas.History.{items_prefix}
 use Rattle.elsa_tables.specs.declared.put.Inserted.{Inserted}
 use Rattle.elsa_tables.specs.Rules.{HoldsAt}
-use Rattle.elsa_lock_free_map.specs.Entries.{AgreeOnEntries, Came, HasAt, HoldsEach, InsertsOnce, Lacks, MayFollow, PushesPair, is_text, pairs_of}
+use Rattle.elsa_lock_free_map.specs.Entries.{AgreeOnEntries, Came, FindsAt, HasAt, HoldsEach, InsertsOnce, Lacks, MayFollow, PushesPair, is_text, pairs_of}
 
 last_at : {A : Type 0} (x : A) (xs : List A) → (y : A) × (slice_get (x ∷ xs) (length xs) ≡ Some y)
 last_at x [] = (x, refl)
@@ -127,6 +127,14 @@ stands_at equal es i key x found here =
     let both : Some found.0 ≡ Some x = sym found.1 ∙ here in
     let same : found.0 ≡ x = cc both in
     (x, here, subst (λ e. equal key e.key ≡ true) same found.2, refl)
+
+-- and it has the key and the value that are read
+pub finds_at : {Q K V S : Type 0} (equal : Q → K → Bool) (es : List (Entry K V S)) (i : ℕ) (key : Q) (x : Entry K V S)
+    → ((e : Entry K V S) × (slice_get es i ≡ Some e) × (equal key e.key ≡ true)) → slice_get es i ≡ Some x → FindsAt equal es i key x.key x.value
+finds_at equal es i key x found here =
+    let both : Some found.0 ≡ Some x = sym found.1 ∙ here in
+    let same : found.0 ≡ x = cc both in
+    (x, here, subst (λ e. equal key e.key ≡ true) same found.2, refl, refl)
 
 -- what a list has at one index has one value
 pub one_value : {Q K V S : Type 0} (equal : Q → K → Bool) (es : List (Entry K V S)) (key : Q) (i j : ℕ) (v w : V) → i ≡ j → HasAt equal es i key v → HasAt equal es j key w → v ≡ w

@@ -39,6 +39,11 @@ module _ {K V S : Type 0} where
     abbrev pub Has : List (Entry K V S) → Q → V → Type 0
     Has es key value = (i : ℕ) × HasAt es i key value
 
+    -- the entry at the place has this key and this value, and the query finds the key
+    abbrev pub FindsAt : List (Entry K V S) → ℕ → Q → K → V → Type 0
+    FindsAt es i query key value =
+        (e : Entry K V S) × (slice_get es i ≡ Some e) × (equal query e.key ≡ true) × (e.key ≡ key) × (e.value ≡ value)
+
     -- no entry has the key
     abbrev pub Lacks : List (Entry K V S) → Q → Type 0
     Lacks es key = IsAbsent equal (keys_of es) key

@@ -12,7 +12,7 @@ ghost use Rattle.elsa_lock_free.specs.Distinct.{AgreeOnPlaces, IsOneToOne};
 ghost use Rattle.elsa_hash_index.specs.declared.entry.Entry.{Entry};
 ghost use Rattle.elsa_hash_index.specs.Entries.{keys_of};
 ghost use Rattle.elsa_tables.specs.Rules.{HoldsAt};
-ghost use Rattle.elsa_lock_free_map.specs.Entries.{AgreeOnEntries, GetsOrInserts, Has, HoldsEach, InsertsOnce, Lacks, PushesPair, pairs_of};
+ghost use Rattle.elsa_lock_free_map.specs.Entries.{AgreeOnEntries, FindsAt, GetsOrInserts, Has, HoldsEach, InsertsOnce, Lacks, PushesPair, pairs_of};
 
 use crate::entries::{EntriesHandle, Index, NewKeys, Query, hash_of, one_to_one, same_place};
 use crate::iter::{MapIter, walk};
@@ -174,6 +174,48 @@ impl<
         ensures absent { IfNone result (Lacks Q.equivalent (items_of self.now.seen) query) }
     {
         lookup(self, &Query { query })
+    }
+
+    /// Returns the index of a key in the order of insertion, and references to the key and its
+    /// value, or `None` if none of the entries that the handle has observed has the key. A query is
+    /// as in [`find`](Self::find). The references live as long as the map is borrowed.
+    ///
+    /// It doesn't read the length, so it doesn't find what other threads have inserted since: an
+    /// entry is found exactly if its index is below [`seen_len`](Self::seen_len). It takes no lock,
+    /// allocates nothing and never blocks.
+    ///
+    /// # Cost
+    /// `O(1)` if the hashes differ.
+    pub fn seen_get_full<Q: Equivalent<K>>(&self, query: Q) -> Option<(usize, &'m K, &'m V)>
+        ensures found { IfSome result (λ r.
+            FindsAt Q.equivalent (items_of self.now.seen) r.0 query r.1.now r.2.now) }
+        ensures within { IfSome result (λ r. r.0 < length self.now.seen) }
+        ensures holds { IfSome result (λ r. L.holds r.1.now r.2.now) }
+        ensures absent { IfNone result (Lacks Q.equivalent (items_of self.now.seen) query) }
+    {
+        if let Some(index) = self.place_of(query) {
+            self.obeys_rule();
+            let found = self.entry(index);
+            return Some((index, &found.key, &found.value));
+        }
+        None
+    }
+
+    /// Returns a reference to the value of a key, or `None` if none of the entries that the handle
+    /// has observed has the key. It observes no more, as [`seen_get_full`](Self::seen_get_full).
+    ///
+    /// # Cost
+    /// That of `seen_get_full`.
+    pub fn seen_get<Q: Equivalent<K>>(&self, query: Q) -> Option<&'m V>
+        ensures found { IfSome result (λ v. Has Q.equivalent (items_of self.now.seen) query v.now) }
+        ensures holds { IfSome result (λ v. HoldsAt L.holds (Q.equivalent query) v.now) }
+        ensures absent { IfNone result (Lacks Q.equivalent (items_of self.now.seen) query) }
+    {
+        if let Some(seen) = self.place_of(query) {
+            self.obeys_rule();
+            return Some(&self.entry(seen).value);
+        }
+        None
     }
 
     /// Returns the index of a key in the order of insertion, or `None` if no entry that the handle

@@ -168,6 +168,26 @@ impl<'i, T: Copy + Drop + Hash, S: BuildHasher + Copy + Drop, A: Allocator + Cop
         found
     }
 
+    /// Returns the index of the name that `query` finds, or `None` if none of the names that the
+    /// handle has observed is such a name. A query is as in [`find`](Self::find).
+    ///
+    /// It doesn't read the length, so it doesn't find names that other threads have added since: a
+    /// name is found exactly if its index is below [`seen_len`](Self::seen_len). It takes no lock,
+    /// allocates nothing and never blocks.
+    ///
+    /// # Cost
+    /// `O(1)` if the hashes differ.
+    pub fn seen_get<Q: Equivalent<T>>(&self, query: Q) -> Option<usize>
+        ensures found { IfSome result (λ i. HasAt Q.equivalent (items_of self.now.seen) i query) }
+        ensures within { IfSome result (λ i. i < length self.now.seen) }
+        ensures absent { IfNone result (Lacks (Q.equivalent query) (items_of self.now.seen)) }
+    {
+        if let Some(found) = self.names.seen_get_full(query) {
+            return Some(found.0);
+        }
+        None
+    }
+
     /// Returns the name at an index, or `None` if the index is not below the number of names that
     /// the handle has then observed.
     ///

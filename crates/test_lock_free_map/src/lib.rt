@@ -12,6 +12,8 @@ mod into_pairs_tests;
 #[cfg(test)]
 mod made_tests;
 #[cfg(test)]
+mod moment_tests;
+#[cfg(test)]
 mod once_tests;
 #[cfg(test)]
 mod owner_tests;

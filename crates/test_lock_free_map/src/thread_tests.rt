@@ -15,7 +15,7 @@ const TURNS: u64 = 10_000_000;
 type Map = LockFreeFrozenMap<u64, u64>;
 
 /// Counts this thread, and waits until `count` threads are counted.
-fn meet_all(there: &AtomicU64, count: u64) -> bool {
+pub fn meet_all(there: &AtomicU64, count: u64) -> bool {
     let _ = there.fetch_add(1, Ordering::SeqCst);
     for _ in 0..TURNS {
         if there.load(Ordering::SeqCst) >= count {

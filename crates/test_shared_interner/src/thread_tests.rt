@@ -26,7 +26,7 @@ fn numbered(number: u64) -> Option<Name> {
 }
 
 /// Counts this thread, and waits until `count` threads are counted.
-fn meet_all(there: &AtomicU64, count: u64) -> bool {
+pub fn meet_all(there: &AtomicU64, count: u64) -> bool {
     let _ = there.fetch_add(1, Ordering::SeqCst);
     for _ in 0..TURNS {
         if there.load(Ordering::SeqCst) >= count {

@@ -113,6 +113,15 @@ fn inserted<R: Wait>(
     Ok((entry, stands.is_new))
 }
 
+/// Returns whether a look-up among the observed entries alone finds this entry.
+fn is_seen(map: &FreeHandle<'_, '_>, entry: Entry) -> bool {
+    let Some((index, key, value)) = map.seen_get_full(&entry.key) else {
+        return false;
+    };
+    let same = index as u64 == entry.number && *key == entry.key && *value == entry.value;
+    same && map.seen_get(&entry.key) == Some(value)
+}
+
 /// Returns the entry that the key of this one has: first without its index, and then, where
 /// insertions wait, by an insertion of another value. It is no entry of a map if that was new.
 fn first_of<R: Wait>(
@@ -124,6 +133,9 @@ fn first_of<R: Wait>(
     ensures { map.new.vector ≡ map.old.vector }
 {
     let found = map.get(entry.key);
+    if found.is_some() && !is_seen(map, entry) {
+        return no_entry(entry.key, entry.value);
+    }
     if may.is_some() || found != Some(entry.value) {
         return Entry {
             value: found.unwrap_or(u64::MAX),

@@ -4,7 +4,9 @@ ghost use Rattle.std.specs.Prelude.{◌≡◌};
 
 use crate::form::Form;
 use crate::script::Entry;
-use elsa::interner::{Name, NamePass, ShardedInterner, ShardedNameHandle, SharedInterner};
+use elsa::interner::{
+    Name, NameHandle, NamePass, ShardedInterner, ShardedNameHandle, SharedInterner,
+};
 use itoa::Buffer;
 use std::alloc::{AllocError, Global};
 use std::hash::{BuildHasherDefault, FoldHasher};
@@ -52,6 +54,17 @@ fn entry(number: u64, key: u64) -> Entry {
     }
 }
 
+/// Returns the number of a name among those that a view has observed.
+fn number_seen(names: &SharedInterner, pass: &mut NamePass, name: Name) -> Option<usize>
+    requires { pass.old.vector ≡ names.now }
+    ensures { pass.new.vector ≡ names.now }
+{
+    let handle = NameHandle::of(names, std::mem::replace(pass, names.pass()));
+    let number = handle.seen_get(&name);
+    *pass = handle.into_pass();
+    number
+}
+
 impl Form for Names {
     type Pass = NamePass;
 
@@ -75,7 +88,9 @@ impl Form for Names {
     fn at<R: Wait>(&self, rt: &R, pass: &mut NamePass, number: u64) -> Option<Entry> {
         let name = self.names.at(pass, number as usize)?;
         let key = name.as_str().parse::<u64>().ok()?;
+        let seen = number_seen(&self.names, pass, name);
         match self.names.put(rt, pass, name) {
+            Ok(place) if seen != Some(place) => Some(entry(u64::MAX, key)),
             Ok(place) => Some(entry(place as u64, key)),
             Err(_) => None,
         }

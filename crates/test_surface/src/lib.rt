@@ -33,6 +33,8 @@ mod locked_text_tests;
 #[cfg(test)]
 mod map_form_tests;
 #[cfg(test)]
+mod moment_form_tests;
+#[cfg(test)]
 mod name_handle_tests;
 #[cfg(test)]
 mod names;
