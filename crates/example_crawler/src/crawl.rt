@@ -110,7 +110,13 @@ pub fn fetch<R: Files + AllocGlobal + Wait>(
         for line in page.lines() {
             match line.strip_prefix("link ") {
                 Some(link) => {
-                    find(rt, alloc, &mut found, link.trim(), round.distance.saturating_add(1))?;
+                    find(
+                        rt,
+                        alloc,
+                        &mut found,
+                        link.trim(),
+                        round.distance.saturating_add(1),
+                    )?;
                 }
                 None => {
                     let words = line.split_whitespace().count();

@@ -57,7 +57,8 @@ fn main(rt: HostRuntime) -> io::Result<()> {
             sum.add(fetched?);
         }
         println!(rt;
-            "round {distance}: {} pages, {} words, {} dead links", sum.pages, sum.words, sum.dead
+            "round {distance}: {} pages, {} words, {} dead links",
+            sum.pages, sum.words, sum.dead
         )?;
         from = to;
     }

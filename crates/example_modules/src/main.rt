@@ -11,7 +11,7 @@
 mod loader;
 mod module;
 
-use crate::loader::{Loaded, LoadFault, Modules, load_all};
+use crate::loader::{LoadFault, Loaded, Modules, load_all};
 use elsa::SeededState;
 use std::{io, thread};
 
@@ -29,7 +29,10 @@ fn tell(rt: &impl Print, results: Vec<Result<Loaded, LoadFault>>) -> io::Result<
         match result {
             Ok(loaded) => {
                 read = read.saturating_add(loaded.read);
-                println!(rt; "{root}: {} modules, {} lines", loaded.modules, loaded.lines)?;
+                println!(rt;
+                    "{root}: {} modules, {} lines",
+                    loaded.modules, loaded.lines
+                )?;
             }
             Err(fault) => println!(rt; "{root}: {fault}")?,
         }
