@@ -36,54 +36,40 @@ fn lacks(moment: &MapHandle<'_, u64, u64>, key: u64) -> bool {
     moment.seen_get_full(&key).is_none() && moment.seen_get(&key).is_none()
 }
 
-/// Inserts the keys of one thread, and returns whether after each of them the moment has the keys
-/// below [`BEFORE`] and not this one.
-fn inserts<R: Wait>(
-    rt: &R,
-    map: &Map,
-    moment: &MapHandle<'_, u64, u64>,
-    there: &AtomicU64,
-    thread: u64,
-) -> bool {
+/// Inserts the keys of one thread, and returns whether after each of them a moment from before has
+/// the keys below [`BEFORE`] and not this one, and as many as it had.
+fn inserts<R: Wait>(rt: &R, map: &Map, there: &AtomicU64, thread: u64) -> bool {
     if !meet_all(there, 4) {
         return false;
     }
-    let mut handle = map.handle();
+    let (mut moment, mut handle) = (map.handle(), map.handle());
+    let seen = moment.len();
     let first = thread.wrapping_mul(LATER).wrapping_add(BEFORE);
     for i in 0..LATER {
         let key = first.wrapping_add(i);
         if handle.insert(rt, key, i).is_err() || handle.seen_get(&key) != Some(&i) {
             return false;
         }
-        if !has(moment, i % BEFORE) || !lacks(moment, key) {
+        if !has(&moment, i % BEFORE) || !lacks(&moment, key) || moment.seen_len() != seen {
             return false;
         }
     }
     true
 }
 
-/// Returns whether four threads that insert find the same moment by one handle.
+/// Returns whether each of four threads finds its moment unchanged while all of them insert.
 fn four_threads<R: Threads + Wait + Sync>(
     rt: &R,
+    alloc: Global,
     map: &Map,
-    moment: &MapHandle<'_, u64, u64>,
-) -> bool {
+) -> Result<bool, AllocError> {
     let there = AtomicU64::new(0);
-    let met = &there;
-    let ((a, b), (c, d)) = thread::join(
-        rt,
-        || thread::join(
-            rt,
-            || inserts(rt, map, moment, met, 0),
-            || inserts(rt, map, moment, met, 1),
-        ),
-        || thread::join(
-            rt,
-            || inserts(rt, map, moment, met, 2),
-            || inserts(rt, map, moment, met, 3),
-        ),
-    );
-    a && b && c && d
+    let found = thread::map_indices(rt, alloc, 4, &|at| inserts(rt, map, &there, at as u64))?;
+    let mut right = true;
+    for one in &found {
+        right = right && *one;
+    }
+    Ok(right)
 }
 
 /// Makes a handle that has observed the keys below [`BEFORE`].
@@ -99,7 +85,7 @@ fn filled<'m, R: Wait>(rt: &R, map: &'m Map) -> Result<MapHandle<'m, u64, u64>, 
 fn a_moment_changed_while_four_threads_inserted(rt: HostRuntime) -> Result<(), Fail> {
     let map = Map::new(rt.alloc())?;
     let moment = filled(&rt, &map)?;
-    assert!(rt; four_threads(&rt, &map, &moment));
+    assert!(rt; four_threads(&rt, rt.alloc(), &map)?);
     assert_eq!(rt; moment.seen_len() as u64, BEFORE);
     Ok(())
 }

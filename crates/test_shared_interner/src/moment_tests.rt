@@ -22,19 +22,14 @@ const LATER: u64 = 200;
 
 type Numbers = SharedInterner<u64>;
 
-/// Adds the names of one thread, and returns whether after each of them the moment has the names
-/// below [`BEFORE`] and not this one.
-fn adds<R: Wait>(
-    rt: &R,
-    names: &Numbers,
-    moment: &NameHandle<'_, u64>,
-    there: &AtomicU64,
-    thread: u64,
-) -> bool {
+/// Adds the names of one thread, and returns whether after each of them a moment from before has
+/// the names below [`BEFORE`] and not this one, and as many as it had.
+fn adds<R: Wait>(rt: &R, names: &Numbers, there: &AtomicU64, thread: u64) -> bool {
     if !meet_all(there, 4) {
         return false;
     }
-    let mut handle = names.handle();
+    let (mut moment, mut handle) = (names.handle(), names.handle());
+    let seen = moment.len();
     let first = thread.wrapping_mul(LATER).wrapping_add(BEFORE);
     for i in 0..LATER {
         let (known, name) = (i % BEFORE, first.wrapping_add(i));
@@ -44,35 +39,26 @@ fn adds<R: Wait>(
         if handle.seen_get(&name) != Some(number) || moment.seen_get(&name).is_some() {
             return false;
         }
-        if moment.seen_get(&known) != Some(known as usize) {
+        if moment.seen_get(&known) != Some(known as usize) || moment.seen_len() != seen {
             return false;
         }
     }
     true
 }
 
-/// Returns whether four threads that add names find the same moment by one handle.
+/// Returns whether each of four threads finds its moment unchanged while all of them insert.
 fn four_threads<R: Threads + Wait + Sync>(
     rt: &R,
+    alloc: Global,
     names: &Numbers,
-    moment: &NameHandle<'_, u64>,
-) -> bool {
+) -> Result<bool, AllocError> {
     let there = AtomicU64::new(0);
-    let met = &there;
-    let ((a, b), (c, d)) = thread::join(
-        rt,
-        || thread::join(
-            rt,
-            || adds(rt, names, moment, met, 0),
-            || adds(rt, names, moment, met, 1),
-        ),
-        || thread::join(
-            rt,
-            || adds(rt, names, moment, met, 2),
-            || adds(rt, names, moment, met, 3),
-        ),
-    );
-    a && b && c && d
+    let found = thread::map_indices(rt, alloc, 4, &|at| adds(rt, names, &there, at as u64))?;
+    let mut right = true;
+    for one in &found {
+        right = right && *one;
+    }
+    Ok(right)
 }
 
 /// Makes a handle that has observed the names below [`BEFORE`].
@@ -88,7 +74,7 @@ fn filled<'i, R: Wait>(rt: &R, names: &'i Numbers) -> Result<NameHandle<'i, u64>
 fn a_moment_changed_while_four_threads_added_names(rt: HostRuntime) -> Result<(), Fail> {
     let names = Numbers::new(rt.alloc())?;
     let moment = filled(&rt, &names)?;
-    assert!(rt; four_threads(&rt, &names, &moment));
+    assert!(rt; four_threads(&rt, rt.alloc(), &names)?);
     assert_eq!(rt; moment.seen_len() as u64, BEFORE);
     Ok(())
 }
