@@ -16,6 +16,9 @@ A name stands for each item of that name in the crate and those below it: a cont
 little. It holds no lemma, since a lemma can't prove what is false; where one is missing, the proofs from nothing fail.
 It holds no script and no kit: CONTRIBUTING says what to run after a change of the way in which checks are judged.
 
+`tools/renamed` has words that were renamed in all crates. A text with an old word means what the same text means with
+the new one, if it does not have the new word too: then two names could have become one, and the text has changed.
+
 `tools/landed` has the commit that landed last. If it names an older one, more is due. `tools/owed` may name crates
 whose mutants and examples wait, except for those whose own text has changed: they are compared with the last landing
 that did not name their crate, which must be one of the last five.
@@ -25,7 +28,7 @@ import collections, functools, pathlib, re, subprocess, tempfile
 from functions import functions_of, pairs_of
 from repository import files_below, lines, root, stands_on
 
-LANDED, OWED = "tools/landed", "tools/owed"
+LANDED, OWED, RENAMED = "tools/landed", "tools/owed", "tools/renamed"
 # The number of landings within which an owed crate's checks run.
 MOST = 5
 KINDS = ("mutant", "function", "fault", "example", "stress")
@@ -304,6 +307,28 @@ def meant(piece):
     return piece if piece.kind in OWN else piece._replace(name=piece.name.rpartition("/")[2])
 
 
+class Renames:
+    """Words that were renamed, each old word followed by its new one."""
+
+    def __init__(self, words):
+        self.new_words = dict(zip(words[::2], words[1::2]))
+
+    @functools.lru_cache(maxsize=None)
+    def of(self, text):
+        """The text with its new words, except for those that it has already."""
+        names = names_in(text)
+        found = {old: new for old, new in self.new_words.items() if old in names and new not in names}
+        return NAME.sub(lambda it: found.get(it[0], it[0]), text) if found else text
+
+    def of_checks(self, checks):
+        """The contents of checks with their new words. A check whose name has an old word has its new name too."""
+        found = {
+            key: frozenset(Piece(it.kind, self.of(it.name), self.of(it.text)) for it in content)
+            for key, content in checks.items()
+        }
+        return {(kind, self.of(name)): content for (kind, name), content in found.items()} | found
+
+
 def difference(old, new):
     """Why a check with the content `new` is due if it ran with `old`: a sentence, and whether the check itself has
     changed; None if it isn't due. `old` is None if there was no such check."""
@@ -341,6 +366,7 @@ class History:
 
     def __init__(self, top=root):
         self.top, self.trees, self.texts = top, {}, {}
+        self.renames = Renames(self.text(RENAMED))
 
     def text(self, path, commit=None):
         """The words of a file, in a commit or in the present tree; none where it is missing."""
@@ -394,7 +420,7 @@ class History:
             with tempfile.TemporaryDirectory(prefix="elsa-before-") as kept:
                 packed = git("archive", commit, "crates.txt", "crates", top=self.top)
                 subprocess.run(["tar", "-x", "-C", kept], input=packed, check=True)
-                self.trees[commit] = Tree(pathlib.Path(kept)).checks
+                self.trees[commit] = self.renames.of_checks(Tree(pathlib.Path(kept)).checks)
         return self.trees[commit]
 
     @functools.cached_property
@@ -408,4 +434,6 @@ class History:
             raise Fault(f"{OWED} has named {late[0]} at {MOST} landings before: take it out, so that its checks run")
         bases = {it: self.base(it) for it in self.now.crates}
         checks = {it: self.checks(it) for it in {self.landed(), *bases.values()}}
-        return due_since(self.now.checks, checks[self.landed()], {it: checks[bases[it]] for it in bases}, self.owed())
+        meant_now = self.renames.of_checks(self.now.checks)
+        now = {it: meant_now[it] for it in self.now.checks}
+        return due_since(now, checks[self.landed()], {it: checks[bases[it]] for it in bases}, self.owed())

@@ -9,7 +9,7 @@ SOURCE = """//! A module.
 
 pub use crate::{one, two::{Three, Four as Five}};
 
-ghost use Rattle.elsa_tables.specs.Insertions.{Grows, place_of};
+ghost use Rattle.elsa_tables.specs.Insertions.{Grows, index_of};
 ghost use Rattle.elsa_tables.specs.FirstWins as first;
 
 /// A list.

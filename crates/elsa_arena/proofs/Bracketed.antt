@@ -7,11 +7,11 @@ use Rattle.std.specs.List.Sorted.{IsBinarySearchResult, IsPartitionPoint, IsPart
 use Rattle.std.specs.Ordering.{ordering_index}
 use Rattle.std.specs.declared.cmp.Ordering.{Ordering}
 use Rattle.std.specs.declared.cmp.Ordering.TheVariants.{Less, Equal, Greater}
-use Rattle.elsa_arena.specs.Search.{Call, MadeInTurn, Answered, IsBetween, Brackets, Searched, AnswersByItem, AnswersByPlace, Rises, Splits, Falls, Parts}
+use Rattle.elsa_arena.specs.Search.{Call, MadeInTurn, Answered, IsBetween, Brackets, Searched, AnswersByItem, AnswersByIndex, Rises, Splits, Falls, Parts}
 
 -- A property of the item at an index.
-at_place : {B : Type 0} (P : B → Type 0) (items : List B) (i : ℕ) → IsSomeAnd (slice_get items i) P → (i < length items) × ((d : B) → P (get_or items i d))
-at_place {B} P items i = by (slice_get items i) refl
+at_index : {B : Type 0} (P : B → Type 0) (items : List B) (i : ℕ) → IsSomeAnd (slice_get items i) P → (i < length items) × ((d : B) → P (get_or items i d))
+at_index {B} P items i = by (slice_get items i) refl
   where
     by : (found : Option B) → slice_get items i ≡ found → IsSomeAnd found P → (i < length items) × ((d : B) → P (get_or items i d))
     by None at h = absurd h
@@ -28,9 +28,9 @@ module _ {F B R : Type 0} (step : F → B → R → F → Type 0) (items : List 
   -- P allows each result of the item at its index.
   pub answered_so : (calls : List (Call R)) (end : F) → MadeInTurn step items start calls end → (i : ℕ) (r : R) → Answered calls i r → IsSomeAnd (slice_get items i) (λ item. P item r)
   answered_so [] end made i r answered = absurd answered
-  answered_so (c ∷ cs) end (before, item, made, at, s) i r (inl (place, answer)) =
+  answered_so (c ∷ cs) end (before, item, made, at, s) i r (inl (index, answer)) =
       let here : P item c.answer = (keeps before item c.answer end s (holds cs before made)).0 in
-      subst (λ o. IsSomeAnd o (λ x. P x r)) (sym at ∙ ap (slice_get items) place) (subst (λ a. P item a) answer here)
+      subst (λ o. IsSomeAnd o (λ x. P x r)) (sym at ∙ ap (slice_get items) index) (subst (λ a. P item a) answer here)
   answered_so (c ∷ cs) end (before, item, made, at, s) i r (inr earlier) = answered_so cs before made i r earlier
 
 -- The results of a closure that its calls don't change.
@@ -40,16 +40,16 @@ said_by_item step items start o by_item =
     answered_so step items start (λ f. f ≡ start) (λ b r. o b ≡ r) refl (λ f b r g s is. let h = by_item b r g (subst (λ p. step p b r g) is s) in (sym h.0, h.1))
 
 -- The results of a closure that its calls may change.
-pub said_by_place : {F B R : Type 0} (g : Mut F (B × Unit {0}) R) (items : List B) (start : F) (o : B → R) → AlwaysReturns g (λ a r. r ≡ o a.0) start
+pub said_by_index : {F B R : Type 0} (g : Mut F (B × Unit {0}) R) (items : List B) (start : F) (o : B → R) → AlwaysReturns g (λ a r. r ≡ o a.0) start
     → (calls : List (Call R)) (end : F) → MadeInTurn (λ p b r q. Called g p (b, tt) r q) items start calls end → (i : ℕ) (r : R) → Answered calls i r → IsSomeAnd (slice_get items i) (λ item. o item ≡ r)
-said_by_place g items start o always =
+said_by_index g items start o always =
     answered_so (λ p b r q. Called g p (b, tt) r q) items start (λ f. AlwaysReturns g (λ a r. r ≡ o a.0) f) (λ b r. o b ≡ r) always
     (λ f b r q s h. (sym (h.at ((b, tt) ∷ []) r q s).0, record { at = λ xs. (h.at ((b, tt) ∷ xs) r q s).1 }))
 
 -- An index with a result has an item.
 within : {F B R : Type 0} (step : F → B → R → F → Type 0) (items : List B) (start : F) (P : List (Call R) → Type 0) (found : Searched step items start P) (i : ℕ) (r : R) → Answered found.calls i r → i < length items
 within step items start P found i r answered =
-    (at_place (λ _. Unit {0}) items i (answered_so step items start (λ _. Unit {0}) (λ _ _. Unit {0}) tt (λ f b r g s h. (tt, tt)) found.calls found.end found.in_turn i r answered)).0
+    (at_index (λ _. Unit {0}) items i (answered_so step items start (λ _. Unit {0}) (λ _ _. Unit {0}) tt (λ f b r g s h. (tt, tt)) found.calls found.end found.in_turn i r answered)).0
 
 -- The bracket of a property that follows from the results.
 pub bracket_of : {answered at : ℕ → Ordering → Type 0} (n : ℕ) (r : Result ℕ ℕ) → ((i : ℕ) (o : Ordering) → answered i o → at i o) → Brackets n answered r → Brackets n at r
@@ -98,25 +98,25 @@ parts_by n answered o so i bracket falls =
 
 -- Results that rise with the index are split at the index that the search returns.
 pub splits : {F B : Type 0} (items : List B) (start : F) (step : F → B → Ordering → F → Type 0) (r : Result ℕ ℕ) (o : ℕ → Ordering)
-    → Searched step items start (λ calls. Brackets (length items) (Answered calls) r) → AnswersByPlace step items start o → Rises (length items) o → Splits (length items) o r
-splits items start step r o found by_place =
-    splits_by (length items) (Answered found.calls) o (λ i a said. (within step items start _ found i a said, sym (by_place found.calls found.end i a found.in_turn said))) r found.bracket
+    → Searched step items start (λ calls. Brackets (length items) (Answered calls) r) → AnswersByIndex step items start o → Rises (length items) o → Splits (length items) o r
+splits items start step r o found by_index =
+    splits_by (length items) (Answered found.calls) o (λ i a said. (within step items start _ found i a said, sym (by_index found.calls found.end i a found.in_turn said))) r found.bracket
 
 -- Results that fall with the index are parted at the index that the search returns.
 pub parts : {F B : Type 0} (items : List B) (start : F) (step : F → B → Bool → F → Type 0) (i : ℕ) (answer : ℕ → Bool)
-    → Searched step items start (λ calls. IsBetween (length items) (Answered calls) true false i) → AnswersByPlace step items start answer → Falls (length items) answer → Parts (length items) answer i
-parts items start step i answer found by_place =
-    parts_by (length items) (Answered found.calls) answer (λ i a said. (within step items start _ found i a said, sym (by_place found.calls found.end i a found.in_turn said))) i found.bracket
+    → Searched step items start (λ calls. IsBetween (length items) (Answered calls) true false i) → AnswersByIndex step items start answer → Falls (length items) answer → Parts (length items) answer i
+parts items start step i answer found by_index =
+    parts_by (length items) (Answered found.calls) answer (λ i a said. (within step items start _ found i a said, sym (by_index found.calls found.end i a found.in_turn said))) i found.bracket
 
 -- ---- if the results depend only on the item
 
 -- A bracket by the results of `o` for the items splits the list as a search of a slice does.
 pub splits_list : {B : Type 0} (items : List B) (answered : ℕ → Ordering → Type 0) (o : B → Ordering) → ((i : ℕ) (r : Ordering) → answered i r → IsSomeAnd (slice_get items i) (λ item. o item ≡ r))
     → (r : Result ℕ ℕ) → Brackets (length items) answered r → IsBinarySearchResult o items r
-splits_list items answered o so (Ok i) bracket = (at_place _ items i (so i Equal bracket)).1
+splits_list items answered o so (Ok i) bracket = (at_index _ items i (so i Equal bracket)).1
 splits_list {B} items answered o so (Err i) bracket =
     λ rises.
-    let at = λ (d : B). splits_by (length items) answered (λ k. o (get_or items k d)) (λ j r said. let h = at_place _ items j (so j r said) in (h.0, h.1 d)) (Err i) bracket (λ j k up within. rises j k d up within) in
+    let at = λ (d : B). splits_by (length items) answered (λ k. o (get_or items k d)) (λ j r said. let h = at_index _ items j (so j r said) in (h.0, h.1 d)) (Err i) bracket (λ j k up within. rises j k d up within) in
     ((λ k d low high. (at d).1 k high), λ k d low high. (at d).2 k low high)
 
 -- An index between true and false parts the list as the partition of a slice does.
@@ -124,7 +124,7 @@ pub parts_list : {B : Type 0} (items : List B) (answered : ℕ → Bool → Type
     → (i : ℕ) → IsBetween (length items) answered true false i → IsPartitionedBy test items → IsPartitionPoint (λ b. test b ≡ true) (λ b. test b ≡ false) items i
 parts_list {B} items answered test so i bracket =
     λ falls.
-    let at = λ (d : B). parts_by (length items) answered (λ k. test (get_or items k d)) (λ j r said. let h = at_place _ items j (so j r said) in (h.0, h.1 d)) i bracket (λ j k up within. falls j k d up within) in
+    let at = λ (d : B). parts_by (length items) answered (λ k. test (get_or items k d)) (λ j r said. let h = at_index _ items j (so j r said) in (h.0, h.1 d)) i bracket (λ j k up within. falls j k d up within) in
     ((λ k d low high. (at d).1 k high), λ k d low high. (at d).2 k low high)
 
 -- ---- where the search ended

@@ -16,7 +16,7 @@ module _ {F B R : Type 0} (g : Mut F (B × Unit {0}) R) (items : List B) (start 
 
   -- A search may call a closure that may always be called.
   pub always_callable_at_items : always_mut g start → CallableAtItems (λ p b r q. Called g p (b, tt) r q) (λ p b. g.pre p (b, tt)) items start
-  always_callable_at_items h = λ calls now place item made at. ((still calls now made h).at ((item, tt) ∷ [])).0
+  always_callable_at_items h = λ calls now index item made at. ((still calls now made h).at ((item, tt) ∷ [])).0
 
 -- The same of a closure that is called with references to the items.
 module _ {F T R : Type 0} (g : Mut F (Bor T × Unit {0}) R) (items : List T) (start : F) where
@@ -25,7 +25,7 @@ module _ {F T R : Type 0} (g : Mut F (Bor T × Unit {0}) R) (items : List T) (st
   still_at (c ∷ cs) now (before, item, made, at, s) h = mut_next g before (s.shown, tt) c.answer now now s.called refl (still_at cs before made h)
 
   pub always_callable_at_refs : always_mut g start → CallableAtItems (CalledAt g) (TakesAt g) items start
-  always_callable_at_refs h = λ calls now place item made at y shows. ((still_at calls now made h).at ((y, tt) ∷ [])).0
+  always_callable_at_refs h = λ calls now index item made at y shows. ((still_at calls now made h).at ((y, tt) ∷ [])).0
 
 -- Calls whose keys were compared are calls that return the keys.
 module _ {F B K : Type 0} (cmp : K → K → Ordering) (key : K) (step : F → B → K → F → Type 0) (items : List B) (start : F) where
@@ -33,11 +33,11 @@ module _ {F B K : Type 0} (cmp : K → K → Ordering) (key : K) (step : F → B
   keyed [] now is = ([], is)
   keyed (c ∷ cs) now (before, item, made, at, (k, s, is)) =
       let earlier = keyed cs before made in
-      (record { place = c.place; answer = k } ∷ earlier.0, (before, item, earlier.1, at, s))
+      (record { index = c.index; answer = k } ∷ earlier.0, (before, item, earlier.1, at, s))
 
   -- If a search may call a closure that returns keys, it may call it and compare the keys.
   pub callable_by_key : (accepts : F → B → Type 0) → CallableAtItems step accepts items start → CallableAtItems (Compares cmp key step) accepts items start
-  callable_by_key accepts callable = λ calls now place item made at. let k = keyed calls now made in callable k.0 now place item k.1 at
+  callable_by_key accepts callable = λ calls now index item made at. let k = keyed calls now made in callable k.0 now index item k.1 at
 
 -- A search may call its closure for the middle of a range that is not empty.
 pub callable_at_middle : {F B R : Type 0} (step : F → B → R → F → Type 0) (accepts : F → B → Type 0) (low high : R) (items : List B) (start now : F) (l r : ℕ) (item : B)

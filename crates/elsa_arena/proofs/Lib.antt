@@ -3,5 +3,5 @@ pub mod Bracketed
 pub mod Callable
 pub mod EachLemmas
 pub mod Narrowing
-pub mod PlaceLemmas
+pub mod IndexLemmas
 pub mod ReadyLemmas

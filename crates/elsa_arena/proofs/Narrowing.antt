@@ -8,7 +8,7 @@ use Rattle.elsa_arena.specs.Search.{Call, MadeInTurn, IsUnasked, Answered, IsBet
 -- Each call was made for an index outside the range.
 abbrev pub AllOutside : {R : Type 0} → ℕ → ℕ → List (Call R) → Type 0
 AllOutside l r [] = Unit {0}
-AllOutside l r (c ∷ cs) = (c.place < l ⊎ r ≤ c.place) × AllOutside l r cs
+AllOutside l r (c ∷ cs) = (c.index < l ⊎ r ≤ c.index) × AllOutside l r cs
 
 -- After these calls for a list of n items, the range from l to r is left.
 pub record Narrowed {R : Type 0} (low high : R) (n l r : ℕ) (calls : List (Call R)) : Type 0 where
@@ -75,10 +75,10 @@ module _ {F B R : Type 0} (step : F → B → R → F → Type 0) (low high : R)
   so_far = known.0.bracket
 
   -- Whatever it returns, it was made in turn.
-  pub after_call : (answer : R) (P : List (Call R) → Type 0) → step now item answer next → P (record { place = middle; answer = answer } ∷ before) → SearchedTo step items start next P
+  pub after_call : (answer : R) (P : List (Call R) → Type 0) → step now item answer next → P (record { index = middle; answer = answer } ∷ before) → SearchedTo step items start next P
   after_call answer P s p = (
     record {
-      calls = record { place = middle; answer = answer } ∷ before;
+      calls = record { index = middle; answer = answer } ∷ before;
       end = next;
       in_turn = (now, item, subst (MadeInTurn step items start before) known.1 known.0.in_turn, slice_get_read items (length items) middle item refl (omega (arith, so_far.within)) read, s);
       none_twice = (unasked l r middle before (omega arith) (omega arith) so_far.outside, known.0.none_twice);

@@ -23,7 +23,7 @@ within_open buffers n None slots further k all limit =
       | no low ↦ (let is = left_from buffers further b all (omega (arith, low)) k.rights in let same = ap slots_before is in omega (arith, same, e, begins))
     ]
 within_open buffers n (Some o) slots further k all limit =
-    let b = suc k.buffer in let l = ap length k.at.rights in let d = length-drop b buffers in let e = ends_before n k.buffer k.slot k.at.place in
+    let b = suc k.buffer in let l = ap length k.at.rights in let d = length-drop b buffers in let e = ends_before n k.buffer k.slot k.at.index in
     let last = before_power 31 in let big : 4 ^ 31 ≡ 2 ^ 62 = refl in elim (dec_lt 31 b) [
       | yes above ↦ (let is : 31 - length further ≡ 31 = omega (arith, l, d, all, above) in let same = ap slots_before is in omega (arith, same, last, big, limit))
       | no low ↦ (let is = left_from buffers further b all (omega (arith, low)) k.at.rights in let same = ap slots_before is in omega (arith, same, e))

@@ -34,9 +34,9 @@ module _ {T : Type 0} where
     pub seen : IsPrefix before.seen after.seen
 
   -- The list was `old`, or longer by items of other handles; then `x` was appended at the index
-  -- `place`.
+  -- `index`.
   abbrev pub Appends : List T → List T → ℕ → T → Type 0
-  Appends old new place x = (before : List T) × IsPrefix old before × (length before ≡ place) × (new ≡ before ++ x ∷ [])
+  Appends old new index x = (before : List T) × IsPrefix old before × (length before ≡ index) × (new ≡ before ++ x ∷ [])
 
 -- The state of a collection with these buffers: its length, the slot of the next index, the evidence
 -- of all its items, the rights to the slots after them, and the buffers that are ready.
@@ -45,6 +45,6 @@ pub record IsStateOf {T A : Type 0} (buffers : List ℕ) (s : State T A) : Type 
   pub all : length buffers ≡ 31
   pub count : s.count ≡ length s.prefix.items
   pub limit : s.count < 2 ^ 62
-  pub place : IsAt s.count s.buffer s.slot
+  pub index : IsAt s.count s.buffer s.slot
   pub ahead : GoesOn buffers s.count s.ahead.opened s.ahead.slots.of s.ahead.further.of
   pub ready : AreReady s.ahead.further.of s.ready.items

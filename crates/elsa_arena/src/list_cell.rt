@@ -49,7 +49,7 @@ impl<T, A: Allocator + Copy> Fits for NextSlot<T, A> {
 
     type Tag = Tag;
 
-    ghost fits = { λ tag place. IsNextSlotOf tag.numbers place };
+    ghost fits = { λ tag index. IsNextSlotOf tag.numbers index };
 }
 
 /// The rights to open the buffers from `first` on, and those of them that are ready.

@@ -4,7 +4,7 @@ ghost use Rattle.std.specs.Prelude.{◌≡◌, ◌<◌, ℕ, Bool, length, IfOk,
 ghost use Rattle.std.specs.declared.cmp.Ordering.{Ordering};
 ghost use Rattle.std.specs.Fn.{CalledAt, TakesAt};
 ghost use Rattle.std.specs.List.Sorted.{IsBinarySearchResult, IsPartitionPoint, IsPartitionedBy};
-ghost use Rattle.elsa_arena.specs.Search.{SearchedTo, Searched, Brackets, IsBetween, Answered, AnswersByItem, AnswersByPlace, CallableAtItems, Compares, ComparesAt, Falls, Parts, Rises, Splits};
+ghost use Rattle.elsa_arena.specs.Search.{SearchedTo, Searched, Brackets, IsBetween, Answered, AnswersByItem, AnswersByIndex, CallableAtItems, Compares, ComparesAt, Falls, Parts, Rises, Splits};
 
 use crate::observed::Observed;
 use std::alloc::Allocator;
@@ -121,7 +121,7 @@ impl<T, A: Allocator + Copy> Observed<'_, T, A> {
         ensures bracket { Searched (CalledAt F.FnMut) self.now.seen order (λ calls.
             Brackets (length self.now.seen) (Answered calls) result) }
         ensures split { (o : ℕ → Ordering) →
-            AnswersByPlace (CalledAt F.FnMut) self.now.seen order o →
+            AnswersByIndex (CalledAt F.FnMut) self.now.seen order o →
             Rises (length self.now.seen) o → Splits (length self.now.seen) o result }
         ensures by_item { (o : T → Ordering) → AnswersByItem (CalledAt F.FnMut) order o →
             IsBinarySearchResult o self.now.seen result }
@@ -145,7 +145,7 @@ impl<T, A: Allocator + Copy> Observed<'_, T, A> {
         ensures bracket { Searched (Compares K.cmp key.now (CalledAt F.FnMut)) self.now.seen
             key_of (λ calls. Brackets (length self.now.seen) (Answered calls) result) }
         ensures split { (o : ℕ → Ordering) →
-            AnswersByPlace (Compares K.cmp key.now (CalledAt F.FnMut)) self.now.seen key_of o →
+            AnswersByIndex (Compares K.cmp key.now (CalledAt F.FnMut)) self.now.seen key_of o →
             Rises (length self.now.seen) o → Splits (length self.now.seen) o result }
         ensures by_item { (o : T → Ordering) →
             AnswersByItem (Compares K.cmp key.now (CalledAt F.FnMut)) key_of o →
@@ -170,7 +170,7 @@ impl<T, A: Allocator + Copy> Observed<'_, T, A> {
         ensures bracket { Searched (CalledAt F.FnMut) self.now.seen belongs (λ calls.
             IsBetween (length self.now.seen) (Answered calls) true false result) }
         ensures split { (answer : ℕ → Bool) →
-            AnswersByPlace (CalledAt F.FnMut) self.now.seen belongs answer →
+            AnswersByIndex (CalledAt F.FnMut) self.now.seen belongs answer →
             Falls (length self.now.seen) answer → Parts (length self.now.seen) answer result }
         ensures by_item { (test : T → Bool) → AnswersByItem (CalledAt F.FnMut) belongs test →
             IsPartitionedBy test self.now.seen →

@@ -9,7 +9,7 @@ ghost use mathlib.Core.List.{IsPrefix};
 ghost use Rattle.elsa_arena.specs.Extended.{AppendsAll, TakesAll};
 ghost use Rattle.elsa_arena.specs.Faults.{GivesBack, Refuses};
 ghost use Rattle.elsa_arena.specs.Observed.{Appends, Continues, IsStateOf, view_of};
-ghost use Rattle.elsa_arena.specs.Search.{Searched, Brackets, IsBetween, Answered, AnswersByItem, AnswersByPlace, CallableAtItems, Compares, ComparesAt, Falls, Parts, Rises, Splits};
+ghost use Rattle.elsa_arena.specs.Search.{Searched, Brackets, IsBetween, Answered, AnswersByItem, AnswersByIndex, CallableAtItems, Compares, ComparesAt, Falls, Parts, Rises, Splits};
 
 use crate::fault::{CellFault, Fault, InUse};
 use crate::list_cell::ListCell;
@@ -226,8 +226,8 @@ impl<T, A: Allocator + Copy> FrozenVec<T, A> {
         hold.push(item)
     }
 
-    /// Appends an item, and returns a reference to it: [`push`](Self::push) with the reference in
-    /// place of the index.
+    /// Appends an item, and returns a reference to it: [`push`](Self::push) that returns the
+    /// reference instead of the index.
     ///
     /// # Errors
     /// Fails with [`CellFault::Memory`] if an allocation fails, with [`CellFault::Full`] if the
@@ -601,7 +601,7 @@ impl<'v, T, A: Allocator + Copy> Handle<'v, T, A> {
         ensures bracket { Searched (CalledAt F.FnMut) self.now.seen order (λ calls.
             Brackets (length self.now.seen) (Answered calls) result) }
         ensures split { (o : ℕ → Ordering) →
-            AnswersByPlace (CalledAt F.FnMut) self.now.seen order o →
+            AnswersByIndex (CalledAt F.FnMut) self.now.seen order o →
             Rises (length self.now.seen) o → Splits (length self.now.seen) o result }
         ensures by_item { (o : T → Ordering) → AnswersByItem (CalledAt F.FnMut) order o →
             IsBinarySearchResult o self.now.seen result }
@@ -625,7 +625,7 @@ impl<'v, T, A: Allocator + Copy> Handle<'v, T, A> {
         ensures bracket { Searched (Compares K.cmp key.now (CalledAt F.FnMut)) self.now.seen
             key_of (λ calls. Brackets (length self.now.seen) (Answered calls) result) }
         ensures split { (o : ℕ → Ordering) →
-            AnswersByPlace (Compares K.cmp key.now (CalledAt F.FnMut)) self.now.seen key_of o →
+            AnswersByIndex (Compares K.cmp key.now (CalledAt F.FnMut)) self.now.seen key_of o →
             Rises (length self.now.seen) o → Splits (length self.now.seen) o result }
         ensures by_item { (o : T → Ordering) →
             AnswersByItem (Compares K.cmp key.now (CalledAt F.FnMut)) key_of o →
@@ -650,7 +650,7 @@ impl<'v, T, A: Allocator + Copy> Handle<'v, T, A> {
         ensures bracket { Searched (CalledAt F.FnMut) self.now.seen belongs (λ calls.
             IsBetween (length self.now.seen) (Answered calls) true false result) }
         ensures split { (answer : ℕ → Bool) →
-            AnswersByPlace (CalledAt F.FnMut) self.now.seen belongs answer →
+            AnswersByIndex (CalledAt F.FnMut) self.now.seen belongs answer →
             Falls (length self.now.seen) answer → Parts (length self.now.seen) answer result }
         ensures by_item { (test : T → Bool) → AnswersByItem (CalledAt F.FnMut) belongs test →
             IsPartitionedBy test self.now.seen →

@@ -51,8 +51,8 @@ fn walks(items: &FrozenVec<u64>) -> u64 {
 
 fn insertions(map: &FrozenMap<u64, u64>, count: usize) -> Result<u64, Fault> {
     let mut sum = 0u64;
-    for place in 0..count {
-        let value = map.insert(key(place), place as u64)?;
+    for index in 0..count {
+        let value = map.insert(key(index), index as u64)?;
         sum = sum.wrapping_add(*value);
     }
     Ok(sum)

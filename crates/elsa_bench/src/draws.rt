@@ -32,8 +32,8 @@ impl Draws {
 
 /// Returns the key of an index. No two keys are equal, and they have no order.
 #[inline(always)]
-pub fn key(place: usize) -> u64 {
-    (place as u64).wrapping_mul(0x9e37_79b9_7f4a_7c15)
+pub fn key(index: usize) -> u64 {
+    (index as u64).wrapping_mul(0x9e37_79b9_7f4a_7c15)
 }
 
 /// Returns a number below 65,535, roughly by Zipf's law: each of the 16 ranges from `2^k - 1` to
@@ -88,7 +88,7 @@ impl Numbers {
 pub const STOCK: u64 = 1 << 17;
 
 /// A sequence of indices below `STOCK`.
-pub trait Places: Drop {
+pub trait Indices: Drop {
     fn new(thread: usize) -> Self;
 
     fn next(&mut self) -> usize;
@@ -100,7 +100,7 @@ pub struct Random {
     draws: Draws,
 }
 
-impl Places for Random {
+impl Indices for Random {
     fn new(thread: usize) -> Random {
         Random {
             draws: Draws::new(thread),
@@ -115,17 +115,17 @@ impl Places for Random {
 /// Consecutive indices, from the first to the last, repeatedly.
 #[derive(Clone, Copy)]
 pub struct InOrder {
-    place: u64,
+    index: u64,
 }
 
-impl Places for InOrder {
+impl Indices for InOrder {
     fn new(_thread: usize) -> InOrder {
-        InOrder { place: 0 }
+        InOrder { index: 0 }
     }
 
     fn next(&mut self) -> usize {
-        let place = self.place & (STOCK - 1);
-        self.place = place + 1;
-        place as usize
+        let index = self.index & (STOCK - 1);
+        self.index = index + 1;
+        index as usize
     }
 }

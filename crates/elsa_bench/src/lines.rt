@@ -49,17 +49,17 @@ fn insertions<'a, S: BuildHasher + Drop>(
     texts: &[String],
 ) -> Result<u64, AllocError> {
     let mut sum = 0u64;
-    let mut place = 0u64;
+    let mut index = 0u64;
     for text in texts {
         let value = match map.get(text.as_str()) {
             Some(found) => *found,
             None => {
                 let kept = arena.keep_text(text.as_str())?;
-                *map.insert(kept, Own(place))?
+                *map.insert(kept, Own(index))?
             }
         };
         sum = sum.wrapping_add(value);
-        place = place.wrapping_add(1);
+        index = index.wrapping_add(1);
     }
     Ok(sum)
 }
@@ -123,8 +123,8 @@ fn puts<'t, R: Wait>(
 ) -> u64 {
     let mut names = names.handle();
     let mut sum = 0u64;
-    for place in first..first.saturating_add(each) {
-        if let Some(text) = texts.get(place) {
+    for index in first..first.saturating_add(each) {
+        if let Some(text) = texts.get(index) {
             if let Ok(number) = names.put(rt, text.as_str()) {
                 sum = sum.wrapping_add(number as u64);
             }
@@ -144,8 +144,8 @@ fn puts_in_shards<'t, R: Wait>(
     let Ok(mut names) = names.handle() else {
         return sum;
     };
-    for place in first..first.saturating_add(each) {
-        if let Some(text) = texts.get(place) {
+    for index in first..first.saturating_add(each) {
+        if let Some(text) = texts.get(index) {
             if let Ok(number) = names.put(rt, text.as_str()) {
                 sum = sum.wrapping_add(number as u64);
             }
@@ -164,8 +164,8 @@ fn puts_of_copies<R: Wait>(
 ) -> u64 {
     let mut names = names.handle();
     let mut sum = 0u64;
-    for place in first..first.saturating_add(each) {
-        let Some(text) = texts.get(place) else {
+    for index in first..first.saturating_add(each) {
+        let Some(text) = texts.get(index) else {
             return sum;
         };
         let number = match names.find(text.as_str()) {

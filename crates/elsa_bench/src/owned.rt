@@ -2,7 +2,7 @@
 //! reference, each of a number that the value owns.
 ghost use Rattle.std.specs.Prelude.{◌≡◌, ◌<◌};
 
-use crate::draws::{Draws, Places, Random, STOCK, key, rank};
+use crate::draws::{Draws, Indices, Random, STOCK, key, rank};
 use elsa::sync::{LockFreeFrozenMap, LockFreeFrozenVec};
 use std::alloc::{AllocError, Global};
 use std::rt::Clock;
@@ -59,10 +59,10 @@ fn fill_vector<R: Wait, T: Owned>(
 fn read_vector<T: Owned>(vector: &LockFreeFrozenVec<T>, thread: usize, each: usize) -> u64 {
     let mut handle = vector.handle();
     handle.len();
-    let mut places = Random::new(thread);
+    let mut indices = Random::new(thread);
     let mut sum = 0u64;
     for _turn in 0..each {
-        if let Some(item) = handle.get_ref(places.next()) {
+        if let Some(item) = handle.get_ref(indices.next()) {
             sum = sum.wrapping_add(item.number());
         }
     }

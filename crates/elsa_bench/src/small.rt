@@ -73,8 +73,8 @@ struct CellNumbers<M> {
 
 impl<'a, 't> Table for AppendTexts<'a, 't> {
     #[inline(always)]
-    fn insert(&mut self, place: usize) -> Result<u64, AllocError> {
-        let Some(text) = self.texts.get(place) else {
+    fn insert(&mut self, index: usize) -> Result<u64, AllocError> {
+        let Some(text) = self.texts.get(index) else {
             return Ok(0);
         };
         let text = text.as_str();
@@ -82,43 +82,43 @@ impl<'a, 't> Table for AppendTexts<'a, 't> {
             return Ok(*found);
         }
         let kept = self.arena.keep_text(text)?;
-        Ok(*self.map.insert(kept, Own(place as u64))?)
+        Ok(*self.map.insert(kept, Own(index as u64))?)
     }
 
     #[inline(always)]
-    fn get(&self, place: usize) -> Option<u64> {
-        let text = self.texts.get(place)?;
+    fn get(&self, index: usize) -> Option<u64> {
+        let text = self.texts.get(index)?;
         self.map.get(text.as_str()).copied()
     }
 }
 
 impl Table for CellNumbers<cell::FrozenMap<u64, u64>> {
     #[inline(always)]
-    fn insert(&mut self, place: usize) -> Result<u64, AllocError> {
-        let Ok(value) = self.map.insert(key(place), place as u64) else {
+    fn insert(&mut self, index: usize) -> Result<u64, AllocError> {
+        let Ok(value) = self.map.insert(key(index), index as u64) else {
             return Err(AllocError);
         };
         Ok(*value)
     }
 
     #[inline(always)]
-    fn get(&self, place: usize) -> Option<u64> {
-        self.map.get(&key(place)).copied()
+    fn get(&self, index: usize) -> Option<u64> {
+        self.map.get(&key(index)).copied()
     }
 }
 
 impl Table for CellNumbers<cell::FrozenBTreeMap<u64, u64>> {
     #[inline(always)]
-    fn insert(&mut self, place: usize) -> Result<u64, AllocError> {
-        let Ok(value) = self.map.insert(key(place), place as u64) else {
+    fn insert(&mut self, index: usize) -> Result<u64, AllocError> {
+        let Ok(value) = self.map.insert(key(index), index as u64) else {
             return Err(AllocError);
         };
         Ok(*value)
     }
 
     #[inline(always)]
-    fn get(&self, place: usize) -> Option<u64> {
-        self.map.get(&key(place)).copied()
+    fn get(&self, index: usize) -> Option<u64> {
+        self.map.get(&key(index)).copied()
     }
 }
 
@@ -170,8 +170,8 @@ impl<'a> Whole for Numbers<FrozenBTreeMap<'a, u64, Own<u64>>> {
 fn fill<T: Table>(table: T, count: usize) -> Result<u64, AllocError> {
     let mut table = table;
     let mut sum = 0u64;
-    for place in 0..count {
-        sum = sum.wrapping_add(table.insert(place)?);
+    for index in 0..count {
+        sum = sum.wrapping_add(table.insert(index)?);
     }
     Ok(sum)
 }
@@ -179,8 +179,8 @@ fn fill<T: Table>(table: T, count: usize) -> Result<u64, AllocError> {
 fn filled_items(alloc: Global, count: usize) -> Result<u64, AllocError> {
     let arena = Bump::new(alloc);
     let mut items = FrozenVec::new(alloc, &arena);
-    for place in 0..count {
-        items.push(Own(place as u64))?;
+    for index in 0..count {
+        items.push(Own(index as u64))?;
     }
     Ok(items.last().copied().unwrap_or(0))
 }
@@ -188,8 +188,8 @@ fn filled_items(alloc: Global, count: usize) -> Result<u64, AllocError> {
 fn filled_arena(alloc: Global, count: usize) -> Result<u64, AllocError> {
     let arena = TypedArena::new(alloc)?;
     let mut sum = 0u64;
-    for place in 0..count {
-        let Ok(value) = arena.alloc(place as u64) else {
+    for index in 0..count {
+        let Ok(value) = arena.alloc(index as u64) else {
             return Err(AllocError);
         };
         sum = sum.wrapping_add(*value);
@@ -280,8 +280,8 @@ fn timed_look_ups<R: Clock, T: Table>(
     count: usize,
 ) -> io::Result<(u128, u64)> {
     let mut table = table;
-    for place in 0..count {
-        table.insert(place)?;
+    for index in 0..count {
+        table.insert(index)?;
     }
     let first = if matches!(&call, SmallCall::Absent) {
         count
@@ -308,8 +308,8 @@ fn timed_whole<R: Clock, T: Whole>(
     count: usize,
 ) -> io::Result<(u128, u64)> {
     let mut table = table;
-    for place in 0..count {
-        table.insert(place)?;
+    for index in 0..count {
+        table.insert(index)?;
     }
     let copies = matches!(&call, SmallCall::Copy);
     let mut sum = 0u64;
@@ -341,8 +341,8 @@ fn timed_item_walks<R: Clock>(
 ) -> io::Result<(u128, u64)> {
     let arena = Bump::new(alloc);
     let mut items = FrozenVec::new(alloc, &arena);
-    for place in 0..count {
-        items.push(Own(place as u64))?;
+    for index in 0..count {
+        items.push(Own(index as u64))?;
     }
     let mut sum = 0u64;
     let start = Instant::now(rt)?;

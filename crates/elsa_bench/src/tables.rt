@@ -22,10 +22,10 @@ pub enum TableCall {
 /// A map whose keys are made from indices.
 pub trait Table: Drop {
     /// Inserts the key of the index, and returns its value.
-    fn insert(&mut self, place: usize) -> Result<u64, AllocError>;
+    fn insert(&mut self, index: usize) -> Result<u64, AllocError>;
 
     /// Returns the value of the key of the index.
-    fn get(&self, place: usize) -> Option<u64>;
+    fn get(&self, index: usize) -> Option<u64>;
 }
 
 /// A map with numbers as keys.
@@ -46,68 +46,68 @@ where
     T: elsa_tables::Table<u64, &'a u64> + Drop,
 {
     #[inline(always)]
-    fn insert(&mut self, place: usize) -> Result<u64, AllocError> {
-        Ok(*self.map.insert(key(place), Own(place as u64))?)
+    fn insert(&mut self, index: usize) -> Result<u64, AllocError> {
+        Ok(*self.map.insert(key(index), Own(index as u64))?)
     }
 
     #[inline(always)]
-    fn get(&self, place: usize) -> Option<u64> {
-        self.map.get(&key(place)).copied()
+    fn get(&self, index: usize) -> Option<u64> {
+        self.map.get(&key(index)).copied()
     }
 }
 
 impl<'a, 't> Table for Texts<'t, FrozenMap<'a, &'a str, Own<u64>>> {
     #[inline(always)]
-    fn insert(&mut self, place: usize) -> Result<u64, AllocError> {
-        let Some(text) = self.texts.get(place) else {
+    fn insert(&mut self, index: usize) -> Result<u64, AllocError> {
+        let Some(text) = self.texts.get(index) else {
             return Ok(0);
         };
-        Ok(*self.map.insert_text(text.as_str(), Own(place as u64))?)
+        Ok(*self.map.insert_text(text.as_str(), Own(index as u64))?)
     }
 
     #[inline(always)]
-    fn get(&self, place: usize) -> Option<u64> {
-        let text = self.texts.get(place)?;
+    fn get(&self, index: usize) -> Option<u64> {
+        let text = self.texts.get(index)?;
         self.map.get(text.as_str()).copied()
     }
 }
 
 impl<'a, 't> Table for Texts<'t, FrozenBTreeMap<'a, &'a str, Own<u64>>> {
     #[inline(always)]
-    fn insert(&mut self, place: usize) -> Result<u64, AllocError> {
-        let Some(text) = self.texts.get(place) else {
+    fn insert(&mut self, index: usize) -> Result<u64, AllocError> {
+        let Some(text) = self.texts.get(index) else {
             return Ok(0);
         };
-        Ok(*self.map.insert_text(text.as_str(), Own(place as u64))?)
+        Ok(*self.map.insert_text(text.as_str(), Own(index as u64))?)
     }
 
     #[inline(always)]
-    fn get(&self, place: usize) -> Option<u64> {
-        let text = self.texts.get(place)?;
+    fn get(&self, index: usize) -> Option<u64> {
+        let text = self.texts.get(index)?;
         self.map.get(text.as_str()).copied()
     }
 }
 
 impl<'a, 't> Table for Texts<'t, FrozenIndexMap<'a, &'a str, Own<u64>>> {
     #[inline(always)]
-    fn insert(&mut self, place: usize) -> Result<u64, AllocError> {
-        let Some(text) = self.texts.get(place) else {
+    fn insert(&mut self, index: usize) -> Result<u64, AllocError> {
+        let Some(text) = self.texts.get(index) else {
             return Ok(0);
         };
-        Ok(*self.map.insert_text(text.as_str(), Own(place as u64))?)
+        Ok(*self.map.insert_text(text.as_str(), Own(index as u64))?)
     }
 
     #[inline(always)]
-    fn get(&self, place: usize) -> Option<u64> {
-        let text = self.texts.get(place)?;
+    fn get(&self, index: usize) -> Option<u64> {
+        let text = self.texts.get(index)?;
         self.map.get(text.as_str()).copied()
     }
 }
 
 fn fill<T: Table>(table: &mut T, count: usize) -> Result<u64, AllocError> {
     let mut sum = 0u64;
-    for place in 0..count {
-        sum = sum.wrapping_add(table.insert(place)?);
+    for index in 0..count {
+        sum = sum.wrapping_add(table.insert(index)?);
     }
     Ok(sum)
 }
@@ -139,9 +139,9 @@ fn longest<R: Clock, T: Table>(rt: &R, table: T, count: usize) -> io::Result<(u1
     let mut table = table;
     let mut most = 0u128;
     let mut sum = 0u64;
-    for place in 0..count {
+    for index in 0..count {
         let start = Instant::now(rt)?;
-        sum = sum.wrapping_add(table.insert(place)?);
+        sum = sum.wrapping_add(table.insert(index)?);
         most = most.max(start.elapsed(rt)?.as_nanos());
     }
     Ok((most, sum))
@@ -172,8 +172,8 @@ fn timed<R: Clock, T: Table>(
 /// Fails if an allocation fails.
 pub fn made_texts(alloc: Global, count: usize) -> Result<Vec<String>, AllocError> {
     let mut texts = Vec::new(alloc);
-    for place in 0..count {
-        texts.push(format!(in alloc; "name{place}")?)?;
+    for index in 0..count {
+        texts.push(format!(in alloc; "name{index}")?)?;
     }
     Ok(texts)
 }

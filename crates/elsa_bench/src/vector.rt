@@ -2,7 +2,7 @@
 //! or while another thread pushes; and walks over COUNT items.
 ghost use Rattle.std.specs.Prelude.{◌≡◌, ◌<◌};
 
-use crate::draws::{InOrder, Places, Random, STOCK};
+use crate::draws::{InOrder, Indices, Random, STOCK};
 use elsa::sync::LockFreeFrozenVec;
 use std::alloc::Global;
 use std::rt::Clock;
@@ -40,8 +40,8 @@ fn push<R: Wait>(rt: &R, vector: &LockFreeFrozenVec<u64>, count: u64) -> u64 {
     let mut pass = vector.pass();
     let mut sum = 0u64;
     for item in 0..count {
-        if let Ok(place) = vector.push_as(rt, &mut pass, item) {
-            sum = sum.wrapping_add(place as u64);
+        if let Ok(index) = vector.push_as(rt, &mut pass, item) {
+            sum = sum.wrapping_add(index as u64);
         }
     }
     sum
@@ -52,8 +52,8 @@ fn extend<R: Wait>(rt: &R, vector: &LockFreeFrozenVec<u64>, count: u64) -> u64 {
     let batch = [1u64; BATCH];
     let mut sum = 0u64;
     for _ in 0..count / BATCH as u64 {
-        if let Ok(place) = handle.extend(rt, &batch) {
-            sum = sum.wrapping_add(place as u64);
+        if let Ok(index) = handle.extend(rt, &batch) {
+            sum = sum.wrapping_add(index as u64);
         }
     }
     sum
@@ -69,13 +69,13 @@ fn push_beside<R: Wait>(rt: &R, vector: &LockFreeFrozenVec<u64>, done: &AtomicBo
     }
 }
 
-fn read_seen<P: Places>(vector: &LockFreeFrozenVec<u64>, thread: usize, count: usize) -> u64 {
+fn read_seen<P: Indices>(vector: &LockFreeFrozenVec<u64>, thread: usize, count: usize) -> u64 {
     let mut pass = vector.pass();
     vector.len_as(&mut pass);
-    let mut places = P::new(thread);
+    let mut indices = P::new(thread);
     let mut sum = 0u64;
     for _turn in 0..count {
-        if let Some(item) = vector.get_as(&mut pass, places.next()) {
+        if let Some(item) = vector.get_as(&mut pass, indices.next()) {
             sum = sum.wrapping_add(item);
         }
     }
@@ -84,25 +84,25 @@ fn read_seen<P: Places>(vector: &LockFreeFrozenVec<u64>, thread: usize, count: u
 
 fn read_growing(vector: &LockFreeFrozenVec<u64>, count: usize) -> u64 {
     let mut pass = vector.pass();
-    let mut place: usize = 0;
+    let mut index: usize = 0;
     let mut sum = 0u64;
     for _turn in 0..count {
-        match vector.get_as(&mut pass, place) {
+        match vector.get_as(&mut pass, index) {
             Some(item) => {
                 sum = sum.wrapping_add(item);
-                place = place.wrapping_add(1);
+                index = index.wrapping_add(1);
             }
-            None => place = 0,
+            None => index = 0,
         }
     }
     sum
 }
 
-fn read_plain<P: Places>(vector: &LockFreeFrozenVec<u64>, thread: usize, count: usize) -> u64 {
-    let mut places = P::new(thread);
+fn read_plain<P: Indices>(vector: &LockFreeFrozenVec<u64>, thread: usize, count: usize) -> u64 {
+    let mut indices = P::new(thread);
     let mut sum = 0u64;
     for _turn in 0..count {
-        if let Some(item) = vector.get(places.next()) {
+        if let Some(item) = vector.get(indices.next()) {
             sum = sum.wrapping_add(item);
         }
     }

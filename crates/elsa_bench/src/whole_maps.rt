@@ -26,7 +26,7 @@ fn collect<'a>(
     arena: &'a Bump,
     count: usize,
 ) -> Result<FrozenMap<'a, u64, Own<u64>>, AllocError> {
-    let pairs = (0..count).map(|place| (key(place), Own(place as u64)));
+    let pairs = (0..count).map(|index| (key(index), Own(index as u64)));
     FrozenMap::from_iter(alloc, arena, BuildHasherDefault::<FoldHasher>::new(), pairs)
 }
 
@@ -42,8 +42,8 @@ fn collect_append<'a>(
         return Err(AllocError);
     };
     let mut map = FrozenAppendMap::over(alloc, arena, table);
-    for place in 0..count {
-        map.insert(key(place), Own(place as u64))?;
+    for index in 0..count {
+        map.insert(key(index), Own(index as u64))?;
     }
     Ok(map)
 }

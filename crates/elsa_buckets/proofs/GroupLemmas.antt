@@ -73,19 +73,19 @@ module _ (raw : ℕ) (fits : raw < 2 ^ 64) (Has : ℕ → Type 0) (only : (k : �
       ]
 
 -- The bucket of an index is taken.
-stores_taken : (groups : List Group) (hash place : ℕ) (s : Stores groups hash place) → 0 < tag_in (group_at groups s.at) s.lane
-stores_taken groups hash place s = subst (λ t. 0 < t) (sym s.tag) (hash_tag_pos hash)
+stores_taken : (groups : List Group) (hash index : ℕ) (s : Stores groups hash index) → 0 < tag_in (group_at groups s.at) s.lane
+stores_taken groups hash index s = subst (λ t. 0 < t) (sym s.tag) (hash_tag_pos hash)
 
 -- A bucket with the tag of a hash has the index of an entry.
-pub place_within : (groups : List Group) (hashes : List ℕ) → Indexes groups hashes → (at lane tag hash place : ℕ) (d : Group) → at < length groups → (lane < 12) × (tag_in (get_or groups at d) lane ≡ tag)
-    → tag ≡ hash_tag hash → place ≡ number_in (get_or groups at d) lane → place < length hashes
-place_within groups hashes indexes at lane tag hash place d within found is_tag there =
+pub index_within : (groups : List Group) (hashes : List ℕ) → Indexes groups hashes → (at lane tag hash index : ℕ) (d : Group) → at < length groups → (lane < 12) × (tag_in (get_or groups at d) lane ≡ tag)
+    → tag ≡ hash_tag hash → index ≡ number_in (get_or groups at d) lane → index < length hashes
+index_within groups hashes indexes at lane tag hash index d within found is_tag there =
     let read = get_or_default groups at d empty_group within in
     let taken : 0 < tag_in (group_at groups at) lane = subst (λ t. 0 < t) (sym (ap (λ g. tag_in g lane) (sym read) ∙ found.1 ∙ is_tag)) (hash_tag_pos hash) in
     subst (λ n. n < length hashes) (sym (there ∙ ap (λ g. number_in g lane) read)) (indexes.only at lane within found.0 taken)
 
 -- A free bucket is filled with an index.
-module _ (groups : List Group) (hash place : ℕ) (bucket : Bucket) (ends : EndsAt groups hash bucket) (group : Group) (fills : Fills (group_at groups bucket.group) bucket.lane hash place group) where
+module _ (groups : List Group) (hash index : ℕ) (bucket : Bucket) (ends : EndsAt groups hash bucket) (group : Group) (fills : Fills (group_at groups bucket.group) bucket.lane hash index group) where
   abbrev after : List Group
   after = set groups bucket.group group
 
@@ -135,7 +135,7 @@ module _ (groups : List Group) (hash place : ℕ) (bucket : Bucket) (ends : Ends
       let kept = taken_stays s.at s.lane (stores_taken groups h n s) in
       record { at = s.at; lane = s.lane; in_group = s.in_group; tag = kept.0 ∙ s.tag; number = kept.1 ∙ s.number; reached = reaches_stays h s.at s.reached }
 
-  pub stores_new : Stores after hash place
+  pub stores_new : Stores after hash index
   stores_new = record {
     at = bucket.group;
     lane = bucket.lane;
@@ -145,14 +145,14 @@ module _ (groups : List Group) (hash place : ℕ) (bucket : Bucket) (ends : Ends
     reached = reaches_stays hash bucket.group ends.reached;
   }
 
-  pub taken_below : (count : ℕ) → place < count → AllTakenBelow groups count → AllTakenBelow after count
+  pub taken_below : (count : ℕ) → index < count → AllTakenBelow groups count → AllTakenBelow after count
   taken_below count below old i lt lane small taken =
       let kept : IsSame i lane → number_in (group_at after i) lane < count
       = λ same. omega (arith, same.1, old i (subst (λ n. i < n) same_length lt) lane small (subst (λ t. 0 < t) same.0 taken)) in
       elim (cases_eq i bucket.group) [
         | inl here ↦ elim (cases_eq lane bucket.lane) [
           | inl there ↦
-              let new : number_in (group_at after i) lane ≡ place
+              let new : number_in (group_at after i) lane ≡ index
               = ap (λ n. number_in (group_at after n) lane) here ∙ ap (number_in (group_at after bucket.group)) there ∙ ap (λ g. number_in g bucket.lane) written ∙ fills.number in
               omega (arith, new, below)
           | inr other ↦ kept (subst (λ n. IsSame n lane) (sym here) (other_lane lane other))
@@ -241,23 +241,23 @@ module _ (M : ℕ → Type 0) where
     | inr ge ↦ let e : step ≡ k = omega arith in subst (λ n. Tried (probed groups hash n) (hash_tag hash)) e here
   ]
 
-  module _ (groups : List Group) (hashes : List ℕ) (indexes : Indexes groups hashes) (hash place : ℕ) (has : slice_get hashes place ≡ Some hash) where
+  module _ (groups : List Group) (hashes : List ℕ) (indexes : Indexes groups hashes) (hash index : ℕ) (has : slice_get hashes index ≡ Some hash) where
     -- An index whose group the probe visited was tried.
-    pub tried_stored : (step : ℕ) → TriedBefore groups hash step → (indexes.stored place hash has).reached.step < step → M place
+    pub tried_stored : (step : ℕ) → TriedBefore groups hash step → (indexes.stored index hash has).reached.step < step → M index
     tried_stored step before lt =
-        let s = indexes.stored place hash has in
+        let s = indexes.stored index hash has in
         let at : probed groups hash s.reached.step ≡ group_at groups s.at = ap (group_at groups) s.reached.there in
         subst M (ap (λ g. number_in g s.lane) at ∙ s.number) (before s.reached.step lt s.lane s.in_group (ap (λ g. tag_in g s.lane) at ∙ s.tag))
 
     -- The probe went through all groups.
-    pub tried_everywhere : TriedBefore groups hash (length groups) → M place
-    tried_everywhere before = tried_stored (length groups) before (indexes.stored place hash has).reached.within
+    pub tried_everywhere : TriedBefore groups hash (length groups) → M index
+    tried_everywhere before = tried_stored (length groups) before (indexes.stored index hash has).reached.within
 
     -- The probe ended at a group with a free bucket.
-    pub tried_to_end : (step lane : ℕ) → TriedBefore groups hash (step + 1) → lane < 12 → tag_in (probed groups hash step) lane ≡ 0 → M place
-    tried_to_end step lane before small free = elim (cases_lt (indexes.stored place hash has).reached.step (step + 1)) [
+    pub tried_to_end : (step lane : ℕ) → TriedBefore groups hash (step + 1) → lane < 12 → tag_in (probed groups hash step) lane ≡ 0 → M index
+    tried_to_end step lane before small free = elim (cases_lt (indexes.stored index hash has).reached.step (step + 1)) [
       | inl lt ↦ tried_stored (step + 1) before lt
       | inr ge ↦
-          let full = (indexes.stored place hash has).reached.goes_on step (omega arith) lane small in
+          let full = (indexes.stored index hash has).reached.goes_on step (omega arith) lane small in
           absurd (omega (arith, full, free))
     ]

@@ -10,7 +10,7 @@ use Rattle.std.specs.Cmp.{IsEquivalence}
 use Rattle.std.specs.Bool.{nat_lt}
 use Rattle.std.specs.List.{IsDistinct, list_any, position_or_len}
 use Rattle.std.specs.Map.{IsKeyTest}
-use Rattle.elsa_buckets.specs.Table.{Entries, hashes, places, Has, HasSame, AddsPlace}
+use Rattle.elsa_buckets.specs.Table.{Entries, hashes, indices, Has, HasSame, AddsIndex}
 use Rattle.elsa_buckets.specs.Placed.{IsPlaced}
 use Rattle.elsa_buckets.proofs.GroupLemmas.{split_last}
 
@@ -19,7 +19,7 @@ pub has_same : (before after : Entries) (h p : ℕ) → HasSame before after →
 has_same before after h p same has = subst (λ l. slice_get l p ≡ Some h) (sym same) has
 
 -- An addition adds an index, and keeps the earlier ones.
-module _ (before after : Entries) (hash place : ℕ) (adds : AddsPlace before hash place after) where
+module _ (before after : Entries) (hash index : ℕ) (adds : AddsIndex before hash index after) where
   abbrev old : List ℕ
   old = hashes before
 
@@ -30,10 +30,10 @@ module _ (before after : Entries) (hash place : ℕ) (adds : AddsPlace before ha
       (slice_get-get_or (old ++ hash ∷ []) p h (omega (arith, lt, length-append old (hash ∷ [])))
       ∙ ap Some (get_or_append_left old (hash ∷ []) h p lt ∙ get_or_from_slice_get old p h h has))
 
-  pub has_added : Has after hash place
+  pub has_added : Has after hash index
   has_added =
-      subst (λ l. slice_get l place ≡ Some hash) (sym adds.1)
-      (slice_get-get_or (old ++ hash ∷ []) place hash (omega (arith, adds.0, length-append old (hash ∷ []))) ∙ ap Some (get_or_push old hash hash place (sym adds.0)))
+      subst (λ l. slice_get l index ≡ Some hash) (sym adds.1)
+      (slice_get-get_or (old ++ hash ∷ []) index hash (omega (arith, adds.0, length-append old (hash ∷ []))) ∙ ap Some (get_or_push old hash hash index (sym adds.0)))
 
 module _ {K : Type 0} (test : K → Bool) (keys : List K) where
   -- The first index is that of `position`.
@@ -73,7 +73,7 @@ module _ {K : Type 0} (same : K → K → Bool) (laws : IsEquivalence same) (has
       within
 
   -- The accepted index is one of the table.
-  pub found_at : (test : K → Bool) → IsKeyTest same test → (table : Entries) (keys : List K) (i : ℕ) → IsPlaced same hash table keys → i < places table → ((k : K) → slice_get keys i ≡ Some k → test k ≡ true)
+  pub found_at : (test : K → Bool) → IsKeyTest same test → (table : Entries) (keys : List K) (i : ℕ) → IsPlaced same hash table keys → i < indices table → ((k : K) → slice_get keys i ≡ Some k → test k ≡ true)
       → position test keys ≡ Some i
   found_at test one table keys i placed within passes = elim ((slice_get_cases keys i).1) [
     | inl here ↦ found_here test one table keys i here.0 placed here.2 (passes here.0 here.2)
@@ -98,21 +98,21 @@ module _ {K : Type 0} (same : K → K → Bool) (laws : IsEquivalence same) (has
       (λ lt. absurd (omega (arith, lt))))
 
   -- The table has the index of a new last key.
-  pub placed_put : (before after : Entries) (keys : List K) (key : K) (h place : ℕ) → IsPlaced same hash before keys → h ≡ hash key → place ≡ places before
-      → places after ≡ places before + 1 → AddsPlace before h place after → position (same key) keys ≡ None → IsPlaced same hash after (keys ++ key ∷ [])
-  placed_put before after keys key h place old hashed placed more adds none = record {
+  pub placed_put : (before after : Entries) (keys : List K) (key : K) (h index : ℕ) → IsPlaced same hash before keys → h ≡ hash key → index ≡ indices before
+      → indices after ≡ indices before + 1 → AddsIndex before h index after → position (same key) keys ≡ None → IsPlaced same hash after (keys ++ key ∷ [])
+  placed_put before after keys key h index old hashed placed more adds none = record {
     distinct = IsDistinct-push laws keys key old.distinct (none_passes (same key) keys none);
     counted = omega (arith, more, old.counted, length-append keys (key ∷ []));
     entered = λ i k there. elim (split_last keys key i k there) [
-      | inl earlier ↦ has_kept before after h place adds (hash k) i (old.entered i k earlier)
+      | inl earlier ↦ has_kept before after h index adds (hash k) i (old.entered i k earlier)
       | inr last ↦
-          let at : place ≡ i = omega (arith, placed, old.counted, last.0) in
-          subst (λ n. Has after (hash k) n) at (subst (λ n. Has after n place) (hashed ∙ ap hash last.1) (has_added before after h place adds))
+          let at : index ≡ i = omega (arith, placed, old.counted, last.0) in
+          subst (λ n. Has after (hash k) n) at (subst (λ n. Has after n index) (hashed ∙ ap hash last.1) (has_added before after h index adds))
     ];
   }
 
   -- A table with the same indices is for the same keys.
-  pub placed_same : (before after : Entries) (keys : List K) → IsPlaced same hash before keys → places after ≡ places before → HasSame before after → IsPlaced same hash after keys
+  pub placed_same : (before after : Entries) (keys : List K) → IsPlaced same hash before keys → indices after ≡ indices before → HasSame before after → IsPlaced same hash after keys
   placed_same before after keys old count stays = record {
     distinct = old.distinct;
     counted = count ∙ old.counted;
@@ -120,7 +120,7 @@ module _ {K : Type 0} (same : K → K → Bool) (laws : IsEquivalence same) (has
   }
 
   -- A table without indices is for no keys.
-  pub placed_none : (table : Entries) → places table ≡ 0 → IsPlaced same hash table []
+  pub placed_none : (table : Entries) → indices table ≡ 0 → IsPlaced same hash table []
   unfolding IsDistinct
   placed_none table none = record {
     distinct = tt;

@@ -33,9 +33,9 @@ abbrev pub IsFull : Group → Type 0
 IsFull group = (lane : ℕ) → lane < 12 → 0 < tag_in group lane
 
 -- Afterwards the bucket has the tag of the hash, and the index. The other buckets are unchanged.
-pub record Fills (before : Group) (lane hash place : ℕ) (after : Group) : Type 0 where
+pub record Fills (before : Group) (lane hash index : ℕ) (after : Group) : Type 0 where
   pub tag : tag_in after lane ≡ hash_tag hash
-  pub number : number_in after lane ≡ place
+  pub number : number_in after lane ≡ index
   pub other_tags : (k : ℕ) → k ≢ lane → tag_in after k ≡ tag_in before k
   pub other_numbers : (k : ℕ) → k ≢ lane → number_in after k ≡ number_in before k
 
@@ -66,12 +66,12 @@ pub record EndsAt (groups : List Group) (hash : ℕ) (bucket : Bucket) : Type 0 
   pub reached : Reaches groups hash bucket.group
 
 -- A probe for the hash reaches the group of a bucket that has the index, with the tag of the hash.
-pub record Stores (groups : List Group) (hash place : ℕ) : Type 0 where
+pub record Stores (groups : List Group) (hash index : ℕ) : Type 0 where
   pub at : ℕ
   pub lane : ℕ
   pub in_group : lane < 12
   pub tag : tag_in (group_at groups at) lane ≡ hash_tag hash
-  pub number : number_in (group_at groups at) lane ≡ place
+  pub number : number_in (group_at groups at) lane ≡ index
   pub reached : Reaches groups hash at
 
 -- A taken bucket of the group has one of `count` indices.
@@ -106,6 +106,6 @@ abbrev pub IsSize : Size → Type 0
 IsSize size = size.limit ≡ load_limit size.count
 
 -- The number `count` is `from`, or the smallest number of groups, or half of it would not suffice
--- for `places` indices.
+-- for `indices` indices.
 abbrev pub IsFewest : ℕ → ℕ → ℕ → Type 0
-IsFewest from places count = (count ≡ from) ⊎ (count ≡ 1) ⊎ load_limit (count / 2) < places
+IsFewest from indices count = (count ≡ from) ⊎ (count ≡ 1) ⊎ load_limit (count / 2) < indices

@@ -4,7 +4,7 @@ use Rattle.std.specs.Hash.{HashWrites}
 use Rattle.std.specs.List.{IsDistinct}
 use Rattle.std.specs.declared.hash.BuildHasher as builder
 use Rattle.std.specs.declared.hash.Hasher as hasher
-use Rattle.elsa_buckets.specs.Table.{Entries, places, Has}
+use Rattle.elsa_buckets.specs.Table.{Entries, indices, Has}
 
 -- The 32 bits of hash under which the table has a key: the two halves of the hasher's result for
 -- the key's writes, combined by xor.
@@ -17,7 +17,7 @@ key_hash b h state writes =
 -- index: the number of its indices is that of the keys.
 pub record IsPlaced {K : Type 0} (same : K → K → Bool) (hash : K → ℕ) (table : Entries) (keys : List K) : Type 0 where
   pub distinct : IsDistinct same keys
-  pub counted : places table ≡ length keys
+  pub counted : indices table ≡ length keys
   pub entered : (i : ℕ) (key : K) → slice_get keys i ≡ Some key → Has table (hash key) i
 
 -- `post i b` relates each index to what a comparison of the key there returns: `test` of that key.

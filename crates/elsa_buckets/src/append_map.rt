@@ -9,7 +9,7 @@ ghost use Rattle.elsa_buckets.specs.Placed.{key_hash, IsPlaced};
 ghost use Rattle.elsa_buckets.specs.Table.{IsVacancy};
 
 use crate::query::{self, Missing, Query};
-use crate::table::PlaceTable;
+use crate::table::IndexTable;
 use elsa_tables::{IntoPairs, Put, Refusal, Table};
 use std::alloc::{AllocError, Allocator, Global};
 use std::error::Error;
@@ -44,7 +44,7 @@ impl Error for RoomFault {}
 #[inline(always)]
 fn search<K: Eq + Hash, B, Q: Query<K>, S: BuildHasher, A: Allocator + Copy>(
     pairs: &[(K, B)],
-    table: &PlaceTable<A>,
+    table: &IndexTable<A>,
     hash_builder: &S,
     query: Q,
 ) -> Result<usize, Missing>
@@ -68,11 +68,11 @@ fn search<K: Eq + Hash, B, Q: Query<K>, S: BuildHasher, A: Allocator + Copy>(
     ensures hashed { IfErr result (λ m. m.hash
         ≡ key_hash S.BuildHasher S.Hasher.Hasher hash_builder.now (Q.hash_input query)) }
 {
-    let is_it = |place|
-        requires { place < length pairs.now }
+    let is_it = |index|
+        requires { index < length pairs.now }
         ensures { (d : K × B) →
-            result ≡ Q.finds query (slice_index_or pairs.entry.now place d).0 }
-    { query.finds(&pairs[place].0) };
+            result ≡ Q.finds query (slice_index_or pairs.entry.now index d).0 }
+    { query.finds(&pairs[index].0) };
     query::search(table, hash_builder, query, is_it)
 }
 
@@ -108,7 +108,7 @@ pub struct AppendMap<
 > {
     // The entries in the order of insertion, and the index of each by the hash of its key.
     pairs: Vec<(K, B), A>,
-    table: PlaceTable<A>,
+    table: IndexTable<A>,
     hash_builder: S,
 }
 
@@ -147,7 +147,7 @@ impl<K: Eq + Hash, B, S: BuildHasher, A: Allocator + Copy> AppendMap<K, B, S, A>
     {
         AppendMap {
             pairs: Vec::new(alloc),
-            table: PlaceTable::new(alloc),
+            table: IndexTable::new(alloc),
             hash_builder,
         }
     }
@@ -177,7 +177,7 @@ impl<K: Eq + Hash, B, S: BuildHasher, A: Allocator + Copy> AppendMap<K, B, S, A>
     {
         let pairs = self.pairs.as_slice();
         match search(pairs, &self.table, &self.hash_builder, query) {
-            Ok(place) => Some((place, &pairs[place].0, &pairs[place].1)),
+            Ok(index) => Some((index, &pairs[index].0, &pairs[index].1)),
             Err(_) => None,
         }
     }
@@ -217,7 +217,7 @@ impl<K: Eq + Hash, B, S: BuildHasher, A: Allocator + Copy> AppendMap<K, B, S, A>
         let Ok(()) = self.pairs.reserve(additional) else {
             return Err(RoomFault::Memory);
         };
-        let Ok(()) = self.table.reserve_places(additional) else {
+        let Ok(()) = self.table.reserve_indices(additional) else {
             return Err(RoomFault::Memory);
         };
         Ok(())
@@ -277,7 +277,7 @@ impl<K: Eq + Hash + Drop, B, S: BuildHasher, A: Allocator + Copy> Table<K, B>
     {
         let pairs = self.pairs.as_slice();
         let missing = match search(pairs, &self.table, &self.hash_builder, &key) {
-            Ok(place) => return Ok(Put::Found(read(&pairs[place].1), make)),
+            Ok(index) => return Ok(Put::Found(read(&pairs[index].1), make)),
             Err(missing) => missing,
         };
         let Ok(()) = self.pairs.reserve(1) else {

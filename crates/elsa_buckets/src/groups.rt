@@ -278,17 +278,17 @@ pub(crate) fn wider_size(count: usize) -> Option<Size>
     size_of(wider)
 }
 
-/// Returns the size of a table for `places` indices: the number of its groups is the greater one of
-/// `from` and 1, doubled until they suffice. `None` if there is no such number.
-pub(crate) fn size_for(from: usize, places: usize) -> Option<Size>
+/// Returns the size of a table for `indices` indices: the number of its groups is the greater one
+/// of `from` and 1, doubled until they suffice. `None` if there is no such number.
+pub(crate) fn size_for(from: usize, indices: usize) -> Option<Size>
     ensures size { IfSome result IsSize }
-    ensures enough { IfSome result (λ size. places ≤ size.limit) }
-    ensures fewest { IfSome result (λ size. IsFewest from places size.count) }
+    ensures enough { IfSome result (λ size. indices ≤ size.limit) }
+    ensures fewest { IfSome result (λ size. IsFewest from indices size.count) }
 {
     let mut count = from.max(1);
     for _ in 0..usize::BITS {
         let size = size_of(count)?;
-        if size.limit >= places {
+        if size.limit >= indices {
             return Some(size);
         }
         count = count.checked_mul(2)?;

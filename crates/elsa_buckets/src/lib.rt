@@ -1,7 +1,7 @@
 //! A hash table that maps hashes to indices, for a collection that stores its items in a list of
 //! its own.
 //!
-//! [`table::PlaceTable`] finds the index of an item by the item's hash. Its buckets are in groups
+//! [`table::IndexTable`] finds the index of an item by the item's hash. Its buckets are in groups
 //! of twelve. Each bucket has an index and a tag of 8 bits of the item's hash, and the tags of a
 //! group are compared at once. The table doesn't see the items: the caller of a search decides
 //! which index is the right one. A search that finds nothing ends at the bucket into which the

@@ -8,9 +8,9 @@ ghost use Rattle.std.specs.Hash.{items_Alike};
 ghost use Rattle.std.specs.Str.{bytes_eq};
 ghost use Rattle.std.specs.String.{string_bytes};
 ghost use Rattle.elsa_buckets.specs.Placed.{key_hash, AreCompared, IsPlaced};
-ghost use Rattle.elsa_buckets.specs.Table.{places, IsVacancy};
+ghost use Rattle.elsa_buckets.specs.Table.{indices, IsVacancy};
 
-use crate::table::{PlaceTable, Vacancy};
+use crate::table::{IndexTable, Vacancy};
 use std::alloc::Allocator;
 use std::hash::{BuildHasher, Hash};
 
@@ -113,7 +113,7 @@ pub fn hash_of<Q: Hash + Copy, S: BuildHasher>(hash_builder: &S, key: Q) -> u32
 pub struct Missing {
     /// The hash of the query.
     pub hash: u32,
-    /// The bucket, for [`PlaceTable::reserve`].
+    /// The bucket, for [`IndexTable::reserve`].
     pub end: Vacancy,
 }
 
@@ -127,12 +127,12 @@ pub struct Missing {
 /// One hash, and `O(1)` if the hashes are well distributed.
 #[inline(always)]
 pub fn search<K: Eq + Hash, Q: Query<K>, S: BuildHasher, A: Allocator + Copy, F: Fn(usize) -> bool>(
-    table: &PlaceTable<A>,
+    table: &IndexTable<A>,
     hash_builder: &S,
     query: Q,
     is_it: F,
 ) -> Result<usize, Missing>
-    requires { (place : ℕ) → place < places table.now → F.pre is_it place }
+    requires { (index : ℕ) → index < indices table.now → F.pre is_it index }
 
     // If the table is for `keys`, and `is_it` compares them with the query.
     ensures found { IfOk result (λ i. (keys : List K) → IsPlaced K.eq (λ k.
@@ -147,7 +147,7 @@ pub fn search<K: Eq + Hash, Q: Query<K>, S: BuildHasher, A: Allocator + Copy, F:
 {
     let hash = hash_of(hash_builder, query);
     match table.search(hash, is_it) {
-        Ok(place) => Ok(place),
+        Ok(index) => Ok(index),
         Err(end) => Err(Missing { hash, end }),
     }
 }

@@ -1,10 +1,10 @@
-//! [`PlaceTable`]: from hashes to indices, by open addressing.
+//! [`IndexTable`]: from hashes to indices, by open addressing.
 //!
 //! Contracts see a table as its groups of buckets, and the list of the hashes of its indices. The
 //! definition `Has` states that it has an index under a hash (`specs/Table.antt`).
 ghost use Rattle.std.specs.Prelude.{◌≡◌, ◌↔◌, ◌+◌, ◌<◌, ◌≤◌, ◌⊎◌, ℕ, [], true, false, length, IfOk, IfErr, IsTrue, OnOk, OnErr};
 ghost use Rattle.elsa_buckets.specs.Groups.{load_limit, wider_count, Indexes, PassesFull};
-ghost use Rattle.elsa_buckets.specs.Table.{most_places, places, groups, hashes, Has, HasRoom, HasSame, IsRoom, IsVacancy, AddsPlace, Widens};
+ghost use Rattle.elsa_buckets.specs.Table.{most_indices, indices, groups, hashes, Has, HasRoom, HasSame, IsRoom, IsVacancy, AddsIndex, Widens};
 
 use crate::groups::{
     Bucket, Group, first_of, rest_of, size_for, tag_of, vacant, walk, widened, wider_size,
@@ -15,7 +15,7 @@ use std::marker::Model;
 /// The greatest number of indices, of which a bucket has the 32 bits.
 const MOST: usize = 0xFFFF_FFFF;
 
-/// The bucket at which a search ended that found nothing, or in which [`PlaceTable::reserve`] made
+/// The bucket at which a search ended that found nothing, or in which [`IndexTable::reserve`] made
 /// room. It is valid until the table changes.
 #[derive(Clone, Copy)]
 pub struct Vacancy {
@@ -31,7 +31,7 @@ pub struct Vacancy {
 /// table of more than 147 indices, and up to 41 bytes in one of 13 to 147. While the number of
 /// groups doubles, the old groups still exist, and an index takes 30 bytes.
 #[derive(Drop)]
-pub struct PlaceTable<A: Allocator> {
+pub struct IndexTable<A: Allocator> {
     // The buckets. A bucket is found by its group's number, and its number in the group.
     groups: Vec<Group, A>,
     // The hash of each index, by which it is entered again after growth. It has capacity for
@@ -41,7 +41,7 @@ pub struct PlaceTable<A: Allocator> {
     limit: usize,
 }
 
-impl<A: Allocator> Model for PlaceTable<A> {
+impl<A: Allocator> Model for IndexTable<A> {
     ghost use Rattle.std.specs.Prelude.{◌≡◌, ◌≤◌, List, ℕ, length, vec_capacity};
     ghost use Rattle.elsa_buckets.specs.declared.groups.Group.{Group};
 
@@ -59,13 +59,13 @@ impl<A: Allocator> Model for PlaceTable<A> {
         × length t.hashes.items ≤ t.limit × t.limit ≤ vec_capacity t.hashes };
 }
 
-impl<A: Allocator + Copy> PlaceTable<A> {
+impl<A: Allocator + Copy> IndexTable<A> {
     /// Makes an empty table. It allocates nothing.
     pub fn new(alloc: A) -> Self
-        ensures places { places result ≡ 0 }
-        ensures empty { (hash place : ℕ) → ¬ Has result hash place }
+        ensures indices { indices result ≡ 0 }
+        ensures empty { (hash index : ℕ) → ¬ Has result hash index }
     {
-        PlaceTable {
+        IndexTable {
             groups: Vec::new(alloc),
             hashes: Vec::new(alloc),
             limit: 0,
@@ -82,11 +82,11 @@ impl<A: Allocator + Copy> PlaceTable<A> {
     /// `O(1)` if the hashes are well distributed.
     #[inline(always)]
     pub fn search<F: Fn(usize) -> bool>(&self, hash: u32, is_it: F) -> Result<usize, Vacancy>
-        requires { (place : ℕ) → place < places self.now → F.pre is_it place }
+        requires { (index : ℕ) → index < indices self.now → F.pre is_it index }
 
         // `is_it` accepted an index; or it rejected each index with the hash, and an index can be
         // added.
-        ensures found { IfOk result (λ p. (p < places self.now) × F.post is_it p true) }
+        ensures found { IfOk result (λ p. (p < indices self.now) × F.post is_it p true) }
         ensures absent { OnErr result ((p : ℕ) → Has self.now hash p → F.post is_it p false) }
         ensures vacancy { IfErr result (IsVacancy self.now hash) }
 
@@ -102,9 +102,9 @@ impl<A: Allocator + Copy> PlaceTable<A> {
             let group = &groups[at];
             let mut same = group.with_tag(tag);
             while same != 0 {
-                let place = group.number(first_of(same));
-                if is_it(place) {
-                    return Ok(place);
+                let index = group.number(first_of(same));
+                if is_it(index) {
+                    return Ok(index);
                 }
                 same = rest_of(same);
             }
@@ -147,20 +147,20 @@ impl<A: Allocator + Copy> PlaceTable<A> {
     /// `O(1)`.
     #[inline]
     pub fn is_full(&self) -> bool
-        ensures { IsTrue result ↔ (places self.now ≡ most_places) }
+        ensures { IsTrue result ↔ (indices self.now ≡ most_indices) }
     {
         self.hashes.len() >= MOST
     }
 
     /// Makes room for another index under the hash, and returns its bucket, for
-    /// [`PlaceTable::add`].
+    /// [`IndexTable::add`].
     ///
     /// `vacancy` is the result of a search for this hash, after which the table was not changed. If
     /// the groups suffice for no further index, or if the search found no free bucket, their number
     /// grows, and all indices are entered again by their hashes.
     ///
     /// # Errors
-    /// Fails if an allocation fails, or if the table is full ([`PlaceTable::is_full`]). The table
+    /// Fails if an allocation fails, or if the table is full ([`IndexTable::is_full`]). The table
     /// is then unchanged.
     ///
     /// # Cost
@@ -172,16 +172,16 @@ impl<A: Allocator + Copy> PlaceTable<A> {
         // There is room for an index under the hash, and no index changes. A call that fails
         // changes nothing.
         ensures room { IfOk result (IsRoom self.new hash) }
-        ensures below { OnOk result (places self.new < most_places) }
-        ensures places { places self.new ≡ places self.old }
+        ensures below { OnOk result (indices self.new < most_indices) }
+        ensures indices { indices self.new ≡ indices self.old }
         ensures same { HasSame self.old self.new }
         ensures grows { OnOk result (Widens self.old vacancy self.new) }
         ensures refused { OnErr result (self.new ≡ self.old) }
 
         // It fails only if the table is full, if its groups suffice for no further index, or if
         // there was no vacancy.
-        ensures cause { OnErr result ((places self.old ≡ most_places)
-            ⊎ load_limit (groups self.old) ≤ places self.old
+        ensures cause { OnErr result ((indices self.old ≡ most_indices)
+            ⊎ load_limit (groups self.old) ≤ indices self.old
             ⊎ groups self.old ≤ vacancy.bucket.group) }
     {
         let count = self.hashes.len();
@@ -200,7 +200,7 @@ impl<A: Allocator + Copy> PlaceTable<A> {
     #[inline(never)]
     fn grow(&mut self, hash: u32) -> Result<Vacancy, AllocError>
         ensures room { IfOk result (IsRoom self.new hash) }
-        ensures places { places self.new ≡ places self.old }
+        ensures indices { indices self.new ≡ indices self.old }
         ensures same { HasSame self.old self.new }
         ensures doubles { OnOk result (groups self.new ≡ wider_count (groups self.old)) }
         ensures refused { OnErr result (self.new ≡ self.old) }
@@ -224,7 +224,7 @@ impl<A: Allocator + Copy> PlaceTable<A> {
     #[inline]
     pub fn capacity(&self) -> usize
         ensures capacity { result ≡ load_limit (groups self.now) }
-        ensures places { places self.now ≤ result }
+        ensures indices { indices self.now ≤ result }
     {
         self.limit
     }
@@ -240,14 +240,14 @@ impl<A: Allocator + Copy> PlaceTable<A> {
     ///
     /// # Cost
     /// `O(n)` in the number of groups if that grows, otherwise `O(1)`.
-    pub fn reserve_places(&mut self, more: usize) -> Result<(), AllocError>
+    pub fn reserve_indices(&mut self, more: usize) -> Result<(), AllocError>
         // The groups suffice for `more` additional indices, their number is the smallest possible,
         // and no index changes. A call that fails changes nothing.
         ensures room { OnOk result (HasRoom self.old more self.new) }
-        ensures places { places self.new ≡ places self.old }
+        ensures indices { indices self.new ≡ indices self.old }
         ensures same { HasSame self.old self.new }
         ensures refused { OnErr result (self.new ≡ self.old) }
-        ensures cause { OnErr result (load_limit (groups self.old) < places self.old + more) }
+        ensures cause { OnErr result (load_limit (groups self.old) < indices self.old + more) }
     {
         let Some(wanted) = self.hashes.len().checked_add(more) else {
             return Err(AllocError);
@@ -281,7 +281,7 @@ impl<A: Allocator + Copy> PlaceTable<A> {
         groups.extend_from_slice(self.groups.as_slice())?;
         let mut hashes = Vec::with_capacity(alloc, self.limit)?;
         hashes.extend_from_slice(self.hashes.as_slice())?;
-        Ok(PlaceTable {
+        Ok(IndexTable {
             groups,
             hashes,
             limit: self.limit,
@@ -291,7 +291,7 @@ impl<A: Allocator + Copy> PlaceTable<A> {
     /// Adds the next index under the hash, and returns it: the number of indices before the call.
     /// It allocates nothing.
     ///
-    /// `room` is the result of [`PlaceTable::reserve`] for this hash, after which the table was not
+    /// `room` is the result of [`IndexTable::reserve`] for this hash, after which the table was not
     /// changed.
     ///
     /// # Cost
@@ -299,20 +299,20 @@ impl<A: Allocator + Copy> PlaceTable<A> {
     #[inline(always)]
     pub fn add(&mut self, hash: u32, room: Vacancy) -> usize
         requires room { IsRoom self.old hash room }
-        requires below { places self.old < most_places }
+        requires below { indices self.old < most_indices }
 
         // The table has the next index under the hash, and the earlier ones as before.
-        ensures place { result ≡ places self.old }
-        ensures places { places self.new ≡ places self.old + 1 }
-        ensures adds { AddsPlace self.old hash result self.new }
+        ensures index { result ≡ indices self.old }
+        ensures indices { indices self.new ≡ indices self.old + 1 }
+        ensures adds { AddsIndex self.old hash result self.new }
 
         // The number of groups is unchanged, and they suffice for the indices.
         ensures groups { groups self.new ≡ groups self.old }
-        ensures load { places self.new ≤ load_limit (groups self.new) }
+        ensures load { indices self.new ≤ load_limit (groups self.new) }
     {
-        let place = self.hashes.len();
-        self.groups[room.bucket.group].fill(room.bucket.lane, hash, place as u32);
+        let index = self.hashes.len();
+        self.groups[room.bucket.group].fill(room.bucket.lane, hash, index as u32);
         self.hashes.push_reserved(hash);
-        place
+        index
     }
 }

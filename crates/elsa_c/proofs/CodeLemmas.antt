@@ -7,7 +7,7 @@ use Rattle.std.proofs.lemmas.List.Quantifiers.{position-Some}
 use Rattle.std.proofs.lemmas.Option.{slice_get-get_or, slice_get_cases, slice_get_past}
 use Rattle.std.specs.Str.{bytes_eq}
 use Rattle.elsa_interner.specs.Names.{Puts}
-use Rattle.elsa_interner.proofs.NameLemmas.{at_place, kept_put, stands_put}
+use Rattle.elsa_interner.proofs.NameLemmas.{at_index, kept_put, stands_put}
 use Rattle.elsa_c.specs.Codes.{IsBefore, IsFactorized, IsFirsts, IsInOrder, PutsAll}
 
 abbrev from_some : {X : Type 0} → X → Option X → X
@@ -41,7 +41,7 @@ puts_none text names codes = record {
   rest = λ i le. refl;
 }
 
--- the place of a text is below the next number, and what the names are then
+-- the index of a text is below the next number, and what the names are then
 number_within : (names : List (List ℕ)) (text : List ℕ) (code : ℕ) (after : List (List ℕ)) → Puts names text code after → code ≤ length names
 number_within names text code after h = by (position (bytes_eq text) names) refl h
   where
@@ -106,8 +106,8 @@ factorized text n after old new within p = record {
   equal = λ i j lt_i lt_j. (
     λ same.
         let read = slice_get-get_or new i 0 (omega (arith, lt_i, within)) in
-        let at_i = at_place after (text i) _ (sym (p.coded i lt_i) ∙ read) in
-        let at_j = at_place after (text j) _ (sym (p.coded j lt_j) ∙ sym same ∙ read) in
+        let at_i = at_index after (text i) _ (sym (p.coded i lt_i) ∙ read) in
+        let at_j = at_index after (text j) _ (sym (p.coded j lt_j) ∙ sym same ∙ read) in
         some_equal _ _ (sym at_i ∙ at_j),
     λ same. p.coded i lt_i ∙ ap (λ t. position (bytes_eq t) after) same ∙ sym (p.coded j lt_j),
   );

@@ -11,7 +11,7 @@ use Rattle.elsa_hash_index.specs.declared.entry.Entry.{Entry}
 use Rattle.elsa_hash_index.specs.Entries.{IsAbsent, key_of, keys_of}
 use Rattle.elsa_interner.specs.Names.{IsFull, IsOneToOne}
 use Rattle.elsa_lock_free.specs.Distinct.{IsOneToOne as AreKeysOneToOne}
-use Rattle.elsa_lock_free.specs.SharedList.{Continues, IsLaterPass, View, item_of, items_of, mine, places_from}
+use Rattle.elsa_lock_free.specs.SharedList.{Continues, IsLaterPass, View, item_of, items_of, mine, indices_from}
 use Rattle.elsa_lock_free.specs.declared.event.Entry.{Entry as Pushed}
 use Rattle.elsa_lock_free.proofs.RuleLemmas.History.{items_prefix}
 use Rattle.elsa_lock_free_map.specs.Entries.{Came, InsertsOnce}
@@ -62,12 +62,12 @@ module _ {K V S : Type 0} (bytes : K → List ℕ) where
   items_texts [] = refl
   items_texts (e ∷ es) = ap (λ l. bytes e.item.key ∷ l) (items_texts es)
 
-  places_texts : (author first : ℕ) (es : List (Pushed (Entry K V S))) → places_from author first (map (text_of bytes) es) ≡ places_from author first es
-  places_texts author first [] = refl
-  places_texts author first (e ∷ es) = ap (λ l. (if e.author == author then first ∷ [] else []) ++ l) (places_texts author (suc first) es)
+  texts_indices : (writer first : ℕ) (es : List (Pushed (Entry K V S))) → indices_from writer first (map (text_of bytes) es) ≡ indices_from writer first es
+  texts_indices writer first [] = refl
+  texts_indices writer first (e ∷ es) = ap (λ l. (if e.writer == writer then first ∷ [] else []) ++ l) (texts_indices writer (suc first) es)
 
   pub mine_texts : (pass : View (Entry K V S)) → mine (texts_of bytes pass) ≡ mine pass
-  mine_texts pass = places_texts pass.author 0 pass.seen
+  mine_texts pass = texts_indices pass.writer 0 pass.seen
 
   prefix_texts : (xs ys : List (Pushed (Entry K V S))) → IsPrefix xs ys → IsPrefix (map (text_of bytes) xs) (map (text_of bytes) ys)
   prefix_texts xs ys p = (map (text_of bytes) p.0, sym (map-append (text_of bytes) xs p.0) ∙ ap (map (text_of bytes)) p.1)

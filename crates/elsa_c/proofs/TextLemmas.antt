@@ -11,7 +11,7 @@ use Rattle.std.specs.Cmp.Lexicographic.{bytes_decides, nat_list_eq_equiv}
 use Rattle.std.proofs.lemmas.Option.{slice_get-get_or, slice_get-map, slice_get_cases, slice_get_within, get_or_from_slice_get}
 use Rattle.elsa_interner.specs.Names.{IsOneToOne}
 
--- the only place of a text is the first
+-- the only index of a text is the first
 pub found_alone : (names : List (List ℕ)) (text : List ℕ) (i : ℕ) → IsOneToOne names → slice_get names i ≡ Some text → position (bytes_eq text) names ≡ Some i
 found_alone names text i one_to_one there =
     let within = slice_get_within names i text there in
@@ -28,7 +28,7 @@ found_alone names text i one_to_one there =
         let there_too : slice_get names k ≡ Some text = slice_get-get_or names k [] (omega arith) ∙ ap Some same in
         omega (arith, one_to_one k i text there_too there, lt))
 
--- a text that is at no place is not found
+-- a text that is at no index is not found
 pub found_never : (names : List (List ℕ)) (text : List ℕ) → ((i : ℕ) → slice_get names i ≡ Some text → ⊥) → position (bytes_eq text) names ≡ None
 found_never names text never =
     let last : position_or_len (bytes_eq text) names ≡ length names = position_or_len_is (bytes_eq text) names (length names) [] (omega arith) none_passes (λ lt. absurd (omega arith)) in
@@ -45,14 +45,14 @@ module _ {X : Type 0} (f : X → List ℕ) where
     | inr h ↦ absurd (omega (arith, h.0))
   ]
 
-  -- the place whose name the search accepted is the text's
+  -- the index whose name the search accepted is the text's
   pub found_here : (ks : List X) (text : List ℕ) (i : ℕ) → IsOneToOne (map f ks) → i < length ks
       → ((d : X) → true ≡ bytes_eq text (f (get_or ks i d))) → position (bytes_eq text) (map f ks) ≡ Some i
   found_here ks text i one_to_one lt compared =
       let same = (bytes_decides text (get_or (map f ks) i [])).0 (named_here ks text i true lt compared) in
       found_alone (map f ks) text i one_to_one (slice_get-get_or (map f ks) i [] (omega (arith, length-map ks f)) ∙ ap Some (sym same))
 
-  -- where the search rejected each place that the text could have, it has none
+  -- where the search rejected each index that the text could have, it has none
   pub found_nowhere : (ks : List X) (text : List ℕ)
       → ((i : ℕ) → slice_get (map f ks) i ≡ Some text → (d : X) → false ≡ bytes_eq text (f (get_or ks i d))) → position (bytes_eq text) (map f ks) ≡ None
   found_nowhere ks text refused = found_never (map f ks) text (λ i there.

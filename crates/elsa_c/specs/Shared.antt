@@ -15,11 +15,11 @@ use Rattle.elsa_c.specs.declared.shared_handle.Shared.{Shared}
 module _ {K V S : Type 0} (bytes : K → List ℕ) where
   -- An entry of a map as the text of its key, of the same writer.
   abbrev pub text_of : Pushed (Entry K V S) → Pushed (List ℕ)
-  text_of e = record { author = e.author; item = bytes e.item.key }
+  text_of e = record { writer = e.writer; item = bytes e.item.key }
 
   -- A view of a map as one of its texts.
   abbrev pub texts_of : View (Entry K V S) → View (List ℕ)
-  texts_of pass = record { vector = pass.vector; author = pass.author; seen = map text_of pass.seen }
+  texts_of pass = record { vector = pass.vector; writer = pass.writer; seen = map text_of pass.seen }
 
 -- The texts that a handle has observed, in the order of their codes: none without names.
 abbrev pub texts_in : Option (View (List ℕ)) → List (List ℕ)

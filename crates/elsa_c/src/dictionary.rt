@@ -158,9 +158,9 @@ impl Dictionary {
         let Some(names) = self.take(alloc) else {
             return None;
         };
-        let place = names.place(code);
+        let text = names.text_at(code);
         self.restore(names);
-        place
+        text
     }
 
     /// Returns the number of texts.

@@ -86,7 +86,7 @@ impl Kept {
     /// Returns the address and the length of the text with this number, or `None` if there is none.
     ///
     /// The text stays there until the names are dropped. The address of an empty text is null.
-    pub fn place(&self, number: usize) -> Option<(*const u8, usize)>
+    pub fn text_at(&self, number: usize) -> Option<(*const u8, usize)>
         ensures { IsRead self.now number result }
     {
         let Some(text) = self.names.at(number) else {

@@ -284,8 +284,8 @@ pub extern "C" fn elsa_shared_try_put(
     let put = kept.try_put(alloc, text);
     names.restore(kept);
     match put {
-        Ok(place) => {
-            *code = place;
+        Ok(index) => {
+            *code = index;
             0
         }
         Err(fault) => fault.code(),
@@ -311,9 +311,9 @@ pub extern "C" fn elsa_shared_at(
     let Some(mut kept) = names.take(alloc) else {
         return false;
     };
-    let place = kept.place(code);
+    let found = kept.text_at(code);
     names.restore(kept);
-    let Some((first, length)) = place else {
+    let Some((first, length)) = found else {
         return false;
     };
     *text = first;

@@ -10,12 +10,12 @@ ghost use Rattle.std.specs.Global.{Global};
 ghost use Rattle.std_alloc.specs.String.{string_bytes};
 ghost use mathlib.Core.List.{IsPrefix};
 ghost use Rattle.elsa_interner.specs.Names.{Puts, IsFull, IsOneToOne, text_hash};
-ghost use Rattle.elsa_buckets.specs.Table.{places, Has, IsVacancy};
+ghost use Rattle.elsa_buckets.specs.Table.{indices, Has, IsVacancy};
 ghost use Rattle.elsa_c.specs.Codes.{PutsAll, IsEnd, IsRefused, status_code, text_of};
 
 use crate::block::text_between;
 use crate::fault::{Fault, status_of};
-use elsa_buckets::table::{PlaceTable, Vacancy};
+use elsa_buckets::table::{IndexTable, Vacancy};
 use std::alloc::{AllocError, Global};
 use std::hash::{BuildHasher, Hasher};
 use std::marker::Model;
@@ -44,7 +44,7 @@ fn same_text(a: &str, b: &str) -> bool
 #[inline(always)]
 fn search(
     names: &[String],
-    table: &PlaceTable<Global>,
+    table: &IndexTable<Global>,
     hash: u32,
     text: &str,
 ) -> Result<usize, Vacancy>
@@ -52,7 +52,7 @@ fn search(
     // which are one to one.
     requires entered { (i : ℕ) → slice_get (map (λ s. string_bytes s) names.now) i ≡ Some text.now →
         Has table.now hash i }
-    requires counted { places table.now ≡ length names.now }
+    requires counted { indices table.now ≡ length names.now }
     requires one_to_one { IsOneToOne (map (λ s. string_bytes s) names.now) }
 
     // The number of the text, or that it is no name, and where it would go.
@@ -62,11 +62,11 @@ fn search(
         (position (bytes_eq text.now) (map (λ s. string_bytes s) names.now) ≡ None) }
     ensures vacancy { IfErr result (IsVacancy table.now hash) }
 {
-    let is_it = |place|
-        requires { place < length names.now }
+    let is_it = |index|
+        requires { index < length names.now }
         ensures { (d : String Global) →
-            result ≡ bytes_eq text.entry.now (string_bytes (slice_index_or names.entry.now place d)) }
-    { same_text(text, names[place].as_str()) };
+            result ≡ bytes_eq text.entry.now (string_bytes (slice_index_or names.entry.now index d)) }
+    { same_text(text, names[index].as_str()) };
     table.search(hash, is_it)
 }
 
@@ -77,7 +77,7 @@ fn search(
 pub struct Names<S: BuildHasher> {
     // The text of each number, and the number of each text by its hash.
     names: Vec<String>,
-    table: PlaceTable<Global>,
+    table: IndexTable<Global>,
     hash_builder: S,
 }
 
@@ -103,7 +103,7 @@ impl<S: BuildHasher> Names<S> {
     {
         Names {
             names: Vec::new(alloc),
-            table: PlaceTable::new(alloc),
+            table: IndexTable::new(alloc),
             hash_builder,
         }
     }
@@ -157,15 +157,15 @@ impl<S: BuildHasher> Names<S> {
     {
         let hash = name_hash(&self.hash_builder, text);
         let vacancy = match search(self.names.as_slice(), &self.table, hash, text) {
-            Ok(place) => return Ok(place),
+            Ok(index) => return Ok(index),
             Err(vacancy) => vacancy,
         };
         self.names.reserve(1)?;
         let room = self.table.reserve(hash, vacancy)?;
         let name = String::from_str(*self.names.allocator(), text)?;
-        let place = self.table.add(hash, room);
+        let index = self.table.add(hash, room);
         self.names.push_reserved(name);
-        Ok(place)
+        Ok(index)
     }
 }
 

@@ -156,19 +156,19 @@ impl SharedKept {
     /// then observed no such number. It takes no lock and never blocks.
     ///
     /// The text stays there until the last handle is dropped. The address of an empty text is null.
-    pub fn place(&mut self, number: usize) -> Option<(*const u8, usize)>
+    pub fn text_at(&mut self, number: usize) -> Option<(*const u8, usize)>
         ensures continues { Continues self.old self.new }
         ensures read { IsRead (items_of self.new.seen) number result }
     {
         let map = &self.names;
         let mut names = MapHandle::of(map, replace(&mut self.pass, map.pass()));
         names.len();
-        let place = match text_at(&names, number) {
+        let index = match text_at(&names, number) {
             Some(text) => Some(address_of(text)),
             None => None,
         };
         self.pass = names.into_pass();
-        place
+        index
     }
 
     /// Returns the number of texts, all of which the handle has then observed. It takes no lock and

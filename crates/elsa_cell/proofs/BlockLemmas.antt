@@ -24,16 +24,16 @@ module _ {B : Type 0} (of : B → List ℕ) where
       let same = get_or_from_slice_get blocks at b b there in
       subst (λ x. rank_of of blocks at + length (of x) ≤ length (joined of blocks)) same (length-flat_map-take of blocks at b (slice_get_within blocks at b there))
 
-  -- The rank of an index is the sum of its block's and its place.
-  pub get_joined : (blocks : List B) (at : ℕ) (b : B) (place i : ℕ) → slice_get blocks at ≡ Some b → slice_get (of b) place ≡ Some i → slice_get (joined of blocks) (rank_of of blocks at + place) ≡ Some i
-  get_joined blocks at b place i there here =
+  -- The rank of an index is the sum of its block's and its position.
+  pub get_joined : (blocks : List B) (at : ℕ) (b : B) (position i : ℕ) → slice_get blocks at ≡ Some b → slice_get (of b) position ≡ Some i → slice_get (joined of blocks) (rank_of of blocks at + position) ≡ Some i
+  get_joined blocks at b position i there here =
       let lt = slice_get_within blocks at b there in
       let same = get_or_from_slice_get blocks at b b there in
-      let low = slice_get_within (of b) place i here in
-      let inside : place < length (of (get_or blocks at b)) = subst (λ x. place < length (of x)) (sym same) low in
+      let low = slice_get_within (of b) position i here in
+      let inside : position < length (of (get_or blocks at b)) = subst (λ x. position < length (of x)) (sym same) low in
       let fits = rank_fits blocks at b there in
-      let sum : rank_of of blocks at + place < length (joined of blocks) = omega (arith, low, fits) in
-      slice_get-get_or (joined of blocks) (rank_of of blocks at + place) i sum ∙ ap Some (get_or-flat_map of blocks at place b i lt inside ∙ (ap (λ x. get_or (of x) place i) same ∙ get_or_from_slice_get (of b) place i i here))
+      let sum : rank_of of blocks at + position < length (joined of blocks) = omega (arith, low, fits) in
+      slice_get-get_or (joined of blocks) (rank_of of blocks at + position) i sum ∙ ap Some (get_or-flat_map of blocks at position b i lt inside ∙ (ap (λ x. get_or (of x) position i) same ∙ get_or_from_slice_get (of b) position i i here))
 
   -- A block's first index has the block's rank.
   pub first_joined : (blocks : List B) (at : ℕ) (b : B) (i : ℕ) → slice_get blocks at ≡ Some b → slice_get (of b) 0 ≡ Some i → slice_get (joined of blocks) (rank_of of blocks at) ≡ Some i
@@ -98,20 +98,20 @@ module _ {B : Type 0} (of : B → List ℕ) where
       filled_set blocks at new all (grows (each_filled blocks all at b there))
 
   -- An index that is inserted into a block is inserted into the table.
-  pub joined_insert : (blocks : List B) (at : ℕ) (b new : B) (place y : ℕ) → slice_get blocks at ≡ Some b → place ≤ length (of b) → of new ≡ insert (of b) place y
-      → joined of (set blocks at new) ≡ insert (joined of blocks) (rank_of of blocks at + place) y
-  joined_insert [] at b new place y there le e = absurd (none-some b there)
-  joined_insert (x ∷ xs) zero b new place y there le e =
+  pub joined_insert : (blocks : List B) (at : ℕ) (b new : B) (position y : ℕ) → slice_get blocks at ≡ Some b → position ≤ length (of b) → of new ≡ insert (of b) position y
+      → joined of (set blocks at new) ≡ insert (joined of blocks) (rank_of of blocks at + position) y
+  joined_insert [] at b new position y there le e = absurd (none-some b there)
+  joined_insert (x ∷ xs) zero b new position y there le e =
       let same = same_Some x b there in
-      let here : place ≤ length (of x) = subst (λ z. place ≤ length (of z)) (sym same) le in
-      let at : place ≡ 0 + place = omega arith in
-      ap (λ l. l ++ joined of xs) (e ∙ ap (λ z. insert (of z) place y) (sym same)) ∙ (sym (insert-append_left (of x) (joined of xs) place y here) ∙ ap (λ k. insert (of x ++ joined of xs) k y) at)
-  joined_insert (x ∷ xs) (suc at) b new place y there le e =
+      let here : position ≤ length (of x) = subst (λ z. position ≤ length (of z)) (sym same) le in
+      let at : position ≡ 0 + position = omega arith in
+      ap (λ l. l ++ joined of xs) (e ∙ ap (λ z. insert (of z) position y) (sym same)) ∙ (sym (insert-append_left (of x) (joined of xs) position y here) ∙ ap (λ k. insert (of x ++ joined of xs) k y) at)
+  joined_insert (x ∷ xs) (suc at) b new position y there le e =
       let long : rank_of of (x ∷ xs) (suc at) ≡ length (of x) + rank_of of xs at = length-append (of x) (flat_map of (take at xs)) in
-      let past : length (of x) ≤ rank_of of (x ∷ xs) (suc at) + place = omega (arith, long) in
-      let left : rank_of of xs at + place ≡ rank_of of (x ∷ xs) (suc at) + place - length (of x) = omega (arith, long) in
-      ap (λ l. of x ++ l) (joined_insert xs at b new place y there le e ∙ ap (λ k. insert (joined of xs) k y) left)
-      ∙ sym (insert-append_right (of x) (joined of xs) (length (of x)) (rank_of of (x ∷ xs) (suc at) + place) y refl past)
+      let past : length (of x) ≤ rank_of of (x ∷ xs) (suc at) + position = omega (arith, long) in
+      let left : rank_of of xs at + position ≡ rank_of of (x ∷ xs) (suc at) + position - length (of x) = omega (arith, long) in
+      ap (λ l. of x ++ l) (joined_insert xs at b new position y there le e ∙ ap (λ k. insert (joined of xs) k y) left)
+      ∙ sym (insert-append_right (of x) (joined of xs) (length (of x)) (rank_of of (x ∷ xs) (suc at) + position) y refl past)
 
   -- A block that is split in two.
   pub joined_split : (blocks : List B) (at : ℕ) (b head tail : B) → slice_get blocks at ≡ Some b → of head ++ of tail ≡ of b → joined of (insert (set blocks at head) (suc at) tail) ≡ joined of blocks
@@ -192,15 +192,15 @@ module _ {B : Type 0} (of : B → List ℕ) where
     there = λ some. first_block blocks f (subst (λ n. 0 < n) all some);
   }
 
-  pub walk_within : (blocks : List B) (at place left : ℕ) (b : B) → IsWalkAt of blocks at place left → slice_get blocks at ≡ Some b → place + 1 < length (of b) → 0 < left → IsWalkAt of blocks at (place + 1) (left - 1)
-  walk_within blocks at place left b w there more some = record {
+  pub walk_within : (blocks : List B) (at position left : ℕ) (b : B) → IsWalkAt of blocks at position left → slice_get blocks at ≡ Some b → position + 1 < length (of b) → 0 < left → IsWalkAt of blocks at (position + 1) (left - 1)
+  walk_within blocks at position left b w there more some = record {
     filled = w.filled;
     counted = (let c = w.counted in omega (arith, c, some));
     there = λ _. (b, there, more);
   }
 
-  pub walk_past : (blocks : List B) (at place left : ℕ) (b : B) → IsWalkAt of blocks at place left → slice_get blocks at ≡ Some b → place + 1 ≡ length (of b) → 0 < left → IsWalkAt of blocks (at + 1) 0 (left - 1)
-  walk_past blocks at place left b w there end some =
+  pub walk_past : (blocks : List B) (at position left : ℕ) (b : B) → IsWalkAt of blocks at position left → slice_get blocks at ≡ Some b → position + 1 ≡ length (of b) → 0 < left → IsWalkAt of blocks (at + 1) 0 (left - 1)
+  walk_past blocks at position left b w there end some =
       let next = rank_next blocks at b there in
       let c = w.counted in
       record {

@@ -51,19 +51,19 @@ module _ {B : Type 0} (of : B → List ℕ) where
   abbrev pub IsFilled : List B → Type 0
   IsFilled blocks = 1 < length blocks → AllByRecursion (λ b. 0 < length (of b)) blocks
 
-  -- There is a block `at`, and `place` is one of its places or its end.
-  abbrev pub HasPlace : List B → ℕ → ℕ → Type 0
-  HasPlace blocks at place = (b : B) × (slice_get blocks at ≡ Some b) × (place ≤ length (of b))
+  -- There is a block `at`, and `position` is one of its positions or its end.
+  abbrev pub HasPosition : List B → ℕ → ℕ → Type 0
+  HasPosition blocks at position = (b : B) × (slice_get blocks at ≡ Some b) × (position ≤ length (of b))
 
-  -- There is a block `at`, it has room, and `place` is one of its places or its end.
+  -- There is a block `at`, it has room, and `position` is one of its positions or its end.
   abbrev pub HasRoomAt : (B → ℕ) → List B → ℕ × ℕ → Type 0
   HasRoomAt room blocks end = (b : B) × (slice_get blocks end.0 ≡ Some b) × (end.1 ≤ length (of b)) × (length (of b) < room b)
 
-  -- A walk is before the index at `place` of the block `at`, or at its end, and `left` are left.
-  pub record IsWalkAt (blocks : List B) (at place left : ℕ) : Type 0 where
+  -- A walk is before the index at `position` of the block `at`, or at its end, and `left` are left.
+  pub record IsWalkAt (blocks : List B) (at position left : ℕ) : Type 0 where
     pub filled : IsFilled blocks
-    pub counted : rank_of blocks at + place + left ≡ length (joined blocks)
-    pub there : 0 < left → (b : B) × (slice_get blocks at ≡ Some b) × (place < length (of b))
+    pub counted : rank_of blocks at + position + left ≡ length (joined blocks)
+    pub there : 0 < left → (b : B) × (slice_get blocks at ≡ Some b) × (position < length (of b))
 
 -- What is at an index, if there is something, before a list.
 abbrev pub before_rest : {X : Type 0} → Option X → List X → List X
@@ -88,7 +88,7 @@ module _ {K B : Type 0} (of : B → List ℕ) where
     pub filled : IsFilled of blocks
     pub counted : count ≡ length keys
 
-  -- The search for a key ended in a block, at the place at which its index would be.
+  -- The search for a key ended in a block, at the position at which its index would be.
   pub record IsBlockGap (against : K → Ordering) (blocks : List B) (keys : List K) (end : ℕ × ℕ) : Type 0 where
     pub gap : IsGap against (joined of blocks) keys (rank_of of blocks end.0 + end.1)
-    pub there : 0 < length blocks → HasPlace of blocks end.0 end.1
+    pub there : 0 < length blocks → HasPosition of blocks end.0 end.1

@@ -1,14 +1,14 @@
 //! [`Hashed`]: the hash table that finds the keys of a map.
 ghost use Rattle.std.specs.Prelude.{◌≡◌, ◌-◌, ◌<◌, ◌≤◌, ◌^◌, OnOk, Some, length, slice_get};
 ghost use Rattle.elsa_buckets.specs.Placed.{key_hash, IsPlaced};
-ghost use Rattle.elsa_buckets.specs.Table.{IsRoom, IsVacancy, most_places, places};
+ghost use Rattle.elsa_buckets.specs.Table.{IsRoom, IsVacancy, most_indices, indices};
 
+use crate::indices::{Indices, KeyList, Seeks};
 use crate::map::Frozen;
 use crate::map_handle::FrozenHandle;
 use crate::map_hold::FrozenHold;
-use crate::places::{KeyList, Places, Seeks};
 use elsa_buckets::query::{Missing, Query, search};
-use elsa_buckets::table::PlaceTable;
+use elsa_buckets::table::IndexTable;
 use elsa_tables::{AnyEntries, EntryRule};
 use std::alloc::{AllocError, Allocator, Global};
 use std::hash::{BuildHasher, BuildHasherDefault, FoldHasher, Hash};
@@ -17,7 +17,7 @@ use std::hash::{BuildHasher, BuildHasherDefault, FoldHasher, Hash};
 /// [`FrozenMap`](crate::FrozenMap).
 #[derive(Drop)]
 pub struct Hashed<S: BuildHasher + Drop, A: Allocator + Copy> {
-    pub(crate) table: PlaceTable<A>,
+    pub(crate) table: IndexTable<A>,
     pub(crate) hash_builder: S,
 }
 
@@ -115,7 +115,7 @@ impl<
     /// # Allocates
     /// The directory of its buffers, and a block for what insertions change.
     pub fn with_rule(alloc: A, hash_builder: S) -> Result<Self, AllocError> {
-        let table = PlaceTable::new(alloc);
+        let table = IndexTable::new(alloc);
         Frozen::over(
             alloc,
             Hashed {
@@ -126,10 +126,10 @@ impl<
     }
 }
 
-impl<K: Eq + Hash, S: BuildHasher + Drop, A: Allocator + Copy> Places<K> for Hashed<S, A> {
+impl<K: Eq + Hash, S: BuildHasher + Drop, A: Allocator + Copy> Indices<K> for Hashed<S, A> {
     ghost use Rattle.std.specs.Prelude.{◌≡◌, ◌<◌};
     ghost use Rattle.elsa_buckets.specs.Placed.{key_hash, IsPlaced};
-    ghost use Rattle.elsa_buckets.specs.Table.{IsRoom, IsVacancy, most_places, places};
+    ghost use Rattle.elsa_buckets.specs.Table.{IsRoom, IsVacancy, most_indices, indices};
 
     ghost same = { K.eq };
 
@@ -145,15 +145,15 @@ impl<K: Eq + Hash, S: BuildHasher + Drop, A: Allocator + Copy> Places<K> for Has
 
     ghost has_room = { λ t _ key m. IsRoom t.table m.hash m.end × (m.hash
         ≡ key_hash S.BuildHasher S.Hasher.Hasher t.hash_builder (K.hash_input key))
-        × (places t.table < most_places) };
+        × (indices t.table < most_indices) };
 
     #[inline(always)]
     fn seek<L: KeyList<K>>(&self, keys: &L, key: &K) -> Result<usize, Missing> {
-        let is_it = |place|
-            requires { place < length (L.keys keys.now) }
-            ensures { (k : K) → slice_get (L.keys keys.entry.now) place ≡ Some k →
+        let is_it = |index|
+            requires { index < length (L.keys keys.now) }
+            ensures { (k : K) → slice_get (L.keys keys.entry.now) index ≡ Some k →
                 result ≡ K.eq key.entry.now k }
-        { key.eq(keys.key_at(place)) };
+        { key.eq(keys.key_at(index)) };
         search(&self.table, &self.hash_builder, key, is_it)
     }
 
@@ -167,7 +167,7 @@ impl<K: Eq + Hash, S: BuildHasher + Drop, A: Allocator + Copy> Places<K> for Has
     }
 
     fn reserve_more(&mut self, more: usize) -> Result<(), AllocError> {
-        self.table.reserve_places(more)
+        self.table.reserve_indices(more)
     }
 
     #[inline(always)]
@@ -182,11 +182,11 @@ impl<K: Eq + Hash, Q: Query<K>, S: BuildHasher + Drop, A: Allocator + Copy> Seek
 
     #[inline(always)]
     fn seek<L: KeyList<K>>(self, table: &Hashed<S, A>, keys: &L) -> Option<usize> {
-        let is_it = |place|
-            requires { place < length (L.keys keys.now) }
-            ensures { (k : K) → slice_get (L.keys keys.entry.now) place ≡ Some k →
+        let is_it = |index|
+            requires { index < length (L.keys keys.now) }
+            ensures { (k : K) → slice_get (L.keys keys.entry.now) index ≡ Some k →
                 result ≡ Q.finds self k }
-        { self.finds(keys.key_at(place)) };
+        { self.finds(keys.key_at(index)) };
         match search(&table.table, &table.hash_builder, self, is_it) {
             Ok(index) => Some(index),
             Err(_) => None,

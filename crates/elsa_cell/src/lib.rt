@@ -5,12 +5,12 @@
 mod fault;
 mod hashed;
 pub mod index_set;
+mod indices;
 pub mod map;
 mod map_handle;
 mod map_hold;
 mod map_state;
 mod ordered;
-mod places;
 mod scan;
 
 pub use elsa_arena::fault::{CellFault, Fault, InUse};
@@ -22,8 +22,8 @@ pub use elsa_tables::{AnyEntries, EntryRule};
 pub use fault::TryFault;
 pub use hashed::{FrozenIndexMap, FrozenMap, Hashed, MapHandle, MapHold};
 pub use index_set::{FrozenIndexSet, FrozenSet};
+pub use indices::{Indices, KeyList, Seeks};
 pub use map::{Entry, Frozen};
 pub use map_handle::FrozenHandle;
 pub use map_hold::FrozenHold;
 pub use ordered::{Ascending, BTreeHandle, BTreeHold, FrozenBTreeMap, OrderQuery, Ordered};
-pub use places::{KeyList, Places, Seeks};

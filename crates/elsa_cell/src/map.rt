@@ -15,11 +15,11 @@ ghost use Rattle.elsa_cell.specs.declared.map.Entry.{Entry};
 
 use crate::fault::TryFault;
 pub use crate::hashed::{FrozenMap, MapHandle, MapHold};
+use crate::indices::{Indices, Seeks};
 use crate::map_handle::FrozenHandle;
 use crate::map_hold::FrozenHold;
 use crate::map_state::{Keys, MOST, MapState, OfMap, Pairs, Parked, park};
 pub use crate::ordered::{BTreeHandle, BTreeHold, FrozenBTreeMap};
-use crate::places::{Places, Seeks};
 use crate::scan::scan;
 use boxcar::tag::Tag;
 use elsa_arena::fault::{CellFault, Fault, InUse};
@@ -79,7 +79,7 @@ pub(crate) fn find_beside<
     'm,
     K,
     V,
-    T: Places<K>,
+    T: Indices<K>,
     Q: Seeks<K, T>,
     A: Allocator + Copy,
     R: EntryRule<K, V>,
@@ -118,7 +118,7 @@ pub(crate) fn find_beside<
 pub struct Frozen<
     K: Drop,
     V,
-    T: Places<K> + Drop,
+    T: Indices<K> + Drop,
     A: Allocator + Copy = Global,
     R: EntryRule<K, V> = AnyEntries,
 > {
@@ -127,7 +127,7 @@ pub struct Frozen<
     shown: Shown<Entry<K, V>, A, OfMap<R>>,
 }
 
-impl<K: Drop, V, T: Places<K> + Drop, A: Allocator + Copy, R: EntryRule<K, V>> Model
+impl<K: Drop, V, T: Indices<K> + Drop, A: Allocator + Copy, R: EntryRule<K, V>> Model
     for Frozen<K, V, T, A, R> {
     ghost use Rattle.std.specs.Prelude.{◌≡◌, ℕ, List};
 
@@ -139,7 +139,7 @@ impl<K: Drop, V, T: Places<K> + Drop, A: Allocator + Copy, R: EntryRule<K, V>> M
     ghost invariant = { λ m. (m.cell.numbers ≡ m.slots) × (m.shown ≡ m.slots) };
 }
 
-impl<K: Drop, V: Drop, T: Places<K> + Drop, A: Allocator + Copy, R: EntryRule<K, V>> Drop
+impl<K: Drop, V: Drop, T: Indices<K> + Drop, A: Allocator + Copy, R: EntryRule<K, V>> Drop
     for Frozen<K, V, T, A, R> {
     fn drop(self) {
         let Self { slots, cell, shown } = self;
@@ -155,7 +155,7 @@ impl<K: Drop, V: Drop, T: Places<K> + Drop, A: Allocator + Copy, R: EntryRule<K,
     }
 }
 
-impl<K: Drop, V: Drop, T: Places<K> + Drop, A: Allocator + Copy, R: EntryRule<K, V>> Frozen<
+impl<K: Drop, V: Drop, T: Indices<K> + Drop, A: Allocator + Copy, R: EntryRule<K, V>> Frozen<
     K,
     V,
     T,
@@ -181,7 +181,7 @@ impl<K: Drop, V: Drop, T: Places<K> + Drop, A: Allocator + Copy, R: EntryRule<K,
     }
 }
 
-impl<K: Drop, V: Drop, T: Places<K> + Drop, A: Allocator + Copy, R: EntryRule<K, V>> Frozen<
+impl<K: Drop, V: Drop, T: Indices<K> + Drop, A: Allocator + Copy, R: EntryRule<K, V>> Frozen<
     K,
     V,
     T,
@@ -724,7 +724,7 @@ impl<K: Drop, V: Drop, T: Places<K> + Drop, A: Allocator + Copy, R: EntryRule<K,
     }
 }
 
-impl<K: Drop, T: Places<K> + Drop, A: Allocator + Copy> Frozen<K, (), T, A> {
+impl<K: Drop, T: Indices<K> + Drop, A: Allocator + Copy> Frozen<K, (), T, A> {
     /// Moves all keys into a vector of `alloc`, as [`into_tuple_vec`](Self::into_tuple_vec) moves
     /// all entries.
     pub(crate) fn into_key_vec<Z: Allocator>(

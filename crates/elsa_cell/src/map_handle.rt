@@ -10,10 +10,10 @@ ghost use Rattle.elsa_arena.specs.Faults.{GivesBack};
 ghost use Rattle.elsa_arena.specs.Observed.{Continues};
 
 use crate::fault::TryFault;
+use crate::indices::{Indices, Seeks};
 use crate::map::{Entry, find_beside, pair_at};
 use crate::map_hold::FrozenHold;
 use crate::map_state::{OfMap, Parked};
-use crate::places::{Places, Seeks};
 use elsa_arena::fault::{CellFault, Fault, InUse};
 use elsa_arena::observed::{Iter, Observed};
 use elsa_arena::shared::Shared;
@@ -32,7 +32,7 @@ pub struct FrozenHandle<
     'm,
     K: Drop,
     V,
-    T: Places<K> + Drop,
+    T: Indices<K> + Drop,
     A: Allocator + Copy = Global,
     R: EntryRule<K, V> = AnyEntries,
 > {
@@ -41,7 +41,7 @@ pub struct FrozenHandle<
     pub(crate) observed: Observed<'m, Entry<K, V>, A>,
 }
 
-impl<'m, K: Drop, V, T: Places<K> + Drop, A: Allocator + Copy, R: EntryRule<K, V>> Model
+impl<'m, K: Drop, V, T: Indices<K> + Drop, A: Allocator + Copy, R: EntryRule<K, V>> Model
     for FrozenHandle<'m, K, V, T, A, R> {
     ghost use Rattle.std.specs.Prelude.{◌≡◌, ◌≤◌, ◌-◌, ◌^◌, length};
     ghost use Rattle.elsa_arena.specs.Observed.{View};
@@ -63,7 +63,7 @@ impl<
     'm,
     K: Drop,
     V: Drop,
-    T: Places<K> + Drop,
+    T: Indices<K> + Drop,
     A: Allocator + Copy,
     R: EntryRule<K, V>,
 > FrozenHandle<'m, K, V, T, A, R> {

@@ -9,10 +9,10 @@ ghost use Rattle.elsa_tables.specs.Rules.{HoldsAt};
 ghost use Rattle.elsa_arena.specs.Faults.{Refuses};
 ghost use Rattle.elsa_arena.specs.Observed.{Continues};
 
+use crate::indices::{Indices, Seeks};
 use crate::map::{Entry, pair_at};
 use crate::map_handle::FrozenHandle;
 use crate::map_state::{MOST, MapState, OfMap, Parked};
-use crate::places::{Places, Seeks};
 use elsa_arena::fault::{CellFault, Fault};
 use elsa_arena::observed::Observed;
 use elsa_arena::shared::Shared;
@@ -31,7 +31,7 @@ pub struct FrozenHold<
     'm,
     K: Drop,
     V,
-    T: Places<K> + Drop,
+    T: Indices<K> + Drop,
     A: Allocator + Copy = Global,
     R: EntryRule<K, V> = AnyEntries,
 > {
@@ -41,7 +41,7 @@ pub struct FrozenHold<
     pub(crate) state: Box<MapState<K, V, T, A>, A>,
 }
 
-impl<'m, K: Drop, V, T: Places<K> + Drop, A: Allocator + Copy, R: EntryRule<K, V>> Model
+impl<'m, K: Drop, V, T: Indices<K> + Drop, A: Allocator + Copy, R: EntryRule<K, V>> Model
     for FrozenHold<'m, K, V, T, A, R> {
     ghost use Rattle.std.specs.Prelude.{◌≡◌};
     ghost use Rattle.elsa_arena.specs.Observed.{View};
@@ -58,7 +58,7 @@ impl<'m, K: Drop, V, T: Places<K> + Drop, A: Allocator + Copy, R: EntryRule<K, V
         × (h.shown.now ≡ h.slots.now) × HoldsEach R.holds h.state.value.list.prefix.items };
 }
 
-impl<K: Drop, V, T: Places<K> + Drop, A: Allocator + Copy, R: EntryRule<K, V>> Drop
+impl<K: Drop, V, T: Indices<K> + Drop, A: Allocator + Copy, R: EntryRule<K, V>> Drop
     for FrozenHold<'_, K, V, T, A, R> {
     fn drop(self) {
         let Self {
@@ -71,14 +71,14 @@ impl<K: Drop, V, T: Places<K> + Drop, A: Allocator + Copy, R: EntryRule<K, V>> D
     }
 }
 
-impl<'m, K: Drop, V: Drop, T: Places<K> + Drop, A: Allocator + Copy, R: EntryRule<K, V>> FrozenHold<
+impl<
     'm,
-    K,
-    V,
-    T,
-    A,
-    R,
-> {
+    K: Drop,
+    V: Drop,
+    T: Indices<K> + Drop,
+    A: Allocator + Copy,
+    R: EntryRule<K, V>,
+> FrozenHold<'m, K, V, T, A, R> {
     /// Returns all entries, to read them after the guard is dropped.
     pub fn observed(&self) -> Observed<'m, Entry<K, V>, A>
         ensures same_view { result ≡ self.now }

@@ -3,8 +3,8 @@ ghost use Rattle.std.specs.Prelude.{◌≡◌, ◌++◌, ◌∷◌, ◌<◌, ◌
 ghost use Rattle.elsa_cell.specs.Entries.{IsMapOf, key_of};
 ghost use Rattle.elsa_cell.specs.declared.map.Entry.{Entry};
 
+use crate::indices::{Indices, KeyList, Seeks};
 use crate::map::Entry;
-use crate::places::{KeyList, Places, Seeks};
 use boxcar::tag::Tag;
 use counted_slot::Fits;
 use elsa_arena::observed::Observed;
@@ -90,12 +90,12 @@ impl<K, V, A: Allocator + Copy> KeyList<K> for Observed<'_, Entry<K, V>, A> {
 
 /// The list of a map's entries, and the table of their indices.
 #[derive(Drop)]
-pub(crate) struct MapState<K: Drop, V, T: Places<K> + Drop, A: Allocator + Copy> {
+pub(crate) struct MapState<K: Drop, V, T: Indices<K> + Drop, A: Allocator + Copy> {
     pub(crate) list: State<Entry<K, V>, A>,
     pub(crate) table: T,
 }
 
-impl<K: Drop, V, T: Places<K> + Drop, A: Allocator + Copy> Fits for MapState<K, V, T, A> {
+impl<K: Drop, V, T: Indices<K> + Drop, A: Allocator + Copy> Fits for MapState<K, V, T, A> {
     ghost use Rattle.elsa_cell.specs.Entries.{IsMapOf};
 
     type Tag = Tag;
@@ -106,12 +106,18 @@ impl<K: Drop, V, T: Places<K> + Drop, A: Allocator + Copy> Fits for MapState<K, 
 /// A state on the heap, so that a call which takes it out of its cell moves a pointer. Its entries
 /// obey the rule `R`.
 #[derive(Drop)]
-pub(crate) struct Parked<K: Drop, V, T: Places<K> + Drop, A: Allocator + Copy, R: EntryRule<K, V>> {
+pub(crate) struct Parked<
+    K: Drop,
+    V,
+    T: Indices<K> + Drop,
+    A: Allocator + Copy,
+    R: EntryRule<K, V>,
+> {
     pub(crate) state: Box<MapState<K, V, T, A>, A>,
     pub(crate) rule: PhantomData<R>,
 }
 
-impl<K: Drop, V, T: Places<K> + Drop, A: Allocator + Copy, R: EntryRule<K, V>> Fits
+impl<K: Drop, V, T: Indices<K> + Drop, A: Allocator + Copy, R: EntryRule<K, V>> Fits
     for Parked<K, V, T, A, R> {
     ghost use Rattle.elsa_cell.specs.Entries.{HoldsEach, IsMapOf};
 
@@ -121,7 +127,7 @@ impl<K: Drop, V, T: Places<K> + Drop, A: Allocator + Copy, R: EntryRule<K, V>> F
         × HoldsEach R.holds p.state.value.list.prefix.items };
 }
 
-impl<K: Drop, V, T: Places<K> + Drop, A: Allocator + Copy, R: EntryRule<K, V>> Parked<
+impl<K: Drop, V, T: Indices<K> + Drop, A: Allocator + Copy, R: EntryRule<K, V>> Parked<
     K,
     V,
     T,
@@ -143,7 +149,7 @@ impl<K: Drop, V, T: Places<K> + Drop, A: Allocator + Copy, R: EntryRule<K, V>> P
 ///
 /// # Errors
 /// Fails if an allocation fails.
-pub(crate) fn park<K: Drop, V, T: Places<K> + Drop, A: Allocator + Copy, R: EntryRule<K, V>>(
+pub(crate) fn park<K: Drop, V, T: Indices<K> + Drop, A: Allocator + Copy, R: EntryRule<K, V>>(
     alloc: A,
     state: MapState<K, V, T, A>,
     tag: &Tag,
@@ -158,7 +164,7 @@ pub(crate) fn park<K: Drop, V, T: Places<K> + Drop, A: Allocator + Copy, R: Entr
     Ok(Shared::new(Parked::of(state), tag))
 }
 
-impl<K: Drop, V, T: Places<K> + Drop, A: Allocator + Copy> MapState<K, V, T, A> {
+impl<K: Drop, V, T: Indices<K> + Drop, A: Allocator + Copy> MapState<K, V, T, A> {
     /// Returns the list, and drops the table.
     pub(crate) fn into_list(self) -> State<Entry<K, V>, A>
         ensures { result ≡ self.list }

@@ -9,14 +9,14 @@ ghost use Rattle.std.specs.Cmp.Lexicographic.{slice_cmp};
 ghost use Rattle.std.specs.Ordering.{eq_by_cmp, is_eq, nat_cmp};
 ghost use Rattle.std.specs.String.{string_bytes};
 ghost use Rattle.std.proofs.lemmas.Cmp.{lists_total, nat_list_cmp_total};
-ghost use Rattle.elsa_cell.specs.Ordered.{HasPlace, HasRoomAt, IsBetween, IsBlockGap, IsFilled, IsGreatest, IsInOrder, IsLeast, IsOrdered, IsTableFor, joined, rank_of};
+ghost use Rattle.elsa_cell.specs.Ordered.{HasPosition, HasRoomAt, IsBetween, IsBlockGap, IsFilled, IsGreatest, IsInOrder, IsLeast, IsOrdered, IsTableFor, joined, rank_of};
 ghost use Rattle.elsa_cell.specs.Queries.{equal_alike, higher_stays, lower_stays};
 
 use crate::map::{Entry, Frozen};
 use crate::map_handle::FrozenHandle;
 use crate::map_hold::FrozenHold;
 use crate::map_state::MOST;
-use crate::places::{KeyList, Places, Seeks};
+use crate::indices::{Indices, KeyList, Seeks};
 use elsa_arena::observed::Observed;
 use elsa_tables::{AnyEntries, EntryRule};
 use std::alloc::{AllocError, Allocator, Global};
@@ -156,7 +156,7 @@ fn block_of<K: Ord, Q: OrderQuery<K>, L: KeyList<K>, A: Allocator>(
 }
 
 /// Returns the index of the key that equals the query, or `Err` with the block in which it would
-/// be, and its place in the block.
+/// be, and its position in the block.
 fn search<K: Ord, Q: OrderQuery<K>, L: KeyList<K>, A: Allocator>(
     blocks: &[Vec<u32, A>],
     keys: &L,
@@ -201,15 +201,15 @@ pub struct Ordered<A: Allocator + Copy> {
 }
 
 /// Returns the number of indices that stay in a full block when it is split for an insertion at
-/// `place`.
-fn cut_of(place: usize, is_last: bool) -> usize
+/// `position`.
+fn cut_of(position: usize, is_last: bool) -> usize
     ensures { (0 < result) × (result < 256) }
 {
     // Ascending keys are inserted at the end of the last block, and descending ones at the start
     // of the first: these splits leave full blocks.
-    if place == 0 {
+    if position == 0 {
         1
-    } else if is_last && place == FULL {
+    } else if is_last && position == FULL {
         FULL - 1
     } else {
         FULL / 2
@@ -291,10 +291,10 @@ impl<A: Allocator + Copy> Ordered<A> {
         Ok((0, 0))
     }
 
-    /// Splits the full block `at` in two, and returns where an index for `place` in it goes.
-    fn split(&mut self, at: usize, place: usize) -> Result<(usize, usize), AllocError>
+    /// Splits the full block `at` in two, and returns where an index for `position` in it goes.
+    fn split(&mut self, at: usize, position: usize) -> Result<(usize, usize), AllocError>
         requires there { (b : _) × (slice_get self.old.blocks.items at ≡ Some b)
-            × (length b.items ≡ 256) × (place ≤ 256) }
+            × (length b.items ≡ 256) × (position ≤ 256) }
         ensures count { self.new.count ≡ self.old.count }
         ensures same { joined vec_items self.new.blocks.items
             ≡ joined vec_items self.old.blocks.items }
@@ -302,14 +302,14 @@ impl<A: Allocator + Copy> Ordered<A> {
             IsFilled vec_items self.new.blocks.items }
         ensures room { IfOk result (λ e. HasRoomAt vec_items vec_capacity self.new.blocks.items e
             × (rank_of vec_items self.new.blocks.items e.0 + e.1
-            ≡ rank_of vec_items self.old.blocks.items at + place)) }
+            ≡ rank_of vec_items self.old.blocks.items at + position)) }
     {
         self.blocks.reserve(1)?;
         let mut tail = self.new_block(FULL)?;
 
         // From here on nothing fails: both vectors have room.
         let next = at + 1;
-        let cut = cut_of(place, next == self.blocks.len());
+        let cut = cut_of(position, next == self.blocks.len());
         let block = &mut self.blocks[at];
         match tail.extend_from_slice(&block[cut..]) {
             Ok(()) => {}
@@ -320,14 +320,14 @@ impl<A: Allocator + Copy> Ordered<A> {
             Ok(()) => {}
             Err(_) => unreachable!(),
         }
-        if place <= cut {
-            return Ok((at, place));
+        if position <= cut {
+            return Ok((at, position));
         }
-        Ok((next, place - cut))
+        Ok((next, position - cut))
     }
 }
 
-impl<K: Ord, A: Allocator + Copy> Places<K> for Ordered<A> {
+impl<K: Ord, A: Allocator + Copy> Indices<K> for Ordered<A> {
     ghost use Rattle.std.specs.Prelude.{◌<◌, ◌-◌, ◌^◌, vec_capacity, vec_items};
     ghost use Rattle.std.specs.Cmp.{eq_by_cmp_equiv};
     ghost use Rattle.std.specs.Ordering.{eq_by_cmp};
@@ -357,9 +357,9 @@ impl<K: Ord, A: Allocator + Copy> Places<K> for Ordered<A> {
         if self.blocks.is_empty() {
             return self.open();
         }
-        let (at, place) = end;
+        let (at, position) = end;
         if self.blocks[at].len() == FULL {
-            return self.split(at, place);
+            return self.split(at, position);
         }
         self.blocks[at].reserve(1)?;
         Ok(end)
@@ -372,9 +372,9 @@ impl<K: Ord, A: Allocator + Copy> Places<K> for Ordered<A> {
     }
 
     fn add(&mut self, end: (usize, usize)) {
-        let (at, place) = end;
+        let (at, position) = end;
         let next = self.count as u32;
-        match self.blocks[at].insert(place, next) {
+        match self.blocks[at].insert(position, next) {
             Ok(()) => {}
             Err(_) => unreachable!(),
         }
@@ -403,7 +403,7 @@ impl<K: Ord, Q: OrderQuery<K>, A: Allocator + Copy> Seeks<K, Ordered<A>> for Q {
 /// has the entries in the ascending order of their keys.
 ///
 /// Keys need `Ord`, and two keys are equal if they compare as `Equal`. The index of an entry is its
-/// place in the order of insertion.
+/// position in the order of insertion.
 ///
 /// The table has 4 bytes for each key, in blocks of at most 256 keys. A look-up makes `O(log n)`
 /// comparisons. An insertion also moves at most 1 kB within a block. If the block is full, it is
@@ -457,7 +457,7 @@ impl<K: Ord + Drop, V: Drop, A: Allocator + Copy, R: EntryRule<K, V>> FrozenBTre
 pub struct Ascending<'h, 'm, K, V, A: Allocator + Copy = Global> {
     blocks: &'h [Vec<u32, A>],
     observed: Observed<'m, Entry<K, V>, A>,
-    /// The block of the next index, and its place in it.
+    /// The block of the next index, and its position in it.
     at: usize,
     next: usize,
     /// The number of indices that are left.
@@ -480,16 +480,16 @@ impl<'h, 'm, K, V, A: Allocator + Copy> Model for Ascending<'h, 'm, K, V, A> {
         × ((r i : ℕ) → slice_get (joined vec_items it.blocks.now) r ≡ Some i → i < length it.observed.seen) };
 }
 
-/// Returns the place after `place` of the block `at`, which has `len` places: the first one of the
-/// next block after its last one.
-fn next_place(at: usize, place: usize, len: usize) -> (usize, usize)
-    requires place { place < len }
+/// Returns the position after `position` of the block `at`, which has `len` positions: the first
+/// one of the next block after its last one.
+fn next_position(at: usize, position: usize, len: usize) -> (usize, usize)
+    requires position { position < len }
     requires fits { at + 1 < 2 ^ 64 }
-    ensures within { place + 1 < len → result ≡ (at, place + 1) }
-    ensures past { place + 1 ≡ len → result ≡ (at + 1, 0) }
+    ensures within { position + 1 < len → result ≡ (at, position + 1) }
+    ensures past { position + 1 ≡ len → result ≡ (at + 1, 0) }
 {
-    if place + 1 < len {
-        return (at, place + 1);
+    if position + 1 < len {
+        return (at, position + 1);
     }
     (at + 1, 0)
 }
@@ -507,7 +507,7 @@ impl<'h, 'm, K, V, A: Allocator + Copy> Iterator for Ascending<'h, 'm, K, V, A> 
         }
         let block = self.blocks[self.at].as_slice();
         let entry = self.observed.item(block[self.next] as usize);
-        let (at, next) = next_place(self.at, self.next, block.len());
+        let (at, next) = next_position(self.at, self.next, block.len());
         self.at = at;
         self.next = next;
         self.left -= 1;

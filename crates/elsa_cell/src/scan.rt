@@ -1,11 +1,11 @@
 //! [`scan`]: a search without the table, for a read inside another call that has the table.
 ghost use Rattle.std.specs.Prelude.{◌≡◌, length, position};
 
-use crate::places::{KeyList, Places, Seeks};
+use crate::indices::{Indices, KeyList, Seeks};
 
 /// Returns the index of the first of `count` keys that the query finds, or `None` if it finds none.
 /// It compares one key after the other and allocates nothing.
-pub(crate) fn scan<K, T: Places<K>, Q: Seeks<K, T>, L: KeyList<K>>(
+pub(crate) fn scan<K, T: Indices<K>, Q: Seeks<K, T>, L: KeyList<K>>(
     keys: &L,
     count: usize,
     query: Q,

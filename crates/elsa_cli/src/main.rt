@@ -45,7 +45,7 @@ fn intern(rt: &HostRuntime) -> ExitCode {
 struct Open;
 
 impl Gate for Open {
-    fn after(&self, _worker: usize, _place: usize) -> bool {
+    fn after(&self, _worker: usize, _index: usize) -> bool {
         true
     }
 }

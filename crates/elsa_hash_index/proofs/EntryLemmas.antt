@@ -13,11 +13,11 @@ use Rattle.elsa_hash_index.proofs.RowLemmas.{later_at, count_prefix, builder_pre
 use Rattle.elsa_hash_index.proofs.WordLemmas.{later_indexed}
 
 -- What is found by an observed history is found by a later one.
-pub seen_indexed : {S : Type 0} (xs ys : List (Event S)) (hash place : ℕ) → IsPrefix xs ys → IsIndexed (count_of xs) (λ k. word_at k xs) hash place → IsIndexed (count_of ys) (λ k. word_at k ys) hash place
-seen_indexed xs ys hash place p i =
+pub seen_indexed : {S : Type 0} (xs ys : List (Event S)) (hash index : ℕ) → IsPrefix xs ys → IsIndexed (count_of xs) (λ k. word_at k xs) hash index → IsIndexed (count_of ys) (λ k. word_at k ys) hash index
+seen_indexed xs ys hash index p i =
     let some : 0 < count_of xs = let h = i.within in omega (arith, h) in
-    subst (λ c. IsIndexed c (λ k. word_at k ys) hash place) (sym (count_prefix xs ys p some))
-    (later_indexed (count_of xs) (λ k. word_at k xs) (λ k. word_at k ys) hash place (later_at xs ys p) i)
+    subst (λ c. IsIndexed c (λ k. word_at k ys) hash index) (sym (count_prefix xs ys p some))
+    (later_indexed (count_of xs) (λ k. word_at k xs) (λ k. word_at k ys) hash index (later_at xs ys p) i)
 
 -- All items except the last one, and the last one.
 pub take_last : {A : Type 0} (xs : List A) (n : ℕ) (x : A) → length xs ≡ suc n → slice_get xs n ≡ Some x → take n xs ++ x ∷ [] ≡ xs

@@ -172,8 +172,8 @@ named_length b k (suc n) = let e = named_length b (suc k) n in omega (arith, e)
 pub named_more : (b : Book) (n k : ℕ) (xs : List Named) (w : Named) → xs ≡ named_from b 0 n → w ≡ named b k → k ≡ n → xs ++ w ∷ [] ≡ named_from b 0 (n + 1)
 named_more b n k xs w all one here =
     let e : suc n ≡ n + 1 = omega arith in
-    let place : k ≡ 0 + n = omega (arith, here) in
-    ap (λ (l : List Named). l ++ w ∷ []) all ∙ (ap (λ v. named_from b 0 n ++ v ∷ []) (one ∙ ap (named b) place) ∙ (sym (named_snoc b 0 n) ∙ ap (named_from b 0) e))
+    let index : k ≡ 0 + n = omega (arith, here) in
+    ap (λ (l : List Named). l ++ w ∷ []) all ∙ (ap (λ v. named_from b 0 n ++ v ∷ []) (one ∙ ap (named b) index) ∙ (sym (named_snoc b 0 n) ∙ ap (named_from b 0) e))
 
 -- A beginning of a beginning is one of the list.
 pub prefix_prefix : {A : Type 0} (xs ys zs : List A) → IsPrefix xs ys → IsPrefix ys zs → IsPrefix xs zs

@@ -60,8 +60,8 @@ pub later_goes_on : (count : ℕ) (f g : ℕ → ℕ) (hash step : ℕ) → IsLa
 later_goes_on count f g hash step later on k lt = let h = on k lt in let e = later (walk count hash k) h in omega (arith, e, h)
 
 -- An index that is found is still found later.
-pub later_indexed : (count : ℕ) (f g : ℕ → ℕ) (hash place : ℕ) → IsLater f g → IsIndexed count f hash place → IsIndexed count g hash place
-later_indexed count f g hash place later i = record {
+pub later_indexed : (count : ℕ) (f g : ℕ → ℕ) (hash index : ℕ) → IsLater f g → IsIndexed count f hash index → IsIndexed count g hash index
+later_indexed count f g hash index later i = record {
   step = i.step;
   within = i.within;
   tagged = later (walk count hash i.step) (let e = i.tagged in let pos = tag_positive hash in omega (arith, e, pos)) ∙ i.tagged;
@@ -72,11 +72,11 @@ later_indexed count f g hash place later i = record {
 -- M holds for each index that one of the first `step` index entries of a probe had, with the tag of
 -- the hash.
 abbrev pub Missed : ℕ → (ℕ → ℕ) → ℕ → (ℕ → Type 0) → ℕ → Type 0
-Missed count words hash M step = (k : ℕ) → k < step → (place : ℕ) → words (walk count hash k) ≡ tag_of hash → words (number_of count (walk count hash k)) ≡ place + 1 → M place
+Missed count words hash M step = (k : ℕ) → k < step → (index : ℕ) → words (walk count hash k) ≡ tag_of hash → words (number_of count (walk count hash k)) ≡ index + 1 → M index
 
 -- A probe that reaches 0 has passed each index that is entered under its hash.
-pub passed_at_zero : (count : ℕ) (words : ℕ → ℕ) (hash place step : ℕ) → words (walk count hash step) ≡ 0 → (i : IsIndexed count words hash place) → i.step < step
-passed_at_zero count words hash place step zero i = elim (cases_lt i.step step) [
+pub passed_at_zero : (count : ℕ) (words : ℕ → ℕ) (hash index step : ℕ) → words (walk count hash step) ≡ 0 → (i : IsIndexed count words hash index) → i.step < step
+passed_at_zero count words hash index step zero i = elim (cases_lt i.step step) [
   | inl lt ↦ lt
   | inr ge ↦ elim (cases_eq i.step step) [
     | inl same ↦ let e = i.tagged in let z = ap (λ n. words (walk count hash n)) same ∙ zero in let pos = tag_positive hash in absurd (omega (arith, e, z, pos))
@@ -93,21 +93,21 @@ zero_before f g i later zero = elim (cases_lt 0 (f i)) [
 
 -- So M holds for each of these indices, if a probe reaches 0 now or later.
 pub absent_at_zero : (count : ℕ) (before after : ℕ → ℕ) (hash step : ℕ) (M : ℕ → Type 0) → IsLater before after → after (walk count hash step) ≡ 0 → Missed count before hash M step
-    → (place : ℕ) → IsIndexed count before hash place → M place
-absent_at_zero count before after hash step M later zero missed place i =
-    missed i.step (passed_at_zero count before hash place step (zero_before before after (walk count hash step) later zero) i) place i.tagged i.there
+    → (index : ℕ) → IsIndexed count before hash index → M index
+absent_at_zero count before after hash step M later zero missed index i =
+    missed i.step (passed_at_zero count before hash index step (zero_before before after (walk count hash step) later zero) i) index i.tagged i.there
 
 -- M also holds for each of them if the probe reached all index entries.
 pub absent_at_end : (count : ℕ) (words : ℕ → ℕ) (hash step : ℕ) (M : ℕ → Type 0) → count ≤ step → Missed count words hash M step
-    → (place : ℕ) → IsIndexed count words hash place → M place
-absent_at_end count words hash step M all missed place i = missed i.step (let h = i.within in omega (arith, h)) place i.tagged i.there
+    → (index : ℕ) → IsIndexed count words hash index → M index
+absent_at_end count words hash step M all missed index i = missed i.step (let h = i.within in omega (arith, h)) index i.tagged i.there
 
 -- The probe passed another index entry.
 pub missed_more : (count : ℕ) (words : ℕ → ℕ) (hash step : ℕ) (M : ℕ → Type 0) → Missed count words hash M step
-    → ((place : ℕ) → words (walk count hash step) ≡ tag_of hash → words (number_of count (walk count hash step)) ≡ place + 1 → M place) → Missed count words hash M (step + 1)
-missed_more count words hash step M missed here k lt place tag there = elim (cases_eq k step) [
-  | inl same ↦ here place (ap (λ n. words (walk count hash n)) (sym same) ∙ tag) (ap (λ n. words (number_of count (walk count hash n))) (sym same) ∙ there)
-  | inr other ↦ missed k (omega arith) place tag there
+    → ((index : ℕ) → words (walk count hash step) ≡ tag_of hash → words (number_of count (walk count hash step)) ≡ index + 1 → M index) → Missed count words hash M (step + 1)
+missed_more count words hash step M missed here k lt index tag there = elim (cases_eq k step) [
+  | inl same ↦ here index (ap (λ n. words (walk count hash n)) (sym same) ∙ tag) (ap (λ n. words (number_of count (walk count hash n))) (sym same) ∙ there)
+  | inr other ↦ missed k (omega arith) index tag there
 ]
 
 -- Another index is entered, after the earlier ones.

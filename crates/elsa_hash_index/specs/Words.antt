@@ -42,11 +42,11 @@ IsLater before after = (i : ℕ) → 0 < before i → after i ≡ before i
 abbrev pub PassesFilled : ℕ → (ℕ → ℕ) → ℕ → ℕ → Type 0
 PassesFilled count words hash step = (k : ℕ) → k < step → 0 < words (walk count hash k)
 
--- A probe for the hash reaches the index entry of the index `place`: the hash's tag, and the number
+-- A probe for the hash reaches the index entry of `index`: the hash's tag, and the number
 -- that is 1 more than the index.
-pub record IsIndexed (count : ℕ) (words : ℕ → ℕ) (hash place : ℕ) : Type 0 where
+pub record IsIndexed (count : ℕ) (words : ℕ → ℕ) (hash index : ℕ) : Type 0 where
   pub step : ℕ
   pub within : step < count
   pub tagged : words (walk count hash step) ≡ tag_of hash
-  pub there : words (number_of count (walk count hash step)) ≡ place + 1
+  pub there : words (number_of count (walk count hash step)) ≡ index + 1
   pub goes_on : PassesFilled count words hash step

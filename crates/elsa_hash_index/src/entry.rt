@@ -30,20 +30,20 @@ pub trait Shelf<K: Eq + Drop, V: Drop, S: Copy + Drop, A: Allocator> {
     fn seen_len(&self) -> usize
         ensures { (result ≡ length (Self.seen self.now)) × (result < 2 ^ 32) };
 
-    /// Returns the observed entry at the index `place`.
-    fn item<'a>(&'a self, place: usize) -> &'a Entry<K, V, S>
-        requires { place < length (Self.seen self.now) }
-        ensures { slice_get (Self.seen self.now) place ≡ Some result.now };
+    /// Returns the observed entry at `index`.
+    fn item<'a>(&'a self, index: usize) -> &'a Entry<K, V, S>
+        requires { index < length (Self.seen self.now) }
+        ensures { slice_get (Self.seen self.now) index ≡ Some result.now };
 
     /// Shows that each entry was new to the entries before it, and that its evidence finds all
     /// their keys and its own. It does nothing when it runs.
     fn obeys_rule(&self)
         ensures { EachIsNew (IsBehind K.eq Self.hash) (Self.seen self.now) };
 
-    /// Returns the row of the observed entry at the index `place`.
-    fn row<'a>(&'a self, place: usize) -> &'a Row<S, A>
-        requires { place < length (Self.seen self.now) }
-        ensures { (e : Entry K V S) → slice_get (Self.seen self.now) place ≡ Some e →
+    /// Returns the row of the observed entry at `index`.
+    fn row<'a>(&'a self, index: usize) -> &'a Row<S, A>
+        requires { index < length (Self.seen self.now) }
+        ensures { (e : Entry K V S) → slice_get (Self.seen self.now) index ≡ Some e →
             e.seen.book ≡ result.now.first.book };
 
     /// Returns the hash of a key, by the hasher that the builder makes.
@@ -95,11 +95,11 @@ pub fn lookup<
     let mut view = RowView::of(list.row(n - 1), &last.seen);
     let builder = view.builder();
     let hash = sought.hash_of(builder);
-    let is_it = |place|
-        requires { place < length (L.seen list.now) }
-        ensures { (x : Entry K V S) → slice_get (L.seen list.entry.now) place ≡ Some x →
+    let is_it = |index|
+        requires { index < length (L.seen list.now) }
+        ensures { (x : Entry K V S) → slice_get (L.seen list.entry.now) index ≡ Some x →
             result ≡ Q.stands_for sought.entry.now x.key }
-    { sought.stands_for(&list.item(place).key) };
+    { sought.stands_for(&list.item(index).key) };
     find(&mut view, hash, n, is_it)
 }
 
@@ -167,11 +167,11 @@ pub fn regrown<K: Eq + Drop, V: Drop, S: Copy + Drop, A: Allocator + Copy, L: Sh
     let n = list.seen_len();
     let row = Row::new(alloc, count, builder)?;
     let mut view = row.view();
-    let hash_at = |place|
-        requires { place < length (L.seen list.now) }
-        ensures { (x : Entry K V S) → slice_get (L.seen list.entry.now) place ≡ Some x →
+    let hash_at = |index|
+        requires { index < length (L.seen list.now) }
+        ensures { (x : Entry K V S) → slice_get (L.seen list.entry.now) index ≡ Some x →
             result ≡ L.hash builder x.key }
-    { list.hash_of(builder, &list.item(place).key) };
+    { list.hash_of(builder, &list.item(index).key) };
     enter_all(&mut view, n, hash_at)?;
     enter(&mut view, list.hash_of(builder, key), n)?;
     let seen = view.into_seen();

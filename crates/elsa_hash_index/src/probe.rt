@@ -107,7 +107,7 @@ pub fn find<S, W: Words<S>, F: Fn(usize) -> bool>(
 ) -> Option<usize>
     // `is_it` may be called for each index below `n`.
     requires limit { n < 2 ^ 32 }
-    requires callable { (place : ℕ) → place < n → F.pre is_it place }
+    requires callable { (index : ℕ) → index < n → F.pre is_it index }
 
     // The index entries are as observed before, or set since.
     ensures same { (W.count words.new ≡ W.count words.old) × (W.whose words.new ≡ W.whose words.old) }
@@ -145,11 +145,11 @@ pub fn find<S, W: Words<S>, F: Fn(usize) -> bool>(
 /// # Errors
 /// Fails if no tag of the row is 0. It may also fail if other threads set tags or numbers of the
 /// same words meanwhile.
-pub fn enter<S, W: Words<S>>(words: &mut W, hash: u32, place: usize) -> Result<(), AllocError>
-    requires limit { place + 1 < 2 ^ 32 }
+pub fn enter<S, W: Words<S>>(words: &mut W, hash: u32, index: usize) -> Result<(), AllocError>
+    requires limit { index + 1 < 2 ^ 32 }
     ensures same { (W.count words.new ≡ W.count words.old) × (W.whose words.new ≡ W.whose words.old) }
     ensures later { IsLater (W.known words.old) (W.known words.new) }
-    ensures entered { OnOk result (IsIndexed (W.count words.new) (W.known words.new) hash place) }
+    ensures entered { OnOk result (IsIndexed (W.count words.new) (W.known words.new) hash index) }
 {
     let count = words.len();
     let tag = tagged(hash);
@@ -159,7 +159,7 @@ pub fn enter<S, W: Words<S>>(words: &mut W, hash: u32, place: usize) -> Result<(
             // The processor fetches both words at the same time.
             if words.number(at) == 0 && words.set_tag(at, tag) {
                 // From here on a reader that finds the tag and no number continues with the next.
-                if words.set_number(at, place as u64 + 1) {
+                if words.set_number(at, index as u64 + 1) {
                     return Ok(());
                 }
                 return Err(AllocError);
@@ -184,22 +184,22 @@ pub fn enter_all<S, W: Words<S>, H: Fn(usize) -> u32>(
     hash_of: H,
 ) -> Result<(), AllocError>
     requires limit { n < 2 ^ 32 }
-    requires callable { (place : ℕ) → place < n → H.pre hash_of place }
+    requires callable { (index : ℕ) → index < n → H.pre hash_of index }
     ensures same { (W.count words.new ≡ W.count words.old) × (W.whose words.new ≡ W.whose words.old) }
     ensures later { IsLater (W.known words.old) (W.known words.new) }
     ensures entered { OnOk result ((p : ℕ) → p < n → (h : ℕ) × H.post hash_of p h ×
         IsIndexed (W.count words.new) (W.known words.new) h p) }
 {
     let count = words.len();
-    for place in 0..n {
-        if place % AHEAD == 0 && 0 < count {
-            for next in place..n.min(place + AHEAD) {
+    for index in 0..n {
+        if index % AHEAD == 0 && 0 < count {
+            for next in index..n.min(index + AHEAD) {
                 let at = walked(count, hash_of(next), 0);
                 words.tag(at);
                 words.number(at);
             }
         }
-        enter(words, hash_of(place), place)?;
+        enter(words, hash_of(index), index)?;
     }
     Ok(())
 }

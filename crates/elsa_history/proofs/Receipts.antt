@@ -10,7 +10,7 @@ use Rattle.std.proofs.lemmas.List.Sums.{get_or-le-sum_by, sum_by-le, sum_by-set,
 use Rattle.std.proofs.lemmas.Option.{get_or_from_slice_get, slice_get-get_or, slice_get_within}
 use Rattle.std.proofs.Math.ListN.{get_or-append}
 use Rattle.std.proofs.Math.Seq.{get_or-append_seam}
-use Rattle.elsa_history.specs.Receipts.{receipts_for, receipts_at, Rises, IsCall, IsAtPlace, AreOf, EndsElsewhere, IsTakenFrom}
+use Rattle.elsa_history.specs.Receipts.{receipts_for, receipts_at, Rises, IsCall, IsAtIndex, AreOf, EndsElsewhere, IsTakenFrom}
 
 -- ---- lists
 all_front : {X : Type 0} (P : X → Type 0) (xs ys : List X) → All P (xs ++ ys) → All P xs
@@ -80,7 +80,7 @@ none_for n m rs next rises below ends = sum_zero _ rs (λ k d lt.
 
 -- ---- receipts of a history and of one with another entry
 -- They are for indices of the history.
-pub each_below : {C R : Type 0} (eqc : C → C → Bool) (eqr : R → R → Bool) (es : List (ℕ × C × R)) (ps : List (ℕ × List (ℕ × C × R))) → All (λ p. All (IsAtPlace eqc eqr es p.0) p.1) ps → All (λ p. All (λ r. r.0 < length es) p.1) ps
+pub each_below : {C R : Type 0} (eqc : C → C → Bool) (eqr : R → R → Bool) (es : List (ℕ × C × R)) (ps : List (ℕ × List (ℕ × C × R))) → All (λ p. All (IsAtIndex eqc eqr es p.0) p.1) ps → All (λ p. All (λ r. r.0 < length es) p.1) ps
 each_below eqc eqr es ps h k d lt j c less = get_within _ es (get_or (get_or ps k d).1 j c).0 (h k d lt j c less)
 
 module _ {C R : Type 0} (eqc : C → C → Bool) (eqr : R → R → Bool) (es : List (ℕ × C × R)) (e : ℕ × C × R) where
@@ -90,13 +90,13 @@ module _ {C R : Type 0} (eqc : C → C → Bool) (eqr : R → R → Bool) (es : 
   one_longer : length longer ≡ length es + 1
   one_longer = length-append es (e ∷ [])
 
-  each_more : (ps : List (ℕ × List (ℕ × C × R))) → All (λ p. All (IsAtPlace eqc eqr es p.0) p.1) ps → All (λ p. All (IsAtPlace eqc eqr longer p.0) p.1) ps
+  each_more : (ps : List (ℕ × List (ℕ × C × R))) → All (λ p. All (IsAtIndex eqc eqr es p.0) p.1) ps → All (λ p. All (IsAtIndex eqc eqr longer p.0) p.1) ps
   each_more ps h k d lt j c less =
       let n = (get_or ps k d).0 in let r = get_or (get_or ps k d).1 j c in
       subst (λ o. IsSomeAnd o (IsCall eqc eqr n r)) (sym (get_less es (e ∷ []) r.0 (each_below eqc eqr es ps h k d lt j c less))) (h k d lt j c less)
 
   -- If none is for the last entry, they belong to the shorter history.
-  each_less : (ps : List (ℕ × List (ℕ × C × R))) → receipts_at (length es) ps ≡ 0 → All (λ p. All (IsAtPlace eqc eqr longer p.0) p.1) ps → All (λ p. All (IsAtPlace eqc eqr es p.0) p.1) ps
+  each_less : (ps : List (ℕ × List (ℕ × C × R))) → receipts_at (length es) ps ≡ 0 → All (λ p. All (IsAtIndex eqc eqr longer p.0) p.1) ps → All (λ p. All (IsAtIndex eqc eqr es p.0) p.1) ps
   each_less ps none h k d lt j c less =
       let n = (get_or ps k d).0 in let r = get_or (get_or ps k d).1 j c in
       let inside = get_within _ longer r.0 (h k d lt j c less) in
@@ -149,17 +149,17 @@ module _ {C R : Type 0} (eqc : C → C → Bool) (eqr : R → R → Bool) (es : 
     -- Without the receipt the passes belong to the shorter history, and the receipt is the entry's.
     of_less : AreOf eqc eqr ps longer → AreOf eqc eqr left es × IsCall eqc eqr q.0 last e
     of_less a =
-        let mine : All (IsAtPlace eqc eqr longer q.0) p.1 = subst (λ pass. All (IsAtPlace eqc eqr longer pass.0) pass.1) (stands p) (a.right i p inside) in
+        let mine : All (IsAtIndex eqc eqr longer q.0) p.1 = subst (λ pass. All (IsAtIndex eqc eqr longer pass.0) pass.1) (stands p) (a.right i p inside) in
         let rise : Rises p.1 = subst (λ pass. Rises pass.1) (stands p) (a.rising i p inside) in
         let once = a.once (length es) in
         let none : receipts_at (length es) left ≡ 0 = omega (arith, counted (length es), once, test_at (length es) (length es) refl) in
-        let its : IsAtPlace eqc eqr longer q.0 (get_or p.1 (length q.1) last) = mine (length q.1) last (omega (arith, length-append q.1 (last ∷ []))) in (
+        let its : IsAtIndex eqc eqr longer q.0 (get_or p.1 (length q.1) last) = mine (length q.1) last (omega (arith, length-append q.1 (last ∷ []))) in (
           record {
             once = λ k. let most = a.once k in omega (arith, counted k, most);
-            right = each_less left none (All-set (λ pass. All (IsAtPlace eqc eqr longer pass.0) pass.1) ps i q (all_front (IsAtPlace eqc eqr longer q.0) q.1 (last ∷ []) mine) a.right);
+            right = each_less left none (All-set (λ pass. All (IsAtIndex eqc eqr longer pass.0) pass.1) ps i q (all_front (IsAtIndex eqc eqr longer q.0) q.1 (last ∷ []) mine) a.right);
             rising = All-set (λ pass. Rises pass.1) ps i q (rises_front q.1 last rise) a.rising;
           },
-          subst (λ o. IsSomeAnd o (IsCall eqc eqr q.0 last)) (get_last es e) (subst (IsAtPlace eqc eqr longer q.0) (get_or-append_seam q.1 last [] last) its),
+          subst (λ o. IsSomeAnd o (IsCall eqc eqr q.0 last)) (get_last es e) (subst (IsAtIndex eqc eqr longer q.0) (get_or-append_seam q.1 last [] last) its),
         )
 
     -- With the receipt, if it is the entry's, they belong to the longer history.
@@ -169,7 +169,7 @@ module _ {C R : Type 0} (eqc : C → C → Bool) (eqr : R → R → Bool) (es : 
         let more = each_more left a.right in
         let low = each_below eqc eqr es left a.right in
         let q_stands : get_or left i q ≡ q = get_or-set_same ps i q q inside in
-        let mine : All (IsAtPlace eqc eqr longer q.0) q.1 = subst (λ pass. All (IsAtPlace eqc eqr longer pass.0) pass.1) q_stands (more i q within) in
+        let mine : All (IsAtIndex eqc eqr longer q.0) q.1 = subst (λ pass. All (IsAtIndex eqc eqr longer pass.0) pass.1) q_stands (more i q within) in
         let rise : Rises q.1 = subst (λ pass. Rises pass.1) q_stands (a.rising i q within) in
         let below : All (λ s. s.0 < length es) q.1 = subst (λ pass. All (λ s. s.0 < length es) pass.1) q_stands (low i q within) in
         let none : receipts_at (length es) left ≡ 0 = sum_zero _ left (λ k d lt. sum_zero _ (get_or left k d).1 (λ j c less. let under = low k d lt j c less in test_off _ (length es) (omega (arith, under)))) in
@@ -178,7 +178,7 @@ module _ {C R : Type 0} (eqc : C → C → Bool) (eqr : R → R → Bool) (es : 
             | inl same ↦ subst (λ n. receipts_at n ps ≤ 1) (sym same) (omega (arith, counted (length es), none, test_at (length es) (length es) refl))
             | inr other ↦ let most = a.once k in omega (arith, counted k, most, test_off (length es) k (λ is. other (sym is)))
           ];
-          right = all_back (λ pass. All (IsAtPlace eqc eqr longer pass.0) pass.1) more (All-push (IsAtPlace eqc eqr longer q.0) q.1 last mine (subst (λ o. IsSomeAnd o (IsCall eqc eqr q.0 last)) (sym (get_last es e)) call));
+          right = all_back (λ pass. All (IsAtIndex eqc eqr longer pass.0) pass.1) more (All-push (IsAtIndex eqc eqr longer q.0) q.1 last mine (subst (λ o. IsSomeAnd o (IsCall eqc eqr q.0 last)) (sym (get_last es e)) call));
           rising = all_back (λ pass. Rises pass.1) a.rising (all_pairs_push (λ s u. s.0 < u.0) q.1 last rise below);
         }
 
@@ -189,11 +189,11 @@ pub taken_last : {C R : Type 0} (eqc : C → C → Bool) (eqr : R → R → Bool
     → slice_get ps i ≡ Some p → IsTakenFrom n r p q → (es : List (ℕ × C × R)) → length es ≡ n
     → (IsCall eqc eqr q.0 (n, r.0, r.1) e → AreOf eqc eqr (set ps i q) es ↔ AreOf eqc eqr ps (es ++ e ∷ [])) × ((IsCall eqc eqr q.0 (n, r.0, r.1) e → ⊥) → AreOf eqc eqr ps (es ++ e ∷ []) → ⊥)
 taken_last eqc eqr ps i p q n r e at (number, receipts) es is =
-    let place : (n, r.0, r.1) ≡ (length es, r.0, r.1) = ap (λ m. (m, r.0, r.1)) (sym is) in
-    let whole : p ≡ (q.0, q.1 ++ (length es, r.0, r.1) ∷ []) = ap (λ m. (m, p.1)) number ∙ ap (λ rs. (q.0, rs)) (receipts ∙ ap (λ s. q.1 ++ s ∷ []) place) in
+    let index : (n, r.0, r.1) ≡ (length es, r.0, r.1) = ap (λ m. (m, r.0, r.1)) (sym is) in
+    let whole : p ≡ (q.0, q.1 ++ (length es, r.0, r.1) ∷ []) = ap (λ m. (m, p.1)) number ∙ ap (λ rs. (q.0, rs)) (receipts ∙ ap (λ s. q.1 ++ s ∷ []) index) in
     let now = at ∙ ap Some whole in (
-      (λ call. (of_more eqc eqr es e ps i q r now (subst (λ s. IsCall eqc eqr q.0 s e) place call), (λ b. (of_less eqc eqr es e ps i q r now b).0))),
-      (λ other b. other (subst (λ s. IsCall eqc eqr q.0 s e) (sym place) (of_less eqc eqr es e ps i q r now b).1)),
+      (λ call. (of_more eqc eqr es e ps i q r now (subst (λ s. IsCall eqc eqr q.0 s e) index call), (λ b. (of_less eqc eqr es e ps i q r now b).0))),
+      (λ other b. other (subst (λ s. IsCall eqc eqr q.0 s e) (sym index) (of_less eqc eqr es e ps i q r now b).1)),
     )
 
 -- ---- no entries
@@ -201,7 +201,7 @@ taken_last eqc eqr ps i p q n r e at (number, receipts) es is =
 pub of_nil : {C R : Type 0} (eqc : C → C → Bool) (eqr : R → R → Bool) (ps : List (ℕ × List (ℕ × C × R))) → All (λ p. p.1 ≡ []) ps → AreOf eqc eqr ps []
 of_nil {C} {R} eqc eqr ps h = record {
   once = λ i. let z : receipts_at i ps ≡ 0 = sum_zero _ ps (λ k d lt. ap (receipts_for i) (h k d lt)) in omega (arith, z);
-  right = λ k d lt. subst (All (IsAtPlace eqc eqr [] (get_or ps k d).0)) (sym (h k d lt)) (All-nil _);
+  right = λ k d lt. subst (All (IsAtIndex eqc eqr [] (get_or ps k d).0)) (sym (h k d lt)) (All-nil _);
   rising = λ k d lt. subst Rises (sym (h k d lt)) (λ i j c before within. absurd (omega (arith, within)));
 }
 
@@ -209,6 +209,6 @@ of_nil {C} {R} eqc eqr ps h = record {
 pub none_of_nil : {C R : Type 0} (eqc : C → C → Bool) (eqr : R → R → Bool) (ps : List (ℕ × List (ℕ × C × R))) → AreOf eqc eqr ps [] → All (λ p. p.1 ≡ []) ps
 none_of_nil {C} {R} eqc eqr ps a k d lt = by (get_or ps k d).1 (a.right k d lt)
   where
-    by : (rs : List (ℕ × C × R)) → All (IsAtPlace eqc eqr [] (get_or ps k d).0) rs → rs ≡ []
+    by : (rs : List (ℕ × C × R)) → All (IsAtIndex eqc eqr [] (get_or ps k d).0) rs → rs ≡ []
     by [] h = refl
     by (r ∷ rs) h = absurd (h 0 r (omega arith))

@@ -5,13 +5,13 @@
 -- agrees with the entry at its index, and each caller's receipts are in the order of the history.
 use Rattle.std.specs.Prelude.{◌≡◌, ◌-◌, ◌<◌, ◌≤◌, ◌==◌, ◌≢◌, ℕ, Bool, true, List, [], ◌∷◌, ◌++◌, All, AllPairs, count_by, length, slice_get, sum_by, Some, IfSome, IsSomeAnd}
 
--- The number of a pass's receipts for the index `place`.
+-- The number of a pass's receipts for `index`.
 abbrev pub receipts_for : {C R : Type 0} → ℕ → List (ℕ × C × R) → ℕ
-receipts_for place receipts = count_by (λ receipt. receipt.0 == place) receipts
+receipts_for index receipts = count_by (λ receipt. receipt.0 == index) receipts
 
--- The number of receipts of all passes for the index `place`.
+-- The number of receipts of all passes for `index`.
 abbrev pub receipts_at : {C R : Type 0} → ℕ → List (ℕ × List (ℕ × C × R)) → ℕ
-receipts_at place passes = sum_by (λ pass. receipts_for place pass.1) passes
+receipts_at index passes = sum_by (λ pass. receipts_for index pass.1) passes
 
 -- The number of receipts of all passes: one for each call that succeeded.
 abbrev pub receipt_count : {C R : Type 0} → List (ℕ × List (ℕ × C × R)) → ℕ
@@ -29,40 +29,40 @@ pub record IsCall {C R : Type 0} (eqc : C → C → Bool) (eqr : R → R → Boo
   pub reply : eqr receipt.2 entry.2 ≡ true
 
 -- The history has the receipt's call at the receipt's index.
-abbrev pub IsAtPlace : {C R : Type 0} → (C → C → Bool) → (R → R → Bool) → List (ℕ × C × R) → ℕ → ℕ × C × R → Type 0
-IsAtPlace eqc eqr history number receipt = IsSomeAnd (slice_get history receipt.0) (IsCall eqc eqr number receipt)
+abbrev pub IsAtIndex : {C R : Type 0} → (C → C → Bool) → (R → R → Bool) → List (ℕ × C × R) → ℕ → ℕ × C × R → Type 0
+IsAtIndex eqc eqr history number receipt = IsSomeAnd (slice_get history receipt.0) (IsCall eqc eqr number receipt)
 
 -- The receipts of the passes are the history: each entry has one receipt, each receipt agrees with
 -- the entry at its index, and the indices increase within each pass.
 pub record AreReceipts {C R : Type 0} (eqc : C → C → Bool) (eqr : R → R → Bool) (passes : List (ℕ × List (ℕ × C × R))) (history : List (ℕ × C × R)) : Type 0 where
-  pub once : (place : ℕ) → place < length history → receipts_at place passes ≡ 1
-  pub right : All (λ pass. All (IsAtPlace eqc eqr history pass.0) pass.1) passes
+  pub once : (index : ℕ) → index < length history → receipts_at index passes ≡ 1
+  pub right : All (λ pass. All (IsAtIndex eqc eqr history pass.0) pass.1) passes
   pub rising : All (λ pass. Rises pass.1) passes
 
 -- The receipts of the passes belong to the history: each agrees with the entry at its index, no
 -- index has two receipts, and the indices increase within each pass.
 pub record AreOf {C R : Type 0} (eqc : C → C → Bool) (eqr : R → R → Bool) (passes : List (ℕ × List (ℕ × C × R))) (history : List (ℕ × C × R)) : Type 0 where
-  pub once : (place : ℕ) → receipts_at place passes ≤ 1
-  pub right : All (λ pass. All (IsAtPlace eqc eqr history pass.0) pass.1) passes
+  pub once : (index : ℕ) → receipts_at index passes ≤ 1
+  pub right : All (λ pass. All (IsAtIndex eqc eqr history pass.0) pass.1) passes
   pub rising : All (λ pass. Rises pass.1) passes
 
 -- An entry of the history has no receipt.
 abbrev pub LacksAReceipt : {C R : Type 0} → List (ℕ × List (ℕ × C × R)) → List (ℕ × C × R) → Type 0
-LacksAReceipt passes history = (place : ℕ) × (place < length history) × (receipts_at place passes ≡ 0)
+LacksAReceipt passes history = (index : ℕ) × (index < length history) × (receipts_at index passes ≡ 0)
 
 -- The history is one call of that command by that caller.
 abbrev pub IsOneCall : {C R : Type 0} → (C → C → Bool) → (R → R → Bool) → ℕ → C → List (ℕ × C × R) → Type 0
-IsOneCall {C} {R} eqc eqr caller command history = (place : ℕ) × (reply : R) × AreReceipts eqc eqr ((caller, (place, command, reply) ∷ []) ∷ []) history
+IsOneCall {C} {R} eqc eqr caller command history = (index : ℕ) × (reply : R) × AreReceipts eqc eqr ((caller, (index, command, reply) ∷ []) ∷ []) history
 
 -- The pass has no receipt, or its last one is for another index.
 abbrev pub EndsElsewhere : {C R : Type 0} → ℕ → List (ℕ × C × R) → Type 0
-EndsElsewhere place receipts = IfSome (slice_get receipts (length receipts - 1)) (λ last. last.0 ≢ place)
+EndsElsewhere index receipts = IfSome (slice_get receipts (length receipts - 1)) (λ last. last.0 ≢ index)
 
--- The new pass is the old one without its last receipt, which was for the index `place` and had
+-- The new pass is the old one without its last receipt, which was for `index` and had
 -- that command and reply.
 abbrev pub IsTakenFrom : {C R : Type 0} → ℕ → C × R → ℕ × List (ℕ × C × R) → ℕ × List (ℕ × C × R) → Type 0
-IsTakenFrom place call old new = (old.0 ≡ new.0) × (old.1 ≡ new.1 ++ (place, call.0, call.1) ∷ [])
+IsTakenFrom index call old new = (old.0 ≡ new.0) × (old.1 ≡ new.1 ++ (index, call.0, call.1) ∷ [])
 
 -- If the list has the number `nobody` at an index, no pass has a receipt for that index.
 abbrev pub KnowsWhoLacks : {C R : Type 0} → ℕ → List ℕ → List (ℕ × List (ℕ × C × R)) → Type 0
-KnowsWhoLacks nobody owners passes = (place : ℕ) → slice_get owners place ≡ Some nobody → receipts_at place passes ≡ 0
+KnowsWhoLacks nobody owners passes = (index : ℕ) → slice_get owners index ≡ Some nobody → receipts_at index passes ≡ 0

@@ -8,7 +8,7 @@ use Rattle.elsa_history.specs.declared.vec_core.VecReply.TheVariants.{Place, Fou
 
 -- The command, with this reply, leads from the list `old` to the list `new`.
 abbrev pub VecStep : {V : Type 0} → List V → VecCommand V → VecReply V → List V → Type 0
-VecStep old (Push value) (Place place) new = (new ≡ old ++ value ∷ []) × (place ≡ length old)
-VecStep old (Get place) (Found answer) new = (new ≡ old) × (answer ≡ slice_get old place)
+VecStep old (Push value) (Place index) new = (new ≡ old ++ value ∷ []) × (index ≡ length old)
+VecStep old (Get index) (Found answer) new = (new ≡ old) × (answer ≡ slice_get old index)
 VecStep old Len (Count count) new = (new ≡ old) × (count ≡ length old)
 VecStep old _ _ new = ⊥

@@ -98,7 +98,7 @@ impl<C: Core, A: Allocator + Copy, S: Start<C>> History<C, A, S> {
         command: C::Command,
     ) -> Result<(usize, C::Reply), AllocError>
         // The entry is appended, and its command and reply are a step of the object.
-        ensures place { IfOk result (λ r. r.0 ≡ length self.old.1) }
+        ensures index { IfOk result (λ r. r.0 ≡ length self.old.1) }
         ensures stored { IfOk result (λ r. self.new.1 ≡ self.old.1 ++ (number, command, r.1) ∷ []) }
         ensures recorded { IfOk result (λ r.
             IsRecorded C.steps (S.start C.state C.opening) r.0
@@ -112,8 +112,8 @@ impl<C: Core, A: Allocator + Copy, S: Start<C>> History<C, A, S> {
     {
         self.entries.reserve(1)?;
         let reply = self.core.apply(command)?;
-        let place = self.entries.len();
+        let index = self.entries.len();
         let _ = self.entries.push((number, command, reply));
-        Ok((place, reply))
+        Ok((index, reply))
     }
 }

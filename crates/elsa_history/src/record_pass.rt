@@ -64,14 +64,14 @@ impl<C: Core, A: Allocator + Copy> RecordPass<C, A> {
         command: C::Command,
     ) -> Result<C::Reply, AllocError>
         ensures recorded { IfOk result (λ reply.
-            (place : ℕ) × (self.new ≡ (self.old.0, self.old.1 ++ (place, command, reply) ∷ []))
-            × IsRecorded C.steps (S.start C.state C.opening) place
+            (index : ℕ) × (self.new ≡ (self.old.0, self.old.1 ++ (index, command, reply) ∷ []))
+            × IsRecorded C.steps (S.start C.state C.opening) index
             (self.old.0, command, reply)) }
         ensures refused { OnErr result (self.new ≡ self.old) }
     {
         self.receipts.reserve(1)?;
-        let (place, reply) = lock.write(rt).record(self.number, command)?;
-        let _ = self.receipts.push((place, command, reply));
+        let (index, reply) = lock.write(rt).record(self.number, command)?;
+        let _ = self.receipts.push((index, command, reply));
         Ok(reply)
     }
 
@@ -83,26 +83,26 @@ impl<C: Core, A: Allocator + Copy> RecordPass<C, A> {
         self.receipts.is_empty()
     }
 
-    /// Returns whether the last receipt is for the index `place`.
-    fn ends_at(&self, place: usize) -> bool
-        ensures when_true { result ≡ true → EndsElsewhere place self.now.1 → ⊥ }
-        ensures when_false { result ≡ false → EndsElsewhere place self.now.1 }
+    /// Returns whether the last receipt is for `index`.
+    fn ends_at(&self, index: usize) -> bool
+        ensures when_true { result ≡ true → EndsElsewhere index self.now.1 → ⊥ }
+        ensures when_false { result ≡ false → EndsElsewhere index self.now.1 }
     {
         match self.receipts.last() {
-            Some(last) => last.0 == place,
+            Some(last) => last.0 == index,
             None => false,
         }
     }
 
-    /// Removes and returns the last receipt, if it is for the index `place`.
-    fn take_last(&mut self, place: usize) -> Option<(C::Command, C::Reply)>
-        ensures { MatchOption result ((self.new ≡ self.old) × EndsElsewhere place self.old.1) (
-            λ call. IsTakenFrom place call self.old self.new) }
+    /// Removes and returns the last receipt, if it is for `index`.
+    fn take_last(&mut self, index: usize) -> Option<(C::Command, C::Reply)>
+        ensures { MatchOption result ((self.new ≡ self.old) × EndsElsewhere index self.old.1) (
+            λ call. IsTakenFrom index call self.old self.new) }
     {
         let Some(last) = self.receipts.last() else {
             return None;
         };
-        if last.0 != place {
+        if last.0 != index {
             return None;
         }
         match self.receipts.pop() {
@@ -115,14 +115,14 @@ impl<C: Core, A: Allocator + Copy> RecordPass<C, A> {
 /// Returns whether the call is that of the entry.
 fn is_call<C: Core>(
     number: u64,
-    place: usize,
+    index: usize,
     call: (C::Command, C::Reply),
     entry: &(u64, C::Command, C::Reply),
 ) -> bool
     ensures same { result ≡ true →
-        IsCall C.Command.eq C.Reply.eq number (place, call.0, call.1) entry.now }
+        IsCall C.Command.eq C.Reply.eq number (index, call.0, call.1) entry.now }
     ensures other { result ≡ false →
-        IsCall C.Command.eq C.Reply.eq number (place, call.0, call.1) entry.now → ⊥ }
+        IsCall C.Command.eq C.Reply.eq number (index, call.0, call.1) entry.now → ⊥ }
 {
     if entry.0 != number {
         return false;
@@ -147,49 +147,49 @@ enum Found {
     Wrong,
 }
 
-/// Returns the pass whose last receipt is for the index `place`, the last index that remains.
+/// Returns the pass whose last receipt is for `index`, the last index that remains.
 ///
 /// The recorded owner is tried first. The others are tried one by one only if the owner doesn't end
 /// at that index, or if no owners were recorded because an allocation failed.
 fn find_pass<C: Core, A: Allocator + Copy>(
     passes: &Vec<RecordPass<C, A>, A>,
     owner: Option<usize>,
-    place: usize,
+    index: usize,
 ) -> Option<usize>
-    requires { owner ≡ Some NOBODY → receipts_at place passes.now.items ≡ 0 }
+    requires { owner ≡ Some NOBODY → receipts_at index passes.now.items ≡ 0 }
     ensures found { IfSome result (λ i. IsSomeAnd (slice_get passes.now.items i) (λ pass.
-        EndsElsewhere place pass.1 → ⊥)) }
-    ensures nowhere { IfNone result (All (λ pass. EndsElsewhere place pass.1) passes.now.items) }
+        EndsElsewhere index pass.1 → ⊥)) }
+    ensures nowhere { IfNone result (All (λ pass. EndsElsewhere index pass.1) passes.now.items) }
 {
     if let Some(owner) = owner {
         if owner == NOBODY {
             return None;
         }
-        if owner < passes.len() && passes[owner].ends_at(place) {
+        if owner < passes.len() && passes[owner].ends_at(index) {
             return Some(owner);
         }
     }
     for i in 0..passes.len() {
-        if passes[i].ends_at(place) {
+        if passes[i].ends_at(index) {
             return Some(i);
         }
     }
     None
 }
 
-/// Removes the receipt of the entry at the index `place`, the last entry that remains, from the
+/// Removes the receipt of the entry at `index`, the last entry that remains, from the
 /// pass that has it.
 fn take_receipt<C: Core, A: Allocator + Copy>(
     passes: &mut Vec<RecordPass<C, A>, A>,
     owner: Option<usize>,
-    place: usize,
+    index: usize,
     entry: &(u64, C::Command, C::Reply),
 ) -> Found
-    requires { owner ≡ Some NOBODY → receipts_at place passes.old.items ≡ 0 }
+    requires { owner ≡ Some NOBODY → receipts_at index passes.old.items ≡ 0 }
 
     // The receipt was removed, and nothing else.
     ensures taken { result ≡ Found.Taken → (before : List (ℕ × C.Command × C.Reply)) →
-        length before ≡ place →
+        length before ≡ index →
         (AreOf C.Command.eq C.Reply.eq passes.new.items before
         ↔ AreOf C.Command.eq C.Reply.eq passes.old.items (before ++ entry.now ∷ [])) }
     ensures count { result ≡ Found.Taken →
@@ -197,7 +197,7 @@ fn take_receipt<C: Core, A: Allocator + Copy>(
 
     // No pass has a receipt for the entry, and the passes are unchanged.
     ensures nowhere { result ≡ Found.Nowhere → (before : List (ℕ × C.Command × C.Reply)) →
-        length before ≡ place →
+        length before ≡ index →
         (AreOf C.Command.eq C.Reply.eq passes.old.items before
         ↔ AreOf C.Command.eq C.Reply.eq passes.old.items (before ++ entry.now ∷ [])) }
     ensures same { result ≡ Found.Nowhere → passes.new.items ≡ passes.old.items }
@@ -206,17 +206,17 @@ fn take_receipt<C: Core, A: Allocator + Copy>(
     ensures fewer { result ≡ Found.Taken → (other : ℕ) →
         receipts_at other passes.new.items ≤ receipts_at other passes.old.items }
     ensures wrong { result ≡ Found.Wrong → (before : List (ℕ × C.Command × C.Reply)) →
-        length before ≡ place →
+        length before ≡ index →
         AreOf C.Command.eq C.Reply.eq passes.old.items (before ++ entry.now ∷ []) → ⊥ }
 {
-    let Some(i) = find_pass(passes, owner, place) else {
+    let Some(i) = find_pass(passes, owner, index) else {
         return Found::Nowhere;
     };
     let pass = &mut passes[i];
-    let Some(call) = pass.take_last(place) else {
+    let Some(call) = pass.take_last(index) else {
         unreachable!()
     };
-    if is_call::<C>(pass.number(), place, call, entry) {
+    if is_call::<C>(pass.number(), index, call, entry) {
         Found::Taken
     } else {
         Found::Wrong
@@ -245,15 +245,15 @@ fn note_owner<C, R, A: Allocator>(
     receipts: &[(usize, C, R)],
 )
     requires { owner < NOBODY }
-    ensures { (place : ℕ) → slice_get owners.new.items place ≡ Some NOBODY →
-        (slice_get owners.old.items place ≡ Some NOBODY) × (receipts_for place receipts.now ≡ 0) }
+    ensures { (index : ℕ) → slice_get owners.new.items index ≡ Some NOBODY →
+        (slice_get owners.old.items index ≡ Some NOBODY) × (receipts_for index receipts.now ≡ 0) }
 {
     for receipt in receipts {
-        let place = receipt.0;
-        if place >= owners.len() {
+        let index = receipt.0;
+        if index >= owners.len() {
             continue;
         }
-        owners[place] = owner;
+        owners[index] = owner;
     }
 }
 
@@ -265,14 +265,14 @@ fn note_owner<C, R, A: Allocator>(
 fn owners_of<C: Core, A: Allocator + Copy>(
     alloc: A,
     passes: &Vec<RecordPass<C, A>, A>,
-    places: usize,
+    indices: usize,
 ) -> Vec<usize, A>
     ensures { KnowsWhoLacks NOBODY result.items passes.now.items }
 {
     if passes.len() < 2 {
         return Vec::new(alloc);
     }
-    let Ok(mut owners) = Vec::from_elem(alloc, NOBODY, places) else {
+    let Ok(mut owners) = Vec::from_elem(alloc, NOBODY, indices) else {
         return Vec::new(alloc);
     };
     for i in 0..passes.len() {

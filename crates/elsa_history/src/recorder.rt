@@ -123,8 +123,8 @@ impl<C: Core, A: Allocator + Copy, S: Start<C>> Recorder<C, A, S> {
         command: C::Command,
     ) -> Result<C::Reply, AllocError>
         ensures recorded { IfOk result (λ reply.
-            (place : ℕ) × (pass.new ≡ (pass.old.0, pass.old.1 ++ (place, command, reply) ∷ []))
-            × IsRecorded C.steps (S.start C.state C.opening) place
+            (index : ℕ) × (pass.new ≡ (pass.old.0, pass.old.1 ++ (index, command, reply) ∷ []))
+            × IsRecorded C.steps (S.start C.state C.opening) index
             (pass.old.0, command, reply)) }
         ensures refused { OnErr result (pass.new ≡ pass.old) }
     {

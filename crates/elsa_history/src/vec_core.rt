@@ -45,10 +45,10 @@ impl<V: Copy + Eq, A: Allocator + Copy> Core for VecState<V, A> {
     fn apply(&mut self, command: VecCommand<V>) -> Result<VecReply<V>, AllocError> {
         match command {
             VecCommand::Push(value) => {
-                let place = self.push_get_index(value)?;
-                Ok(VecReply::Place(place))
+                let index = self.push_get_index(value)?;
+                Ok(VecReply::Place(index))
             }
-            VecCommand::Get(place) => Ok(VecReply::Found(self.get_copy(place))),
+            VecCommand::Get(index) => Ok(VecReply::Found(self.get_copy(index))),
             VecCommand::Len => Ok(VecReply::Count(self.len())),
         }
     }

@@ -9,7 +9,7 @@ use Rattle.std.proofs.lemmas.List.Quantifiers.{position-Some}
 use Rattle.std.proofs.lemmas.Option.{get_or_from_slice_get}
 use Rattle.elsa_tables.specs.Insertions.{first_of_each, Grows, SetInserted}
 use Rattle.elsa_index.specs.Extended.{SetExtends}
-use Rattle.elsa_maps.proofs.Places.{none_passes}
+use Rattle.elsa_maps.proofs.Indices.{none_passes}
 use Rattle.elsa_tables.proofs.FirstOfEach.{first_of_each_push, same_any}
 
 -- The stored values keep their indices.

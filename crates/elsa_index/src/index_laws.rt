@@ -2,7 +2,7 @@
 //! of a function that makes only public calls.
 ghost use Rattle.std.specs.Prelude.{◌≡◌, ◌+◌, ◌↔◌, ℕ, All, List, None, Some, false, true, if◌then◌else◌, length, position, slice_get, IfOk, IsSome, OnErr, IsTrue};
 ghost use Rattle.elsa_tables.specs.FirstWins.{value_at};
-ghost use Rattle.elsa_tables.specs.Insertions.{place_of, Grows, Inserted, IsCloneOf};
+ghost use Rattle.elsa_tables.specs.Insertions.{index_of, Grows, Inserted, IsCloneOf};
 
 use crate::index_set::FrozenIndexSetIn;
 use crate::look_up::LookUp;
@@ -30,9 +30,9 @@ pub fn keeps_earlier_pairs<
 ) -> Result<(usize, V::Borrow, bool), AllocError>
     ensures kept { Grows map.old map.new }
     ensures found_after { IfOk result (λ r. value_at K.eq map.new key ≡ Some r.1) }
-    ensures index_after { IfOk result (λ r. place_of K.eq map.new key ≡ Some r.0) }
+    ensures index_after { IfOk result (λ r. index_of K.eq map.new key ≡ Some r.0) }
     // Whether the key or the value was new, and how the length changes.
-    ensures flag { IfOk result (λ r. IsTrue r.2 ↔ (place_of K.eq map.old key ≡ None)) }
+    ensures flag { IfOk result (λ r. IsTrue r.2 ↔ (index_of K.eq map.old key ≡ None)) }
     ensures grows { IfOk result (λ r. length map.new ≡ length map.old + (if r.2 then 1 else 0)) }
     ensures refused { OnErr result (map.new ≡ map.old) }
 {
@@ -58,13 +58,13 @@ pub fn is_new_once<
     again: (K, V),
 ) -> Result<((usize, V::Borrow, bool), (usize, V::Borrow, bool)), AllocError>
     requires equal { K.eq first.0 again.0 ≡ true }
-    ensures first { IfOk result (λ r. IsTrue r.0.2 ↔ (place_of K.eq map.old first.0 ≡ None)) }
+    ensures first { IfOk result (λ r. IsTrue r.0.2 ↔ (index_of K.eq map.old first.0 ≡ None)) }
     ensures once { IfOk result (λ r. r.1 ≡ (r.0.0, r.0.1, false)) }
     ensures found_after { IfOk result (λ r. value_at K.eq map.new first.0 ≡ Some r.0.1) }
-    ensures index_after { IfOk result (λ r. place_of K.eq map.new first.0 ≡ Some r.0.0) }
+    ensures index_after { IfOk result (λ r. index_of K.eq map.new first.0 ≡ Some r.0.0) }
     // The map has the keys between, and each earlier pair keeps its index.
     ensures between { IfOk result (λ _.
-        All (λ pair. IsSome (place_of K.eq map.new pair.0)) between.items) }
+        All (λ pair. IsSome (index_of K.eq map.new pair.0)) between.items) }
     ensures kept { Grows map.old map.new }
 {
     let (first_key, first_value) = first;

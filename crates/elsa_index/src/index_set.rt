@@ -194,12 +194,12 @@ where
     ///
     /// # Cost
     /// That of [`get_index_of`](FrozenIndexSetIn::get_index_of).
-    #[tactic(auto, using(elsa_maps::proofs::Places::found_at, elsa_maps::proofs::Places::found_nowhere, elsa_maps::proofs::Places::found_within))]
+    #[tactic(auto, using(elsa_maps::proofs::Indices::found_at, elsa_maps::proofs::Indices::found_nowhere, elsa_maps::proofs::Indices::found_within))]
     pub fn get<Q: SeeksValue<T::Borrow>>(&self, query: Q) -> Option<T::Borrow>
         ensures { result ≡ find (Q.finds query) self.now }
     {
-        let place = query.seek_index(&self.set)?;
-        Some(self.set[place])
+        let index = query.seek_index(&self.set)?;
+        Some(self.set[index])
     }
 
     /// Returns the index of the stored value that `query` finds, and the value, or `None` if the
@@ -207,13 +207,13 @@ where
     ///
     /// # Cost
     /// That of [`get_index_of`](FrozenIndexSetIn::get_index_of).
-    #[tactic(auto, using(elsa_maps::proofs::Places::found_within))]
+    #[tactic(auto, using(elsa_maps::proofs::Indices::found_within))]
     pub fn get_full<Q: SeeksValue<T::Borrow>>(&self, query: Q) -> Option<(usize, T::Borrow)>
-        ensures place { option_map (λ r. r.0) result ≡ position (Q.finds query) self.now }
+        ensures index { option_map (λ r. r.0) result ≡ position (Q.finds query) self.now }
         ensures stored { IfSome result (λ r. slice_get self.now r.0 ≡ Some r.1) }
     {
-        let place = query.seek_index(&self.set)?;
-        Some((place, self.set[place]))
+        let index = query.seek_index(&self.set)?;
+        Some((index, self.set[index]))
     }
 
     /// Makes a set with the values of `set`. Values inserted later are stored in `arena`. It
@@ -286,17 +286,17 @@ where
     }
 
     // Appends a borrow.
-    #[tactic(auto, using(elsa_maps::proofs::Places::new_value_goes_last))]
+    #[tactic(auto, using(elsa_maps::proofs::Indices::new_value_goes_last))]
     fn add(&mut self, value: T::Borrow) -> Result<usize, AllocError>
         requires absent { position (T.Borrow.eq value) self.old ≡ None }
-        ensures place { IfOk result (λ i. i ≡ length self.old) }
+        ensures index { IfOk result (λ i. i ≡ length self.old) }
         ensures appended { OnOk result (self.new ≡ self.old ++ value ∷ []) }
         ensures refused { OnErr result (self.new ≡ self.old) }
         ensures unique { IsDistinct T.Borrow.eq self.new }
     {
-        let place = self.set.len();
+        let index = self.set.len();
         self.set.insert(value)?;
-        Ok(place)
+        Ok(index)
     }
 
     /// Returns the inner set by reference, for each call of it that only reads, such as `is_subset`
@@ -351,7 +351,7 @@ where
     /// One hash, plus one copy into the arena.
     pub fn insert_absent(&mut self, value: T) -> Result<(usize, T::Borrow), AllocError>
         requires absent { position (T.finds value) self.old ≡ None }
-        ensures place { IfOk result (λ r. r.0 ≡ length self.old) }
+        ensures index { IfOk result (λ r. r.0 ≡ length self.old) }
         ensures placed { IfOk result (λ r. T.shown r.1 ≡ T.target value) }
         ensures appended { IfOk result (λ r. self.new ≡ self.old ++ r.1 ∷ []) }
 
@@ -365,8 +365,8 @@ where
         let Ok(borrow) = value.place(self.arena) else {
             return Err(AllocError);
         };
-        let place = self.add(borrow)?;
-        Ok((place, borrow))
+        let index = self.add(borrow)?;
+        Ok((index, borrow))
     }
 
     /// Inserts the value unless the set has an equal one, and returns the index of the stored
@@ -381,7 +381,7 @@ where
     ///
     /// # Cost
     /// One hash if the set has an equal value; otherwise two, plus one copy into the arena.
-    #[tactic(auto, using(elsa_maps::proofs::Places::found_at, elsa_maps::proofs::Places::found_nowhere, elsa_maps::proofs::Places::found_within))]
+    #[tactic(auto, using(elsa_maps::proofs::Indices::found_at, elsa_maps::proofs::Indices::found_nowhere, elsa_maps::proofs::Indices::found_within))]
     pub fn insert_full_new(&mut self, value: T) -> Result<(usize, T::Borrow, bool), AllocError>
         // A present value keeps its index; a new one is the last.
         ensures present { (x : T.Borrow) → find (T.finds value) self.old ≡ Some x →
@@ -402,11 +402,11 @@ where
     {
         // The contract of `len` has the fact that no two values are equal.
         for_its_clause(self.set.len());
-        if let Some(place) = value.position(&self.set) {
-            return Ok((place, self.set[place], false));
+        if let Some(index) = value.position(&self.set) {
+            return Ok((index, self.set[index], false));
         }
-        let (place, borrow) = self.insert_absent(value)?;
-        Ok((place, borrow, true))
+        let (index, borrow) = self.insert_absent(value)?;
+        Ok((index, borrow, true))
     }
 
     /// Inserts the value unless the set has an equal one, and returns the index of the stored
@@ -447,7 +447,7 @@ where
     ///
     /// # Cost
     /// That of `insert_full_new`.
-    #[tactic(auto, using(elsa_maps::proofs::Places::found_at))]
+    #[tactic(auto, using(elsa_maps::proofs::Indices::found_at))]
     pub fn insert_new(&mut self, value: T) -> Result<(T::Borrow, bool), AllocError>
         ensures present { (x : T.Borrow) → find (T.finds value) self.old ≡ Some x →
             (result ≡ Ok (x, false)) × (self.new ≡ self.old) }
@@ -468,7 +468,7 @@ where
     ///
     /// # Cost
     /// That of `insert_full_new`.
-    #[tactic(auto, using(elsa_maps::proofs::Places::found_at))]
+    #[tactic(auto, using(elsa_maps::proofs::Indices::found_at))]
     pub fn insert(&mut self, value: T) -> Result<T::Borrow, AllocError>
         ensures present { (x : T.Borrow) → find (T.finds value) self.old ≡ Some x →
             (result ≡ Ok x) × (self.new ≡ self.old) }
@@ -585,7 +585,7 @@ impl<'a, S: BuildHasher, A: Allocator + Copy, P: Allocator> FrozenIndexSet<'a, &
     ///
     /// # Cost
     /// That of `insert_full_text`.
-    #[tactic(auto, using(elsa_maps::proofs::Places::found_at))]
+    #[tactic(auto, using(elsa_maps::proofs::Indices::found_at))]
     pub fn insert_text(&mut self, text: &str) -> Result<&'a str, AllocError>
         ensures accepted { IfOk result (λ b.
             (i : ℕ) × TextInserted self.old text.now i b self.new) }

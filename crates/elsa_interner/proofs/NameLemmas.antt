@@ -16,7 +16,7 @@ use Rattle.std.specs.Cmp.Lexicographic.{bytes_decides, nat_list_eq_equiv}
 use Rattle.std.proofs.lemmas.Bool.{cases_lt, false_from_ne_true}
 use Rattle.std.proofs.lemmas.Option.{slice_get-get_or, slice_get-map, slice_get_cases, slice_get_within, get_or_from_slice_get}
 use Rattle.elsa_interner.specs.Names.{Puts, IsOneToOne, IsNumbered}
-use Rattle.elsa_buckets.specs.Table.{Entries, places, Has, HasSame, AddsPlace}
+use Rattle.elsa_buckets.specs.Table.{Entries, indices, Has, HasSame, AddsIndex}
 use Rattle.elsa_buckets.proofs.PlacedLemmas.{has_added, has_kept, has_same}
 
 abbrev shown : List (Bor (List ℕ)) → List (List ℕ)
@@ -33,22 +33,22 @@ put_new names after text n none number last =
     subst (λ o. MatchOption o ((n ≡ length names) × (after ≡ names ++ text ∷ [])) (λ j. (n ≡ j) × (after ≡ names))) (sym none) (number, last)
 
 -- The name at the index at which a text is found is that text.
-pub at_place : (names : List (List ℕ)) (text : List ℕ) (n : ℕ) → position (bytes_eq text) names ≡ Some n → slice_get names n ≡ Some text
-at_place names text n found =
+pub at_index : (names : List (List ℕ)) (text : List ℕ) (n : ℕ) → position (bytes_eq text) names ≡ Some n → slice_get names n ≡ Some text
+at_index names text n found =
     let p = position-Some (bytes_eq text) names n [] found in
     slice_get-get_or names n [] p.0 ∙ ap Some (sym ((bytes_decides text (get_or names n [])).0 p.1))
 
 -- If a text is found, the name at its index is that text.
-pub named_place : (names : List (List ℕ)) (text : List ℕ) → IfSome (position (bytes_eq text) names) (λ n. slice_get names n ≡ Some text)
-named_place names text = by (position (bytes_eq text) names) refl
+pub named_index : (names : List (List ℕ)) (text : List ℕ) → IfSome (position (bytes_eq text) names) (λ n. slice_get names n ≡ Some text)
+named_index names text = by (position (bytes_eq text) names) refl
   where
     by : (o : Option ℕ) → position (bytes_eq text) names ≡ o → IfSome o (λ n. slice_get names n ≡ Some text)
     by None at = tt
-    by (Some n) at = at_place names text n at
+    by (Some n) at = at_index names text n at
 
 -- If a text is found, its index is below each number that is at or above the length.
-pub few_places : (names : List (List ℕ)) (text : List ℕ) (limit : ℕ) → length names ≤ limit → IfSome (position (bytes_eq text) names) (λ n. n < limit)
-few_places names text limit few = by (position (bytes_eq text) names) refl
+pub few_indices : (names : List (List ℕ)) (text : List ℕ) (limit : ℕ) → length names ≤ limit → IfSome (position (bytes_eq text) names) (λ n. n < limit)
+few_indices names text limit few = by (position (bytes_eq text) names) refl
   where
     by : (o : Option ℕ) → position (bytes_eq text) names ≡ o → IfSome o (λ n. n < limit)
     by None at = tt
@@ -151,16 +151,16 @@ split_last names text i word there =
     ]
 
 -- A new name whose index was added to the table.
-pub numbered_put : (hash : List ℕ → ℕ) (before after : Entries) (names : List (List ℕ)) (text : List ℕ) (h place : ℕ) → IsNumbered hash before names
-    → h ≡ hash text → place ≡ places before → places after ≡ places before + 1 → AddsPlace before h place after → position (bytes_eq text) names ≡ None
+pub numbered_put : (hash : List ℕ → ℕ) (before after : Entries) (names : List (List ℕ)) (text : List ℕ) (h index : ℕ) → IsNumbered hash before names
+    → h ≡ hash text → index ≡ indices before → indices after ≡ indices before + 1 → AddsIndex before h index after → position (bytes_eq text) names ≡ None
     → IsNumbered hash after (names ++ text ∷ [])
-numbered_put hash before after names text h place old hashed placed more adds none = record {
+numbered_put hash before after names text h index old hashed placed more adds none = record {
   counted = omega (arith, more, old.counted, length-append names (text ∷ []));
   entered = λ i word there. elim (split_last names text i word there) [
-    | inl earlier ↦ has_kept before after h place adds (hash word) i (old.entered i word earlier)
+    | inl earlier ↦ has_kept before after h index adds (hash word) i (old.entered i word earlier)
     | inr last ↦
-        let at : place ≡ i = omega (arith, placed, old.counted, last.0) in
-        subst (λ n. Has after (hash word) n) at (subst (λ n. Has after n place) (hashed ∙ ap hash last.1) (has_added before after h place adds))
+        let at : index ≡ i = omega (arith, placed, old.counted, last.0) in
+        subst (λ n. Has after (hash word) n) at (subst (λ n. Has after n index) (hashed ∙ ap hash last.1) (has_added before after h index adds))
   ];
   one_to_one = λ i j word at_i at_j. elim (split_last names text i word at_i) [
     | inl a ↦ elim (split_last names text j word at_j) [
@@ -175,7 +175,7 @@ numbered_put hash before after names text h place old hashed placed more adds no
 }
 
 -- A table with the same indices numbers the same names.
-pub numbered_same : (hash : List ℕ → ℕ) (before after : Entries) (names : List (List ℕ)) → IsNumbered hash before names → places after ≡ places before → HasSame before after
+pub numbered_same : (hash : List ℕ → ℕ) (before after : Entries) (names : List (List ℕ)) → IsNumbered hash before names → indices after ≡ indices before → HasSame before after
     → IsNumbered hash after names
 numbered_same hash before after names old count same = record {
   counted = count ∙ old.counted;
@@ -184,7 +184,7 @@ numbered_same hash before after names old count same = record {
 }
 
 -- A table without indices numbers no names.
-pub numbered_none : (hash : List ℕ → ℕ) (table : Entries) → places table ≡ 0 → IsNumbered hash table []
+pub numbered_none : (hash : List ℕ → ℕ) (table : Entries) → indices table ≡ 0 → IsNumbered hash table []
 numbered_none hash table none = record {
   counted = none;
   entered = λ i text there. absurd (omega (arith, slice_get_within {A = List ℕ} [] i text there));

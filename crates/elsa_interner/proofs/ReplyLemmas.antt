@@ -8,17 +8,17 @@ use Rattle.elsa_interner.specs.Names.{IsFull, Puts}
 use Rattle.elsa_interner.specs.Lines.{Replies, is_full, put, number_put, with_name}
 
 -- The reply and the names after a `put`, by the index that the text had.
-by_place : (names after : List (List ℕ)) (text : List ℕ) (n : ℕ) (p : Option ℕ) → (p ≡ None → IsFull names → ⊥)
+by_index : (names after : List (List ℕ)) (text : List ℕ) (n : ℕ) (p : Option ℕ) → (p ≡ None → IsFull names → ⊥)
     → MatchOption p ((n ≡ length names) × (after ≡ names ++ text ∷ [])) (λ i. (n ≡ i) × (after ≡ names)) → (decimal n ≡ number_put names p) × (after ≡ with_name names text p)
-by_place names after text n None room h =
+by_index names after text n None room h =
     let has_room : is_full names ≡ false = ne_eqb _ _ (room refl) in
     rw has_room (ap decimal h.0, h.1)
-by_place names after text n (Some i) room h = (ap decimal h.0, h.1)
+by_index names after text n (Some i) room h = (ap decimal h.0, h.1)
 
 -- The reply to a `put` that succeeded is the digits of the number.
 pub put_replies : (names after : List (List ℕ)) (text : List ℕ) (n : ℕ) → (position (bytes_eq text) names ≡ None → IsFull names → ⊥) → Puts names text n after
     → Replies names (put text) (decimal n) after
-put_replies names after text n room h = inl (by_place names after text n (position (bytes_eq text) names) room h)
+put_replies names after text n room h = inl (by_index names after text n (position (bytes_eq text) names) room h)
 
 -- If there are 2^32 - 1 names, the reply to a new one is `too many names`.
 pub full_replies : (names after : List (List ℕ)) (text : List ℕ) → position (bytes_eq text) names ≡ None → IsFull names → after ≡ names

@@ -7,7 +7,7 @@ use Rattle.std.specs.Str.{bytes_eq}
 use Rattle.std.specs.declared.hash.BuildHasher as builder
 use Rattle.std.specs.declared.hash.Hasher as hasher
 use Rattle.elsa_tables.specs.Insertions.{first_of_each}
-use Rattle.elsa_buckets.specs.Table.{Entries, places, Has}
+use Rattle.elsa_buckets.specs.Table.{Entries, indices, Has}
 
 -- A `put` of the text returns n, and the names are `after` then. If the text is a name, n is its
 -- number and the names are unchanged. Otherwise n is the next number, and the text is the last
@@ -41,6 +41,6 @@ text_hash b h state text =
 -- A table has the index of each name under the hash of the name, and no other index: the number of
 -- its indices is that of the names. No two names are equal.
 pub record IsNumbered (hash : List ℕ → ℕ) (table : Entries) (names : List (List ℕ)) : Type 0 where
-  pub counted : places table ≡ length names
+  pub counted : indices table ≡ length names
   pub entered : (i : ℕ) (text : List ℕ) → slice_get names i ≡ Some text → Has table (hash text) i
   pub one_to_one : IsOneToOne names

@@ -147,7 +147,7 @@ impl<'a, S: BuildHasher, A: Allocator + Copy, P: Allocator> Interner<'a, S, A, P
     /// `O(1)` if the hashes are well distributed.
     #[inline]
     pub fn find(&self, text: &str) -> Option<usize>
-        ensures place { result ≡ position (bytes_eq text.now) self.now }
+        ensures index { result ≡ position (bytes_eq text.now) self.now }
         ensures named { IfSome result (λ n. slice_get self.now n ≡ Some text.now) }
         ensures fits { IfSome result (λ n. n < 2 ^ 32 - 1) }
     {

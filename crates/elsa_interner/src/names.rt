@@ -4,10 +4,10 @@ ghost use Rattle.std.specs.Prelude.{◌≡◌, ◌↔◌, ℕ, [], List, length,
 ghost use Rattle.std.specs.Borrow.{Bor};
 ghost use Rattle.std.specs.Str.{bytes_eq};
 ghost use Rattle.elsa_interner.specs.Names.{Puts, IsFull, IsOneToOne, text_hash};
-ghost use Rattle.elsa_buckets.specs.Table.{places, Has, IsVacancy};
+ghost use Rattle.elsa_buckets.specs.Table.{indices, Has, IsVacancy};
 
 use bumpalo::Bump;
-use elsa_buckets::table::{PlaceTable, Vacancy};
+use elsa_buckets::table::{IndexTable, Vacancy};
 use std::alloc::{AllocError, Allocator};
 use std::hash::{BuildHasher, Hasher};
 use std::marker::Model;
@@ -72,7 +72,7 @@ pub struct Sought<'t> {
 #[inline(always)]
 fn search<A: Allocator + Copy>(
     names: &[&str],
-    table: &PlaceTable<A>,
+    table: &IndexTable<A>,
     text: &str,
     known: Known,
 ) -> Result<usize, Vacancy>
@@ -80,7 +80,7 @@ fn search<A: Allocator + Copy>(
     // the names. No two names are equal.
     requires entered { (i : ℕ) → slice_get (map (λ b. b.now) names.now) i ≡ Some text.now →
         Has table.now known.hash i }
-    requires counted { places table.now ≡ length names.now }
+    requires counted { indices table.now ≡ length names.now }
     requires one_to_one { IsOneToOne (map (λ b. b.now) names.now) }
 
     // The result is the number of the text; or the text isn't a name, and the bucket is a vacancy
@@ -97,11 +97,11 @@ fn search<A: Allocator + Copy>(
             return Ok(guess);
         }
     }
-    let is_it = |place|
-        requires { place < length names.now }
+    let is_it = |index|
+        requires { index < length names.now }
         ensures { (d : Bor (List ℕ)) →
-            result ≡ bytes_eq text.entry.now (slice_index_or names.entry.now place d).now }
-    { same_text(text, names[place]) };
+            result ≡ bytes_eq text.entry.now (slice_index_or names.entry.now index d).now }
+    { same_text(text, names[index]) };
     table.search(hash, is_it)
 }
 
@@ -114,7 +114,7 @@ fn search<A: Allocator + Copy>(
 pub struct Names<'a, S: BuildHasher, A: Allocator + Copy> {
     // The name of each number, and the number of each name by its hash.
     list: Vec<&'a str, A>,
-    table: PlaceTable<A>,
+    table: IndexTable<A>,
     hash_builder: S,
 }
 
@@ -142,7 +142,7 @@ impl<'a, S: BuildHasher, A: Allocator + Copy> Names<'a, S, A> {
     {
         Names {
             list: Vec::new(alloc),
-            table: PlaceTable::new(alloc),
+            table: IndexTable::new(alloc),
             hash_builder,
         }
     }
@@ -217,7 +217,7 @@ impl<'a, S: BuildHasher, A: Allocator + Copy> Names<'a, S, A> {
     /// Returns the number of a text, or `None` if it isn't a name. It allocates nothing.
     #[inline]
     pub fn find(&self, text: &str) -> Option<usize>
-        ensures place { result ≡ position (bytes_eq text.now) self.now.0 }
+        ensures index { result ≡ position (bytes_eq text.now) self.now.0 }
         ensures named { IfSome result (λ n. slice_get self.now.0 n ≡ Some text.now) }
         ensures fits { IfSome result (λ n. n < 2 ^ 32 - 1) }
     {
@@ -241,7 +241,7 @@ impl<'a, S: BuildHasher, A: Allocator + Copy> Names<'a, S, A> {
         ensures { self.new ≡ self.old }
     {
         self.list.reserve(additional)?;
-        self.table.reserve_places(additional)
+        self.table.reserve_indices(additional)
     }
 
     /// Returns the number of a text. A new text becomes a name: `placed` if it is given, otherwise
@@ -274,7 +274,7 @@ impl<'a, S: BuildHasher, A: Allocator + Copy> Names<'a, S, A> {
     {
         let Sought { text, known } = sought;
         let vacancy = match search(self.list.as_slice(), &self.table, text, known) {
-            Ok(place) => return Ok(place),
+            Ok(index) => return Ok(index),
             Err(vacancy) => vacancy,
         };
         self.list.reserve(1)?;
@@ -284,8 +284,8 @@ impl<'a, S: BuildHasher, A: Allocator + Copy> Names<'a, S, A> {
         } else {
             arena.try_alloc_str(text)?
         };
-        let place = self.table.add(known.hash, room);
+        let index = self.table.add(known.hash, room);
         self.list.push_reserved(name);
-        Ok(place)
+        Ok(index)
     }
 }

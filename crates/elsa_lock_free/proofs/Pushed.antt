@@ -4,7 +4,7 @@ use Rattle.std.proofs.lemmas.List.{append-nil, length-append}
 use Rattle.std.proofs.lemmas.Bool.Decides.{nat_tests}
 use mathlib.Core.List.{IsPrefix}
 use Rattle.elsa_lock_free.specs.declared.event.Entry.{Entry}
-use Rattle.elsa_lock_free.specs.SharedList.{Appends, View, entry, mine, places_from, pushed_by}
+use Rattle.elsa_lock_free.specs.SharedList.{Appends, View, entry, mine, indices_from, pushed_by}
 
 none_left : {T : Type 0} (xs : List T) → length xs ≡ 0 → xs ≡ []
 none_left [] e = refl
@@ -19,14 +19,14 @@ module _ {T : Type 0} where
   one_length false x i xs is e = e
 
   -- The number of items that a writer has pushed is the number of its indices.
-  pushed_length : (a i : ℕ) (es : List (Entry T)) → length (pushed_by a es) ≡ length (places_from a i es)
+  pushed_length : (a i : ℕ) (es : List (Entry T)) → length (pushed_by a es) ≡ length (indices_from a i es)
   pushed_length a i [] = refl
-  pushed_length a i (e ∷ es) = one_length (e.author == a) e.item i (pushed_by a es) (places_from a (suc i) es) (pushed_length a (suc i) es)
+  pushed_length a i (e ∷ es) = one_length (e.writer == a) e.item i (pushed_by a es) (indices_from a (suc i) es) (pushed_length a (suc i) es)
 
   pushed_append : (a : ℕ) (es ds : List (Entry T)) → pushed_by a (es ++ ds) ≡ pushed_by a es ++ pushed_by a ds
   pushed_append a [] ds = refl
   pushed_append a (e ∷ es) ds =
-      let here : List T = one (e.author == a) e.item in
+      let here : List T = one (e.writer == a) e.item in
       ap (λ (l : List T). here ++ l) (pushed_append a es ds) ∙ sym (append_assoc here (pushed_by a es) (pushed_by a ds))
 
   own_entry : (a : ℕ) (x : T) → pushed_by a (entry a x ∷ []) ≡ x ∷ []
@@ -45,7 +45,7 @@ module _ {T : Type 0} where
       none_left (pushed_by a es) (omega (arith, lengths, empty))
 
   -- A writer whose number of indices is unchanged has pushed what it had pushed.
-  stays : (a : ℕ) (es fs : List (Entry T)) → IsPrefix es fs → length (places_from a 0 fs) ≡ length (places_from a 0 es) → pushed_by a fs ≡ pushed_by a es
+  stays : (a : ℕ) (es fs : List (Entry T)) → IsPrefix es fs → length (indices_from a 0 fs) ≡ length (indices_from a 0 es) → pushed_by a fs ≡ pushed_by a es
   stays a es fs pre same =
       let more : pushed_by a fs ≡ pushed_by a es ++ pushed_by a pre.0 = earlier a es fs pre in
       let lengths : length (pushed_by a fs) ≡ length (pushed_by a es) + length (pushed_by a pre.0) = ap (λ (l : List T). length l) more ∙ length-append (pushed_by a es) (pushed_by a pre.0) in
@@ -53,23 +53,23 @@ module _ {T : Type 0} where
       more ∙ (ap (λ (l : List T). pushed_by a es ++ l) none ∙ append-nil (pushed_by a es))
 
   -- A writer without an index has pushed nothing.
-  pub nothing_pushed : (a : ℕ) (es : List (Entry T)) → places_from a 0 es ≡ [] → pushed_by a es ≡ []
+  pub nothing_pushed : (a : ℕ) (es : List (Entry T)) → indices_from a 0 es ≡ [] → pushed_by a es ≡ []
   nothing_pushed a es none = none_left (pushed_by a es) (pushed_length a 0 es ∙ ap (λ (l : List ℕ). length l) none)
 
   -- A view whose own indices are unchanged has pushed what it had pushed.
-  pub pushes_none : (old new : View T) → new.author ≡ old.author → IsPrefix old.seen new.seen → mine new ≡ mine old
-      → pushed_by new.author new.seen ≡ pushed_by old.author old.seen
-  pushes_none old new author pre same =
-      let as_old : length (places_from old.author 0 new.seen) ≡ length (mine old) = ap (λ (a : ℕ). length (places_from a 0 new.seen)) (sym author) ∙ ap (λ (l : List ℕ). length l) same in
-      ap (λ (a : ℕ). pushed_by a new.seen) author ∙ stays old.author old.seen new.seen pre as_old
+  pub pushes_none : (old new : View T) → new.writer ≡ old.writer → IsPrefix old.seen new.seen → mine new ≡ mine old
+      → pushed_by new.writer new.seen ≡ pushed_by old.writer old.seen
+  pushes_none old new writer pre same =
+      let as_old : length (indices_from old.writer 0 new.seen) ≡ length (mine old) = ap (λ (a : ℕ). length (indices_from a 0 new.seen)) (sym writer) ∙ ap (λ (l : List ℕ). length l) same in
+      ap (λ (a : ℕ). pushed_by a new.seen) writer ∙ stays old.writer old.seen new.seen pre as_old
 
   -- A view that has gained one index, the last one, has pushed the item there.
-  pub pushes_one : (old new : View T) (place : ℕ) (x : T) → new.author ≡ old.author → Appends old.seen new.seen place (entry old.author x)
-      → mine new ≡ mine old ++ place ∷ [] → pushed_by new.author new.seen ≡ pushed_by old.author old.seen ++ x ∷ []
-  pushes_one old new place x author (before, pre, at, is) more =
-      let a : ℕ = old.author in
+  pub pushes_one : (old new : View T) (index : ℕ) (x : T) → new.writer ≡ old.writer → Appends old.seen new.seen index (entry old.writer x)
+      → mine new ≡ mine old ++ index ∷ [] → pushed_by new.writer new.seen ≡ pushed_by old.writer old.seen ++ x ∷ []
+  pushes_one old new index x writer (before, pre, at, is) more =
+      let a : ℕ = old.writer in
       let split : pushed_by a new.seen ≡ pushed_by a before ++ x ∷ [] = ap (pushed_by a) is ∙ (pushed_append a before (entry a x ∷ []) ∙ ap (λ (l : List T). pushed_by a before ++ l) (own_entry a x)) in
-      let grown : length (places_from a 0 new.seen) ≡ length (mine old) + 1 = ap (λ (b : ℕ). length (places_from b 0 new.seen)) (sym author) ∙ (ap (λ (l : List ℕ). length l) more ∙ length-append (mine old) (place ∷ [])) in
+      let grown : length (indices_from a 0 new.seen) ≡ length (mine old) + 1 = ap (λ (b : ℕ). length (indices_from b 0 new.seen)) (sym writer) ∙ (ap (λ (l : List ℕ). length l) more ∙ length-append (mine old) (index ∷ [])) in
       let lengths : length (pushed_by a new.seen) ≡ length (pushed_by a before) + 1 = ap (λ (l : List T). length l) split ∙ length-append (pushed_by a before) (x ∷ []) in
       let was : pushed_by a before ≡ pushed_by a old.seen = stays a old.seen before pre (omega (arith, lengths, grown, pushed_length a 0 new.seen, pushed_length a 0 before)) in
-      ap (λ (b : ℕ). pushed_by b new.seen) author ∙ (split ∙ ap (λ (l : List T). l ++ x ∷ []) was)
+      ap (λ (b : ℕ). pushed_by b new.seen) writer ∙ (split ∙ ap (λ (l : List T). l ++ x ∷ []) was)

@@ -1,6 +1,6 @@
 -- What holds of a vector's history under its rule, and what each atomic step offers and gains.
-pub mod AuthorBound
-pub mod AuthorPlaces
+pub mod WriterBound
+pub mod WriterIndices
 pub mod EachNew
 pub mod History
 pub mod Hold

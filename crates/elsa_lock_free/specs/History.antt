@@ -5,14 +5,14 @@ use Rattle.elsa_lock_free.specs.declared.event.Entry.{Entry}
 use Rattle.elsa_lock_free.specs.declared.event.Event.{Event}
 use Rattle.elsa_lock_free.specs.declared.event.Event.TheVariants.{Acquired, Published, Extended, Cloned, Released, OfferOf}
 use Rattle.elsa_lock_free.specs.AtomicSteps.{Shared}
-use Rattle.elsa_lock_free.specs.SharedList.{authored, copied}
+use Rattle.elsa_lock_free.specs.SharedList.{written_by, copied}
 
 module _ {T : Type 0} where
   -- what an event adds to the shared list
   abbrev pub entries : Event T → List (Entry T)
   entries Acquired = []
   entries (Published x) = x ∷ []
-  entries (Extended a xs) = authored a xs
+  entries (Extended a xs) = written_by a xs
   entries (Cloned xs) = copied xs
   entries Released = []
   entries (OfferOf a n) = []
@@ -59,15 +59,15 @@ module _ {T : Type 0} where
   added [] = []
   added (e ∷ es) = added_by e ∷ added es
 
-  -- An offer is about a pass: its author, the number of entries that it pushed, and then its history
-  abbrev pub author_of : List (Event T) → ℕ
-  author_of [] = 0
-  author_of (Acquired ∷ es) = 0
-  author_of (Published x ∷ es) = 0
-  author_of (Extended a xs ∷ es) = 0
-  author_of (Cloned xs ∷ es) = 0
-  author_of (Released ∷ es) = 0
-  author_of (OfferOf a n ∷ es) = a
+  -- An offer is about a pass: its writer, the number of entries that it pushed, and then its history
+  abbrev pub writer_of : List (Event T) → ℕ
+  writer_of [] = 0
+  writer_of (Acquired ∷ es) = 0
+  writer_of (Published x ∷ es) = 0
+  writer_of (Extended a xs ∷ es) = 0
+  writer_of (Cloned xs ∷ es) = 0
+  writer_of (Released ∷ es) = 0
+  writer_of (OfferOf a n ∷ es) = a
 
   -- the number of entries that it pushed
   abbrev pub used_of : List (Event T) → ℕ

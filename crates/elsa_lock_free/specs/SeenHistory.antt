@@ -4,7 +4,7 @@ use Rattle.logbook.specs.declared.tokens.Gained.{Gained}
 use Rattle.logbook.specs.declared.tokens.Seen.{Seen}
 use Rattle.elsa_lock_free.specs.declared.event.Event.{Event}
 use Rattle.elsa_lock_free.specs.declared.event.Event.TheVariants.{Acquired}
-use Rattle.elsa_lock_free.specs.declared.tokens.Author.{Author}
+use Rattle.elsa_lock_free.specs.declared.tokens.Writer.{Writer}
 use Rattle.elsa_lock_free.specs.declared.tokens.Held.{Held}
 use Rattle.elsa_lock_free.specs.SharedList.{View}
 use Rattle.elsa_lock_free.specs.History.{is_held, list_of, added}
@@ -14,9 +14,9 @@ use Rattle.elsa_lock_free.specs.Rights.{head}
 abbrev pub IsOf : {E L P : Type 0} → Seen E L P → Seen E L P → Type 0
 IsOf seen other = (seen.book ≡ other.book) × (seen.names ≡ other.names)
 
--- what a pass with this history and this author shows
-abbrev pub view_of : {T L P : Type 0} → Seen (Event T) L P → Author → View T
-view_of seen author = record { vector = (seen.book, seen.names); author = suc author.name; seen = list_of seen.log }
+-- what a pass with this history and this writer shows
+abbrev pub view_of : {T L P : Type 0} → Seen (Event T) L P → Writer → View T
+view_of seen writer = record { vector = (seen.book, seen.names); writer = suc writer.name; seen = list_of seen.log }
 
 -- what an acquire gained, and the history that ends with it
 abbrev pub IsAtAcquire : {T L G P : Type 0} → Gained (Event T) (List (Event T)) G → Seen (Event T) L P → Type 0

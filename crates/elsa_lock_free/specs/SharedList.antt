@@ -1,4 +1,4 @@
--- The list that all threads of a vector share: entries of an author and an item, which only grows at its end.
+-- The list that all threads of a vector share: entries of a writer and an item, which only grows at its end.
 -- A pass has seen a beginning of it. There is no buffer, no lock, no pointer and no word of memory in it.
 use Rattle.std.specs.Prelude.{ℕ, zero, suc, ◌≡◌, ◌+◌, ◌<◌, ◌≤◌, ◌==◌, List, [], ◌∷◌, ◌++◌, length, map, if◌then◌else◌, Contains, nat_le}
 use mathlib.Core.List.{IsPrefix}
@@ -16,87 +16,87 @@ module _ {T : Type 0} where
   abbrev pub item_of : Entry T → T
   item_of e = e.item
 
-  -- the items of a list, without their authors
+  -- the items of a list, without their writers
   abbrev pub items_of : List (Entry T) → List T
   items_of es = map item_of es
 
-  -- an author's entry
+  -- a writer's entry
   abbrev pub entry : ℕ → T → Entry T
-  entry author item = record { author = author; item = item }
+  entry writer item = record { writer = writer; item = item }
 
-  -- an author's entries for these items
-  abbrev pub authored : ℕ → List T → List (Entry T)
-  authored author [] = []
-  authored author (x ∷ xs) = entry author x ∷ authored author xs
+  -- a writer's entries for these items
+  abbrev pub written_by : ℕ → List T → List (Entry T)
+  written_by writer [] = []
+  written_by writer (x ∷ xs) = entry writer x ∷ written_by writer xs
 
-  -- items that have no author, as those of a clone: the number of an author is above 0
+  -- items that have no writer, as those of a clone: the number of a writer is above 0
   abbrev pub copied : List T → List (Entry T)
-  copied xs = authored 0 xs
+  copied xs = written_by 0 xs
 
-  -- the places of an author's entries in a list that begins at place `first`, rising
-  abbrev pub places_from : ℕ → ℕ → List (Entry T) → List ℕ
-  places_from author first [] = []
-  places_from author first (e ∷ es) = (if e.author == author then first ∷ [] else []) ++ places_from author (suc first) es
+  -- the indices of a writer's entries in a list that begins at index `first`, rising
+  abbrev pub indices_from : ℕ → ℕ → List (Entry T) → List ℕ
+  indices_from writer first [] = []
+  indices_from writer first (e ∷ es) = (if e.writer == writer then first ∷ [] else []) ++ indices_from writer (suc first) es
 
-  -- the items of an author's entries, in the order of the list
+  -- the items of a writer's entries, in the order of the list
   abbrev pub pushed_by : ℕ → List (Entry T) → List T
-  pushed_by author [] = []
-  pushed_by author (e ∷ es) = (if e.author == author then e.item ∷ [] else []) ++ pushed_by author es
+  pushed_by writer [] = []
+  pushed_by writer (e ∷ es) = (if e.writer == writer then e.item ∷ [] else []) ++ pushed_by writer es
 
-  -- how many entries are of this author
+  -- how many entries are of this writer
   abbrev pub count : ℕ → List (Entry T) → ℕ
-  count author [] = 0
-  count author (e ∷ es) = bit (e.author == author) + count author es
+  count writer [] = 0
+  count writer (e ∷ es) = bit (e.writer == writer) + count writer es
 
-  -- the list was longer by some entries or none, and then the one given was put at this place, its end
+  -- the list was longer by some entries or none, and then the one given was put at this index, its end
   abbrev pub Appends : List (Entry T) → List (Entry T) → ℕ → Entry T → Type 0
-  Appends old new place e = (before : List (Entry T)) × IsPrefix old before × (length before ≡ place) × (new ≡ before ++ e ∷ [])
+  Appends old new index e = (before : List (Entry T)) × IsPrefix old before × (length before ≡ index) × (new ≡ before ++ e ∷ [])
 
-  -- the list was longer by some entries or none, and then these were put behind it, the first at this place, its end
+  -- the list was longer by some entries or none, and then these were put behind it, the first at this index, its end
   abbrev pub AppendsAll : List (Entry T) → List (Entry T) → ℕ → List (Entry T) → Type 0
-  AppendsAll old new place es = (before : List (Entry T)) × IsPrefix old before × (length before ≡ place) × (new ≡ before ++ es)
+  AppendsAll old new index es = (before : List (Entry T)) × IsPrefix old before × (length before ≡ index) × (new ≡ before ++ es)
 
--- so many places side by side, from this one on
+-- so many indices side by side, from this one on
 abbrev pub run : ℕ → ℕ → List ℕ
-run place zero = []
-run place (suc n) = place ∷ run (suc place) n
+run index zero = []
+run index (suc n) = index ∷ run (suc index) n
 
--- what a pass is: the vector, the number of the author that it pushes as, and the beginning of the list that it has seen
+-- what a pass is: the vector, the number of the writer that it pushes as, and the beginning of the list that it has seen
 pub record View (T : Type 0) : Type 0 where
   pub vector : Vector
-  pub author : ℕ
+  pub writer : ℕ
   pub seen : List (Entry T)
 
 module _ {T : Type 0} where
-  -- the places of what the pass has seen at which it pushed
+  -- the indices of what the pass has seen at which it pushed
   abbrev pub mine : View T → List ℕ
-  mine pass = places_from pass.author 0 pass.seen
+  mine pass = indices_from pass.writer 0 pass.seen
 
   -- the same pass, later
   abbrev pub IsSamePass : View T → View T → Type 0
-  IsSamePass before after = (after.vector ≡ before.vector) × (after.author ≡ before.author)
+  IsSamePass before after = (after.vector ≡ before.vector) × (after.writer ≡ before.writer)
 
   -- the same pass later, which has seen as much or more
   abbrev pub IsLaterPass : View T → View T → Type 0
   IsLaterPass before after = IsSamePass before after × IsPrefix before.seen after.seen
 
-  -- the same pass later, which has seen as much or more, and whose own places are as before
+  -- the same pass later, which has seen as much or more, and whose own indices are as before
   abbrev pub Continues : View T → View T → Type 0
   Continues before after = IsSamePass before after × IsPrefix before.seen after.seen × (mine after ≡ mine before)
 
-  -- the pass has pushed this item: it stands at this place, which is the pass's own, behind all that came before
+  -- the pass has pushed this item: it stands at this index, which is the pass's own, behind all that came before
   abbrev pub Pushes : View T → View T → ℕ → T → Type 0
-  Pushes before after place item = Appends before.seen after.seen place (entry before.author item) × (mine after ≡ mine before ++ place ∷ [])
+  Pushes before after index item = Appends before.seen after.seen index (entry before.writer item) × (mine after ≡ mine before ++ index ∷ [])
 
   -- the same, behind what the pass had seen, and nothing else came before
   abbrev pub PushesNext : View T → View T → T → Type 0
-  PushesNext before after item = (after.seen ≡ before.seen ++ entry before.author item ∷ []) × (mine after ≡ mine before ++ length before.seen ∷ [])
+  PushesNext before after item = (after.seen ≡ before.seen ++ entry before.writer item ∷ []) × (mine after ≡ mine before ++ length before.seen ∷ [])
 
-  -- the same pass later: it has pushed these items, and they stand side by side from this place on, behind all that came before
-  pub record PushedAll (before after : View T) (place : ℕ) (items : List T) : Type 0 where
+  -- the same pass later: it has pushed these items, and they stand side by side from this index on, behind all that came before
+  pub record PushedAll (before after : View T) (index : ℕ) (items : List T) : Type 0 where
     pub same : IsSamePass before after
-    pub stand : AppendsAll before.seen after.seen place (authored before.author items)
-    pub places : mine after ≡ mine before ++ run place (length items)
+    pub stand : AppendsAll before.seen after.seen index (written_by before.writer items)
+    pub indices : mine after ≡ mine before ++ run index (length items)
 
   -- two of one vector that have seen the same: a hold, and the pass that it is for
   abbrev pub SeesAlike : View T → View T → Type 0
@@ -110,7 +110,7 @@ module _ {T : Type 0} where
 abbrev pub Apart : List ℕ → List ℕ → Type 0
 Apart xs ys = (n : ℕ) → Contains xs n → Contains ys n → ⊥
 
--- two passes of a vector have met: each is the same, later; both have seen the longer of the two lists; the places of each stay its own,
+-- two passes of a vector have met: each is the same, later; both have seen the longer of the two lists; the indices of each stay its own,
 -- and none is of both; each has seen all that the other had
 abbrev pub Meet : {T : Type 0} → View T → View T → View T → View T → Type 0
 Meet one one_after two two_after =
@@ -120,8 +120,8 @@ Meet one one_after two two_after =
 
 -- at this length a new buffer begins, or the list is full
 abbrev pub BeginsABuffer : ℕ → Type 0
-BeginsABuffer place = (buffer : ℕ) × (buffer ≤ 31) × (place ≡ slots_before buffer)
+BeginsABuffer index = (buffer : ℕ) × (buffer ≤ 31) × (index ≡ slots_before buffer)
 
--- at this place or at one of those behind it, so many in all, a new buffer begins, or the list is full
+-- at this index or at one of those behind it, so many in all, a new buffer begins, or the list is full
 abbrev pub BeginsAmong : ℕ → ℕ → Type 0
-BeginsAmong place n = (at : ℕ) × BeginsABuffer at × (place ≤ at) × (at < place + n)
+BeginsAmong index n = (at : ℕ) × BeginsABuffer at × (index ≤ at) × (at < index + n)

@@ -23,7 +23,7 @@ mod push;
 use crate::event::Event;
 use crate::item_rule::ItemRule;
 use crate::rule::{Log, Nothing, OneWord, PlainRead, ReadGain, ReadLength};
-use crate::tokens::{Author, evidence, offer_read};
+use crate::tokens::{Writer, evidence, offer_read};
 use crossbeam_utils::CachePadded;
 use elsa_slots::geometry::locate;
 use elsa_slots::iter::{Iter, walk, walk_from};
@@ -117,13 +117,13 @@ impl<T: Drop, A: Allocator + Copy, K: ItemRule<T>, X: Beside<T> + Drop> AtomicLi
     }
 
     /// One item of what is known to be written. It takes no atomic step.
-    pub fn item<'a>(&'a self, prefix: &WrittenPrefix<T, Buffer<T, A, X>>, place: usize) -> &'a T
+    pub fn item<'a>(&'a self, prefix: &WrittenPrefix<T, Buffer<T, A, X>>, index: usize) -> &'a T
         requires prefix { prefix.now.buffer_slots ≡ buffer_slots_of self.now.first.names }
-        requires place { (place < length prefix.now.items) × (length prefix.now.items < 2 ^ 62) }
-        ensures { slice_get prefix.now.items place ≡ Some result.now }
+        requires index { (index < length prefix.now.items) × (length prefix.now.items < 2 ^ 62) }
+        ensures { slice_get prefix.now.items index ≡ Some result.now }
     {
-        let (buffer, slot) = locate(place);
-        let (opened, item) = prefix.at(place, buffer, slot);
+        let (buffer, slot) = locate(index);
+        let (opened, item) = prefix.at(index, buffer, slot);
         let answer = self.slots.get(buffer, slot, &opened, &item);
         opened.discard();
         item.discard();
@@ -132,13 +132,13 @@ impl<T: Drop, A: Allocator + Copy, K: ItemRule<T>, X: Beside<T> + Drop> AtomicLi
 
     /// Returns the value that is stored next to the slots of the buffer of an observed index. It
     /// takes no atomic step.
-    pub fn beside<'a>(&'a self, prefix: &WrittenPrefix<T, Buffer<T, A, X>>, place: usize) -> &'a X
+    pub fn beside<'a>(&'a self, prefix: &WrittenPrefix<T, Buffer<T, A, X>>, index: usize) -> &'a X
         requires prefix { prefix.now.buffer_slots ≡ buffer_slots_of self.now.first.names }
-        requires place { (place < length prefix.now.items) × (length prefix.now.items < 2 ^ 62) }
-        ensures { (item : T) → slice_get prefix.now.items place ≡ Some item → X.fits result.now item }
+        requires index { (index < length prefix.now.items) × (length prefix.now.items < 2 ^ 62) }
+        ensures { (item : T) → slice_get prefix.now.items index ≡ Some item → X.fits result.now item }
     {
-        let (buffer, slot) = locate(place);
-        let (opened, item) = prefix.at(place, buffer, slot);
+        let (buffer, slot) = locate(index);
+        let (opened, item) = prefix.at(index, buffer, slot);
         let answer = self.slots.beside(buffer, &opened);
         opened.discard();
         item.discard();
@@ -149,7 +149,7 @@ impl<T: Drop, A: Allocator + Copy, K: ItemRule<T>, X: Beside<T> + Drop> AtomicLi
     pub fn read_length(
         &self,
         seen: SeenHistory<T, A, K, X>,
-        author: Author,
+        writer: Writer,
     ) -> (
         usize,
         SeenHistory<T, A, K, X>,
@@ -159,12 +159,12 @@ impl<T: Drop, A: Allocator + Copy, K: ItemRule<T>, X: Beside<T> + Drop> AtomicLi
         ensures same { IsOf result.1 seen }
         ensures seen { IsPrefix seen.log result.1.log }
         ensures gained { (result.2.names ≡ seen.names)
-            × (result.2.about ≡ OfferOf author.name author.used ∷ [])
+            × (result.2.about ≡ OfferOf writer.name writer.used ∷ [])
             × (result.2.answer ≡ result.1.log) }
         ensures length { (result.0 ≡ length (list_of result.1.log)) × (result.0 < 2 ^ 62) }
     {
         let mut seen = seen;
-        let mut offer = offer_read(&seen, author);
+        let mut offer = offer_read(&seen, writer);
         let found = self
             .word
             .load::<ReadLength, ReadGain<Buffer<T, A, X>>>(&mut seen, &mut offer);
@@ -182,19 +182,20 @@ impl<T: Drop, A: Allocator + Copy, K: ItemRule<T>> AtomicList<T, A, K> {
         walk(&self.slots, prefix, len)
     }
 
-    /// A walk over the items from a place on that are known to be written. It takes no atomic step.
+    /// A walk over the items from an index on that are known to be written. It takes no atomic
+    /// step.
     pub fn items_from<'a>(
         &'a self,
         prefix: WrittenPrefix<T, Buffer<T, A>>,
         len: usize,
-        place: usize,
+        index: usize,
     ) -> Iter<'a, T, A>
         requires prefix { prefix.buffer_slots ≡ buffer_slots_of self.now.first.names }
         requires length { (len ≡ length prefix.items) × (len < 2 ^ 62) }
-        requires place { place ≤ len }
-        ensures { result ≡ drop place prefix.items }
+        requires index { index ≤ len }
+        ensures { result ≡ drop index prefix.items }
     {
-        walk_from(&self.slots, prefix, len, place)
+        walk_from(&self.slots, prefix, len, index)
     }
 }
 
@@ -215,12 +216,12 @@ impl<T: Drop + PartialEq, A: Allocator + Copy, K: ItemRule<T>> AtomicList<T, A, 
         ensures { result ≡ pointwise T.eq prefix.now.items other_prefix.now.items }
     {
         let mut equal = true;
-        let mut place = 0;
-        while equal && place < n {
-            let item = self.item(prefix, place);
-            let other_item = other.item(other_prefix, place);
+        let mut index = 0;
+        while equal && index < n {
+            let item = self.item(prefix, index);
+            let other_item = other.item(other_prefix, index);
             equal = *item == *other_item;
-            place += 1;
+            index += 1;
         }
         equal
     }

@@ -5,7 +5,7 @@ use std::collections::LinkedList;
 
 /// An item of the shared list, and the number of the view that pushed it: 0 if none did.
 pub struct Entry<T> {
-    pub author: u64,
+    pub writer: u64,
     pub item: T,
 }
 

@@ -7,7 +7,7 @@ ghost use Rattle.std.specs.Prelude.{◌≡◌, ℕ, ◌≤◌, ◌<◌, ◌^◌,
 ghost use Rattle.elsa_lock_free.specs.SharedList.{BeginsABuffer, BeginsAmong, Continues, IsLaterPass, Meet, PushedAll, Pushes, PushesNext, copied, entry, items_of, mine};
 ghost use Rattle.elsa_lock_free.specs.declared.event.Entry.{Entry};
 ghost use Rattle.elsa_lock_free.specs.Attempts.{IfBusy, IfFailed};
-ghost use Rattle.elsa_lock_free.specs.Distinct.{AgreeOnPlaces, EachIsNew, EachItemIsNew, IsOneToOne};
+ghost use Rattle.elsa_lock_free.specs.Distinct.{AgreeOnIndices, EachIsNew, EachItemIsNew, IsOneToOne};
 ghost use lib.Pointwise.{pointwise};
 
 use crate::atomic_list::{AtomicList, LIMIT, wait_a_little};
@@ -15,7 +15,7 @@ use crate::item_rule::{AnyItems, DistinctItems, ItemRule};
 use crate::lock_free::LockFreeFrozenVec;
 use crate::may_lock::{AttemptFault, LockPermit};
 use crate::pass::{Pass, PushRight};
-use crate::tokens::{Author, bounded_by_tickets};
+use crate::tokens::{Writer, bounded_by_tickets};
 use elsa_slots::iter::Iter;
 use elsa_slots::slots::Beside;
 use std::alloc::{AllocError, AllocFailed, Allocator, Global};
@@ -45,7 +45,7 @@ impl<'v, T, A: Allocator, K: ItemRule<T>, X: Beside<T>> Model for Handle<'v, T, 
 
     // The view is of this list, and the right is that of its writer.
     ghost invariant = { λ h. (h.pass.vector ≡ (h.list.now.first.book, h.list.now.first.names))
-        × (h.right ≡ h.pass.author) };
+        × (h.right ≡ h.pass.writer) };
 }
 
 /// What a handle has observed of a vector, for reading: it has no right to push. Contracts see the
@@ -84,12 +84,12 @@ impl<'v, T: Drop, A: Allocator + Copy, K: ItemRule<T>, X: Beside<T> + Drop> Obse
     }
 
     /// Returns a reference to the item at an index.
-    pub fn item(&self, place: usize) -> &'v T
-        requires within { place < length self.now }
-        ensures { slice_get self.now place ≡ Some result.now }
+    pub fn item(&self, index: usize) -> &'v T
+        requires within { index < length self.now }
+        ensures { slice_get self.now index ≡ Some result.now }
     {
         let pass = &self.pass;
-        pass.item(self.list, place)
+        pass.item(self.list, index)
     }
 }
 
@@ -179,11 +179,11 @@ impl<'v, T: Drop, A: Allocator + Copy, K: ItemRule<T>, X: Beside<T> + Drop> Hand
     ///
     /// # Cost
     /// `O(1)`.
-    pub fn item(&self, place: usize) -> &'v T
-        requires seen { place < length self.now.seen }
-        ensures { slice_get (items_of self.now.seen) place ≡ Some result.now }
+    pub fn item(&self, index: usize) -> &'v T
+        requires seen { index < length self.now.seen }
+        ensures { slice_get (items_of self.now.seen) index ≡ Some result.now }
     {
-        self.pass.item(self.list, place)
+        self.pass.item(self.list, index)
     }
 
     /// Returns what is stored next to the slot of an index that the handle has observed. It takes
@@ -192,15 +192,15 @@ impl<'v, T: Drop, A: Allocator + Copy, K: ItemRule<T>, X: Beside<T> + Drop> Hand
     /// # Cost
     /// `O(1)`.
     #[doc(hidden)]
-    pub fn beside(&self, place: usize) -> &'v X
-        requires seen { place < length self.now.seen }
-        ensures { (item : T) → slice_get (items_of self.now.seen) place ≡ Some item →
+    pub fn beside(&self, index: usize) -> &'v X
+        requires seen { index < length self.now.seen }
+        ensures { (item : T) → slice_get (items_of self.now.seen) index ≡ Some item →
             X.fits result.now item }
     {
         self.seen_len();
         let list = self.list;
         let prefix = self.pass.evidence();
-        let beside = list.beside(&prefix, place);
+        let beside = list.beside(&prefix, index);
         prefix.discard();
         beside
     }
@@ -214,17 +214,17 @@ impl<'v, T: Drop, A: Allocator + Copy, K: ItemRule<T>, X: Beside<T> + Drop> Hand
     ///
     /// # Cost
     /// `O(1)`.
-    pub fn get_ref(&mut self, place: usize) -> Option<&'v T>
+    pub fn get_ref(&mut self, index: usize) -> Option<&'v T>
         ensures continues { Continues self.old self.new }
-        ensures item { IfSome result (λ r. slice_get (items_of self.new.seen) place ≡ Some r.now) }
-        ensures absent { IfNone result (length self.new.seen ≤ place) }
-        ensures limit { IfSome result (λ _. place + 1 < 2 ^ 62) }
+        ensures item { IfSome result (λ r. slice_get (items_of self.new.seen) index ≡ Some r.now) }
+        ensures absent { IfNone result (length self.new.seen ≤ index) }
+        ensures limit { IfSome result (λ _. index + 1 < 2 ^ 62) }
     {
-        if place < self.seen_len() {
-            return Some(self.item(place));
+        if index < self.seen_len() {
+            return Some(self.item(index));
         }
-        if place < self.len() {
-            return Some(self.item(place));
+        if index < self.len() {
+            return Some(self.item(index));
         }
         None
     }
@@ -261,7 +261,7 @@ impl<'v, T: Drop, A: Allocator + Copy, K: ItemRule<T>> Handle<'v, T, A, K> {
     /// # Cost
     /// `O(1)`.
     pub fn push<R: Wait>(&mut self, rt: &R, item: T) -> Result<usize, AllocFailed<T>>
-        requires obeys_rule { (es : List (Entry T)) → K.is_new es (entry self.old.author item) }
+        requires obeys_rule { (es : List (Entry T)) → K.is_new es (entry self.old.writer item) }
         ensures later { IsLaterPass self.old self.new }
         ensures pushed { IfOk result (λ i. Pushes self.old self.new i item) }
         ensures limit { IfOk result (λ i. i + 1 < 2 ^ 62) }
@@ -271,9 +271,9 @@ impl<'v, T: Drop, A: Allocator + Copy, K: ItemRule<T>> Handle<'v, T, A, K> {
         let Some(hold) = self.hold_now(rt) else {
             return Err(AllocFailed { value: item });
         };
-        let place = hold.at();
+        let index = hold.at();
         hold.end_with(self, item)?;
-        Ok(place)
+        Ok(index)
     }
 
     /// Pushes the item that `make` returns for its index, and returns the index: for items that
@@ -300,7 +300,7 @@ impl<'v, T: Drop, A: Allocator + Copy, K: ItemRule<T>> Handle<'v, T, A, K> {
     ) -> Result<usize, AllocError>
         requires callable { (i : ℕ) → i + 1 < 2 ^ 62 → F.pre make i }
         requires obeys_rule { (i : ℕ) (item : T) (es : List (Entry T)) → F.post make i item →
-            K.is_new es (entry self.old.author item) }
+            K.is_new es (entry self.old.writer item) }
         ensures later { IsLaterPass self.old self.new }
         ensures pushed { IfOk result (λ i.
             (item : T) × F.post make i item × Pushes self.old self.new i item) }
@@ -335,7 +335,7 @@ impl<'v, T: Drop, A: Allocator + Copy, K: ItemRule<T>> Handle<'v, T, A, K> {
         may: LockPermit,
         item: T,
     ) -> Result<usize, AttemptFault<T, AllocFailed<T>>>
-        requires obeys_rule { (es : List (Entry T)) → K.is_new es (entry self.old.author item) }
+        requires obeys_rule { (es : List (Entry T)) → K.is_new es (entry self.old.writer item) }
         ensures later { IsLaterPass self.old self.new }
         ensures pushed { IfOk result (λ i. Pushes self.old self.new i item) }
         ensures limit { IfOk result (λ i. i + 1 < 2 ^ 62) }
@@ -351,9 +351,9 @@ impl<'v, T: Drop, A: Allocator + Copy, K: ItemRule<T>> Handle<'v, T, A, K> {
                 return Err(AttemptFault::Failed(AllocFailed { value: item }));
             }
         };
-        let index = hold.at();
+        let at = hold.at();
         match hold.end_with(self, item) {
-            Ok(()) => Ok(index),
+            Ok(()) => Ok(at),
             Err(failed) => Err(AttemptFault::Failed(failed)),
         }
     }
@@ -451,10 +451,10 @@ impl<'v, T: Copy + Drop, A: Allocator + Copy, K: ItemRule<T>> Handle<'v, T, A, K
         item: T,
     ) -> Result<Option<usize>, AllocError>
         requires index { n ≤ length self.old.seen }
-        requires obeys_rule { K.is_new (take n self.old.seen) (entry self.old.author item) }
+        requires obeys_rule { K.is_new (take n self.old.seen) (entry self.old.writer item) }
 
         // The pass is the same, later: its item is at the end of what it had seen, or it has pushed
-        // nothing, since the list was longer, or a buffer begins at this place.
+        // nothing, since the list was longer, or a buffer begins at this index.
         ensures later { IsLaterPass self.old self.new }
         ensures pushed { IfOk result (λ a. IfSome a (λ i.
             (i ≡ n) × (length self.old.seen ≡ n) × PushesNext self.old self.new item)) }
@@ -486,12 +486,12 @@ impl<'v, T: Copy + Drop, A: Allocator + Copy, K: ItemRule<T>> Handle<'v, T, A, K
     ///
     /// # Cost
     /// `O(1)`.
-    pub fn get(&mut self, place: usize) -> Option<T>
+    pub fn get(&mut self, index: usize) -> Option<T>
         ensures continues { Continues self.old self.new }
-        ensures item { result ≡ slice_get (items_of self.new.seen) place }
-        ensures limit { IfSome result (λ _. place + 1 < 2 ^ 62) }
+        ensures item { result ≡ slice_get (items_of self.new.seen) index }
+        ensures limit { IfSome result (λ _. index + 1 < 2 ^ 62) }
     {
-        Some(*self.get_ref(place)?)
+        Some(*self.get_ref(index)?)
     }
 
     /// Makes an independent vector of the items that one load of the length observes, and a view
@@ -521,8 +521,8 @@ impl<'v, T: Copy + Drop, A: Allocator + Copy, K: ItemRule<T>> Handle<'v, T, A, K
         let copy = list.copy(n, &prefix);
         prefix.discard();
         let (list, seen) = copy?;
-        let author = bounded_by_tickets(&seen, Author::new());
-        let copy_pass = Pass::of(seen, author, n);
+        let writer = bounded_by_tickets(&seen, Writer::new());
+        let copy_pass = Pass::of(seen, writer, n);
         Ok((LockFreeFrozenVec { list }, copy_pass))
     }
 }
@@ -578,14 +578,14 @@ impl<'v, T: Copy + Drop, A: Allocator + Copy> Handle<'v, T, A> {
             × BeginsAmong (length self.new.seen) (length items.now)) }
     {
         let list = self.list;
-        let (seen, author, length) = self.pass.lend().parts();
+        let (seen, writer, length) = self.pass.lend().parts();
         let right = &self.right;
-        let (seen, author, place, pushed) = list.extend(rt, right, seen, author, length, items);
-        self.pass = Pass::of(seen, author, place + pushed);
+        let (seen, writer, index, pushed) = list.extend(rt, right, seen, writer, length, items);
+        self.pass = Pass::of(seen, writer, index + pushed);
         if pushed < items.len() {
             return Err(AllocError);
         }
-        Ok(place)
+        Ok(index)
     }
 }
 
@@ -600,11 +600,11 @@ impl<'v, T: Copy + Drop + Eq, A: Allocator + Copy> Handle<'v, T, A, DistinctItem
 
     /// Proves that equal items that two handles of a vector have observed are at one index, whether
     /// the handles were merged or not. It does nothing at run time.
-    pub fn same_place(&self, other: &Handle<'_, T, A, DistinctItems>)
+    pub fn same_index(&self, other: &Handle<'_, T, A, DistinctItems>)
         requires same_vector { self.now.vector ≡ other.now.vector }
-        ensures { AgreeOnPlaces T.eq (items_of self.now.seen) (items_of other.now.seen) }
+        ensures { AgreeOnIndices T.eq (items_of self.now.seen) (items_of other.now.seen) }
     {
-        self.pass.same_place(&other.pass);
+        self.pass.same_index(&other.pass);
     }
 }
 

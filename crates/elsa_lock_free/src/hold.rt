@@ -50,7 +50,7 @@ impl<'v, T, A: Allocator, K: ItemRule<T>, X: Beside<T>> Model for Hold<'v, T, A,
 
     ghost Value = { View T };
 
-    ghost view = { λ h. record { vector = (h.seen.book, h.seen.names); author = 0; seen = list_of h.seen.log } };
+    ghost view = { λ h. record { vector = (h.seen.book, h.seen.names); writer = 0; seen = list_of h.seen.log } };
 
     // The right was gained by the last event of the history, an acquire at the length `at`, which
     // is the slot `slot` of the buffer `buffer`; and both are of this list.
@@ -77,18 +77,18 @@ impl<'v, T: Drop, A: Allocator + Copy, K: ItemRule<T>, X: Beside<T> + Drop> Hand
             × (length self.old.seen < length self.new.seen)) }
     {
         let list = self.list;
-        let (seen, author, n) = self.pass.lend().parts();
+        let (seen, writer, n) = self.pass.lend().parts();
         let mut seen = seen;
         match list.acquire_at(rt, &mut seen, n) {
             Ok(right) => {
-                let author = bounded_by_tickets(&seen, author);
-                self.pass = Pass::of(seen.again(), author, n);
+                let writer = bounded_by_tickets(&seen, writer);
+                self.pass = Pass::of(seen.again(), writer, n);
                 Some(Hold::at_length(list, seen, right, n))
             }
             Err(length) => {
                 obeys_rule(&seen);
-                let author = bounded_by_tickets(&seen, author);
-                self.pass = Pass::of(seen, author, length);
+                let writer = bounded_by_tickets(&seen, writer);
+                self.pass = Pass::of(seen, writer, length);
                 None
             }
         }
@@ -114,18 +114,18 @@ impl<'v, T: Drop, A: Allocator + Copy, K: ItemRule<T>, X: Beside<T> + Drop> Hand
         ensures busy { OnErr result (self.new ≡ self.old) }
     {
         let list = self.list;
-        let (seen, author, n) = self.pass.lend().parts();
+        let (seen, writer, n) = self.pass.lend().parts();
         let mut seen = seen;
         match list.try_acquire_at(may, &mut seen, n) {
             Ok(right) => {
-                let author = bounded_by_tickets(&seen, author);
-                self.pass = Pass::of(seen.again(), author, n);
+                let writer = bounded_by_tickets(&seen, writer);
+                self.pass = Pass::of(seen.again(), writer, n);
                 Ok(Some(Hold::at_length(list, seen, right, n)))
             }
             Err(length) => {
                 obeys_rule(&seen);
-                let author = bounded_by_tickets(&seen, author);
-                self.pass = Pass::of(seen, author, length);
+                let writer = bounded_by_tickets(&seen, writer);
+                self.pass = Pass::of(seen, writer, length);
                 if length == n {
                     return Err(Busy);
                 }
@@ -178,16 +178,16 @@ impl<'v, T: Drop, A: Allocator + Copy, K: ItemRule<T>, X: Beside<T> + Drop> Hand
         ensures full { IfNone result (BeginsABuffer (length self.new.seen)) }
     {
         let list = self.list;
-        let (seen, author, guess) = self.pass.lend().parts();
+        let (seen, writer, guess) = self.pass.lend().parts();
         let mut seen = seen;
         let (n, right) = list.acquire(rt, &mut seen, guess);
-        let author = bounded_by_tickets(&seen, author);
+        let writer = bounded_by_tickets(&seen, writer);
         if n == LIMIT {
-            let (seen, author) = list.release(seen, right, author, n);
-            self.pass = Pass::released(seen, author, n);
+            let (seen, writer) = list.release(seen, right, writer, n);
+            self.pass = Pass::released(seen, writer, n);
             return None;
         }
-        self.pass = Pass::of(seen.again(), author, n);
+        self.pass = Pass::of(seen.again(), writer, n);
         Some(Hold::at_length(list, seen, right, n))
     }
 }
@@ -206,7 +206,7 @@ impl<'v, T: Drop, A: Allocator + Copy, K: ItemRule<T>, X: Beside<T> + Drop> Hold
         requires index { (at ≡ length (list_of right.answer)) × (at + 1 < 2 ^ 62) }
         ensures { result ≡ record {
           vector = (seen.book, seen.names);
-          author = 0;
+          writer = 0;
           seen = list_of seen.log;
         } }
     {
@@ -247,7 +247,7 @@ impl<'v, T: Drop, A: Allocator + Copy, K: ItemRule<T>, X: Beside<T> + Drop> Hold
         // The hold's buffer takes the item.
         requires held { SeesAlike self handle.old }
         requires later { BeginsABuffer (length self.seen) → ⊥ }
-        requires obeys_rule { K.is_new self.seen (entry handle.old.author item) }
+        requires obeys_rule { K.is_new self.seen (entry handle.old.writer item) }
         requires fits { (x : X) (last : T) →
             slice_get (items_of self.seen) (length self.seen - 1) ≡ Some last →
             X.fits x last → X.fits x item }
@@ -263,7 +263,7 @@ impl<'v, T: Drop, A: Allocator + Copy, K: ItemRule<T>, X: Beside<T> + Drop> Hold
             buffer,
             slot,
         } = self;
-        let (before, author, _length) = handle.pass.lend().parts();
+        let (before, writer, _length) = handle.pass.lend().parts();
         drop(before);
         let prefix = evidence(&seen);
         let (source, last) = prefix.at(at - 1, buffer, slot - 1);
@@ -275,7 +275,7 @@ impl<'v, T: Drop, A: Allocator + Copy, K: ItemRule<T>, X: Beside<T> + Drop> Hold
         let ready = Ready {
             seen,
             held,
-            author,
+            writer,
             at,
             opened,
             slots,
@@ -283,8 +283,8 @@ impl<'v, T: Drop, A: Allocator + Copy, K: ItemRule<T>, X: Beside<T> + Drop> Hold
             buffer,
             slot,
         };
-        let (seen, author) = list.publish(&handle.right, ready, item);
-        handle.pass = Pass::released(seen, author, at + 1);
+        let (seen, writer) = list.publish(&handle.right, ready, item);
+        handle.pass = Pass::released(seen, writer, at + 1);
     }
 
     /// Ends the hold, and pushes an item as the first of a new buffer, with this beside its slots.
@@ -303,7 +303,7 @@ impl<'v, T: Drop, A: Allocator + Copy, K: ItemRule<T>, X: Beside<T> + Drop> Hold
         // The item fits the new buffer.
         requires held { SeesAlike self handle.old }
         requires begins { BeginsABuffer (length self.seen) }
-        requires obeys_rule { K.is_new self.seen (entry handle.old.author item) }
+        requires obeys_rule { K.is_new self.seen (entry handle.old.writer item) }
         requires fits { X.fits beside item }
 
         // The item stands behind what was seen, and is the handle's, or nothing changed.
@@ -319,11 +319,11 @@ impl<'v, T: Drop, A: Allocator + Copy, K: ItemRule<T>, X: Beside<T> + Drop> Hold
             buffer,
             slot,
         } = self;
-        let (before, author, _length) = handle.pass.lend().parts();
+        let (before, writer, _length) = handle.pass.lend().parts();
         drop(before);
         let Ok((fresh, slots)) = list.slots.new_buffer(buffer_size(buffer), beside) else {
-            let (seen, author) = list.release(seen, right, author, at);
-            handle.pass = Pass::released(seen, author, at);
+            let (seen, writer) = list.release(seen, right, writer, at);
+            handle.pass = Pass::released(seen, writer, at);
             return Err(AllocFailed { value: item });
         };
         let (held, mut further) = take_acquired_closed(right, buffer);
@@ -332,7 +332,7 @@ impl<'v, T: Drop, A: Allocator + Copy, K: ItemRule<T>, X: Beside<T> + Drop> Hold
         let ready = Ready {
             seen,
             held,
-            author,
+            writer,
             at,
             opened,
             slots,
@@ -340,8 +340,8 @@ impl<'v, T: Drop, A: Allocator + Copy, K: ItemRule<T>, X: Beside<T> + Drop> Hold
             buffer,
             slot,
         };
-        let (seen, author) = list.publish(&handle.right, ready, item);
-        handle.pass = Pass::released(seen, author, at + 1);
+        let (seen, writer) = list.publish(&handle.right, ready, item);
+        handle.pass = Pass::released(seen, writer, at + 1);
         Ok(())
     }
 
@@ -362,10 +362,10 @@ impl<'v, T: Drop, A: Allocator + Copy, K: ItemRule<T>, X: Beside<T> + Drop> Hold
             buffer: _,
             slot: _,
         } = self;
-        let (known, author, _length) = handle.pass.lend().parts();
+        let (known, writer, _length) = handle.pass.lend().parts();
         drop(known);
-        let (seen, author) = list.release(seen, right, author, at);
-        handle.pass = Pass::released(seen, author, at);
+        let (seen, writer) = list.release(seen, right, writer, at);
+        handle.pass = Pass::released(seen, writer, at);
     }
 }
 
@@ -380,7 +380,7 @@ impl<'v, T: Drop, A: Allocator + Copy, K: ItemRule<T>> Hold<'v, T, A, K, ()> {
         item: T,
     ) -> Result<(), AllocFailed<T>>
         requires held { SeesAlike self handle.old }
-        requires obeys_rule { K.is_new self.seen (entry handle.old.author item) }
+        requires obeys_rule { K.is_new self.seen (entry handle.old.writer item) }
         ensures pushed { IfOk result (λ _. IsLaterPass handle.old handle.new
             × PushesNext handle.old handle.new item) }
         ensures refused { IfErr result (λ e. (handle.new ≡ handle.old) × (e.value ≡ item)

@@ -13,14 +13,14 @@ pub trait ItemRule<T> {
     /// an item, and the number of the writer that appends it: 0 for the items of a clone.
     ghost is_new: { List (Entry T) → Entry T → Type 0 };
 
-    /// Whether no item can be at two places.
+    /// Whether no item can be at two indices.
     ghost distinct: { Bool };
 
-    /// Whether no item can be at two places.
+    /// Whether no item can be at two indices.
     fn is_distinct() -> bool
         ensures { result ≡ Self.distinct };
 
-    // Where no item can be at two places, the item of an entry that is new to a list isn't in it.
+    // Where no item can be at two indices, the item of an entry that is new to a list isn't in it.
     ghost apart: { distinct ≡ true → (es : List (Entry T)) (i : ℕ) (e : Entry T) →
         is_new es e → slice_get (items_of es) i ≡ Some e.item → ⊥ };
 }

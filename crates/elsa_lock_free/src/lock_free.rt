@@ -18,7 +18,7 @@ use crate::atomic_list::AtomicList;
 pub use crate::handle::{Handle, Observed};
 use crate::item_rule::{AnyItems, DistinctItems, ItemRule};
 pub use crate::pass::Pass;
-use crate::tokens::Author;
+use crate::tokens::Writer;
 pub use elsa_slots::iter::{Iter, Refs};
 use elsa_slots::slots::Beside;
 use std::alloc::{AllocError, Allocator, Global};
@@ -103,7 +103,7 @@ impl<T: Drop, A: Allocator + Copy, K: ItemRule<T>, X: Beside<T> + Drop> LockFree
         ensures nothing_seen { result.seen ≡ [] }
         ensures nothing_mine { mine result ≡ [] }
     {
-        Pass::of(self.list.first.again(), Author::new(), 0)
+        Pass::of(self.list.first.again(), Writer::new(), 0)
     }
 
     /// Makes a handle of a new view, which has observed nothing and pushed nothing. It allocates

@@ -3,7 +3,7 @@
 ghost use Rattle.std.specs.Prelude.{◌≡◌, false, ◌≢◌, ◌≤◌, ◌<◌, ◌^◌, [], Some, length, slice_get, suc};
 ghost use mathlib.Core.List.{IsPrefix};
 ghost use Rattle.elsa_lock_free.specs.SharedList.{Apart, Continues, IsSamePass, Meet, count, items_of, longer, mine};
-ghost use Rattle.elsa_lock_free.specs.Distinct.{AgreeOnPlaces, EachIsNew, EachItemIsNew, IsOneToOne};
+ghost use Rattle.elsa_lock_free.specs.Distinct.{AgreeOnIndices, EachIsNew, EachItemIsNew, IsOneToOne};
 ghost use Rattle.elsa_lock_free.specs.History.{is_held, list_of};
 ghost use Rattle.elsa_lock_free.specs.Rights.{buffer_slots_of};
 ghost use Rattle.elsa_lock_free.specs.SeenHistory.{view_of};
@@ -11,7 +11,7 @@ ghost use Rattle.elsa_lock_free.specs.SeenHistory.{view_of};
 use crate::atomic_list::{AtomicList, SeenHistory, obeys_rule};
 use crate::item_rule::{AnyItems, DistinctItems, ItemRule};
 use crate::lock_free::LockFreeFrozenVec;
-use crate::tokens::{Author, apart, bounded_by_tickets, evidence, take_read};
+use crate::tokens::{Writer, apart, bounded_by_tickets, evidence, take_read};
 use elsa_slots::slots::{Beside, Buffer, WrittenPrefix};
 use std::alloc::{Allocator, Global};
 use std::marker::Model;
@@ -22,7 +22,7 @@ use std::snapshot::Snapshot;
 /// a writer that it has made up. Contracts see the writer's number. It has no bytes.
 #[derive(Drop)]
 pub struct PushRight {
-    writer: Snapshot<Author>,
+    writer: Snapshot<Writer>,
 }
 
 impl Model for PushRight {
@@ -40,11 +40,11 @@ impl PushRight {
         _vector: &LockFreeFrozenVec<T, A, K, X>,
         pass: &Pass<T, A, K, X>,
     ) -> PushRight
-        ensures { result ≡ pass.now.author }
+        ensures { result ≡ pass.now.writer }
     {
-        let author = &pass.author;
+        let writer = &pass.writer;
         PushRight {
-            writer: Snapshot::of(author),
+            writer: Snapshot::of(writer),
         }
     }
 }
@@ -54,7 +54,7 @@ impl PushRight {
 pub struct Pass<T, A: Allocator = Global, K: ItemRule<T> = AnyItems, X: Beside<T> = ()> {
     seen: SeenHistory<T, A, K, X>,
     // The writer's number, and the length of the list of `seen`.
-    author: Author,
+    writer: Writer,
     seen_length: usize,
 }
 
@@ -65,26 +65,26 @@ impl<T, A: Allocator, K: ItemRule<T>, X: Beside<T>> Model for Pass<T, A, K, X> {
 
     ghost Value = { View T };
 
-    ghost view = { λ p. record { vector = (p.seen.book, p.seen.names); author = suc p.author.name; seen = list_of p.seen.log } };
+    ghost view = { λ p. record { vector = (p.seen.book, p.seen.names); writer = suc p.writer.name; seen = list_of p.seen.log } };
 
     // The writer has used one ticket for each of its entries, and `seen_length` counts all entries.
-    ghost invariant = { λ p. (count (suc p.author.name) (list_of p.seen.log) ≡ p.author.used)
+    ghost invariant = { λ p. (count (suc p.writer.name) (list_of p.seen.log) ≡ p.writer.used)
         × (p.seen_length ≡ length (list_of p.seen.log)) × (p.seen_length < 2 ^ 62) };
 }
 
 impl<T, A: Allocator, K: ItemRule<T>, X: Beside<T>> Pass<T, A, K, X> {
     pub(crate) fn of(
         seen: SeenHistory<T, A, K, X>,
-        author: Author,
+        writer: Writer,
         seen_length: usize,
     ) -> Pass<T, A, K, X>
-        requires mine { count (suc author.name) (list_of seen.log) ≡ author.used }
+        requires mine { count (suc writer.name) (list_of seen.log) ≡ writer.used }
         requires length { (seen_length ≡ length (list_of seen.log)) × (seen_length < 2 ^ 62) }
-        ensures { result ≡ view_of seen author }
+        ensures { result ≡ view_of seen writer }
     {
         Pass {
             seen,
-            author,
+            writer,
             seen_length,
         }
     }
@@ -92,21 +92,21 @@ impl<T, A: Allocator, K: ItemRule<T>, X: Beside<T>> Pass<T, A, K, X> {
     /// The pass of a thread that has ended its hold: the word is free.
     pub(crate) fn released(
         seen: SeenHistory<T, A, K, X>,
-        author: Author,
+        writer: Writer,
         seen_length: usize,
     ) -> Pass<T, A, K, X>
         requires free { is_held seen.log ≡ false }
-        requires mine { count (suc author.name) (list_of seen.log) ≡ author.used }
+        requires mine { count (suc writer.name) (list_of seen.log) ≡ writer.used }
         requires length { (seen_length ≡ length (list_of seen.log)) × (seen_length < 2 ^ 62) }
-        ensures { result ≡ view_of seen author }
+        ensures { result ≡ view_of seen writer }
     {
-        Pass::of(seen, author, seen_length)
+        Pass::of(seen, writer, seen_length)
     }
 
-    pub(crate) fn parts(self) -> (SeenHistory<T, A, K, X>, Author, usize)
+    pub(crate) fn parts(self) -> (SeenHistory<T, A, K, X>, Writer, usize)
         ensures same_view { self ≡ record {
           vector = (result.0.book, result.0.names);
-          author = suc result.1.name;
+          writer = suc result.1.name;
           seen = list_of result.0.log;
         } }
         ensures mine { count (suc result.1.name) (list_of result.0.log) ≡ result.1.used }
@@ -114,10 +114,10 @@ impl<T, A: Allocator, K: ItemRule<T>, X: Beside<T>> Pass<T, A, K, X> {
     {
         let Self {
             seen,
-            author,
+            writer,
             seen_length,
         } = self;
-        (seen, author, seen_length)
+        (seen, writer, seen_length)
     }
 }
 
@@ -130,7 +130,7 @@ impl<T, A: Allocator, K: ItemRule<T>, X: Beside<T>> Pass<T, A, K, X> {
     {
         Pass::of(
             self.seen.again(),
-            bounded_by_tickets(&self.seen, Author::new()),
+            bounded_by_tickets(&self.seen, Writer::new()),
             self.seen_len(),
         )
     }
@@ -175,16 +175,16 @@ impl<T, A: Allocator, K: ItemRule<T>, X: Beside<T>> Pass<T, A, K, X> {
         evidence(&self.seen)
     }
 
-    /// Two passes are two authors.
+    /// Two passes are two writers.
     fn known_apart(self, other: Pass<T, A, K, X>) -> (Pass<T, A, K, X>, Pass<T, A, K, X>)
-        ensures { (result.0 ≡ self) × (result.1 ≡ other) × (self.author ≢ other.author) }
+        ensures { (result.0 ≡ self) × (result.1 ≡ other) × (self.writer ≢ other.writer) }
     {
-        let (seen, author, length) = self.parts();
-        let (other_seen, other_author, other_length) = other.parts();
-        let (author, other_author) = apart(author, other_author);
+        let (seen, writer, length) = self.parts();
+        let (other_seen, other_writer, other_length) = other.parts();
+        let (writer, other_writer) = apart(writer, other_writer);
         (
-            Pass::of(seen, author, length),
-            Pass::of(other_seen, other_author, other_length),
+            Pass::of(seen, writer, length),
+            Pass::of(other_seen, other_writer, other_length),
         )
     }
 
@@ -196,12 +196,12 @@ impl<T, A: Allocator, K: ItemRule<T>, X: Beside<T>> Pass<T, A, K, X> {
         ensures seen { (result.seen ≡ longer.now.seen) × IsPrefix self.seen result.seen }
         ensures mine { mine result ≡ mine self }
     {
-        let (seen, author, _length) = self.parts();
+        let (seen, writer, _length) = self.parts();
         let mut both = seen;
         both.learn(&longer.seen);
-        let author = bounded_by_tickets(&longer.seen, author);
+        let writer = bounded_by_tickets(&longer.seen, writer);
         drop(both);
-        Pass::of(longer.seen.again(), author, longer.seen_length)
+        Pass::of(longer.seen.again(), writer, longer.seen_length)
     }
 
     fn met(self, other: Pass<T, A, K, X>) -> (Pass<T, A, K, X>, Pass<T, A, K, X>)
@@ -211,7 +211,7 @@ impl<T, A: Allocator, K: ItemRule<T>, X: Beside<T>> Pass<T, A, K, X> {
         ensures same { IsSamePass self result.0 × IsSamePass other result.1 }
         ensures seen { IsPrefix self.seen result.0.seen × IsPrefix other.seen result.1.seen }
 
-        // Both have seen the longer list. Their places stay, and none is of both.
+        // Both have seen the longer list. Their indices stay, and none is of both.
         ensures longer { (result.0.seen ≡ longer self.seen other.seen)
             × (result.1.seen ≡ longer self.seen other.seen) }
         ensures mine { (mine result.0 ≡ mine self) × (mine result.1 ≡ mine other) }
@@ -254,22 +254,22 @@ impl<T: Drop, A: Allocator + Copy, K: ItemRule<T>, X: Beside<T> + Drop> Pass<T, 
         ensures continues { Continues self result.0 }
         ensures length { (result.1 ≡ length result.0.seen) × (result.1 < 2 ^ 62) }
     {
-        let (seen, author, _length) = self.parts();
-        let (n, seen, gained) = list.read_length(seen, author);
-        let (author, prefix) = take_read(gained);
+        let (seen, writer, _length) = self.parts();
+        let (n, seen, gained) = list.read_length(seen, writer);
+        let (writer, prefix) = take_read(gained);
         prefix.discard();
-        (Pass::of(seen, author, n), n)
+        (Pass::of(seen, writer, n), n)
     }
 
     /// Returns a reference to the item at an index that the view has observed.
-    pub(crate) fn item<'v>(&self, list: &'v AtomicList<T, A, K, X>, place: usize) -> &'v T
+    pub(crate) fn item<'v>(&self, list: &'v AtomicList<T, A, K, X>, index: usize) -> &'v T
         requires same_vector { self.now.vector ≡ (list.now.first.book, list.now.first.names) }
-        requires seen { place < length self.now.seen }
-        ensures { slice_get (items_of self.now.seen) place ≡ Some result.now }
+        requires seen { index < length self.now.seen }
+        ensures { slice_get (items_of self.now.seen) index ≡ Some result.now }
     {
         self.seen_len();
         let prefix = self.evidence();
-        let item = list.item(&prefix, place);
+        let item = list.item(&prefix, index);
         prefix.discard();
         item
     }
@@ -286,9 +286,9 @@ impl<T: Eq, A: Allocator> Pass<T, A, DistinctItems> {
 
     /// Proves that equal items that two views of a vector have observed are at one index, whether
     /// the views were merged or not. It does nothing at run time.
-    pub fn same_place(&self, other: &Pass<T, A, DistinctItems>)
+    pub fn same_index(&self, other: &Pass<T, A, DistinctItems>)
         requires same_vector { self.now.vector ≡ other.now.vector }
-        ensures { AgreeOnPlaces T.eq (items_of self.now.seen) (items_of other.now.seen) }
+        ensures { AgreeOnIndices T.eq (items_of self.now.seen) (items_of other.now.seen) }
     {
         let mut both = self.seen.again();
         both.learn(&other.seen);
@@ -302,8 +302,8 @@ unsafe impl<T, A: Allocator, K: ItemRule<T>, X: Beside<T>> Send for Pass<T, A, K
 
 impl<T, A: Allocator, K: ItemRule<T>, X: Beside<T>> Drop for Pass<T, A, K, X> {
     fn drop(self) {
-        let (seen, author, _length) = self.parts();
+        let (seen, writer, _length) = self.parts();
         drop(seen);
-        author.discard();
+        writer.discard();
     }
 }

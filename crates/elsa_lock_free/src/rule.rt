@@ -46,7 +46,7 @@ impl<T, B: HasSlots<T>> Gain<Event<T>, Log<T>> for AcquireGain<B> {
     ghost after = { λ names about answer. acquire_gain T.row B.row B.slot_names B.fits names answer };
 }
 
-/// A read of the length gains the evidence that each place of the list was written.
+/// A read of the length gains the evidence that each index of the list was written.
 pub struct ReadGain<B> {
     buffers: PhantomData<B>,
 }
@@ -57,7 +57,7 @@ impl<T, B: HasSlots<T>> Gain<Event<T>, Log<T>> for ReadGain<B> {
     ghost after = { λ names about answer. read_gain T.row B.row B.slot_names B.fits names about answer };
 }
 
-/// A release gains the author's right back, and that the history was the known one.
+/// A release gains the writer's right back, and that the history was the known one.
 pub struct ReleaseGain<B> {
     buffers: PhantomData<B>,
 }

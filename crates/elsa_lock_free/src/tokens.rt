@@ -12,9 +12,9 @@ ghost use Rattle.elsa_slots.specs.Ahead.{IsClosedAt, IsInOpenBuffer, IsOpenAt};
 ghost use Rattle.elsa_slots.specs.Geometry.{IsAt};
 ghost use Rattle.elsa_lock_free.specs.declared.event.Event.TheVariants.{Acquired, Published, Extended, Cloned, Released, OfferOf};
 ghost use Rattle.elsa_lock_free.specs.declared.event.Entry.{Entry};
-ghost use Rattle.elsa_lock_free.specs.History.{list_of, added, author_of, used_of, pushes_of, others, behind};
+ghost use Rattle.elsa_lock_free.specs.History.{list_of, added, writer_of, used_of, pushes_of, others, behind};
 ghost use Rattle.elsa_lock_free.specs.SharedList.{count, entry, items_of};
-ghost use Rattle.elsa_lock_free.specs.Rights.{logs, head, buffer_slots_of, author, OnlyPushed};
+ghost use Rattle.elsa_lock_free.specs.Rights.{logs, head, buffer_slots_of, writer, OnlyPushed};
 
 use crate::event::Event;
 use crate::item_rule::ItemRule;
@@ -36,18 +36,18 @@ impl Model for Held {
     ghost also_owns = { λ h. latest logs three_quarters h.name h.added };
 }
 
-/// The right to append as an author: all its tickets from `used` on.
-pub struct Author {
+/// The right to append as a writer: all its tickets from `used` on.
+pub struct Writer {
     pub(crate) marker: PhantomData<()>,
     pub ghost name: { ℕ },
     pub ghost used: { ℕ },
 }
 
-impl Model for Author {
-    ghost also_owns = { λ a. author a.name a.used };
+impl Model for Writer {
+    ghost also_owns = { λ a. writer a.name a.used };
 }
 
-/// A book with an empty list for these buffers, held by its maker. The evidence, of some places or
+/// A book with an empty list for these buffers, held by its maker. The evidence, of some indices or
 /// none, names the buffers.
 pub fn start<T, B: HasSlots<T>, K: ItemRule<T>>(
     prefix: WrittenPrefix<T, B>,
@@ -74,12 +74,12 @@ pub fn start<T, B: HasSlots<T>, K: ItemRule<T>>(
     )
 }
 
-impl Author {
-    /// A new author, which has pushed nothing.
-    pub fn new() -> Author
+impl Writer {
+    /// A new writer, which has pushed nothing.
+    pub fn new() -> Writer
         ensures { result.used ≡ 0 }
     {
-        Author {
+        Writer {
             marker: PhantomData,
         }
     }
@@ -129,7 +129,7 @@ pub fn take_acquired_closed<T, B: HasSlots<T>>(
     )
 }
 
-/// What an acquire gained, if the next place is in an open buffer.
+/// What an acquire gained, if the next index is in an open buffer.
 pub fn take_acquired_open<T, B: HasSlots<T>>(
     right: Gained<Event<T>, Log<T>, AcquireGain<B>>,
     _buffer: usize,
@@ -162,13 +162,13 @@ pub fn take_acquired_open<T, B: HasSlots<T>>(
 pub fn offer_release<T, B: HasSlots<T>, K: ItemRule<T>>(
     seen: &Seen<Event<T>, Log<T>, OneWord<B, K>>,
     right: Gained<Event<T>, Log<T>, AcquireGain<B>>,
-    author: Author,
+    writer: Writer,
 ) -> Offer<Event<T>, Log<T>, OneWord<B, K>, ReleaseGain<B>>
     requires { (right.names ≡ seen.now.names) × (seen.now.log ≡ right.answer ++ Acquired ∷ []) }
     ensures { (result.names ≡ seen.now.names) × (result.ask ≡ Released)
-        × (result.about ≡ OfferOf author.name author.used ∷ seen.now.log) × (result.state ≡ None) }
+        × (result.about ≡ OfferOf writer.name writer.used ∷ seen.now.log) × (result.state ≡ None) }
 {
-    spend!(right: Gained, author: Author);
+    spend!(right: Gained, writer: Writer);
     Offer {
         marker: PhantomData,
     }
@@ -182,7 +182,7 @@ pub fn offer_publish<T, B: HasSlots<T>, K: ItemRule<T>>(
     opened: Written<B>,
     slots: WriteRights,
     further: WriteRights,
-    author: Author,
+    writer: Writer,
     item: Written<T>,
     _buffer: usize,
     _slot: usize,
@@ -192,11 +192,11 @@ pub fn offer_publish<T, B: HasSlots<T>, K: ItemRule<T>>(
         opened.of (B.slot_names opened.value) (item.of ∷ slots.of) further.of
         × B.fits opened.value item.value }
     ensures { (result.names ≡ seen.now.names)
-        × (result.ask ≡ Published (entry (suc author.name) item.value))
-        × (result.about ≡ OfferOf author.name author.used ∷ seen.now.log) × (result.state ≡ None) }
+        × (result.ask ≡ Published (entry (suc writer.name) item.value))
+        × (result.about ≡ OfferOf writer.name writer.used ∷ seen.now.log) × (result.state ≡ None) }
 {
     spend!(held: Held, opened: Written, item: Written);
-    spend!(slots: WriteRights, further: WriteRights, author: Author);
+    spend!(slots: WriteRights, further: WriteRights, writer: Writer);
     Offer {
         marker: PhantomData,
     }
@@ -209,25 +209,25 @@ pub fn offer_extend_closed<T, B: HasSlots<T>, K: ItemRule<T>>(
     held: Held,
     prefix: WrittenPrefix<T, B>,
     further: WriteRights,
-    author: Author,
+    writer: Writer,
 ) -> Offer<Event<T>, Log<T>, OneWord<B, K>, ExtendGain<B>>
     requires { (held.name ≡ head seen.now.names) × (held.added ≡ added seen.now.log)
         × (prefix.buffer_slots ≡ buffer_slots_of seen.now.names)
         × IsPrefix (items_of (list_of seen.now.log)) prefix.items
         × IsClosedAt (buffer_slots_of seen.now.names) (length prefix.items) further.of }
     ensures { (result.names ≡ seen.now.names)
-        × (result.ask ≡ Extended (suc author.name) (behind seen.now.log prefix.items))
-        × (result.about ≡ OfferOf author.name author.used
-        ∷ Extended (suc author.name) (behind seen.now.log prefix.items) ∷ seen.now.log)
+        × (result.ask ≡ Extended (suc writer.name) (behind seen.now.log prefix.items))
+        × (result.about ≡ OfferOf writer.name writer.used
+        ∷ Extended (suc writer.name) (behind seen.now.log prefix.items) ∷ seen.now.log)
         × (result.state ≡ None) }
 {
-    spend!(held: Held, prefix: WrittenPrefix, further: WriteRights, author: Author);
+    spend!(held: Held, prefix: WrittenPrefix, further: WriteRights, writer: Writer);
     Offer {
         marker: PhantomData,
     }
 }
 
-/// The same, if the next place is in an open buffer.
+/// The same, if the next index is in an open buffer.
 pub fn offer_extend_open<T, B: HasSlots<T>, K: ItemRule<T>>(
     seen: &Seen<Event<T>, Log<T>, OneWord<B, K>>,
     held: Held,
@@ -235,7 +235,7 @@ pub fn offer_extend_open<T, B: HasSlots<T>, K: ItemRule<T>>(
     opened: Written<B>,
     slots: WriteRights,
     further: WriteRights,
-    author: Author,
+    writer: Writer,
 ) -> Offer<Event<T>, Log<T>, OneWord<B, K>, ExtendGain<B>>
     requires { (held.name ≡ head seen.now.names) × (held.added ≡ added seen.now.log)
         × (prefix.buffer_slots ≡ buffer_slots_of seen.now.names)
@@ -243,13 +243,13 @@ pub fn offer_extend_open<T, B: HasSlots<T>, K: ItemRule<T>>(
         × IsInOpenBuffer (buffer_slots_of seen.now.names) (length prefix.items)
         opened.of (B.slot_names opened.value) slots.of further.of }
     ensures { (result.names ≡ seen.now.names)
-        × (result.ask ≡ Extended (suc author.name) (behind seen.now.log prefix.items))
-        × (result.about ≡ OfferOf author.name author.used
-        ∷ Extended (suc author.name) (behind seen.now.log prefix.items) ∷ seen.now.log)
+        × (result.ask ≡ Extended (suc writer.name) (behind seen.now.log prefix.items))
+        × (result.about ≡ OfferOf writer.name writer.used
+        ∷ Extended (suc writer.name) (behind seen.now.log prefix.items) ∷ seen.now.log)
         × (result.state ≡ None) }
 {
     spend!(held: Held, prefix: WrittenPrefix, opened: Written);
-    spend!(slots: WriteRights, further: WriteRights, author: Author);
+    spend!(slots: WriteRights, further: WriteRights, writer: Writer);
     Offer {
         marker: PhantomData,
     }
@@ -262,21 +262,21 @@ pub fn offer_clone_closed<T, B: HasSlots<T>, K: ItemRule<T>>(
     held: Held,
     prefix: WrittenPrefix<T, B>,
     further: WriteRights,
-    author: Author,
+    writer: Writer,
 ) -> Offer<Event<T>, Log<T>, OneWord<B, K>, ReleaseGain<B>>
     requires { (held.name ≡ head seen.now.names) × (held.added ≡ [])
         × (prefix.buffer_slots ≡ buffer_slots_of seen.now.names)
         × IsClosedAt (buffer_slots_of seen.now.names) (length prefix.items) further.of }
     ensures { (result.names ≡ seen.now.names) × (result.ask ≡ Cloned prefix.items)
-        × (result.about ≡ OfferOf author.name author.used ∷ []) × (result.state ≡ None) }
+        × (result.about ≡ OfferOf writer.name writer.used ∷ []) × (result.state ≡ None) }
 {
-    spend!(held: Held, prefix: WrittenPrefix, further: WriteRights, author: Author);
+    spend!(held: Held, prefix: WrittenPrefix, further: WriteRights, writer: Writer);
     Offer {
         marker: PhantomData,
     }
 }
 
-/// The same, if the next place is in an open buffer.
+/// The same, if the next index is in an open buffer.
 pub fn offer_clone_open<T, B: HasSlots<T>, K: ItemRule<T>>(
     seen: &Seen<Event<T>, Log<T>, OneWord<B, K>>,
     held: Held,
@@ -284,55 +284,55 @@ pub fn offer_clone_open<T, B: HasSlots<T>, K: ItemRule<T>>(
     opened: Written<B>,
     slots: WriteRights,
     further: WriteRights,
-    author: Author,
+    writer: Writer,
 ) -> Offer<Event<T>, Log<T>, OneWord<B, K>, ReleaseGain<B>>
     requires { (held.name ≡ head seen.now.names) × (held.added ≡ [])
         × (prefix.buffer_slots ≡ buffer_slots_of seen.now.names)
         × IsInOpenBuffer (buffer_slots_of seen.now.names) (length prefix.items)
         opened.of (B.slot_names opened.value) slots.of further.of }
     ensures { (result.names ≡ seen.now.names) × (result.ask ≡ Cloned prefix.items)
-        × (result.about ≡ OfferOf author.name author.used ∷ []) × (result.state ≡ None) }
+        × (result.about ≡ OfferOf writer.name writer.used ∷ []) × (result.state ≡ None) }
 {
     spend!(held: Held, prefix: WrittenPrefix, opened: Written);
-    spend!(slots: WriteRights, further: WriteRights, author: Author);
+    spend!(slots: WriteRights, further: WriteRights, writer: Writer);
     Offer {
         marker: PhantomData,
     }
 }
 
-/// What a release gained: the author, and that the history was as long as the known one.
-pub fn take_released<T, B: HasSlots<T>>(gained: Gained<Event<T>, Log<T>, ReleaseGain<B>>) -> Author
-    ensures { (result.name ≡ author_of gained.about) × (result.used ≡ used_of gained.about)
+/// What a release gained: the writer, and that the history was as long as the known one.
+pub fn take_released<T, B: HasSlots<T>>(gained: Gained<Event<T>, Log<T>, ReleaseGain<B>>) -> Writer
+    ensures { (result.name ≡ writer_of gained.about) × (result.used ≡ used_of gained.about)
         × (length gained.answer ≡ length (others gained.about))
         × (OnlyPushed gained.about gained.answer) }
 {
     spend!(gained: Gained);
-    Author {
+    Writer {
         marker: PhantomData,
     }
 }
 
 /// What a publish gained: the same, with one ticket fewer.
-pub fn take_published<T, B: HasSlots<T>>(gained: Gained<Event<T>, Log<T>, PublishGain<B>>) -> Author
-    ensures { (result.name ≡ author_of gained.about) × (result.used ≡ suc (used_of gained.about))
+pub fn take_published<T, B: HasSlots<T>>(gained: Gained<Event<T>, Log<T>, PublishGain<B>>) -> Writer
+    ensures { (result.name ≡ writer_of gained.about) × (result.used ≡ suc (used_of gained.about))
         × (length gained.answer ≡ length (others gained.about))
         × (OnlyPushed gained.about gained.answer) }
 {
     spend!(gained: Gained);
-    Author {
+    Writer {
         marker: PhantomData,
     }
 }
 
-/// Takes the gain of a publish of several items: the author, minus one ticket for each item.
-pub fn take_extended<T, B: HasSlots<T>>(gained: Gained<Event<T>, Log<T>, ExtendGain<B>>) -> Author
-    ensures { (result.name ≡ author_of gained.about)
+/// Takes the gain of a publish of several items: the writer, minus one ticket for each item.
+pub fn take_extended<T, B: HasSlots<T>>(gained: Gained<Event<T>, Log<T>, ExtendGain<B>>) -> Writer
+    ensures { (result.name ≡ writer_of gained.about)
         × (result.used ≡ used_of gained.about + pushes_of (others gained.about))
         × (length gained.answer ≡ length (others (others gained.about)))
         × (OnlyPushed gained.about gained.answer) }
 {
     spend!(gained: Gained);
-    Author {
+    Writer {
         marker: PhantomData,
     }
 }
@@ -340,30 +340,30 @@ pub fn take_extended<T, B: HasSlots<T>>(gained: Gained<Event<T>, Log<T>, ExtendG
 /// An offer to read the length.
 pub fn offer_read<T, B: HasSlots<T>, K: ItemRule<T>>(
     seen: &Seen<Event<T>, Log<T>, OneWord<B, K>>,
-    author: Author,
+    writer: Writer,
 ) -> Offer<Event<T>, Log<T>, OneWord<B, K>, ReadGain<B>>
-    ensures { (result.names ≡ seen.now.names) × (result.ask ≡ OfferOf author.name author.used)
-        × (result.about ≡ OfferOf author.name author.used ∷ []) × (result.state ≡ None) }
+    ensures { (result.names ≡ seen.now.names) × (result.ask ≡ OfferOf writer.name writer.used)
+        × (result.about ≡ OfferOf writer.name writer.used ∷ []) × (result.state ≡ None) }
 {
-    spend!(author: Author);
+    spend!(writer: Writer);
     Offer {
         marker: PhantomData,
     }
 }
 
-/// What a read gained: the author, which has no entries beyond those it pushed, and the evidence
+/// What a read gained: the writer, which has no entries beyond those it pushed, and the evidence
 /// for the whole list.
 pub fn take_read<T, B: HasSlots<T>>(
     gained: Gained<Event<T>, Log<T>, ReadGain<B>>,
-) -> (Author, WrittenPrefix<T, B>)
-    ensures { (result.0.name ≡ author_of gained.about) × (result.0.used ≡ used_of gained.about)
+) -> (Writer, WrittenPrefix<T, B>)
+    ensures { (result.0.name ≡ writer_of gained.about) × (result.0.used ≡ used_of gained.about)
         × OnlyPushed gained.about gained.answer
         × (result.1.buffer_slots ≡ buffer_slots_of gained.names)
         × (result.1.items ≡ items_of (list_of gained.answer)) }
 {
     spend!(gained: Gained);
     (
-        Author {
+        Writer {
             marker: PhantomData,
         },
         WrittenPrefix {
@@ -372,21 +372,21 @@ pub fn take_read<T, B: HasSlots<T>>(
     )
 }
 
-/// A history that was seen has no more entries of an author than it pushed.
+/// A history that was seen has no more entries of a writer than it pushed.
 pub fn bounded_by_tickets<T, B: HasSlots<T>, K: ItemRule<T>>(
     seen: &Seen<Event<T>, Log<T>, OneWord<B, K>>,
-    author: Author,
-) -> Author
-    ensures { (result.name ≡ author.name) × (result.used ≡ author.used)
-        × (count (suc author.name) (list_of seen.now.log) ≤ author.used) }
+    writer: Writer,
+) -> Writer
+    ensures { (result.name ≡ writer.name) × (result.used ≡ writer.used)
+        × (count (suc writer.name) (list_of seen.now.log) ≤ writer.used) }
 {
-    spend!(author: Author);
-    Author {
+    spend!(writer: Writer);
+    Writer {
         marker: PhantomData,
     }
 }
 
-/// A history that was seen shows, for good, that each place of its list was written. It takes no
+/// A history that was seen shows, for good, that each index of its list was written. It takes no
 /// atomic step.
 pub fn evidence<T, B: HasSlots<T>, K: ItemRule<T>>(
     _seen: &Seen<Event<T>, Log<T>, OneWord<B, K>>,
@@ -399,26 +399,26 @@ pub fn evidence<T, B: HasSlots<T>, K: ItemRule<T>>(
     }
 }
 
-/// Two authors have two names.
-pub fn apart(one: Author, other: Author) -> (Author, Author)
+/// Two writers have two names.
+pub fn apart(one: Writer, other: Writer) -> (Writer, Writer)
     ensures { (result.0.name ≡ one.name) × (result.0.used ≡ one.used) × (result.1.name ≡ other.name)
         × (result.1.used ≡ other.used) × (one.name ≢ other.name) }
 {
-    spend!(one: Author, other: Author);
+    spend!(one: Writer, other: Writer);
     (
-        Author {
+        Writer {
             marker: PhantomData,
         },
-        Author {
+        Writer {
             marker: PhantomData,
         },
     )
 }
 
-impl Author {
+impl Writer {
     pub fn discard(self) {
         let Self { marker: _ } = self;
     }
 }
 
-unsafe impl Send for Author {}
+unsafe impl Send for Writer {}

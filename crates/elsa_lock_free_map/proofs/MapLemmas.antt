@@ -14,10 +14,10 @@ use Rattle.std.proofs.lemmas.Option.{slice_get-get_or}
 use Rattle.elsa_hash_index.specs.declared.entry.Entry.{Entry}
 use Rattle.elsa_hash_index.specs.Entries.{EachIsNew, IsAbsent, IsBehind, key_of, keys_of}
 use Rattle.elsa_hash_index.proofs.EntryLemmas.{entry_at}
-use Rattle.elsa_lock_free.specs.Distinct.{AgreeOnPlaces, IsOneToOne, one_answer}
+use Rattle.elsa_lock_free.specs.Distinct.{AgreeOnIndices, IsOneToOne, one_answer}
 use Rattle.elsa_lock_free.specs.SharedList.{BeginsABuffer, Continues, View, entry, item_of, items_of}
 use Rattle.elsa_lock_free.specs.declared.event.Entry.{Entry as Listed}
-use Rattle.elsa_lock_free.proofs.RuleLemmas.EachNew.{agree_on_places, items_are_new, one_to_one}
+use Rattle.elsa_lock_free.proofs.RuleLemmas.EachNew.{agree_on_indices, items_are_new, one_to_one}
 use Rattle.elsa_lock_free.proofs.RuleLemmas.History.{items_prefix}
 use Rattle.elsa_tables.specs.declared.put.Inserted.{Inserted}
 use Rattle.elsa_tables.specs.Rules.{HoldsAt}
@@ -32,7 +32,7 @@ taken zero xs h = refl
 taken (suc n) [] h = absurd (omega (arith, h))
 taken (suc n) (x ∷ xs) h = ap suc (taken n xs (omega (arith, h)))
 
--- where no buffer begins there is a place before
+-- where no buffer begins there is an index before
 pub some_before : (n : ℕ) → (BeginsABuffer n → ⊥) → 0 < n
 some_before zero later = absurd (later (0, omega arith, refl))
 some_before (suc n) later = omega arith
@@ -68,7 +68,7 @@ take_keys zero es = refl
 take_keys (suc i) [] = refl
 take_keys (suc i) (e ∷ es) = ap (λ l. e.key ∷ l) (take_keys i es)
 
--- the key at a place is that of the entry there
+-- the key at an index is that of the entry there
 pub key_at : {K V S : Type 0} (es : List (Entry K V S)) (i : ℕ) (e : Entry K V S) → slice_get es i ≡ Some e → slice_get (keys_of es) i ≡ Some e.key
 key_at [] i e at = absurd (cc at)
 key_at (x ∷ es) zero e at = let same : x ≡ e = cc at in ap (λ y. Some y.key) same
@@ -81,14 +81,14 @@ module _ {K V S : Type 0} (equal : K → K → Bool) (hash : S → K → ℕ) wh
       let here = entry_at es i y at in
       subst (λ z. IsAbsent equal (take i (keys_of es)) z) here.2 (subst (λ l. IsAbsent equal l here.0.key) (take_keys i es) (rule i here.0 here.1).0.absent)
 
-  -- so a key is at one place
+  -- so a key is at one index
   module _ (symm : (x y : K) → equal x y ≡ equal y x) (congr : (q x y : K) → equal q x ≡ true → equal q y ≡ equal x y) where
-    pub one_place : (es : List (Entry K V S)) → EachIsNew (MayFollow equal hash) es → (key : K) (i j : ℕ) (x y : Entry K V S) → slice_get es i ≡ Some x → slice_get es j ≡ Some y
+    pub one_index : (es : List (Entry K V S)) → EachIsNew (MayFollow equal hash) es → (key : K) (i j : ℕ) (x y : Entry K V S) → slice_get es i ≡ Some x → slice_get es j ≡ Some y
         → equal key x.key ≡ true → equal key y.key ≡ true → i ≡ j
-    one_place es rule key i j x y at_i at_j is_x is_y =
+    one_index es rule key i j x y at_i at_j is_x is_y =
         one_to_one equal symm (keys_of es) (keys_are_new es rule) i j x.key y.key (key_at es i x at_i) (key_at es j y at_j) (sym (congr key x.key y.key is_x) ∙ is_y)
 
--- what a beginning of a list has at a place, the list has
+-- what a beginning of a list has at an index, the list has
 kept_at : {A : Type 0} (xs ys : List A) (i : ℕ) (x : A) → slice_get xs i ≡ Some x → slice_get (xs ++ ys) i ≡ Some x
 kept_at [] ys i x at = absurd (cc at)
 kept_at (y ∷ xs) ys zero x at = at
@@ -105,22 +105,22 @@ keys_prefix xs ys p = (keys_of p.0, sym (map-append key_of xs p.0) ∙ ap keys_o
 pub lacks_before : {Q K V S : Type 0} (equal : Q → K → Bool) (xs ys : List (Entry K V S)) (key : Q) → IsPrefix xs ys → Lacks equal ys key → Lacks equal xs key
 lacks_before equal xs ys key p lacks i y at = lacks i y (later_at (keys_of xs) (keys_of ys) i y (keys_prefix xs ys p) at)
 
--- the keys of two beginnings of a map's list are at one place each
+-- the keys of two beginnings of a map's list are at one index each
 pub keys_agree : {K V S : Type 0} (equal : K → K → Bool) (hash : S → K → ℕ) (symm : (x y : K) → equal x y ≡ equal y x) (xs ys zs : List (Entry K V S)) → IsPrefix xs zs → IsPrefix ys zs
-    → EachIsNew (MayFollow equal hash) zs → AgreeOnPlaces equal (keys_of xs) (keys_of ys)
-keys_agree equal hash symm xs ys zs p q rule = agree_on_places equal symm (keys_of xs) (keys_of ys) (keys_of zs) (keys_prefix xs zs p) (keys_prefix ys zs q) (keys_are_new equal hash zs rule)
+    → EachIsNew (MayFollow equal hash) zs → AgreeOnIndices equal (keys_of xs) (keys_of ys)
+keys_agree equal hash symm xs ys zs p q rule = agree_on_indices equal symm (keys_of xs) (keys_of ys) (keys_of zs) (keys_prefix xs zs p) (keys_prefix ys zs q) (keys_are_new equal hash zs rule)
 
--- the entry at a place is the first of those from there on
+-- the entry at an index is the first of those from there on
 pub pair_at : {K V S : Type 0} (es : List (Entry K V S)) (i : ℕ) (e : Entry K V S) → slice_get es i ≡ Some e → drop i (pairs_of es) ≡ (e.key, e.value) ∷ drop (suc i) (pairs_of es)
 pair_at [] i e at = absurd (cc at)
 pair_at (x ∷ es) zero e at = let same : x ≡ e = cc at in ap (λ y. (y.key, y.value) ∷ pairs_of es) same
 pair_at (x ∷ es) (suc i) e at = pair_at es i e at
 
--- what a list has at a place isn't lacking in it
+-- what a list has at an index isn't lacking in it
 pub not_lacking : {Q K V S : Type 0} (equal : Q → K → Bool) (es : List (Entry K V S)) (key : Q) (i : ℕ) (e : Entry K V S) → Lacks equal es key → slice_get es i ≡ Some e → equal key e.key ≡ true → ⊥
 not_lacking equal es key i e lacks at is = one_answer (sym (lacks i e.key (key_at es i e at)) ∙ is)
 
--- the entry that is read at a place where the key was found
+-- the entry that is read at an index where the key was found
 pub stands_at : {Q K V S : Type 0} (equal : Q → K → Bool) (es : List (Entry K V S)) (i : ℕ) (key : Q) (x : Entry K V S)
     → ((e : Entry K V S) × (slice_get es i ≡ Some e) × (equal key e.key ≡ true)) → slice_get es i ≡ Some x → HasAt equal es i key x.value
 stands_at equal es i key x found here =
@@ -149,23 +149,23 @@ pub entries_agree : {K V S : Type 0} (equal : K → K → Bool) (hash : S → K 
 entries_agree equal hash symm congr xs ys zs p q rule key i j v w h k =
     let one = later_at xs zs i h.0 p h.1 in
     let two = later_at ys zs j k.0 q k.1 in
-    let index = one_place equal hash symm congr zs rule key i j h.0 k.0 one two h.2 k.2 in
+    let index = one_index equal hash symm congr zs rule key i j h.0 k.0 one two h.2 k.2 in
     (index, one_value equal zs key i j v w index (h.0, one, h.2, h.3) (k.0, two, k.2, k.3))
 
 last : {A : Type 0} (xs : List A) (x : A) → slice_get (xs ++ x ∷ []) (length xs) ≡ Some x
 last [] x = refl
 last (y ∷ xs) x = last xs x
 
-get_pushed : {A : Type 0} (xs ys : List (Listed A)) (author i : ℕ) (x : A) → length xs ≡ i → ys ≡ xs ++ entry author x ∷ [] → slice_get (items_of ys) i ≡ Some x
-get_pushed {A} xs ys author i x at is =
-    ap (λ (l : List (Listed A)). slice_get (items_of l) i) is ∙ (ap (λ (l : List A). slice_get l i) (map-append item_of xs (entry author x ∷ []))
+get_pushed : {A : Type 0} (xs ys : List (Listed A)) (writer i : ℕ) (x : A) → length xs ≡ i → ys ≡ xs ++ entry writer x ∷ [] → slice_get (items_of ys) i ≡ Some x
+get_pushed {A} xs ys writer i x at is =
+    ap (λ (l : List (Listed A)). slice_get (items_of l) i) is ∙ (ap (λ (l : List A). slice_get l i) (map-append item_of xs (entry writer x ∷ []))
     ∙ (ap (λ (k : ℕ). slice_get (items_of xs ++ x ∷ []) k) (sym at ∙ sym (length-map xs item_of)) ∙ last (items_of xs) x))
 
 -- the index of an entry that was appended to a list is the length of the list before
 pub pushed_at : {K V S : Type 0} (equal : K → K → Bool) (refl_key : (k : K) → equal k k ≡ true) (before after : View (Entry K V S)) (i : ℕ) (key : K) (value : V)
     → (i ≡ length before.seen) × PushesPair before after key value → HasAt equal (items_of after.seen) i key value
 pushed_at equal refl_key before after i key value (at, (e, is_key, is_value, pushed)) =
-    (e, get_pushed before.seen after.seen before.author i e (sym at) pushed.0, subst (λ k. equal key k ≡ true) (sym is_key) (refl_key key), is_value)
+    (e, get_pushed before.seen after.seen before.writer i e (sym at) pushed.0, subst (λ k. equal key k ≡ true) (sym is_key) (refl_key key), is_value)
 
 within : {A : Type 0} (xs ys : List A) → IsPrefix xs ys → length xs ≤ length ys
 within xs ys p = omega (arith, length-append xs p.0, ap length p.1)

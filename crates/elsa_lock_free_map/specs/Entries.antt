@@ -31,15 +31,15 @@ module _ {K V S : Type 0} where
 
   -- by a test for equal keys, or by a query
   module _ {Q : Type 0} (equal : Q → K → Bool) where
-    -- an entry of the key, with this value, is at the place
+    -- an entry of the key, with this value, is at the index
     abbrev pub HasAt : List (Entry K V S) → ℕ → Q → V → Type 0
     HasAt es i key value = (e : Entry K V S) × (slice_get es i ≡ Some e) × (equal key e.key ≡ true) × (e.value ≡ value)
 
-    -- it is at some place
+    -- it is at some index
     abbrev pub Has : List (Entry K V S) → Q → V → Type 0
     Has es key value = (i : ℕ) × HasAt es i key value
 
-    -- the entry at the place has this key and this value, and the query finds the key
+    -- the entry at the index has this key and this value, and the query finds the key
     abbrev pub FindsAt : List (Entry K V S) → ℕ → Q → K → V → Type 0
     FindsAt es i query key value =
         (e : Entry K V S) × (slice_get es i ≡ Some e) × (equal query e.key ≡ true) × (e.key ≡ key) × (e.value ≡ value)
@@ -57,16 +57,16 @@ AgreeOnEntries {K} {V} equal xs ys =
 abbrev pub is_text : List ℕ → Bor (List ℕ) → Bool
 is_text text key = bytes_eq text key.now
 
--- the author of the view has pushed an entry with this key and value right after the observed prefix
+-- the writer of the view has pushed an entry with this key and value right after the observed prefix
 abbrev pub PushesPair : {K V S : Type 0} → View (Entry K V S) → View (Entry K V S) → K → V → Type 0
 PushesPair {K} {V} {S} before after key value = (e : Entry K V S) × (e.key ≡ key) × (e.value ≡ value) × PushesNext before after e
 
--- a key has this index: it was pushed by the author of the view after the observed prefix, or was present
+-- a key has this index: it was pushed by the writer of the view after the observed prefix, or was present
 abbrev pub Came : {T : Type 0} → Bool → View T → View T → ℕ → Type 0
 Came true before after i = (length before.seen ≤ i) × (mine after ≡ mine before ++ i ∷ [])
 Came false before after i = mine after ≡ mine before
 
--- the effect of a successful insertion: the value that the key then has is at the index, pushed by the author of the view
+-- the effect of a successful insertion: the value that the key then has is at the index, pushed by the writer of the view
 -- or present before; and an observed entry of the key stays, with its value
 abbrev pub InsertsOnce : {Q K V S : Type 0} → (Q → K → Bool) → View (Entry K V S) → View (Entry K V S) → Q → Inserted V ℕ → Type 0
 InsertsOnce {V = V} equal before after key r =

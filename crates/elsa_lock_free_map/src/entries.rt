@@ -1,7 +1,7 @@
 //! The list of a map: its rule, what is stored next to the slots of its buffers, and the queries of
 //! a look-up.
 ghost use Rattle.std.specs.Prelude.{◌≡◌, ◌<◌, ◌^◌, fold, length};
-ghost use Rattle.elsa_lock_free.specs.Distinct.{AgreeOnPlaces, IsOneToOne};
+ghost use Rattle.elsa_lock_free.specs.Distinct.{AgreeOnIndices, IsOneToOne};
 ghost use Rattle.elsa_lock_free.specs.SharedList.{items_of};
 ghost use Rattle.elsa_hash_index.specs.Entries.{keys_of};
 ghost use Rattle.elsa_lock_free_map.specs.Entries.{AgreeOnEntries, short};
@@ -103,7 +103,7 @@ pub fn one_to_one<
 
 /// Proves that equal keys that two views of a map have observed are at one index and have one
 /// value, whether the views were merged or not. It does nothing at run time.
-pub fn same_place<
+pub fn same_index<
     K: Drop + Hash,
     V: Drop,
     S: BuildHasher + Copy + Drop,
@@ -111,7 +111,7 @@ pub fn same_place<
     L: EntryRule<K, V>,
 >(pass: &EntriesPass<K, V, S, A, L>, other: &EntriesPass<K, V, S, A, L>)
     requires same_vector { pass.now.vector ≡ other.now.vector }
-    ensures index { AgreeOnPlaces K.eq (keys_of (items_of pass.now.seen))
+    ensures index { AgreeOnIndices K.eq (keys_of (items_of pass.now.seen))
         (keys_of (items_of other.now.seen)) }
     ensures value { AgreeOnEntries K.eq (items_of pass.now.seen) (items_of other.now.seen) }
 {

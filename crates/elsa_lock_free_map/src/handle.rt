@@ -8,13 +8,13 @@
 ghost use Rattle.std.specs.Prelude.{◌≡◌, ◌↔◌, ◌⊎◌, ◌+◌, ◌≤◌, ◌<◌, ◌^◌, true, false, IsTrue, IfOk, IfErr, IfSome, IfNone, Some, Ok, Err, alloc_error, length, slice_get};
 ghost use Rattle.elsa_lock_free.specs.Attempts.{IfBusy};
 ghost use Rattle.elsa_lock_free.specs.SharedList.{Continues, IsLaterPass, IsSamePass, Meet, SeesAlike, items_of, mine};
-ghost use Rattle.elsa_lock_free.specs.Distinct.{AgreeOnPlaces, IsOneToOne};
+ghost use Rattle.elsa_lock_free.specs.Distinct.{AgreeOnIndices, IsOneToOne};
 ghost use Rattle.elsa_hash_index.specs.declared.entry.Entry.{Entry};
 ghost use Rattle.elsa_hash_index.specs.Entries.{keys_of};
 ghost use Rattle.elsa_tables.specs.Rules.{HoldsAt};
 ghost use Rattle.elsa_lock_free_map.specs.Entries.{AgreeOnEntries, FindsAt, GetsOrInserts, Has, HoldsEach, InsertsOnce, Lacks, PushesPair, pairs_of};
 
-use crate::entries::{EntriesHandle, Index, NewKeys, Query, hash_of, one_to_one, same_place};
+use crate::entries::{EntriesHandle, Index, NewKeys, Query, hash_of, one_to_one, same_index};
 use crate::iter::{MapIter, walk};
 use crate::map::{LockFreeFrozenMap, MapPass, copied};
 use elsa_hash_index::entry::{Entry, Shelf, entered, lookup, regrown};
@@ -86,16 +86,16 @@ impl<
         self.list.seen_len()
     }
 
-    fn item<'b>(&'b self, place: usize) -> &'b Entry<K, V, S> {
-        self.entry(place)
+    fn item<'b>(&'b self, index: usize) -> &'b Entry<K, V, S> {
+        self.entry(index)
     }
 
     fn obeys_rule(&self) {
         self.list.obeys_rule();
     }
 
-    fn row<'b>(&'b self, place: usize) -> &'b Row<S, A> {
-        &self.list.beside(place).row
+    fn row<'b>(&'b self, index: usize) -> &'b Row<S, A> {
+        &self.list.beside(index).row
     }
 
     fn hash_of(&self, builder: S, key: &K) -> u32 {
@@ -155,18 +155,18 @@ impl<
     }
 
     /// Returns the entry at an index that the handle has observed.
-    pub(crate) fn entry(&self, place: usize) -> &'m Entry<K, V, S>
-        requires seen { place < length self.now.seen }
-        ensures { slice_get (items_of self.now.seen) place ≡ Some result.now }
+    pub(crate) fn entry(&self, index: usize) -> &'m Entry<K, V, S>
+        requires seen { index < length self.now.seen }
+        ensures { slice_get (items_of self.now.seen) index ≡ Some result.now }
     {
-        self.list.item(place)
+        self.list.item(index)
     }
 
     /// Returns the index of a key among the entries that the handle has observed, by what stands
     /// for the key.
     // As a call of its own it costs a look-up a third more instructions.
     #[inline]
-    fn place_of<Q: Equivalent<K>>(&self, query: Q) -> Option<usize>
+    fn index_of<Q: Equivalent<K>>(&self, query: Q) -> Option<usize>
         ensures found { IfSome result (λ i. (e : Entry K V S) ×
             (slice_get (items_of self.now.seen) i ≡ Some e)
             × (Q.equivalent query e.key ≡ true)) }
@@ -193,7 +193,7 @@ impl<
         ensures holds { IfSome result (λ r. L.holds r.1.now r.2.now) }
         ensures absent { IfNone result (Lacks Q.equivalent (items_of self.now.seen) query) }
     {
-        if let Some(index) = self.place_of(query) {
+        if let Some(index) = self.index_of(query) {
             self.obeys_rule();
             let found = self.entry(index);
             return Some((index, &found.key, &found.value));
@@ -211,7 +211,7 @@ impl<
         ensures holds { IfSome result (λ v. HoldsAt L.holds (Q.equivalent query) v.now) }
         ensures absent { IfNone result (Lacks Q.equivalent (items_of self.now.seen) query) }
     {
-        if let Some(seen) = self.place_of(query) {
+        if let Some(seen) = self.index_of(query) {
             self.obeys_rule();
             return Some(&self.entry(seen).value);
         }
@@ -236,7 +236,7 @@ impl<
         ensures within { IfSome result (λ i. i < length self.new.seen) }
         ensures absent { IfNone result (Lacks Q.equivalent (items_of self.new.seen) query) }
     {
-        let found = self.place_of(query);
+        let found = self.index_of(query);
         if found.is_some() {
             return found;
         }
@@ -244,7 +244,7 @@ impl<
         if self.list.len() == seen {
             return None;
         }
-        self.place_of(query)
+        self.index_of(query)
     }
 
     /// Returns a reference to the value of a key, or `None` if no entry that the handle has then
@@ -259,9 +259,9 @@ impl<
         ensures holds { IfSome result (λ v. HoldsAt L.holds (Q.equivalent query) v.now) }
         ensures absent { IfNone result (Lacks Q.equivalent (items_of self.new.seen) query) }
     {
-        if let Some(place) = self.find(query) {
+        if let Some(index) = self.find(query) {
             self.obeys_rule();
-            return Some(&self.entry(place).value);
+            return Some(&self.entry(index).value);
         }
         None
     }
@@ -393,18 +393,18 @@ impl<
         for _ in rt.forever() {
             let (key, value) = pair;
             match self.push_absent(rt, key, value)? {
-                Ok(place) => {
+                Ok(index) => {
                     return Ok(Inserted {
-                        value: &self.entry(place).value,
-                        index: place,
+                        value: &self.entry(index).value,
+                        index,
                         is_new: true,
                     });
                 }
                 Err((key, value)) => {
-                    if let Some(place) = self.place_of(&key) {
+                    if let Some(index) = self.index_of(&key) {
                         return Ok(Inserted {
-                            value: &self.entry(place).value,
-                            index: place,
+                            value: &self.entry(index).value,
+                            index,
                             is_new: false,
                         });
                     }
@@ -476,10 +476,10 @@ impl<
                     });
                 }
                 Err((key, value)) => {
-                    if let Some(index) = self.place_of(&key) {
+                    if let Some(at) = self.index_of(&key) {
                         return Ok(Inserted {
-                            value: &self.entry(index).value,
-                            index,
+                            value: &self.entry(at).value,
+                            index: at,
                             is_new: false,
                         });
                     }
@@ -523,11 +523,11 @@ impl<
         ensures own_value { IfOk result (λ r. r.is_new ≡ true → r.value.now ≡ value) }
         ensures refused { IfErr result (λ e. mine self.new ≡ mine self.old) }
     {
-        if let Some(place) = self.place_of(&key) {
+        if let Some(index) = self.index_of(&key) {
             self.one_to_one();
             return Ok(Inserted {
-                value: &self.entry(place).value,
-                index: place,
+                value: &self.entry(index).value,
+                index,
                 is_new: false,
             });
         }
@@ -564,11 +564,11 @@ impl<
         ensures refused { IfErr result (λ f. (mine self.new ≡ mine self.old)
             × IfBusy f (λ pair. pair ≡ (key, value))) }
     {
-        if let Some(index) = self.place_of(&key) {
+        if let Some(at) = self.index_of(&key) {
             self.one_to_one();
             return Ok(Inserted {
-                value: &self.entry(index).value,
-                index,
+                value: &self.entry(at).value,
+                index: at,
                 is_new: false,
             });
         }
@@ -700,13 +700,13 @@ impl<
 
     /// Proves that equal keys that two handles of a map have observed are at one index and have one
     /// value, whether the handles were merged or not. It does nothing at run time.
-    pub fn same_place(&self, other: &MapHandle<'_, K, V, S, A, L>)
+    pub fn same_index(&self, other: &MapHandle<'_, K, V, S, A, L>)
         requires same_vector { self.now.vector ≡ other.now.vector }
-        ensures index { AgreeOnPlaces K.eq (keys_of (items_of self.now.seen))
+        ensures index { AgreeOnIndices K.eq (keys_of (items_of self.now.seen))
             (keys_of (items_of other.now.seen)) }
         ensures value { AgreeOnEntries K.eq (items_of self.now.seen) (items_of other.now.seen) }
     {
-        same_place(self.list.pass(), other.list.pass());
+        same_index(self.list.pass(), other.list.pass());
     }
 
     /// Merges what two handles of a map have observed: afterwards both have observed the longer
@@ -812,19 +812,19 @@ impl<
     ///
     /// # Cost
     /// `O(1)`.
-    pub fn get_by_place(&mut self, place: usize) -> Option<(K, V)>
+    pub fn get_index(&mut self, index: usize) -> Option<(K, V)>
         ensures continues { Continues self.old self.new }
         ensures found { IfSome result (λ r. (e : Entry K V S) ×
-            (slice_get (items_of self.new.seen) place ≡ Some e)
+            (slice_get (items_of self.new.seen) index ≡ Some e)
             × (r ≡ (e.key, e.value))) }
-        ensures absent { IfNone result (length self.new.seen ≤ place) }
+        ensures absent { IfNone result (length self.new.seen ≤ index) }
     {
-        if place < self.list.seen_len() {
-            let entry = self.entry(place);
+        if index < self.list.seen_len() {
+            let entry = self.entry(index);
             return Some((entry.key, entry.value));
         }
-        if place < self.list.len() {
-            let entry = self.entry(place);
+        if index < self.list.len() {
+            let entry = self.entry(index);
             return Some((entry.key, entry.value));
         }
         None

@@ -29,7 +29,7 @@ pub struct MapIter<
     L: EntryRule<K, V> = AnyEntries,
 > {
     entries: ObservedEntries<'m, K, V, S, A, L>,
-    place: usize,
+    index: usize,
 }
 
 impl<
@@ -45,10 +45,10 @@ impl<
 
     ghost Value = { List (K × V) };
 
-    ghost view = { λ it. drop it.place (pairs_of it.entries) };
+    ghost view = { λ it. drop it.index (pairs_of it.entries) };
 
-    // `place` is an index of the entries, or the end.
-    ghost invariant = { λ it. it.place ≤ length it.entries };
+    // `index` is an index of the entries, or the end.
+    ghost invariant = { λ it. it.index ≤ length it.entries };
 }
 
 /// An iterator over the entries that a handle of the list has observed.
@@ -64,7 +64,7 @@ pub(crate) fn walk<
 {
     MapIter {
         entries: list.observed(),
-        place: 0,
+        index: 0,
     }
 }
 
@@ -81,11 +81,11 @@ impl<
     pub(crate) fn next_entry(&mut self) -> Option<&'m Entry<K, V, S>>
         ensures { YieldsFirstBy (λ e. pair_of e.now) (λ left. left) self.old result self.new }
     {
-        if self.place >= self.entries.len() {
+        if self.index >= self.entries.len() {
             return None;
         }
-        let entry = self.entries.item(self.place);
-        self.place += 1;
+        let entry = self.entries.item(self.index);
+        self.index += 1;
         Some(entry)
     }
 
@@ -93,7 +93,7 @@ impl<
     fn left(&self) -> usize
         ensures { result ≡ length self.now }
     {
-        self.entries.len() - self.place
+        self.entries.len() - self.index
     }
 
     /// Returns an iterator over the entries that are left, each as references to its key and its

@@ -220,7 +220,7 @@ impl<'m, K: Drop + Hash, V: Drop, S: BuildHasher + Copy + Drop, A: Allocator + C
             × Has K.eq (items_of other.now.seen) key (record { id = two.now.token.of }) }
         ensures { one.now.value.now ≡ two.now.value.now }
     {
-        self.same_place(other);
+        self.same_index(other);
         one.token.agrees(&two.token);
     }
 }

@@ -43,11 +43,11 @@ impl<'m, 'a, V: Copy + Drop, S: BuildHasher + Copy + Drop, A: Allocator + Copy> 
         ensures own_value { IfOk result (λ r. r.is_new ≡ true → r.value ≡ value) }
         ensures refused { IfErr result (λ e. mine self.new ≡ mine self.old) }
     {
-        if let Some(place) = self.find(text) {
+        if let Some(index) = self.find(text) {
             self.one_to_one();
             return Ok(Inserted {
-                value: self.entry(place).value,
-                index: place,
+                value: self.entry(index).value,
+                index,
                 is_new: false,
             });
         }
@@ -76,11 +76,11 @@ impl<'m, 'a, V: Copy + Drop, S: BuildHasher + Copy + Drop, A: Allocator + Copy> 
         ensures refused { IfErr result (λ f. (mine self.new ≡ mine self.old)
             × IfBusy f (λ pair. (pair.0.now ≡ text.now) × (pair.1 ≡ value))) }
     {
-        if let Some(index) = self.find(text) {
+        if let Some(at) = self.find(text) {
             self.one_to_one();
             return Ok(Inserted {
-                value: self.entry(index).value,
-                index,
+                value: self.entry(at).value,
+                index: at,
                 is_new: false,
             });
         }

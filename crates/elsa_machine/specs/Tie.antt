@@ -13,7 +13,7 @@ use Rattle.elsa_machine.specs.declared.machine.Plan.TheVariants.{Pusher, Extende
 use Rattle.elsa_machine.specs.declared.machine.Turn.{Turn}
 use Rattle.elsa_machine.specs.Machine.{world_of}
 use Rattle.elsa_machine.specs.Turns.{shared_of}
-use Rattle.elsa_machine.specs.Worlds.{authored, list_of}
+use Rattle.elsa_machine.specs.Worlds.{written_by, list_of}
 
 -- A history that the code's rule allows: steps of the rule lead to it from the empty history, at which the maker of the
 -- vector has the lock.
@@ -62,8 +62,8 @@ module _ {T : Type 0} (code : T → ℕ) where
   abbrev pub AtomicStep : ℕ → Event T → Shared (ℕ × ℕ) → Shared (ℕ × ℕ) → Type 0
   AtomicStep k Acquired v w = Acquires v.length v w
   AtomicStep k (Published x) v w = Publishes (k, code x.item) v w
-  AtomicStep k (Extended a xs) v w = Extends (authored k (map code xs)) v w
-  AtomicStep k (Cloned xs) v w = Extends (authored k (map code xs)) v w
+  AtomicStep k (Extended a xs) v w = Extends (written_by k (map code xs)) v w
+  AtomicStep k (Cloned xs) v w = Extends (written_by k (map code xs)) v w
   AtomicStep k Released v w = Releases v w
   AtomicStep k (OfferOf a n) v w = Releases v w
 
@@ -78,10 +78,10 @@ module _ {T : Type 0} (code : T → ℕ) where
   Follows plans k [] front list held = Agrees plans front list held
   Follows plans k (e ∷ es) front list held =
       Agrees plans front list held × ((lead : List Turn) × (turn : Turn) × Does plans k e front lead turn
-      × Follows plans (suc k) es ((front ++ lead) ++ turn ∷ []) (list ++ authored k (items e)) (begins_hold e))
+      × Follows plans (suc k) es ((front ++ lead) ++ turn ∷ []) (list ++ written_by k (items e)) (begins_hold e))
 
   -- The history is one of the machine: for the plans of its events there is a schedule that it follows, from the end of
   -- its first event on. That event ends the hold of the vector's maker, which the machine doesn't have.
   abbrev pub IsOfMachine : Type 0 → List (Event T) → Type 0
   IsOfMachine A [] = Unit {0}
-  IsOfMachine A (e ∷ es) = (front : List Turn) × Follows {A = A} (map plan_of (e ∷ es)) 1 es front (authored 0 (items e)) (begins_hold e)
+  IsOfMachine A (e ∷ es) = (front : List Turn) × Follows {A = A} (map plan_of (e ∷ es)) 1 es front (written_by 0 (items e)) (begins_hold e)

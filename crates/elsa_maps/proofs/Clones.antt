@@ -11,7 +11,7 @@ use Rattle.indexmap.specs.Layout.{hash_map}
 use Rattle.indexmap.proofs.CallerLemmas.{insert_entry-new}
 use Rattle.indexmap.proofs.MapLemmas.{absent_before}
 use Rattle.elsa_tables.specs.Insertions.{IsCloneOf}
-use Rattle.elsa_maps.proofs.Places.{none_of}
+use Rattle.elsa_maps.proofs.Indices.{none_of}
 
 found_alike : {X : Type 0} (b : Bool) (v w : X) (r s : Option X) → is_some r ≡ is_some s → is_some (cond b (Some v) r) ≡ is_some (cond b (Some w) s)
 found_alike true v w r s h = refl

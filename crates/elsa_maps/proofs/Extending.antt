@@ -12,7 +12,7 @@ use Rattle.elsa_tables.specs.Insertions.{first_of_each}
 use Rattle.elsa_tables.proofs.Entries.{found_first, found_last, passed_over}
 use Rattle.elsa_tables.proofs.FirstOfEach.{first_of_each_push, same_any}
 use Rattle.elsa_maps.specs.FirstWins.{AddsNew, AppendsFirsts, HoldsFirst, Keeps, SameAt, value_at}
-use Rattle.elsa_maps.proofs.Places.{no_place, none_of, none_passes, some_passes}
+use Rattle.elsa_maps.proofs.Indices.{no_index, none_of, none_passes, some_passes}
 
 -- nothing is shown of a value that is not there
 shows_none : {B T : Type 0} (shown : B → T) (o : Option B) → option_map shown o ≡ None → o ≡ None
@@ -120,6 +120,6 @@ module _ {K V B T : Type 0} (eq : K → K → Bool) (target : V → T) (shown : 
         by None at =
             let (b, shows, last) = adds at in (
               added ++ (k, b) ∷ [],
-              subst (λ l. AllZip Related l (added ++ (k, b) ∷ [])) (sym (pushed false (none_passes (eq k) (keys_of es) (no_place eq es k at)))) (all_zipped_more Related firsts added (k, v) (k, b) zipped (refl, shows)),
+              subst (λ l. AllZip Related l (added ++ (k, b) ∷ [])) (sym (pushed false (none_passes (eq k) (keys_of es) (no_index eq es k at)))) (all_zipped_more Related firsts added (k, v) (k, b) zipped (refl, shows)),
               last ∙ ap (λ l. l ++ (k, b) ∷ []) is ∙ append_assoc old added ((k, b) ∷ []),
             )

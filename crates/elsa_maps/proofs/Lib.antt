@@ -5,4 +5,4 @@ pub mod Copied
 mod Extending
 mod Contents
 pub mod Pairs
-pub mod Places
+pub mod Indices

@@ -12,7 +12,7 @@ ghost use Rattle.indexmap.specs.IndexMap.{insert_entry};
 ghost use Rattle.elsa_tables.proofs.MapEquality.{same_values_equivalence, same_values_laws};
 ghost use Rattle.elsa_tables.specs.FirstWins.{IsEqualMap, same_values, value_at};
 ghost use Rattle.elsa_maps.specs.FirstWins.{AppendsFirsts, HoldsFirst};
-ghost use Rattle.elsa_tables.specs.Insertions.{Grows, place_of, Inserted, InsertedNew, IsCloneOf, CollectsTargets};
+ghost use Rattle.elsa_tables.specs.Insertions.{Grows, index_of, Inserted, InsertedNew, IsCloneOf, CollectsTargets};
 
 use crate::map::Frozen;
 use bumpalo::Bump;
@@ -110,7 +110,7 @@ where
     where
         K: Copy,
         Q: SeeksIndex<IndexMap<K, V::Borrow, S, A>, K, V::Borrow>,
-        ensures place { option_map (λ r. r.0) result ≡ position (Q.finds query) (keys_of self.now) }
+        ensures index { option_map (λ r. r.0) result ≡ position (Q.finds query) (keys_of self.now) }
         ensures pair { IfSome result (λ r. slice_get self.now r.0 ≡ Some (r.1, r.2)) }
         ensures value { option_map (λ r. r.2) result ≡ lookup (Q.finds query) self.now }
     {
@@ -238,7 +238,7 @@ where
     ///
     /// # Cost
     /// One hash and one search.
-    #[tactic(auto, using(crate::proofs::Places::no_place))]
+    #[tactic(auto, using(crate::proofs::Indices::no_index))]
     pub fn insert_full_new(
         &mut self,
         key: K,
@@ -246,18 +246,18 @@ where
     ) -> Result<(usize, V::Borrow, bool), AllocError>
         // A present key keeps its index and value; a new key has the last entry.
         ensures present { (x : V.Borrow) → value_at K.eq self.old key ≡ Some x →
-            (i : ℕ) × (place_of K.eq self.old key ≡ Some i)
+            (i : ℕ) × (index_of K.eq self.old key ≡ Some i)
             × (result ≡ Ok (i, x, false)) × (self.new ≡ self.old) }
         ensures accepted { IfOk result (λ r.
             InsertedNew K.eq V.target V.shown self.old key value r.0 r.1 r.2 self.new) }
 
         // Only the insertion of a new key fails, and then nothing changes.
         ensures refused { OnErr result (self.new ≡ self.old) }
-        ensures only_new { OnErr result (place_of K.eq self.old key ≡ None) }
+        ensures only_new { OnErr result (index_of K.eq self.old key ≡ None) }
 
         // The key is then found at its index, with its value.
         ensures value_after { IfOk result (λ r. value_at K.eq self.new key ≡ Some r.1) }
-        ensures index_after { IfOk result (λ r. place_of K.eq self.new key ≡ Some r.0) }
+        ensures index_after { IfOk result (λ r. index_of K.eq self.new key ≡ Some r.0) }
     {
         let Ok(found) = self.table.entry(key) else {
             return Err(AllocError);
@@ -270,9 +270,9 @@ where
             let _key = room.into_key();
             return Err(AllocError);
         };
-        let place = room.index();
+        let index = room.index();
         room.insert(borrow);
-        Ok((place, borrow, true))
+        Ok((index, borrow, true))
     }
 
     /// Appends the entry unless the map has an equal key, and returns the index and the value that
@@ -284,21 +284,21 @@ where
     pub fn insert_full(&mut self, key: K, value: V) -> Result<(usize, V::Borrow), AllocError>
         // A present key keeps its index and value; a new key has the last entry.
         ensures present { (x : V.Borrow) → value_at K.eq self.old key ≡ Some x →
-            (i : ℕ) × (place_of K.eq self.old key ≡ Some i) × (result ≡ Ok (i, x))
+            (i : ℕ) × (index_of K.eq self.old key ≡ Some i) × (result ≡ Ok (i, x))
             × (self.new ≡ self.old) }
         ensures accepted { IfOk result (λ r.
             Inserted K.eq V.target V.shown self.old key value r.0 r.1 self.new) }
 
         // Only the insertion of a new key fails, and then nothing changes.
         ensures refused { OnErr result (self.new ≡ self.old) }
-        ensures only_new { OnErr result (place_of K.eq self.old key ≡ None) }
+        ensures only_new { OnErr result (index_of K.eq self.old key ≡ None) }
 
         // The key is then found at its index, with its value.
         ensures value_after { IfOk result (λ r. value_at K.eq self.new key ≡ Some r.1) }
-        ensures index_after { IfOk result (λ r. place_of K.eq self.new key ≡ Some r.0) }
+        ensures index_after { IfOk result (λ r. index_of K.eq self.new key ≡ Some r.0) }
     {
-        let (place, borrow, _) = self.insert_full_new(key, value)?;
-        Ok((place, borrow))
+        let (index, borrow, _) = self.insert_full_new(key, value)?;
+        Ok((index, borrow))
     }
 }
 
@@ -309,13 +309,13 @@ where
 {
     // The index and the value of the key that is the same text as `key`.
     fn get_full_text(&self, key: &str) -> Option<(usize, V::Borrow)>
-        ensures place { option_map (λ r. r.0) result
-            ≡ place_of ⟦<&'a str as PartialEq>⟧.eq self.now key.entry }
+        ensures index { option_map (λ r. r.0) result
+            ≡ index_of ⟦<&'a str as PartialEq>⟧.eq self.now key.entry }
         ensures value { option_map (λ r. r.1) result
             ≡ value_at ⟦<&'a str as PartialEq>⟧.eq self.now key.entry }
     {
-        let (place, _, found) = self.table.get_full(key)?;
-        Some((place, *found))
+        let (index, _, found) = self.table.get_full(key)?;
+        Some((index, *found))
     }
 
     /// Appends an entry with the text as its key unless the map has that key, and returns the index
@@ -339,7 +339,7 @@ where
         // A present key keeps its index and value; a new key has the last entry.
         ensures present { (x : V.Borrow) →
             value_at ⟦<&'a str as PartialEq>⟧.eq self.old key.entry ≡ Some x →
-            (i : ℕ) × (place_of ⟦<&'a str as PartialEq>⟧.eq self.old key.entry ≡ Some i)
+            (i : ℕ) × (index_of ⟦<&'a str as PartialEq>⟧.eq self.old key.entry ≡ Some i)
             × (result ≡ Ok (i, x)) × (self.new ≡ self.old) }
         ensures accepted { IfOk result (λ r.
             (k : Bor (List ℕ)) × (k.now ≡ key.now)
@@ -349,13 +349,13 @@ where
         // Only the insertion of a new key fails, and then nothing changes.
         ensures refused { OnErr result (self.new ≡ self.old) }
         ensures only_new { OnErr result (
-            place_of ⟦<&'a str as PartialEq>⟧.eq self.old key.entry ≡ None) }
+            index_of ⟦<&'a str as PartialEq>⟧.eq self.old key.entry ≡ None) }
 
         // The key is then found at its index, with its value.
         ensures value_after { IfOk result (λ r.
             value_at ⟦<&'a str as PartialEq>⟧.eq self.new key.entry ≡ Some r.1) }
         ensures index_after { IfOk result (λ r.
-            place_of ⟦<&'a str as PartialEq>⟧.eq self.new key.entry ≡ Some r.0) }
+            index_of ⟦<&'a str as PartialEq>⟧.eq self.new key.entry ≡ Some r.0) }
     {
         if let Some(found) = self.get_full_text(key) {
             return Ok(found);
@@ -380,7 +380,7 @@ where
             × Inserted ⟦<&'a str as PartialEq>⟧.eq V.target V.shown self.old k value i b self.new) }
         ensures refused { OnErr result (self.new ≡ self.old) }
         ensures only_new { OnErr result (
-            place_of ⟦<&'a str as PartialEq>⟧.eq self.old key.entry ≡ None) }
+            index_of ⟦<&'a str as PartialEq>⟧.eq self.old key.entry ≡ None) }
         ensures value_after { IfOk result (λ b.
             value_at ⟦<&'a str as PartialEq>⟧.eq self.new key.entry ≡ Some b) }
     {

@@ -1,6 +1,6 @@
-pub mod Authors
+pub mod Writers
 pub mod Faults
 pub mod Passes
-pub mod Places
+pub mod Indices
 pub mod Pushed
 pub mod WrongWords

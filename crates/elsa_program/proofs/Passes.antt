@@ -19,12 +19,12 @@ module _ {T : Type 0} where
   first_is_longer xs ys within = grind (arith, nat_tests)
 
   abbrev view : Vector → ℕ → List (Entry T) → View T
-  view vector author seen = record { vector = vector; author = author; seen = seen }
+  view vector writer seen = record { vector = vector; writer = writer; seen = seen }
 
   -- Two views with the same vector, writer and observed prefix are equal.
-  pub same_view : (p q : View T) → q.vector ≡ p.vector → q.author ≡ p.author → q.seen ≡ p.seen → q ≡ p
-  same_view p q vector author seen =
-      ap (λ (v : Vector). view v q.author q.seen) vector ∙ (ap (λ (a : ℕ). view p.vector a q.seen) author ∙ ap (λ (es : List (Entry T)). view p.vector p.author es) seen)
+  pub same_view : (p q : View T) → q.vector ≡ p.vector → q.writer ≡ p.writer → q.seen ≡ p.seen → q ≡ p
+  same_view p q vector writer seen =
+      ap (λ (v : Vector). view v q.writer q.seen) vector ∙ (ap (λ (a : ℕ). view p.vector a q.seen) writer ∙ ap (λ (es : List (Entry T)). view p.vector p.writer es) seen)
 
   -- Continuing is transitive.
   pub continues_more : (p q r : View T) → Continues p q → Continues q r → Continues p r

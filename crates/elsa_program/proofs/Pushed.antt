@@ -12,16 +12,16 @@ pub numbers_more : (first n : ℕ) → numbers first (n + 1) ≡ numbers first n
 numbers_more first n = ap (numbers first) (let e : n + 1 ≡ suc n = omega arith in e)
 
 -- A view that had pushed the first n numbers has pushed the next.
-pub pushes_next : (old new : View ℕ) (place first n : ℕ) → new.author ≡ old.author → Appends old.seen new.seen place (entry old.author (first + n))
-    → mine new ≡ mine old ++ place ∷ [] → pushed_by old.author old.seen ≡ numbers first n → pushed_by new.author new.seen ≡ numbers first (n + 1)
-pushes_next old new place first n author adds more was =
-    pushes_one old new place (first + n) author adds more ∙ (ap (λ (l : List ℕ). l ++ (first + n) ∷ []) was ∙ sym (numbers_more first n))
+pub pushes_next : (old new : View ℕ) (index first n : ℕ) → new.writer ≡ old.writer → Appends old.seen new.seen index (entry old.writer (first + n))
+    → mine new ≡ mine old ++ index ∷ [] → pushed_by old.writer old.seen ≡ numbers first n → pushed_by new.writer new.seen ≡ numbers first (n + 1)
+pushes_next old new index first n writer adds more was =
+    pushes_one old new index (first + n) writer adds more ∙ (ap (λ (l : List ℕ). l ++ (first + n) ∷ []) was ∙ sym (numbers_more first n))
 
 -- A worker's result is still its result after its view has observed more.
 pub work_stays : (vector : Vector) (before : List (Entry ℕ)) (count worker : ℕ) (old new : View ℕ) (fault : Option SharedFault) → IsSamePass old new
     → IsPrefix old.seen new.seen → mine new ≡ mine old → IsWorkOf vector before count worker old fault → IsWorkOf vector before count worker new fault
-work_stays vector before count worker old new fault same pre places (of, fresh, (n, is, ends)) =
-    (same.0 ∙ of, ap (λ (a : ℕ). pushed_by a before) same.1 ∙ fresh, (n, pushes_none old new same.1 pre places ∙ is, ends))
+work_stays vector before count worker old new fault same pre indices (of, fresh, (n, is, ends)) =
+    (same.0 ∙ of, ap (λ (a : ℕ). pushed_by a before) same.1 ∙ fresh, (n, pushes_none old new same.1 pre indices ∙ is, ends))
 
 -- A result for which a thread's promise is kept is the worker's result.
 pub promised_work : (vector other_vector : Vector) (before other_before : List (Entry ℕ)) (count other_count worker other : ℕ) (pass : View ℕ) (fault : Option SharedFault)
@@ -31,6 +31,6 @@ promised_work vector other_vector before other_before count other_count worker o
     rw (sym same, sym begun, sym counted, sym is) kept
 
 -- A view that had pushed the first n numbers has pushed no other.
-pub pushes_no_next : (old new : View ℕ) (first n : ℕ) → new.author ≡ old.author → IsPrefix old.seen new.seen → mine new ≡ mine old
-    → pushed_by old.author old.seen ≡ numbers first n → pushed_by new.author new.seen ≡ numbers first n
-pushes_no_next old new first n author pre same was = pushes_none old new author pre same ∙ was
+pub pushes_no_next : (old new : View ℕ) (first n : ℕ) → new.writer ≡ old.writer → IsPrefix old.seen new.seen → mine new ≡ mine old
+    → pushed_by old.writer old.seen ≡ numbers first n → pushed_by new.writer new.seen ≡ numbers first n
+pushes_no_next old new first n writer pre same was = pushes_none old new writer pre same ∙ was

@@ -35,11 +35,11 @@ IsPromiseOf vector before count worker of_vector of_before of_count of_worker =
 -- began, and has pushed a beginning of the worker's numbers since.
 abbrev pub IsWorkOf : Vector → List (Entry ℕ) → ℕ → ℕ → View ℕ → Option SharedFault → Type 0
 IsWorkOf vector before count worker pass fault =
-    (pass.vector ≡ vector) × (pushed_by pass.author before ≡ []) × HasPushed count worker (pushed_by pass.author pass.seen) fault
+    (pass.vector ≡ vector) × (pushed_by pass.writer before ≡ []) × HasPushed count worker (pushed_by pass.writer pass.seen) fault
 
 -- P is true for each index and the item at it.
 abbrev pub Each : {X : Type 0} → (ℕ → X → Type 0) → List X → Type 0
-Each {X} P xs = (place : ℕ) (other : X) → place < length xs → P place (slice_index_or xs place other)
+Each {X} P xs = (index : ℕ) (other : X) → index < length xs → P index (slice_index_or xs index other)
 
 -- The results of all workers: each is a worker's result, and this view has observed what they have
 -- observed.
@@ -52,10 +52,10 @@ HaveHandedBack vector before count workers done pass =
 -- Each worker is a writer of its own, which had pushed nothing when the workers began. Its entries
 -- have its numbers in order: those that its fault allows.
 pub record HaveWorked (count : ℕ) (before seen : List (Entry ℕ)) (faults : List (Option SharedFault)) : Type 0 where
-  pub author : ℕ → ℕ
-  pub apart : (worker other : ℕ) → author worker ≡ author other → worker ≡ other
-  pub fresh : (worker : ℕ) → pushed_by (author worker) before ≡ []
-  pub pushed : Each (λ worker fault. HasPushed count worker (pushed_by (author worker) seen) fault) faults
+  pub writer : ℕ → ℕ
+  pub apart : (worker other : ℕ) → writer worker ≡ writer other → worker ≡ other
+  pub fresh : (worker : ℕ) → pushed_by (writer worker) before ≡ []
+  pub pushed : Each (λ worker fault. HasPushed count worker (pushed_by (writer worker) seen) fault) faults
 
 -- The order of the faults.
 abbrev pub rank : SharedFault → ℕ

@@ -21,8 +21,8 @@ use std::{fmt, thread};
 /// worker.
 pub trait Gate {
     /// Returns whether worker `worker`, counted from 0, continues after it pushed at the index
-    /// `place`.
-    fn after(&self, worker: usize, place: usize) -> bool;
+    /// `index`.
+    fn after(&self, worker: usize, index: usize) -> bool;
 }
 
 /// Why not all numbers are in the vector. If there are several faults, the first in this order is
@@ -128,17 +128,17 @@ fn work<R: Wait, G: Gate, A: Allocator + Copy>(
     requires limits { (worker < 16) × (count ≤ 100000) }
     ensures same { IsSamePass pass result.pass }
     ensures pushed { HasPushed count worker
-        (pushed_by result.pass.author result.pass.seen) result.fault }
+        (pushed_by result.pass.writer result.pass.seen) result.fault }
 {
     let first = worker as u64 * count as u64;
     for number in 0..count as u64 {
-        let Ok(place) = vector.push_as(rt, &mut pass, first + number) else {
+        let Ok(index) = vector.push_as(rt, &mut pass, first + number) else {
             return Done {
                 pass,
                 fault: Some(SharedFault::Memory),
             };
         };
-        if !gate.after(worker, place) {
+        if !gate.after(worker, index) {
             return Done {
                 pass,
                 fault: Some(SharedFault::Gate),
@@ -249,7 +249,7 @@ fn settle<A: Allocator + Copy>(
     ensures same { pass.new ≡ pass.old }
     ensures faults { result.items ≡ map (λ d. d.fault) done.items }
     ensures pushed { All (λ d.
-        pushed_by d.pass.author pass.new.seen ≡ pushed_by d.pass.author d.pass.seen) done.items }
+        pushed_by d.pass.writer pass.new.seen ≡ pushed_by d.pass.writer d.pass.seen) done.items }
 {
     for worker in done {
         let Done {
@@ -306,7 +306,7 @@ fn run_workers<'v, R: Threads + Wait + Sync, G: Gate + Sync, A: Allocator + Copy
                     requires limits { (worker < 16) × (count ≤ 100000) }
                     ensures same { IsSamePass theirs result.pass }
                     ensures pushed { HasPushed count worker
-                        (pushed_by result.pass.author result.pass.seen) result.fault }
+                        (pushed_by result.pass.writer result.pass.seen) result.fault }
                 { work(rt, vector, gate, theirs, worker, count) };
                 let Ok(child) = stack_of(stacks, worker).spawn_scoped_with(scope, promise, run)
                 else {

@@ -41,8 +41,8 @@ module _ {X K : Type 0} (eq : K → K → Bool) (key : X → K) (laws : IsEquiva
             → InsertionAnswers refused stands shows at (length es) form (form i b new) × (held eq key (changed (epoch_from es) (Added (item b))) ≡ fs)
         by None a g = (inr (inl (b, (λ j. form (g.0 j) b ((says ∙ ap is_none a) j)), a, g.1)), first_more es (item b) false (absent b a g.1) ∙ sym g.2)
         by (Some j) a g =
-            let place : at ≡ Some i = a ∙ ap Some (sym g.0) in
-            (inl (i, b, ap (form i b) (says ∙ ap is_none a), place, g.1), first_more es (item b) true (present i b place g.1) ∙ append-nil es ∙ sym g.2)
+            let index : at ≡ Some i = a ∙ ap Some (sym g.0) in
+            (inl (i, b, ap (form i b) (says ∙ ap is_none a), index, g.1), first_more es (item b) true (present i b index g.1) ∙ append-nil es ∙ sym g.2)
 
 module _ {X C R : Type 0} (content : Epoch X → List X) (Same : List X → List X → Type 0) (Answers : List X → C → R → Type 0) (change : C → R → Change X) (Step : List X → C → R → List X → Type 0)
     (keeps : (e : Epoch X) (c : C) (r : R) (es fs : List X) → Same (content e) es → Step es c r fs → Answers (content e) c r × Same (content (changed e (change c r))) fs) where

@@ -11,7 +11,7 @@ use Rattle.elsa_run.specs.SetRun.{Answers, SetRunsTo, Step, change}
 use Rattle.elsa_run.specs.declared.run_set.SetCommand.{SetCommand}
 use Rattle.elsa_run.specs.declared.run_set.SetReply.{SetReply}
 use Rattle.elsa_run.specs.declared.run_set.SetReply.TheVariants.{NoMemory}
-use Rattle.elsa_maps.proofs.Places.{none_passes}
+use Rattle.elsa_maps.proofs.Indices.{none_passes}
 use Rattle.elsa_run.proofs.Runs.{goes_on, insertion_step, ordered_runs}
 
 module _ {B : Type 0} (eq : B → B → Bool) where

@@ -1,7 +1,7 @@
 -- The possible replies to the commands of `run_index`, and the effect of each of them.
 use Rattle.std.specs.Prelude.{◌≡◌, ◌↔◌, ℕ, Bool, List, [], length, Some, IsTrue}
 use Rattle.elsa_tables.specs.FirstWins.{value_at}
-use Rattle.elsa_tables.specs.Insertions.{place_of}
+use Rattle.elsa_tables.specs.Insertions.{index_of}
 use Rattle.elsa_run.specs.Runs.{Change, held, InsertionAnswers, RunsTo, StepsTo, Kept, Added, Replaced}
 use Rattle.elsa_run.specs.declared.run_index.IndexCommand.{IndexCommand}
 use Rattle.elsa_run.specs.declared.run_index.IndexCommand.TheVariants.{Insert, InsertFull, InsertNew, InsertFullNew, Get, IndexOf, IsEmpty, Rebase}
@@ -12,7 +12,7 @@ module _ {K V T B M : Type 0} (eq : K → K → Bool) (target : V → T) (shown 
   -- The reply to an insertion if the content is es: the index and the value of the key, or the
   -- index after the last one and a borrow that shows the given target, or a failure.
   abbrev pub InsertAnswers : List (K × B) → K → V → (ℕ → B → Bool → IndexReply B) → IndexReply B → Type 0
-  InsertAnswers es k v = InsertionAnswers NoMemory (λ i b. value_at eq es k ≡ Some b) (λ b. shown b ≡ target v) (place_of eq es k) (length es)
+  InsertAnswers es k v = InsertionAnswers NoMemory (λ i b. value_at eq es k ≡ Some b) (λ b. shown b ≡ target v) (index_of eq es k) (length es)
 
   -- The possible replies to a command if the content is es.
   abbrev pub Answers : List (K × B) → IndexCommand K V M → IndexReply B → Type 0
@@ -21,7 +21,7 @@ module _ {K V T B M : Type 0} (eq : K → K → Bool) (target : V → T) (shown 
   Answers es (InsertNew k v) r = InsertAnswers es k v (λ i b new. New b new) r
   Answers es (InsertFullNew k v) r = InsertAnswers es k v (λ i b new. FullNew i b new) r
   Answers es (Get k) r = r ≡ Found (value_at eq es k)
-  Answers es (IndexOf k) r = r ≡ Place (place_of eq es k)
+  Answers es (IndexOf k) r = r ≡ Place (index_of eq es k)
   Answers es IsEmpty r = (flag : Bool) × (r ≡ Flag flag) × (IsTrue flag ↔ (es ≡ []))
   Answers es (Rebase m) r = r ≡ Done
 

@@ -87,16 +87,16 @@ where
         match self {
             IndexCommand::Insert(key, value) => Ok(IndexReply::Item(map.insert(key, value)?)),
             IndexCommand::InsertFull(key, value) => {
-                let (place, item) = map.insert_full(key, value)?;
-                Ok(IndexReply::Full(place, item))
+                let (index, item) = map.insert_full(key, value)?;
+                Ok(IndexReply::Full(index, item))
             }
             IndexCommand::InsertNew(key, value) => {
                 let (item, is_new) = map.insert_new(key, value)?;
                 Ok(IndexReply::New(item, is_new))
             }
             IndexCommand::InsertFullNew(key, value) => {
-                let (place, item, is_new) = map.insert_full_new(key, value)?;
-                Ok(IndexReply::FullNew(place, item, is_new))
+                let (index, item, is_new) = map.insert_full_new(key, value)?;
+                Ok(IndexReply::FullNew(index, item, is_new))
             }
             IndexCommand::Get(key) => Ok(IndexReply::Found(map.get(&key))),
             IndexCommand::IndexOf(key) => Ok(IndexReply::Place(map.get_index_of(&key))),

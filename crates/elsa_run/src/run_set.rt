@@ -89,16 +89,16 @@ where
         match self {
             SetCommand::Insert(value) => Ok(SetReply::Item(set.insert(value)?)),
             SetCommand::InsertFull(value) => {
-                let (place, item) = set.insert_full(value)?;
-                Ok(SetReply::Full(place, item))
+                let (index, item) = set.insert_full(value)?;
+                Ok(SetReply::Full(index, item))
             }
             SetCommand::InsertNew(value) => {
                 let (item, is_new) = set.insert_new(value)?;
                 Ok(SetReply::New(item, is_new))
             }
             SetCommand::InsertFullNew(value) => {
-                let (place, item, is_new) = set.insert_full_new(value)?;
-                Ok(SetReply::FullNew(place, item, is_new))
+                let (index, item, is_new) = set.insert_full_new(value)?;
+                Ok(SetReply::FullNew(index, item, is_new))
             }
             SetCommand::Get(value) => Ok(SetReply::Found(set.get(&value))),
             SetCommand::IndexOf(value) => Ok(SetReply::Place(set.get_index_of(&value))),

@@ -1,8 +1,8 @@
--- The numbers of an interner of shards: a number says in which shard a name is, and at which place of the shard's list.
+-- The numbers of an interner of shards: a number says in which shard a name is, and at which index of the shard's list.
 use Rattle.std.specs.Prelude.{◌≡◌, ℕ, ◌/◌, ◌%◌, Bool, true, List, Some, length, slice_get}
 use Rattle.elsa_lock_free.specs.SharedList.{View, items_of}
 
--- Of the views of all shards, the one that the number leads to has this name at the number's place. `shard` is the index of the
+-- Of the views of all shards, the one that the number leads to has this name at the number's index. `shard` is the index of the
 -- shard that a name belongs to, and the name is in that shard.
 abbrev pub IsNumbered : {T : Type 0} → (T → ℕ) → List (View T) → ℕ → T → Type 0
 IsNumbered {T} shard views i x =

@@ -27,14 +27,14 @@ use std::sync::Wait;
 
 /// Returns the number of the name at an index of a shard, of `count` shards.
 #[inline(always)]
-#[tactic(auto, using(crate::proofs::NumberLemmas::place_of, crate::proofs::NumberLemmas::shard_of_number))]
-fn number_of(place: usize, shard: usize, count: usize) -> usize
+#[tactic(auto, using(crate::proofs::NumberLemmas::index_of_number, crate::proofs::NumberLemmas::shard_of_number))]
+fn number_of(index: usize, shard: usize, count: usize) -> usize
     requires shard { shard < count }
-    requires limits { (count ≤ 2 ^ 32) × (place < 2 ^ 32) }
+    requires limits { (count ≤ 2 ^ 32) × (index < 2 ^ 32) }
     ensures shard { result % count ≡ shard }
-    ensures place { result / count ≡ place }
+    ensures index { result / count ≡ index }
 {
-    place * count + shard
+    index * count + shard
 }
 
 /// An interner that threads share, divided into shards by the hash of the name: a name has the same
@@ -232,11 +232,11 @@ impl<
         let shard = self.shard_index(name);
         let count = self.names.len();
         let names = &mut self.names[shard];
-        let Ok(place) = names.put(rt, name) else {
+        let Ok(index) = names.put(rt, name) else {
             return Err(AllocError);
         };
         names.seen_len();
-        Ok(number_of(place, shard, count))
+        Ok(number_of(index, shard, count))
     }
 
     /// Returns the number of a name, and adds the name if no thread has added it, as
@@ -301,11 +301,11 @@ impl<
         let shard = self.shard_index(query);
         let count = self.names.len();
         let names = &mut self.names[shard];
-        let Some(place) = names.find(query) else {
+        let Some(index) = names.find(query) else {
             return None;
         };
         names.seen_len();
-        Some(number_of(place, shard, count))
+        Some(number_of(index, shard, count))
     }
 
     /// Returns the name with a number, or `None` if the handle has then observed no such name. The
@@ -382,7 +382,7 @@ impl<
             (T.hash_input x)) self.now.0 other.now.0 }
     {
         for index in 0..self.names.len() {
-            self.names[index].same_name_same_place(&other.names[index]);
+            self.names[index].same_name_same_index(&other.names[index]);
         }
     }
 
@@ -443,11 +443,11 @@ impl<'i, 'a, S: BuildHasher + Copy + Drop, A: Allocator + Copy> ShardedNameHandl
         let shard = self.shard_index(text);
         let count = self.names.len();
         let names = &mut self.names[shard];
-        let Ok(place) = names.put_text(rt, arena, text) else {
+        let Ok(index) = names.put_text(rt, arena, text) else {
             return Err(AllocError);
         };
         names.seen_len();
-        Ok(number_of(place, shard, count))
+        Ok(number_of(index, shard, count))
     }
 
     /// Returns the number of a text of any lifetime and length, as [`put_text`](Self::put_text)

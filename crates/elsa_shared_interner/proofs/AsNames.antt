@@ -8,7 +8,7 @@ use Rattle.std.specs.Borrow.{Bor}
 use Rattle.std.specs.List.{list_any}
 use mathlib.Core.List.{IsPrefix}
 use Rattle.elsa_lock_free.specs.declared.event.Entry.{Entry as Pushed}
-use Rattle.elsa_lock_free.specs.SharedList.{Continues, IsLaterPass, IsSamePass, View, item_of, items_of, longer, mine, places_from}
+use Rattle.elsa_lock_free.specs.SharedList.{Continues, IsLaterPass, IsSamePass, View, item_of, items_of, longer, mine, indices_from}
 use Rattle.elsa_hash_index.specs.declared.entry.Entry.{Entry}
 use Rattle.elsa_hash_index.specs.Entries.{keys_of}
 use Rattle.elsa_hash_index.proofs.EntryLemmas.{entry_at}
@@ -35,13 +35,13 @@ module _ {T V S : Type 0} where
   items_names [] = refl
   items_names (e ∷ es) = ap (λ l. e.item.key ∷ l) (items_names es)
 
-  places_names : (author first : ℕ) (es : List (Pushed (Entry T V S))) → places_from author first (map name_of es) ≡ places_from author first es
-  places_names author first [] = refl
-  places_names author first (e ∷ es) = ap (λ l. (if e.author == author then first ∷ [] else []) ++ l) (places_names author (suc first) es)
+  names_indices : (writer first : ℕ) (es : List (Pushed (Entry T V S))) → indices_from writer first (map name_of es) ≡ indices_from writer first es
+  names_indices writer first [] = refl
+  names_indices writer first (e ∷ es) = ap (λ l. (if e.writer == writer then first ∷ [] else []) ++ l) (names_indices writer (suc first) es)
 
-  -- a pass's own places are the same
+  -- a pass's own indices are the same
   pub mine_names : (pass : View (Entry T V S)) → mine (names_of pass) ≡ mine pass
-  mine_names pass = places_names pass.author 0 pass.seen
+  mine_names pass = names_indices pass.writer 0 pass.seen
 
   pub prefix_names : (xs ys : List (Pushed (Entry T V S))) → IsPrefix xs ys → IsPrefix (map name_of xs) (map name_of ys)
   prefix_names xs ys p = (map name_of p.0, sym (map-append name_of xs p.0) ∙ ap (map name_of) p.1)
@@ -107,7 +107,7 @@ module _ {T V S : Type 0} where
       → Lacks test (items_of (names_of pass).seen)
   lacks_name test pass none = subst (Lacks test) (sym (items_names pass.seen)) (finds_none test (keys_of (items_of pass.seen)) none)
 
-  -- the entry at a place has its name, and there is none where no entry is
+  -- the entry at an index has its name, and there is none where no entry is
   pub is_name : (pass : View (Entry T V S)) (i : ℕ) (r : T × V) → ((e : Entry T V S) × (slice_get (items_of pass.seen) i ≡ Some e) × (r ≡ (e.key, e.value)))
       → Some r.0 ≡ slice_get (items_of (names_of pass).seen) i
   is_name pass i r h = ap (λ p. Some p.0) h.2 ∙ sym (ap (λ l. slice_get l i) (items_names pass.seen) ∙ key_at (items_of pass.seen) i h.0 h.1)

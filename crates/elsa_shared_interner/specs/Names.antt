@@ -1,4 +1,4 @@
--- What a short name means: its text; what a pass of an interner has seen; and that a list has an item at a place, or lacks it.
+-- What a short name means: its text; what a pass of an interner has seen; and that a list has an item at an index, or lacks it.
 use Rattle.std.specs.Prelude.{ℕ, ◌≡◌, ◌⊎◌, Bool, true, false, List, [], ◌∷◌, ◌++◌, map, take, slice_get, Some}
 use Rattle.std.specs.Borrow.{Bor}
 use Rattle.std.specs.List.{list_any}
@@ -14,19 +14,19 @@ abbrev pub text_of : Name → List ℕ
 text_of n = take n.len n.bytes
 
 module _ {T V S : Type 0} where
-  -- an entry of the interner's map as its name, of the same author
+  -- an entry of the interner's map as its name, of the same writer
   abbrev pub name_of : Pushed (Entry T V S) → Pushed T
-  name_of e = record { author = e.author; item = e.item.key }
+  name_of e = record { writer = e.writer; item = e.item.key }
 
   -- a pass of the interner's map as a pass of names alone
   abbrev pub names_of : View (Entry T V S) → View T
-  names_of pass = record { vector = pass.vector; author = pass.author; seen = map name_of pass.seen }
+  names_of pass = record { vector = pass.vector; writer = pass.writer; seen = map name_of pass.seen }
 
--- at this place of the list is an item that is equal to x
+-- at this index of the list is an item that is equal to x
 abbrev pub HasAt : {Q T : Type 0} → (Q → T → Bool) → List T → ℕ → Q → Type 0
 HasAt {Q} {T} equal xs i x = (y : T) × (slice_get xs i ≡ Some y) × (equal x y ≡ true)
 
--- at this place of the list is a borrow of this text
+-- at this index of the list is a borrow of this text
 abbrev pub HasTextAt : List (Bor (List ℕ)) → ℕ → List ℕ → Type 0
 HasTextAt xs i text = (y : Bor (List ℕ)) × (slice_get xs i ≡ Some y) × (y.now ≡ text)
 

@@ -6,7 +6,7 @@ ghost use Rattle.std.specs.Prelude.{◌≡◌, ◌↔◌, ◌+◌, ◌-◌, ◌�
 ghost use Rattle.std.specs.Str.{bytes_eq};
 ghost use Rattle.elsa_lock_free.specs.Attempts.{IfBusy};
 ghost use Rattle.elsa_lock_free.specs.SharedList.{Continues, IsLaterPass, Meet, items_of, mine};
-ghost use Rattle.elsa_lock_free.specs.Distinct.{AgreeOnPlaces, IsOneToOne};
+ghost use Rattle.elsa_lock_free.specs.Distinct.{AgreeOnIndices, IsOneToOne};
 ghost use Rattle.elsa_shared_interner.specs.Names.{HasAt, Lacks, PutsName, PutsText, alone};
 
 use crate::name::Name;
@@ -177,7 +177,7 @@ impl<'i, T: Copy + Drop + Hash, S: BuildHasher + Copy + Drop, A: Allocator + Cop
     ///
     /// # Cost
     /// `O(1)` if the hashes differ.
-    pub fn seen_get<Q: Equivalent<T>>(&self, query: Q) -> Option<usize>
+    pub fn seen_find<Q: Equivalent<T>>(&self, query: Q) -> Option<usize>
         ensures found { IfSome result (λ i. HasAt Q.equivalent (items_of self.now.seen) i query) }
         ensures within { IfSome result (λ i. i < length self.now.seen) }
         ensures absent { IfNone result (Lacks (Q.equivalent query) (items_of self.now.seen)) }
@@ -197,11 +197,11 @@ impl<'i, T: Copy + Drop + Hash, S: BuildHasher + Copy + Drop, A: Allocator + Cop
     ///
     /// # Cost
     /// `O(1)`.
-    pub fn at(&mut self, place: usize) -> Option<T>
+    pub fn at(&mut self, index: usize) -> Option<T>
         ensures continues { Continues self.old self.new }
-        ensures name { result ≡ slice_get (items_of self.new.seen) place }
+        ensures name { result ≡ slice_get (items_of self.new.seen) index }
     {
-        let Some(entry) = self.names.get_by_place(place) else {
+        let Some(entry) = self.names.get_index(index) else {
             return None;
         };
         Some(entry.0)
@@ -255,11 +255,11 @@ impl<'i, T: Copy + Drop + Hash, S: BuildHasher + Copy + Drop, A: Allocator + Cop
 
     /// Proves that a name has one index for two handles of an interner, whether they were merged or
     /// not. It does nothing at run time.
-    pub fn same_name_same_place(&self, other: &NameHandle<'_, T, S, A>)
+    pub fn same_name_same_index(&self, other: &NameHandle<'_, T, S, A>)
         requires same_vector { self.now.vector ≡ other.now.vector }
-        ensures { AgreeOnPlaces T.eq (items_of self.now.seen) (items_of other.now.seen) }
+        ensures { AgreeOnIndices T.eq (items_of self.now.seen) (items_of other.now.seen) }
     {
-        self.names.same_place(&other.names);
+        self.names.same_index(&other.names);
     }
 
     /// Merges what two handles of an interner have observed, so that each reads the names of the

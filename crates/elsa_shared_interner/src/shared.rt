@@ -6,12 +6,12 @@
 //! of their indices. `put` and `at` have a short form that takes a view instead of a handle.
 ghost use Rattle.std.specs.Prelude.{◌≡◌, ◌-◌, ◌<◌, ◌^◌, [], IfOk, IfErr, length, slice_get};
 ghost use Rattle.elsa_lock_free.specs.SharedList.{Continues, IsLaterPass, Meet, items_of, mine};
-ghost use Rattle.elsa_lock_free.specs.Distinct.{AgreeOnPlaces, IsOneToOne};
+ghost use Rattle.elsa_lock_free.specs.Distinct.{AgreeOnIndices, IsOneToOne};
 ghost use Rattle.elsa_shared_interner.specs.Names.{PutsName, names_of};
 
 use crate::handle::NameHandle;
 use crate::name::Name;
-use elsa_lock_free_map::entries::{one_to_one, same_place};
+use elsa_lock_free_map::entries::{one_to_one, same_index};
 use elsa_lock_free_map::handle::MapHandle;
 use elsa_lock_free_map::map::{LockFreeFrozenMap, MapPass};
 use std::alloc::{AllocError, Allocator, Global};
@@ -90,11 +90,11 @@ impl<T: Copy + Drop + Hash, S: BuildHasher + Copy + Drop, A: Allocator + Copy> N
 
     /// Proves that a name has one index for two views of an interner, whether they were merged or
     /// not. It does nothing at run time.
-    pub fn same_name_same_place(&self, other: &NamePass<T, S, A>)
+    pub fn same_name_same_index(&self, other: &NamePass<T, S, A>)
         requires same_vector { self.now.vector ≡ other.now.vector }
-        ensures { AgreeOnPlaces T.eq (items_of self.now.seen) (items_of other.now.seen) }
+        ensures { AgreeOnIndices T.eq (items_of self.now.seen) (items_of other.now.seen) }
     {
-        same_place(&self.pass, &other.pass);
+        same_index(&self.pass, &other.pass);
     }
 }
 
@@ -210,13 +210,13 @@ impl<T: Copy + Drop + Hash, S: BuildHasher + Copy + Drop, A: Allocator + Copy> S
 
     /// Returns the name at an index by a view, as [`NameHandle::at`] does: `None` if the index is
     /// not below the number of names that the view has then observed.
-    pub fn at(&self, names: &mut NamePass<T, S, A>, place: usize) -> Option<T>
+    pub fn at(&self, names: &mut NamePass<T, S, A>, index: usize) -> Option<T>
         requires same_vector { names.old.vector ≡ self.now }
         ensures continues { Continues names.old names.new }
-        ensures name { result ≡ slice_get (items_of names.new.seen) place }
+        ensures name { result ≡ slice_get (items_of names.new.seen) index }
     {
         let mut handle = NameHandle::of(self, std::mem::replace(names, self.pass()));
-        let answer = handle.at(place);
+        let answer = handle.at(index);
         *names = handle.into_pass();
         answer
     }

@@ -19,8 +19,8 @@ pub keys_grow : {K B : Type 0} (es fs : List (K × B)) → Grows es fs → Grows
 keys_grow es fs (more, is) = (keys_of more, ap keys_of is ∙ map-append (λ p. p.0) es more)
 
 -- The index that a test finds is unchanged.
-pub place_stays : {X : Type 0} (t : X → Bool) (xs ys : List X) (i : ℕ) → Grows xs ys → position t xs ≡ Some i → position t ys ≡ Some i
-place_stays t xs ys i (more, is) at = ap (position t) is ∙ kept
+pub index_stays : {X : Type 0} (t : X → Bool) (xs ys : List X) (i : ℕ) → Grows xs ys → position t xs ≡ Some i → position t ys ≡ Some i
+index_stays t xs ys i (more, is) at = ap (position t) is ∙ kept
   where
     kept : position t (xs ++ more) ≡ Some i
     kept = grind (arith, common_steps, prefix_len-append, length-append)
@@ -57,7 +57,7 @@ AreFound finds xs values = All (λ v. IsSome (position (finds v) xs)) values
 
 module _ {X Y : Type 0} (finds : Y → X → Bool) (xs ys : List X) (grown : Grows xs ys) (values : List Y) (found : AreFound finds xs values) where
   still : (v : Y) → IsSome (position (finds v) xs) → IsSome (position (finds v) ys)
-  still v = some_stays _ _ (λ i at. place_stays (finds v) xs ys i grown at)
+  still v = some_stays _ _ (λ i at. index_stays (finds v) xs ys i grown at)
 
   -- The values are found in a list that grew, and so is another value that is found there.
   pub found_more : (v : Y) (i : ℕ) → position (finds v) ys ≡ Some i → AreFound finds ys (values ++ v ∷ [])

@@ -12,19 +12,19 @@ Grows {X} xs ys = (more : List X) × (ys ≡ xs ++ more)
 
 module _ {K B : Type 0} (eq : K → K → Bool) where
   -- The index of the pair whose key equals k, if there is one.
-  abbrev pub place_of : List (K × B) → K → Option ℕ
-  place_of es k = position (eq k) (keys_of es)
+  abbrev pub index_of : List (K × B) → K → Option ℕ
+  index_of es k = position (eq k) (keys_of es)
 
   module _ {V T : Type 0} (target : V → T) (shown : B → T) where
     -- An insertion of k and v into es may return the index i and the value b, and leave fs.
     abbrev pub Inserted : List (K × B) → K → V → ℕ → B → List (K × B) → Type 0
-    Inserted es k v i b fs = MatchOption (place_of es k)
+    Inserted es k v i b fs = MatchOption (index_of es k)
         ((i ≡ length es) × (shown b ≡ target v) × (fs ≡ es ++ (k, b) ∷ []))
         (λ j. (i ≡ j) × (value_at eq es k ≡ Some b) × (fs ≡ es))
 
     -- The same insertion may also return `new`, whether the key is new.
     abbrev pub InsertedNew : List (K × B) → K → V → ℕ → B → Bool → List (K × B) → Type 0
-    InsertedNew es k v i b new fs = Inserted es k v i b fs × (new ≡ is_none (place_of es k))
+    InsertedNew es k v i b new fs = Inserted es k v i b fs × (new ≡ is_none (index_of es k))
 
   -- fs has the pairs of es in their order: each key is a clone that equals its source, and each
   -- value is the same borrow.

@@ -15,6 +15,6 @@ Answered step from commands replies to = ⊥
 abbrev pub Replays : {S C R : Type 0} → (S → C → R → S → Type 0) → S → List (ℕ × C × R) → S → Type 0
 Replays step from history to = Answered step from (map (λ entry. entry.1) history) (map (λ entry. entry.2) history) to
 
--- A history that is legal from the state `from` has the entry at the index `place`.
+-- A history that is legal from the state `from` has the entry at `index`.
 abbrev pub IsRecorded : {S C R : Type 0} → (S → C → R → S → Type 0) → S → ℕ → ℕ × C × R → Type 0
-IsRecorded {S} {C} {R} step from place entry = (history : List (ℕ × C × R)) × (to : S) × Replays step from history to × (slice_get history place ≡ Some entry)
+IsRecorded {S} {C} {R} step from index entry = (history : List (ℕ × C × R)) × (to : S) × Replays step from history to × (slice_get history index ≡ Some entry)

@@ -16,7 +16,7 @@ ghost use Rattle.std.specs.Iterator.{Drains, IsFinite};
 ghost use Rattle.std.specs.List.Sorted.{IsBinarySearchResult, IsPartitionPoint, IsPartitionedBy};
 ghost use Rattle.std.specs.Map.Iter.{GivesInOrder, GivesInReverse};
 ghost use Rattle.elsa_vec.specs.Lent.{lends_items};
-ghost use Rattle.elsa_arena.specs.Search.{AnswersByItem, AnswersByPlace, Answered, Brackets, CallableAtItems, Compares, ComparesAt, Falls, IsBetween, Parts, Rises, Searched, Splits};
+ghost use Rattle.elsa_arena.specs.Search.{AnswersByItem, AnswersByIndex, Answered, Brackets, CallableAtItems, Compares, ComparesAt, Falls, IsBetween, Parts, Rises, Searched, Splits};
 ghost use Rattle.elsa_vec.specs.Vec.{Gains, GainsAll};
 
 use crate::search;
@@ -429,7 +429,7 @@ impl<R: Copy, T: StableDeref<R>, A: Allocator + Copy> FrozenVecIn<R, T, A> {
         ensures bracket { Searched (λ p b r q. F.step p b r q) self.now order (λ calls.
             Brackets (length self.now) (Answered calls) result) }
         ensures split { (o : ℕ → Ordering) →
-            AnswersByPlace (λ p b r q. F.step p b r q) self.now order o →
+            AnswersByIndex (λ p b r q. F.step p b r q) self.now order o →
             Rises (length self.now) o → Splits (length self.now) o result }
         ensures by_item { (o : T.Borrow → Ordering) →
             AnswersByItem (λ p b r q. F.step p b r q) order o →
@@ -452,7 +452,7 @@ impl<R: Copy, T: StableDeref<R>, A: Allocator + Copy> FrozenVecIn<R, T, A> {
         ensures bracket { Searched (Compares K.cmp key.now (λ p b r q. F.step p b r q)) self.now
             key_of (λ calls. Brackets (length self.now) (Answered calls) result) }
         ensures split { (o : ℕ → Ordering) →
-            AnswersByPlace (Compares K.cmp key.now (λ p b r q. F.step p b r q)) self.now key_of o →
+            AnswersByIndex (Compares K.cmp key.now (λ p b r q. F.step p b r q)) self.now key_of o →
             Rises (length self.now) o → Splits (length self.now) o result }
         ensures by_item { (o : T.Borrow → Ordering) →
             AnswersByItem (Compares K.cmp key.now (λ p b r q. F.step p b r q)) key_of o →
@@ -476,7 +476,7 @@ impl<R: Copy, T: StableDeref<R>, A: Allocator + Copy> FrozenVecIn<R, T, A> {
         ensures bracket { Searched (λ p b r q. F.step p b r q) self.now belongs (λ calls.
             IsBetween (length self.now) (Answered calls) true false result) }
         ensures split { (answer : ℕ → Bool) →
-            AnswersByPlace (λ p b r q. F.step p b r q) self.now belongs answer →
+            AnswersByIndex (λ p b r q. F.step p b r q) self.now belongs answer →
             Falls (length self.now) answer → Parts (length self.now) answer result }
         ensures by_item { (test : T.Borrow → Bool) →
             AnswersByItem (λ p b r q. F.step p b r q) belongs test → IsPartitionedBy test self.now →

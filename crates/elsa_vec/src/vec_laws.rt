@@ -18,18 +18,18 @@ use std::cmp::Ordering;
 /// with its earlier content, and an index that had an item has the same one.
 pub fn looked_up_round_a_push<R: Copy, T: StableDeref<R>, A: Allocator + Copy>(
     items: &mut FrozenVecIn<R, T, A>,
-    place: usize,
+    index: usize,
     item: T,
 ) -> (Option<T::Borrow>, Result<(), AllocError>, Option<T::Borrow>)
-    ensures looked_up { (result.0 ≡ slice_get items.old place)
-        × (result.2 ≡ slice_get items.new place) }
+    ensures looked_up { (result.0 ≡ slice_get items.old index)
+        × (result.2 ≡ slice_get items.new index) }
     ensures pushed { IfOk result.1 (λ _. Gains T.target T.shown items.old item items.new) }
     ensures prefix { (more : List T.Borrow) × (items.new ≡ items.old ++ more) }
     ensures same { IfSome result.0 (λ b. result.2 ≡ Some b) }
 {
-    let before = items.get(place);
+    let before = items.get(index);
     let pushed = items.push(item);
-    (before, pushed, items.get(place))
+    (before, pushed, items.get(index))
 }
 
 /// Returns the borrow of a pushed item and the inner vector after further pushes: the borrow stays
@@ -119,7 +119,7 @@ pub fn read_on<R: Copy, T: StableDeref<R>, A: Allocator + Copy>(
 
 /// Searches by a closure whose results depend only on the item: the result is that of a search of a
 /// slice, even if the calls change the closure.
-pub fn place_by_order<
+pub fn index_by_order<
     R: Copy,
     T: StableDeref<R>,
     A: Allocator + Copy,
@@ -134,7 +134,7 @@ pub fn place_by_order<
 
 /// Partitions by a closure whose results depend only on the item: the result is that of a partition
 /// of a slice, even if the calls change the closure.
-pub fn place_by_test<R: Copy, T: StableDeref<R>, A: Allocator + Copy, F: FnMut(T::Borrow) -> bool>(
+pub fn index_by_test<R: Copy, T: StableDeref<R>, A: Allocator + Copy, F: FnMut(T::Borrow) -> bool>(
     items: &FrozenVecIn<R, T, A>,
     belongs: F,
 ) -> usize
@@ -149,7 +149,7 @@ pub fn place_by_test<R: Copy, T: StableDeref<R>, A: Allocator + Copy, F: FnMut(T
 /// Searches texts that are sorted by length, and returns the index of one of length `wanted`, or
 /// `Err` with the index where the shorter ones end. The calls don't change the closure, so the
 /// search needs no law.
-pub fn place_by_length<'a, A: Allocator + Copy>(
+pub fn index_by_length<'a, A: Allocator + Copy>(
     texts: &FrozenVec<'a, String, A>,
     wanted: usize,
 ) -> Result<usize, usize>

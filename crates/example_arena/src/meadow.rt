@@ -81,9 +81,9 @@ impl<'a> Meadow<'a> {
         ensures refused { OnErr result (self.new.animals ≡ self.old.animals) }
     {
         let name = self.names.push_get(String::from_str(alloc, name)?)?;
-        let place = self.circles.len();
+        let index = self.circles.len();
         self.circles.push(friends)?;
-        let friends = self.circles.get_unchecked(place);
+        let friends = self.circles.get_unchecked(index);
         self.settle(name, friends)
     }
 }

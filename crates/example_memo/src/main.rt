@@ -57,9 +57,9 @@ fn tell(rt: &impl Print, history: &Told) -> io::Result<()> {
             told_by(history, worker as u64)
         )?;
     }
-    for place in [10, 20, 50, 90] {
-        if let Some(value) = history.core().get_copy(&place) {
-            println!(rt; "number {place} is {value}")?;
+    for index in [10, 20, 50, 90] {
+        if let Some(value) = history.core().get_copy(&index) {
+            println!(rt; "number {index} is {value}")?;
         }
     }
     Ok(())

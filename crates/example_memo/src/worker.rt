@@ -17,7 +17,7 @@ impl EntryRule<u64, u64> for IsFibonacci {
     ghost use Rattle.std.specs.Prelude.{◌≡◌};
     ghost use Rattle.example_memo.specs.Fibonacci.{fibonacci_at};
 
-    ghost holds = { λ place value. value ≡ fibonacci_at place };
+    ghost holds = { λ index value. value ≡ fibonacci_at index };
 }
 
 /// The memo table: numbers by their indices.
@@ -43,26 +43,26 @@ pub const LAST: u64 = 90;
 ///
 /// # Blocks
 /// It waits while another thread inserts.
-fn number<R: Wait>(rt: &R, memo: &mut MemoHandle<'_>, place: u64) -> Result<Option<u64>, AllocError>
-    ensures right { IfOk result (λ number. IfSome number (λ value. value ≡ fibonacci_at place)) }
-    ensures there { IfOk result (λ number. IfNone number (2 ^ 64 ≤ fibonacci_at place)) }
+fn number<R: Wait>(rt: &R, memo: &mut MemoHandle<'_>, index: u64) -> Result<Option<u64>, AllocError>
+    ensures right { IfOk result (λ number. IfSome number (λ value. value ≡ fibonacci_at index)) }
+    ensures there { IfOk result (λ number. IfNone number (2 ^ 64 ≤ fibonacci_at index)) }
 {
-    if place < 2 {
-        return Ok(Some(place));
+    if index < 2 {
+        return Ok(Some(index));
     }
-    if let Some(value) = memo.get(place) {
+    if let Some(value) = memo.get(index) {
         return Ok(Some(value));
     }
-    let Some(one) = number(rt, memo, place - 1)? else {
+    let Some(one) = number(rt, memo, index - 1)? else {
         return Ok(None);
     };
-    let Some(two) = number(rt, memo, place - 2)? else {
+    let Some(two) = number(rt, memo, index - 2)? else {
         return Ok(None);
     };
     let Some(value) = one.checked_add(two) else {
         return Ok(None);
     };
-    Ok(Some(*memo.get_or_insert_with(rt, place, || value)?.value))
+    Ok(Some(*memo.get_or_insert_with(rt, index, || value)?.value))
 }
 
 /// Computes the numbers at every fourth index from the worker's own number on, and records each.
@@ -81,12 +81,12 @@ pub fn work<R: Wait>(
     let first = worker as u64;
     let mut pass = recorder.pass(first);
     let mut memo = memo.handle();
-    for place in 0..=LAST {
-        if place % 4 != first {
+    for index in 0..=LAST {
+        if index % 4 != first {
             continue;
         }
-        if let Some(value) = number(rt, &mut memo, place)? {
-            recorder.call(rt, &mut pass, MapCommand::Insert(place, value))?;
+        if let Some(value) = number(rt, &mut memo, index)? {
+            recorder.call(rt, &mut pass, MapCommand::Insert(index, value))?;
         }
     }
     Ok(pass)

@@ -104,7 +104,7 @@ fn picture(
 fn main(rt: HostRuntime) -> io::Result<()> {
     let alloc = rt.alloc();
     let plans = pushes(alloc)?;
-    let heads = ["0 pushes 7", "1 pushes 9", "2 reads place 0 twice"];
+    let heads = ["0 pushes 7", "1 pushes 9", "2 reads index 0 twice"];
     picture(&rt, alloc, heads, &plans, &PUSHES)?;
     println!(rt; "")?;
     let plans = extension(alloc)?;

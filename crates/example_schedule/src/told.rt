@@ -28,7 +28,7 @@ pub fn items_of(alloc: Global, world: &World) -> Result<String, AllocError> {
 /// Returns the text for a turn that ends a call with this result.
 fn told_answer(alloc: Global, answer: &Answer, length: usize) -> Result<String, AllocError> {
     match answer {
-        Answer::Pushed { place, .. } => format!(in alloc; "publishes place {place}"),
+        Answer::Pushed { place, .. } => format!(in alloc; "publishes index {place}"),
         Answer::Extended { place, count, .. } => {
             format!(in alloc; "publishes {count} from {place}")
         }
@@ -38,7 +38,7 @@ fn told_answer(alloc: Global, answer: &Answer, length: usize) -> Result<String, 
             index,
             value: Some(item),
             ..
-        } => format!(in alloc; "reads place {index}: {item}"),
+        } => format!(in alloc; "reads index {index}: {item}"),
         Answer::Cloned { .. } => format!(in alloc; "has its clone"),
         Answer::CloneRefused { .. } => format!(in alloc; "is refused its clone"),
     }
@@ -92,7 +92,7 @@ pub fn told(
     }
     if after.writes.as_slice().len() > before.writes.as_slice().len() {
         let place = after.writes.as_slice().last().map_or(0, |write| write.0);
-        return format!(in alloc; "writes place {place}");
+        return format!(in alloc; "writes index {place}");
     }
     if after.opened > before.opened {
         return format!(in alloc; "opens buffer {}", before.opened);

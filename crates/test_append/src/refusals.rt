@@ -51,24 +51,24 @@ impl Script for Calls<'_, '_> {
     }
 }
 
-fn word(place: usize) -> &'static str {
-    WORDS[place % 16]
+fn word(index: usize) -> &'static str {
+    WORDS[index % 16]
 }
 
-fn value(place: usize) -> &'static str {
-    word(place.wrapping_add(5))
+fn value(index: usize) -> &'static str {
+    word(index.wrapping_add(5))
 }
 
 // Whether the word is new as expected, and has its value.
 fn inserts<'b>(
     map: &mut Map<'_, 'b>,
     heap: Heap<'b>,
-    place: usize,
+    index: usize,
     is_new: bool,
 ) -> Result<bool, AllocError> {
-    let key = String::from_str(heap, word(place))?;
-    let text = String::from_str(heap, if is_new { value(place) } else { "other" })?;
-    Ok(map.insert_new(key, text)? == (value(place), is_new))
+    let key = String::from_str(heap, word(index))?;
+    let text = String::from_str(heap, if is_new { value(index) } else { "other" })?;
+    Ok(map.insert_new(key, text)? == (value(index), is_new))
 }
 
 fn clones(map: &mut Map<'_, '_>, count: usize) -> Result<bool, AllocError> {
@@ -90,19 +90,19 @@ fn lists<'b>(map: &mut Map<'_, 'b>, heap: Heap<'b>, count: usize) -> Result<bool
 
 // Whether the first `count` words have their values, and no other word has one.
 fn has_words(map: &Map<'_, '_>, keys: &[Text<'_>], count: usize) -> bool {
-    let mut place = 0usize;
+    let mut index = 0usize;
     for key in keys {
-        let want = if place < count {
-            Some(value(place))
+        let want = if index < count {
+            Some(value(index))
         } else {
             None
         };
         if map.get(key.as_str()) != want {
             return false;
         }
-        place = place.saturating_add(1);
+        index = index.saturating_add(1);
     }
-    map.len() == count && place == 16
+    map.len() == count && index == 16
 }
 
 // The words as keys.

@@ -22,7 +22,7 @@ impl Drop for Counted<'_> {
 
 /// Returns whether `count` values are stored one after the other, and the borrow of the first is
 /// valid after all of them.
-fn places<'c, A: Allocator + Copy>(
+fn indices<'c, A: Allocator + Copy>(
     arena: &TypedArena<Counted<'c>, A>,
     drops: &'c Cell<usize>,
     count: usize,
@@ -47,7 +47,7 @@ fn a_value_is_dropped_once_and_not_before_its_arena(rt: HostRuntime) -> Result<(
     for count in [1, 3, 4, 15, 16, 100, 2000] {
         let drops = Cell::new(0);
         let arena = TypedArena::new(rt.alloc())?;
-        let placed = places(&arena, &drops, count) && drops.get() == 0;
+        let placed = indices(&arena, &drops, count) && drops.get() == 0;
         drop(arena);
         assert!(rt; placed && drops.get() == count, "{count}");
     }

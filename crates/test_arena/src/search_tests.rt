@@ -10,7 +10,7 @@ use std::alloc::{AllocError, Global};
 use std::test::*;
 
 /// Searches sorted numbers by a closure, and returns where the number is or could be inserted.
-fn place_of(numbers: &Handle<'_, u64>, wanted: u64) -> Result<usize, usize>
+fn index_of(numbers: &Handle<'_, u64>, wanted: u64) -> Result<usize, usize>
     ensures { IsBinarySearchResult (λ number. nat_cmp number wanted) numbers.now.seen result }
 {
     numbers.binary_search_by(|number| number.cmp(&wanted))
@@ -56,17 +56,17 @@ fn expected(count: u64, wanted: u64) -> Result<usize, usize> {
 /// Returns whether each search finds a number where it is.
 fn finds(list: &FrozenVec<u64>, count: u64, wanted: u64) -> bool {
     let handle = list.handle();
-    let place = expected(count, wanted);
-    let end = match place {
+    let index = expected(count, wanted);
+    let end = match index {
         Ok(index) => index,
         Err(index) => index,
     };
-    list.binary_search(&wanted) == place
-        && handle.binary_search(&wanted) == place
-        && list.binary_search_by(|number| number.cmp(&wanted)) == place
-        && place_of(&handle, wanted) == place
-        && list.binary_search_by_key(&wanted, |number| *number) == place
-        && handle.binary_search_by_key(&wanted, |number| *number) == place
+    list.binary_search(&wanted) == index
+        && handle.binary_search(&wanted) == index
+        && list.binary_search_by(|number| number.cmp(&wanted)) == index
+        && index_of(&handle, wanted) == index
+        && list.binary_search_by_key(&wanted, |number| *number) == index
+        && handle.binary_search_by_key(&wanted, |number| *number) == index
         && list.partition_point(|number| *number < wanted) == end
         && handle.partition_point(|number| *number < wanted) == end
 }

@@ -15,7 +15,7 @@ impl EntryRule<u64, u64> for IsFibonacci {
     ghost use Rattle.std.specs.Prelude.{◌≡◌};
     ghost use Rattle.test_callers.specs.Fibonacci.{fibonacci_at};
 
-    ghost holds = { λ place value. value ≡ fibonacci_at place };
+    ghost holds = { λ index value. value ≡ fibonacci_at index };
 }
 
 /// The memo table: numbers by their indices.
@@ -30,23 +30,23 @@ pub fn memo(alloc: Global) -> Memo {
 ///
 /// # Errors
 /// Fails if an allocation fails.
-pub fn number<R: Wait>(rt: &R, memo: &Memo, place: u64) -> Result<Option<u64>, AllocError>
-    ensures { IfOk result (λ number. IfSome number (λ value. value ≡ fibonacci_at place)) }
+pub fn number<R: Wait>(rt: &R, memo: &Memo, index: u64) -> Result<Option<u64>, AllocError>
+    ensures { IfOk result (λ number. IfSome number (λ value. value ≡ fibonacci_at index)) }
 {
-    if place < 2 {
-        return Ok(Some(place));
+    if index < 2 {
+        return Ok(Some(index));
     }
-    if let Some(value) = memo.get_copy(rt, &place) {
+    if let Some(value) = memo.get_copy(rt, &index) {
         return Ok(Some(value));
     }
-    let Some(one) = number(rt, memo, place - 1)? else {
+    let Some(one) = number(rt, memo, index - 1)? else {
         return Ok(None);
     };
-    let Some(two) = number(rt, memo, place - 2)? else {
+    let Some(two) = number(rt, memo, index - 2)? else {
         return Ok(None);
     };
     let Some(value) = one.checked_add(two) else {
         return Ok(None);
     };
-    Ok(Some(memo.get_copy_or_insert(rt, place, value)?))
+    Ok(Some(memo.get_copy_or_insert(rt, index, value)?))
 }

@@ -77,11 +77,11 @@ fn are_found(alloc: Global) -> Result<bool, AllocError> {
     numbers.insert((String::from_str(alloc, "web")?, 443), Own(2))?;
     let is_found = number_of(&numbers, "web", 443) == Some(&2);
     let is_absent = number_of(&numbers, "web", 22).is_none();
-    let place = numbers.get_index_of(At {
+    let index = numbers.get_index_of(At {
         host: "web",
         port: 443,
     });
-    Ok(is_found && is_absent && place == Some(1))
+    Ok(is_found && is_absent && index == Some(1))
 }
 
 #[test]

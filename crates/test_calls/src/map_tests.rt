@@ -5,7 +5,7 @@ use crate::ends::{Heap, denying, drawn, is_freed, walk_of_items};
 use crate::maps::MapCalls;
 use crate::script::{Script, Step};
 use crate::sets::SetCalls;
-use elsa_cell::{CellFault, Frozen, FrozenBTreeMap, FrozenMap, FrozenSet, Places, Seeks};
+use elsa_cell::{CellFault, Frozen, FrozenBTreeMap, FrozenMap, FrozenSet, Indices, Seeks};
 use std::alloc::{AllocError, Global};
 use std::cell::Cell;
 use std::hash::{BuildHasherDefault, FoldHasher};
@@ -15,7 +15,7 @@ use test_alloc::Budget;
 type State = BuildHasherDefault<FoldHasher>;
 
 /// Runs a script on a map, tries in vain to take it apart, and runs the script again.
-fn map_runs<'h, 'k, T: Places<u64> + Drop>(
+fn map_runs<'h, 'k, T: Indices<u64> + Drop>(
     script: &mut Script,
     heap: &'h Heap,
     map: Frozen<u64, u64, T, &'h Heap>,
@@ -50,7 +50,7 @@ fn walk_of_entries(all: &[(u64, u64)]) -> Reply {
 }
 
 /// Takes a map apart, or drops it. The evidence is of no entries, so that each entry is compared.
-fn map_ends<T: Places<u64> + Drop>(
+fn map_ends<T: Indices<u64> + Drop>(
     script: &mut Script,
     map: Frozen<u64, u64, T, &Heap>,
     alloc: Global,

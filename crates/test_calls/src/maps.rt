@@ -2,14 +2,14 @@
 use crate::call::{Call, Calls, Cause, Entry, Kind, Reply, walked};
 use crate::replies::{failed, failed_empty, failed_made, inserted};
 use elsa_arena::fault::{CellFault, Fault};
-use elsa_cell::{Frozen, FrozenHandle, FrozenHold, Places, Seeks, TryFault};
+use elsa_cell::{Frozen, FrozenHandle, FrozenHold, Indices, Seeks, TryFault};
 use elsa_tables::Inserted;
 use std::alloc::Allocator;
 
 /// A map, a handle of it that is as old as the map, one that observed a moment, and the keys by
 /// their numbers.
 #[derive(Drop)]
-pub struct MapCalls<'m, 'k, T: Places<u64> + Drop, A: Allocator + Copy> {
+pub struct MapCalls<'m, 'k, T: Indices<u64> + Drop, A: Allocator + Copy> {
     map: &'m Frozen<u64, u64, T, A>,
     handle: FrozenHandle<'m, u64, u64, T, A>,
     then: FrozenHandle<'m, u64, u64, T, A>,
@@ -17,7 +17,7 @@ pub struct MapCalls<'m, 'k, T: Places<u64> + Drop, A: Allocator + Copy> {
     keeps_room: bool,
 }
 
-impl<'m, 'k, T: Places<u64> + Drop, A: Allocator + Copy> MapCalls<'m, 'k, T, A> {
+impl<'m, 'k, T: Indices<u64> + Drop, A: Allocator + Copy> MapCalls<'m, 'k, T, A> {
     pub fn of(
         map: &'m Frozen<u64, u64, T, A>,
         keys: &'k [u64],
@@ -43,7 +43,7 @@ fn all_of(done: Inserted<&u64, usize>, calls: u64) -> Reply {
     })
 }
 
-fn insert<T: Places<u64> + Drop, A: Allocator + Copy>(
+fn insert<T: Indices<u64> + Drop, A: Allocator + Copy>(
     map: &Frozen<u64, u64, T, A>,
     call: Call,
 ) -> Reply {
@@ -53,7 +53,7 @@ fn insert<T: Places<u64> + Drop, A: Allocator + Copy>(
     }
 }
 
-fn insert_new<T: Places<u64> + Drop, A: Allocator + Copy>(
+fn insert_new<T: Indices<u64> + Drop, A: Allocator + Copy>(
     map: &Frozen<u64, u64, T, A>,
     call: Call,
 ) -> Reply {
@@ -63,7 +63,7 @@ fn insert_new<T: Places<u64> + Drop, A: Allocator + Copy>(
     }
 }
 
-fn insert_with<T: Places<u64> + Drop, A: Allocator + Copy>(
+fn insert_with<T: Indices<u64> + Drop, A: Allocator + Copy>(
     map: &Frozen<u64, u64, T, A>,
     call: Call,
 ) -> Reply {
@@ -80,7 +80,7 @@ fn insert_with<T: Places<u64> + Drop, A: Allocator + Copy>(
 }
 
 /// Inserts by a closure that may fail, and fails if `fails`.
-fn try_insert_with<T: Places<u64> + Drop, A: Allocator + Copy>(
+fn try_insert_with<T: Indices<u64> + Drop, A: Allocator + Copy>(
     map: &Frozen<u64, u64, T, A>,
     call: Call,
     fails: bool,
@@ -102,7 +102,7 @@ fn try_insert_with<T: Places<u64> + Drop, A: Allocator + Copy>(
     }
 }
 
-fn insert_by<T: Places<u64> + Drop, Q: Seeks<u64, T>, A: Allocator + Copy>(
+fn insert_by<T: Indices<u64> + Drop, Q: Seeks<u64, T>, A: Allocator + Copy>(
     map: &Frozen<u64, u64, T, A>,
     query: Q,
     call: Call,
@@ -119,7 +119,7 @@ fn insert_by<T: Places<u64> + Drop, Q: Seeks<u64, T>, A: Allocator + Copy>(
     }
 }
 
-fn get_or_try_insert<T: Places<u64> + Drop, Q: Seeks<u64, T>, A: Allocator + Copy>(
+fn get_or_try_insert<T: Indices<u64> + Drop, Q: Seeks<u64, T>, A: Allocator + Copy>(
     map: &Frozen<u64, u64, T, A>,
     query: Q,
     call: Call,
@@ -141,7 +141,7 @@ fn get_or_try_insert<T: Places<u64> + Drop, Q: Seeks<u64, T>, A: Allocator + Cop
     }
 }
 
-fn insert_by_handle<T: Places<u64> + Drop, A: Allocator + Copy>(
+fn insert_by_handle<T: Indices<u64> + Drop, A: Allocator + Copy>(
     handle: &mut FrozenHandle<'_, u64, u64, T, A>,
     call: Call,
 ) -> Reply {
@@ -151,7 +151,7 @@ fn insert_by_handle<T: Places<u64> + Drop, A: Allocator + Copy>(
     }
 }
 
-fn insert_by_guard<T: Places<u64> + Drop, A: Allocator + Copy>(
+fn insert_by_guard<T: Indices<u64> + Drop, A: Allocator + Copy>(
     map: &Frozen<u64, u64, T, A>,
     call: Call,
 ) -> Reply {
@@ -164,7 +164,7 @@ fn insert_by_guard<T: Places<u64> + Drop, A: Allocator + Copy>(
     }
 }
 
-fn extend<T: Places<u64> + Drop, A: Allocator + Copy>(
+fn extend<T: Indices<u64> + Drop, A: Allocator + Copy>(
     map: &Frozen<u64, u64, T, A>,
     call: Call,
 ) -> Reply {
@@ -178,7 +178,7 @@ fn extend<T: Places<u64> + Drop, A: Allocator + Copy>(
     }
 }
 
-fn extend_by_guard<T: Places<u64> + Drop, A: Allocator + Copy>(
+fn extend_by_guard<T: Indices<u64> + Drop, A: Allocator + Copy>(
     map: &Frozen<u64, u64, T, A>,
     call: Call,
 ) -> Reply {
@@ -196,7 +196,7 @@ fn extend_by_guard<T: Places<u64> + Drop, A: Allocator + Copy>(
 }
 
 /// Makes an insertion.
-fn on_entry<T: Places<u64> + Drop, Q: Seeks<u64, T>, A: Allocator + Copy>(
+fn on_entry<T: Indices<u64> + Drop, Q: Seeks<u64, T>, A: Allocator + Copy>(
     map: &Frozen<u64, u64, T, A>,
     handle: &mut FrozenHandle<'_, u64, u64, T, A>,
     query: Q,
@@ -234,7 +234,7 @@ fn full_at(index: usize, found: Option<(&u64, &u64)>) -> Reply {
     }
 }
 
-fn get_since<T: Places<u64> + Drop, Q: Seeks<u64, T>, A: Allocator + Copy>(
+fn get_since<T: Indices<u64> + Drop, Q: Seeks<u64, T>, A: Allocator + Copy>(
     map: &Frozen<u64, u64, T, A>,
     query: Q,
 ) -> Reply {
@@ -243,7 +243,7 @@ fn get_since<T: Places<u64> + Drop, Q: Seeks<u64, T>, A: Allocator + Copy>(
 }
 
 /// Reads by the guard that exists, or by a new one.
-fn get_full_by_guard<T: Places<u64> + Drop, Q: Seeks<u64, T>, A: Allocator + Copy>(
+fn get_full_by_guard<T: Indices<u64> + Drop, Q: Seeks<u64, T>, A: Allocator + Copy>(
     map: &Frozen<u64, u64, T, A>,
     guard: &Option<FrozenHold<'_, u64, u64, T, A>>,
     query: Q,
@@ -258,7 +258,7 @@ fn get_full_by_guard<T: Places<u64> + Drop, Q: Seeks<u64, T>, A: Allocator + Cop
 }
 
 /// Returns the number of entries by the guard that exists, or by a new one.
-fn len_by_guard<T: Places<u64> + Drop, A: Allocator + Copy>(
+fn len_by_guard<T: Indices<u64> + Drop, A: Allocator + Copy>(
     map: &Frozen<u64, u64, T, A>,
     guard: &Option<FrozenHold<'_, u64, u64, T, A>>,
 ) -> Reply {
@@ -272,7 +272,7 @@ fn len_by_guard<T: Places<u64> + Drop, A: Allocator + Copy>(
 }
 
 /// Makes a read by a key.
-fn on_key<T: Places<u64> + Drop, Q: Seeks<u64, T>, A: Allocator + Copy>(
+fn on_key<T: Indices<u64> + Drop, Q: Seeks<u64, T>, A: Allocator + Copy>(
     map: &Frozen<u64, u64, T, A>,
     handle: &mut FrozenHandle<'_, u64, u64, T, A>,
     guard: &Option<FrozenHold<'_, u64, u64, T, A>>,
@@ -295,7 +295,7 @@ fn on_key<T: Places<u64> + Drop, Q: Seeks<u64, T>, A: Allocator + Copy>(
 }
 
 /// Makes a look-up as of the moment that a handle has observed.
-fn on_then<T: Places<u64> + Drop, Q: Seeks<u64, T>, A: Allocator + Copy>(
+fn on_then<T: Indices<u64> + Drop, Q: Seeks<u64, T>, A: Allocator + Copy>(
     then: &FrozenHandle<'_, u64, u64, T, A>,
     query: Q,
     kind: Kind,
@@ -308,7 +308,7 @@ fn on_then<T: Places<u64> + Drop, Q: Seeks<u64, T>, A: Allocator + Copy>(
 }
 
 /// Makes a look-up of a kept moment, another read by a key, or an insertion.
-fn on_query<T: Places<u64> + Drop, Q: Seeks<u64, T>, A: Allocator + Copy>(
+fn on_query<T: Indices<u64> + Drop, Q: Seeks<u64, T>, A: Allocator + Copy>(
     calls: &mut MapCalls<'_, '_, T, A>,
     guard: &Option<FrozenHold<'_, u64, u64, T, A>>,
     query: Q,
@@ -325,7 +325,7 @@ fn on_query<T: Places<u64> + Drop, Q: Seeks<u64, T>, A: Allocator + Copy>(
 }
 
 /// Keeps a handle that has observed all entries, and returns their number.
-fn keep<T: Places<u64> + Drop, A: Allocator + Copy>(calls: &mut MapCalls<'_, '_, T, A>) -> Reply {
+fn keep<T: Indices<u64> + Drop, A: Allocator + Copy>(calls: &mut MapCalls<'_, '_, T, A>) -> Reply {
     let handle = calls.map.handle();
     let count = handle.seen_len();
     calls.then = handle.again();
@@ -333,7 +333,7 @@ fn keep<T: Places<u64> + Drop, A: Allocator + Copy>(calls: &mut MapCalls<'_, '_,
 }
 
 /// Walks over a map: at most one entry more than it says to have.
-fn iter<T: Places<u64> + Drop, A: Allocator + Copy>(map: &Frozen<u64, u64, T, A>) -> Reply {
+fn iter<T: Indices<u64> + Drop, A: Allocator + Copy>(map: &Frozen<u64, u64, T, A>) -> Reply {
     let mut walk = map.iter();
     let (mut count, mut sum) = (0_usize, 0_u64);
     for _ in 0..map.len().wrapping_add(1) {
@@ -345,7 +345,7 @@ fn iter<T: Places<u64> + Drop, A: Allocator + Copy>(map: &Frozen<u64, u64, T, A>
     Reply::Walk(count, sum)
 }
 
-fn get_index_by_handle<T: Places<u64> + Drop, A: Allocator + Copy>(
+fn get_index_by_handle<T: Indices<u64> + Drop, A: Allocator + Copy>(
     handle: &mut FrozenHandle<'_, u64, u64, T, A>,
     index: usize,
 ) -> Reply {
@@ -353,7 +353,7 @@ fn get_index_by_handle<T: Places<u64> + Drop, A: Allocator + Copy>(
     full_at(index, handle.get_index(index))
 }
 
-fn reserve<T: Places<u64> + Drop, A: Allocator + Copy>(
+fn reserve<T: Indices<u64> + Drop, A: Allocator + Copy>(
     map: &Frozen<u64, u64, T, A>,
     additional: usize,
 ) -> Reply {
@@ -364,7 +364,7 @@ fn reserve<T: Places<u64> + Drop, A: Allocator + Copy>(
 }
 
 /// Makes a call with an index, or with none.
-fn on_map<T: Places<u64> + Drop, A: Allocator + Copy>(
+fn on_map<T: Indices<u64> + Drop, A: Allocator + Copy>(
     map: &Frozen<u64, u64, T, A>,
     handle: &mut FrozenHandle<'_, u64, u64, T, A>,
     call: Call,
@@ -384,7 +384,7 @@ fn on_map<T: Places<u64> + Drop, A: Allocator + Copy>(
     })
 }
 
-impl<'k, T: Places<u64> + Drop, A: Allocator + Copy> Calls for MapCalls<'_, 'k, T, A>
+impl<'k, T: Indices<u64> + Drop, A: Allocator + Copy> Calls for MapCalls<'_, 'k, T, A>
 where
     &'k u64: Seeks<u64, T>,
 {

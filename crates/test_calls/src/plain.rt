@@ -6,7 +6,7 @@ use std::alloc::{AllocError, Global};
 #[derive(Drop)]
 pub struct Plain {
     entries: Vec<(u64, u64)>,
-    places: Vec<Option<usize>>,
+    indices: Vec<Option<usize>>,
     /// The number of entries up to which insertions need no memory.
     room: usize,
     /// The number of entries at the moment that the kept handle has observed.
@@ -19,11 +19,11 @@ impl Plain {
     /// # Errors
     /// Fails if an allocation fails.
     pub fn new(alloc: Global, keys: usize) -> Result<Plain, AllocError> {
-        let mut places = Vec::new(alloc);
-        places.resize(keys, None)?;
+        let mut indices = Vec::new(alloc);
+        indices.resize(keys, None)?;
         Ok(Plain {
             entries: Vec::new(alloc),
-            places,
+            indices,
             room: 0,
             kept: 0,
         })
@@ -61,7 +61,7 @@ impl Plain {
 
     /// Returns the index of a key.
     pub fn index_of(&self, key: u64) -> Option<usize> {
-        self.places.get(key as usize).copied().unwrap_or(None)
+        self.indices.get(key as usize).copied().unwrap_or(None)
     }
 
     /// Returns the value at an index.
@@ -189,7 +189,7 @@ impl Plain {
             Kind::BinarySearch | Kind::BinarySearchBy | Kind::BinarySearchByKey => {
                 Reply::Search(self.search(call.value))
             }
-            Kind::PartitionPoint => Reply::Count(place_in(self.search(call.value))),
+            Kind::PartitionPoint => Reply::Count(index_in(self.search(call.value))),
             _ => self.insertion(call),
         }
     }
@@ -237,8 +237,8 @@ impl Plain {
                 },
             ) => {
                 let index = self.len();
-                if let Some(place) = self.places.get_mut(call.key as usize) {
-                    *place = Some(index);
+                if let Some(index) = self.indices.get_mut(call.key as usize) {
+                    *index = Some(index);
                 }
                 self.entries.push((call.key, call.value))?;
                 Ok(())
@@ -255,7 +255,7 @@ impl Plain {
 }
 
 /// Returns the index of a search.
-fn place_in(found: Result<usize, usize>) -> usize {
+fn index_in(found: Result<usize, usize>) -> usize {
     match found {
         Ok(index) => index,
         Err(index) => index,

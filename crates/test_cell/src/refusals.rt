@@ -1,6 +1,6 @@
 //! Insertions of which one request for memory fails, each in turn: exactly one of them fails and
 //! returns its value, and the others are in the map.
-use elsa_cell::{CellFault, Frozen, FrozenBTreeMap, FrozenMap, FrozenSet, Places, TryFault};
+use elsa_cell::{CellFault, Frozen, FrozenBTreeMap, FrozenMap, FrozenSet, Indices, TryFault};
 use std::alloc::{AllocError, Allocator, Global};
 use std::hash::{BuildHasherDefault, FoldHasher};
 use std::test::*;
@@ -30,7 +30,7 @@ pub fn key_of(order: u64, n: u64, count: u64) -> u64 {
 
 /// Inserts by one of three calls. Returns the value that the key then has, or the value that comes
 /// back if an allocation fails.
-fn insert_by_kind<T: Places<u64> + Drop, A: Allocator + Copy>(
+fn insert_by_kind<T: Indices<u64> + Drop, A: Allocator + Copy>(
     map: &Frozen<u64, u64, T, A>,
     kind: u64,
     key: u64,
@@ -84,7 +84,7 @@ const NONE: Outcome = Outcome {
 };
 
 /// Inserts `count` keys into a map.
-fn of_map<T: Places<u64> + Drop, A: Allocator + Copy>(
+fn of_map<T: Indices<u64> + Drop, A: Allocator + Copy>(
     map: &Frozen<u64, u64, T, A>,
     kind: u64,
     order: u64,

@@ -75,13 +75,13 @@ fn count_loads(alloc: Global) -> Result<(Loads, Loads), AllocError> {
         tags: 0,
         numbers: 0,
     };
-    for place in 0..ENTERED {
-        enter(&mut view, hash_of(place), place)?;
+    for index in 0..ENTERED {
+        enter(&mut view, hash_of(index), index)?;
     }
     view.tags = 0;
     view.numbers = 0;
-    for place in 0..ENTERED {
-        let _ = find(&mut view, hash_of(place), ENTERED, |p| p == place);
+    for index in 0..ENTERED {
+        let _ = find(&mut view, hash_of(index), ENTERED, |p| p == index);
     }
     let present = Loads {
         tags: view.tags,
@@ -89,10 +89,10 @@ fn count_loads(alloc: Global) -> Result<(Loads, Loads), AllocError> {
     };
     view.tags = 0;
     view.numbers = 0;
-    for place in 0..ENTERED {
+    for index in 0..ENTERED {
         let _ = find(
             &mut view,
-            hash_of(place.wrapping_add(ENTERED)),
+            hash_of(index.wrapping_add(ENTERED)),
             ENTERED,
             |_p| false,
         );

@@ -5,8 +5,8 @@ use std::test::*;
 use std::thread;
 
 /// Returns a hash of an index. Many of these hashes are equal.
-fn hash_of(place: usize) -> u32 {
-    ((place as u64 % 101).wrapping_mul(2_654_435_761) & 0xFFFF_FFFF) as u32
+fn hash_of(index: usize) -> u32 {
+    ((index as u64 % 101).wrapping_mul(2_654_435_761) & 0xFFFF_FFFF) as u32
 }
 
 #[test]
@@ -21,9 +21,9 @@ fn a_thread_lost_an_index_entry(rt: HostRuntime) -> Result<(), Fail> {
             let mut view = shared.view();
             let mut count = 0u64;
             for k in 0..100 {
-                let place = (thread as usize).wrapping_mul(100).wrapping_add(k) % 400;
-                if enter(&mut view, hash_of(place), place).is_ok()
-                    && find(&mut view, hash_of(place), 400, |p| p == place) == Some(place)
+                let index = (thread as usize).wrapping_mul(100).wrapping_add(k) % 400;
+                if enter(&mut view, hash_of(index), index).is_ok()
+                    && find(&mut view, hash_of(index), 400, |p| p == index) == Some(index)
                 {
                     count = count.wrapping_add(1);
                 }
@@ -35,9 +35,9 @@ fn a_thread_lost_an_index_entry(rt: HostRuntime) -> Result<(), Fail> {
         assert!(rt; *count == 100);
     }
     let mut view = row.view();
-    for place in 0..400 {
-        assert!(rt; find(&mut view, hash_of(place), 400, |p| p == place) == Some(place));
-        assert!(rt; find(&mut view, hash_of(place), place, |p| p == place).is_none());
+    for index in 0..400 {
+        assert!(rt; find(&mut view, hash_of(index), 400, |p| p == index) == Some(index));
+        assert!(rt; find(&mut view, hash_of(index), index, |p| p == index).is_none());
     }
     assert!(rt; find(&mut view, 5, 400, |_p| true).is_none());
     Ok(())

@@ -56,19 +56,19 @@ fn length_of<'a>(
 }
 
 // Inserts a pair, and returns the index of the key in the map.
-fn place_of<'a>(
+fn index_of<'a>(
     map: &mut FrozenIndexMap<'a, u32, &'a str>,
     key: u32,
     value: &'a str,
 ) -> Result<usize, AllocError>
-    ensures place { IfOk result (λ place.
-        position (⟦<u32 as PartialEq>⟧.eq key) (keys_of map.new) ≡ Some place) }
+    ensures index { IfOk result (λ index.
+        position (⟦<u32 as PartialEq>⟧.eq key) (keys_of map.new) ≡ Some index) }
     ensures known { (there : Bor (List ℕ)) →
         lookup (⟦<u32 as PartialEq>⟧.eq key) map.old ≡ Some there →
         IsOk result × (map.new ≡ map.old) }
 {
-    let (place, _) = map.insert_full(key, value)?;
-    Ok(place)
+    let (index, _) = map.insert_full(key, value)?;
+    Ok(index)
 }
 
 // Inserts a name, and returns its index in the set and the borrow at that index.
@@ -76,7 +76,7 @@ fn name_at<'a>(
     names: &mut FrozenIndexSet<'a, String>,
     name: String,
 ) -> Result<(usize, &'a str), AllocError>
-    ensures place { IfOk result (λ r.
+    ensures index { IfOk result (λ r.
         position (λ kept. bytes_eq (string_bytes name) kept.now) names.new ≡ Some r.0) }
     ensures kept { IfOk result (λ r. slice_get names.new r.0 ≡ Some r.1) }
 {
@@ -99,7 +99,7 @@ fn what_was_put_in_is_found(rt: HostRuntime) -> Result<(), Fail> {
     let mut map = FrozenIndexMap::new(alloc, &arena);
     let mut set: FrozenIndexSet<'_, String> = FrozenIndexSet::new(alloc, &arena);
     let one = numbers(&mut names, "a", "a")? == (0, 0);
-    let keyed = value_of(&mut map, 7, "a")? == "a" && place_of(&mut map, 7, "b")? == 0;
+    let keyed = value_of(&mut map, 7, "a")? == "a" && index_of(&mut map, 7, "b")? == 0;
     let read = length_of(&mut map, 7, "bb")? == 1;
     let named = name_of(&mut set, String::from_str(alloc, "a")?)? == "a"
         && name_at(&mut set, String::from_str(alloc, "b")?)? == (1, "b");

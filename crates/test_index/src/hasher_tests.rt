@@ -79,8 +79,8 @@ impl RandomSource for Source {
             return Err(io::Error::from(ErrorKind::Unsupported));
         };
         let mut byte = first;
-        for place in 0..buf.len() {
-            buf[place] = byte;
+        for index in 0..buf.len() {
+            buf[index] = byte;
             byte = byte.wrapping_add(1);
         }
         Ok(())

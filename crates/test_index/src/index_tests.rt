@@ -20,7 +20,7 @@ use std::test::Fail;
 
 type Keyed<'a> = FrozenIndexMap<'a, &'a str, &'a str>;
 
-fn at_places<'a>(map: &Keyed<'a>) -> [Option<(&'a str, &'a str)>; 3] {
+fn at_indices<'a>(map: &Keyed<'a>) -> [Option<(&'a str, &'a str)>; 3] {
     [
         map.get_index(0),
         map.get_index(1),
@@ -32,7 +32,7 @@ fn full<'a>(map: &Keyed<'a>, key: &'a str) -> Option<(usize, &'a str, &'a str)> 
     map.get_full(&key)
 }
 
-fn place<'a>(map: &Keyed<'a>, key: &'a str) -> Option<usize> {
+fn index<'a>(map: &Keyed<'a>, key: &'a str) -> Option<usize> {
     map.get_index_of(&key)
 }
 
@@ -55,10 +55,10 @@ fn a_lookup_in_an_index_map_found_the_wrong_entry(rt: HostRuntime) -> Result<(),
     let before = map.get_index(usize::MAX);
     let first = map.insert_full("foo", "a")?;
     assert!(rt; before.is_none() && first == (0, "a") && by_key(&map, "foo") == Some("a"));
-    assert!(rt; at_places(&map) == [Some(("foo", "a")), None, None]);
+    assert!(rt; at_indices(&map) == [Some(("foo", "a")), None, None]);
     assert!(rt; [full(&map, "foo"), full(&map, "2")] == [Some((0, "foo", "a")), None]);
     assert!(rt;
-        [place(&map, "foo"), place(&map, "2"), length(&map, "foo")] == [Some(0), None, Some(1)]
+        [index(&map, "foo"), index(&map, "2"), length(&map, "foo")] == [Some(0), None, Some(1)]
     );
     Ok(())
 }
@@ -304,11 +304,11 @@ fn set_of<'a>(alloc: Global, arena: &'a Bump, texts: &[&str]) -> Result<Set<'a>,
 }
 
 // Returns the value at an index by `[]`, or `None` if there is none.
-fn by_place<'a>(set: &Set<'a>, place: usize) -> Option<&'a str> {
-    if set.get_index(place).is_none() {
+fn by_index<'a>(set: &Set<'a>, index: usize) -> Option<&'a str> {
+    if set.get_index(index).is_none() {
         return None;
     }
-    Some(set[place])
+    Some(set[index])
 }
 
 // Returns what is found by an owner and by a text, and the result of inserting the owner again.
@@ -334,9 +334,9 @@ fn a_set_finds_by_owner_text_and_place(rt: HostRuntime) -> Result<(), Fail> {
     let arena = Bump::new(alloc);
     let mut ab = set_of(alloc, &arena, &["a", "b", "a"])?;
     let ba = set_of(alloc, &arena, &["b", "a"])?;
-    assert!(rt; ab == ba && by_place(&ba, 0) == Some("b"));
+    assert!(rt; ab == ba && by_index(&ba, 0) == Some("b"));
     assert!(rt;
-        [by_place(&ab, 0), by_place(&ab, 1), by_place(&ab, 2)] == [Some("a"), Some("b"), None]
+        [by_index(&ab, 0), by_index(&ab, 1), by_index(&ab, 2)] == [Some("a"), Some("b"), None]
     );
     let b = found(&mut ab, String::from_str(alloc, "b")?)?;
     assert!(rt; b == (Some("b"), Some((1, "b")), (1, "b", false)));
@@ -374,15 +374,15 @@ fn sets_are_cloned_and_cleared(rt: HostRuntime) -> Result<(), Fail> {
 fn finds_numbers(alloc: Global, arena: &Bump) -> Result<bool, AllocError> {
     let mut numbers: FrozenIndexSet<'_, Own<u32>> = FrozenIndexSet::new(alloc, arena);
     let seven = *numbers.insert(Own(7))?;
-    let places = [numbers.get_index_of(&Own(7)), numbers.get_index_of(&Own(8))];
-    Ok(seven == 7 && places == [Some(0), None])
+    let indices = [numbers.get_index_of(&Own(7)), numbers.get_index_of(&Own(8))];
+    Ok(seven == 7 && indices == [Some(0), None])
 }
 
 // Returns whether a set of lists finds a list by a slice of equal items.
 fn finds_lists(alloc: Global, arena: &Bump) -> Result<bool, AllocError> {
     let mut lists: FrozenIndexSet<'_, Vec<u32>> = FrozenIndexSet::new(alloc, arena);
-    let (place, _) = lists.insert_full(Vec::from_slice(alloc, &[1, 2])?)?;
-    Ok(place == 0 && lists.get_index_of(&[1u32, 2].as_slice()) == Some(0))
+    let (index, _) = lists.insert_full(Vec::from_slice(alloc, &[1, 2])?)?;
+    Ok(index == 0 && lists.get_index_of(&[1u32, 2].as_slice()) == Some(0))
 }
 
 #[test]
@@ -538,14 +538,14 @@ fn ordered_folds<'a>(
 
 // Returns whether these are the pairs, with the keys as they were inserted first.
 fn are_shown(pairs: &[(Fold<'_>, &str)], want: &[(&str, &str)]) -> bool {
-    let mut place = 0usize;
+    let mut index = 0usize;
     for pair in pairs {
-        if want.get(place) != Some(&(pair.0.0, pair.1)) {
+        if want.get(index) != Some(&(pair.0.0, pair.1)) {
             return false;
         }
-        place = place.saturating_add(1);
+        index = index.saturating_add(1);
     }
-    place == want.len()
+    index == want.len()
 }
 
 #[test]

@@ -32,12 +32,12 @@ fn found<'a>(names: &Names<'a>, text: &str) -> (Option<&'a str>, Option<usize>, 
 fn a_text_has_the_place_of_its_first_insertion(rt: HostRuntime) -> Result<(), Fail> {
     let arena = Bump::new(rt.alloc());
     let names = given(rt.alloc(), &arena, ["b", "a", "b", ""])?;
-    for (text, place) in [("b", 0), ("a", 1), ("", 2)] {
+    for (text, index) in [("b", 0), ("a", 1), ("", 2)] {
         assert!(rt;
-            found(&names, text) == (Some(text), Some(place), true),
+            found(&names, text) == (Some(text), Some(index), true),
             "{text}"
         );
-        assert!(rt; names.get_full(text) == Some((place, text)), "{text}");
+        assert!(rt; names.get_full(text) == Some((index, text)), "{text}");
     }
     assert!(rt; names.len() == 3 && found(&names, "c") == (None, None, false));
     Ok(())

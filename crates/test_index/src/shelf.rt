@@ -43,7 +43,7 @@ fn counts(alloc: Global) -> Result<(usize, usize, usize), AllocError> {
 
 // Returns whether names have the indices of their first insertions, and a value is read after its
 // map's end.
-fn places(alloc: Global) -> Result<bool, AllocError> {
+fn indices(alloc: Global) -> Result<bool, AllocError> {
     let (texts, values) = (Bump::new(alloc), TypedArena::new(alloc)?);
     let shelf = Shelf {
         texts: &texts,
@@ -51,18 +51,18 @@ fn places(alloc: Global) -> Result<bool, AllocError> {
     };
     let mut owners: Owners<'_> = FrozenIndexMapIn::new(alloc, shelf);
     let first = kept(&mut owners, "b", Arc::new(alloc, 7)?)?;
-    let (place, _) = owners.insert_full_text("a", Own(Arc::new(alloc, 8)?))?;
+    let (index, _) = owners.insert_full_text("a", Own(Arc::new(alloc, 8)?))?;
     let (again, second) = owners.insert_full_text("b", Own(Arc::new(alloc, 9)?))?;
     let is_found = owners.get("b").is_some() && owners.get("c").is_none();
     drop(owners);
-    Ok(place == 1 && again == 0 && is_found && **first == 7 && **second == 7)
+    Ok(index == 1 && again == 0 && is_found && **first == 7 && **second == 7)
 }
 
 #[test]
 fn an_index_map_of_values_that_own_memory_keeps_the_first_of_a_text(
     rt: HostRuntime,
 ) -> Result<(), Fail> {
-    assert!(rt; places(rt.alloc())?);
+    assert!(rt; indices(rt.alloc())?);
     Ok(())
 }
 

@@ -39,8 +39,8 @@ fn spots_are_numbered(alloc: Global) -> Result<bool, AllocError> {
     let mut spots: Spots<'_> = FrozenIndexSet::new(alloc, &arena);
     let mut good = true;
     for (at, spot) in [0usize, 1, 0, 2].into_iter().zip(SPOTS) {
-        let (place, kept) = number(&mut spots, spot)?;
-        good = place == at && *kept == spot && good;
+        let (index, kept) = number(&mut spots, spot)?;
+        good = index == at && *kept == spot && good;
     }
     let is_back = spots.get_index(1) == Some(&SPOTS[1]) && spots.get_index(2) == Some(&SPOTS[3]);
     Ok(good && is_back && spots.len() == 3 && spots.get_index_of(&Own(SPOTS[3])) == Some(2))

@@ -18,18 +18,18 @@ take_whole [] = refl
 take_whole (x ∷ xs) = ap (λ l. x ∷ l) (take_whole xs)
 
 -- A writer that has pushed nothing since has still pushed numbers below its next one.
-pub stays_below : (old new : View ℕ) (next : ℕ) → Continues old new → AllBelow next (pushed_by old.author old.seen) → AllBelow next (pushed_by new.author new.seen)
+pub stays_below : (old new : View ℕ) (next : ℕ) → Continues old new → AllBelow next (pushed_by old.writer old.seen) → AllBelow next (pushed_by new.writer new.seen)
 stays_below old new next (same, more, mine) all = rw (pushes_none old new same.1 more mine) all
 
 -- And it may push each number from that one on, after all that it has seen.
-pub may_push : (old new : View ℕ) (next item : ℕ) → Continues old new → AllBelow next (pushed_by old.author old.seen) → next ≤ item
-    → AllBelow item (pushed_by new.author (take (length new.seen) new.seen))
+pub may_push : (old new : View ℕ) (next item : ℕ) → Continues old new → AllBelow next (pushed_by old.writer old.seen) → next ≤ item
+    → AllBelow item (pushed_by new.writer (take (length new.seen) new.seen))
 may_push old new next item same all low =
-    rw (take_whole new.seen) (below_more next item (pushed_by new.author new.seen) low (stays_below old new next same all))
+    rw (take_whole new.seen) (below_more next item (pushed_by new.writer new.seen) low (stays_below old new next same all))
 
 -- When it has pushed a number, all of its numbers are below the one after it.
-pub grows_below : (old new : View ℕ) (next item : ℕ) → IsLaterPass old new → PushesNext old new item → AllBelow next (pushed_by old.author old.seen) → next ≤ item
-    → AllBelow (item + 1) (pushed_by new.author new.seen)
+pub grows_below : (old new : View ℕ) (next item : ℕ) → IsLaterPass old new → PushesNext old new item → AllBelow next (pushed_by old.writer old.seen) → next ≤ item
+    → AllBelow (item + 1) (pushed_by new.writer new.seen)
 grows_below old new next item same pushed all low =
     let is = pushes_one old new (length old.seen) item same.0.1 (old.seen, ([], append-nil old.seen), refl, pushed.0) pushed.1 in
-    rw is (below_one_more (item + 1) item (pushed_by old.author old.seen) (omega arith) (below_more next (item + 1) (pushed_by old.author old.seen) (omega (arith, low)) all))
+    rw is (below_one_more (item + 1) item (pushed_by old.writer old.seen) (omega arith) (below_more next (item + 1) (pushed_by old.writer old.seen) (omega (arith, low)) all))

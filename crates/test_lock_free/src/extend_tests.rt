@@ -27,13 +27,13 @@ fn numbers<A: Allocator + Copy>(
 }
 
 /// Returns whether there are `length` items, each equal to its index.
-fn has_places<A: Allocator + Copy>(vector: &LockFreeFrozenVec<u64, A>, length: usize) -> bool {
+fn has_indices<A: Allocator + Copy>(vector: &LockFreeFrozenVec<u64, A>, length: usize) -> bool {
     let mut reader = vector.handle();
     if reader.len() != length {
         return false;
     }
-    for (place, item) in reader.iter().enumerate() {
-        if item != place as u64 {
+    for (index, item) in reader.iter().enumerate() {
+        if item != index as u64 {
             return false;
         }
     }
@@ -48,7 +48,7 @@ fn takes<R: Wait>(rt: &R, vector: &LockFreeFrozenVec<u64>, first: &[u64], furthe
     let whole = handle.extend(rt, first) == Ok(0)
         && handle.extend(rt, further) == Ok(first.len())
         && handle.seen_len() == length;
-    whole && handle.push(rt, length as u64).ok() == Some(length) && has_places(vector, length + 1)
+    whole && handle.push(rt, length as u64).ok() == Some(length) && has_indices(vector, length + 1)
 }
 
 /// Returns whether a vector of `length` numbers is extended by `count` more in one call.
@@ -90,7 +90,7 @@ fn is_refused<R: Wait>(
     budget.refuse(from, from.wrapping_add(1));
     let refused = vector.handle().extend(rt, further).is_err();
     budget.refuse_next(0);
-    refused && has_places(vector, length)
+    refused && has_indices(vector, length)
 }
 
 /// Returns whether `extend` of a vector of `length` numbers fails with that request denied, and
@@ -107,8 +107,8 @@ fn takes_later<R: Wait>(
     let vector = LockFreeFrozenVec::<u64, _>::new(budget)?;
     vector.handle().extend(rt, &first)?;
     let refused = is_refused(rt, budget, &vector, &further, granted);
-    let place = vector.handle().extend(rt, &further)?;
-    Ok(refused && place == first.len() && has_places(&vector, first.len() + further.len()))
+    let index = vector.handle().extend(rt, &further)?;
+    Ok(refused && index == first.len() && has_indices(&vector, first.len() + further.len()))
 }
 
 #[test]
@@ -185,7 +185,7 @@ fn sees_none_and_then_all(
         }
         thread::yield_now();
     }
-    halted && none && still && has_places(vector, 100)
+    halted && none && still && has_indices(vector, 100)
 }
 
 #[test]
@@ -196,12 +196,12 @@ fn other_threads_see_an_extension_whole(rt: HostRuntime) -> Result<(), Fail> {
     let (shared, rest, meter, handle) = (&vector, &further, &budget, &rt);
     assert_eq!(rt; shared.handle().extend(handle, &first), Ok(0));
     meter.halt_next();
-    let (place, seen) = thread::join(
+    let (index, seen) = thread::join(
         &rt,
         || shared.handle().extend(handle, rest),
         || sees_none_and_then_all(meter, shared),
     );
-    assert_eq!(rt; (place, seen), (Ok(2), true));
+    assert_eq!(rt; (index, seen), (Ok(2), true));
     Ok(())
 }
 
@@ -212,7 +212,7 @@ fn extend_often<R: Wait>(rt: &R, vector: &LockFreeFrozenVec<u64>, number: u64, t
     let batch = [number; BATCH];
     for _ in 0..times {
         match handle.extend(rt, &batch) {
-            Ok(place) if place % BATCH == 0 => {}
+            Ok(index) if index % BATCH == 0 => {}
             _ => return false,
         }
     }
@@ -226,8 +226,8 @@ fn batches_of(vector: &LockFreeFrozenVec<u64>, number: u64) -> Option<u64> {
     reader.len();
     let mut count: u64 = 0;
     let mut last = 0;
-    for (place, item) in reader.iter().enumerate() {
-        if place % BATCH == 0 {
+    for (index, item) in reader.iter().enumerate() {
+        if index % BATCH == 0 {
             last = item;
             count = count.wrapping_add((item == number) as u64);
         }

@@ -33,13 +33,13 @@ fn buffers_open_as_the_list_grows(rt: HostRuntime) -> Result<(), AllocError> {
 const LAST: usize = (1 << 62) - 2;
 
 /// Returns whether an index is in this buffer at this slot.
-fn lies_at(place: usize, buffer: usize, slot: usize) -> bool {
-    place <= LAST && buffer_index(place) == buffer && locate(place) == (buffer, slot)
+fn lies_at(index: usize, buffer: usize, slot: usize) -> bool {
+    index <= LAST && buffer_index(index) == buffer && locate(index) == (buffer, slot)
 }
 
 #[test]
 fn an_index_was_located_in_the_wrong_buffer_or_slot(rt: HostRuntime) {
-    for (place, buffer, slot) in [
+    for (index, buffer, slot) in [
         (0, 0, 0),
         (2, 0, 2),
         (3, 1, 0),
@@ -49,7 +49,7 @@ fn an_index_was_located_in_the_wrong_buffer_or_slot(rt: HostRuntime) {
         (63, 3, 0),
         (LAST, 30, 3458764513820540927),
     ] {
-        assert!(rt; lies_at(place, buffer, slot), "at {place}");
+        assert!(rt; lies_at(index, buffer, slot), "at {index}");
     }
     assert!(rt; buffer_size(0) == 3 && buffer_size(31) == 13835058055282163712);
     assert!(rt;

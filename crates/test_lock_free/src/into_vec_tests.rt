@@ -63,8 +63,8 @@ fn filled<'b, R: Wait>(
 
 /// Returns whether these are `count` items, each with its index as its number.
 fn are_in_order(items: &[Item], count: u64) -> bool {
-    for (place, item) in items.iter().enumerate() {
-        if item.number != place as u64 {
+    for (index, item) in items.iter().enumerate() {
+        if item.number != index as u64 {
             return false;
         }
     }
@@ -184,8 +184,8 @@ impl Draws {
 
 /// Reads an item that some thread has pushed. Returns whether it has the number of a thread, or
 /// there is none yet.
-fn is_of_a_thread(handle: &mut Handle<'_, Item, &Budget<Global>>, place: u64) -> bool {
-    match handle.get_ref(place as usize) {
+fn is_of_a_thread(handle: &mut Handle<'_, Item, &Budget<Global>>, index: u64) -> bool {
+    match handle.get_ref(index as usize) {
         Some(item) => item.number / 1_000_000 < 4,
         None => true,
     }

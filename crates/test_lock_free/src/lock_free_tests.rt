@@ -17,13 +17,13 @@ fn push_all<R: Wait>(rt: &R, vector: &LockFreeFrozenVec<u64>, first: u64, count:
     let mut least = 0;
     for i in 0..count {
         let item = first.wrapping_add(i);
-        let Ok(place) = vector.push(rt, item) else {
+        let Ok(index) = vector.push(rt, item) else {
             return false;
         };
-        if place < least || vector.get(place) != Some(item) {
+        if index < least || vector.get(index) != Some(item) {
             return false;
         }
-        least = place + 1;
+        least = index + 1;
     }
     true
 }
@@ -31,8 +31,8 @@ fn push_all<R: Wait>(rt: &R, vector: &LockFreeFrozenVec<u64>, first: u64, count:
 /// Returns whether each number below the length is an item at one index. `seen` marks the numbers
 /// that were found; at the start none is.
 fn has_each_once(vector: &LockFreeFrozenVec<u64>, seen: &mut [bool]) -> bool {
-    for place in 0..seen.len() {
-        let Some(item) = vector.get(place) else {
+    for index in 0..seen.len() {
+        let Some(item) = vector.get(index) else {
             return false;
         };
         match seen.get_mut(item as usize) {
@@ -44,12 +44,12 @@ fn has_each_once(vector: &LockFreeFrozenVec<u64>, seen: &mut [bool]) -> bool {
 }
 
 /// Returns whether there are `length` items, each equal to its index.
-fn has_places<A: Allocator + Copy>(vector: &LockFreeFrozenVec<u64, A>, length: usize) -> bool {
+fn has_indices<A: Allocator + Copy>(vector: &LockFreeFrozenVec<u64, A>, length: usize) -> bool {
     if vector.len() != length || vector.get(length).is_some() {
         return false;
     }
-    for place in 0..length {
-        if vector.get(place) != Some(place as u64) {
+    for index in 0..length {
+        if vector.get(index) != Some(index as u64) {
             return false;
         }
     }
@@ -58,13 +58,13 @@ fn has_places<A: Allocator + Copy>(vector: &LockFreeFrozenVec<u64, A>, length: u
 
 /// Returns whether the first `count` items are read within `TURNS` reads, each equal to its index.
 fn sees_all(vector: &LockFreeFrozenVec<u64>, count: u64) -> bool {
-    let mut place: u64 = 0;
+    let mut index: u64 = 0;
     for _ in 0..TURNS {
-        if place >= count {
+        if index >= count {
             return true;
         }
-        match vector.get(place as usize) {
-            Some(item) if item == place => place = place.wrapping_add(1),
+        match vector.get(index as usize) {
+            Some(item) if item == index => index = index.wrapping_add(1),
             Some(_) => return false,
             None => thread::yield_now(),
         }
@@ -81,7 +81,7 @@ fn clones_all<A: Allocator + Copy>(vector: &LockFreeFrozenVec<u64, A>, clones: u
             return false;
         };
         let length = copy.len();
-        if length < longest || !has_places(&copy, length) {
+        if length < longest || !has_indices(&copy, length) {
             return false;
         }
         longest = length;
@@ -94,7 +94,7 @@ fn passes_meet<R: Wait>(rt: &R, vector: &LockFreeFrozenVec<u64>) -> bool {
     let mut p = vector.pass();
     let mut q = vector.pass();
     let mut r = vector.pass();
-    let places = [
+    let indices = [
         vector.push_as(rt, &mut p, 10),
         vector.push_as(rt, &mut q, 20),
     ];
@@ -105,7 +105,7 @@ fn passes_meet<R: Wait>(rt: &R, vector: &LockFreeFrozenVec<u64>) -> bool {
         vector.get_as(&mut r, 2),
     ];
     let length = vector.len_as(&mut r);
-    places == [Ok(0), Ok(1)] && seen == [Some(10), Some(20), None] && length == 2
+    indices == [Ok(0), Ok(1)] && seen == [Some(10), Some(20), None] && length == 2
 }
 
 #[test]
@@ -117,7 +117,7 @@ fn a_merged_view_lost_an_item(rt: HostRuntime) -> Result<(), Fail> {
 
 /// Returns whether a clone has `length` items, each equal to its index.
 fn is_cloned(vector: &LockFreeFrozenVec<u64>, length: usize) -> Result<bool, AllocError> {
-    Ok(has_places(&vector.clone()?, length))
+    Ok(has_indices(&vector.clone()?, length))
 }
 
 /// Returns whether a thousand items are pushed into an empty vector.
@@ -155,13 +155,13 @@ fn push_a_million<R: Wait>(rt: &R, vector: &LockFreeFrozenVec<u64>) -> bool {
 fn takes_a_million<R: Wait>(rt: &R, vector: &LockFreeFrozenVec<u64>) -> bool {
     let pushed = push_a_million(rt, vector);
     for turn in 0..1027usize {
-        let place = turn.wrapping_mul(1021);
-        if vector.get(place) != Some(place as u64) {
+        let index = turn.wrapping_mul(1021);
+        if vector.get(index) != Some(index as u64) {
             return false;
         }
     }
-    for place in 1_048_571..1_048_580usize {
-        if vector.get(place) != Some(place as u64) {
+    for index in 1_048_571..1_048_580usize {
+        if vector.get(index) != Some(index as u64) {
             return false;
         }
     }
@@ -180,8 +180,8 @@ fn has_items(vector: &LockFreeFrozenVec<u64>, items: &[u64]) -> bool {
     if vector.len() != items.len() {
         return false;
     }
-    for place in 0..items.len() {
-        if vector.get(place) != Some(items[place]) {
+    for index in 0..items.len() {
+        if vector.get(index) != Some(items[index]) {
             return false;
         }
     }
@@ -199,9 +199,9 @@ fn is_parted<R: Wait>(rt: &R, vector: &LockFreeFrozenVec<u64>) -> Result<bool, A
     let mut p = vector.pass();
     let (copy, mut q) = vector.clone_as(&mut p)?;
     let equal = vector.equals_as(&mut p, &copy, &mut q);
-    let place = copy.push_as(rt, &mut q, 30);
+    let index = copy.push_as(rt, &mut q, 30);
     let apart = has_items(vector, &[10, 20]) && has_items(&copy, &[10, 20, 30]);
-    Ok(equal && place == Ok(2) && apart && !vector.equals(&copy))
+    Ok(equal && index == Ok(2) && apart && !vector.equals(&copy))
 }
 
 #[test]
@@ -214,8 +214,8 @@ fn a_clone_goes_its_own_way(rt: HostRuntime) -> Result<(), Fail> {
 /// Returns whether 30, pushed into the source after it was cloned, is in the source only.
 fn is_left<R: Wait>(rt: &R, vector: &LockFreeFrozenVec<u64>) -> Result<bool, AllocError> {
     let copy = vector.clone()?;
-    let place = vector.push(rt, 30);
-    Ok(place == Ok(2) && has_items(&copy, &[10, 20]) && has_items(vector, &[10, 20, 30]))
+    let index = vector.push(rt, 30);
+    Ok(index == Ok(2) && has_items(&copy, &[10, 20]) && has_items(vector, &[10, 20, 30]))
 }
 
 #[test]
@@ -273,23 +273,23 @@ fn opens_at<R: Wait>(
     rt: &R,
     budget: &Budget<Global>,
     vector: &LockFreeFrozenVec<u64, &Budget<Global>>,
-    place: usize,
+    index: usize,
 ) -> bool {
-    let opens = place == 0 || place == 3 || place == 15;
+    let opens = index == 0 || index == 3 || index == 15;
     budget.refuse_next(1);
-    let refused = vector.push(rt, place as u64).is_err();
+    let refused = vector.push(rt, index as u64).is_err();
     budget.refuse_next(0);
-    refused == opens && (!opens || vector.push(rt, place as u64) == Ok(place))
+    refused == opens && (!opens || vector.push(rt, index as u64) == Ok(index))
 }
 
 #[test]
 fn a_push_failed_that_opens_no_buffer(rt: HostRuntime) -> Result<(), Fail> {
     let budget = Budget::new(rt.alloc());
     let vector = LockFreeFrozenVec::<u64, _>::new(&budget)?;
-    for place in 0..16 {
-        assert!(rt; opens_at(&rt, &budget, &vector, place), "at {place}");
+    for index in 0..16 {
+        assert!(rt; opens_at(&rt, &budget, &vector, index), "at {index}");
     }
-    assert!(rt; has_places(&vector, 16));
+    assert!(rt; has_indices(&vector, 16));
     Ok(())
 }
 
@@ -325,12 +325,12 @@ fn clone_once<R: Wait, A: Allocator + Copy>(
         return Some(1);
     };
     let answer = copy.push(rt, length as u64);
-    if !has_places(vector, length) {
+    if !has_indices(vector, length) {
         return None;
     }
     match answer {
-        Ok(place) if place == length && has_places(&copy, length + 1) => Some(0),
-        Err(_) if has_places(&copy, length) => Some(1),
+        Ok(index) if index == length && has_indices(&copy, length + 1) => Some(0),
+        Err(_) if has_indices(&copy, length) => Some(1),
         _ => None,
     }
 }
@@ -346,11 +346,11 @@ fn script<R: Wait, A: Allocator + Copy>(rt: &R, alloc: A) -> Option<u64> {
     for _ in 0..18 {
         refused = refused.wrapping_add(clone_once(rt, &vector, length)?);
         match vector.push(rt, length as u64) {
-            Ok(place) if place == length => length = place + 1,
+            Ok(index) if index == length => length = index + 1,
             Ok(_) => return None,
             Err(_) => refused = refused.wrapping_add(1),
         }
-        if !has_places(&vector, length) {
+        if !has_indices(&vector, length) {
             return None;
         }
     }
@@ -462,13 +462,13 @@ fn push_moos<R: Wait>(rt: &R, vector: &LockFreeFrozenVec<Moo>) -> bool {
 /// Returns whether a thousand structs are read within `TURNS` reads, each with its index as its
 /// number.
 fn sees_moos(vector: &LockFreeFrozenVec<Moo>) -> bool {
-    let mut place: u64 = 0;
+    let mut index: u64 = 0;
     for _ in 0..TURNS {
-        if place >= 1000 {
+        if index >= 1000 {
             return true;
         }
-        match vector.get(place as usize) {
-            Some(Moo(number)) if number == place => place = place.wrapping_add(1),
+        match vector.get(index as usize) {
+            Some(Moo(number)) if number == index => index = index.wrapping_add(1),
             Some(_) => return false,
             None => thread::yield_now(),
         }

@@ -34,8 +34,8 @@ fn push_one<R: Wait, A: Allocator + Copy>(
         _owner: owner,
     };
     match handle.push(rt, item) {
-        Ok(place) => {
-            let item = handle.get_ref(place)?;
+        Ok(index) => {
+            let item = handle.get_ref(index)?;
             if item.number == number {
                 Some(true)
             } else {

@@ -36,8 +36,8 @@ fn reads_below<A: Allocator + Copy>(
     requires { pass.old.vector ≡ vector.now }
     ensures { pass.new.vector ≡ pass.old.vector }
 {
-    for place in 0..count {
-        if vector.get_as(pass, place as usize) != Some(place) {
+    for index in 0..count {
+        if vector.get_as(pass, index as usize) != Some(index) {
             return false;
         }
     }
@@ -179,8 +179,8 @@ fn push_and_read<R: Wait>(
     ensures { IfOk result (λ read. read ≡ Some item) }
 {
     let mut pass = vector.pass();
-    let place = vector.push_as(rt, &mut pass, item)?;
-    Ok(vector.get_as(&mut pass, place))
+    let index = vector.push_as(rt, &mut pass, item)?;
+    Ok(vector.get_as(&mut pass, index))
 }
 
 #[test]

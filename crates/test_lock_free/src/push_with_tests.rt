@@ -33,8 +33,8 @@ fn pushes(rt: &impl Wait, nodes: &Nodes, by: u64) -> u64 {
     let mut right = 0u64;
     let mut handle = nodes.handle();
     for _ in 0..MANY {
-        if let Ok(place) = handle.push_with(rt, |index| Node { index, by }) {
-            if handle.get(place) == Some(Node { index: place, by }) {
+        if let Ok(index) = handle.push_with(rt, |index| Node { index, by }) {
+            if handle.get(index) == Some(Node { index, by }) {
                 right = right.wrapping_add(1);
             }
         }

@@ -22,7 +22,7 @@ impl ItemRule<u64> for EachRises {
     ghost use Rattle.elsa_lock_free.specs.SharedList.{pushed_by};
     ghost use Rattle.test_lock_free.specs.Rising.{AllBelow};
 
-    ghost is_new = { λ entries entry. AllBelow entry.item (pushed_by entry.author entries) };
+    ghost is_new = { λ entries entry. AllBelow entry.item (pushed_by entry.writer entries) };
 
     ghost distinct = { false };
 
@@ -54,7 +54,7 @@ impl<'v> Model for Writer<'v> {
     ghost view = { λ w. w.handle };
 
     // What the writer has pushed is below its next number.
-    ghost invariant = { λ w. AllBelow w.next (pushed_by w.handle.author w.handle.seen) };
+    ghost invariant = { λ w. AllBelow w.next (pushed_by w.handle.writer w.handle.seen) };
 }
 
 /// Makes a writer that has pushed nothing.
@@ -93,7 +93,7 @@ impl<'v> Writer<'v> {
 /// Proves that of two items of one writer the later is the greater, whichever handle reads them.
 fn each_rises(handle: &Handle<'_, u64, Global, EachRises>)
     ensures { (i : ℕ) (e : Entry ℕ) → slice_get handle.now.seen i ≡ Some e →
-        AllBelow e.item (pushed_by e.author (take i handle.now.seen)) }
+        AllBelow e.item (pushed_by e.writer (take i handle.now.seen)) }
 {
     handle.obeys_rule();
 }

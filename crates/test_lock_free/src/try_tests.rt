@@ -34,7 +34,7 @@ fn outcome_of_push<A: Allocator + Copy>(
     ensures vector { handle.new.vector ≡ handle.old.vector }
 {
     match handle.try_push(may, item) {
-        Ok(place) => Pushed::At(place),
+        Ok(index) => Pushed::At(index),
         Err(AttemptFault::Busy(item)) => Pushed::Busy(item),
         Err(AttemptFault::Failed(failed)) => Pushed::Failed(failed.value),
     }

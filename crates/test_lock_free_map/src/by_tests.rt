@@ -190,13 +190,13 @@ fn draws<R: Wait>(
 ) -> Result<Option<u64>, AllocError> {
     let map: Owners<Global> = LockFreeFrozenMap::new(alloc)?;
     let (mut one, mut other) = (map.handle(), map.handle());
-    let mut places: Vec<Option<(u64, usize, bool)>> = Vec::from_elem(alloc, None, KEYS as usize)?;
+    let mut indices: Vec<Option<(u64, usize, bool)>> = Vec::from_elem(alloc, None, KEYS as usize)?;
     let (mut drawn, mut count) = (seed, 0usize);
     for call in 1..CALLS {
         drawn = next_of(drawn);
         let (key, kind) = ((drawn >> 33) % KEYS, (drawn >> 20) % 3);
         let text = format!(in alloc; "key {key}")?;
-        let known = places[key as usize];
+        let known = indices[key as usize];
         if one.contains_key(text.as_str()) != known.is_some() {
             return Ok(Some(call));
         }
@@ -213,7 +213,7 @@ fn draws<R: Wait>(
             return Ok(Some(call));
         }
         if known.is_none() {
-            places[key as usize] = Some(right);
+            indices[key as usize] = Some(right);
             count = count.wrapping_add(1);
         }
     }

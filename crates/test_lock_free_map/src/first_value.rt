@@ -31,7 +31,7 @@ fn by_two<R: Wait>(
 {
     let first = one.insert(rt, key, values.0)?;
     let second = other.insert(rt, key, values.1)?;
-    one.same_place(other);
+    one.same_index(other);
     Ok((first.value, second.value))
 }
 

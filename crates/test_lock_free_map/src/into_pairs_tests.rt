@@ -78,8 +78,8 @@ fn are_in_order<A: Allocator>(
     entries: &Entries<A>,
     count: u64,
 ) -> Result<bool, AllocError> {
-    for (place, entry) in entries.iter().enumerate() {
-        if !is_of(alloc, entry.0.as_str(), &entry.1, place as u64)? {
+    for (index, entry) in entries.iter().enumerate() {
+        if !is_of(alloc, entry.0.as_str(), &entry.1, index as u64)? {
             return Ok(false);
         }
     }

@@ -53,8 +53,8 @@ fn places_are_in_the_order_of_insertion(rt: HostRuntime) -> Result<(), Fail> {
     let mut handle = map.handle();
     handle.insert(&rt, "pear", 1)?;
     handle.insert(&rt, "fig", 2)?;
-    let first = handle.get_by_place(0);
-    let none = handle.get_by_place(2);
+    let first = handle.get_index(0);
+    let none = handle.get_index(2);
     assert!(rt; first == Some(("pear", 1)) && none.is_none());
     Ok(())
 }

@@ -14,8 +14,8 @@ fn is(item: Option<Arc<&'static str>>, want: &str) -> bool {
     }
 }
 
-fn stands(rt: &impl Wait, list: &List, item: &str, place: usize) -> Result<bool, AllocError> {
-    Ok(is(list.get(rt, place)?, item))
+fn stands(rt: &impl Wait, list: &List, item: &str, index: usize) -> Result<bool, AllocError> {
+    Ok(is(list.get(rt, index)?, item))
 }
 
 // Returns whether the push returns this index.
@@ -23,17 +23,17 @@ fn goes_to(
     rt: &impl Wait,
     list: &List,
     item: &'static str,
-    place: usize,
+    index: usize,
 ) -> Result<bool, AllocError> {
-    Ok(list.push_get_index(rt, item)? == place)
+    Ok(list.push_get_index(rt, item)? == index)
 }
 
 fn gets(rt: &impl Wait, list: &List, item: &'static str) -> Result<bool, AllocError> {
     Ok(*list.push_get(rt, item)? == item)
 }
 
-fn is_absent(rt: &impl Wait, list: &List, place: usize) -> Result<bool, AllocError> {
-    Ok(list.get(rt, place)?.is_none())
+fn is_absent(rt: &impl Wait, list: &List, index: usize) -> Result<bool, AllocError> {
+    Ok(list.get(rt, index)?.is_none())
 }
 
 #[test]

@@ -78,8 +78,8 @@ fn is_new(rt: &impl Wait, map: &Texts, text: &'static str) -> Result<bool, Alloc
 }
 
 // Returns whether the pair at this index is `key` with `text`.
-fn is_pair(pairs: &[(u64, Arc<&str>)], place: usize, key: u64, text: &str) -> bool {
-    match pairs.get(place) {
+fn is_pair(pairs: &[(u64, Arc<&str>)], index: usize, key: u64, text: &str) -> bool {
+    match pairs.get(index) {
         Some(pair) => pair.0 == key && *pair.1 == text,
         None => false,
     }
@@ -140,43 +140,43 @@ type Owners = FrozenMap<usize, String>;
 const TEXTS: [&str; 9] = ["1", "2", "3", "4", "5", "6", "7", "8", "9"];
 
 // Returns the text at this index of `TEXTS` as a `String`.
-fn owned(alloc: Global, place: usize) -> Result<String, AllocError> {
-    match TEXTS.get(place) {
+fn owned(alloc: Global, index: usize) -> Result<String, AllocError> {
+    match TEXTS.get(index) {
         Some(text) => String::from_str(alloc, text),
         None => Err(AllocError),
     }
 }
 
-// Inserts the key `place + 1` with its text.
-fn insert_text(rt: &impl Wait, alloc: Global, map: &Owners, place: usize) -> bool {
-    match owned(alloc, place) {
-        Ok(text) => map.insert(rt, place.saturating_add(1), text).is_ok(),
+// Inserts the key `index + 1` with its text.
+fn insert_text(rt: &impl Wait, alloc: Global, map: &Owners, index: usize) -> bool {
+    match owned(alloc, index) {
+        Ok(text) => map.insert(rt, index.saturating_add(1), text).is_ok(),
         Err(_) => false,
     }
 }
 
-// Returns whether the key `place + 1` has its text.
-fn has_text(rt: &impl Wait, map: &Owners, place: usize) -> Result<bool, AllocError> {
-    match map.get(rt, &place.saturating_add(1))? {
-        Some(text) => Ok(TEXTS.get(place) == Some(&text.as_str())),
+// Returns whether the key `index + 1` has its text.
+fn has_text(rt: &impl Wait, map: &Owners, index: usize) -> Result<bool, AllocError> {
+    match map.get(rt, &index.saturating_add(1))? {
+        Some(text) => Ok(TEXTS.get(index) == Some(&text.as_str())),
         None => Ok(false),
     }
 }
 
-// Inserts the key `place + 1` with its text, waits until all nine threads have inserted, and
+// Inserts the key `index + 1` with its text, waits until all nine threads have inserted, and
 // returns whether the key of the next thread is found.
 fn insert_beside_the_others(
     rt: &impl Wait,
     alloc: Global,
     map: &Owners,
     arrived: &Mark,
-    place: usize,
+    index: usize,
 ) -> bool {
-    if !insert_text(rt, alloc, map, place) {
+    if !insert_text(rt, alloc, map, index) {
         return false;
     }
     arrived.raise_by_one();
-    let next = if place >= 8 { 0 } else { place + 1 };
+    let next = if index >= 8 { 0 } else { index + 1 };
     arrived.comes_to(9) && matches!(has_text(rt, map, next), Ok(true))
 }
 
@@ -202,8 +202,8 @@ fn nine_threads_find_what_the_others_inserted(rt: HostRuntime) -> Result<(), Fai
         &|i| insert_beside_the_others(handle, alloc, shared, arrived, i),
     )?;
     assert!(rt; have_all_inserted(all.as_slice()));
-    for place in 0..9usize {
-        assert!(rt; has_text(&rt, &map, 8 - place)?);
+    for index in 0..9usize {
+        assert!(rt; has_text(&rt, &map, 8 - index)?);
     }
     Ok(())
 }

@@ -107,8 +107,8 @@ fn a_reader_finds_what_another_thread_puts_beside_it(rt: HostRuntime) -> Result<
 
 const ROUNDS: u64 = 20_000;
 
-fn has(rt: &impl Wait, list: &List, place: usize, item: u64) -> bool {
-    match list.get(rt, place) {
+fn has(rt: &impl Wait, list: &List, index: usize, item: u64) -> bool {
+    match list.get(rt, index) {
         Ok(Some(there)) => *there == item,
         _ => false,
     }
@@ -118,7 +118,7 @@ fn has(rt: &impl Wait, list: &List, place: usize, item: u64) -> bool {
 // at that index.
 fn is_told_its_place(rt: &impl Wait, list: &List, round: u64, item: u64) -> bool {
     match list.push_get_index(rt, item) {
-        Ok(place) => (place / 2) as u64 == round && has(rt, list, place, item),
+        Ok(index) => (index / 2) as u64 == round && has(rt, list, index, item),
         Err(_) => false,
     }
 }

@@ -98,9 +98,9 @@ fn the_history_of_one_call_was_wrong(rt: HostRuntime) -> Result<(), Fail> {
     Ok(())
 }
 
-// Returns whether the part is one push of the item by pass 1, with `place` as its reply.
-fn is_push(part: &Entries<VecState<u64>>, item: u64, place: usize) -> bool {
-    let entries = [(1, VecCommand::Push(item), VecReply::Place(place))];
+// Returns whether the part is one push of the item by pass 1, with `index` as its reply.
+fn is_push(part: &Entries<VecState<u64>>, item: u64, index: usize) -> bool {
+    let entries = [(1, VecCommand::Push(item), VecReply::Place(index))];
     part.as_slice() == entries.as_slice()
 }
 
@@ -236,7 +236,7 @@ fn a_new_key_is_new_once(rt: HostRuntime) -> Result<(), Fail> {
 
 // ---- threads
 
-type Places = RecordPass<VecState<u64>>;
+type Indices = RecordPass<VecState<u64>>;
 
 // Returns whether the history has `count` entries, and its caller changes at least `least` times
 // from one entry to the next.
@@ -271,22 +271,22 @@ fn goes_on(other: &Mark, calls: u64) -> bool {
 fn pushes<R: Wait>(
     rt: &R,
     recorder: &Recorder<VecState<u64>>,
-    mut pass: Places,
+    mut pass: Indices,
     mine: &Mark,
     other: &Mark,
-) -> Option<Places> {
+) -> Option<Indices> {
     let mut least = 0;
     for i in 0..100u64 {
         if !goes_on(other, i) {
             return None;
         }
-        let Ok(VecReply::Place(place)) = recorder.call(rt, &mut pass, VecCommand::Push(i)) else {
+        let Ok(VecReply::Place(index)) = recorder.call(rt, &mut pass, VecCommand::Push(i)) else {
             return None;
         };
-        if place < least {
+        if index < least {
             return None;
         }
-        least = place.saturating_add(1);
+        least = index.saturating_add(1);
         mine.raise(i + 1);
     }
     Some(pass)
@@ -294,23 +294,23 @@ fn pushes<R: Wait>(
 
 // Marks the indices that the pass's replies have, and returns whether each was below 200 and not
 // marked before.
-fn marks_places(pass: &Places, marked: &mut [bool; 200]) -> bool {
+fn marks_indices(pass: &Indices, marked: &mut [bool; 200]) -> bool {
     for receipt in pass.receipts() {
-        let VecReply::Place(place) = receipt.2 else {
+        let VecReply::Place(index) = receipt.2 else {
             return false;
         };
-        if place >= 200 || marked[place] {
+        if index >= 200 || marked[index] {
             return false;
         }
-        marked[place] = true;
+        marked[index] = true;
     }
     true
 }
 
 // Returns whether each index below 200 is in exactly one reply of the two passes.
-fn share_places(one: &Places, two: &Places) -> bool {
+fn share_indices(one: &Indices, two: &Indices) -> bool {
     let mut marked = [false; 200];
-    let once = marks_places(one, &mut marked) && marks_places(two, &mut marked);
+    let once = marks_indices(one, &mut marked) && marks_indices(two, &mut marked);
     for i in 0..200usize {
         if !marked[i] {
             return false;
@@ -333,10 +333,10 @@ fn two_threads_got_one_index_or_skipped_one(rt: HostRuntime) -> Result<(), Fail>
     );
     let (Some(a), Some(b)) = (a, b) else {
         return Err(Fail::from(
-            "a push was refused, its place doesn't rise, or the other thread didn't go on",
+            "a push was refused, its index doesn't rise, or the other thread didn't go on",
         ));
     };
-    assert!(rt; share_places(&a, &b));
+    assert!(rt; share_indices(&a, &b));
     assert!(rt; interleaves(recorder, both(rt.alloc(), a, b)?, 200, 10));
     Ok(())
 }

@@ -85,8 +85,8 @@ const CALLS: usize = 32;
 
 type Text<'b> = String<Heap<'b>>;
 
-fn word(place: usize) -> &'static str {
-    WORDS[place % 16]
+fn word(index: usize) -> &'static str {
+    WORDS[index % 16]
 }
 
 // Makes the list of the words as keys.
@@ -134,11 +134,11 @@ fn hashed_given<'b>(
     rt: &impl Wait,
     map: &Hashed<'b>,
     heap: Heap<'b>,
-    place: usize,
+    index: usize,
     value: usize,
 ) -> Result<bool, AllocError> {
-    let key = String::from_str(heap, word(place))?;
-    let given = match place % 7 {
+    let key = String::from_str(heap, word(index))?;
+    let given = match index % 7 {
         0 => *map.insert(rt, key, value)?,
         1 => *map.insert_new(rt, key, value)?.0,
         2 => *map.insert_with(rt, key, || value)?,
@@ -147,7 +147,7 @@ fn hashed_given<'b>(
         5 => map.get_copy_or_insert_with(rt, key, || value)?,
         _ => map.get_copy_or_insert_with_key(rt, key, |_| value)?,
     };
-    Ok(given == place)
+    Ok(given == index)
 }
 
 // Returns whether a word that is present keeps its number and isn't new.
@@ -155,11 +155,11 @@ fn hashed_again<'b>(
     rt: &impl Wait,
     map: &Hashed<'b>,
     heap: Heap<'b>,
-    place: usize,
+    index: usize,
 ) -> Result<bool, AllocError> {
-    let key = String::from_str(heap, word(place))?;
+    let key = String::from_str(heap, word(index))?;
     let (kept, is_new) = map.insert_new(rt, key, 99)?;
-    Ok(*kept == place && !is_new && hashed_given(rt, map, heap, place, 99)?)
+    Ok(*kept == index && !is_new && hashed_given(rt, map, heap, index, 99)?)
 }
 
 fn hashed_equals(rt: &impl Wait, map: &Hashed<'_>) -> Result<bool, AllocError> {
@@ -167,13 +167,13 @@ fn hashed_equals(rt: &impl Wait, map: &Hashed<'_>) -> Result<bool, AllocError> {
 }
 
 fn hashed_holds<'b>(rt: &impl Wait, map: &Hashed<'b>, keys: &Vec<Text<'b>>, count: usize) -> bool {
-    let mut place = 0usize;
+    let mut index = 0usize;
     for key in keys {
-        let want = if place < count { Some(place) } else { None };
+        let want = if index < count { Some(index) } else { None };
         if map.get_copy(rt, key) != want {
             return false;
         }
-        place = place.saturating_add(1);
+        index = index.saturating_add(1);
     }
     map.len(rt) == count
 }
@@ -234,14 +234,14 @@ fn ordered_given<'b>(
     rt: &impl Wait,
     map: &Ordered<'b>,
     heap: Heap<'b>,
-    place: usize,
+    index: usize,
 ) -> Result<bool, AllocError> {
-    let key = String::from_str(heap, word(place))?;
-    if place % 2 == 0 {
-        return Ok(*map.insert(rt, key, place)? == place);
+    let key = String::from_str(heap, word(index))?;
+    if index % 2 == 0 {
+        return Ok(*map.insert(rt, key, index)? == index);
     }
-    let (kept, is_new) = map.insert_new(rt, key, place)?;
-    Ok(*kept == place && is_new)
+    let (kept, is_new) = map.insert_new(rt, key, index)?;
+    Ok(*kept == index && is_new)
 }
 
 // Returns whether a word that is present keeps its number and isn't new.
@@ -249,14 +249,14 @@ fn ordered_again<'b>(
     rt: &impl Wait,
     map: &Ordered<'b>,
     heap: Heap<'b>,
-    place: usize,
+    index: usize,
 ) -> Result<bool, AllocError> {
     let (key, again) = (
-        String::from_str(heap, word(place))?,
-        String::from_str(heap, word(place))?,
+        String::from_str(heap, word(index))?,
+        String::from_str(heap, word(index))?,
     );
     let (kept, is_new) = map.insert_new(rt, key, 99)?;
-    Ok(*kept == place && !is_new && *map.insert(rt, again, 98)? == place)
+    Ok(*kept == index && !is_new && *map.insert(rt, again, 98)? == index)
 }
 
 fn ordered_collected<'b>(
@@ -279,14 +279,14 @@ fn ordered_equals(rt: &impl Wait, map: &Ordered<'_>) -> Result<bool, AllocError>
 
 // Returns whether the pairs are the first `count` words, in their order.
 fn are_words(pairs: &[(Text<'_>, Arc<usize, Heap<'_>>)], count: usize) -> bool {
-    let mut place = 0usize;
+    let mut index = 0usize;
     for pair in pairs {
-        if pair.0.as_str() != word(place) || *pair.1 != place {
+        if pair.0.as_str() != word(index) || *pair.1 != index {
             return false;
         }
-        place = place.saturating_add(1);
+        index = index.saturating_add(1);
     }
-    place == count
+    index == count
 }
 
 fn ordered_holds<'b>(
@@ -295,13 +295,13 @@ fn ordered_holds<'b>(
     keys: &Vec<Text<'b>>,
     count: usize,
 ) -> bool {
-    let mut place = 0usize;
+    let mut index = 0usize;
     for key in keys {
-        let want = if place < count { Some(place) } else { None };
+        let want = if index < count { Some(index) } else { None };
         if map.map_get(rt, key, |value| *value) != want {
             return false;
         }
-        place = place.saturating_add(1);
+        index = index.saturating_add(1);
     }
     map.len(rt) == count
 }
@@ -381,8 +381,8 @@ fn list_gets(rt: &impl Wait, list: &List<'_>, count: usize) -> Result<bool, Allo
     Ok(item(rt, list, 0)? == Some(0) && is_absent)
 }
 
-fn item(rt: &impl Wait, list: &List<'_>, place: usize) -> Result<Option<usize>, AllocError> {
-    match list.get(rt, place)? {
+fn item(rt: &impl Wait, list: &List<'_>, index: usize) -> Result<Option<usize>, AllocError> {
+    match list.get(rt, index)? {
         Some(there) => Ok(Some(*there)),
         None => Ok(None),
     }
@@ -391,8 +391,8 @@ fn item(rt: &impl Wait, list: &List<'_>, place: usize) -> Result<Option<usize>, 
 // Returns whether a walk visits exactly the numbers below `count`.
 fn list_holds(rt: &impl Wait, list: &List<'_>, count: usize) -> bool {
     let mut walk = list.iter();
-    for place in 0..count {
-        if !matches!(walk.next(rt), Ok(Some(there)) if *there == place) {
+    for index in 0..count {
+        if !matches!(walk.next(rt), Ok(Some(there)) if *there == index) {
             return false;
         }
     }

@@ -26,8 +26,8 @@ pub fn locked(
         locked_call(rt, list, call)?
     };
     let mut found = [None; KEYS];
-    for place in 0..KEYS {
-        found[place] = locked_get(rt, list, place)?;
+    for index in 0..KEYS {
+        found[index] = locked_get(rt, list, index)?;
     }
     Ok(Seen {
         answer,
@@ -36,8 +36,8 @@ pub fn locked(
     })
 }
 
-fn locked_get(rt: &impl Wait, list: &Locked, place: usize) -> Result<Option<u64>, AllocError> {
-    Ok(shared(list.get(rt, place)?))
+fn locked_get(rt: &impl Wait, list: &Locked, index: usize) -> Result<Option<u64>, AllocError> {
+    Ok(shared(list.get(rt, index)?))
 }
 
 fn locked_push(rt: &impl Wait, list: &Locked, value: u64) -> Result<Answer, AllocError> {
@@ -69,14 +69,14 @@ fn locked_with(rt: &impl Wait, list: &Locked, value: u64) -> Result<Locked, Allo
     Ok(other)
 }
 
-/// Makes the call on the state, and returns what is compared after it. `place` is the index of the
+/// Makes the call on the state, and returns what is compared after it. `index` is the index of the
 /// walk.
 ///
 /// # Errors
 /// Fails if an allocation fails.
-pub fn state(list: &mut State, place: &mut usize, call: Call) -> Result<Seen, AllocError> {
+pub fn state(list: &mut State, index: &mut usize, call: Call) -> Result<Seen, AllocError> {
     let answer = if call.kind == Kind::Next {
-        Answer::Found(state_next(list, place)?)
+        Answer::Found(state_next(list, index)?)
     } else {
         state_call(list, call)?
     };
@@ -91,14 +91,14 @@ pub fn state(list: &mut State, place: &mut usize, call: Call) -> Result<Seen, Al
     })
 }
 
-fn state_get(list: &State, place: usize) -> Result<Option<u64>, AllocError> {
-    Ok(shared(list.get(place)?))
+fn state_get(list: &State, index: usize) -> Result<Option<u64>, AllocError> {
+    Ok(shared(list.get(index)?))
 }
 
-fn state_next(list: &State, place: &mut usize) -> Result<Option<u64>, AllocError> {
-    let found = state_get(list, *place)?;
+fn state_next(list: &State, index: &mut usize) -> Result<Option<u64>, AllocError> {
+    let found = state_get(list, *index)?;
     if found.is_some() {
-        *place = place.saturating_add(1);
+        *index = index.saturating_add(1);
     }
     Ok(found)
 }

@@ -58,7 +58,7 @@ struct Lists<'a> {
     list: &'a FrozenVec<u64>,
     walk: Iter<'a, u64>,
     state: VecState<u64>,
-    place: usize,
+    index: usize,
 }
 
 fn on_map(rt: &impl Wait, maps: &mut Maps, call: Call) -> Result<(Seen, Seen), AllocError> {
@@ -85,7 +85,7 @@ fn on_list(rt: &impl Wait, lists: &mut Lists<'_>, call: Call) -> Result<(Seen, S
     let one = listed::locked(rt, lists.list, &mut lists.walk, call)?;
     Ok((
         one,
-        listed::state(&mut lists.state, &mut lists.place, call)?,
+        listed::state(&mut lists.state, &mut lists.index, call)?,
     ))
 }
 
@@ -126,7 +126,7 @@ fn main(rt: HostRuntime) -> io::Result<()> {
         list: &list,
         walk: list.iter(),
         state: VecState::new(alloc),
-        place: 0,
+        index: 0,
     };
     for _ in 0..u64::MAX {
         let mut line = String::new(alloc);

@@ -40,9 +40,9 @@ struct Kept<'t> {
 
 impl<'t> Kept<'t> {
     fn number_of(&self, name: &str) -> Option<usize> {
-        for place in 0..16 {
-            if place < self.count && self.names[place] == name {
-                return Some(place);
+        for index in 0..16 {
+            if index < self.count && self.names[index] == name {
+                return Some(index);
             }
         }
         None
@@ -74,9 +74,9 @@ impl<'t> Kept<'t> {
     }
 
     fn names_at(&self, number: &str, answer: &str) -> bool {
-        for place in 0..16 {
-            if place < self.count && NUMBERS[place] == number {
-                return self.names[place] == answer;
+        for index in 0..16 {
+            if index < self.count && NUMBERS[index] == number {
+                return self.names[index] == answer;
             }
         }
         answer == "none"

@@ -60,12 +60,12 @@ impl<'a, A: Allocator + Copy + Drop> Map<'a, A> {
         }
     }
 
-    // Inserts the pair. The key is the word with the number `place`.
-    fn give(&mut self, key: Text<A>, value: Text<A>, place: usize) -> Result<&'a str, AllocError> {
+    // Inserts the pair. The key is the word with the number `index`.
+    fn give(&mut self, key: Text<A>, value: Text<A>, index: usize) -> Result<&'a str, AllocError> {
         match self {
             Map::Hashed(map) => map.insert(key, value),
             Map::Ordered(map) => map.insert(key, value),
-            Map::Indexed(map) => given_in_order(map, key, value, place),
+            Map::Indexed(map) => given_in_order(map, key, value, index),
         }
     }
 
@@ -73,12 +73,12 @@ impl<'a, A: Allocator + Copy + Drop> Map<'a, A> {
         &mut self,
         key: Text<A>,
         value: Text<A>,
-        place: usize,
+        index: usize,
     ) -> Result<(&'a str, bool), AllocError> {
         match self {
             Map::Hashed(map) => map.insert_new(key, value),
             Map::Ordered(map) => map.insert_new(key, value),
-            Map::Indexed(map) => new_given_in_order(map, key, value, place),
+            Map::Indexed(map) => new_given_in_order(map, key, value, index),
         }
     }
 
@@ -109,36 +109,36 @@ impl<'a, A: Allocator + Copy + Drop> Map<'a, A> {
 }
 
 // Returns whether the word with this number is inserted by a call that returns the index.
-fn is_full(place: usize) -> bool {
-    (place / 2).wrapping_add(place / 4) % 2 == 1
+fn is_full(index: usize) -> bool {
+    (index / 2).wrapping_add(index / 4) % 2 == 1
 }
 
-// Inserts by `insert` or by `insert_full`, which has to return the index `place`.
+// Inserts by `insert` or by `insert_full`, which has to return `index`.
 fn given_in_order<'a, A: Allocator + Copy + Drop>(
     map: &mut Indexed<'a, A>,
     key: Text<A>,
     value: Text<A>,
-    place: usize,
+    index: usize,
 ) -> Result<&'a str, AllocError> {
-    if !is_full(place) {
+    if !is_full(index) {
         return map.insert(key, value);
     }
     let (at, kept) = map.insert_full(key, value)?;
-    Ok(if at == place { kept } else { "" })
+    Ok(if at == index { kept } else { "" })
 }
 
-// Inserts by `insert_new` or by `insert_full_new`, which has to return the index `place`.
+// Inserts by `insert_new` or by `insert_full_new`, which has to return `index`.
 fn new_given_in_order<'a, A: Allocator + Copy + Drop>(
     map: &mut Indexed<'a, A>,
     key: Text<A>,
     value: Text<A>,
-    place: usize,
+    index: usize,
 ) -> Result<(&'a str, bool), AllocError> {
-    if !is_full(place) {
+    if !is_full(index) {
         return map.insert_new(key, value);
     }
     let (index, kept, is_new) = map.insert_full_new(key, value)?;
-    Ok((if index == place { kept } else { "" }, is_new))
+    Ok((if index == index { kept } else { "" }, is_new))
 }
 
 fn hashed_of<'a, A: Allocator + Copy + Drop>(
@@ -198,13 +198,13 @@ impl<A: Allocator + Copy + Drop> Script for Calls<'_, A> {
     }
 }
 
-fn word(place: usize) -> &'static str {
-    WORDS[place % 16]
+fn word(index: usize) -> &'static str {
+    WORDS[index % 16]
 }
 
 // Returns the value of the word with this number.
-fn value(place: usize) -> &'static str {
-    word(place.wrapping_add(5))
+fn value(index: usize) -> &'static str {
+    word(index.wrapping_add(5))
 }
 
 fn pair<A: Allocator + Copy + Drop>(
@@ -218,29 +218,29 @@ fn pair<A: Allocator + Copy + Drop>(
 fn given<A: Allocator + Copy + Drop>(
     map: &mut Map<'_, A>,
     heap: A,
-    place: usize,
+    index: usize,
 ) -> Result<bool, AllocError> {
-    let (key, text) = pair(heap, word(place), value(place))?;
-    Ok(map.give(key, text, place)? == value(place))
+    let (key, text) = pair(heap, word(index), value(index))?;
+    Ok(map.give(key, text, index)? == value(index))
 }
 
 fn new_given<A: Allocator + Copy + Drop>(
     map: &mut Map<'_, A>,
     heap: A,
-    place: usize,
+    index: usize,
 ) -> Result<bool, AllocError> {
-    let (key, text) = pair(heap, word(place), value(place))?;
-    Ok(map.give_new(key, text, place)? == (value(place), true))
+    let (key, text) = pair(heap, word(index), value(index))?;
+    Ok(map.give_new(key, text, index)? == (value(index), true))
 }
 
 // Returns whether the key keeps its value and isn't new.
 fn given_again<A: Allocator + Copy + Drop>(
     map: &mut Map<'_, A>,
     heap: A,
-    place: usize,
+    index: usize,
 ) -> Result<bool, AllocError> {
-    let (key, text) = pair(heap, word(place), word(place))?;
-    Ok(map.give_new(key, text, place)? == (value(place), false))
+    let (key, text) = pair(heap, word(index), word(index))?;
+    Ok(map.give_new(key, text, index)? == (value(index), false))
 }
 
 fn copied<A: Allocator + Copy + Drop>(
@@ -275,19 +275,19 @@ fn has_words<A: Allocator + Copy + Drop>(
     keys: &Vec<Text<A>>,
     count: usize,
 ) -> bool {
-    let mut place = 0usize;
+    let mut index = 0usize;
     for key in keys {
-        let want = if place < count {
-            Some(value(place))
+        let want = if index < count {
+            Some(value(index))
         } else {
             None
         };
         if map.value_of(key) != want {
             return false;
         }
-        place = place.saturating_add(1);
+        index = index.saturating_add(1);
     }
-    place == 16
+    index == 16
 }
 
 // Makes the list of the words as keys.

@@ -301,10 +301,10 @@ impl<'a, A: Allocator + Copy + Drop> Calls<'a, A> for Indexed<'a, A> {
                 matches!(self.insert_new(last, Own(ABSENT)), Ok((kept, is_new)) if !is_new && *kept == last),
             ),
             2 => Some(
-                matches!(self.insert_full(last, Own(ABSENT)), Ok((place, _)) if place == last),
+                matches!(self.insert_full(last, Own(ABSENT)), Ok((index, _)) if index == last),
             ),
             3 => Some(
-                matches!(self.insert_full_new(last, Own(ABSENT)), Ok((place, _, is_new)) if !is_new && place == last),
+                matches!(self.insert_full_new(last, Own(ABSENT)), Ok((index, _, is_new)) if !is_new && index == last),
             ),
             4..8 => Some(is_found_in_indexed(self, number, last)),
             8..11 => Some(is_whole_indexed(self, number, last)),
@@ -368,9 +368,9 @@ impl<'a, A: Allocator + Copy + Drop> Calls<'a, A> for Numbers<'a, A> {
             1 => Some(
                 matches!(self.insert_new(Own(last)), Ok((kept, is_new)) if !is_new && *kept == last),
             ),
-            2 => Some(matches!(self.insert_full(Own(last)), Ok((place, _)) if place == last)),
+            2 => Some(matches!(self.insert_full(Own(last)), Ok((index, _)) if index == last)),
             3 => Some(
-                matches!(self.insert_full_new(Own(last)), Ok((place, _, is_new)) if !is_new && place == last),
+                matches!(self.insert_full_new(Own(last)), Ok((index, _, is_new)) if !is_new && index == last),
             ),
             4..7 => Some(is_found_in_numbers(self, number, last)),
             7..10 => Some(is_whole_set(self, number, last)),
@@ -420,8 +420,8 @@ fn is_whole_set<A: Allocator + Copy + Drop>(
 
 type Names<'a, A> = Interner<'a, Hasher, A>;
 
-fn word(place: usize) -> &'static str {
-    WORDS[place % 16]
+fn word(index: usize) -> &'static str {
+    WORDS[index % 16]
 }
 
 impl<'a, A: Allocator + Copy + Drop> Calls<'a, A> for Names<'a, A> {

@@ -18,8 +18,8 @@ type Hasher = BuildHasherDefault<FoldHasher>;
 
 const CALLS: usize = 32;
 
-fn word(place: usize) -> &'static str {
-    WORDS[place % 16]
+fn word(index: usize) -> &'static str {
+    WORDS[index % 16]
 }
 
 // ---- the set
@@ -53,48 +53,48 @@ impl<A: Allocator + Copy + Drop> Script for SetCalls<'_, A> {
 fn added<A: Allocator + Copy + Drop>(
     set: &mut Set<'_, A>,
     heap: A,
-    place: usize,
+    index: usize,
 ) -> Result<bool, AllocError> {
-    if set.get_index_of(&word(place)).is_some() {
+    if set.get_index_of(&word(index)).is_some() {
         return Ok(false);
     }
-    match place % 6 {
-        0 | 1 => absent(set, String::from_str(heap, word(place))?, place),
-        way => inserted(set, String::from_str(heap, word(place))?, place, way),
+    match index % 6 {
+        0 | 1 => absent(set, String::from_str(heap, word(index))?, index),
+        way => inserted(set, String::from_str(heap, word(index))?, index, way),
     }
 }
 
 fn absent<A: Allocator + Copy + Drop>(
     set: &mut Set<'_, A>,
     text: Text<A>,
-    place: usize,
+    index: usize,
 ) -> Result<bool, AllocError> {
     if set.get_index_of(&text).is_some() {
         return Ok(false);
     }
-    Ok(set.insert_absent(text)? == (place, word(place)))
+    Ok(set.insert_absent(text)? == (index, word(index)))
 }
 
 fn inserted<A: Allocator + Copy + Drop>(
     set: &mut Set<'_, A>,
     text: Text<A>,
-    place: usize,
+    index: usize,
     way: usize,
 ) -> Result<bool, AllocError> {
     match way {
-        2 => Ok(set.insert(text)? == word(place)),
-        3 => Ok(set.insert_full(text)? == (place, word(place))),
-        _ => Ok(set.insert_full_new(text)? == (place, word(place), true)),
+        2 => Ok(set.insert(text)? == word(index)),
+        3 => Ok(set.insert_full(text)? == (index, word(index))),
+        _ => Ok(set.insert_full_new(text)? == (index, word(index), true)),
     }
 }
 
 fn added_again<A: Allocator + Copy + Drop>(
     set: &mut Set<'_, A>,
     heap: A,
-    place: usize,
+    index: usize,
 ) -> Result<bool, AllocError> {
-    let text = String::from_str(heap, word(place))?;
-    Ok(set.insert_full_new(text)? == (place, word(place), false))
+    let text = String::from_str(heap, word(index))?;
+    Ok(set.insert_full_new(text)? == (index, word(index), false))
 }
 
 fn cloned<A: Allocator + Copy + Drop>(set: &Set<'_, A>, count: usize) -> Result<bool, AllocError> {
@@ -112,8 +112,8 @@ fn collected<A: Allocator + Copy + Drop>(heap: A, arena: &Bump) -> Result<bool, 
 
 // Returns whether the values are the first `count` words, in order.
 fn has_words<A: Allocator + Copy + Drop>(set: &Set<'_, A>, count: usize) -> bool {
-    for place in 0..count {
-        if set.get_index(place) != Some(word(place)) {
+    for index in 0..count {
+        if set.get_index(index) != Some(word(index)) {
             return false;
         }
     }
@@ -174,11 +174,11 @@ impl<A: Allocator + Copy + Drop> Script for Puts<'_, A> {
 
 // Returns whether exactly the first `count` words are the names.
 fn has_names<A: Allocator + Copy + Drop>(names: &Interner<'_, Hasher, A>, count: usize) -> bool {
-    for place in 0..16 {
-        let there = place < count;
-        let name = if there { Some(word(place)) } else { None };
-        let number = if there { Some(place) } else { None };
-        if names.at(place) != name || names.find(word(place)) != number {
+    for index in 0..16 {
+        let there = index < count;
+        let name = if there { Some(word(index)) } else { None };
+        let number = if there { Some(index) } else { None };
+        if names.at(index) != name || names.find(word(index)) != number {
             return false;
         }
     }
@@ -266,8 +266,8 @@ impl<A: Allocator + Copy + Drop> Script for Resources<'_, A> {
     }
 }
 
-fn is_first(first: &str, place: usize) -> bool {
-    word(place).starts_with(first) && first.len() == 1
+fn is_first(first: &str, index: usize) -> bool {
+    word(index).starts_with(first) && first.len() == 1
 }
 
 // Returns whether the first `count` words have their resources, without a call of the loader.
@@ -277,9 +277,9 @@ fn are_kept<A: Allocator + Copy + Drop>(
     count: usize,
 ) -> bool {
     let mut loads = 0;
-    for place in 0..count {
+    for index in 0..count {
         let is_kept =
-            matches!(first_at(cache, alloc, word(place), &mut loads), Ok(first) if is_first(first, place));
+            matches!(first_at(cache, alloc, word(index), &mut loads), Ok(first) if is_first(first, index));
         if !is_kept {
             return false;
         }

@@ -55,7 +55,7 @@ impl Model {
         count
     }
 
-    fn place(&self, key: usize) -> Option<usize> {
+    fn index(&self, key: usize) -> Option<usize> {
         if self.value(key).is_some() {
             Some(self.below(key))
         } else {
@@ -64,9 +64,9 @@ impl Model {
     }
 
     // Returns the value at this index.
-    fn at(&self, place: usize) -> Option<usize> {
+    fn at(&self, index: usize) -> Option<usize> {
         for key in 0..16 {
-            if self.place(key) == Some(place) {
+            if self.index(key) == Some(index) {
                 return self.value(key);
             }
         }
@@ -244,8 +244,8 @@ impl Fits for VecReply<&usize> {
 }
 
 fn vec_is<A: Allocator + Copy + Drop>(items: &FrozenVec<'_, Own<usize>, A>, model: &Model) -> bool {
-    for place in 0..17 {
-        if items.get(place).copied() != model.at(place) {
+    for index in 0..17 {
+        if items.get(index).copied() != model.at(index) {
             return false;
         }
     }
@@ -388,18 +388,18 @@ impl Fits for IndexReply<&usize> {
             return self == IndexReply::Found(model.value(key).as_ref());
         }
         if number % 8 == 7 {
-            return self == IndexReply::Place(model.place(key));
+            return self == IndexReply::Place(model.index(key));
         }
         if self == IndexReply::NoMemory {
             return model.refuse(key);
         }
         let (there, new) = model.give(key, value_of(number));
-        let place = model.below(key);
+        let index = model.below(key);
         match number % 8 {
             0 => self == IndexReply::Item(&there),
-            1 | 2 => self == IndexReply::Full(place, &there),
+            1 | 2 => self == IndexReply::Full(index, &there),
             4 => self == IndexReply::New(&there, new),
-            _ => self == IndexReply::FullNew(place, &there, new),
+            _ => self == IndexReply::FullNew(index, &there, new),
         }
     }
 }
@@ -407,7 +407,7 @@ impl Fits for IndexReply<&usize> {
 fn index_is<A: Allocator + Copy + Drop>(map: &Indexed<'_, A>, model: &Model) -> bool {
     for key in 0..17 {
         if map.get(&key).copied() != model.value(key)
-            || map.get_index_of(&key) != model.place(key)
+            || map.get_index_of(&key) != model.index(key)
         {
             return false;
         }
@@ -468,19 +468,19 @@ impl Fits for SetReply<&usize> {
             return model.refuse(key);
         }
         let (there, new) = model.give(key, key);
-        let place = model.below(key);
+        let index = model.below(key);
         match number % 8 {
             0 => self == SetReply::Item(&there),
-            1 | 2 => self == SetReply::Full(place, &there),
+            1 | 2 => self == SetReply::Full(index, &there),
             4 => self == SetReply::New(&there, new),
-            _ => self == SetReply::FullNew(place, &there, new),
+            _ => self == SetReply::FullNew(index, &there, new),
         }
     }
 }
 
 fn set_is<A: Allocator + Copy + Drop>(set: &Numbers<'_, A>, model: &Model) -> bool {
-    for place in 0..17 {
-        if set.get_index(place).copied() != model.at(place) {
+    for index in 0..17 {
+        if set.get_index(index).copied() != model.at(index) {
             return false;
         }
     }

@@ -12,13 +12,13 @@ type Texts<'a, A> = FrozenIndexMap<'a, &'a str, String<A>, BuildHasherDefault<Fo
 
 const CALLS: usize = 16;
 
-fn word(place: usize) -> &'static str {
-    WORDS[place % 16]
+fn word(index: usize) -> &'static str {
+    WORDS[index % 16]
 }
 
 // Returns the value of the word with this number.
-fn value(place: usize) -> &'static str {
-    word(place.wrapping_add(5))
+fn value(index: usize) -> &'static str {
+    word(index.wrapping_add(5))
 }
 
 // An even call inserts the next word with a value, alternately by `insert_text` and by
@@ -31,17 +31,17 @@ struct Calls<'a, A: Allocator + Copy + Drop> {
 
 impl<A: Allocator + Copy + Drop> Script for Calls<'_, A> {
     fn call(&mut self, number: usize) -> Result<bool, AllocError> {
-        let place = number / 2;
+        let index = number / 2;
         let wanted = if number % 2 == 0 {
-            value(place)
+            value(index)
         } else {
-            word(place)
+            word(index)
         };
         let given = String::from_str(self.heap, wanted)?;
-        if place % 2 == 0 {
-            Ok(self.map.insert_text(word(place), given)? == value(place))
+        if index % 2 == 0 {
+            Ok(self.map.insert_text(word(index), given)? == value(index))
         } else {
-            Ok(self.map.insert_full_text(word(place), given)? == (place, value(place)))
+            Ok(self.map.insert_full_text(word(index), given)? == (index, value(index)))
         }
     }
 
@@ -52,13 +52,13 @@ impl<A: Allocator + Copy + Drop> Script for Calls<'_, A> {
 
 // Returns whether exactly the first `count` words have their values.
 fn has_words<A: Allocator + Copy + Drop>(map: &Texts<'_, A>, count: usize) -> bool {
-    for place in 0..16 {
-        let want = if place < count {
-            Some(value(place))
+    for index in 0..16 {
+        let want = if index < count {
+            Some(value(index))
         } else {
             None
         };
-        if map.get(word(place)) != want {
+        if map.get(word(index)) != want {
             return false;
         }
     }

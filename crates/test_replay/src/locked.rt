@@ -95,10 +95,10 @@ fn of_vec<R: Wait>(
     match words.call {
         "push_get_index" => {
             let text = String::from_str(alloc, words.first)?;
-            let place = form.push_get_index(rt, text)?;
-            format!(in alloc; "{place}")
+            let index = form.push_get_index(rt, text)?;
+            format!(in alloc; "{index}")
         }
-        "get" => match form.get(rt, words.place())? {
+        "get" => match form.get(rt, words.index())? {
             Some(owner) => String::from_str(alloc, owner.as_str()),
             None => shown(alloc, None),
         },
@@ -114,10 +114,10 @@ fn of_free<R: Wait>(
 ) -> Result<String, AllocError> {
     match words.call {
         "push" => {
-            let place = form.push(rt, words.key())?;
-            format!(in alloc; "{place}")
+            let index = form.push(rt, words.key())?;
+            format!(in alloc; "{index}")
         }
-        "get" => match form.get(words.place()) {
+        "get" => match form.get(words.index()) {
             Some(item) => format!(in alloc; "{item}"),
             None => shown(alloc, None),
         },

@@ -64,7 +64,7 @@ fn of_vec(
             let borrow = form.push_get(text)?;
             String::from_str(alloc, borrow)
         }
-        "get" => shown(alloc, form.get(words.place())),
+        "get" => shown(alloc, form.get(words.index())),
         "first" => shown(alloc, form.first()),
         "last" => shown(alloc, form.last()),
         "len" => format!(in alloc; "{}", form.len()),
@@ -94,12 +94,12 @@ fn searched(
         "search" => found(alloc, form.binary_search(words.first)),
         "search_length" => found(
             alloc,
-            form.binary_search_by_key(&words.place(), |text| text.len()),
+            form.binary_search_by_key(&words.index(), |text| text.len()),
         ),
         _ => {
-            let length = words.place();
-            let place = form.partition_point(|text| text.len() < length);
-            format!(in alloc; "{place}")
+            let length = words.index();
+            let index = form.partition_point(|text| text.len() < length);
+            format!(in alloc; "{index}")
         }
     }
 }
@@ -158,8 +158,8 @@ fn of_index_map(
         }
         "insert_full" => {
             let text = String::from_str(alloc, words.second)?;
-            let (place, borrow) = form.insert_full(words.key(), text)?;
-            format!(in alloc; "{place} {borrow}")
+            let (index, borrow) = form.insert_full(words.key(), text)?;
+            format!(in alloc; "{index} {borrow}")
         }
         "get" => shown(alloc, form.get(&words.key())),
         "is_empty" => format!(in alloc; "{}", form.is_empty()),
@@ -168,23 +168,23 @@ fn of_index_map(
             let pairs = copied.into_tuple_vec()?;
             paired(alloc, pairs.as_slice())
         }
-        _ => place_in_index_map(alloc, form, words),
+        _ => place_in_map(alloc, form, words),
     }
 }
 
-fn place_in_index_map(
+fn place_in_map(
     alloc: Global,
     form: &FrozenIndexMap<'_, u64, String>,
     words: &Words<'_>,
 ) -> Result<String, AllocError> {
     match words.call {
         "get_index_of" => counted(alloc, form.get_index_of(&words.key())),
-        "get_index" => match form.get_index(words.place()) {
+        "get_index" => match form.get_index(words.index()) {
             Some((key, text)) => format!(in alloc; "{key}={text}"),
             None => String::from_str(alloc, "none"),
         },
         _ => match form.get_full(&words.key()) {
-            Some((place, key, text)) => format!(in alloc; "{place} {key}={text}"),
+            Some((index, key, text)) => format!(in alloc; "{index} {key}={text}"),
             None => String::from_str(alloc, "none"),
         },
     }
@@ -203,14 +203,14 @@ fn of_index_set(
         }
         "insert_full" => {
             let text = String::from_str(alloc, words.first)?;
-            let (place, borrow) = form.insert_full(text)?;
-            format!(in alloc; "{place} {borrow}")
+            let (index, borrow) = form.insert_full(text)?;
+            format!(in alloc; "{index} {borrow}")
         }
         "get" => shown(alloc, form.get(&words.first)),
         "get_index_of" => counted(alloc, form.get_index_of(&words.first)),
-        "get_index" => shown(alloc, form.get_index(words.place())),
+        "get_index" => shown(alloc, form.get_index(words.index())),
         _ => match form.get_full(&words.first) {
-            Some((place, text)) => format!(in alloc; "{place} {text}"),
+            Some((index, text)) => format!(in alloc; "{index} {text}"),
             None => String::from_str(alloc, "none"),
         },
     }

@@ -23,7 +23,7 @@ impl<'a> Words<'a> {
     }
 
     /// Returns the first word as an index or a length.
-    pub fn place(&self) -> usize {
+    pub fn index(&self) -> usize {
         self.first.parse::<usize>().unwrap_or(0)
     }
 
@@ -58,8 +58,8 @@ pub fn counted(alloc: Global, answer: Option<usize>) -> Result<String, AllocErro
 /// Fails if an allocation fails.
 pub fn found(alloc: Global, answer: Result<usize, usize>) -> Result<String, AllocError> {
     match answer {
-        Ok(place) => format!(in alloc; "at {place}"),
-        Err(place) => format!(in alloc; "before {place}"),
+        Ok(index) => format!(in alloc; "at {index}"),
+        Err(index) => format!(in alloc; "before {index}"),
     }
 }
 
@@ -69,8 +69,8 @@ pub fn found(alloc: Global, answer: Result<usize, usize>) -> Result<String, Allo
 /// Fails if an allocation fails.
 pub fn paired(alloc: Global, pairs: &[(u64, &str)]) -> Result<String, AllocError> {
     let mut text = String::new(alloc);
-    for (place, pair) in pairs.iter().enumerate() {
-        if place > 0 {
+    for (index, pair) in pairs.iter().enumerate() {
+        if index > 0 {
             text.push_str(" ")?;
         }
         let pair = format!(in alloc; "{}={}", pair.0, pair.1)?;

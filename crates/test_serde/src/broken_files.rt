@@ -93,8 +93,8 @@ fn flipped(alloc: Global, draws: &mut Draws, text: &[u8]) -> Result<Vec<u8>, All
 fn broken(alloc: Global, draws: &mut Draws, is_map: bool) -> Result<Vec<u8>, AllocError> {
     let mut text = String::from_str(alloc, if is_map { "{" } else { "[" })?;
     let count = draws.below(6);
-    for place in 0..count {
-        if place > 0 {
+    for index in 0..count {
+        if index > 0 {
             text.push_str(",")?;
         }
         text.push_str("\"")?;
@@ -121,10 +121,10 @@ fn broken(alloc: Global, draws: &mut Draws, is_map: bool) -> Result<Vec<u8>, All
 
 /// Returns the index of the first text that occurs before, or the number of texts.
 fn first_repeated(texts: &[String]) -> usize {
-    for (place, text) in texts.iter().enumerate() {
+    for (index, text) in texts.iter().enumerate() {
         for (before, earlier) in texts.iter().enumerate() {
-            if before < place && earlier == text {
-                return place;
+            if before < index && earlier == text {
+                return index;
             }
         }
     }
@@ -147,8 +147,8 @@ fn vec_has(alloc: Global, bytes: &[u8], texts: &[String]) -> Result<bool, Error>
     if read.push_into(&mut vec).is_err() || vec.len() != texts.len() {
         return Ok(false);
     }
-    for (place, text) in texts.iter().enumerate() {
-        if vec.get(place) != Some(text.as_str()) {
+    for (index, text) in texts.iter().enumerate() {
+        if vec.get(index) != Some(text.as_str()) {
             return Ok(false);
         }
     }
@@ -163,8 +163,8 @@ fn set_has(alloc: Global, bytes: &[u8], texts: &[String]) -> Result<bool, Error>
     if read.insert_into(&mut set) != report(stop, texts.len()) || set.len() != stop {
         return Ok(false);
     }
-    for (place, text) in texts.iter().enumerate() {
-        if place < stop && set.get_index(place) != Some(text.as_str()) {
+    for (index, text) in texts.iter().enumerate() {
+        if index < stop && set.get_index(index) != Some(text.as_str()) {
             return Ok(false);
         }
     }
@@ -179,8 +179,8 @@ fn interner_has(alloc: Global, bytes: &[u8], texts: &[String]) -> Result<bool, E
     if read.put_into(&mut names) != report(stop, texts.len()) || names.len() != stop {
         return Ok(false);
     }
-    for (place, text) in texts.iter().enumerate() {
-        if place < stop && names.find(text.as_str()) != Some(place) {
+    for (index, text) in texts.iter().enumerate() {
+        if index < stop && names.find(text.as_str()) != Some(index) {
             return Ok(false);
         }
     }
@@ -192,8 +192,8 @@ fn is_array_of(value: &Value, texts: &[String]) -> bool {
     let Some(array) = value.as_array() else {
         return false;
     };
-    for (place, text) in texts.iter().enumerate() {
-        if array.get(place).and_then(Value::as_str) != Some(text.as_str()) {
+    for (index, text) in texts.iter().enumerate() {
+        if array.get(index).and_then(Value::as_str) != Some(text.as_str()) {
             return false;
         }
     }
@@ -256,10 +256,10 @@ type Entry = (String, Own<u64>);
 
 /// Returns the index of the first entry whose key occurs before, or the number of entries.
 fn first_repeated_key(entries: &[Entry]) -> usize {
-    for (place, entry) in entries.iter().enumerate() {
+    for (index, entry) in entries.iter().enumerate() {
         for (before, earlier) in entries.iter().enumerate() {
-            if before < place && earlier.0 == entry.0 {
-                return place;
+            if before < index && earlier.0 == entry.0 {
+                return index;
             }
         }
     }
@@ -277,8 +277,8 @@ fn map_has<'a, T: Table<String, &'a u64> + Drop>(
     if read.insert_into(map) != report(stop, entries.len()) || map.len() != stop {
         return Ok(false);
     }
-    for (place, entry) in entries.iter().enumerate() {
-        if place < stop && map.get(&entry.0) != Some(&entry.1.0) {
+    for (index, entry) in entries.iter().enumerate() {
+        if index < stop && map.get(&entry.0) != Some(&entry.1.0) {
             return Ok(false);
         }
     }

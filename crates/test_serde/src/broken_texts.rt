@@ -125,20 +125,20 @@ fn set_of(alloc: Global, text: &str) -> Result<Result<(), ReadFault>, Error> {
 #[test]
 fn a_duplicate_went_in(rt: HostRuntime) -> Result<(), Fail> {
     let alloc = rt.alloc();
-    for (text, place) in [
+    for (text, index) in [
         (r#"["a","a"]"#, 1),
         (r#"["a","b","a","a"]"#, 2),
         (r#"["a","b","c","\u0061"]"#, 3),
     ] {
-        let left = ["", "a", "b", "c"][place];
+        let left = ["", "a", "b", "c"][index];
         assert_eq!(rt;
             names_of(alloc, text, left)?,
-            (Err(ReadFault::Duplicate(place)), true),
+            (Err(ReadFault::Duplicate(index)), true),
             "{text}"
         );
         assert_eq!(rt;
             set_of(alloc, text)?,
-            Err(ReadFault::Duplicate(place)),
+            Err(ReadFault::Duplicate(index)),
             "{text}"
         );
     }

@@ -79,9 +79,9 @@ fn finds_the_last<'c, R: Wait>(
 {
     let number = NAMES - 1;
     let before = hashes.load(Ordering::SeqCst);
-    let place = interner.put(rt, names, Counted { number, hashes });
+    let index = interner.put(rt, names, Counted { number, hashes });
     let after = hashes.load(Ordering::SeqCst);
-    place == Ok(number as usize) && after.wrapping_sub(before) < 8
+    index == Ok(number as usize) && after.wrapping_sub(before) < 8
 }
 
 /// Returns whether a view finds the last name that it put by few hashes, and a new view does too.

@@ -1,6 +1,6 @@
 //! The shared interner with one thread, and with allocation failures.
 ghost use Rattle.std.specs.Prelude.{◌≡◌};
-ghost use Rattle.elsa_lock_free.specs.Distinct.{AgreeOnPlaces};
+ghost use Rattle.elsa_lock_free.specs.Distinct.{AgreeOnIndices};
 ghost use Rattle.elsa_lock_free.specs.SharedList.{items_of};
 
 use elsa_shared_interner::handle::NameHandle;
@@ -30,17 +30,17 @@ fn put<R: Wait, A: Allocator + Copy>(
     interner.put(rt, names, name).ok()
 }
 
-/// Returns whether the name with the number `place` is the text.
+/// Returns whether the name with the number `index` is the text.
 fn has<A: Allocator + Copy>(
     interner: &Interner<A>,
     names: &mut Names<A>,
-    place: usize,
+    index: usize,
     text: &str,
 ) -> bool
     requires { names.old.vector ≡ interner.now }
     ensures { names.new.vector ≡ names.old.vector }
 {
-    match interner.at(names, place) {
+    match interner.at(names, index) {
         Some(name) => name.as_str() == text,
         None => false,
     }
@@ -279,10 +279,10 @@ fn a_put_of_a_known_name_asks_for_no_memory(rt: HostRuntime) -> Result<(), Fail>
 /// number in both, by contract.
 fn agree(one: &NamePass, other: &NamePass) -> (usize, usize)
     requires { one.now.vector ≡ other.now.vector }
-    ensures { AgreeOnPlaces ⟦<Name as PartialEq>⟧.eq (items_of one.now.seen) (items_of other.now.seen) }
+    ensures { AgreeOnIndices ⟦<Name as PartialEq>⟧.eq (items_of one.now.seen) (items_of other.now.seen) }
 {
     one.one_to_one();
-    one.same_name_same_place(other);
+    one.same_name_same_index(other);
     (one.seen_len(), other.seen_len())
 }
 
@@ -291,8 +291,8 @@ fn passes_that_never_met_agree_on_what_both_have_seen(rt: HostRuntime) -> Result
     let interner = SharedInterner::<Name>::new(rt.alloc())?;
     let mut one = interner.pass();
     let other = interner.pass();
-    let place = put(&rt, &interner, &mut one, "a");
-    assert!(rt; place == Some(0) && agree(&one, &other) == (1, 0));
+    let index = put(&rt, &interner, &mut one, "a");
+    assert!(rt; index == Some(0) && agree(&one, &other) == (1, 0));
     Ok(())
 }
 

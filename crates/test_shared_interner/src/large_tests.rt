@@ -14,8 +14,8 @@ const MANY: u64 = 5000;
 /// Returns whether the numbers below [`MANY`] are put twice, each at itself as the index.
 fn takes_many<R: Wait>(rt: &R, names: &mut NameHandle<'_, u64>) -> bool {
     for name in 0..MANY {
-        let place = Ok(name as usize);
-        if names.put(rt, name) != place || names.put(rt, name) != place {
+        let index = Ok(name as usize);
+        if names.put(rt, name) != index || names.put(rt, name) != index {
             return false;
         }
     }

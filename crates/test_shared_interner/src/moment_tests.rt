@@ -36,10 +36,10 @@ fn adds<R: Wait>(rt: &R, names: &Numbers, there: &AtomicU64, thread: u64) -> boo
         let Ok(number) = handle.put(rt, name) else {
             return false;
         };
-        if handle.seen_get(&name) != Some(number) || moment.seen_get(&name).is_some() {
+        if handle.seen_find(&name) != Some(number) || moment.seen_find(&name).is_some() {
             return false;
         }
-        if moment.seen_get(&known) != Some(known as usize) || moment.seen_len() != seen {
+        if moment.seen_find(&known) != Some(known as usize) || moment.seen_len() != seen {
             return false;
         }
     }
@@ -127,7 +127,7 @@ fn differs(moment: &NameHandle<'_, u64>, plain: &Plain) -> Option<u64> {
             _ => None,
         };
         let name = name as u64;
-        if moment.seen_get(&name) != there {
+        if moment.seen_find(&name) != there {
             return Some(name);
         }
     }
@@ -173,7 +173,7 @@ fn of_texts<R: Wait>(
     let mut handle = names.handle();
     handle.put_text(rt, arena, "fox")?;
     names.handle().put_text(rt, arena, "owl")?;
-    Ok((handle.seen_get("fox"), handle.seen_get("owl")))
+    Ok((handle.seen_find("fox"), handle.seen_find("owl")))
 }
 
 #[test]

@@ -97,18 +97,18 @@ fn a_name_of_four_threads_had_two_numbers(rt: HostRuntime) -> Result<(), Fail> {
 /// number of shards, in the order in which the names came.
 fn numbers_one_shard(rt: &impl Wait, names: &mut NumberedHandle<'_>) -> Result<bool, AllocError> {
     let shards = names.shards().len();
-    let mut place = 0usize;
+    let mut index = 0usize;
     for name in 0..1_000_000u64 {
-        if place < FEW && names.shard_index(name) == 0 {
+        if index < FEW && names.shard_index(name) == 0 {
             let number = names.put(rt, name)?;
-            if number != place.wrapping_mul(shards) || names.at(number) != Some(name) {
+            if number != index.wrapping_mul(shards) || names.at(number) != Some(name) {
                 return Ok(false);
             }
-            place = place.wrapping_add(1);
+            index = index.wrapping_add(1);
         }
     }
-    let behind = names.at(place.wrapping_mul(shards));
-    Ok(place == FEW && names.len() == FEW && behind.is_none())
+    let behind = names.at(index.wrapping_mul(shards));
+    Ok(index == FEW && names.len() == FEW && behind.is_none())
 }
 
 #[test]

@@ -27,7 +27,7 @@ fn twice<'a, R: Wait>(
     text: &str,
 ) -> Result<(usize, usize), AllocError>
     ensures same { names.new.vector ≡ names.old.vector }
-    ensures one_place { IfOk result (λ r. r.0 ≡ r.1) }
+    ensures one_index { IfOk result (λ r. r.0 ≡ r.1) }
 {
     let first = names.put_text(rt, arena, text)?;
     let second = names.put_text(rt, arena, text)?;
@@ -114,10 +114,10 @@ fn put_short<'a, R: Wait, A: Allocator + Copy>(
 
 impl<'i, 'a, R: Wait, A: Allocator + Copy> Script for Words<'i, 'a, R, A> {
     fn call(&mut self, number: usize) -> Result<bool, AllocError> {
-        let place = number / 2;
+        let index = number / 2;
         if number % 2 == 0 {
-            let put = put_short(self.rt, &mut self.names, self.arena, WORDS[place % 16])?;
-            return Ok(put == place);
+            let put = put_short(self.rt, &mut self.names, self.arena, WORDS[index % 16])?;
+            return Ok(put == index);
         }
         let asked = self.heap.asked();
         let room = self.arena.chunk_capacity();
@@ -128,13 +128,13 @@ impl<'i, 'a, R: Wait, A: Allocator + Copy> Script for Words<'i, 'a, R, A> {
     fn holds(&self, number: usize) -> bool {
         let count = number.div_ceil(2);
         let mut fresh = self.interner.handle();
-        for place in 0..16usize {
-            let expected = if place < count {
-                Some(WORDS[place])
+        for index in 0..16usize {
+            let expected = if index < count {
+                Some(WORDS[index])
             } else {
                 None
             };
-            if fresh.at(place) != expected {
+            if fresh.at(index) != expected {
                 return false;
             }
         }
@@ -206,8 +206,8 @@ fn numbers<'a, R: Wait>(
         thread::yield_now();
     }
     for i in 0..16usize {
-        let place = (first.wrapping_add(i)) % 16;
-        let word = WORDS[place];
+        let index = (first.wrapping_add(i)) % 16;
+        let word = WORDS[index];
         let put = names.put_text(rt, &mut buffer, word);
         let Ok(number) = put else {
             return None;
@@ -215,7 +215,7 @@ fn numbers<'a, R: Wait>(
         if names.at(number) != Some(word) {
             return None;
         }
-        numbers[place] = number;
+        numbers[index] = number;
     }
     Some(numbers)
 }

@@ -47,10 +47,10 @@ fn put_all<R: Wait>(rt: &R, interner: &SharedInterner, names: &mut NamePass, fir
         let Some(name) = numbered((first.wrapping_add(i)) % NAMES) else {
             return false;
         };
-        let Ok(place) = interner.put(rt, names, name) else {
+        let Ok(index) = interner.put(rt, names, name) else {
             return false;
         };
-        if interner.at(names, place) != Some(name) {
+        if interner.at(names, index) != Some(name) {
             return false;
         }
     }
@@ -58,31 +58,31 @@ fn put_all<R: Wait>(rt: &R, interner: &SharedInterner, names: &mut NamePass, fir
 }
 
 /// Returns the number of each name, or 255 if an allocation failed.
-fn places<R: Wait>(rt: &R, interner: &SharedInterner, names: &mut NamePass) -> [u8; 100]
+fn indices<R: Wait>(rt: &R, interner: &SharedInterner, names: &mut NamePass) -> [u8; 100]
     requires { names.old.vector ≡ interner.now }
     ensures { names.new.vector ≡ names.old.vector }
 {
-    let mut places = [255; 100];
+    let mut indices = [255; 100];
     for number in 0..100 {
         if let Some(name) = numbered(number as u64)
-            && let Ok(place) = interner.put(rt, names, name)
-            && place < 100
+            && let Ok(index) = interner.put(rt, names, name)
+            && index < 100
         {
-            places[number] = place as u8;
+            indices[number] = index as u8;
         }
     }
-    places
+    indices
 }
 
 /// Returns whether the numbers are 0 to 99, each once.
-fn each_once(places: &[u8; 100]) -> bool {
+fn each_once(indices: &[u8; 100]) -> bool {
     let mut taken: u128 = 0;
     for number in 0..100 {
-        let place = places[number];
-        if place >= 100 {
+        let index = indices[number];
+        if index >= 100 {
             return false;
         }
-        taken |= 1u128 << place;
+        taken |= 1u128 << index;
     }
     taken == (1u128 << 100) - 1
 }
@@ -93,7 +93,7 @@ fn part<R: Wait>(rt: &R, interner: &SharedInterner, there: &AtomicU64, first: u6
     let mut names = interner.pass();
     let met = meet_all(there, 4);
     if met && put_all(rt, interner, &mut names, first) {
-        places(rt, interner, &mut names)
+        indices(rt, interner, &mut names)
     } else {
         [255; 100]
     }

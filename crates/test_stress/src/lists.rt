@@ -24,9 +24,9 @@ pub struct LockedList<'h> {
 }
 
 /// Makes the entry of an item at an index.
-fn entry(place: u64, item: u64) -> Entry {
+fn entry(index: u64, item: u64) -> Entry {
     Entry {
-        number: place,
+        number: index,
         key: item,
         value: 0,
     }
@@ -46,7 +46,7 @@ fn push_patiently(
 {
     for _attempt in 0..ATTEMPTS {
         match handle.try_push(may, item) {
-            Ok(place) => return Ok(place),
+            Ok(index) => return Ok(index),
             Err(AttemptFault::Busy(_)) => thread::yield_now(),
             Err(AttemptFault::Failed(_)) => return Err(AllocError),
         }
@@ -71,14 +71,14 @@ impl<'h> Form for FreeList<'h> {
         value: u64,
     ) -> Result<(Entry, bool), AllocError> {
         let mut handle = Handle::of(&self.vector, std::mem::replace(pass, self.vector.pass()));
-        let place = match self.may {
+        let index = match self.may {
             Some(may) => push_patiently(&mut handle, may, value),
             None if value % 3 == 0 => handle.push(rt, value).map_err(AllocError::from),
             None if value % 3 == 1 => handle.extend(rt, &[value]),
             None => handle.push_with(rt, |_index| value),
         };
         *pass = handle.into_pass();
-        Ok((entry(place? as u64, value), true))
+        Ok((entry(index? as u64, value), true))
     }
 
     fn at<R: Wait>(
@@ -121,8 +121,8 @@ impl<'h> Form for LockedList<'h> {
         _key: u64,
         value: u64,
     ) -> Result<(Entry, bool), AllocError> {
-        let place = self.vector.push_get_index(rt, value)?;
-        Ok((entry(place as u64, value), true))
+        let index = self.vector.push_get_index(rt, value)?;
+        Ok((entry(index as u64, value), true))
     }
 
     fn at<R: Wait>(&self, rt: &R, _pass: &mut (), number: u64) -> Option<Entry> {

@@ -150,8 +150,8 @@ fn wrong_of<R: Threads + Wait + Sync>(
     Ok(Some(Wrong::Blocks(heap.given(), heap.granted())))
 }
 
-fn number_of(words: &[String], place: usize) -> u64 {
-    match words.get(place) {
+fn number_of(words: &[String], index: usize) -> u64 {
+    match words.get(index) {
         Some(word) => word.as_str().parse::<u64>().unwrap_or(0),
         None => 0,
     }

@@ -176,7 +176,7 @@ impl<'h> Form for FreeMap<'h> {
 
     fn at<R: Wait>(&self, rt: &R, pass: &mut Seen<'h>, number: u64) -> Option<Entry> {
         let mut handle = by_pass(&self.map, pass);
-        let found = handle.get_by_place(number as usize);
+        let found = handle.get_index(number as usize);
         let (key, value) = found.unwrap_or((u64::MAX, u64::MAX));
         let entry = Entry { number, key, value };
         let first = first_of(rt, &mut handle, self.may, entry);

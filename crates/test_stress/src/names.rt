@@ -60,7 +60,7 @@ fn number_seen(names: &SharedInterner, pass: &mut NamePass, name: Name) -> Optio
     ensures { pass.new.vector ≡ names.now }
 {
     let handle = NameHandle::of(names, std::mem::replace(pass, names.pass()));
-    let number = handle.seen_get(&name);
+    let number = handle.seen_find(&name);
     *pass = handle.into_pass();
     number
 }
@@ -81,8 +81,8 @@ impl Form for Names {
         key: u64,
         _value: u64,
     ) -> Result<(Entry, bool), AllocError> {
-        let place = self.names.put(rt, pass, named(key)?)?;
-        Ok((entry(place as u64, key), false))
+        let index = self.names.put(rt, pass, named(key)?)?;
+        Ok((entry(index as u64, key), false))
     }
 
     fn at<R: Wait>(&self, rt: &R, pass: &mut NamePass, number: u64) -> Option<Entry> {
@@ -90,8 +90,8 @@ impl Form for Names {
         let key = name.as_str().parse::<u64>().ok()?;
         let seen = number_seen(&self.names, pass, name);
         match self.names.put(rt, pass, name) {
-            Ok(place) if seen != Some(place) => Some(entry(u64::MAX, key)),
-            Ok(place) => Some(entry(place as u64, key)),
+            Ok(index) if seen != Some(index) => Some(entry(u64::MAX, key)),
+            Ok(index) => Some(entry(index as u64, key)),
             Err(_) => None,
         }
     }

@@ -159,10 +159,10 @@ impl<'h> Form for OwnedList<'h> {
     ) -> Result<(Entry, bool), AllocError> {
         let item = Owner::new(self.heap, &self.count, value)?;
         let mut handle = Handle::of(&self.vector, std::mem::replace(pass, self.vector.pass()));
-        let place = handle.push(rt, item).map_err(AllocError::from);
+        let index = handle.push(rt, item).map_err(AllocError::from);
         *pass = handle.into_pass();
         let entry = Entry {
-            number: place? as u64,
+            number: index? as u64,
             key: value,
             value: 0,
         };

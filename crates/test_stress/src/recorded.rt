@@ -65,8 +65,8 @@ impl Plain {
         if let Some(stands) = self.get(key) {
             return (stands, false);
         }
-        if let Some(place) = self.values.get_mut(key as usize) {
-            *place = Some(value);
+        if let Some(index) = self.values.get_mut(key as usize) {
+            *index = Some(value);
         }
         self.count = self.count.saturating_add(1);
         (value, true)

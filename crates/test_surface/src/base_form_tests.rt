@@ -77,7 +77,7 @@ fn a_map_changed_when_it_was_taken_apart(rt: HostRuntime) -> Result<(), Fail> {
 
 /// Returns the index of the key 5 in a map of these pairs that was collected, taken apart and made
 /// again.
-fn place_of_five<'a>(
+fn index_of_five<'a>(
     alloc: Global,
     arena: &'a Bump,
     pairs: [(u64, Own<u64>); 2],
@@ -102,8 +102,8 @@ fn adds<'a>(
     if set.get_index_of(&owned).is_some() {
         return Ok(false);
     }
-    let (place, kept) = set.insert_absent(owned)?;
-    Ok(place == 0 && kept == text)
+    let (index, kept) = set.insert_absent(owned)?;
+    Ok(index == 0 && kept == text)
 }
 
 /// Returns whether a set can be taken apart and made again.
@@ -117,7 +117,7 @@ fn an_index_collection_changed_when_it_was_taken_apart(rt: HostRuntime) -> Resul
     let arena = Bump::new(rt.alloc());
     let mut set: FrozenIndexSet<'_, String> = FrozenIndexSet::new(rt.alloc(), &arena);
     let pairs = [(7, Own(1)), (5, Own(2))];
-    let is_second = place_of_five(rt.alloc(), &arena, pairs)? == Some(1);
+    let is_second = index_of_five(rt.alloc(), &arena, pairs)? == Some(1);
     assert!(rt; is_second && adds(rt.alloc(), &mut set, "fox")? && is_made_again(&arena, set));
     Ok(())
 }

@@ -127,8 +127,8 @@ fn is_index_map(alloc: Global) -> Result<bool, AllocError> {
 fn is_index_set(alloc: Global) -> Result<bool, AllocError> {
     let arena = Bump::new(alloc);
     let mut set: FrozenIndexSet<String> = FrozenIndexSet::new(alloc, &arena);
-    let (place, kept) = set.insert_full(String::from_str(alloc, "fox")?)?;
-    let found = set.get_index_of(&"fox") == Some(place) && set.get(&"fox") == Some(kept);
+    let (index, kept) = set.insert_full(String::from_str(alloc, "fox")?)?;
+    let found = set.get_index_of(&"fox") == Some(index) && set.get(&"fox") == Some(kept);
     Ok(found && set.get_index(0) == Some("fox") && set.get(&"b").is_none())
 }
 

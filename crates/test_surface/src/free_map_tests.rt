@@ -19,16 +19,16 @@ fn finds_the_first(rt: &impl Wait, ages: &Ages) -> Result<bool, AllocError> {
     let old = handle.insert(rt, "ann", 40)?;
     let is_first = new.is_new && new.index == 0 && !old.is_new && old.value == 30;
     let found = handle.get("ann") == Some(30) && handle.find(&"ann") == Some(0);
-    let by_place = handle.get_by_place(0) == Some(("ann", 30));
-    Ok(is_first && found && by_place && handle.len() == 1 && handle.seen_len() == 1)
+    let by_index = handle.get_index(0) == Some(("ann", 30));
+    Ok(is_first && found && by_index && handle.len() == 1 && handle.seen_len() == 1)
 }
 
 /// Returns whether a handle finds the map's entry, and appends another one.
 fn finds_by_a_handle(rt: &impl Wait, ages: &Ages) -> Result<bool, AllocError> {
     let mut handle = MapHandle::of(ages, ages.pass());
     let is_there = handle.get("ann") == Some(30) && handle.get("bob").is_none();
-    let place = handle.insert(rt, "bob", 20)?.index;
-    Ok(is_there && place == 1 && handle.len() == 2 && handle.get_by_place(1) == Some(("bob", 20)))
+    let index = handle.insert(rt, "bob", 20)?.index;
+    Ok(is_there && index == 1 && handle.len() == 2 && handle.get_index(1) == Some(("bob", 20)))
 }
 
 /// Returns whether a handle contains what was inserted, makes a value only for an absent key, and
@@ -49,7 +49,7 @@ fn walks_by_a_handle(rt: &impl Wait, ages: &Ages) -> Result<bool, AllocError> {
     let made = handle.get_or_insert_with(rt, "fay", || 70)?;
     let contains = handle.contains_key("fay") && !handle.contains_key("zoe");
     handle.one_to_one();
-    handle.same_place(&ages.handle());
+    handle.same_index(&ages.handle());
     let mut walk: MapIter<'_, &'static str, u64> = handle.iter();
     Ok(made.index == 3 && contains && walk.next() == Some(("ann", 30)) && walk.size_hint().0 == 3)
 }

@@ -35,7 +35,7 @@ impl Stops {
 }
 
 impl Gate for Stops {
-    fn after(&self, worker: usize, _place: usize) -> bool {
+    fn after(&self, worker: usize, _index: usize) -> bool {
         let _ = self.calls.fetch_add(1, Ordering::SeqCst);
         if worker != self.worker {
             return true;
@@ -71,13 +71,13 @@ impl Pair {
 }
 
 impl Gate for Pair {
-    fn after(&self, worker: usize, place: usize) -> bool {
+    fn after(&self, worker: usize, index: usize) -> bool {
         let (mine, other) = if worker == 0 {
             (&self.first, &self.second)
         } else {
             (&self.second, &self.first)
         };
-        mine.store((place as u64).wrapping_add(1), Ordering::SeqCst);
+        mine.store((index as u64).wrapping_add(1), Ordering::SeqCst);
         for _ in 0..TURNS {
             if other.load(Ordering::SeqCst) != 0 {
                 return true;
@@ -107,7 +107,7 @@ impl Alternates {
 }
 
 impl Gate for Alternates {
-    fn after(&self, worker: usize, _place: usize) -> bool {
+    fn after(&self, worker: usize, _index: usize) -> bool {
         let (mine, other) = if worker == 0 {
             (&self.first, &self.second)
         } else {
@@ -152,12 +152,12 @@ impl Rising {
 }
 
 impl Gate for Rising {
-    fn after(&self, worker: usize, place: usize) -> bool {
-        let _ = self.sum.fetch_add(place as u64, Ordering::SeqCst);
+    fn after(&self, worker: usize, index: usize) -> bool {
+        let _ = self.sum.fetch_add(index as u64, Ordering::SeqCst);
         if worker >= 4 {
             return false;
         }
-        let next = (place as u64).wrapping_add(1);
+        let next = (index as u64).wrapping_add(1);
         self.last[worker].swap(next, Ordering::SeqCst) < next
     }
 }

@@ -90,8 +90,8 @@ fn adds_nine<'a>(set: &mut Set<'a>) -> Result<bool, AllocError> {
     if set.get_index_of(&Own(9)).is_some() {
         return Ok(false);
     }
-    let (place, value) = set.insert_absent(Own(9))?;
-    Ok(place == 2 && *value == 9 && set.len() == 3)
+    let (index, value) = set.insert_absent(Own(9))?;
+    Ok(index == 2 && *value == 9 && set.len() == 3)
 }
 
 /// Returns whether the set finds the value 5 and the value at the first index.

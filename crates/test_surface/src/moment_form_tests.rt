@@ -71,7 +71,7 @@ fn numbers_seen(
     let mut moment = names.handle();
     moment.put(rt, "fox")?;
     names.handle().put(rt, "owl")?;
-    Ok((moment.seen_get("fox"), moment.seen_get("owl")))
+    Ok((moment.seen_find("fox"), moment.seen_find("owl")))
 }
 
 #[test]

@@ -27,7 +27,7 @@ fn meets(words: &Words<'_>) -> bool {
     let mut fresh = words.handle();
     let counted = seen.len() == 2 && fresh.seen_len() == 0;
     seen.one_to_one();
-    seen.same_name_same_place(&fresh);
+    seen.same_name_same_index(&fresh);
     fresh.meet(&mut seen);
     let pass = fresh.into_pass();
     pass.one_to_one();

@@ -71,10 +71,10 @@ fn a_call_with_a_view_had_a_wrong_result(rt: HostRuntime) -> Result<(), Fail> {
 /// Returns whether the calls without a view see the push of 7.
 fn is_read(rt: &impl Wait, vector: &Vector) -> Result<bool, AllocError> {
     let before = vector.is_empty();
-    let place = vector.push(rt, 7)?;
+    let index = vector.push(rt, 7)?;
     let copy = vector.clone()?;
     let equal = vector.equals(&copy);
-    Ok(before && place == 0 && equal && copy.get(0) == Some(7) && copy.len() == 1)
+    Ok(before && index == 0 && equal && copy.get(0) == Some(7) && copy.len() == 1)
 }
 
 #[test]

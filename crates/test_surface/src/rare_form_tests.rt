@@ -54,8 +54,8 @@ fn maps_with_string_keys_are_asked_by_a_text(rt: HostRuntime) -> Result<(), Fail
 fn is_pushed_at(rt: &impl Wait, alloc: Global) -> Result<bool, AllocError> {
     let vector = LockFreeFrozenVec::distinct(alloc)?;
     let mut pass = vector.pass();
-    let place = vector.push_at_as(rt, &mut pass, 0, 7u64)?;
-    Ok(vector.is_distinct() && place == Some(0) && vector.get_as(&mut pass, 0) == Some(7))
+    let index = vector.push_at_as(rt, &mut pass, 0, 7u64)?;
+    Ok(vector.is_distinct() && index == Some(0) && vector.get_as(&mut pass, 0) == Some(7))
 }
 
 /// Returns whether a handle of a vector of distinct items pushes one item at the index 0, and no

@@ -59,21 +59,21 @@ fn a_text_keeps_its_first_value_in_each_map(rt: HostRuntime) -> Result<(), Fail>
 }
 
 /// Returns the indices of these texts in an index map into which they are inserted in order.
-fn places(alloc: Global, texts: [&str; 4]) -> Result<[usize; 4], AllocError> {
+fn indices(alloc: Global, texts: [&str; 4]) -> Result<[usize; 4], AllocError> {
     let arena = Bump::new(alloc);
     let mut map: FrozenIndexMap<'_, &str, Own<u64>> = FrozenIndexMap::new(alloc, &arena);
-    let mut places = [99; 4];
+    let mut indices = [99; 4];
     for (at, text) in texts.into_iter().enumerate() {
-        let (place, _) = map.insert_full_text(text, Own(0))?;
-        places[at] = place;
+        let (index, _) = map.insert_full_text(text, Own(0))?;
+        indices[at] = index;
     }
-    Ok(places)
+    Ok(indices)
 }
 
 #[test]
 fn a_text_has_the_place_of_its_first_insertion(rt: HostRuntime) -> Result<(), Fail> {
-    let places = places(rt.alloc(), ["b", "a", "b", "c"])?;
-    assert_eq!(rt; places, [0, 1, 0, 2]);
+    let indices = indices(rt.alloc(), ["b", "a", "b", "c"])?;
+    assert_eq!(rt; indices, [0, 1, 0, 2]);
     Ok(())
 }
 

@@ -35,7 +35,7 @@ type Told = Mutex<Vec<(usize, u64)>>;
 /// Pushes a number, and adds its index to the list under the lock.
 fn push_one<R: Wait>(rt: &R, vector: &LockFreeFrozenVec<u64>, told: &Told, number: u64) -> bool {
     match vector.push(rt, number) {
-        Ok(place) => told.lock(rt).push((place, number)).is_ok(),
+        Ok(index) => told.lock(rt).push((index, number)).is_ok(),
         Err(_) => false,
     }
 }
@@ -73,8 +73,8 @@ fn read_what_is_told<R: Wait>(
         }
         let next = told.lock(rt).pop();
         match next {
-            Some((place, number)) => {
-                if vector.get(place) != Some(number) {
+            Some((index, number)) => {
+                if vector.get(index) != Some(number) {
                     return false;
                 }
                 let _ = reads.fetch_add(1, Ordering::SeqCst);
@@ -90,15 +90,15 @@ fn a_place_handed_on_through_a_lock_has_its_item(rt: HostRuntime) -> Result<(), 
     let vector = LockFreeFrozenVec::<u64>::new(rt.alloc())?;
     let told: Told = Mutex::new(Vec::new(rt.alloc()));
     let reads = AtomicU64::new(0);
-    let (shared, places, count, handle) = (&vector, &told, &reads, &rt);
+    let (shared, indices, count, handle) = (&vector, &told, &reads, &rt);
     let (pushed, read) = thread::join(
         &rt,
         || thread::join(
             handle,
-            || push_and_tell(handle, shared, places, count, 0),
-            || push_and_tell(handle, shared, places, count, PUSHES),
+            || push_and_tell(handle, shared, indices, count, 0),
+            || push_and_tell(handle, shared, indices, count, PUSHES),
         ),
-        || read_what_is_told(handle, shared, places, count),
+        || read_what_is_told(handle, shared, indices, count),
     );
     assert_eq!(rt; (pushed, read), ((true, true), true));
     Ok(())
@@ -128,11 +128,11 @@ fn push_all<R: Wait>(
 fn read_in_order(vector: &LockFreeFrozenVec<u64>, reads: &AtomicU64) -> Option<u64> {
     let mut sum: u64 = 0;
     for _ in 0..LOOKS {
-        let place = reads.load(Ordering::SeqCst);
-        if place == 2 * PUSHES {
+        let index = reads.load(Ordering::SeqCst);
+        if index == 2 * PUSHES {
             return Some(sum);
         }
-        match vector.get(place as usize) {
+        match vector.get(index as usize) {
             Some(number) => {
                 sum = sum.wrapping_add(number);
                 let _ = reads.fetch_add(1, Ordering::SeqCst);

@@ -5,7 +5,7 @@ use elsa_maps::map::FrozenMap;
 use elsa_maps::map::laws::{is_new_once, keeps_earlier_values};
 use elsa_vec::vec::FrozenVec;
 use elsa_vec::vec_laws::{
-    looked_up_round_a_push, outlives_its_vector, place_by_length, place_by_order, place_by_test,
+    index_by_length, index_by_order, index_by_test, looked_up_round_a_push, outlives_its_vector,
 };
 use std::alloc::{AllocError, Global};
 use std::test::Fail;
@@ -21,9 +21,9 @@ fn pushes(alloc: Global, arena: &Bump) -> Result<bool, AllocError> {
 fn searches(alloc: Global, arena: &Bump) -> Result<bool, AllocError> {
     let mut texts: FrozenVec<'_, String> = FrozenVec::new(alloc, arena);
     texts.push(String::from_str(alloc, "ab")?)?;
-    let end = place_by_test(&texts, |text| text.len() < 3);
-    let found = place_by_order(&texts, |text| text.len().cmp(&2));
-    Ok(end == 1 && found == Ok(0) && place_by_length(&texts, 1) == Err(0))
+    let end = index_by_test(&texts, |text| text.len() < 3);
+    let found = index_by_order(&texts, |text| text.len().cmp(&2));
+    Ok(end == 1 && found == Ok(0) && index_by_length(&texts, 1) == Err(0))
 }
 
 fn insertions<'a>(alloc: Global, arena: &'a Bump) -> Result<bool, AllocError> {

@@ -43,8 +43,8 @@ impl Script for Vector<'_, '_> {
 }
 
 // Returns the word at this index, with the sixteen words repeated.
-fn word(place: usize) -> &'static str {
-    WORDS[place % 16]
+fn word(index: usize) -> &'static str {
+    WORDS[index % 16]
 }
 
 fn pushed<'b>(items: &mut Items<'_, 'b>, heap: Heap<'b>, text: &str) -> Result<bool, AllocError> {
@@ -73,8 +73,8 @@ fn collected(heap: Heap<'_>, arena: &Bump) -> Result<bool, AllocError> {
 
 // Returns whether the items are the first `count` words.
 fn has_words(items: &Items<'_, '_>, count: usize) -> bool {
-    for place in 0..count {
-        if items.get(place) != Some(word(place)) {
+    for index in 0..count {
+        if items.get(index) != Some(word(index)) {
             return false;
         }
     }

@@ -80,11 +80,11 @@ impl Calls {
         }
     }
 
-    fn note(&mut self, place: usize) {
+    fn note(&mut self, index: usize) {
         if self.count < 4 {
-            self.first[self.count] = place;
+            self.first[self.count] = index;
         }
-        self.last = place;
+        self.last = index;
         self.count = self.count.saturating_add(1);
     }
 }
@@ -118,11 +118,11 @@ fn is_search(way: Way, target: Target, count: usize) -> bool {
 }
 
 // Returns the indices up to the first that is `last`, including that one.
-fn up_to(places: [usize; 4], last: usize) -> [usize; 4] {
+fn up_to(indices: [usize; 4], last: usize) -> [usize; 4] {
     let mut kept = [NO; 4];
     for at in 0..4 {
-        kept[at] = places[at];
-        if places[at] == last {
+        kept[at] = indices[at];
+        if indices[at] == last {
             return kept;
         }
     }
@@ -131,22 +131,22 @@ fn up_to(places: [usize; 4], last: usize) -> [usize; 4] {
 
 // Returns whether the search calls its closure exactly at these indices, up to that of the equal
 // item.
-fn calls_at(items: &Numbers<'_>, way: Way, target: Target, places: [usize; 4]) -> bool {
+fn calls_at(items: &Numbers<'_>, way: Way, target: Target, indices: [usize; 4]) -> bool {
     let mut calls = Calls::new();
     let answer = searched(items, way, target, &mut calls);
     let want = if target.is_equal {
-        up_to(places, target.below)
+        up_to(indices, target.below)
     } else {
-        places
+        indices
     };
     answer == target.answer() && calls.first == want && calls.count <= 4
 }
 
-fn all_call_at(items: &Numbers<'_>, below: usize, places: [usize; 4]) -> bool {
+fn all_call_at(items: &Numbers<'_>, below: usize, indices: [usize; 4]) -> bool {
     for way in WAYS {
         for is_equal in [false, true] {
             let target = Target { below, is_equal };
-            if is_search(way, target, items.len()) && !calls_at(items, way, target, places) {
+            if is_search(way, target, items.len()) && !calls_at(items, way, target, indices) {
                 return false;
             }
         }
@@ -167,7 +167,7 @@ fn numbers(alloc: Global, arena: &Bump, count: usize) -> Result<Numbers<'_>, All
 #[test]
 fn searches_of_eight_items_call_where_they_halve(rt: HostRuntime) -> Result<(), Fail> {
     let arena = Bump::new(rt.alloc());
-    for (count, below, places) in [
+    for (count, below, indices) in [
         (0, 0, [NO, NO, NO, NO]),
         (1, 0, [0, NO, NO, NO]),
         (1, 1, [0, NO, NO, NO]),
@@ -216,7 +216,7 @@ fn searches_of_eight_items_call_where_they_halve(rt: HostRuntime) -> Result<(), 
     ] {
         let items = numbers(rt.alloc(), &arena, count)?;
         assert!(rt;
-            all_call_at(&items, below, places),
+            all_call_at(&items, below, indices),
             "{count} items, {below} below"
         );
     }
@@ -297,19 +297,19 @@ fn searched_by_turns(
 fn turns_at(
     items: &Numbers<'_>,
     keys: [usize; 2],
-    places: [usize; 4],
+    indices: [usize; 4],
     answer: Result<usize, usize>,
 ) -> bool {
     let mut calls = Calls::new();
     searched_by_turns(items, keys, &mut calls) == answer
-        && calls.first == places
+        && calls.first == indices
         && calls.count <= 4
 }
 
 #[test]
 fn keys_that_contradict_themselves_end_a_search(rt: HostRuntime) -> Result<(), Fail> {
     let arena = Bump::new(rt.alloc());
-    for (count, keys, places, answer) in [
+    for (count, keys, indices, answer) in [
         (8, [0, 0], [4, 6, 7, NO], Err(8)),
         (8, [2, 2], [4, 2, 1, 0], Err(0)),
         (3, [0, 2], [1, 2, NO, NO], Err(2)),
@@ -319,7 +319,7 @@ fn keys_that_contradict_themselves_end_a_search(rt: HostRuntime) -> Result<(), F
     ] {
         let items = numbers(rt.alloc(), &arena, count)?;
         assert!(rt;
-            turns_at(&items, keys, places, answer),
+            turns_at(&items, keys, indices, answer),
             "{count} items, keys {keys:?}"
         );
     }

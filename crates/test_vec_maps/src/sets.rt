@@ -192,8 +192,8 @@ impl<'a> Script for Given<'a> {
 
     fn holds(&self, number: usize) -> bool {
         let count = number.div_ceil(2);
-        for place in 0..16usize {
-            if self.texts.contains_key(WORDS[place]) != (place < count) {
+        for index in 0..16usize {
+            if self.texts.contains_key(WORDS[index]) != (index < count) {
                 return false;
             }
         }

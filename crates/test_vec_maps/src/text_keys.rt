@@ -74,10 +74,10 @@ fn words_before(number: usize) -> usize {
 fn give_short<'a, M: ByText<'a>>(
     map: &mut M,
     heap: Heap<'a>,
-    place: usize,
+    index: usize,
     value: u64,
 ) -> Result<u64, AllocError> {
-    let text: String<Heap<'a>> = String::from_str(heap, WORDS[place % 16])?;
+    let text: String<Heap<'a>> = String::from_str(heap, WORDS[index % 16])?;
     map.give(text.as_str(), value)
 }
 
@@ -100,9 +100,9 @@ impl<'a, M: ByText<'a>> Drop for Texts<'a, M> {
 impl<'a, M: ByText<'a>> Script for Texts<'a, M> {
     fn call(&mut self, number: usize) -> Result<bool, AllocError> {
         if number % 2 == 0 {
-            let place = number / 2;
-            let kept = give_short(&mut self.map, self.heap, place, place as u64)?;
-            return Ok(kept == place as u64);
+            let index = number / 2;
+            let kept = give_short(&mut self.map, self.heap, index, index as u64)?;
+            return Ok(kept == index as u64);
         }
         let asked = self.heap.asked();
         let kept = self.map.give(WORDS[0], 99)?;
@@ -111,13 +111,13 @@ impl<'a, M: ByText<'a>> Script for Texts<'a, M> {
 
     fn holds(&self, number: usize) -> bool {
         let count = words_before(number);
-        for place in 0..16usize {
-            let expected = if place < count {
-                Some(place as u64)
+        for index in 0..16usize {
+            let expected = if index < count {
+                Some(index as u64)
             } else {
                 None
             };
-            if self.map.at(WORDS[place]) != expected {
+            if self.map.at(WORDS[index]) != expected {
                 return false;
             }
         }

@@ -20,8 +20,8 @@ type Names<'a> = FrozenVec<'a, String>;
 #[derive(Clone, Copy, Debug, PartialEq, Eq)]
 struct Moo(i32);
 
-fn cow(cows: &FrozenVec<'_, Own<Moo>>, place: usize) -> Option<i32> {
-    cows.get_copy(place).map(|moo| moo.0)
+fn cow(cows: &FrozenVec<'_, Own<Moo>>, index: usize) -> Option<i32> {
+    cows.get_copy(index).map(|moo| moo.0)
 }
 
 #[test]
@@ -32,12 +32,12 @@ fn an_item_was_not_copied_by_its_index(rt: HostRuntime) -> Result<(), Fail> {
     for number in [1, 2, 3] {
         cows.push(Own(Moo(number)))?;
     }
-    assert!(rt; absent.is_none() && cow(&cows, 1) == Some(2) && by_place(&cows) == Some((3, 1)));
+    assert!(rt; absent.is_none() && cow(&cows, 1) == Some(2) && by_index(&cows) == Some((3, 1)));
     Ok(())
 }
 
 // Returns the last of three items by `[]`, and the first by `get_unchecked`.
-fn by_place(cows: &FrozenVec<'_, Own<Moo>>) -> Option<(i32, i32)> {
+fn by_index(cows: &FrozenVec<'_, Own<Moo>>) -> Option<(i32, i32)> {
     if cows.len() != 3 {
         return None;
     }
@@ -87,14 +87,14 @@ fn befriend<'a>(
 // Returns whether the things have these names, and each has the number of friends that is its
 // index.
 fn are_named(things: &Things<'_>, names: &[&str]) -> bool {
-    let mut place = 0usize;
+    let mut index = 0usize;
     for thing in things {
-        if names.get(place) != Some(&thing.name) || thing.friends.len() != place {
+        if names.get(index) != Some(&thing.name) || thing.friends.len() != index {
             return false;
         }
-        place = place.saturating_add(1);
+        index = index.saturating_add(1);
     }
-    place == names.len()
+    index == names.len()
 }
 
 // Returns the name of the first friend of the second thing.
@@ -202,9 +202,9 @@ fn finds<'a>(texts: &Texts<'a>, rows: &[(&'a str, Result<usize, usize>)]) -> boo
 
 // Returns the index of a text of this length, or the index at which it would be inserted.
 fn of_length(texts: &Texts<'_>, wanted: usize) -> Result<usize, usize>
-    ensures place { IsBinarySearchResult (λ text. nat_cmp (length text.now) wanted)
+    ensures index { IsBinarySearchResult (λ text. nat_cmp (length text.now) wanted)
         texts.now result }
-    ensures within { IfOk result (λ place. place < length texts.now) }
+    ensures within { IfOk result (λ index. index < length texts.now) }
 {
     texts.binary_search_by_key(&wanted, |text| text.len())
 }
@@ -212,8 +212,8 @@ fn of_length(texts: &Texts<'_>, wanted: usize) -> Result<usize, usize>
 // Returns the index of a number whose double is `wanted`, by a closure that requires numbers below
 // 100.
 fn of_half(items: &FrozenVec<'_, Own<u8>>, wanted: u8) -> Result<usize, usize>
-    requires { (place : ℕ) (item : Bor ℕ) → slice_get items.now place ≡ Some item → item.now < 100 }
-    ensures { IfOk result (λ place. place < length items.now) }
+    requires { (index : ℕ) (item : Bor ℕ) → slice_get items.now index ≡ Some item → item.now < 100 }
+    ensures { IfOk result (λ index. index < length items.now) }
 {
     items.binary_search_by(
         |item|
@@ -295,13 +295,13 @@ fn numbers(alloc: Global, arena: &Bump, count: usize) -> Result<Numbers<'_>, All
 const NO: usize = usize::MAX;
 
 // Returns whether these are the noted indices, of which there are at most four.
-fn are_noted(places: &Vec<usize>, calls: [usize; 4]) -> bool {
+fn are_noted(indices: &Vec<usize>, calls: [usize; 4]) -> bool {
     for at in 0..4 {
-        if places.get(at).copied().unwrap_or(NO) != calls[at] {
+        if indices.get(at).copied().unwrap_or(NO) != calls[at] {
             return false;
         }
     }
-    places.len() <= 4
+    indices.len() <= 4
 }
 
 // Searches by a closure that notes the index of each call. It returns the first of `answers`, and
@@ -309,11 +309,11 @@ fn are_noted(places: &Vec<usize>, calls: [usize; 4]) -> bool {
 fn searched(
     items: &Numbers<'_>,
     answers: [Ordering; 2],
-    places: &mut Vec<usize>,
+    indices: &mut Vec<usize>,
 ) -> Result<usize, usize> {
     let [mut answer, last] = answers;
-    items.binary_search_by(|place| {
-        let _noted = places.push(*place);
+    items.binary_search_by(|index| {
+        let _noted = indices.push(*index);
         let now = answer;
         answer = last;
         now
@@ -331,8 +331,8 @@ fn calls_at(
 ) -> Result<bool, AllocError> {
     let arena = Bump::new(alloc);
     let items = numbers(alloc, &arena, count)?;
-    let mut places = Vec::new(alloc);
-    Ok(searched(&items, answers, &mut places) == answer && are_noted(&places, calls))
+    let mut indices = Vec::new(alloc);
+    Ok(searched(&items, answers, &mut indices) == answer && are_noted(&indices, calls))
 }
 
 #[test]
@@ -357,10 +357,10 @@ fn a_search_called_its_closure_at_other_indices(rt: HostRuntime) -> Result<(), F
 
 // Partitions by a closure that notes the index of each call and returns three results in turn, the
 // last one from then on.
-fn parted(items: &Numbers<'_>, answers: [bool; 3], places: &mut Vec<usize>) -> usize {
+fn parted(items: &Numbers<'_>, answers: [bool; 3], indices: &mut Vec<usize>) -> usize {
     let [mut answer, mut next, last] = answers;
-    items.partition_point(|place| {
-        let _noted = places.push(*place);
+    items.partition_point(|index| {
+        let _noted = indices.push(*index);
         let now = answer;
         answer = next;
         next = last;
@@ -377,8 +377,8 @@ fn parts_at(
 ) -> Result<bool, AllocError> {
     let arena = Bump::new(alloc);
     let items = numbers(alloc, &arena, count)?;
-    let mut places = Vec::new(alloc);
-    Ok(parted(&items, answers, &mut places) == answer && are_noted(&places, calls))
+    let mut indices = Vec::new(alloc);
+    Ok(parted(&items, answers, &mut indices) == answer && are_noted(&indices, calls))
 }
 
 #[test]

@@ -1,8 +1,8 @@
--- Lists whose every item was new when it came: their beginnings, one item more, and that no item is at two places.
+-- Lists whose every item was new when it came: their beginnings, one item more, and that no item is at two indices.
 use Rattle.std.proofs.Common.{◌≡◌, ◌∙◌, Bool, ℕ, zero, suc, ◌<◌, ◌⊎◌, inl, inr, List, [], ◌∷◌, ◌++◌, take, refl, ap, sym, subst, arith, Some, slice_get}
 use Rattle.std.proofs.lemmas.List.{append-nil}
 use mathlib.Core.List.{IsPrefix}
-use Rattle.elsa_lock_free.specs.Distinct.{AgreeOnPlaces, EachIsNew, EachItemIsNew, IsAbsent, IsOneToOne}
+use Rattle.elsa_lock_free.specs.Distinct.{AgreeOnIndices, EachIsNew, EachItemIsNew, IsAbsent, IsOneToOne}
 use Rattle.elsa_lock_free.specs.SharedList.{entry, items_of}
 use Rattle.elsa_lock_free.specs.declared.event.Entry.{Entry}
 
@@ -14,26 +14,26 @@ order (suc i) zero = inr (inr (omega arith))
 order (suc i) (suc j) = elim (order i j) [ inl s ↦ inl (ap suc s) | inr t ↦ inr (elim t [ inl l ↦ inl (omega (arith, l)) | inr r ↦ inr (omega (arith, r)) ]) ]
 
 module _ {A : Type 0} where
-  -- what a beginning has at a place, the whole has
+  -- what a beginning has at an index, the whole has
   get_before : (xs ys : List A) (i : ℕ) (x : A) → slice_get xs i ≡ Some x → slice_get (xs ++ ys) i ≡ Some x
   get_before [] ys i x e = absurd (cc e)
   get_before (y ∷ xs) ys zero x e = e
   get_before (y ∷ xs) ys (suc i) x e = get_before xs ys i x e
 
-  -- the places before one of a beginning are those of the whole
+  -- the indices before one of a beginning are those of the whole
   take_before : (xs ys : List A) (i : ℕ) (x : A) → slice_get xs i ≡ Some x → take i (xs ++ ys) ≡ take i xs
   take_before [] ys i x e = absurd (cc e)
   take_before (y ∷ xs) ys zero x e = refl
   take_before (y ∷ xs) ys (suc i) x e = ap (λ (l : List A). y ∷ l) (take_before xs ys i x e)
 
-  -- what is at a place before another is at this place of those before the other
+  -- what is at an index before another is at this index of those before the other
   get_below : (xs : List A) (i j : ℕ) (x : A) → i < j → slice_get xs i ≡ Some x → slice_get (take j xs) i ≡ Some x
   get_below [] i j x low e = absurd (cc e)
   get_below (y ∷ xs) i zero x low e = absurd (omega arith)
   get_below (y ∷ xs) zero (suc j) x low e = e
   get_below (y ∷ xs) (suc i) (suc j) x low e = get_below xs i j x (omega arith) e
 
-  -- a place of a list with one item more is a place of the list, or the last
+  -- an index of a list with one item more is an index of the list, or the last
   last_or_before : (xs : List A) (x : A) (i : ℕ) (y : A) → slice_get (xs ++ x ∷ []) i ≡ Some y → (slice_get xs i ≡ Some y) ⊎ ((x ≡ y) × (take i (xs ++ x ∷ []) ≡ xs))
   last_or_before [] x zero y e = inr (cc e, refl)
   last_or_before [] x (suc i) y e = absurd (cc e)
@@ -64,8 +64,8 @@ module _ {A : Type 0} where
 
   module _ (equal : A → A → Bool) (symm : (x y : A) → equal x y ≡ equal y x) where
     -- two beginnings of a list whose every item was absent when it came
-    pub agree_on_places : (xs ys zs : List A) → IsPrefix xs zs → IsPrefix ys zs → EachIsNew (IsAbsent equal) zs → AgreeOnPlaces equal xs ys
-    agree_on_places xs ys zs p q all i j x y at_i at_j same =
+    pub agree_on_indices : (xs ys zs : List A) → IsPrefix xs zs → IsPrefix ys zs → EachIsNew (IsAbsent equal) zs → AgreeOnIndices equal xs ys
+    agree_on_indices xs ys zs p q all i j x y at_i at_j same =
         let whole_i : slice_get zs i ≡ Some x = subst (λ (l : List A). slice_get l i ≡ Some x) p.1 (get_before xs p.0 i x at_i) in
         let whole_j : slice_get zs j ≡ Some y = subst (λ (l : List A). slice_get l j ≡ Some y) q.1 (get_before ys q.0 j y at_j) in
         elim (order i j) [
@@ -78,7 +78,7 @@ module _ {A : Type 0} where
 
     -- such a list is one to one
     pub one_to_one : (xs : List A) → EachIsNew (IsAbsent equal) xs → IsOneToOne equal xs
-    one_to_one xs all = agree_on_places xs xs xs ([], append-nil xs) ([], append-nil xs) all
+    one_to_one xs all = agree_on_indices xs xs xs ([], append-nil xs) ([], append-nil xs) all
 
 module _ {T : Type 0} where
   -- an item is that of an entry, and the items before it are those of the entries before that one
@@ -96,4 +96,4 @@ module _ {T : Type 0} where
   -- where each entry is new, so is each item
   pub each_item_is_new : (is_new : List (Entry T) → Entry T → Type 0) (es : List (Entry T)) → EachIsNew is_new es → EachItemIsNew is_new es
   each_item_is_new is_new es all i x at =
-      let f = entry_at es i x at in (f.0.author, subst (λ (y : T). is_new (take i es) (entry f.0.author y)) f.2 (all i f.0 f.1))
+      let f = entry_at es i x at in (f.0.writer, subst (λ (y : T). is_new (take i es) (entry f.0.writer y)) f.2 (all i f.0 f.1))

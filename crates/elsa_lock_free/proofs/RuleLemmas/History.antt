@@ -5,7 +5,7 @@ use Rattle.elsa_lock_free.specs.declared.event.Entry.{Entry}
 use Rattle.elsa_lock_free.specs.declared.event.Event.{Event}
 use Rattle.elsa_lock_free.specs.declared.event.Event.TheVariants.{Acquired, Published, Extended, Cloned, Released, OfferOf}
 use mathlib.Core.List.{IsPrefix}
-use Rattle.elsa_lock_free.specs.SharedList.{authored, bit, copied, count, item_of, items_of}
+use Rattle.elsa_lock_free.specs.SharedList.{written_by, bit, copied, count, item_of, items_of}
 use Rattle.elsa_lock_free.specs.History.{list_of, entries, begins_hold, held_from, added_by, added, behind}
 
 -- all that the events added
@@ -22,7 +22,7 @@ module _ {T : Type 0} where
   list_snoc [] e = append-nil (entries e)
   list_snoc (x ∷ xs) e = ap (λ (l : List (Entry T)). entries x ++ l) (list_snoc xs e) ∙ sym (append_assoc (entries x) (list_of xs) (entries e))
 
-  pub count_snoc : (a : ℕ) (pre : List (Entry T)) (e : Entry T) → count a (pre ++ e ∷ []) ≡ count a pre + bit (e.author == a)
+  pub count_snoc : (a : ℕ) (pre : List (Entry T)) (e : Entry T) → count a (pre ++ e ∷ []) ≡ count a pre + bit (e.writer == a)
   count_snoc a [] e = omega arith
   count_snoc a (x ∷ pre) e = let h = count_snoc a pre e in omega arith
 
@@ -37,19 +37,19 @@ module _ {T : Type 0} where
   pub added_prefix : (xs : List (Event T)) (e : Event T) → IsPrefix (added xs) (added (xs ++ e ∷ []))
   added_prefix xs e = (added_by e ∷ [], sym (added_snoc xs e))
 
-  pub authored_length : (a : ℕ) (xs : List T) → length (authored a xs) ≡ length xs
-  authored_length a [] = refl
-  authored_length a (x ∷ xs) = ap suc (authored_length a xs)
+  pub written_by_length : (a : ℕ) (xs : List T) → length (written_by a xs) ≡ length xs
+  written_by_length a [] = refl
+  written_by_length a (x ∷ xs) = ap suc (written_by_length a xs)
 
-  pub authored_items : (a : ℕ) (xs : List T) → items_of (authored a xs) ≡ xs
-  authored_items a [] = refl
-  authored_items a (x ∷ xs) = ap (λ (l : List T). x ∷ l) (authored_items a xs)
+  pub written_by_items : (a : ℕ) (xs : List T) → items_of (written_by a xs) ≡ xs
+  written_by_items a [] = refl
+  written_by_items a (x ∷ xs) = ap (λ (l : List T). x ∷ l) (written_by_items a xs)
 
   pub copied_length : (xs : List T) → length (copied xs) ≡ length xs
-  copied_length xs = authored_length 0 xs
+  copied_length xs = written_by_length 0 xs
 
   pub copied_items : (xs : List T) → items_of (copied xs) ≡ xs
-  copied_items xs = authored_items 0 xs
+  copied_items xs = written_by_items 0 xs
 
   pub items_append : (xs ys : List (Entry T)) → items_of (xs ++ ys) ≡ items_of xs ++ items_of ys
   items_append xs ys = map-append item_of xs ys
@@ -62,7 +62,7 @@ module _ {T : Type 0} where
   added_entries (Published x) = refl
   added_entries Released = refl
   added_entries (OfferOf a n) = refl
-  added_entries (Extended a xs) = sym (authored_length a xs)
+  added_entries (Extended a xs) = sym (written_by_length a xs)
   added_entries (Cloned xs) = sym (copied_length xs)
 
   -- the number of entries of a history is the sum of the numbers that its events added

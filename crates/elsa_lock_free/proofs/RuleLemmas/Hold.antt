@@ -34,6 +34,6 @@ pub later_slot : (n b j : ℕ) → IsAt n b j → b < 31 → (BeginsABuffer n �
 later_slot n b zero at low inside = absurd (inside (first_begins n b 0 at low refl))
 later_slot n b (suc j) at low inside = omega arith
 
--- and the place before is in the slot before
+-- and the index before is in the slot before
 pub before_slot : (n b j : ℕ) → IsAt n b j → 0 < j → IsAt (n - 1) b (j - 1)
 before_slot n b j at pos = let p = four_pos b in record { begins = let h = at.begins in omega (arith, h, pos, p); within = let w = at.within in omega (arith, w, pos) }

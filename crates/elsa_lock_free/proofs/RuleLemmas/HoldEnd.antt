@@ -6,11 +6,11 @@ use mathlib.Core.List.{IsPrefix}
 use Rattle.elsa_lock_free.specs.declared.event.Entry.{Entry}
 use Rattle.elsa_lock_free.specs.declared.event.Event.{Event}
 use Rattle.elsa_lock_free.specs.declared.event.Event.TheVariants.{Acquired, Published, Extended, Released, OfferOf}
-use Rattle.elsa_lock_free.specs.SharedList.{authored, bit, count}
+use Rattle.elsa_lock_free.specs.SharedList.{written_by, bit, count}
 use Rattle.elsa_lock_free.specs.History.{list_of, is_held, others}
 use Rattle.elsa_lock_free.specs.Rights.{OnlyPushed}
 use Rattle.elsa_lock_free.specs.OneWord.{word_of}
-use Rattle.elsa_lock_free.proofs.RuleLemmas.History.{authored_length, list_snoc, count_append, count_snoc, prefix_whole, count_prefix}
+use Rattle.elsa_lock_free.proofs.RuleLemmas.History.{written_by_length, list_snoc, count_append, count_snoc, prefix_whole, count_prefix}
 use Rattle.elsa_lock_free.proofs.RuleLemmas.Steps.{ended, word_snoc}
 
 module _ {T : Type 0} where
@@ -32,22 +32,22 @@ module _ {T : Type 0} where
   pub published_list : (v new : List (Event T)) (x : Entry T) → new ≡ v ++ Published x ∷ [] → list_of new ≡ list_of v ++ x ∷ []
   published_list v new x e = ap list_of e ∙ list_snoc v (Published x)
 
-  pub published_count : (a : ℕ) (es : List (Entry T)) (x : Entry T) → x.author ≡ a → count a (es ++ x ∷ []) ≡ suc (count a es)
-  published_count a es x e = let h = count_snoc a es x in let is : (x.author == a) ≡ true = grind (arith, nat_tests) in let b = ap bit is in omega (arith, h, b)
+  pub published_count : (a : ℕ) (es : List (Entry T)) (x : Entry T) → x.writer ≡ a → count a (es ++ x ∷ []) ≡ suc (count a es)
+  published_count a es x e = let h = count_snoc a es x in let is : (x.writer == a) ≡ true = grind (arith, nat_tests) in let b = ap bit is in omega (arith, h, b)
 
   pub extended_word : (v : List (Event T)) (n a : ℕ) (cs : List T) → n ≡ length (list_of v) → 2 * (n + length cs) ≡ word_of (v ++ Extended a cs ∷ [])
-  extended_word v n a cs e = let w = word_snoc T v (Extended a cs) refl in let l = authored_length a cs in omega (arith, w, e, l)
+  extended_word v n a cs e = let w = word_snoc T v (Extended a cs) refl in let l = written_by_length a cs in omega (arith, w, e, l)
 
-  pub extended_list : (v new : List (Event T)) (a : ℕ) (cs : List T) → new ≡ v ++ Extended a cs ∷ [] → list_of new ≡ list_of v ++ authored a cs
+  pub extended_list : (v new : List (Event T)) (a : ℕ) (cs : List T) → new ≡ v ++ Extended a cs ∷ [] → list_of new ≡ list_of v ++ written_by a cs
   extended_list v new a cs e = ap list_of e ∙ list_snoc v (Extended a cs)
 
-  -- the number of an author's entries in its own items is their number
-  all_its_own : (a : ℕ) (cs : List T) → count a (authored a cs) ≡ length cs
+  -- the number of a writer's entries in its own items is their number
+  all_its_own : (a : ℕ) (cs : List T) → count a (written_by a cs) ≡ length cs
   all_its_own a [] = refl
   all_its_own a (c ∷ cs) = let is : (a == a) ≡ true = grind (arith, nat_tests) in let b = ap bit is in let h = all_its_own a cs in omega (arith, b, h)
 
-  pub extended_count : (a : ℕ) (es : List (Entry T)) (cs : List T) → count a (es ++ authored a cs) ≡ count a es + length cs
-  extended_count a es cs = let h = count_append a es (authored a cs) in let k = all_its_own a cs in omega (arith, h, k)
+  pub extended_count : (a : ℕ) (es : List (Entry T)) (cs : List T) → count a (es ++ written_by a cs) ≡ count a es + length cs
+  extended_count a es cs = let h = count_append a es (written_by a cs) in let k = all_its_own a cs in omega (arith, h, k)
 
   pub exchange_was_at_known_history : (v log ans new : List (Event T)) (e : Event T) (found held a n : ℕ) (about : List (Event T)) → IsPrefix v log → word_of log ≡ found → held ≡ word_of v
       → MatchBool (found == held) (new ≡ log ++ e ∷ []) (new ≡ log) → about ≡ OfferOf a n ∷ v → ans ≡ log → length ans ≡ length (others about) → OnlyPushed about ans

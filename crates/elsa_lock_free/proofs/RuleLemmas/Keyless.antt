@@ -25,7 +25,7 @@ one_ticket_keyless pre (suc a) = λ k. (entry_keyless token a k tt, λ _. tt)
 
 tickets_keyless : {T : Type 0} (pre es : List (Entry T)) → Keyless (tickets pre es)
 tickets_keyless pre [] = tt
-tickets_keyless pre (e ∷ es) = (one_ticket_keyless pre e.author, tickets_keyless (pre ++ e ∷ []) es)
+tickets_keyless pre (e ∷ es) = (one_ticket_keyless pre e.writer, tickets_keyless (pre ++ e ∷ []) es)
 
 module _ (T B : RattleType) (slot_names : B.Denot → List ℕ) (fits : B.Denot → T.Denot → Type 0) where
   tail_rights_keyless : (buffer_slots : List ℕ) (r : Tail B.Denot) → Keyless (tail_rights T B slot_names fits buffer_slots r)

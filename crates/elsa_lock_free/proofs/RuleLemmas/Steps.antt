@@ -11,7 +11,7 @@ use Rattle.elsa_lock_free.specs.declared.event.Entry.{Entry}
 use Rattle.elsa_lock_free.specs.AtomicSteps.{bit, Acquires as IsAcquire, Extends as IsExtension, Opens as IsOpening, Publishes as IsPublish, Releases as IsRelease}
 use Rattle.elsa_lock_free.specs.Distinct.{EachIsNew}
 use Rattle.elsa_lock_free.specs.History.{list_of, entries, begins_hold, is_held, shared_by}
-use Rattle.elsa_lock_free.specs.SharedList.{authored, copied}
+use Rattle.elsa_lock_free.specs.SharedList.{written_by, copied}
 use Rattle.elsa_lock_free.specs.Rights.{IsStep}
 use Rattle.elsa_lock_free.specs.OneWord.{IsKept, Acquires, EndsHold, word_of}
 use Rattle.elsa_lock_free.proofs.RuleLemmas.History.{held_snoc, list_prefix, list_snoc, prefix_whole}
@@ -61,9 +61,9 @@ module _ (T : Type 0) where
   release_holds xs ys is held = let l : list_of ys ≡ list_of xs = ap list_of is ∙ (list_snoc xs Released ∙ append-nil (list_of xs)) in
       record { was_held = held; length_is = ap length l; held_is = ap is_held is ∙ held_snoc true xs Released; list_is = l }
 
-  extension_holds : (xs ys : Log) (a : ℕ) (cs : List T) → ys ≡ xs ++ Extended a cs ∷ [] → is_held xs ≡ true → IsExtension (authored a cs) (shared_by xs) (shared_by ys)
-  extension_holds xs ys a cs is held = let l : list_of ys ≡ list_of xs ++ authored a cs = ap list_of is ∙ list_snoc xs (Extended a cs) in
-      record { was_held = held; length_is = ap length l ∙ length-append (list_of xs) (authored a cs); held_is = ap is_held is ∙ held_snoc true xs (Extended a cs); list_is = l }
+  extension_holds : (xs ys : Log) (a : ℕ) (cs : List T) → ys ≡ xs ++ Extended a cs ∷ [] → is_held xs ≡ true → IsExtension (written_by a cs) (shared_by xs) (shared_by ys)
+  extension_holds xs ys a cs is held = let l : list_of ys ≡ list_of xs ++ written_by a cs = ap list_of is ∙ list_snoc xs (Extended a cs) in
+      record { was_held = held; length_is = ap length l ∙ length-append (list_of xs) (written_by a cs); held_is = ap is_held is ∙ held_snoc true xs (Extended a cs); list_is = l }
 
   opening_holds : (xs ys : Log) (cs : List T) → ys ≡ xs ++ Cloned cs ∷ [] → is_held xs ≡ true → list_of xs ≡ [] → IsOpening (copied cs) (shared_by xs) (shared_by ys)
   opening_holds xs ys cs is held none = let l : list_of ys ≡ copied cs = ap list_of is ∙ (list_snoc xs (Cloned cs) ∙ ap (λ (z : List (Entry T)). z ++ copied cs) none) in

@@ -13,7 +13,7 @@ use Rattle.elsa_slots.specs.Slot.{written, write_rights}
 use Rattle.elsa_slots.specs.Geometry.{IsAt}
 use Rattle.elsa_slots.proofs.GeometryLemmas.OneToOne.{one_slot}
 use Rattle.elsa_slots.proofs.GeometryLemmas.Powers.{four_suc, four_pos}
-use Rattle.elsa_lock_free.specs.Rights.{fact, Location, Tail, at_new_buffer, in_buffer, place_written_at, place_written, IsTailAt, tail_rights, tail_owns, rights_from}
+use Rattle.elsa_lock_free.specs.Rights.{fact, Location, Tail, at_new_buffer, in_buffer, index_written_at, index_written, IsTailAt, tail_rights, tail_owns, rights_from}
 
 starts : (n b : ℕ) → n + 1 ≡ 4 ^ b → IsAt n b 0
 starts n b e = let p = four_pos b in record { begins = omega arith; within = omega arith }
@@ -80,11 +80,11 @@ module _ {M : Type 1} {𝓤 : Ura M} (𝓛 : Logic 𝓤) (T B : RattleType) (slo
     further (no full) = let h = at.begins in let w = at.within in let q = four_suc b in
         qed 𝓛 (‵ Left ∷ []) ∵ fsplit3 ! $ keep ! (2 ∷ []) $ by ! (rights_of_closed (suc n) (suc b) (let z : suc n + 1 ≡ 4 ^ suc b = omega arith in z))
 
-    -- what a holder has once it has written place n
+    -- what a holder has once it has written index n
     abbrev pub Had : Fml
     Had = fsep Left (written T (slice_index_or (slot_names opened) j 0) x)
 
-    pub rights_after_write : ⟦ Had ⟧ ⊢ ⟦ fsep (Rights (suc n)) (place_written T B slot_names fits buffer_slots n x) ⟧
-    rights_after_write = let Φ : Type 0 = IsAt n b j × (length (slot_names opened) ≡ 3 * 4 ^ b) × fits opened x in let w : Location B.Denot = record { buffer = b; slot = j; opened = opened } in let F : Location B.Denot → Fml = place_written_at T B slot_names fits buffer_slots n x in
+    pub rights_after_write : ⟦ Had ⟧ ⊢ ⟦ fsep (Rights (suc n)) (index_written T B slot_names fits buffer_slots n x) ⟧
+    rights_after_write = let Φ : Type 0 = IsAt n b j × (length (slot_names opened) ≡ 3 * 4 ^ b) × fits opened x in let w : Location B.Denot = record { buffer = b; slot = j; opened = opened } in let F : Location B.Denot → Fml = index_written_at T B slot_names fits buffer_slots n x in
         qed 𝓛 (‵ Had ∷ []) ∵ fsplit ! $ fsplit3 ! $ res_dup ! $ move ! (0 ∷ 2 ∷ 3 ∷ []) $ fjoin3 ! $ use1 𝓛 (‵ (Rights (suc n))) (further (dec_lt (suc j) (3 * 4 ^ b))) $ move ! (1 ∷ 2 ∷ []) $ fjoin ! $
         nothing ! $ fpack ! Φ (λ _. ftrue) (at, len, fit) $ fjoin ! $ fpack ! (Location B.Denot) F w $ move ! (1 ∷ 0 ∷ []) $ fjoin ! $ done !

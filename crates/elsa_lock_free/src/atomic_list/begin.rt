@@ -12,7 +12,7 @@ use super::{AtomicList, SeenHistory};
 use crate::event::Event;
 use crate::item_rule::{AnyItems, ItemRule};
 use crate::rule::{EndHold, Log, OneWord, ReleaseGain};
-use crate::tokens::{Author, Held, offer_clone_closed, offer_clone_open, start, take_released};
+use crate::tokens::{Held, Writer, offer_clone_closed, offer_clone_open, start, take_released};
 use crossbeam_utils::CachePadded;
 use elsa_slots::slots::{Ahead, Beside, Buffer, Copied, Slots, WriteRights, WrittenPrefix};
 use logbook::{Offer, Seen, Word};
@@ -91,15 +91,15 @@ impl<T: Drop, A: Allocator + Copy, K: ItemRule<T>, X: Beside<T> + Drop> AtomicLi
             further,
         } = ahead;
         let seen = self.first.again();
-        let author = Author::new();
+        let writer = Writer::new();
         match opened {
             Some(opened) => {
-                let offer = offer_clone_open(&seen, held, prefix, opened, slots, further, author);
+                let offer = offer_clone_open(&seen, held, prefix, opened, slots, further, writer);
                 self.publish_by(seen, offer, n)
             }
             None => {
                 slots.discard();
-                let offer = offer_clone_closed(&seen, held, prefix, further, author);
+                let offer = offer_clone_closed(&seen, held, prefix, further, writer);
                 self.publish_by(seen, offer, n)
             }
         }
@@ -140,7 +140,7 @@ impl<T: Drop, A: Allocator + Copy, K: ItemRule<T>, X: Beside<T> + Drop> AtomicLi
 }
 
 impl<T: Copy + Drop, A: Allocator + Copy, K: ItemRule<T>> AtomicList<T, A, K> {
-    /// A vector of its own with the first `n` items of what was seen, which have no author, and its
+    /// A vector of its own with the first `n` items of what was seen, which have no writer, and its
     /// history: that they were published, and nothing else.
     pub fn copy(
         &self,

@@ -2,10 +2,10 @@
 //! at once.
 ghost use Rattle.std.specs.Prelude.{◌≡◌, true, false, ◌+◌, ◌^◌, ◌<◌, ◌≤◌, ◌∷◌, ◌++◌, [], length, List, None, suc, take};
 ghost use Rattle.elsa_slots.specs.Ahead.{GoesOn};
-ghost use Rattle.elsa_lock_free.specs.SharedList.{AppendsAll, BeginsAmong, authored, count};
+ghost use Rattle.elsa_lock_free.specs.SharedList.{AppendsAll, BeginsAmong, written_by, count};
 ghost use Rattle.elsa_lock_free.specs.declared.event.Entry.{Entry};
 ghost use Rattle.elsa_lock_free.specs.declared.event.Event.TheVariants.{Acquired, Extended, OfferOf};
-ghost use Rattle.elsa_lock_free.specs.History.{added, author_of, entries, is_held, list_of, used_of};
+ghost use Rattle.elsa_lock_free.specs.History.{added, writer_of, entries, is_held, list_of, used_of};
 ghost use Rattle.elsa_lock_free.specs.Rights.{head, buffer_slots_of};
 ghost use Rattle.elsa_lock_free.specs.SeenHistory.{IsAtAcquire, IsOf};
 
@@ -16,7 +16,7 @@ use crate::item_rule::ItemRule;
 use crate::pass::PushRight;
 use crate::rule::{AcquireGain, EndHold, ExtendGain, Log, OneWord};
 use crate::tokens::{
-    Author, Held, evidence, offer_extend_closed, offer_extend_open, take_acquired_closed,
+    Held, Writer, evidence, offer_extend_closed, offer_extend_open, take_acquired_closed,
     take_acquired_open, take_extended,
 };
 use elsa_slots::geometry::locate;
@@ -25,9 +25,9 @@ use logbook::{Gained, Offer};
 use std::alloc::Allocator;
 use std::sync::Wait;
 
-/// What many pushes leave: what is known of the history, its author, the place of the first item,
+/// What many pushes leave: what is known of the history, its writer, the index of the first item,
 /// and how many were pushed.
-pub type Extension<T, A, K> = (SeenHistory<T, A, K, ()>, Author, usize, usize);
+pub type Extension<T, A, K> = (SeenHistory<T, A, K, ()>, Writer, usize, usize);
 
 /// What an acquire at the length `n` gained: the hold, and what it takes to append there.
 fn take_acquired<T, A: Allocator>(
@@ -68,28 +68,28 @@ impl<T: Copy + Drop, A: Allocator + Copy, K: ItemRule<T>> AtomicList<T, A, K> {
         offer: Offer<Event<T>, Log<T>, OneWord<Buffer<T, A>, K>, ExtendGain<Buffer<T, A>>>,
         n: usize,
         pushed: usize,
-    ) -> (SeenHistory<T, A, K, ()>, Author)
+    ) -> (SeenHistory<T, A, K, ()>, Writer)
         // The holder's history, and its length.
         requires same_vector { IsOf seen self.now.first × (is_held seen.log ≡ true) }
         requires length { (n ≡ length (list_of seen.log)) × (n + pushed < 2 ^ 62) }
 
         // The offer of these items, by the writer, who has no fewer tickets than entries.
-        requires writer { _right.now ≡ suc (author_of offer.about) }
+        requires writer { _right.now ≡ suc (writer_of offer.about) }
         requires offer { (offer.names ≡ seen.names) × (offer.state ≡ None) }
         requires about { offer.about
-            ≡ OfferOf (author_of offer.about) (used_of offer.about) ∷ offer.ask ∷ seen.log }
-        requires request { (xs : List T) × (offer.ask ≡ Extended (suc (author_of offer.about)) xs)
+            ≡ OfferOf (writer_of offer.about) (used_of offer.about) ∷ offer.ask ∷ seen.log }
+        requires request { (xs : List T) × (offer.ask ≡ Extended (suc (writer_of offer.about)) xs)
             × (pushed ≡ length xs) }
         requires mine { used_of offer.about
-            ≤ count (suc (author_of offer.about)) (list_of seen.log) }
+            ≤ count (suc (writer_of offer.about)) (list_of seen.log) }
         requires obeys_rule { (es : List (Entry T)) (e : Entry T) → K.is_new es e }
 
-        // The word is free, the list has these entries more, and the author as many tickets fewer.
+        // The word is free, the list has these entries more, and the writer as many tickets fewer.
         ensures free { is_held result.0.log ≡ false }
-        ensures same { IsOf result.0 seen × (result.1.name ≡ author_of offer.about)
+        ensures same { IsOf result.0 seen × (result.1.name ≡ writer_of offer.about)
             × (result.1.used ≡ used_of offer.about + pushed) }
         ensures seen { list_of result.0.log ≡ list_of seen.log ++ entries offer.ask }
-        ensures mine { count (suc (author_of offer.about)) (list_of seen.log)
+        ensures mine { count (suc (writer_of offer.about)) (list_of seen.log)
             ≡ used_of offer.about }
     {
         let mut seen = seen;
@@ -114,26 +114,26 @@ impl<T: Copy + Drop, A: Allocator + Copy, K: ItemRule<T>> AtomicList<T, A, K> {
         by: &PushRight,
         seen: SeenHistory<T, A, K, ()>,
         right: Gained<Event<T>, Log<T>, AcquireGain<Buffer<T, A>>>,
-        author: Author,
+        writer: Writer,
         n: usize,
         items: &[T],
-    ) -> (SeenHistory<T, A, K, ()>, Author, usize)
+    ) -> (SeenHistory<T, A, K, ()>, Writer, usize)
         requires same_vector { IsOf seen self.now.first }
-        requires writer { by.now ≡ suc author.name }
+        requires writer { by.now ≡ suc writer.name }
         requires right { IsAtAcquire right seen }
         requires length { (n ≡ length (list_of right.answer)) × (n < 2 ^ 62) }
-        requires mine { author.used ≤ count (suc author.name) (list_of seen.log) }
+        requires mine { writer.used ≤ count (suc writer.name) (list_of seen.log) }
         requires obeys_rule { (es : List (Entry T)) (e : Entry T) → K.is_new es e }
 
-        // The word is free, and the author's entries are its own.
+        // The word is free, and the writer's entries are its own.
         ensures free { is_held result.0.log ≡ false }
-        ensures same { IsOf result.0 seen × (result.1.name ≡ author.name) }
-        ensures mine { (count (suc author.name) (list_of seen.log) ≡ author.used)
-            × (result.1.used ≡ author.used + result.2) }
+        ensures same { IsOf result.0 seen × (result.1.name ≡ writer.name) }
+        ensures mine { (count (suc writer.name) (list_of seen.log) ≡ writer.used)
+            × (result.1.used ≡ writer.used + result.2) }
 
         // The items that were pushed are at the end: all, or none.
         ensures pushed { list_of result.0.log
-            ≡ list_of seen.log ++ authored (suc author.name) (take result.2 items.now) }
+            ≡ list_of seen.log ++ written_by (suc writer.name) (take result.2 items.now) }
         ensures count { (result.2 ≤ length items.now) × (n + result.2 < 2 ^ 62) }
         ensures refused { result.2 < length items.now → (result.2 ≡ 0)
             × BeginsAmong n (length items.now) }
@@ -148,46 +148,46 @@ impl<T: Copy + Drop, A: Allocator + Copy, K: ItemRule<T>> AtomicList<T, A, K> {
         } = ahead;
         match opened {
             Some(opened) => {
-                let offer = offer_extend_open(&seen, held, prefix, opened, slots, further, author);
-                let (seen, author) = self.publish_all(by, seen, offer, n, pushed);
-                (seen, author, pushed)
+                let offer = offer_extend_open(&seen, held, prefix, opened, slots, further, writer);
+                let (seen, writer) = self.publish_all(by, seen, offer, n, pushed);
+                (seen, writer, pushed)
             }
             None => {
                 slots.discard();
-                let offer = offer_extend_closed(&seen, held, prefix, further, author);
-                let (seen, author) = self.publish_all(by, seen, offer, n, pushed);
-                (seen, author, pushed)
+                let offer = offer_extend_closed(&seen, held, prefix, further, writer);
+                let (seen, writer) = self.publish_all(by, seen, offer, n, pushed);
+                (seen, writer, pushed)
             }
         }
     }
 
     /// Pushes items side by side under one hold, tried first at the length `guess`, and publishes
-    /// them at once. Returns the place of the first, and how many were pushed: all, or none if an
+    /// them at once. Returns the index of the first, and how many were pushed: all, or none if an
     /// allocation failed.
     pub fn extend<R: Wait>(
         &self,
         rt: &R,
         by: &PushRight,
         seen: SeenHistory<T, A, K, ()>,
-        author: Author,
+        writer: Writer,
         guess: usize,
         items: &[T],
     ) -> Extension<T, A, K>
         requires same_vector { IsOf seen self.now.first }
-        requires writer { by.now ≡ suc author.name }
-        requires mine { count (suc author.name) (list_of seen.log) ≡ author.used }
+        requires writer { by.now ≡ suc writer.name }
+        requires mine { count (suc writer.name) (list_of seen.log) ≡ writer.used }
         requires guess { guess < 2 ^ 62 }
         requires obeys_rule { (es : List (Entry T)) (e : Entry T) → K.is_new es e }
 
-        // The word is free, and the author's entries are its own.
+        // The word is free, and the writer's entries are its own.
         ensures free { is_held result.0.log ≡ false }
-        ensures same { IsOf result.0 seen × (result.1.name ≡ author.name) }
-        ensures mine { (count (suc author.name) (list_of result.0.log) ≡ result.1.used)
-            × (result.1.used ≡ author.used + result.3) }
+        ensures same { IsOf result.0 seen × (result.1.name ≡ writer.name) }
+        ensures mine { (count (suc writer.name) (list_of result.0.log) ≡ result.1.used)
+            × (result.1.used ≡ writer.used + result.3) }
 
         // The items that were pushed are at the end: all, or none.
         ensures pushed { AppendsAll (list_of seen.log) (list_of result.0.log) result.2
-            (authored (suc author.name) (take result.3 items.now)) }
+            (written_by (suc writer.name) (take result.3 items.now)) }
         ensures count { (result.3 ≤ length items.now) × (result.2 + result.3 < 2 ^ 62) }
         ensures length { length (list_of result.0.log) ≡ result.2 + result.3 }
         ensures refused { result.3 < length items.now → (result.3 ≡ 0)
@@ -195,7 +195,7 @@ impl<T: Copy + Drop, A: Allocator + Copy, K: ItemRule<T>> AtomicList<T, A, K> {
     {
         let mut seen = seen;
         let (n, right) = self.acquire(rt, &mut seen, guess);
-        let (seen, author, pushed) = self.append_all(by, seen, right, author, n, items);
-        (seen, author, n, pushed)
+        let (seen, writer, pushed) = self.append_all(by, seen, right, writer, n, items);
+        (seen, writer, n, pushed)
     }
 }

@@ -17,7 +17,7 @@ use crate::may_lock::LockPermit;
 use crate::pass::PushRight;
 use crate::rule::{Acquire, AcquireGain, EndHold, Log, PublishGain, ReleaseGain};
 use crate::tokens::{
-    Author, Held, offer_acquire, offer_publish, offer_release, take_published, take_released,
+    Held, Writer, offer_acquire, offer_publish, offer_release, take_published, take_released,
 };
 use elsa_slots::slots::{Beside, Buffer, WriteRights, Written};
 use logbook::Gained;
@@ -36,7 +36,7 @@ const TRIES: u32 = 64;
 pub(crate) struct Ready<T, A: Allocator, K: ItemRule<T>, X: Beside<T>> {
     pub seen: SeenHistory<T, A, K, X>,
     pub held: Held,
-    pub author: Author,
+    pub writer: Writer,
     pub at: usize,
     pub opened: Written<Buffer<T, A, X>>,
     pub slots: WriteRights,
@@ -199,27 +199,27 @@ impl<T: Drop, A: Allocator + Copy, K: ItemRule<T>, X: Beside<T> + Drop> AtomicLi
         &self,
         seen: SeenHistory<T, A, K, X>,
         right: Gained<Event<T>, Log<T>, AcquireGain<Buffer<T, A, X>>>,
-        author: Author,
+        writer: Writer,
         n: usize,
-    ) -> (SeenHistory<T, A, K, X>, Author)
+    ) -> (SeenHistory<T, A, K, X>, Writer)
 
         // What the acquire gained, and the length.
         requires same_vector { IsOf seen self.now.first }
         requires right { IsAtAcquire right seen }
         requires length { (n ≡ length (list_of right.answer)) × (n < 2 ^ 62) }
-        requires mine { author.used ≤ count (suc author.name) (list_of seen.log) }
+        requires mine { writer.used ≤ count (suc writer.name) (list_of seen.log) }
 
-        // The word is free, the list is as before, and the author has pushed as much as its tickets
+        // The word is free, the list is as before, and the writer has pushed as much as its tickets
         // say.
         ensures free { is_held result.0.log ≡ false }
-        ensures same { IsOf result.0 seen × (result.1.name ≡ author.name)
-            × (result.1.used ≡ author.used) }
+        ensures same { IsOf result.0 seen × (result.1.name ≡ writer.name)
+            × (result.1.used ≡ writer.used) }
         ensures seen { list_of result.0.log ≡ list_of seen.log }
-        ensures mine { count (suc author.name) (list_of seen.log) ≡ author.used }
+        ensures mine { count (suc writer.name) (list_of seen.log) ≡ writer.used }
     {
         // From `2 n + 1` to `2 n`. Only the holder changes an odd word, so the exchange succeeds.
         let mut seen = seen;
-        let mut offer = offer_release(&seen, right, author);
+        let mut offer = offer_release(&seen, right, writer);
         let mut pen = seen.no_pen();
         let word = 2 * n as u64;
         self.word
@@ -239,33 +239,33 @@ impl<T: Drop, A: Allocator + Copy, K: ItemRule<T>, X: Beside<T> + Drop> AtomicLi
         _right: &PushRight,
         ready: Ready<T, A, K, X>,
         item: T,
-    ) -> (SeenHistory<T, A, K, X>, Author)
+    ) -> (SeenHistory<T, A, K, X>, Writer)
 
         // The holder, its writer, and the rights to the slot and to all behind it.
-        requires writer { _right.now ≡ suc ready.author.name }
+        requires writer { _right.now ≡ suc ready.writer.name }
         requires same_vector { IsOf ready.seen self.now.first }
         requires held { IsHolder ready.held ready.seen }
         requires ahead { IsOpenAt (buffer_slots_of ready.seen.names) ready.at ready.buffer ready.slot
             ready.opened.of ready.opened.value.0 ready.slots.of ready.further.of × (ready.buffer < 31) }
         requires fits { X.fits ready.opened.value.1 item }
 
-        // The place is the length.
+        // The index is the length.
         requires length { (ready.at ≡ length (list_of ready.seen.log)) × (ready.at + 1 < 2 ^ 62) }
-        requires mine { ready.author.used ≤ count (suc ready.author.name) (list_of ready.seen.log) }
-        requires obeys_rule { K.is_new (list_of ready.seen.log) (entry (suc ready.author.name) item) }
+        requires mine { ready.writer.used ≤ count (suc ready.writer.name) (list_of ready.seen.log) }
+        requires obeys_rule { K.is_new (list_of ready.seen.log) (entry (suc ready.writer.name) item) }
 
-        // The word is free, the list has one entry more, and the author one ticket fewer.
+        // The word is free, the list has one entry more, and the writer one ticket fewer.
         ensures free { is_held result.0.log ≡ false }
-        ensures same { IsOf result.0 ready.seen × (result.1.name ≡ ready.author.name)
-            × (result.1.used ≡ suc ready.author.used) }
+        ensures same { IsOf result.0 ready.seen × (result.1.name ≡ ready.writer.name)
+            × (result.1.used ≡ suc ready.writer.used) }
         ensures seen { list_of result.0.log
-            ≡ list_of ready.seen.log ++ entry (suc ready.author.name) item ∷ [] }
-        ensures mine { count (suc ready.author.name) (list_of ready.seen.log) ≡ ready.author.used }
+            ≡ list_of ready.seen.log ++ entry (suc ready.writer.name) item ∷ [] }
+        ensures mine { count (suc ready.writer.name) (list_of ready.seen.log) ≡ ready.writer.used }
     {
         let Ready {
             seen,
             held,
-            author,
+            writer,
             at: n,
             opened,
             slots,
@@ -281,7 +281,7 @@ impl<T: Drop, A: Allocator + Copy, K: ItemRule<T>, X: Beside<T> + Drop> AtomicLi
         // From `2 n + 1` to `2 (n + 1)`: one exchange shows the item and releases the word. Only
         // the holder changes an odd word, so it succeeds.
         let mut offer = offer_publish(
-            &seen, held, opened, slots, further, author, written, buffer, slot,
+            &seen, held, opened, slots, further, writer, written, buffer, slot,
         );
         let mut pen = seen.no_pen();
         let word = 2 * n as u64;

@@ -114,10 +114,10 @@ impl<T: Copy + Drop, A: Allocator + Copy, K: ItemRule<T>> LockFreeFrozenVec<T, A
     ) -> Result<Option<usize>, AllocError>
         requires same_vector { pass.old.vector ≡ self.now }
         requires index { n ≤ length pass.old.seen }
-        requires obeys_rule { K.is_new (take n pass.old.seen) (entry pass.old.author item) }
+        requires obeys_rule { K.is_new (take n pass.old.seen) (entry pass.old.writer item) }
 
         // The pass is the same, later: its item is at the end of what it had seen, or it has pushed
-        // nothing, where the list was longer, or a buffer begins at this place.
+        // nothing, where the list was longer, or a buffer begins at this index.
         ensures later { IsLaterPass pass.old pass.new }
         ensures pushed { IfOk result (λ a. IfSome a (λ i.
             (i ≡ n) × (length pass.old.seen ≡ n) × PushesNext pass.old pass.new item)) }
@@ -134,14 +134,14 @@ impl<T: Copy + Drop, A: Allocator + Copy, K: ItemRule<T>> LockFreeFrozenVec<T, A
 
     /// Returns the item at an index by a view, as [`Handle::get`](super::Handle::get) does: `None`
     /// if the index is not below the length that the view has then observed.
-    pub fn get_as(&self, pass: &mut Pass<T, A, K>, place: usize) -> Option<T>
+    pub fn get_as(&self, pass: &mut Pass<T, A, K>, index: usize) -> Option<T>
         requires same_vector { pass.old.vector ≡ self.now }
         ensures continues { Continues pass.old pass.new }
-        ensures item { result ≡ slice_get (items_of pass.new.seen) place }
-        ensures limit { IfSome result (λ _. place + 1 < 2 ^ 62) }
+        ensures item { result ≡ slice_get (items_of pass.new.seen) index }
+        ensures limit { IfSome result (λ _. index + 1 < 2 ^ 62) }
     {
         let mut handle = by_pass(self, pass);
-        let answer = handle.get(place);
+        let answer = handle.get(index);
         *pass = handle.into_pass();
         answer
     }
@@ -170,10 +170,10 @@ impl<T: Copy + Drop, A: Allocator + Copy, K: ItemRule<T>> LockFreeFrozenVec<T, A
     /// Returns the item at an index, or `None`. It is `None` for an index at or above the greatest
     /// length, `2^62 - 1`. It makes a handle and drops it, so it promises no more;
     /// [`Handle::get`](super::Handle::get) does.
-    pub fn get(&self, place: usize) -> Option<T>
-        ensures limit { IfSome result (λ _. place + 1 < 2 ^ 62) }
+    pub fn get(&self, index: usize) -> Option<T>
+        ensures limit { IfSome result (λ _. index + 1 < 2 ^ 62) }
     {
-        self.handle().get(place)
+        self.handle().get(index)
     }
 
     /// Makes an independent vector of the items. It makes a handle and drops it, so it promises

@@ -59,7 +59,7 @@ impl<V, A: Allocator + Copy> FrozenVec<V, A> {
     {
         Iter {
             list: self,
-            place: 0,
+            index: 0,
         }
     }
 
@@ -110,12 +110,12 @@ impl<V: Drop, A: Allocator + Copy> FrozenVec<V, A> {
     /// # Blocks
     /// While another thread has the lock.
     pub fn push_get_index(&self, rt: &impl Wait, value: V) -> Result<usize, AllocError>
-        ensures limit { IfOk result (λ place. place + 1 < 2 ^ 63) }
+        ensures limit { IfOk result (λ index. index + 1 < 2 ^ 63) }
     {
         self.lock.write(rt).push_get_index(value)
     }
 
-    /// Returns an `Arc` of the item at the index `place`, or `None` if the index is at or above the
+    /// Returns an `Arc` of the item at `index`, or `None` if the index is at or above the
     /// length. It is `None` for an index of `2^63 - 1` or more.
     ///
     /// # Errors
@@ -123,10 +123,10 @@ impl<V: Drop, A: Allocator + Copy> FrozenVec<V, A> {
     ///
     /// # Blocks
     /// While a thread writes or waits to write.
-    pub fn get(&self, rt: &impl Wait, place: usize) -> Result<Option<Arc<V, A>>, AllocError>
-        ensures limit { IfOk result (λ a. IfSome a (λ _. place + 1 < 2 ^ 63)) }
+    pub fn get(&self, rt: &impl Wait, index: usize) -> Result<Option<Arc<V, A>>, AllocError>
+        ensures limit { IfOk result (λ a. IfSome a (λ _. index + 1 < 2 ^ 63)) }
     {
-        self.lock.read(rt).get(place)
+        self.lock.read(rt).get(index)
     }
 
     /// Makes a vector of the same items, which are shared. Later pushes into one of the two don't
@@ -176,7 +176,7 @@ impl<V: Drop, A: Allocator + Copy> FrozenVec<V, A> {
 #[derive(Drop)]
 pub struct Iter<'a, V, A: Allocator = Global> {
     list: &'a FrozenVec<V, A>,
-    place: usize,
+    index: usize,
 }
 
 impl<'a, V, A: Allocator> Model for Iter<'a, V, A> {
@@ -184,7 +184,7 @@ impl<'a, V, A: Allocator> Model for Iter<'a, V, A> {
 
     ghost Value = { ℕ };
 
-    ghost view = { λ i. i.place };
+    ghost view = { λ i. i.index };
 }
 
 impl<'a, V: Drop, A: Allocator + Copy> Iter<'a, V, A> {
@@ -202,12 +202,12 @@ impl<'a, V: Drop, A: Allocator + Copy> Iter<'a, V, A> {
         ensures at_end { IfOk result (λ a. IfNone a (self.new ≡ self.old)) }
         ensures refused { OnErr result (self.new ≡ self.old) }
     {
-        let Some(next) = self.place.checked_add(1) else {
+        let Some(next) = self.index.checked_add(1) else {
             return Ok(None);
         };
-        let found = self.list.get(rt, self.place)?;
+        let found = self.list.get(rt, self.index)?;
         if found.is_some() {
-            self.place = next;
+            self.index = next;
         }
         Ok(found)
     }

@@ -63,18 +63,18 @@ impl<V, A: Allocator + Copy> VecState<V, A> {
         self.list.is_empty()
     }
 
-    /// Returns a copy of the item at the index `place`, or `None` if the index is at or above the
+    /// Returns a copy of the item at `index`, or `None` if the index is at or above the
     /// length. It allocates nothing.
     ///
     /// # Cost
     /// `O(1)`.
     #[tactic(auto, using(crate::proofs::Shared::shows))]
-    pub fn get_copy(&self, place: usize) -> Option<V>
+    pub fn get_copy(&self, index: usize) -> Option<V>
     where
         V: Copy,
-        ensures { result ≡ slice_get self.now place }
+        ensures { result ≡ slice_get self.now index }
     {
-        self.list.get(place).map(|value| **value)
+        self.list.get(index).map(|value| **value)
     }
 
     /// Returns whether both vectors have the same length and, at each index, items that are equal
@@ -108,7 +108,7 @@ impl<V, A: Allocator + Copy> VecState<V, A> {
 }
 
 impl<V: Drop, A: Allocator + Copy> VecState<V, A> {
-    /// Returns an `Arc` of the item at the index `place`, or `None` if the index is at or above the
+    /// Returns an `Arc` of the item at `index`, or `None` if the index is at or above the
     /// length.
     ///
     /// # Errors
@@ -117,12 +117,12 @@ impl<V: Drop, A: Allocator + Copy> VecState<V, A> {
     /// # Cost
     /// `O(1)`.
     #[tactic(auto, using(crate::proofs::Shared::shows))]
-    pub fn get(&self, place: usize) -> Result<Option<Arc<V, A>>, AllocError>
-        ensures answer { IfOk result (λ a. option_map arc_value a ≡ slice_get self.now place) }
-        ensures limit { IfOk result (λ a. IfSome a (λ _. place + 1 < 2 ^ 63)) }
-        ensures only_present { OnErr result (place < length self.now) }
+    pub fn get(&self, index: usize) -> Result<Option<Arc<V, A>>, AllocError>
+        ensures answer { IfOk result (λ a. option_map arc_value a ≡ slice_get self.now index) }
+        ensures limit { IfOk result (λ a. IfSome a (λ _. index + 1 < 2 ^ 63)) }
+        ensures only_present { OnErr result (index < length self.now) }
     {
-        self.list.get(place).cloned()
+        self.list.get(index).cloned()
     }
 
     /// Appends the item.
@@ -159,15 +159,15 @@ impl<V: Drop, A: Allocator + Copy> VecState<V, A> {
     /// Fails if an allocation fails. The vector is then unchanged, and the item is dropped.
     #[tactic(auto, using(crate::proofs::Shared::shows))]
     pub fn push_get_index(&mut self, value: V) -> Result<usize, AllocError>
-        ensures answer { IfOk result (λ place. place ≡ length self.old) }
-        ensures limit { IfOk result (λ place. place + 1 < 2 ^ 63) }
+        ensures answer { IfOk result (λ index. index ≡ length self.old) }
+        ensures limit { IfOk result (λ index. index + 1 < 2 ^ 63) }
         ensures appended { OnOk result (self.new ≡ self.old ++ value ∷ []) }
         ensures refused { OnErr result (self.new ≡ self.old) }
     {
-        let place = self.len();
+        let index = self.len();
         let owner = Arc::new(self.alloc, value)?;
         self.list.push(owner)?;
-        Ok(place)
+        Ok(index)
     }
 
     /// Makes a vector of the same items, which are shared. Later pushes into one of the two don't

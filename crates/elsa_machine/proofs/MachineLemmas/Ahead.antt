@@ -12,10 +12,10 @@ use Rattle.elsa_machine.specs.declared.machine.turns.Phase.TheVariants.{Ready, P
 use Rattle.elsa_machine.specs.declared.machine.turns.Thread.{Thread}
 use Rattle.elsa_slots.specs.Geometry.{slots_before}
 use Rattle.elsa_machine.specs.Machine.{world_of, machine_of}
-use Rattle.elsa_machine.specs.Worlds.{authored, list_of, placed, AreAhead, AreWritten, HasFewSlots, HasWritesInOrder, is_extender, is_extending, items_placed}
+use Rattle.elsa_machine.specs.Worlds.{written_by, list_of, placed, AreAhead, AreWritten, HasFewSlots, HasWritesInOrder, is_extender, is_extending, items_placed}
 use Rattle.elsa_machine.specs.Turns.{IsHolding}
 use Rattle.elsa_slots.proofs.GeometryLemmas.Powers.{before_power}
-use Rattle.elsa_machine.proofs.MachineLemmas.Kept.{authored_length, take_length, writes_length, HolderOk, next_items, one_of, WorldOk}
+use Rattle.elsa_machine.proofs.MachineLemmas.Kept.{written_by_length, take_length, writes_length, HolderOk, next_items, one_of, WorldOk}
 use Rattle.elsa_machine.proofs.MachineLemmas.Pushers.{IsPushing}
 use Rattle.elsa_machine.proofs.MachineLemmas.Extenders.{IsExtending}
 use Rattle.elsa_machine.proofs.MachineLemmas.Threads.{ThreadOk}
@@ -34,22 +34,22 @@ pusher_ahead : {A : Type 0} (items : List ℕ) (me : ℕ) (w : World A) (item : 
 pusher_ahead items me w item call Ready h q k = absurd k
 pusher_ahead items me w item call (Peeked n) h q k = absurd k
 pusher_ahead items me w item call (Acquired n) h q k = ([], none_ahead w h.1, omega arith)
-pusher_ahead items me w item call (Written n) h q k = (authored me call, h.1, (let l = authored_length me call in omega (arith, l, h.5)))
+pusher_ahead items me w item call (Written n) h q k = (written_by me call, h.1, (let l = written_by_length me call in omega (arith, l, h.5)))
 pusher_ahead items me w item call (Filling n m) h q k = absurd q
 pusher_ahead items me w item call Denied h q k = ([], none_ahead w h.1, omega arith)
 pusher_ahead items me w item call (Looked n) h q k = absurd k
 pusher_ahead items me w item call Done h q k = absurd k
 
 -- The first entries of an extender.
-first_items : (me : ℕ) (items : List ℕ) (k : ℕ) → k ≤ length items → authored me (take k items) ≡ authored me (take (length (authored me (take k items))) items)
-first_items me items k l = ap (λ n. authored me (take n items)) (sym (authored_length me (take k items) ∙ take_length k items l))
+first_items : (me : ℕ) (items : List ℕ) (k : ℕ) → k ≤ length items → written_by me (take k items) ≡ written_by me (take (length (written_by me (take k items))) items)
+first_items me items k l = ap (λ n. written_by me (take n items)) (sym (written_by_length me (take k items) ∙ take_length k items l))
 
 extender_ahead : {A : Type 0} (items : List ℕ) (me next : ℕ) (w : World A) (phase : Phase) → HolderOk w me items phase → IsExtending next phase → IsHolding phase → HasAhead (Extender items) me w
 extender_ahead items me next w Ready h q k = absurd k
 extender_ahead items me next w (Peeked n) h q k = absurd k
 extender_ahead items me next w (Acquired n) h q k = ([], none_ahead w h.1, first_items me items 0 (omega arith))
 extender_ahead items me next w (Written n) h q k = absurd q
-extender_ahead items me next w (Filling n m) h q k = (authored me (take m items), h.1, first_items me items m h.3)
+extender_ahead items me next w (Filling n m) h q k = (written_by me (take m items), h.1, first_items me items m h.3)
 extender_ahead items me next w Denied h q k = ([], none_ahead w h.1, first_items me items 0 (omega arith))
 extender_ahead items me next w (Looked n) h q k = absurd k
 extender_ahead items me next w Done h q k = absurd k

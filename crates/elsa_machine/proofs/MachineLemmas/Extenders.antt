@@ -8,7 +8,7 @@ use Rattle.elsa_machine.specs.declared.machine.turns.Phase.{Phase}
 use Rattle.elsa_machine.specs.declared.machine.turns.Phase.TheVariants.{Ready, Peeked, Acquired, Written, Filling, Denied, Looked, Done}
 use Rattle.elsa_machine.specs.declared.machine.turns.Thread.{Thread}
 use Rattle.elsa_machine.specs.Machine.{Moved}
-use Rattle.elsa_machine.specs.Worlds.{authored, list_of, answers_of, AreAt, IsExtension}
+use Rattle.elsa_machine.specs.Worlds.{written_by, list_of, answers_of, AreAt, IsExtension}
 use Rattle.elsa_machine.proofs.MachineLemmas.Rules.{Transition, stays, peeks, acquires, loses, refuses, reserves, lacks, fills, fill_opens, extends}
 use Rattle.elsa_machine.proofs.MachineLemmas.Kept.{list_extend, take_every, HolderOk, WorldOk}
 use Rattle.elsa_machine.proofs.MachineLemmas.Growth.{answers_mine, get_more, Grown}
@@ -19,10 +19,10 @@ get_behind [] ys k = ap (slice_get ys) (zero-add k)
 get_behind (x ∷ xs) ys k = ap (slice_get (x ∷ xs ++ ys)) (suc-add (length xs) k) ∙ get_behind xs ys k
 
 -- An entry of a thread's items.
-pub authored_get : (me : ℕ) (xs : List ℕ) (k x : ℕ) → slice_get xs k ≡ Some x → slice_get (authored me xs) k ≡ Some (me, x)
-authored_get me [] k x e = cc
-authored_get me (y ∷ xs) zero x e = let f : y ≡ x = cc in ap (λ z. Some (me, z)) f
-authored_get me (y ∷ xs) (suc k) x e = authored_get me xs k x e
+pub written_by_get : (me : ℕ) (xs : List ℕ) (k x : ℕ) → slice_get xs k ≡ Some x → slice_get (written_by me xs) k ≡ Some (me, x)
+written_by_get me [] k x e = cc
+written_by_get me (y ∷ xs) zero x e = let f : y ≡ x = cc in ap (λ z. Some (me, z)) f
+written_by_get me (y ∷ xs) (suc k) x e = written_by_get me xs k x e
 
 extension_more : {A : Type 0} (list more : List (ℕ × ℕ)) (me : ℕ) (items : List ℕ) (xs : List (Answer A)) → IsExtension list me items xs → IsExtension (list ++ more) me items xs
 extension_more list more me items [] h = tt
@@ -83,7 +83,7 @@ extender_kept me memory w t items _ ok h o (extends {n = n} {k} p e i) =
     let j = subst (HolderOk w me items) p h in
     let every = take_every k items i j.3 in
     let a : answers_of me (w.answers ++ Extended me n k ∷ []) ≡ Extended me n k ∷ [] = first_answer me w.answers (Extended me n k) (o.count ∙ e) (answers_mine me w.answers (Extended me n k) refl) in
-    let at : AreAt (list_of w.events ++ authored me items) me n items = λ y x f. ap (λ m. slice_get (list_of w.events ++ authored me items) (m + y)) (j.2 ∙ ok.counted) ∙ get_behind (list_of w.events) (authored me items) y ∙ authored_get me items y x f in
+    let at : AreAt (list_of w.events ++ written_by me items) me n items = λ y x f. ap (λ m. slice_get (list_of w.events ++ written_by me items) (m + y)) (j.2 ∙ ok.counted) ∙ get_behind (list_of w.events) (written_by me items) y ∙ written_by_get me items y x f in
     record {
       met = rw (list_extend w.events me items, a) (every.1, at);
       count = rw a (omega (arith, e));

@@ -17,7 +17,7 @@ use Rattle.elsa_machine.specs.declared.machine.turns.Phase.TheVariants.{Ready, P
 use Rattle.elsa_machine.specs.declared.machine.turns.Thread.{Thread}
 use Rattle.elsa_slots.specs.Geometry.{slots_before}
 use Rattle.elsa_machine.specs.Machine.{can_reserve, Moved, thread_turn, Machine, turned, opening, machine_of}
-use Rattle.elsa_machine.specs.Worlds.{authored, list_of}
+use Rattle.elsa_machine.specs.Worlds.{written_by, list_of}
 use Rattle.elsa_machine.specs.Turns.{WritesNext}
 use Rattle.elsa_machine.specs.Progress.{turns_alone, AreExtended, ExtensionsEnd}
 use Rattle.elsa_machine.proofs.MachineLemmas.Rules.{IsExtenderIdle, Transition, transition, stays, peeks, acquires, loses, refuses, reserves, lacks, fills, fill_opens, extends}
@@ -139,7 +139,7 @@ course_step me v w t items _ small ok h q o (extends {n = n} {k} p e i) =
     let j = subst (HolderOk w me items) p h in
     let every = take_every k items i j.3 in
     inl (record {
-      list_is = list_extend w.events me items ∙ ap (λ l. l ++ authored me items) o.events_are;
+      list_is = list_extend w.events me items ∙ ap (λ l. l ++ written_by me items) o.events_are;
       answers_are = ap (λ l. l ++ Extended me n k ∷ []) o.answers_are ∙ ap (λ z. v.answers ++ Extended me z k ∷ []) at ∙ ap (λ z. v.answers ++ Extended me v.length z ∷ []) every.1;
       is_free = refl;
     })

@@ -9,7 +9,7 @@ use Rattle.elsa_lock_free.specs.declared.event.Event.TheVariants.{Acquired, Publ
 use Rattle.elsa_lock_free.specs.History as history
 use Rattle.elsa_lock_free.specs.History.{begins_hold, held_from}
 use Rattle.elsa_lock_free.specs.Rights.{IsStep}
-use Rattle.elsa_lock_free.specs.SharedList.{items_of, authored as entries_by}
+use Rattle.elsa_lock_free.specs.SharedList.{items_of, written_by as entries_by}
 use Rattle.elsa_machine.specs.declared.machine.Answer.{Answer}
 use Rattle.elsa_machine.specs.declared.machine.Answer.TheVariants.{Pushed, Extended as ExtendedAt, Refused}
 use Rattle.elsa_machine.specs.declared.machine.Plan.{Plan}
@@ -20,7 +20,7 @@ use Rattle.elsa_machine.specs.Machine.{world_of}
 use Rattle.elsa_machine.specs.Turns.{shared_of}
 use Rattle.elsa_lock_free.specs.AtomicSteps.{Acquires, Extends, Releases, Shared}
 use Rattle.elsa_machine.specs.Progress.{turns_alone}
-use Rattle.elsa_machine.specs.Worlds.{authored, answers_of, answer_thread, list_of}
+use Rattle.elsa_machine.specs.Worlds.{written_by, answers_of, answer_thread, list_of}
 use Rattle.elsa_machine.proofs.MachineLemmas.ExtensionsEnd.{extensions_end}
 use Rattle.elsa_machine.proofs.MachineLemmas.Solo.{pushes_end}
 use Rattle.elsa_machine.proofs.TieLemmas.Holding.{Caller, pusher, extender, next_turn, at_length, shared_after, to_acquire, to_end}
@@ -31,9 +31,9 @@ use Rattle.elsa_machine.specs.Tie.{IsMade, begins, steps, zeros, too_many, Agree
 apart : (i j : ℕ) → i < j → (i == j) ≡ false
 apart i j low = grind (arith, nat_tests)
 
-authored_length : (k : ℕ) (xs : List ℕ) → length (authored k xs) ≡ length xs
-authored_length k [] = refl
-authored_length k (x ∷ xs) = ap suc (authored_length k xs)
+written_by_length : (k : ℕ) (xs : List ℕ) → length (written_by k xs) ≡ length xs
+written_by_length k [] = refl
+written_by_length k (x ∷ xs) = ap suc (written_by_length k xs)
 
 -- another thread's result is none of this thread's
 other_case : {A : Type 0} (thread : ℕ) (b : Answer A) (bs : List (Answer A)) (a : Answer A) → (answers_of thread bs ≡ [] → answers_of thread (bs ++ a ∷ []) ≡ []) → (same : Bool) → (answer_thread b == thread) ≡ same → answers_of thread (b ∷ bs) ≡ [] → answers_of thread (b ∷ bs ++ a ∷ []) ≡ []
@@ -117,15 +117,15 @@ module _ {A : Type 0} (plans : List (Plan A)) where
   length_of : (front : List Turn) (k : ℕ) (list : List (ℕ × ℕ)) → IsFree front k list → (world_of plans front).length ≡ length list
   length_of front k list at = at_length plans front list at.list_is
 
-  push : (front : List Turn) (k x : ℕ) (list : List (ℕ × ℕ)) → IsFree front k list → slice_get plans k ≡ Some (Pusher (x ∷ [])) → length list + 1 < 2 ^ 62 → Block front k list (authored k (x ∷ []))
+  push : (front : List Turn) (k x : ℕ) (list : List (ℕ × ℕ)) → IsFree front k list → slice_get plans k ≡ Some (Pusher (x ∷ [])) → length list + 1 < 2 ^ 62 → Block front k list (written_by k (x ∷ []))
   push front k x list at plan small =
       let r = pushes_end plans front k x (x ∷ []) plan (ap (slice_get (x ∷ [])) (none_of front k list at)) at.is_free (let l = length_of front k list at in omega (arith, l, small)) in
-      block front k r.0 list (authored k (x ∷ [])) (Pushed k (world_of plans front).length) at (pusher plans k x plan) refl r.2.list_is r.2.answers_are r.2.is_free
+      block front k r.0 list (written_by k (x ∷ [])) (Pushed k (world_of plans front).length) at (pusher plans k x plan) refl r.2.list_is r.2.answers_are r.2.is_free
 
-  extend : (front : List Turn) (k : ℕ) (xs : List ℕ) (list : List (ℕ × ℕ)) → IsFree front k list → slice_get plans k ≡ Some (Extender xs) → length list + length xs < 2 ^ 62 → Block front k list (authored k xs)
+  extend : (front : List Turn) (k : ℕ) (xs : List ℕ) (list : List (ℕ × ℕ)) → IsFree front k list → slice_get plans k ≡ Some (Extender xs) → length list + length xs < 2 ^ 62 → Block front k list (written_by k xs)
   extend front k xs list at plan small =
       let r = extensions_end plans front k xs plan (none_of front k list at) at.is_free (let l = length_of front k list at in omega (arith, l, small)) in
-      block front k r.0 list (authored k xs) (ExtendedAt k (world_of plans front).length (length xs)) at (extender plans k xs plan) refl r.2.list_is r.2.answers_are r.2.is_free
+      block front k r.0 list (written_by k xs) (ExtendedAt k (world_of plans front).length (length xs)) at (extender plans k xs plan) refl r.2.list_is r.2.answers_are r.2.is_free
 
   refuse : (front : List Turn) (k : ℕ) (list : List (ℕ × ℕ)) → IsFree front k list → slice_get plans k ≡ Some (Extender too_many) → Block front k list []
   refuse front k list at plan =
@@ -187,23 +187,23 @@ module _ {T : Type 0} (code : T → ℕ) where
   module _ {A : Type 0} (plans : List (Plan A)) where
     -- the block of an event that ends a hold
     ends : (front : List Turn) (k : ℕ) (list : List (ℕ × ℕ)) (e : Event T) → begins_hold e ≡ false → IsFree plans front k list → slice_get plans k ≡ Some (plan_of code e) → length list + length (items code e) < 2 ^ 62
-        → Block plans front k list (authored k (items code e))
+        → Block plans front k list (written_by k (items code e))
     ends front k list Acquired is at plan small = absurd (true≢false is)
     ends front k list (Published x) is at plan small = push plans front k (code x.item) list at plan small
     ends front k list (Extended a xs) is at plan small =
-        let b = bare a xs in subst (λ (z : List ℕ). Block plans front k list (authored k z)) (sym b) (extend plans front k (map code xs) list at plan (let l = ap length b in omega (arith, l, small)))
+        let b = bare a xs in subst (λ (z : List ℕ). Block plans front k list (written_by k z)) (sym b) (extend plans front k (map code xs) list at plan (let l = ap length b in omega (arith, l, small)))
     ends front k list (Cloned xs) is at plan small =
-        let b = bare 0 xs in subst (λ (z : List ℕ). Block plans front k list (authored k z)) (sym b) (extend plans front k (map code xs) list at plan (let l = ap length b in omega (arith, l, small)))
+        let b = bare 0 xs in subst (λ (z : List ℕ). Block plans front k list (written_by k z)) (sym b) (extend plans front k (map code xs) list at plan (let l = ap length b in omega (arith, l, small)))
     ends front k list Released is at plan small = refuse plans front k list at plan
     ends front k list (OfferOf a n) is at plan small = refuse plans front k list at plan
 
-    extends_by : (k : ℕ) (front after : List Turn) (list : List (ℕ × ℕ)) (xs ys : List ℕ) → xs ≡ ys → Agrees plans front list true → Agrees plans after (list ++ authored k xs) false → Extends (authored k ys) (shared_of (world_of plans front)) (shared_of (world_of plans after))
+    extends_by : (k : ℕ) (front after : List Turn) (list : List (ℕ × ℕ)) (xs ys : List ℕ) → xs ≡ ys → Agrees plans front list true → Agrees plans after (list ++ written_by k xs) false → Extends (written_by k ys) (shared_of (world_of plans front)) (shared_of (world_of plans after))
     extends_by k front after list xs ys same v w =
-        let new = authored k xs in
+        let new = written_by k xs in
         let l = length-append list new in let a = v.length_is in let b = w.length_is in
         let e : Extends new (shared_of (world_of plans front)) (shared_of (world_of plans after)) =
         record { was_held = v.held_is; length_is = omega (arith, l, a, b); held_is = w.held_is; list_is = w.list_is ∙ ap (λ (z : List (ℕ × ℕ)). z ++ new) (sym v.list_is) } in
-        subst (λ (z : List ℕ). Extends (authored k z) (shared_of (world_of plans front)) (shared_of (world_of plans after))) same e
+        subst (λ (z : List ℕ). Extends (written_by k z) (shared_of (world_of plans front)) (shared_of (world_of plans after))) same e
 
     releases_by : (front after : List Turn) (list : List (ℕ × ℕ)) → Agrees plans front list true → Agrees plans after (list ++ []) false → Releases (shared_of (world_of plans front)) (shared_of (world_of plans after))
     releases_by front after list v w =
@@ -211,11 +211,11 @@ module _ {T : Type 0} (code : T → ℕ) where
         record { was_held = v.held_is; length_is = omega (arith, l, a, b); held_is = w.held_is; list_is = w.list_is ∙ n ∙ sym v.list_is }
 
     -- the atomic step of an event that ends a hold, by what is shared before and after it
-    step_of : (e : Event T) (k : ℕ) (front after : List Turn) (list : List (ℕ × ℕ)) → begins_hold e ≡ false → Agrees plans front list true → Agrees plans after (list ++ authored k (items code e)) false
+    step_of : (e : Event T) (k : ℕ) (front after : List Turn) (list : List (ℕ × ℕ)) → begins_hold e ≡ false → Agrees plans front list true → Agrees plans after (list ++ written_by k (items code e)) false
         → AtomicStep code k e (shared_of (world_of plans front)) (shared_of (world_of plans after))
     step_of Acquired k front after list is v w = absurd (true≢false is)
     step_of (Published x) k front after list is v w =
-        let new : List (ℕ × ℕ) = authored k (code x.item ∷ []) in
+        let new : List (ℕ × ℕ) = written_by k (code x.item ∷ []) in
         let l = length-append list new in let a = v.length_is in let b = w.length_is in
         record { was_held = v.held_is; length_is = omega (arith, l, a, b); held_is = w.held_is; list_is = w.list_is ∙ ap (λ (z : List (ℕ × ℕ)). z ++ new) (sym v.list_is) }
     step_of (Extended a xs) k front after list is v w = extends_by k front after list (items code (Extended a xs)) (map code xs) (bare a xs) v w
@@ -237,8 +237,8 @@ module _ {T : Type 0} (code : T → ℕ) where
     skip : (front : List Turn) (k : ℕ) (list : List (ℕ × ℕ)) → IsFree plans front k list → IsFree plans front (suc k) list
     skip front k list at = record { list_is = at.list_is; is_free = at.is_free; fresh = λ thread more. at.fresh thread (omega (arith, more)) }
 
-    added : (k : ℕ) (e : Event T) (list : List (ℕ × ℕ)) → length (list ++ authored k (items code e)) ≡ length list + length (items code e)
-    added k e list = length-append list (authored k (items code e)) ∙ ap (λ n. length list + n) (authored_length k (items code e))
+    added : (k : ℕ) (e : Event T) (list : List (ℕ × ℕ)) → length (list ++ written_by k (items code e)) ≡ length list + length (items code e)
+    added k e list = length-append list (written_by k (items code e)) ∙ ap (λ n. length list + n) (written_by_length k (items code e))
 
     -- from an acquire on: the event after it, if there is one, ends the hold
     acquire : (e : Event T) (k : ℕ) (front : List Turn) (list : List (ℕ × ℕ)) → begins_hold e ≡ true → slice_get plans k ≡ Some (plan_of code e) → IsFree plans front k list → Block plans front k list []
@@ -267,8 +267,8 @@ module _ {T : Type 0} (code : T → ℕ) where
     nothing (OfferOf a n) is = absurd (true≢false (sym is))
 
     -- an acquire leaves the list
-    same_list : (e : Event T) (k : ℕ) (list : List (ℕ × ℕ)) → begins_hold e ≡ true → list ++ authored k (items code e) ≡ list
-    same_list e k list is = ap (λ (z : List ℕ). list ++ authored k z) (nothing e is) ∙ append-nil list
+    same_list : (e : Event T) (k : ℕ) (list : List (ℕ × ℕ)) → begins_hold e ≡ true → list ++ written_by k (items code e) ≡ list
+    same_list e k list is = ap (λ (z : List ℕ). list ++ written_by k z) (nothing e is) ∙ append-nil list
 
     -- the block's first part does the acquire
     does_acquire : (e : Event T) (k j : ℕ) (front : List Turn) (list new : List (ℕ × ℕ)) → begins_hold e ≡ true → (b : Block plans front j list new) → Does code plans k e front b.before (next_turn plans j)
@@ -300,7 +300,7 @@ module _ {T : Type 0} (code : T → ℕ) where
         let turn = next_turn plans (suc k) in
         let mid = (front ++ b.before) ++ turn ∷ [] in
         let after = (mid ++ b.within) ++ turn ∷ [] in
-        let new = list ++ authored (suc k) (items code d) in
+        let new = list ++ written_by (suc k) (items code d) in
         let rest : Follows code plans (suc (suc k)) es after new false =
         follows es (suc (suc k)) after new (subst (λ (z : Bool). Alternates z es) ends_it so.1.1) b.ended (later (suc k) d es plan1) (omega (arith, none, more, small)) in
         let does : Does code plans (suc k) d mid b.within turn = record { are_quiet = b.quiet_within; step = step_of d (suc k) (mid ++ b.within) after list ends_it b.held (as_free plans after (suc (suc k)) new b.ended) } in
@@ -309,7 +309,7 @@ module _ {T : Type 0} (code : T → ℕ) where
           (
             b.before,
             turn,
-            does_acquire e k (suc k) front list (authored (suc k) (items code d)) is b,
+            does_acquire e k (suc k) front list (written_by (suc k) (items code d)) is b,
             subst (λ (z : List (ℕ × ℕ)). Follows code plans (suc k) (d ∷ es) mid z (begins_hold e)) (sym l) (subst (λ (z : Bool). Follows code plans (suc k) (d ∷ es) mid list z) (sym is) held),
           ),
         )
@@ -336,10 +336,10 @@ module _ {T : Type 0} (code : T → ℕ) where
       let t = total_is (e ∷ es) in
       let start : IsFree plans [] 0 [] = record { list_is = refl; is_free = refl; fresh = λ thread more. refl } in
       let b = ends plans [] 0 [] e ends_it start (first plans 0 e es all) (omega (arith, t, small)) in
-      let l = authored_length 0 (items code e) in
+      let l = written_by_length 0 (items code e) in
       let turn = next_turn plans 0 in
       let after = ((([] ++ b.before) ++ turn ∷ []) ++ b.within) ++ turn ∷ [] in (
         after,
-        subst (λ (z : Bool). Follows code plans 1 es after (authored 0 (items code e)) z) (sym ends_it)
-            (follows plans es 1 after (authored 0 (items code e)) (subst (λ (z : Bool). Alternates z es) ends_it so.1) b.ended (later plans 0 e es all) (omega (arith, t, l, small))),
+        subst (λ (z : Bool). Follows code plans 1 es after (written_by 0 (items code e)) z) (sym ends_it)
+            (follows plans es 1 after (written_by 0 (items code e)) (subst (λ (z : Bool). Alternates z es) ends_it so.1) b.ended (later plans 0 e es all) (omega (arith, t, l, small))),
       )

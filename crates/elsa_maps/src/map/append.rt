@@ -84,7 +84,7 @@ where
     pub fn get_full<Q: Query<K>>(&self, query: Q) -> Option<(usize, K, V::Borrow)>
     where
         K: Copy,
-        ensures place { option_map (λ r. r.0) result ≡ position (Q.finds query) (keys_of self.now) }
+        ensures index { option_map (λ r. r.0) result ≡ position (Q.finds query) (keys_of self.now) }
         ensures pair { IfSome result (λ r. slice_get self.now r.0 ≡ Some (r.1, r.2)) }
         ensures value { option_map (λ r. r.2) result ≡ lookup (Q.finds query) self.now }
     {

@@ -54,8 +54,8 @@ whole_one size left low = elim (dec_lt left size) [
 ]
 
 -- After the last buffer of the directory no index is left.
-pub none_left : (buffers : List ℕ) (b place len : ℕ) → length buffers ≡ 31 → behind b buffers ≡ [] → place ≤ len → (place < len → place + 1 ≡ 4 ^ b) → len < 2 ^ 62 → place ≡ len
-none_left buffers b place len all last le begins few = elim (dec_lt place len) [
+pub none_left : (buffers : List ℕ) (b index len : ℕ) → length buffers ≡ 31 → behind b buffers ≡ [] → index ≤ len → (index < len → index + 1 ≡ 4 ^ b) → len < 2 ^ 62 → index ≡ len
+none_left buffers b index len all last le begins few = elim (dec_lt index len) [
   | yes low ↦ (let l = length-drop b buffers in let e = ap length last in let p = begins low in
       let m : 4 ^ 31 ≤ 4 ^ b = four_mono 31 b (omega (arith, l, e, all)) in let k : 4 ^ 31 ≡ 2 ^ 62 = refl in absurd (omega (arith, p, m, k, low, few)))
   | no high ↦ omega (arith, le, high)

@@ -12,7 +12,7 @@ use std::marker::Model;
 /// The index in a vector at which a reader continues. Contracts see it as that number.
 #[derive(Clone, Copy, Debug, PartialEq, Eq)]
 pub struct Cursor {
-    place: usize,
+    index: usize,
 }
 
 impl Model for Cursor {
@@ -20,9 +20,9 @@ impl Model for Cursor {
 
     ghost Value = { ℕ };
 
-    ghost view = { λ c. c.place };
+    ghost view = { λ c. c.index };
 
-    ghost inverse = { λ n. record { place = n } };
+    ghost inverse = { λ n. record { index = n } };
 }
 
 impl Cursor {
@@ -30,7 +30,7 @@ impl Cursor {
     pub fn new() -> Self
         ensures { result ≡ 0 }
     {
-        Cursor { place: 0 }
+        Cursor { index: 0 }
     }
 
     /// Returns the item at the cursor's index and moves the cursor to the next index.
@@ -42,11 +42,11 @@ impl Cursor {
         items: &FrozenVecIn<R, T, A>,
     ) -> Option<T::Borrow>
         ensures item { result ≡ slice_get items.now self.old }
-        ensures place { self.new ≡ (if is_some result then self.old + 1 else self.old) }
+        ensures index { self.new ≡ (if is_some result then self.old + 1 else self.old) }
     {
-        if self.place < items.len() {
-            let item = items.get_unchecked(self.place);
-            self.place += 1;
+        if self.index < items.len() {
+            let item = items.get_unchecked(self.index);
+            self.index += 1;
             Some(item)
         } else {
             None
@@ -63,7 +63,7 @@ where
 {
     items: &'v FrozenVecIn<R, T, A>,
     // The index of the next item from the front, and the one after the next item from the back.
-    place: usize,
+    index: usize,
     end: usize,
 }
 
@@ -79,10 +79,10 @@ where
 
     ghost Value = { List T.Borrow };
 
-    ghost view = { λ it. take (it.end - it.place) (drop it.place it.items.now) };
+    ghost view = { λ it. take (it.end - it.index) (drop it.index it.items.now) };
 
-    // The items from `place` to `end` are left.
-    ghost invariant = { λ it. (it.place ≤ it.end) × (it.end ≤ length it.items.now) };
+    // The items from `index` to `end` are left.
+    ghost invariant = { λ it. (it.index ≤ it.end) × (it.end ≤ length it.items.now) };
 }
 
 impl<'v, R: Copy, T: StableDeref<R>, A: Allocator + Copy> IterIn<'v, R, T, A> {
@@ -91,7 +91,7 @@ impl<'v, R: Copy, T: StableDeref<R>, A: Allocator + Copy> IterIn<'v, R, T, A> {
     {
         IterIn {
             items,
-            place: 0,
+            index: 0,
             end: items.len(),
         }
     }
@@ -105,11 +105,11 @@ impl<'v, R: Copy, T: StableDeref<R>, A: Allocator + Copy> Iterator for IterIn<'v
     ghost remaining = { item_count (λ left. left) };
 
     fn next(&mut self) -> Option<T::Borrow> {
-        if self.place == self.end {
+        if self.index == self.end {
             return None;
         }
-        let item = self.items.get_unchecked(self.place);
-        self.place += 1;
+        let item = self.items.get_unchecked(self.index);
+        self.index += 1;
         Some(item)
     }
 
@@ -118,7 +118,7 @@ impl<'v, R: Copy, T: StableDeref<R>, A: Allocator + Copy> Iterator for IterIn<'v
         ensures upper { IfSome result.1 (UpTo (item_count (λ left. left) self.now)) }
         ensures exact { result ≡ (length self.now, Some (length self.now)) }
     {
-        let left = self.end - self.place;
+        let left = self.end - self.index;
         (left, Some(left))
     }
 }
@@ -128,7 +128,7 @@ impl<'v, R: Copy, T: StableDeref<R>, A: Allocator + Copy> DoubleEndedIterator
     ghost next_back_gives = { YieldsLast (λ left. left) };
 
     fn next_back(&mut self) -> Option<T::Borrow> {
-        if self.place == self.end {
+        if self.index == self.end {
             return None;
         }
         self.end -= 1;
@@ -139,6 +139,6 @@ impl<'v, R: Copy, T: StableDeref<R>, A: Allocator + Copy> DoubleEndedIterator
 impl<'v, R: Copy, T: StableDeref<R>, A: Allocator + Copy> ExactSizeIterator
     for IterIn<'v, R, T, A> {
     fn len(&self) -> usize {
-        self.end - self.place
+        self.end - self.index
     }
 }

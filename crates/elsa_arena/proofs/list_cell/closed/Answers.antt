@@ -2,7 +2,7 @@ use Rattle.std.proofs.Common.{◌≡◌, ap, ◌∙◌, length, subst, sym, arit
 use Rattle.elsa_slots.specs.Geometry.{slots_before}
 use Rattle.elsa_slots.proofs.GeometryLemmas.Powers.{before_power}
 use Rattle.elsa_arena.specs.Ready.{AreReady}
-use Rattle.elsa_arena.proofs.PlaceLemmas.{begins_at}
+use Rattle.elsa_arena.proofs.IndexLemmas.{begins_at}
 use Rattle.elsa_arena.proofs.list_cell.closed.Goals as goal
 
 pub returns : goal.returns
@@ -16,7 +16,7 @@ returns g c =
       all = l.all;
       count = omega (arith, count, many);
       limit = c.seen.invariant.1;
-      place = begins_at seen.count b is;
+      index = begins_at seen.count b is;
       ahead = record { buffer = b; begins = omega (arith, is, power); rights = ap (λ r. r.of) e.0 ∙ l.rights };
       ready = subst (λ fs. AreReady c.parts-further.result.0.of fs.items) (sym e.1) (subst (λ r. AreReady r.of c.args.later.ready.items) (sym e.0) l.ready);
     }

@@ -23,7 +23,7 @@ returns-clause-open g c =
     let value = c.fill.ensures.1 ∙ c.parts-memory.ensures.0 in let fresh = c.in-Ok.ensures.fresh in
     let rest = other_rights xs b c.take-right.result.of c.take-right.new.self.of within (sym k.1 ∙ c.take-right.ensures) in
     record {
-      place = c.requires.location.0;
+      index = c.requires.location.0;
       evidence = c.fill.ensures.0;
       whole = ap (λ r. length r.0) value ∙ fresh.0;
       left = ap (λ r. r.of) c.parts-memory.ensures.1 ∙ (fresh.1 ∙ (sym (ap (λ r. r.0) value) ∙ ap (λ j. drop j c.fill.result.value.0) (sym k.0)));

@@ -3,7 +3,7 @@ use Rattle.elsa_slots.specs.Geometry.{slots_before}
 use Rattle.elsa_slots.specs.Ahead.{GoesOn}
 use Rattle.elsa_slots.proofs.ListLemmas.Copies.{begins_rise, behind, closed_here}
 use Rattle.elsa_arena.specs.Ready.{AreReady, end_of}
-use Rattle.elsa_arena.proofs.PlaceLemmas.{before_last}
+use Rattle.elsa_arena.proofs.IndexLemmas.{before_last}
 use Rattle.elsa_arena.proofs.ReadyLemmas.{left_from, slots_low}
 use Rattle.elsa_arena.proofs.state.push_item.Goals as goal
 
@@ -16,11 +16,11 @@ returns-then-count-ge-MOST-clause-full g c =
 pub open_next-requires-clause-location : goal.open_next-requires-clause-location
 open_next-requires-clause-location g c =
     let s = c.args.state.now in let less = c.if-count-ge-MOST.false in
-    (c.requires.place, before_last s.count s.buffer s.slot c.requires.place (omega (arith, less)), c.requires.all)
+    (c.requires.index, before_last s.count s.buffer s.slot c.requires.index (omega (arith, less)), c.requires.all)
 
 pub write_next-after-requires-clause-buffer_count : goal.write_next-after-requires-clause-buffer_count
 write_next-after-requires-clause-buffer_count g c =
-    let s = c.args.state.now in let less = c.if-count-ge-MOST.false in before_last s.count s.buffer s.slot c.requires.place (omega (arith, less))
+    let s = c.args.state.now in let less = c.if-count-ge-MOST.false in before_last s.count s.buffer s.slot c.requires.index (omega (arith, less))
 
 pub returns-in-Ok-clause-same_vector : goal.returns-in-Ok-clause-same_vector
 returns-in-Ok-clause-same_vector g c =
@@ -32,7 +32,7 @@ returns-in-Ok-clause-same_vector g c =
       all = c.requires.all;
       count = omega (arith, many, count);
       limit = omega (arith, less);
-      place = up.location;
+      index = up.location;
       ahead = subst (λ a. GoesOn c.args.into.now (s.count + 1) a.opened a.slots.of a.further.of) (sym after) up.ahead;
       ready = subst (λ r. AreReady r c.open_next.new.ready.items) (sym further) c.in-Ok.ensures.ready.0;
     }
@@ -47,7 +47,7 @@ returns-in-Ok-clause-capacity g c =
 pub returns-in-Err-clause-full : goal.returns-in-Err-clause-full
 returns-in-Err-clause-full g c =
     let s = c.args.state.now in let xs = c.args.into.now in let a = c.in-Err.ahead in let fs = c.open_next.new.ready.items in let no = c.in-Err.ensures.refused in
-    let b = s.buffer in let j = s.slot in let at = c.requires.place in let less = c.if-count-ge-MOST.false in let low = before_last s.count b j at (omega (arith, less)) in
+    let b = s.buffer in let j = s.slot in let at = c.requires.index in let less = c.if-count-ge-MOST.false in let low = before_last s.count b j at (omega (arith, less)) in
     let same : a.further.of ≡ s.ahead.further.of = no.2 ∙ ap (λ a. a.further.of) c.replace-ahead.ensures.value in
     let after : c.replace-none-in-Err.new.dest.further.of ≡ s.ahead.further.of = ap (λ a. a.further.of) c.replace-none-in-Err.ensures.after ∙ same in
     let items : fs ≡ s.ready.items = no.4 ∙ sym no.3 in

@@ -33,7 +33,7 @@ returns-clause-same_vector g c =
       all = c.requires.all;
       count = c.requires.count;
       limit = c.requires.limit;
-      place = c.requires.place;
+      index = c.requires.index;
       ahead = c.requires.ahead;
       ready = record { next = subst (λ n. AreNext n fs) (sym {A = ℕ} is) ready.0; few = omega (arith, few, is) };
     }

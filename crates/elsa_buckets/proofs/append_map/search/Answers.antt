@@ -8,7 +8,7 @@ use Rattle.elsa_buckets.proofs.AppendLemmas.{compared_keys, key_there, value_the
 use Rattle.elsa_buckets.proofs.append_map.search.Goals as goal
 
 pub search-requires : goal.search-requires
-search-requires g c place within = omega (arith, within, c.requires.counted, length-map c.args.pairs.now (λ e. e.0))
+search-requires g c index within = omega (arith, within, c.requires.counted, length-map c.args.pairs.now (λ e. e.0))
 
 -- The index of the first key that the query finds, and the entry there.
 pub returns-clause-found : goal.returns-clause-found

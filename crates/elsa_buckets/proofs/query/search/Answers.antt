@@ -5,8 +5,8 @@ use Rattle.elsa_buckets.proofs.query.search.Goals as goal
 
 pub returns-in-Ok-clause-found : goal.returns-in-Ok-clause-found
 returns-in-Ok-clause-found g c keys placed compared =
-    found_at _ g.met.K.Eq.laws _ (g.Q.Query.finds c.args.query) (g.met.Q.Query.respects_eq c.args.query) c.args.table.now keys c.in-Ok.place placed c.in-Ok.ensures.found.0
-    (λ k at. sym (compared c.in-Ok.place true k at c.in-Ok.ensures.found.1))
+    found_at _ g.met.K.Eq.laws _ (g.Q.Query.finds c.args.query) (g.met.Q.Query.respects_eq c.args.query) c.args.table.now keys c.in-Ok.index placed c.in-Ok.ensures.found.0
+    (λ k at. sym (compared c.in-Ok.index true k at c.in-Ok.ensures.found.1))
 
 pub returns-in-Err-clause-absent : goal.returns-in-Err-clause-absent
 returns-in-Err-clause-absent g c keys placed compared =

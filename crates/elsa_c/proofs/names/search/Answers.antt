@@ -5,7 +5,7 @@ use Rattle.elsa_c.proofs.TextLemmas.{found_here, found_nowhere}
 use Rattle.elsa_c.proofs.names.search.Goals as goal
 
 pub search-requires : goal.search-requires
-search-requires c place within = omega (arith, within, c.requires.counted)
+search-requires c index within = omega (arith, within, c.requires.counted)
 
 pub returns : goal.returns
 returns c =

@@ -26,10 +26,10 @@ key_at-requires g c =
     let rank = rank_of vec_items blocks at in
     let there = slice_get_read blocks (length blocks) at v refl c.block_of-at.ensures.within c.index-blocks-at.is in
     let inv = c.loop-low.invariant in let m = middle c.loop-low.low c.loop-low.high c.loop-low-test.true in let low = m.1 in let end = inv.1 in
-    let place = c.loop-low.low + (c.loop-low.high - c.loop-low.low) / 2 in let i = slice_index_or order place 0 in
-    let small : place < length order = omega (arith, low, end) in
-    let has = get_joined vec_items blocks at v place i there (subst (λ l. slice_get l place ≡ Some i) c.as_slice-order.ensures.value (slice_get-get_or order place 0 small)) in
-    within g.K.Ord.cmp table keys c.requires.ordered (rank + place) i has
+    let position = c.loop-low.low + (c.loop-low.high - c.loop-low.low) / 2 in let i = slice_index_or order position 0 in
+    let small : position < length order = omega (arith, low, end) in
+    let has = get_joined vec_items blocks at v position i there (subst (λ l. slice_get l position ≡ Some i) c.as_slice-order.ensures.value (slice_get-get_or order position 0 small)) in
+    within g.K.Ord.cmp table keys c.requires.ordered (rank + position) i has
 
 pub loop-low-preserved-in-Less : goal.loop-low-preserved-in-Less
 loop-low-preserved-in-Less g c =
@@ -38,10 +38,10 @@ loop-low-preserved-in-Less g c =
     let rank = rank_of vec_items blocks at in
     let there = slice_get_read blocks (length blocks) at v refl c.block_of-at.ensures.within c.index-blocks-at.is in
     let inv = c.loop-low.invariant in let m = middle c.loop-low.low c.loop-low.high c.loop-low-test.true in let low = m.1 in let end = inv.1 in
-    let place = c.loop-low.low + (c.loop-low.high - c.loop-low.low) / 2 in let i = slice_index_or order place 0 in
-    let small : place < length order = omega (arith, low, end) in
-    let has = get_joined vec_items blocks at v place i there (subst (λ l. slice_get l place ≡ Some i) c.as_slice-order.ensures.value (slice_get-get_or order place 0 small)) in
-    (m.0, omega (arith, small), between_down g.K.Ord.cmp g.met.K.Ord.total (g.Q.OrderQuery.against c.args.query) (g.met.Q.OrderQuery.higher c.args.query) table keys (rank + c.loop-low.low) (rank + c.loop-low.high) (rank + place) c.key_at.result.now c.requires.ordered inv.2 (i, has, c.key_at.ensures) (sym c.in-Less.ensures))
+    let position = c.loop-low.low + (c.loop-low.high - c.loop-low.low) / 2 in let i = slice_index_or order position 0 in
+    let small : position < length order = omega (arith, low, end) in
+    let has = get_joined vec_items blocks at v position i there (subst (λ l. slice_get l position ≡ Some i) c.as_slice-order.ensures.value (slice_get-get_or order position 0 small)) in
+    (m.0, omega (arith, small), between_down g.K.Ord.cmp g.met.K.Ord.total (g.Q.OrderQuery.against c.args.query) (g.met.Q.OrderQuery.higher c.args.query) table keys (rank + c.loop-low.low) (rank + c.loop-low.high) (rank + position) c.key_at.result.now c.requires.ordered inv.2 (i, has, c.key_at.ensures) (sym c.in-Less.ensures))
 
 pub loop-low-preserved : goal.loop-low-preserved
 loop-low-preserved g c =
@@ -50,14 +50,14 @@ loop-low-preserved g c =
     let rank = rank_of vec_items blocks at in
     let there = slice_get_read blocks (length blocks) at v refl c.block_of-at.ensures.within c.index-blocks-at.is in
     let inv = c.loop-low.invariant in let m = middle c.loop-low.low c.loop-low.high c.loop-low-test.true in let low = m.1 in let end = inv.1 in
-    let place = c.loop-low.low + (c.loop-low.high - c.loop-low.low) / 2 in let i = slice_index_or order place 0 in
-    let small : place < length order = omega (arith, low, end) in
-    let has = get_joined vec_items blocks at v place i there (subst (λ l. slice_get l place ≡ Some i) c.as_slice-order.ensures.value (slice_get-get_or order place 0 small)) in
-    let up : rank + place + 1 ≡ rank + (place + 1) = omega arith in (
+    let position = c.loop-low.low + (c.loop-low.high - c.loop-low.low) / 2 in let i = slice_index_or order position 0 in
+    let small : position < length order = omega (arith, low, end) in
+    let has = get_joined vec_items blocks at v position i there (subst (λ l. slice_get l position ≡ Some i) c.as_slice-order.ensures.value (slice_get-get_or order position 0 small)) in
+    let up : rank + position + 1 ≡ rank + (position + 1) = omega arith in (
       omega (arith, low),
       end,
       subst (λ n. IsBetween (g.Q.OrderQuery.against c.args.query) table keys n (rank + c.loop-low.high)) up
-          (between_up g.K.Ord.cmp g.met.K.Ord.total (g.Q.OrderQuery.against c.args.query) (g.met.Q.OrderQuery.lower c.args.query) table keys (rank + c.loop-low.low) (rank + c.loop-low.high) (rank + place) c.key_at.result.now c.requires.ordered inv.2 (i, has, c.key_at.ensures) (sym c.in-Greater.ensures)),
+          (between_up g.K.Ord.cmp g.met.K.Ord.total (g.Q.OrderQuery.against c.args.query) (g.met.Q.OrderQuery.lower c.args.query) table keys (rank + c.loop-low.low) (rank + c.loop-low.high) (rank + position) c.key_at.result.now c.requires.ordered inv.2 (i, has, c.key_at.ensures) (sym c.in-Greater.ensures)),
     )
 
 pub returns-clause-gap : goal.returns-clause-gap

@@ -25,18 +25,18 @@ loop-step-preserved g c =
         ap g.W.Words.count w.words-is ∙ counted,
         ap g.W.Words.whose w.words-is ∙ (t.same.1 ∙ inv.1),
         subst (λ z. IsLater before (known z)) (sym w.words-is) later,
-        missed_more count before hash step _ inv.3 (λ place tag there. absurd (w.if-found-tag.false (tagged tag))),
+        missed_more count before hash step _ inv.3 (λ index tag there. absurd (w.if-found-tag.false (tagged tag))),
       )
       | then-found-tag+else-number-gt0 w ↦
           let p = w.number-number.ensures in
           let after = known w.number-number.new.self in
           let later_after = later_later before mid after later p.later in
-          let number : (place : ℕ) → before (number_of count slot) ≡ place + 1 → w.number-number.result ≡ place + 1 =
-          λ place e. p.number ∙ (ap after here ∙ still before after (number_of count slot) (place + 1) later_after e (omega arith)) in (
+          let number : (index : ℕ) → before (number_of count slot) ≡ index + 1 → w.number-number.result ≡ index + 1 =
+          λ index e. p.number ∙ (ap after here ∙ still before after (number_of count slot) (index + 1) later_after e (omega arith)) in (
             ap g.W.Words.count w.words-is ∙ (p.same.0 ∙ counted),
             ap g.W.Words.whose w.words-is ∙ (p.same.1 ∙ (t.same.1 ∙ inv.1)),
             subst (λ z. IsLater before (known z)) (sym w.words-is) later_after,
-            missed_more count before hash step _ inv.3 (λ place tag there lt. absurd (let e = number place there in elim w.else-number-gt0.either [
+            missed_more count before hash step _ inv.3 (λ index tag there lt. absurd (let e = number index there in elim w.else-number-gt0.either [
               | inl more ↦ let over = more.1 in omega (arith, e, over, lt)
               | inr none ↦ omega (arith, e, none)
             ])),
@@ -45,12 +45,12 @@ loop-step-preserved g c =
           let p = w.number-number.ensures in
           let after = known w.number-number.new.self in
           let later_after = later_later before mid after later p.later in
-          let number : (place : ℕ) → before (number_of count slot) ≡ place + 1 → w.number-number.result - 1 ≡ place =
-          λ place e. let n = p.number ∙ (ap after here ∙ still before after (number_of count slot) (place + 1) later_after e (omega arith)) in omega (arith, n) in (
+          let number : (index : ℕ) → before (number_of count slot) ≡ index + 1 → w.number-number.result - 1 ≡ index =
+          λ index e. let n = p.number ∙ (ap after here ∙ still before after (number_of count slot) (index + 1) later_after e (omega arith)) in omega (arith, n) in (
             ap g.W.Words.count w.words-is ∙ (p.same.0 ∙ counted),
             ap g.W.Words.whose w.words-is ∙ (p.same.1 ∙ (t.same.1 ∙ inv.1)),
             subst (λ z. IsLater before (known z)) (sym w.words-is) later_after,
-            missed_more count before hash step _ inv.3 (λ place tag there lt. subst (λ k. goal.F-post g c.args.is_it k false) (number place there)
+            missed_more count before hash step _ inv.3 (λ index tag there lt. subst (λ k. goal.F-post g c.args.is_it k false) (number index there)
                 (subst (goal.F-post g c.args.is_it (w.number-number.result - 1)) w.if-is_it.false w.is_it.ensures)),
           )
     ]

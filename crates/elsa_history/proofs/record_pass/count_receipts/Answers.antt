@@ -13,7 +13,7 @@ loop-left-preserved-in-Taken g c =
       omega arith,
       omega (arith, k, c.loop-left.invariant.1),
       ((λ a. c.loop-left.invariant.2.0 (subst P s (y.0 a))), (λ b. y.1 (subst P (sym s) (c.loop-left.invariant.2.1 b)))),
-      (λ place h. let none = c.loop-left.invariant.3 place h in let less = c.in-Taken.ensures.fewer refl place in omega (arith, none, less)),
+      (λ index h. let none = c.loop-left.invariant.3 index h in let less = c.in-Taken.ensures.fewer refl index in omega (arith, none, less)),
     )
 
 pub loop-left-preserved : goal.loop-left-preserved

@@ -6,4 +6,4 @@ use Rattle.elsa_history.proofs.record_pass.note_owner.Given as goal
 -- If an index has the number `NOBODY`, it had it before, and no receipt so far is for it.
 abbrev pub invariant-loop-receipt : goal.invariant-loop-receipt
 invariant-loop-receipt g l =
-    (place : ℕ) → slice_get l.owners.items place ≡ Some NOBODY → (slice_get l.fn.owners.items place ≡ Some NOBODY) × (receipts_for place (take l.receipt-index l.receipts) ≡ 0)
+    (index : ℕ) → slice_get l.owners.items index ≡ Some NOBODY → (slice_get l.fn.owners.items index ≡ Some NOBODY) × (receipts_for index (take l.receipt-index l.receipts) ≡ 0)

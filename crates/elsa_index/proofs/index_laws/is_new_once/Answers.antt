@@ -3,7 +3,7 @@ use Rattle.std.proofs.lemmas.Iterator.Adapters.{YieldsList-from_vec}
 use Rattle.std.proofs.lemmas.Iterator.Consumers.{YieldsList-end}
 use Rattle.std.specs.Map.{keys_of, lookup}
 use Rattle.elsa_tables.specs.Insertions.{Grows}
-use Rattle.elsa_tables.proofs.Growing.{found_all, found_more, grows_on, keys_grow, place_stays, value_stays}
+use Rattle.elsa_tables.proofs.Growing.{found_all, found_more, grows_on, keys_grow, index_stays, value_stays}
 use Rattle.elsa_index.proofs.Laws.{told_again}
 use Rattle.elsa_index.proofs.index_laws.is_new_once.Goals as goal
 
@@ -23,11 +23,11 @@ pub returns-clause-found_after : goal.returns-clause-found_after
 returns-clause-found_after g c = value_stays _ _ _ _ (later g c) c.in_ok-before.ensures.found_after
 
 pub returns-clause-index_after : goal.returns-clause-index_after
-returns-clause-index_after g c = place_stays _ _ _ _ (keys_grow _ _ (later g c)) c.in_ok-before.ensures.index_after
+returns-clause-index_after g c = index_stays _ _ _ _ (keys_grow _ _ (later g c)) c.in_ok-before.ensures.index_after
 
 pub returns-clause-once : goal.returns-clause-once
 returns-clause-once g c =
-    let before = place_stays _ _ _ _ (keys_grow _ _ c.loop-pair.invariant.kept) c.in_ok-before.ensures.index_after in
+    let before = index_stays _ _ _ _ (keys_grow _ _ c.loop-pair.invariant.kept) c.in_ok-before.ensures.index_after in
     told_again (λ t. position t (keys_of c.keeps_earlier_pairs-2.new.map)) (λ t. position t (keys_of c.loop-pair.map)) (λ t i. lookup t c.keeps_earlier_pairs-2.new.map) _ _
     (sym (λ i k. g.met.K.Eq.laws.congr c.args.first.0 c.args.again.0 k c.requires.equal i)) _ _ _
     (returns-clause-index_after g c) (returns-clause-found_after g c) before c.in_ok-after.ensures.index_after c.in_ok-after.ensures.found_after c.in_ok-after.ensures.flag

@@ -2,7 +2,7 @@ use Rattle.std.proofs.Common.{◌∙◌, position, slice_get}
 use Rattle.std.proofs.lemmas.Iterator.Adapters.{YieldsList-from_vec}
 use Rattle.std.proofs.lemmas.Iterator.Consumers.{YieldsList-end}
 use Rattle.elsa_tables.specs.Insertions.{Grows}
-use Rattle.elsa_tables.proofs.Growing.{found_all, found_more, grows_on, item_stays, place_stays}
+use Rattle.elsa_tables.proofs.Growing.{found_all, found_more, grows_on, item_stays, index_stays}
 use Rattle.elsa_index.proofs.Laws.{told_again}
 use Rattle.elsa_index.proofs.index_laws.set_is_new_once.Goals as goal
 
@@ -22,11 +22,11 @@ pub returns-clause-found_after : goal.returns-clause-found_after
 returns-clause-found_after g c = item_stays _ _ _ _ (later g c) c.in_ok-before.ensures.found_after
 
 pub returns-clause-index_after : goal.returns-clause-index_after
-returns-clause-index_after g c = place_stays _ _ _ _ (later g c) c.in_ok-before.ensures.index_after
+returns-clause-index_after g c = index_stays _ _ _ _ (later g c) c.in_ok-before.ensures.index_after
 
 pub returns-clause-once : goal.returns-clause-once
 returns-clause-once g c =
-    let before = place_stays _ _ _ _ c.loop-value.invariant.kept c.in_ok-before.ensures.index_after in
+    let before = index_stays _ _ _ _ c.loop-value.invariant.kept c.in_ok-before.ensures.index_after in
     told_again (λ t. position t c.set_keeps_earlier_values-2.new.set) (λ t. position t c.loop-value.set) (λ t i. slice_get c.set_keeps_earlier_values-2.new.set i) _ _ (λ i b. c.requires.equal b i) _ _ _
     (returns-clause-index_after g c) (returns-clause-found_after g c) before c.in_ok-last.ensures.index_after c.in_ok-last.ensures.found_after c.in_ok-last.ensures.flag
 

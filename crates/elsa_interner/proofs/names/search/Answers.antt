@@ -5,7 +5,7 @@ use Rattle.elsa_interner.proofs.NameLemmas.{found_here, found_nowhere}
 use Rattle.elsa_interner.proofs.names.search.Goals as goal
 
 pub search-requires : goal.search-requires
-search-requires g c place within = omega (arith, within, c.requires.counted)
+search-requires g c index within = omega (arith, within, c.requires.counted)
 
 pub returns-then-same_text-clause-found : goal.returns-then-same_text-clause-found
 returns-then-same_text-clause-found g c =

@@ -9,24 +9,24 @@ use Rattle.elsa_lock_free.specs.SharedList.{count}
 use Rattle.elsa_lock_free.specs.History.{list_of}
 use Rattle.elsa_lock_free.specs.contracts.event.Event as Event
 use Rattle.elsa_lock_free.specs.contracts.rule.OneWord as OneWord
-use Rattle.elsa_lock_free.specs.contracts.tokens.Author as Author
+use Rattle.elsa_lock_free.specs.contracts.tokens.Writer as Writer
 use Rattle.elsa_lock_free.specs.contracts.rule.OneWordRuleEventLog.TheImpl as rule
 use mathlib.Core.List.{IsPrefix}
 use Rattle.elsa_lock_free.proofs.RuleLemmas.History.{count_prefix}
-use Rattle.elsa_lock_free.proofs.RuleLemmas.AuthorBound.{rule_bound, history_shows}
+use Rattle.elsa_lock_free.proofs.RuleLemmas.WriterBound.{rule_bound, history_shows}
 use Rattle.elsa_lock_free.specs.contracts.tokens.bounded_by_tickets.{ended, clauses}
 use Rattle.elsa_lock_free.specs.contracts.tokens.bounded_by_tickets.Key.{name as #self}
 use Rattle.elsa_lock_free.proofs.tokens.bounded_by_tickets.Statement.{statement}
 use Rattle.elsa_lock_free.proofs.tokens.bounded_by_tickets.Code as code
 
--- each entry of an author in a history that was seen has spent one of its tickets
+-- each entry of a writer in a history that was seen has spent one of its tickets
 pub bounded_by_tickets_spec : {M : Type 1} → statement M
 bounded_by_tickets_spec 𝓤 𝓛 𝓜 𝓡 wired T B K _ _ _ g d h e _ _ =
     let H = 𝓛.H in let 𝓣 = tables 𝓤 H 𝓜 𝓡 𝓡.env in let T' : RattleType = param 0 T in let B' : RattleType = param 1 B in let K' : RattleType = param 2 K in let E' : RattleType = Event.the_row T' in let L' : RattleType = LinkedList.the_row E' Global.the_row galloc.ghosts in let En = ended T B K g d h e in
     let inst = bounded (a_type ∷ a_type ∷ a_type ∷ []) (T, (B, (K, tt))) (dcons d (dcons e dnil)) in let fn = inst_fn inst code.function in let c = clauses T B K g d h e 𝓛 𝓜.mem 𝓡.returns in
     let S : RattleType = Seen.the_row E' L' (OneWord.the_row B' K') (rule.ghosts T' B' K' g d h e) in
-    let hs : Stays En.signature.params En.kept = (stay_dropped (RefOf (0 ∷ []) tt (plain (λ _. S)) (λ _. tt)) yes, (stay_dropped (plain (λ _. Author.the_row)) yes, tt)) in
-    proved 𝓛 En hs c 𝓜 𝓡 (Goes-dropped 𝓛 4 (RefOf (0 ∷ []) tt (plain (λ _. S)) (λ _. tt)) yes (λ κs x f. refl), (Goes-dropped 𝓛 4 (plain (λ _. Author.the_row)) yes (λ κs x f. refl), tt)) (#self inst) fn (code.unfolded 𝓤 H 𝓜 𝓡 wired (T, (B, (K, tt))) d e)
+    let hs : Stays En.signature.params En.kept = (stay_dropped (RefOf (0 ∷ []) tt (plain (λ _. S)) (λ _. tt)) yes, (stay_dropped (plain (λ _. Writer.the_row)) yes, tt)) in
+    proved 𝓛 En hs c 𝓜 𝓡 (Goes-dropped 𝓛 4 (RefOf (0 ∷ []) tt (plain (λ _. S)) (λ _. tt)) yes (λ κs x f. refl), (Goes-dropped 𝓛 4 (plain (λ _. Writer.the_row)) yes (λ κs x f. refl), tt)) (#self inst) fn (code.unfolded 𝓤 H 𝓜 𝓡 wired (T, (B, (K, tt))) d e)
     (λ κs. (shr_vals, ((λ x. token ∷ []), tt))) (λ κs. (shr_Tells (named 0) κs.0 S, ((λ x vs is. token_told (unit) vs is.0), tt))) (λ κs qs bounds a gh are.
     let me = a.0.now in let p : Val = vptr a.0.ref_ptr.0 a.0.ref_ptr.1 in
     let y : (walk_of 𝓛 En hs c).Ghost = ((κs, qs, bounds, a, (p ∷ [], (token ∷ [], tt))), gh) in let Post : Val → SProp 𝓤 = (walk_of 𝓛 En hs c).post y in
@@ -34,7 +34,7 @@ bounded_by_tickets_spec 𝓤 𝓛 𝓜 𝓡 wired T B K _ _ _ g d h e _ _ =
     qed 𝓛 ((raw (denote.Triple.Entry.alive 𝓛 En.signature κs qs) ⊛ ‵ (owns (types_at En.signature.params κs) a y.0.4)) ∷ raw ((c κs a).requires gh) ∷ []) ∵ keep ! (0 ∷ []) $ split ! $
     let au = a.1.0 in let gg = rule.ghosts T' B' K' g d h e in let All : RattleType = Tuple (E' ∷ L' ∷ OneWord.the_row B' K' ∷ []) in let O : RattleType = OneWord.the_row B' K' in let law = rules gg.holds gg.shows gg.keeps in let cv = E'.coded in
     move ! (1 ∷ []) $ fsplit ! $ move ! (1 ∷ []) $ fsplit ! $ fsplit ! $ move ! (3 ∷ []) $ fsplit ! $
-    -- [the reference; its Seen; token of the author; what it owns; nothing; alive]
+    -- [the reference; its Seen; token of the writer; what it owns; nothing; alive]
     keep ! (1 ∷ 3 ∷ 5 ∷ []) $
     enter ! 𝓣.C 𝓣.Λ fn args Post $ alloc_all ! (λ l. pass_all ! refl ((tt, tt), ((tt, (tt, tt)), tt)) $ let Env = env fn.locals l in
     use1 𝓛 (‵ (hidden_shr (Token All) κs.0 (record {}, tt) a.0.ref_ptr.0 a.0.ref_ptr.1) ⊛ ‵ (fhide (seen_owns cv.code law me.book me.names me.log))) (lent_out 𝓛 (Seen.struct E' L' O gg) (Seen.the_codes E'.Denot L'.Denot O.Denot E'.coded L'.coded O.coded (marker.the_row All).coded) (Seen.the_heap E' L' O gg) (Seen.the_lent E' L' O gg) κs.0 me a.0.ref_ptr.0 a.0.ref_ptr.1) $ split ! $ drop ! $ unhide ! $

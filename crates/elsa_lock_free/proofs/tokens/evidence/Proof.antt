@@ -12,14 +12,14 @@ use Rattle.elsa_lock_free.specs.contracts.rule.OneWord as OneWord
 use Rattle.elsa_slots.specs.contracts.slots.written_prefix.WrittenPrefix as WrittenPrefix
 use Rattle.elsa_lock_free.specs.contracts.rule.OneWordRuleEventLog.TheImpl as rule
 use Rattle.elsa_lock_free.specs.Rights.{buffer_slots_of, prefix_written}
-use Rattle.elsa_lock_free.proofs.RuleLemmas.AuthorBound.{history_gives, rule_gives}
+use Rattle.elsa_lock_free.proofs.RuleLemmas.WriterBound.{history_gives, rule_gives}
 use Rattle.elsa_slots.proofs.SlotLemmas.Prefix.{prefix_made}
 use Rattle.elsa_lock_free.specs.contracts.tokens.evidence.{ended, clauses}
 use Rattle.elsa_lock_free.specs.contracts.tokens.evidence.Key.{name as #self}
 use Rattle.elsa_lock_free.proofs.tokens.evidence.Statement.{statement}
 use Rattle.elsa_lock_free.proofs.tokens.evidence.Code as code
 
--- a history that was seen shows for good that the places of its list were written
+-- a history that was seen shows for good that the indices of its list were written
 pub evidence_spec : {M : Type 1} → statement M
 evidence_spec 𝓤 𝓛 𝓜 𝓡 wired T B K _ _ _ g d h e _ _ =
     let H = 𝓛.H in let 𝓣 = tables 𝓤 H 𝓜 𝓡 𝓡.env in let T' : RattleType = param 0 T in let B' : RattleType = param 1 B in let K' : RattleType = param 2 K in let E' : RattleType = Event.the_row T' in let L' : RattleType = LinkedList.the_row E' Global.the_row galloc.ghosts in let En = ended T B K g d h e in

@@ -11,7 +11,7 @@ use Rattle.elsa_lock_free.specs.contracts.event.Event as Event
 use Rattle.elsa_lock_free.specs.contracts.rule.OneWord as OneWord
 use Rattle.elsa_lock_free.specs.contracts.rule.ReleaseGain as ReleaseGain
 use Rattle.elsa_lock_free.specs.contracts.tokens.Held as Held
-use Rattle.elsa_lock_free.specs.contracts.tokens.Author as Author
+use Rattle.elsa_lock_free.specs.contracts.tokens.Writer as Writer
 use Rattle.elsa_slots.specs.contracts.slots.written_prefix.WrittenPrefix as WrittenPrefix
 use Rattle.elsa_slots.proofs.SlotLemmas.Prefix.{prefix_value}
 use Rattle.elsa_lock_free.proofs.RuleLemmas.History.{copied_items, copied_length}
@@ -24,20 +24,20 @@ use Rattle.elsa_lock_free.specs.contracts.tokens.offer_clone_closed.Key.{name as
 use Rattle.elsa_lock_free.proofs.tokens.offer_clone_closed.Statement.{statement}
 use Rattle.elsa_lock_free.proofs.tokens.offer_clone_closed.Code as code
 
--- the offer holds what its maker gives: the hold, the evidence of the items, the rights to the further buffers, and an author
+-- the offer holds what its maker gives: the hold, the evidence of the items, the rights to the further buffers, and a writer
 pub offer_clone_closed_spec : {M : Type 1} → statement M
 offer_clone_closed_spec 𝓤 𝓛 𝓜 𝓡 wired T B K _ _ _ g d h e _ _ =
     let H = 𝓛.H in let 𝓣 = tables 𝓤 H 𝓜 𝓡 𝓡.env in let T' : RattleType = param 0 T in let B' : RattleType = param 1 B in let K' : RattleType = param 2 K in let E' : RattleType = Event.the_row T' in let L' : RattleType = LinkedList.the_row E' Global.the_row galloc.ghosts in let En = ended T B K g d h e in
     let inst = bounded (a_type ∷ a_type ∷ a_type ∷ []) (T, (B, (K, tt))) (dcons d (dcons e dnil)) in let fn = inst_fn inst code.function in let c = clauses T B K g d h e 𝓛 𝓜.mem 𝓡.returns in
     let S : RattleType = Seen.the_row E' L' (OneWord.the_row B' K') (rule.ghosts T' B' K' g d h e) in
-    let hs : Stays En.signature.params En.kept = (stay_dropped (RefOf (0 ∷ []) tt (plain (λ _. S)) (λ _. tt)) yes, (stay_dropped (plain (λ _. Held.the_row)) yes, (stay_dropped (plain (λ _. WrittenPrefix.the_row T' B' g)) no, (stay_dropped (plain (λ _. WriteRights.the_row)) yes, (stay_dropped (plain (λ _. Author.the_row)) yes, tt))))) in
-    proved 𝓛 En hs c 𝓜 𝓡 (Goes-dropped 𝓛 4 (RefOf (0 ∷ []) tt (plain (λ _. S)) (λ _. tt)) yes (λ κs x f. refl), (Goes-dropped 𝓛 4 (plain (λ _. Held.the_row)) yes (λ κs x f. refl), (Goes-dropped 𝓛 4 (plain (λ _. WrittenPrefix.the_row T' B' g)) no (λ κs x f. refl), (Goes-dropped 𝓛 4 (plain (λ _. WriteRights.the_row)) yes (λ κs x f. refl), (Goes-dropped 𝓛 4 (plain (λ _. Author.the_row)) yes (λ κs x f. refl), tt))))) (#self inst) fn (code.unfolded 𝓤 H 𝓜 𝓡 wired (T, (B, (K, tt))) d e)
+    let hs : Stays En.signature.params En.kept = (stay_dropped (RefOf (0 ∷ []) tt (plain (λ _. S)) (λ _. tt)) yes, (stay_dropped (plain (λ _. Held.the_row)) yes, (stay_dropped (plain (λ _. WrittenPrefix.the_row T' B' g)) no, (stay_dropped (plain (λ _. WriteRights.the_row)) yes, (stay_dropped (plain (λ _. Writer.the_row)) yes, tt))))) in
+    proved 𝓛 En hs c 𝓜 𝓡 (Goes-dropped 𝓛 4 (RefOf (0 ∷ []) tt (plain (λ _. S)) (λ _. tt)) yes (λ κs x f. refl), (Goes-dropped 𝓛 4 (plain (λ _. Held.the_row)) yes (λ κs x f. refl), (Goes-dropped 𝓛 4 (plain (λ _. WrittenPrefix.the_row T' B' g)) no (λ κs x f. refl), (Goes-dropped 𝓛 4 (plain (λ _. WriteRights.the_row)) yes (λ κs x f. refl), (Goes-dropped 𝓛 4 (plain (λ _. Writer.the_row)) yes (λ κs x f. refl), tt))))) (#self inst) fn (code.unfolded 𝓤 H 𝓜 𝓡 wired (T, (B, (K, tt))) d e)
     (λ κs. (shr_vals, ((λ x. token ∷ []), ((λ x. token ∷ []), ((λ x. token ∷ []), ((λ x. token ∷ []), tt)))))) (λ κs. (shr_Tells (named 0) κs.0 S, ((λ x vs is. token_told (unit) vs is.0), ((λ x vs is. prefix_value T' B' g vs is.0), ((λ x vs is. token_told (unit) vs is.0), ((λ x vs is. token_told (unit) vs is.0), tt)))))) (λ κs qs bounds a gh are.
     let me = a.0.now in let p : Val = vptr a.0.ref_ptr.0 a.0.ref_ptr.1 in
     let y : (walk_of 𝓛 En hs c).Ghost = ((κs, qs, bounds, a, (p ∷ [], (token ∷ [], (token ∷ [], (token ∷ [], (token ∷ [], tt)))))), gh) in let Post : Val → SProp 𝓤 = (walk_of 𝓛 En hs c).post y in
     let args : List Val = p ∷ token ∷ token ∷ token ∷ token ∷ [] in
     qed 𝓛 ((raw (denote.Triple.Entry.alive 𝓛 En.signature κs qs) ⊛ ‵ (owns (types_at En.signature.params κs) a y.0.4)) ∷ raw (fact 𝓤 _) ∷ raw (fact 𝓤 _) ∷ raw (fact 𝓤 _) ∷ given _ (‵ ftrue) ∷ []) ∵ keep ! (4 ∷ 0 ∷ []) $ learn ! (λ asked. drop ! $ split ! $
-    let held = a.1.0 in let prefix = a.1.1.0 in let author' = a.1.1.1.1.0 in let buffer_slots : List ℕ = buffer_slots_of me.names in let xs : List T'.Denot = prefix.items in let n : ℕ = length xs in
+    let held = a.1.0 in let prefix = a.1.1.0 in let writer' = a.1.1.1.1.0 in let buffer_slots : List ℕ = buffer_slots_of me.names in let xs : List T'.Denot = prefix.items in let n : ℕ = length xs in
     move ! (1 ∷ []) $ fsplit ! $ move ! (1 ∷ []) $ fsplit ! $ fsplit ! $ move ! (2 ∷ []) $ fsplit ! $ fsplit ! $ move ! (2 ∷ []) $ fsplit ! $ fsplit ! $ move ! (2 ∷ []) $ fsplit ! $ fsplit ! $ keep ! (4 ∷ 6 ∷ 8 ∷ 1 ∷ 10 ∷ []) $
     enter ! 𝓣.C 𝓣.Λ fn args Post $ alloc_all ! (λ l. pass_all ! refl ((tt, tt), ((tt, (tt, tt)), ((tt, (tt, tt)), ((tt, (tt, tt)), ((tt, (tt, tt)), tt))))) $ let Env = env fn.locals l in
     let k = asked.3 in rewrite ! 0 (λ (z : List ℕ). ‵ (write_rights z)) k.rights refl $ use1 𝓛 (‵ (rights_from T' B' g.slot_names g.fits buffer_slots n)) (tails.rights_of_closed 𝓛 T' B' g.slot_names g.fits buffer_slots n k.buffer k.begins) $
@@ -45,7 +45,7 @@ offer_clone_closed_spec 𝓤 𝓛 𝓜 𝓡 wired T B K _ _ _ g d h e _ _ =
     rewrite ! 1 (λ (z : List ℕ). ‵ (prefix_written T' B' g.slot_names g.fits z 0 xs)) asked.2 refl $ rewrite ! 1 (λ (z : List T'.Denot). ‵ (prefix_written T' B' g.slot_names g.fits buffer_slots 0 z)) (sym (copied_items xs)) refl $
     rewrite ! 2 (λ (z : ℕ). ‵ (latest logs three_quarters z held.added)) asked.0 refl $ rewrite ! 2 (λ (z : List ℕ). ‵ (latest logs three_quarters (head me.names) z)) asked.1 refl $
     fjoin ! $ move ! (1 ∷ 0 ∷ 2 ∷ []) $ fjoin3 ! $
-    use1 𝓛 (‵ (offer_owns (rule_owns T' B' g.slot_names g.fits me.names) (IsStep {T = T'.Denot} (Cloned xs)) (release_gain T' B' g.slot_names g.fits (OfferOf author'.name author'.used ∷ [])) None)) (offers.clone_offer 𝓛 T' B' g.slot_names g.fits me.names [] xs author'.name author'.used) $
+    use1 𝓛 (‵ (offer_owns (rule_owns T' B' g.slot_names g.fits me.names) (IsStep {T = T'.Denot} (Cloned xs)) (release_gain T' B' g.slot_names g.fits (OfferOf writer'.name writer'.used ∷ [])) None)) (offers.clone_offer 𝓛 T' B' g.slot_names g.fits me.names [] xs writer'.name writer'.used) $
     use0 𝓛 (‵ ((Token (Tuple (E' ∷ L' ∷ OneWord.the_row B' K' ∷ ReleaseGain.the_row B' ∷ []))).own_val (record {}, tt) (token ∷ []))) (token_made (Tuple (E' ∷ L' ∷ OneWord.the_row B' K' ∷ ReleaseGain.the_row B' ∷ [])) 𝓛) $ fjoin ! $ sets ! (agg ! (no_more !)) refl (tt, tt) $ sets ! (agg ! (and_then ! (get ! refl) (no_more !))) refl (tt, (tt, tt)) $
     nothing ! $ nothing ! $ fjoin ! $ nothing ! $ fjoin ! $ nothing ! $ fjoin ! $ nothing ! $ fjoin ! $ nothing ! $ fjoin ! $
-    returns ! (look_at ! 0 refl) $ free_all ! refl $ keep ! (2 ∷ 0 ∷ 1 ∷ []) $ by ! (ends 𝓛 En hs c y (token) (record { marker = record {}; names = me.names; ask = Cloned xs; about = OfferOf author'.name author'.used ∷ []; state = None }) (tt, (tt, (tt, (tt, (tt, tt))))) (tt, (tt, (tt, (tt, (tt, tt))))) (fact_i 𝓤 _ (emp 𝓤) ((refl, refl, refl, refl)))))))
+    returns ! (look_at ! 0 refl) $ free_all ! refl $ keep ! (2 ∷ 0 ∷ 1 ∷ []) $ by ! (ends 𝓛 En hs c y (token) (record { marker = record {}; names = me.names; ask = Cloned xs; about = OfferOf writer'.name writer'.used ∷ []; state = None }) (tt, (tt, (tt, (tt, (tt, tt))))) (tt, (tt, (tt, (tt, (tt, tt))))) (fact_i 𝓤 _ (emp 𝓤) ((refl, refl, refl, refl)))))))

@@ -7,7 +7,7 @@ use Rattle.elsa_lock_free.specs.declared.event.Event.TheVariants.{OfferOf}
 use Rattle.elsa_lock_free.specs.contracts.event.Event as Event
 use Rattle.elsa_lock_free.specs.contracts.rule.OneWord as OneWord
 use Rattle.elsa_lock_free.specs.contracts.rule.ReadGain as ReadGain
-use Rattle.elsa_lock_free.specs.contracts.tokens.Author as Author
+use Rattle.elsa_lock_free.specs.contracts.tokens.Writer as Writer
 use Rattle.elsa_lock_free.specs.contracts.rule.OneWordRuleEventLog.TheImpl as rule
 use Rattle.elsa_lock_free.specs.Rights.{IsStep, rule_owns, read_gain}
 use Rattle.elsa_lock_free.proofs.RuleLemmas.Offers as offers
@@ -16,14 +16,14 @@ use Rattle.elsa_lock_free.specs.contracts.tokens.offer_read.Key.{name as #self}
 use Rattle.elsa_lock_free.proofs.tokens.offer_read.Statement.{statement}
 use Rattle.elsa_lock_free.proofs.tokens.offer_read.Code as code
 
--- the offer holds the author of the pass that reads
+-- the offer holds the writer of the pass that reads
 pub offer_read_spec : {M : Type 1} → statement M
 offer_read_spec 𝓤 𝓛 𝓜 𝓡 wired T B K _ _ _ g d h e _ _ =
     let H = 𝓛.H in let 𝓣 = tables 𝓤 H 𝓜 𝓡 𝓡.env in let T' : RattleType = param 0 T in let B' : RattleType = param 1 B in let K' : RattleType = param 2 K in let E' : RattleType = Event.the_row T' in let L' : RattleType = LinkedList.the_row E' Global.the_row galloc.ghosts in let En = ended T B K g d h e in
     let inst = bounded (a_type ∷ a_type ∷ a_type ∷ []) (T, (B, (K, tt))) (dcons d (dcons e dnil)) in let fn = inst_fn inst code.function in let c = clauses T B K g d h e 𝓛 𝓜.mem 𝓡.returns in
     let S : RattleType = Seen.the_row E' L' (OneWord.the_row B' K') (rule.ghosts T' B' K' g d h e) in
-    let hs : Stays En.signature.params En.kept = (stay_dropped (RefOf (0 ∷ []) tt (plain (λ _. S)) (λ _. tt)) yes, (stay_dropped (plain (λ _. Author.the_row)) yes, tt)) in
-    proved 𝓛 En hs c 𝓜 𝓡 (Goes-dropped 𝓛 4 (RefOf (0 ∷ []) tt (plain (λ _. S)) (λ _. tt)) yes (λ κs x f. refl), (Goes-dropped 𝓛 4 (plain (λ _. Author.the_row)) yes (λ κs x f. refl), tt)) (#self inst) fn (code.unfolded 𝓤 H 𝓜 𝓡 wired (T, (B, (K, tt))) d e)
+    let hs : Stays En.signature.params En.kept = (stay_dropped (RefOf (0 ∷ []) tt (plain (λ _. S)) (λ _. tt)) yes, (stay_dropped (plain (λ _. Writer.the_row)) yes, tt)) in
+    proved 𝓛 En hs c 𝓜 𝓡 (Goes-dropped 𝓛 4 (RefOf (0 ∷ []) tt (plain (λ _. S)) (λ _. tt)) yes (λ κs x f. refl), (Goes-dropped 𝓛 4 (plain (λ _. Writer.the_row)) yes (λ κs x f. refl), tt)) (#self inst) fn (code.unfolded 𝓤 H 𝓜 𝓡 wired (T, (B, (K, tt))) d e)
     (λ κs. (shr_vals, ((λ x. token ∷ []), tt))) (λ κs. (shr_Tells (named 0) κs.0 S, ((λ x vs is. token_told (unit) vs is.0), tt))) (λ κs qs bounds a gh are.
     let me = a.0.now in let p : Val = vptr a.0.ref_ptr.0 a.0.ref_ptr.1 in
     let y : (walk_of 𝓛 En hs c).Ghost = ((κs, qs, bounds, a, (p ∷ [], (token ∷ [], tt))), gh) in let Post : Val → SProp 𝓤 = (walk_of 𝓛 En hs c).post y in
@@ -32,7 +32,7 @@ offer_read_spec 𝓤 𝓛 𝓜 𝓡 wired T B K _ _ _ g d h e _ _ =
     let held = a.1.0 in
     -- [alive; owns]
     move ! (1 ∷ []) $ fsplit ! $ move ! (1 ∷ []) $ fsplit ! $ fsplit ! $
-    -- [token of the author; what it owns; nothing; the Seen; alive]
+    -- [token of the writer; what it owns; nothing; the Seen; alive]
     keep ! (1 ∷ 4 ∷ []) $
     enter ! 𝓣.C 𝓣.Λ fn args Post $ alloc_all ! (λ l. pass_all ! refl ((tt, tt), ((tt, (tt, tt)), tt)) $ let Env = env fn.locals l in
     use1 𝓛 (‵ (offer_owns (rule_owns T' B' g.slot_names g.fits me.names) (IsStep (OfferOf held.name held.used)) (read_gain T' B' g.slot_names g.fits me.names (OfferOf held.name held.used ∷ [])) None)) (offers.read_offer 𝓛 T' B' g.slot_names g.fits me.names held.name held.used (OfferOf held.name held.used ∷ []) refl) $

@@ -12,7 +12,7 @@ use Rattle.elsa_lock_free.specs.History.{added, list_of}
 use Rattle.elsa_lock_free.specs.contracts.event.Event as Event
 use Rattle.elsa_lock_free.specs.contracts.rule.OneWord as OneWord
 use Rattle.elsa_lock_free.specs.contracts.rule.ReleaseGain as ReleaseGain
-use Rattle.elsa_lock_free.specs.contracts.tokens.Author as Author
+use Rattle.elsa_lock_free.specs.contracts.tokens.Writer as Writer
 use Rattle.elsa_lock_free.specs.contracts.rule.OneWordRuleEventLog.TheImpl as rule
 use Rattle.elsa_lock_free.specs.Rights.{logs, head, buffer_slots_of, IsStep, rule_owns, release_gain, rights_from}
 use Rattle.elsa_lock_free.proofs.RuleLemmas.Offers as offers
@@ -22,28 +22,28 @@ use Rattle.elsa_lock_free.specs.contracts.tokens.offer_release.Key.{name as #sel
 use Rattle.elsa_lock_free.proofs.tokens.offer_release.Statement.{statement}
 use Rattle.elsa_lock_free.proofs.tokens.offer_release.Code as code
 
--- the offer holds what the acquire gained, the hold and the rights to append, and the author
+-- the offer holds what the acquire gained, the hold and the rights to append, and the writer
 pub offer_release_spec : {M : Type 1} → statement M
 offer_release_spec 𝓤 𝓛 𝓜 𝓡 wired T B K _ _ _ g d h e _ _ =
     let H = 𝓛.H in let 𝓣 = tables 𝓤 H 𝓜 𝓡 𝓡.env in let T' : RattleType = param 0 T in let B' : RattleType = param 1 B in let K' : RattleType = param 2 K in let E' : RattleType = Event.the_row T' in let L' : RattleType = LinkedList.the_row E' Global.the_row galloc.ghosts in let En = ended T B K g d h e in
     let inst = bounded (a_type ∷ a_type ∷ a_type ∷ []) (T, (B, (K, tt))) (dcons d (dcons e dnil)) in let fn = inst_fn inst code.function in let c = clauses T B K g d h e 𝓛 𝓜.mem 𝓡.returns in
     let S : RattleType = Seen.the_row E' L' (OneWord.the_row B' K') (rule.ghosts T' B' K' g d h e) in let G : RattleType = Gained.the_row E' L' (AcquireGain.the_row B') (takes.ghosts T' B' g d) in let GT : RattleType = Tuple (E' ∷ L' ∷ AcquireGain.the_row B' ∷ []) in
-    let hs : Stays En.signature.params En.kept = (stay_dropped (RefOf (0 ∷ []) tt (plain (λ _. S)) (λ _. tt)) yes, (stay_dropped (plain (λ _. G)) no, (stay_dropped (plain (λ _. Author.the_row)) yes, tt))) in
-    proved 𝓛 En hs c 𝓜 𝓡 (Goes-dropped 𝓛 4 (RefOf (0 ∷ []) tt (plain (λ _. S)) (λ _. tt)) yes (λ κs x f. refl), (Goes-dropped 𝓛 4 (plain (λ _. G)) no (λ κs x f. refl), (Goes-dropped 𝓛 4 (plain (λ _. Author.the_row)) yes (λ κs x f. refl), tt))) (#self inst) fn (code.unfolded 𝓤 H 𝓜 𝓡 wired (T, (B, (K, tt))) d e)
+    let hs : Stays En.signature.params En.kept = (stay_dropped (RefOf (0 ∷ []) tt (plain (λ _. S)) (λ _. tt)) yes, (stay_dropped (plain (λ _. G)) no, (stay_dropped (plain (λ _. Writer.the_row)) yes, tt))) in
+    proved 𝓛 En hs c 𝓜 𝓡 (Goes-dropped 𝓛 4 (RefOf (0 ∷ []) tt (plain (λ _. S)) (λ _. tt)) yes (λ κs x f. refl), (Goes-dropped 𝓛 4 (plain (λ _. G)) no (λ κs x f. refl), (Goes-dropped 𝓛 4 (plain (λ _. Writer.the_row)) yes (λ κs x f. refl), tt))) (#self inst) fn (code.unfolded 𝓤 H 𝓜 𝓡 wired (T, (B, (K, tt))) d e)
     (λ κs. (shr_vals, ((λ x. token ∷ []), ((λ x. token ∷ []), tt)))) (λ κs. (shr_Tells (named 0) κs.0 S, ((λ x vs is. token_told (GT) vs is.0), ((λ x vs is. token_told (unit) vs is.0), tt)))) (λ κs qs bounds a gh are.
     let me = a.0.now in let p : Val = vptr a.0.ref_ptr.0 a.0.ref_ptr.1 in
     let y : (walk_of 𝓛 En hs c).Ghost = ((κs, qs, bounds, a, (p ∷ [], (token ∷ [], (token ∷ [], tt)))), gh) in let Post : Val → SProp 𝓤 = (walk_of 𝓛 En hs c).post y in
     let args : List Val = p ∷ token ∷ token ∷ [] in
     qed 𝓛 ((raw (denote.Triple.Entry.alive 𝓛 En.signature κs qs) ⊛ ‵ (owns (types_at En.signature.params κs) a y.0.4)) ∷ raw (fact 𝓤 _) ∷ raw (fact 𝓤 _) ∷ raw (fact 𝓤 _) ∷ given _ (‵ ftrue) ∷ []) ∵ keep ! (4 ∷ 0 ∷ []) $ learn ! (λ asked. drop ! $ split ! $
-    let up = a.1.0 in let author' = a.1.1.0 in let buffer_slots : List ℕ = buffer_slots_of me.names in let n : ℕ = length (list_of me.log) in let m : ℕ = length (list_of up.answer) in
+    let up = a.1.0 in let writer' = a.1.1.0 in let buffer_slots : List ℕ = buffer_slots_of me.names in let n : ℕ = length (list_of me.log) in let m : ℕ = length (list_of up.answer) in
     move ! (1 ∷ []) $ fsplit ! $ move ! (1 ∷ []) $ fsplit ! $ fsplit ! $ move ! (2 ∷ []) $ fsplit ! $ fsplit ! $ keep ! (4 ∷ 1 ∷ 6 ∷ []) $
-    -- [what the acquire gained; the author; alive]
+    -- [what the acquire gained; the writer; alive]
     enter ! 𝓣.C 𝓣.Λ fn args Post $ alloc_all ! (λ l. pass_all ! refl ((tt, tt), ((tt, (tt, tt)), ((tt, (tt, tt)), tt))) $ let Env = env fn.locals l in
     fsplit ! $
     rewrite ! 0 (λ (z : List ℕ). ‵ (latest logs three_quarters (head z) (added (up.answer ++ Acquired ∷ [])))) asked.0 refl $ rewrite ! 0 (λ (z : List E'.Denot). ‵ (latest logs three_quarters (head me.names) (added z))) (sym asked.1) refl $
     rewrite ! 1 (λ (z : List ℕ). ‵ (rights_from T' B' g.slot_names g.fits (buffer_slots_of z) m)) asked.0 refl $ rewrite ! 1 (λ (z : ℕ). ‵ (rights_from T' B' g.slot_names g.fits buffer_slots z)) (sym (ap length (acquired_list up.answer me.log asked.1))) refl $
     fjoin3 ! $
-    use1 𝓛 (‵ (offer_owns (rule_owns T' B' g.slot_names g.fits me.names) (IsStep {T = T'.Denot} Released) (release_gain T' B' g.slot_names g.fits (OfferOf author'.name author'.used ∷ me.log)) None)) (offers.release_offer 𝓛 T' B' g.slot_names g.fits me.names me.log author'.name author'.used) $
+    use1 𝓛 (‵ (offer_owns (rule_owns T' B' g.slot_names g.fits me.names) (IsStep {T = T'.Denot} Released) (release_gain T' B' g.slot_names g.fits (OfferOf writer'.name writer'.used ∷ me.log)) None)) (offers.release_offer 𝓛 T' B' g.slot_names g.fits me.names me.log writer'.name writer'.used) $
     use0 𝓛 (‵ ((Token (Tuple (E' ∷ L' ∷ OneWord.the_row B' K' ∷ ReleaseGain.the_row B' ∷ []))).own_val (record {}, tt) (token ∷ []))) (token_made (Tuple (E' ∷ L' ∷ OneWord.the_row B' K' ∷ ReleaseGain.the_row B' ∷ [])) 𝓛) $ fjoin ! $ sets ! (agg ! (no_more !)) refl (tt, tt) $ sets ! (agg ! (and_then ! (get ! refl) (no_more !))) refl (tt, (tt, tt)) $
     nothing ! $ nothing ! $ fjoin ! $ nothing ! $ fjoin ! $ nothing ! $ fjoin ! $
-    returns ! (look_at ! 0 refl) $ free_all ! refl $ keep ! (2 ∷ 0 ∷ 1 ∷ []) $ by ! (ends 𝓛 En hs c y (token) (record { marker = record {}; names = me.names; ask = Released; about = OfferOf author'.name author'.used ∷ me.log; state = None }) (tt, (tt, (tt, tt))) (tt, (tt, (tt, tt))) (fact_i 𝓤 _ (emp 𝓤) ((refl, refl, refl, refl)))))))
+    returns ! (look_at ! 0 refl) $ free_all ! refl $ keep ! (2 ∷ 0 ∷ 1 ∷ []) $ by ! (ends 𝓛 En hs c y (token) (record { marker = record {}; names = me.names; ask = Released; about = OfferOf writer'.name writer'.used ∷ me.log; state = None }) (tt, (tt, (tt, tt))) (tt, (tt, (tt, tt))) (fact_i 𝓤 _ (emp 𝓤) ((refl, refl, refl, refl)))))))

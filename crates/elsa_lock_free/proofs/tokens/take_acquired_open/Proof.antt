@@ -42,4 +42,4 @@ take_acquired_open_spec 𝓤 𝓛 𝓜 𝓡 wired T B _ _ g d _ =
     let h' : Held.the_row.Denot = record { marker = record {}; name = head up.names; added = added (up.answer ++ Acquired ∷ []) } in let w' : (Written.the_row B').Denot = record { marker = record {}; of = slice_index_or buffer_slots b 0; value = opened } in let s' : WriteRights.the_row.Denot = record { marker = record {}; of = drops j (g.slot_names opened) } in let b' : WriteRights.the_row.Denot = record { marker = record {}; of = drops (suc b) buffer_slots } in
     nothing ! $ move ! (4 ∷ 0 ∷ []) $ fjoin ! $ move ! (3 ∷ 0 ∷ []) $ fjoin ! $ move ! (2 ∷ 0 ∷ []) $ fjoin ! $ move ! (1 ∷ 0 ∷ []) $ fjoin ! $ let v : Val = vstruct (vcons token (vcons token (vcons token (vcons token (vnil))))) in let Rs : List RattleType = Held.the_row ∷ Written.the_row B' ∷ WriteRights.the_row ∷ WriteRights.the_row ∷ [] in feq_i ! (List Val) (v ∷ []) (v ∷ []) refl $ fjoin ! $ fpack ! (Valss Rs) (λ vss. fsep (feq (List Val) (v ∷ []) (vstruct (of_list (vss.0 ++ (vss.1.0 ++ (vss.1.1.0 ++ (vss.1.1.1.0 ++ []))))) ∷ [])) (owns Rs (h', (w', (s', (b', tt)))) vss)) (token ∷ [], (token ∷ [], (token ∷ [], (token ∷ [], tt)))) $
     nothing ! $ nothing ! $ fjoin ! $ nothing ! $ fjoin ! $ nothing ! $ fjoin ! $
-    returns ! (look_at ! 0 refl) $ free_all ! refl $ keep ! (2 ∷ 0 ∷ 1 ∷ []) $ by ! (ends 𝓛 En hs c y (v) ((h', w', s', b')) (tt, (tt, (tt, tt))) (tt, (tt, (tt, tt))) (fact_i 𝓤 _ (emp 𝓤) ((refl, refl, record { place = asked.0; evidence = refl; whole = len; left = refl; rights = refl })))))))))
+    returns ! (look_at ! 0 refl) $ free_all ! refl $ keep ! (2 ∷ 0 ∷ 1 ∷ []) $ by ! (ends 𝓛 En hs c y (v) ((h', w', s', b')) (tt, (tt, (tt, tt))) (tt, (tt, (tt, tt))) (fact_i 𝓤 _ (emp 𝓤) ((refl, refl, record { index = asked.0; evidence = refl; whole = len; left = refl; rights = refl })))))))))

@@ -4,10 +4,10 @@ use Rattle.std.specs.contracts.alloc.Global as Global
 use Rattle.std.specs.contracts.impls.GlobalAllocator.TheImpl as galloc
 use Rattle.std_collections.specs.contracts.linked_list.LinkedList as LinkedList
 use Rattle.elsa_lock_free.specs.SharedList.{items_of}
-use Rattle.elsa_lock_free.specs.History.{list_of, author_of, used_of}
+use Rattle.elsa_lock_free.specs.History.{list_of, writer_of, used_of}
 use Rattle.elsa_lock_free.specs.contracts.event.Event as Event
 use Rattle.elsa_lock_free.specs.contracts.rule.ReadGain as ReadGain
-use Rattle.elsa_lock_free.specs.contracts.tokens.Author as Author
+use Rattle.elsa_lock_free.specs.contracts.tokens.Writer as Writer
 use Rattle.elsa_slots.specs.contracts.slots.written_prefix.WrittenPrefix as WrittenPrefix
 use Rattle.elsa_slots.proofs.SlotLemmas.Prefix.{prefix_made}
 use Rattle.elsa_lock_free.specs.contracts.rule.ReadGainGainEventLog.TheImpl as looks
@@ -17,7 +17,7 @@ use Rattle.elsa_lock_free.specs.contracts.tokens.take_read.Key.{name as #self}
 use Rattle.elsa_lock_free.proofs.tokens.take_read.Statement.{statement}
 use Rattle.elsa_lock_free.proofs.tokens.take_read.Code as code
 
--- what a read gained is the author, and the evidence for the whole list
+-- what a read gained is the writer, and the evidence for the whole list
 pub take_read_spec : {M : Type 1} → statement M
 take_read_spec 𝓤 𝓛 𝓜 𝓡 wired T B _ _ g d _ =
     let H = 𝓛.H in let 𝓣 = tables 𝓤 H 𝓜 𝓡 𝓡.env in let T' : RattleType = param 0 T in let B' : RattleType = param 1 B in let E' : RattleType = Event.the_row T' in let L' : RattleType = LinkedList.the_row E' Global.the_row galloc.ghosts in let En = ended T B g d in
@@ -34,7 +34,7 @@ take_read_spec 𝓤 𝓛 𝓜 𝓡 wired T B _ _ g d _ =
     enter ! 𝓣.C 𝓣.Λ fn args Post $ alloc_all ! (λ l. pass_all ! refl ((tt, (tt, tt)), tt) $ let Env = env fn.locals l in
     fsplit ! $ use1 𝓛 (‵ ((WrittenPrefix.the_row T' B' g).own_val (record { marker = record {}; buffer_slots = buffer_slots; items = xs }) (token ∷ []))) (prefix_made 𝓛 T' B' g (buffer_slots) (xs)) $ move ! (1 ∷ []) $ fsplit ! $ move ! (1 ∷ []) $ fpick ! (λ le. drop ! $ use0 𝓛 (‵ ((Token (unit)).own_val (record {}, tt) (token ∷ []))) (token_made (unit) 𝓛) $ fjoin ! $
     sets ! (agg ! (no_more !)) refl (tt, tt) $ sets ! (agg ! (and_then ! (get ! refl) (no_more !))) refl (tt, (tt, tt)) $ sets ! (agg ! (no_more !)) refl (tt, tt) $ sets ! (agg ! (and_then ! (get ! refl) (no_more !))) refl (tt, (tt, tt)) $ sets ! (agg ! (and_then ! (get ! refl) (and_then ! (get ! refl) (no_more !)))) refl (tt, ((tt, tt), ((tt, tt), tt))) $
-    let u' : Author.the_row.Denot = record { marker = record {}; name = author_of up.about; used = used_of up.about } in let f' : (WrittenPrefix.the_row T' B' g).Denot = record { marker = record {}; buffer_slots = buffer_slots; items = xs } in
-    nothing ! $ move ! (2 ∷ 0 ∷ []) $ fjoin ! $ move ! (1 ∷ 0 ∷ []) $ fjoin ! $ let v : Val = vstruct (vcons token (vcons token (vnil))) in let Rs : List RattleType = Author.the_row ∷ WrittenPrefix.the_row T' B' g ∷ [] in feq_i ! (List Val) (v ∷ []) (v ∷ []) refl $ fjoin ! $ fpack ! (Valss Rs) (λ vss. fsep (feq (List Val) (v ∷ []) (vstruct (of_list (vss.0 ++ (vss.1.0 ++ []))) ∷ [])) (owns Rs (u', (f', tt)) vss)) (token ∷ [], (token ∷ [], tt)) $
+    let u' : Writer.the_row.Denot = record { marker = record {}; name = writer_of up.about; used = used_of up.about } in let f' : (WrittenPrefix.the_row T' B' g).Denot = record { marker = record {}; buffer_slots = buffer_slots; items = xs } in
+    nothing ! $ move ! (2 ∷ 0 ∷ []) $ fjoin ! $ move ! (1 ∷ 0 ∷ []) $ fjoin ! $ let v : Val = vstruct (vcons token (vcons token (vnil))) in let Rs : List RattleType = Writer.the_row ∷ WrittenPrefix.the_row T' B' g ∷ [] in feq_i ! (List Val) (v ∷ []) (v ∷ []) refl $ fjoin ! $ fpack ! (Valss Rs) (λ vss. fsep (feq (List Val) (v ∷ []) (vstruct (of_list (vss.0 ++ (vss.1.0 ++ []))) ∷ [])) (owns Rs (u', (f', tt)) vss)) (token ∷ [], (token ∷ [], tt)) $
     nothing ! $ nothing ! $ fjoin ! $
     returns ! (look_at ! 0 refl) $ free_all ! refl $ keep ! (2 ∷ 0 ∷ 1 ∷ []) $ by ! (ends 𝓛 En hs c y (v) ((u', f')) (tt, tt) (tt, tt) (fact_i 𝓤 _ (emp 𝓤) ((refl, refl, le, refl, refl)))))))

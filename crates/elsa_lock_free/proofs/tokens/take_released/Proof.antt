@@ -3,7 +3,7 @@ use Rattle.logbook.specs.contracts.tokens.Gained as Gained
 use Rattle.std.specs.contracts.alloc.Global as Global
 use Rattle.std.specs.contracts.impls.GlobalAllocator.TheImpl as galloc
 use Rattle.std_collections.specs.contracts.linked_list.LinkedList as LinkedList
-use Rattle.elsa_lock_free.specs.History.{author_of, used_of}
+use Rattle.elsa_lock_free.specs.History.{writer_of, used_of}
 use Rattle.elsa_lock_free.specs.contracts.event.Event as Event
 use Rattle.elsa_lock_free.specs.contracts.rule.ReleaseGain as ReleaseGain
 use Rattle.elsa_lock_free.specs.contracts.rule.ReleaseGainGainEventLog.TheImpl as gives
@@ -12,7 +12,7 @@ use Rattle.elsa_lock_free.specs.contracts.tokens.take_released.Key.{name as #sel
 use Rattle.elsa_lock_free.proofs.tokens.take_released.Statement.{statement}
 use Rattle.elsa_lock_free.proofs.tokens.take_released.Code as code
 
--- what a release gained is the author, with all its tickets
+-- what a release gained is the writer, with all its tickets
 pub take_released_spec : {M : Type 1} → statement M
 take_released_spec 𝓤 𝓛 𝓜 𝓡 wired T B _ _ g d _ =
     let H = 𝓛.H in let 𝓣 = tables 𝓤 H 𝓜 𝓡 𝓡.env in let T' : RattleType = param 0 T in let B' : RattleType = param 1 B in let E' : RattleType = Event.the_row T' in let L' : RattleType = LinkedList.the_row E' Global.the_row galloc.ghosts in let En = ended T B g d in
@@ -30,4 +30,4 @@ take_released_spec 𝓤 𝓛 𝓜 𝓡 wired T B _ _ g d _ =
     fsplit ! $ move ! (1 ∷ []) $ fpick ! (λ so. drop ! $
     use0 𝓛 (‵ ((Token (unit)).own_val (record {}, tt) (token ∷ []))) (token_made (unit) 𝓛) $ fjoin ! $ sets ! (agg ! (no_more !)) refl (tt, tt) $ sets ! (agg ! (and_then ! (get ! refl) (no_more !))) refl (tt, (tt, tt)) $
     nothing ! $ nothing ! $ fjoin ! $
-    returns ! (look_at ! 0 refl) $ free_all ! refl $ keep ! (2 ∷ 0 ∷ 1 ∷ []) $ by ! (ends 𝓛 En hs c y (token) (record { marker = record {}; name = author_of up.about; used = used_of up.about }) (tt, tt) (tt, tt) (fact_i 𝓤 _ (emp 𝓤) ((refl, refl, so.0, so.1)))))))
+    returns ! (look_at ! 0 refl) $ free_all ! refl $ keep ! (2 ∷ 0 ∷ 1 ∷ []) $ by ! (ends 𝓛 En hs c y (token) (record { marker = record {}; name = writer_of up.about; used = used_of up.about }) (tt, tt) (tt, tt) (fact_i 𝓤 _ (emp 𝓤) ((refl, refl, so.0, so.1)))))))

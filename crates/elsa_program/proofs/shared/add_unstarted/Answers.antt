@@ -6,7 +6,7 @@ use Rattle.elsa_lock_free.specs.SharedList.{View}
 use Rattle.elsa_program.specs.declared.shared.Done.{Done}
 use Rattle.elsa_program.specs.declared.shared.SharedFault.TheVariants.{Thread}
 use Rattle.elsa_program.specs.Workers.{Each, IsWorkOf}
-use Rattle.elsa_program.proofs.Places.{Each-push}
+use Rattle.elsa_program.proofs.Indices.{Each-push}
 use Rattle.elsa_lock_free.proofs.Pushed.{nothing_earlier, nothing_pushed}
 use Rattle.elsa_program.proofs.shared.add_unstarted.Goals as goal
 
@@ -17,11 +17,11 @@ loop-preserved g c =
     let theirs : View ℕ = c.begin-theirs.result in let begun : List (Entry ℕ) = c.args._begun.now.seen in
     let IsDone : ℕ → Done g.row.A.Denot → Type 0 = λ worker d. IsWorkOf c.args.vector.now begun c.args._count worker d.pass d.fault in
     let IsWithin : Done g.row.A.Denot → Type 0 = λ d. length d.pass.seen ≤ length c.begin-theirs.new.pass.seen in
-    let none = nothing_pushed theirs.author theirs.seen made.nothing_mine in
+    let none = nothing_pushed theirs.writer theirs.seen made.nothing_mine in
     let pre : IsPrefix begun theirs.seen = subst (λ (es : List (Entry ℕ)). IsPrefix begun es) (sym (made.seen ∙ ap (λ (p : View ℕ). p.seen) was.0)) c.requires.begun in
     let added : Done g.row.A.Denot = record { pass = theirs; fault = Some Thread } in
     let items : c.push.new.self.items ≡ c.loop.done.items ++ added ∷ [] = search rules in
-    let work : IsDone (length c.loop.done.items) added = (made.same_vector, nothing_earlier theirs.author begun theirs.seen pre none, (0, none, refl)) in
+    let work : IsDone (length c.loop.done.items) added = (made.same_vector, nothing_earlier theirs.writer begun theirs.seen pre none, (0, none, refl)) in
     let within : All IsWithin c.loop.done.items = subst (λ (p : View ℕ). All (λ (d : Done g.row.A.Denot). length d.pass.seen ≤ length p.seen) c.loop.done.items) (sym made.same) was.4 in
     let seen : IsWithin added = let e = ap (λ (p : View ℕ). length p.seen) made.same in let h = ap (λ (es : List (Entry ℕ)). length es) made.seen in omega arith in (
       made.same ∙ was.0,

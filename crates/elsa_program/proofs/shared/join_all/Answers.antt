@@ -4,7 +4,7 @@ use Rattle.elsa_lock_free.specs.declared.event.Entry.{Entry}
 use Rattle.elsa_program.specs.declared.shared.Done.{Done}
 use Rattle.elsa_program.specs.Workers.{Each, IsPromiseOf, IsWorkOf}
 use Rattle.elsa_program.proofs.Passes.{continues_more, prefix_within}
-use Rattle.elsa_program.proofs.Places.{Each-push}
+use Rattle.elsa_program.proofs.Indices.{Each-push}
 use Rattle.elsa_program.proofs.Pushed.{promised_work, work_stays}
 use Rattle.elsa_program.proofs.shared.join_all.Goals as goal
 

@@ -15,12 +15,12 @@ loop-worker-preserved g c =
     let was = c.loop-worker.invariant in let step = c.in-Some.ensures.steps in let met = c.meet.ensures in
     let pass = c.loop-worker.pass in let next = c.in-Some.worker in let theirs = c.meet.new.other in
     let rest = into_iter_items c.next.new.self in let all = c.args.done.items in
-    let IsAll : View ℕ → Done g.row.A.Denot → Type 0 = λ p d. pushed_by d.pass.author p.seen ≡ pushed_by d.pass.author d.pass.seen in
+    let IsAll : View ℕ → Done g.row.A.Denot → Type 0 = λ p d. pushed_by d.pass.writer p.seen ≡ pushed_by d.pass.writer d.pass.seen in
     let within = was.3 0 next in
     let seen : c.meet.new.self.seen ≡ pass.seen = met.1.0 ∙ first_is_longer pass.seen next.pass.seen (search rules) in
     let same : c.meet.new.self ≡ pass = same_view pass c.meet.new.self met.0.0.0.0 met.0.0.0.1 seen in
     let here : IsAll pass next =
-    ap (λ (es : List (Entry ℕ)). pushed_by next.pass.author es) (sym seen ∙ (met.1.0 ∙ sym met.1.1))
+    ap (λ (es : List (Entry ℕ)). pushed_by next.pass.writer es) (sym seen ∙ (met.1.0 ∙ sym met.1.1))
     ∙ (ap (λ (a : ℕ). pushed_by a theirs.seen) (sym met.0.1.0.1) ∙ pushes_none next.pass theirs met.0.1.0.1 met.0.1.1 met.2.1) in (
       same ∙ was.0,
       grind (rules, common_steps),

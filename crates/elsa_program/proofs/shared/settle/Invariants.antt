@@ -12,6 +12,6 @@ invariant-loop-worker g l =
     × (l.faults.items ++ map (λ d. d.fault) rest ≡ map (λ d. d.fault) all)
     × All (λ d. d.pass.vector ≡ l.pass.vector) rest
     × All (λ d. length d.pass.seen ≤ length l.pass.seen) rest
-    × (All (λ d. pushed_by d.pass.author l.pass.seen ≡ pushed_by d.pass.author d.pass.seen) rest
-    → All (λ d. pushed_by d.pass.author l.pass.seen ≡ pushed_by d.pass.author d.pass.seen) all)
+    × (All (λ d. pushed_by d.pass.writer l.pass.seen ≡ pushed_by d.pass.writer d.pass.seen) rest
+    → All (λ d. pushed_by d.pass.writer l.pass.seen ≡ pushed_by d.pass.writer d.pass.seen) all)
     × (vec_len l.faults + into_iter_len l.worker-iterator ≤ vec_capacity l.faults)

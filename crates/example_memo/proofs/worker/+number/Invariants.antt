@@ -1,4 +1,4 @@
 use Rattle.example_memo.proofs.worker.+number.Given as goal
 
 abbrev pub decreases-number : goal.decreases-number
-decreases-number g l = l.place
+decreases-number g l = l.index

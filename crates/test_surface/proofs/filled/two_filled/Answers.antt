@@ -21,12 +21,12 @@ returns g c =
     let worked : HaveWorked count c.pass-pass.result.seen c.run_shared_into.new.pass.seen faults = told.pushed in
     let first : IsFirstFault faults c.first_fault.result = subst (λ (fs : List (Option SharedFault)). IsFirstFault fs c.first_fault.result) c.deref.ensures.value c.first_fault.ensures in
     let none = none_told faults c.first_fault.result (search rules) first in
-    let all : (worker : ℕ) → worker < 2 → pushed_by (worked.author worker) c.run_shared_into.new.pass.seen ≡ numbers (worker * count) count = λ worker below.
+    let all : (worker : ℕ) → worker < 2 → pushed_by (worked.writer worker) c.run_shared_into.new.pass.seen ≡ numbers (worker * count) count = λ worker below.
     let within : worker < length faults = omega (arith, told.each) in
     finished count worker _ _ (none worker None within) (worked.pushed worker None within) in
     let zero : 0 * count ≡ 0 = omega arith in let one : 1 * count ≡ count = omega arith in (
-      worked.author 0,
-      worked.author 1,
+      worked.writer 0,
+      worked.writer 1,
       (λ same. let e = worked.apart 0 1 same in omega arith),
       all 0 (omega arith) ∙ ap (λ (k : ℕ). numbers k count) zero,
       all 1 (omega arith) ∙ ap (λ (k : ℕ). numbers k count) one,

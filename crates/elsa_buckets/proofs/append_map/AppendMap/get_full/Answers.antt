@@ -14,8 +14,8 @@ search-requires g c =
 pub returns-in-Ok-clause-entry : goal.returns-in-Ok-clause-entry
 returns-in-Ok-clause-entry g c =
     let ps = c.as_slice-pairs.result.now in
-    let i = c.in-Ok.place in
-    let a = c.index-pairs-place.result in
-    let b = c.index-pairs-place-in-Ok.result in
+    let i = c.in-Ok.index in
+    let a = c.index-pairs-index.result in
+    let b = c.index-pairs-index-in-Ok.result in
     ap (λ l. slice_get l i) (sym (c.as_slice-pairs.ensures.value ∙ c.self.view_is)) ∙ slice_get-get_or ps i a c.in-Ok.ensures.within
     ∙ ap (λ (p : g.row.K.Denot × g.row.B.Denot). Some ((slice_index_or ps i a).0, p.1)) (get_or_default ps i a b c.in-Ok.ensures.within)

@@ -16,7 +16,7 @@ search-requires g c =
 
 pub returns-in-Ok-clause-present : goal.returns-in-Ok-clause-present
 returns-in-Ok-clause-present g c x e =
-    let there = c.index-pairs-place.result in
+    let there = c.index-pairs-index.result in
     let same = sym (c.in-Ok.ensures.value there) ∙ ap (lookup (g.K.PartialEq.eq c.args.key)) (c.as_slice-pairs.ensures.value ∙ c.self.view_is) ∙ e in
     (refl, ((_, c.read.ensures, ap (λ o. unwrap_or o x) same), refl))
 
@@ -33,7 +33,7 @@ invariant_of-self-in_default-reserve g c =
     let wide = c.reserve-2.new.self in
     let told = c.in_default-reserve.ensures in
     subst (λ (l : List (g.row.K.Denot × g.row.B.Denot)). IsPlaced g.K.PartialEq.eq hash wide (keys_of l)) (sym c.in-Ok-reserve.ensures.items)
-    (placed_same _ g.met.K.Eq.laws _ c.self.inside.table wide (keys_of c.self.inside.pairs.items) c.self.invariant told.places told.same)
+    (placed_same _ g.met.K.Eq.laws _ c.self.inside.table wide (keys_of c.self.inside.pairs.items) c.self.invariant told.indices told.same)
 
 -- The closure failed.
 pub invariant_of-self-in-Err-make : goal.invariant_of-self-in-Err-make
@@ -42,7 +42,7 @@ invariant_of-self-in-Err-make g c =
     let wide = c.reserve-2.new.self in
     let told = c.in-Ok-reserve-2.ensures in
     subst (λ (l : List (g.row.K.Denot × g.row.B.Denot)). IsPlaced g.K.PartialEq.eq hash wide (keys_of l)) (sym c.in-Ok-reserve.ensures.items)
-    (placed_same _ g.met.K.Eq.laws _ c.self.inside.table wide (keys_of c.self.inside.pairs.items) c.self.invariant told.places told.same)
+    (placed_same _ g.met.K.Eq.laws _ c.self.inside.table wide (keys_of c.self.inside.pairs.items) c.self.invariant told.indices told.same)
 
 -- The entry is added.
 pub invariant_of-self-2 : goal.invariant_of-self-2
@@ -55,11 +55,11 @@ invariant_of-self-2 g c =
     let told = c.in-Ok-reserve-2.ensures in
     let none = subst (λ (l : List (g.row.K.Denot × g.row.B.Denot)). position (same c.args.key) (keys_of l) ≡ None) c.as_slice-pairs.ensures.value c.in-Err.ensures.absent in
     let last = c.push_reserved.ensures.items ∙ ap (λ l. l ++ (c.args.key, c.in-Ok-make.made.0) ∷ []) c.in-Ok-reserve.ensures.items in
-    let before = placed_same _ g.met.K.Eq.laws hash c.self.inside.table wide (keys_of es) c.self.invariant told.places told.same in
+    let before = placed_same _ g.met.K.Eq.laws hash c.self.inside.table wide (keys_of es) c.self.invariant told.indices told.same in
     subst (λ (l : List (g.row.K.Denot × g.row.B.Denot)). IsPlaced same hash after (keys_of l)) (sym last)
     (subst (IsPlaced same hash after) (sym (keys_push es (c.args.key, c.in-Ok-make.made.0)))
     (placed_put _ g.met.K.Eq.laws hash wide after (keys_of es) c.args.key c.in-Err.missing.hash c.add.result before c.in-Err.ensures.hashed
-    c.add.ensures.place c.add.ensures.places c.add.ensures.adds none))
+    c.add.ensures.index c.add.ensures.indices c.add.ensures.adds none))
 
 pub returns-clause-added : goal.returns-clause-added
 returns-clause-added g c absent =

@@ -26,7 +26,7 @@ invariant_of-self-in_err-name g c =
     let reserved = c.in_ok-room.ensures in
     let hash = text_hash g.S.BuildHasher g.S.Hasher.Hasher c.self.inside.hash_builder in
     subst (λ l. IsNumbered hash c.reserve-2.new.self (map string_bytes l)) (sym c.in_ok-reserve.ensures.items)
-    (numbered_same hash c.self.inside.table c.reserve-2.new.self _ c.self.invariant reserved.places reserved.same)
+    (numbered_same hash c.self.inside.table c.reserve-2.new.self _ c.self.invariant reserved.indices reserved.same)
 
 pub invariant_of-self-2 : goal.invariant_of-self-2
 invariant_of-self-2 g c =
@@ -35,6 +35,6 @@ invariant_of-self-2 g c =
     let reserved = c.in_ok-room.ensures in
     let last = shown_push string_bytes ks c.reserve.new.self.items c.push_reserved.new.self.items text c.in_ok-name.name c.in_ok-reserve.ensures.items c.push_reserved.ensures.items c.in_ok-name.ensures.ok in
     let none = subst (λ l. position (bytes_eq text) (map string_bytes l) ≡ None) c.as_slice.ensures.value c.in-Err.ensures.absent in
-    let before = numbered_same _ c.self.inside.table c.reserve-2.new.self (map string_bytes ks) c.self.invariant reserved.places reserved.same in
-    subst (IsNumbered _ c.add-place.new.self) (sym last)
-    (numbered_put _ c.reserve-2.new.self c.add-place.new.self _ text c.name_hash-hash.result c.add-place.result before c.name_hash-hash.ensures c.add-place.ensures.place c.add-place.ensures.places c.add-place.ensures.adds none)
+    let before = numbered_same _ c.self.inside.table c.reserve-2.new.self (map string_bytes ks) c.self.invariant reserved.indices reserved.same in
+    subst (IsNumbered _ c.add-index.new.self) (sym last)
+    (numbered_put _ c.reserve-2.new.self c.add-index.new.self _ text c.name_hash-hash.result c.add-index.result before c.name_hash-hash.ensures c.add-index.ensures.index c.add-index.ensures.indices c.add-index.ensures.adds none)

@@ -31,12 +31,12 @@ pub returns-in-Err-Memory : goal.returns-in-Err-Memory
 returns-in-Err-Memory g c =
     let same : Memory c.in-Err-Memory.value ≡ c.in-Err-Memory.field-0 = search rules in
     record {
-      taken = taken_until g.I.IntoIterator.into_iter_gives g.I.IntoIter.Iterator.next_gives g.T.Places.same c.args.pairs c.in-Ok.hold.seen c.extend.new.self.seen c.in-Err-Memory.field-0 (Memory c.in-Err-Memory.value) same c.in-Err-Memory.ensures.extended;
+      taken = taken_until g.I.IntoIterator.into_iter_gives g.I.IntoIter.Iterator.next_gives g.T.Indices.same c.args.pairs c.in-Ok.hold.seen c.extend.new.self.seen c.in-Err-Memory.field-0 (Memory c.in-Err-Memory.value) same c.in-Err-Memory.ensures.extended;
     }
 
 pub returns : goal.returns
 returns g c =
     let same : Full c.in-Err-Full.value ≡ c.in-Err-Full.field-0 = search rules in
     record {
-      taken = taken_until g.I.IntoIterator.into_iter_gives g.I.IntoIter.Iterator.next_gives g.T.Places.same c.args.pairs c.in-Ok.hold.seen c.extend.new.self.seen c.in-Err-Full.field-0 (Full c.in-Err-Full.value) same c.in-Err-Full.ensures.extended;
+      taken = taken_until g.I.IntoIterator.into_iter_gives g.I.IntoIter.Iterator.next_gives g.T.Indices.same c.args.pairs c.in-Ok.hold.seen c.extend.new.self.seen c.in-Err-Full.field-0 (Full c.in-Err-Full.value) same c.in-Err-Full.ensures.extended;
     }

@@ -9,5 +9,5 @@ make-requires g c = c.requires.callable (absent_before (g.Q.Seeks.finds c.args.q
 
 pub returns-in-Ok-insert_new-clause-inserted : goal.returns-in-Ok-insert_new-clause-inserted
 returns-in-Ok-insert_new-clause-inserted g c =
-    let eq = g.T.Places.same in let old = c.args.self.now.seen in let mid = c.find_entry-known.new.self.seen in let new = c.insert_new.new.self.seen in let r = c.in-Ok-insert_new.inserted in let made = c.in-Ok.made in
+    let eq = g.T.Indices.same in let old = c.args.self.now.seen in let mid = c.find_entry-known.new.self.seen in let new = c.insert_new.new.self.seen in let r = c.in-Ok-insert_new.inserted in let made = c.in-Ok.made in
     inr (made.0, made.1, c.in-Ok.ensures, inserts_later eq old mid new made.0 made.1 r.value.now r.index r.is_new c.find_entry-known.ensures.continues.seen c.in-Ok-insert_new.ensures.inserted)

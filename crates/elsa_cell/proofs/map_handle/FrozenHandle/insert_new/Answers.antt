@@ -14,4 +14,4 @@ returns-clause-continues g c = record {
 pub returns-clause-inserted : goal.returns-clause-inserted
 returns-clause-inserted g c =
     let all = c.in-Ok.hold.seen in
-    IfOk-weaker c.insert_new-inserted.result _ _ (λ r i. (all, c.in-Ok.ensures.items, subst (λ xs. Inserts g.T.Places.same all xs c.args.key c.args.value r.value.now r.index r.is_new) (sym c.release.ensures.seen) i)) c.insert_new-inserted.ensures.inserted
+    IfOk-weaker c.insert_new-inserted.result _ _ (λ r i. (all, c.in-Ok.ensures.items, subst (λ xs. Inserts g.T.Indices.same all xs c.args.key c.args.value r.value.now r.index r.is_new) (sym c.release.ensures.seen) i)) c.insert_new-inserted.ensures.inserted

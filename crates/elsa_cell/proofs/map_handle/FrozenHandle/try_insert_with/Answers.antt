@@ -4,11 +4,11 @@ use Rattle.elsa_cell.proofs.EntryLemmas.{absent_before, inserts_kept, inserts_la
 use Rattle.elsa_cell.proofs.map_handle.FrozenHandle.try_insert_with.Goals as goal
 
 pub make-requires : goal.make-requires
-make-requires g c = c.requires.callable (absent_before (g.T.Places.same c.args.key) c.args.self.now.seen c.find.new.self.seen c.find.ensures.continues.seen
+make-requires g c = c.requires.callable (absent_before (g.T.Indices.same c.args.key) c.args.self.now.seen c.find.new.self.seen c.find.ensures.continues.seen
     (sym c.in-Ok.ensures.value ∙ ap (option_map (λ f. f.1.now)) c.in_default-found.is))
 
 pub returns-in-Ok-insert_new-clause-inserted : goal.returns-in-Ok-insert_new-clause-inserted
 returns-in-Ok-insert_new-clause-inserted g c =
-    let eq = g.T.Places.same in let old = c.args.self.now.seen in let mid = c.find.new.self.seen in let new = c.insert_new.new.self.seen in let r = c.in-Ok-insert_new.inserted in
+    let eq = g.T.Indices.same in let old = c.args.self.now.seen in let mid = c.find.new.self.seen in let new = c.insert_new.new.self.seen in let r = c.in-Ok-insert_new.inserted in
     inserts_kept eq old new c.args.key c.in-Ok-make.made r.value.now r.index r.is_new
     (inserts_later eq old mid new c.args.key c.in-Ok-make.made r.value.now r.index r.is_new c.find.ensures.continues.seen c.in-Ok-insert_new.ensures.inserted)

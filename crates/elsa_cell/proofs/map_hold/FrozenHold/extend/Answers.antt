@@ -19,5 +19,5 @@ loop-pair-preserved g c =
         same = c.insert_new.ensures.continues.same ∙ before.continues.same;
         seen = prefix_trans old es fs before.continues.seen c.insert_new.ensures.continues.seen;
       };
-      firsts = firsts_more g.T.Places.same g.met.T.Places.equivalence old es c.loop-pair.yielded c.in-Some.pair.0 c.in-Some.pair.1 before.firsts fs put.value.now put.index put.is_new c.in_ok-_inserted.ensures.inserted;
+      firsts = firsts_more g.T.Indices.same g.met.T.Indices.equivalence old es c.loop-pair.yielded c.in-Some.pair.0 c.in-Some.pair.1 before.firsts fs put.value.now put.index put.is_new c.in_ok-_inserted.ensures.inserted;
     }

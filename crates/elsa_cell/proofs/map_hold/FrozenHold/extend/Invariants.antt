@@ -5,5 +5,5 @@ use Rattle.elsa_cell.proofs.map_hold.FrozenHold.extend.Given as goal
 abbrev pub invariant-loop-pair : goal.invariant-loop-pair
 invariant-loop-pair g l = record {
   continues : Continues l.fn.self l.self;
-  firsts : AppendsFirsts g.T.Places.same l.fn.self.seen l.yielded l.self.seen;
+  firsts : AppendsFirsts g.T.Indices.same l.fn.self.seen l.yielded l.self.seen;
 }

@@ -9,7 +9,7 @@ use Rattle.elsa_cell.proofs.map_hold.FrozenHold.insert_entry.Goals as goal
 -- The key is present.
 pub returns-in-Ok-clause-inserted : goal.returns-in-Ok-clause-inserted
 returns-in-Ok-clause-inserted g c =
-    let eq = g.T.Places.same c.args.key in let seen = c.args.self.now.seen in
+    let eq = g.T.Indices.same c.args.key in let seen = c.args.self.now.seen in
     let s = ap (λ b. b.list.prefix.items) c.deref.ensures ∙ ap (λ v. v.seen) c.self.view_is in
     let at = sym (ap (λ (l : List (Entry g.row.K.Denot g.row.V.Denot)). position eq (map key_of l)) s) ∙ c.in-Ok.ensures.found in
     (value_at eq seen c.in-Ok.present at ∙ ap (option_map (λ e. e.value)) c.entry_at.ensures.entry, at, refl)
@@ -17,7 +17,7 @@ returns-in-Ok-clause-inserted g c =
 -- The entry is appended.
 pub returns-in-Ok-add-clause-inserted : goal.returns-in-Ok-add-clause-inserted
 returns-in-Ok-add-clause-inserted g c =
-    let eq = g.T.Places.same c.args.key in let seen = c.args.self.now.seen in let new = c.add.new.self.list.prefix.items in
+    let eq = g.T.Indices.same c.args.key in let seen = c.args.self.now.seen in let new = c.add.new.self.list.prefix.items in
     let e : Entry g.row.K.Denot g.row.V.Denot = record { key = c.args.key; value = c.args.value } in
     let s = ap (λ b. b.list.prefix.items) c.deref.ensures ∙ ap (λ v. v.seen) c.self.view_is in
     let m = ap (λ b. b.list.prefix.items) c.deref_mut.ensures.value ∙ ap (λ v. v.seen) c.self.view_is in
@@ -39,7 +39,7 @@ returns-in-Ok-add-clause-entry g c =
 -- There is no room.
 pub returns-clause-refused : goal.returns-clause-refused
 returns-clause-refused g c =
-    let eq = g.T.Places.same c.args.key in
+    let eq = g.T.Indices.same c.args.key in
     let s = ap (λ b. b.list.prefix.items) c.deref.ensures ∙ ap (λ v. v.seen) c.self.view_is in
     let none = sym (ap (λ (l : List (Entry g.row.K.Denot g.row.V.Denot)). position eq (map key_of l)) s) ∙ c.in-Err.ensures.absent in
     let view = λ (xs : List (Entry g.row.K.Denot g.row.V.Denot)). let v : View (Entry g.row.K.Denot g.row.V.Denot) = record { vector = c.self.inside.slots.now; seen = xs } in v in

@@ -16,8 +16,8 @@ item-entry-requires g c =
     let has = get_joined vec_items blocks it.at b it.next i there (subst (λ l. slice_get l it.next ≡ Some i) same (slice_get-get_or order it.next 0 (omega (arith, low, long)))) in
     record { seen = c.self.invariant.1 (rank_of vec_items blocks it.at + it.next) i has }
 
-pub next_place-at-requires-clause-place : goal.next_place-at-requires-clause-place
-next_place-at-requires-clause-place g c =
+pub next_position-at-requires-clause-position : goal.next_position-at-requires-clause-position
+next_position-at-requires-clause-position g c =
     let it = c.self.inside in let blocks = it.blocks.now in let v = c.index-self-self.result in let walk = c.self.invariant.0 in
     let some = positive it.left it.left refl c.if-self-eq0.false in let here = walk.there some in
     let b = here.0 in let there = here.1 in let low = here.2 in let order = c.as_slice-block.result.now in
@@ -35,10 +35,10 @@ invariant_of-self g c =
     let i = slice_index_or order it.next 0 in
     let has = get_joined vec_items blocks it.at b it.next i there (subst (λ l. slice_get l it.next ≡ Some i) same (slice_get-get_or order it.next 0 (omega (arith, low, long)))) in (
       elim (cases_lt (it.next + 1) (length b.items)) [
-        | inl more ↦ subst (λ e. IsWalkAt vec_items blocks e.0 e.1 (it.left - 1)) (sym (c.next_place-at.ensures.within (omega (arith, more, long)))) (walk_within vec_items blocks it.at it.next it.left b walk there more some)
+        | inl more ↦ subst (λ e. IsWalkAt vec_items blocks e.0 e.1 (it.left - 1)) (sym (c.next_position-at.ensures.within (omega (arith, more, long)))) (walk_within vec_items blocks it.at it.next it.left b walk there more some)
         | inr all ↦
             let end : it.next + 1 ≡ length b.items = omega (arith, all, low) in
-            subst (λ e. IsWalkAt vec_items blocks e.0 e.1 (it.left - 1)) (sym (c.next_place-at.ensures.past (omega (arith, end, long)))) (walk_past vec_items blocks it.at it.next it.left b walk there end some)
+            subst (λ e. IsWalkAt vec_items blocks e.0 e.1 (it.left - 1)) (sym (c.next_position-at.ensures.past (omega (arith, end, long)))) (walk_past vec_items blocks it.at it.next it.left b walk there end some)
       ],
       c.self.invariant.1,
     )
@@ -52,12 +52,12 @@ returns-clause-steps g c =
     let i = slice_index_or order it.next 0 in
     let has = get_joined vec_items blocks it.at b it.next i there (subst (λ l. slice_get l it.next ≡ Some i) same (slice_get-get_or order it.next 0 (omega (arith, low, long)))) in
     let table = joined vec_items blocks in let seen = it.observed.seen in let rank = rank_of vec_items blocks it.at + it.next in
-    let moved : rank_of vec_items blocks c.next_place-at.result.0 + c.next_place-at.result.1 ≡ rank + 1 = elim (cases_lt (it.next + 1) (length b.items)) [
-      | inl more ↦ ap (λ e. rank_of vec_items blocks e.0 + e.1) (c.next_place-at.ensures.within (omega (arith, more, long))) ∙ (let e : rank_of vec_items blocks it.at + (it.next + 1) ≡ rank + 1 = omega arith in e)
+    let moved : rank_of vec_items blocks c.next_position-at.result.0 + c.next_position-at.result.1 ≡ rank + 1 = elim (cases_lt (it.next + 1) (length b.items)) [
+      | inl more ↦ ap (λ e. rank_of vec_items blocks e.0 + e.1) (c.next_position-at.ensures.within (omega (arith, more, long))) ∙ (let e : rank_of vec_items blocks it.at + (it.next + 1) ≡ rank + 1 = omega arith in e)
       | inr all ↦
           let end : it.next + 1 ≡ length b.items = omega (arith, all, low) in
           let next = rank_next vec_items blocks it.at b there in
-          ap (λ e. rank_of vec_items blocks e.0 + e.1) (c.next_place-at.ensures.past (omega (arith, end, long))) ∙ (let e : rank_of vec_items blocks (it.at + 1) + 0 ≡ rank + 1 = omega (arith, end, next) in e)
+          ap (λ e. rank_of vec_items blocks e.0 + e.1) (c.next_position-at.ensures.past (omega (arith, end, long))) ∙ (let e : rank_of vec_items blocks (it.at + 1) + 0 ≡ rank + 1 = omega (arith, end, next) in e)
     ] in
     sym c.self.view_is ∙ (next_picked seen table rank i c.item-entry.result.now has c.item-entry.ensures ∙ ap (λ n. c.item-entry.result.now ∷ picked seen (drop n table)) (sym moved))
 

@@ -15,10 +15,10 @@ returns g c =
     let there = slice_get_read blocks (length blocks) at v refl small c.index.ensures in
     let b = last_block vec_items blocks at c.requires.filled c.requires.some end in
     let some : 0 < length v.items = subst (λ x. 0 < length (vec_items x)) (same_Some b.0 v (sym b.1 ∙ there)) b.2 in
-    let place = length order - 1 in
+    let position = length order - 1 in
     let same = ap length c.as_slice-block.ensures.value in
-    let inside : place < length order = omega (arith, some, same) in
-    let here = subst (λ l. slice_get l place ≡ Some (get_or order place 0)) c.as_slice-block.ensures.value (slice_get-get_or order place 0 inside) in
+    let inside : position < length order = omega (arith, some, same) in
+    let here = subst (λ l. slice_get l position ≡ Some (get_or order position 0)) c.as_slice-block.ensures.value (slice_get-get_or order position 0 inside) in
     let next = rank_next vec_items blocks at v there in
     let all = rank_all vec_items blocks (at + 1) (omega (arith, lt, count, fits)) in
-    (rank_of vec_items blocks at + place, get_joined vec_items blocks at v place (get_or order place 0) there here, omega (arith, next, all, some, same))
+    (rank_of vec_items blocks at + position, get_joined vec_items blocks at v position (get_or order position 0) there here, omega (arith, next, all, some, same))

@@ -5,8 +5,8 @@ use Rattle.std.specs.List.{insert}
 use Rattle.elsa_cell.proofs.BlockLemmas.{is_split}
 use Rattle.elsa_cell.proofs.ordered.Ordered.split.Goals as goal
 
-pub returns-then-place-cut-clause-same : goal.returns-then-place-cut-clause-same
-returns-then-place-cut-clause-same g c =
+pub returns-then-position-cut-clause-same : goal.returns-then-position-cut-clause-same
+returns-then-position-cut-clause-same g c =
     let blocks = c.args.self.now.blocks.items in let b = c.requires.there.0 in let there = c.requires.there.1 in
     let reserved = ap vec_items c.new_block.ensures.same.0 ∙ c.in_ok-reserve.ensures.items in let cut = c.cut_of-cut.result in
     let same : c.index_mut-block.result.now ≡ b = c.index_mut-block.ensures.value ∙ (ap (λ l. get_or l c.args.at c.index_mut-block.result.now) reserved ∙ get_or_from_slice_get blocks c.args.at b c.index_mut-block.result.now there) in
@@ -19,8 +19,8 @@ returns-then-place-cut-clause-same g c =
     let s = is_split vec_items blocks c.insert.new.self.items c.args.at cut b c.truncate.new.self c.extend_from_slice.new.self there is head tail some (omega (arith, less, size)) in
     s.same
 
-pub returns-then-place-cut-clause-filled : goal.returns-then-place-cut-clause-filled
-returns-then-place-cut-clause-filled g c =
+pub returns-then-position-cut-clause-filled : goal.returns-then-position-cut-clause-filled
+returns-then-position-cut-clause-filled g c =
     let blocks = c.args.self.now.blocks.items in let b = c.requires.there.0 in let there = c.requires.there.1 in
     let reserved = ap vec_items c.new_block.ensures.same.0 ∙ c.in_ok-reserve.ensures.items in let cut = c.cut_of-cut.result in
     let same : c.index_mut-block.result.now ≡ b = c.index_mut-block.ensures.value ∙ (ap (λ l. get_or l c.args.at c.index_mut-block.result.now) reserved ∙ get_or_from_slice_get blocks c.args.at b c.index_mut-block.result.now there) in
@@ -33,8 +33,8 @@ returns-then-place-cut-clause-filled g c =
     let s = is_split vec_items blocks c.insert.new.self.items c.args.at cut b c.truncate.new.self c.extend_from_slice.new.self there is head tail some (omega (arith, less, size)) in
     s.filled
 
-pub returns-then-place-cut-clause-room : goal.returns-then-place-cut-clause-room
-returns-then-place-cut-clause-room g c =
+pub returns-then-position-cut-clause-room : goal.returns-then-position-cut-clause-room
+returns-then-position-cut-clause-room g c =
     let blocks = c.args.self.now.blocks.items in let b = c.requires.there.0 in let there = c.requires.there.1 in
     let reserved = ap vec_items c.new_block.ensures.same.0 ∙ c.in_ok-reserve.ensures.items in let cut = c.cut_of-cut.result in
     let same : c.index_mut-block.result.now ≡ b = c.index_mut-block.ensures.value ∙ (ap (λ l. get_or l c.args.at c.index_mut-block.result.now) reserved ∙ get_or_from_slice_get blocks c.args.at b c.index_mut-block.result.now there) in
@@ -47,7 +47,7 @@ returns-then-place-cut-clause-room g c =
     let s = is_split vec_items blocks c.insert.new.self.items c.args.at cut b c.truncate.new.self c.extend_from_slice.new.self there is head tail some (omega (arith, less, size)) in
     let long = ap length head ∙ length-take-le cut b.items (omega (arith, less, size)) in
     let whole = c.truncate.ensures.capacity ∙ ap vec_capacity same in let fits = b.ok.0 in let block = b.ok.1 in
-    ((c.truncate.new.self, s.first, omega (arith, long, c.if-place-cut.true), omega (arith, long, whole, fits, block, size, less)), ap (λ n. n + c.args.place) s.rank)
+    ((c.truncate.new.self, s.first, omega (arith, long, c.if-position-cut.true), omega (arith, long, whole, fits, block, size, less)), ap (λ n. n + c.args.position) s.rank)
 
 pub returns-clause-same : goal.returns-clause-same
 returns-clause-same g c =
@@ -91,6 +91,6 @@ returns-clause-room g c =
     let s = is_split vec_items blocks c.insert.new.self.items c.args.at cut b c.truncate.new.self c.extend_from_slice.new.self there is head tail some (omega (arith, less, size)) in
     let long = ap length head ∙ length-take-le cut b.items (omega (arith, less, size)) in
     let whole = c.truncate.ensures.capacity ∙ ap vec_capacity same in let fits = b.ok.0 in let block = b.ok.1 in
-    let left = ap length tail ∙ length-drop cut b.items in let past = c.if-place-cut.false in let most = c.requires.there.3 in
+    let left = ap length tail ∙ length-drop cut b.items in let past = c.if-position-cut.false in let most = c.requires.there.3 in
     let first = c.in_ok-tail.ensures.capacity in let kept = c.in-Ok.ensures.capacity in let next = s.next in
     ((c.extend_from_slice.new.self, s.second, omega (arith, left, size, most, past), omega (arith, left, size, some, first, kept)), omega (arith, next, long, past))

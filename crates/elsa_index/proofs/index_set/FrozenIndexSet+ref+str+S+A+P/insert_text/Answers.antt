@@ -1,7 +1,7 @@
 use Rattle.std.proofs.Common.{◌∙◌}
 use Rattle.elsa_index.proofs.Texts.{found_text}
 use Rattle.elsa_index.specs.Texts.{reads}
-use Rattle.elsa_maps.proofs.Places.{found_at}
+use Rattle.elsa_maps.proofs.Indices.{found_at}
 use Rattle.elsa_index.proofs.index_set.FrozenIndexSet+ref+str+S+A+P.insert_text.Goals as goal
 
 -- The text at the index that a search for the given text finds has its bytes.

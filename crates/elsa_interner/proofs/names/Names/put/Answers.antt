@@ -18,7 +18,7 @@ invariant_of-self-in_err-name g c =
     let reserved = c.in_ok-room.ensures in
     let hash = text_hash g.S.BuildHasher g.S.Hasher.Hasher c.self.inside.hash_builder in
     subst (λ l. IsNumbered hash c.reserve-2.new.self (map (λ (b : Bor (List ℕ)). b.now) l) × IsCount (length l)) (sym c.in_ok-reserve.ensures.items)
-    (numbered_same hash c.self.inside.table c.reserve-2.new.self _ c.self.invariant.0 reserved.places reserved.same, c.self.invariant.1)
+    (numbered_same hash c.self.inside.table c.reserve-2.new.self _ c.self.invariant.0 reserved.indices reserved.same, c.self.invariant.1)
 
 pub invariant_of-self-2 : goal.invariant_of-self-2
 invariant_of-self-2 g c =
@@ -32,12 +32,12 @@ invariant_of-self-2 g c =
     let last = shown_push ks c.reserve.new.self.items c.push_reserved.new.self.items text c.match-placed.name c.in_ok-reserve.ensures.items c.push_reserved.ensures.items named in
     let none = subst (λ l. position (bytes_eq text) (map (λ (b : Bor (List ℕ)). b.now) l) ≡ None) c.as_slice.ensures.value c.in-Err.ensures.absent in
     let hashed = c.requires.hashed ∙ ap (λ v. text_hash g.S.BuildHasher g.S.Hasher.Hasher v.1 text) (sym c.self.view_is) in
-    let before = numbered_same _ c.self.inside.table c.reserve-2.new.self (map (λ (b : Bor (List ℕ)). b.now) ks) c.self.invariant.0 reserved.places reserved.same in
+    let before = numbered_same _ c.self.inside.table c.reserve-2.new.self (map (λ (b : Bor (List ℕ)). b.now) ks) c.self.invariant.0 reserved.indices reserved.same in
     let counted = c.self.invariant.0.counted in
     let below = reserved.below in
-    let same = reserved.places in (
-      subst (IsNumbered _ c.add-place.new.self) (sym last)
-          (numbered_put _ c.reserve-2.new.self c.add-place.new.self _ text c.args.sought.known.hash c.add-place.result before hashed c.add-place.ensures.place c.add-place.ensures.places c.add-place.ensures.adds none),
+    let same = reserved.indices in (
+      subst (IsNumbered _ c.add-index.new.self) (sym last)
+          (numbered_put _ c.reserve-2.new.self c.add-index.new.self _ text c.args.sought.known.hash c.add-index.result before hashed c.add-index.ensures.index c.add-index.ensures.indices c.add-index.ensures.adds none),
       omega (arith, below, same, counted, length-map ks (λ (b : Bor (List ℕ)). b.now), ap length c.push_reserved.ensures.items, ap length c.in_ok-reserve.ensures.items, length-append c.reserve.new.self.items (c.match-placed.name ∷ [])),
     )
 
@@ -51,5 +51,5 @@ returns-clause-numbered g c =
     ] in
     let last = shown_push ks c.reserve.new.self.items c.push_reserved.new.self.items text c.match-placed.name c.in_ok-reserve.ensures.items c.push_reserved.ensures.items named in
     let none = subst (λ l. position (bytes_eq text) (map (λ (b : Bor (List ℕ)). b.now) l) ≡ None) c.as_slice.ensures.value c.in-Err.ensures.absent in
-    let placed : c.add-place.result ≡ length (map (λ (b : Bor (List ℕ)). b.now) ks) = omega (arith, c.add-place.ensures.place, c.in_ok-room.ensures.places, c.self.invariant.0.counted) in
-    subst (λ l. Puts l text c.add-place.result (map (λ (b : Bor (List ℕ)). b.now) c.push_reserved.new.self.items)) (ap (λ v. v.0) c.self.view_is) (put_new _ _ text c.add-place.result none placed last)
+    let placed : c.add-index.result ≡ length (map (λ (b : Bor (List ℕ)). b.now) ks) = omega (arith, c.add-index.ensures.index, c.in_ok-room.ensures.indices, c.self.invariant.0.counted) in
+    subst (λ l. Puts l text c.add-index.result (map (λ (b : Bor (List ℕ)). b.now) c.push_reserved.new.self.items)) (ap (λ v. v.0) c.self.view_is) (put_new _ _ text c.add-index.result none placed last)

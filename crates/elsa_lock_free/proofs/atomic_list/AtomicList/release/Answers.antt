@@ -23,7 +23,7 @@ pub returns-clause-seen : goal.returns-clause-seen
 returns-clause-seen g c =
     let v = c.args.seen.log in let n = c.args.n in let held : is_held v ≡ true = ap is_held c.requires.right.1 ∙ held_snoc true c.args.right.answer Acquired in let len : n ≡ length (list_of v) = c.requires.length.0 ∙ sym (ap length (acquired_list c.args.right.answer v c.requires.right.1)) in let e = c.compare_exchange.ensures in let gain = c.into_gain.ensures in let offer = c.offer_release-offer.ensures in let exchanged = e.7 in let up = c.take_released.ensures in
     let about = gain.1 ∙ (e.4 ∙ offer.2) in
-    let all = exchange_was_at_known_history v exchanged.0 c.into_gain.result.answer c.compare_exchange.new.seen.log c.offer_release-offer.result.ask c.compare_exchange.result (2 * n + 1) c.args.author.name c.args.author.used c.into_gain.result.about
+    let all = exchange_was_at_known_history v exchanged.0 c.into_gain.result.answer c.compare_exchange.new.seen.log c.offer_release-offer.result.ask c.compare_exchange.result (2 * n + 1) c.args.writer.name c.args.writer.used c.into_gain.result.about
     exchanged.1 exchanged.2 (held_word v n len held) exchanged.4 about (cc (exchanged.3, gain.2)) up.2 up.3 in
     released_list v c.compare_exchange.new.seen.log (cc (all.0, offer.1))
 
@@ -31,7 +31,7 @@ pub returns-clause-mine : goal.returns-clause-mine
 returns-clause-mine g c =
     let v = c.args.seen.log in let n = c.args.n in let held : is_held v ≡ true = ap is_held c.requires.right.1 ∙ held_snoc true c.args.right.answer Acquired in let len : n ≡ length (list_of v) = c.requires.length.0 ∙ sym (ap length (acquired_list c.args.right.answer v c.requires.right.1)) in let e = c.compare_exchange.ensures in let gain = c.into_gain.ensures in let offer = c.offer_release-offer.ensures in let exchanged = e.7 in let up = c.take_released.ensures in
     let about = gain.1 ∙ (e.4 ∙ offer.2) in
-    let all = exchange_was_at_known_history v exchanged.0 c.into_gain.result.answer c.compare_exchange.new.seen.log c.offer_release-offer.result.ask c.compare_exchange.result (2 * n + 1) c.args.author.name c.args.author.used c.into_gain.result.about
+    let all = exchange_was_at_known_history v exchanged.0 c.into_gain.result.answer c.compare_exchange.new.seen.log c.offer_release-offer.result.ask c.compare_exchange.result (2 * n + 1) c.args.writer.name c.args.writer.used c.into_gain.result.about
     exchanged.1 exchanged.2 (held_word v n len held) exchanged.4 about (cc (exchanged.3, gain.2)) up.2 up.3 in
     let x = all.1 in let y = c.requires.mine in omega (arith, x, y)
 
@@ -39,6 +39,6 @@ pub returns-clause-free : goal.returns-clause-free
 returns-clause-free g c =
     let v = c.args.seen.log in let n = c.args.n in let held : is_held v ≡ true = ap is_held c.requires.right.1 ∙ held_snoc true c.args.right.answer Acquired in let len : n ≡ length (list_of v) = c.requires.length.0 ∙ sym (ap length (acquired_list c.args.right.answer v c.requires.right.1)) in let e = c.compare_exchange.ensures in let gain = c.into_gain.ensures in let offer = c.offer_release-offer.ensures in let exchanged = e.7 in let up = c.take_released.ensures in
     let about = gain.1 ∙ (e.4 ∙ offer.2) in
-    let all = exchange_was_at_known_history v exchanged.0 c.into_gain.result.answer c.compare_exchange.new.seen.log c.offer_release-offer.result.ask c.compare_exchange.result (2 * n + 1) c.args.author.name c.args.author.used c.into_gain.result.about
+    let all = exchange_was_at_known_history v exchanged.0 c.into_gain.result.answer c.compare_exchange.new.seen.log c.offer_release-offer.result.ask c.compare_exchange.result (2 * n + 1) c.args.writer.name c.args.writer.used c.into_gain.result.about
     exchanged.1 exchanged.2 (held_word v n len held) exchanged.4 about (cc (exchanged.3, gain.2)) up.2 up.3 in
     ap is_held (all.0 ∙ ap (λ e. v ++ e ∷ []) offer.1) ∙ held_snoc true v Released

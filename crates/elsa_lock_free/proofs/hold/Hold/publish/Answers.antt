@@ -7,7 +7,7 @@ use Rattle.elsa_lock_free.specs.declared.event.Event.TheVariants.{Acquired}
 use Rattle.elsa_lock_free.specs.SharedList.{BeginsABuffer, count, entry, items_of}
 use Rattle.elsa_lock_free.specs.History.{list_of, added, is_held}
 use Rattle.elsa_lock_free.specs.Rights.{head}
-use Rattle.elsa_lock_free.proofs.RuleLemmas.AuthorPlaces.{push_places}
+use Rattle.elsa_lock_free.proofs.RuleLemmas.WriterIndices.{push_indices}
 use Rattle.elsa_lock_free.proofs.RuleLemmas.History.{held_snoc, items_length}
 use Rattle.elsa_lock_free.proofs.RuleLemmas.Hold.{before_slot, later_slot}
 use Rattle.elsa_lock_free.proofs.RuleLemmas.HoldEnd.{acquired_list, published_count}
@@ -120,6 +120,6 @@ returns g c =
     let mine : count a (list_of v) ≡ used = ap (count a) whole ∙ p.mine in
     let log = c.publish-seen.result.0.log in let up = c.publish-seen.ensures in
     let now : count a (list_of log) ≡ suc used = ap (λ (l : List (Entry g.row.T.Denot)). count a l) up.seen ∙ (published_count a (list_of v) (entry a c.args.item) refl ∙ ap suc mine) in
-    let more = push_places a used (length (list_of v)) (list_of v) (list_of log) (entry a c.args.item) (list_of v, ([], append-nil (list_of v)), refl, up.seen) refl mine now in
+    let more = push_indices a used (length (list_of v)) (list_of v) (list_of log) (entry a c.args.item) (list_of v, ([], append-nil (list_of v)), refl, up.seen) refl mine now in
     let vector = cc (up.same.0.0, up.same.0.1) ∙ (ap (λ w. w.vector) c.self.view_is ∙ (c.requires.held.0 ∙ ap (λ w. w.vector) was)) in
     record { pushed = rw (was, c.released.ensures, up.same.1, sym whole) ((vector, refl), (up.seen, more)) }

@@ -6,7 +6,7 @@ use Rattle.elsa_lock_free.specs.declared.event.Event.TheVariants.{Acquired}
 use Rattle.elsa_lock_free.specs.SharedList.{BeginsABuffer, count, entry}
 use Rattle.elsa_lock_free.specs.History.{list_of, added, is_held}
 use Rattle.elsa_lock_free.specs.Rights.{head, buffer_slots_of}
-use Rattle.elsa_lock_free.proofs.RuleLemmas.AuthorPlaces.{push_places}
+use Rattle.elsa_lock_free.proofs.RuleLemmas.WriterIndices.{push_indices}
 use Rattle.elsa_lock_free.proofs.RuleLemmas.History.{held_snoc}
 use Rattle.elsa_lock_free.proofs.RuleLemmas.Hold.{begins_closed}
 use Rattle.elsa_lock_free.proofs.RuleLemmas.HoldEnd.{acquired_list, published_count}
@@ -52,7 +52,7 @@ publish-seen-requires-clause-ahead g c =
     let rest : c.take-first.new.self.of ≡ drops (suc b) (buffer_slots_of names) = cc all in
     let items = c.fill-opened.result.value.0 in (
       record {
-        place = inv.4;
+        index = inv.4;
         evidence = c.fill-opened.ensures.0 ∙ sym (ap (λ z. slice_index_or (buffer_slots_of z) b 0) (sym inv.0 ∙ same) ∙ ap (λ z. slice_index_or z b 0) list.buffer_slots_are);
         whole = ap (λ r. length r.0) c.fill-opened.ensures.1 ∙ (c.in-Ok.ensures.slots.0 ∙ c.buffer_size.ensures);
         left = c.in-Ok.ensures.slots.1 ∙ (sym (ap (λ r. r.0) c.fill-opened.ensures.1) ∙ subst (λ (k : ℕ). items ≡ drops k items) (sym closed.0) refl);
@@ -113,6 +113,6 @@ returns-clause-pushed g c =
     let mine : count a (list_of v) ≡ used = ap (count a) whole ∙ p.mine in
     let log = c.publish-seen.result.0.log in let up = c.publish-seen.ensures in
     let now : count a (list_of log) ≡ suc used = ap (λ (l : List (Entry g.row.T.Denot)). count a l) up.seen ∙ (published_count a (list_of v) (entry a c.args.item) refl ∙ ap suc mine) in
-    let more = push_places a used (length (list_of v)) (list_of v) (list_of log) (entry a c.args.item) (list_of v, ([], append-nil (list_of v)), refl, up.seen) refl mine now in
+    let more = push_indices a used (length (list_of v)) (list_of v) (list_of log) (entry a c.args.item) (list_of v, ([], append-nil (list_of v)), refl, up.seen) refl mine now in
     let vector = cc (up.same.0.0, up.same.0.1) ∙ (ap (λ w. w.vector) c.self.view_is ∙ (c.requires.held.0 ∙ ap (λ w. w.vector) was)) in
     rw (was, c.released-2.ensures, up.same.1, sym whole) ((vector, refl), (up.seen, more))

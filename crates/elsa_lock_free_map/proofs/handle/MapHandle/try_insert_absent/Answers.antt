@@ -16,7 +16,7 @@ returns-in-Ok-clause-inserted g c =
 
 pub returns-in-Some-clause-inserted : goal.returns-in-Some-clause-inserted
 returns-in-Some-clause-inserted g c =
-    let eq = g.K.PartialEq.eq in let b = c.loop.self in let after = c.try_push_absent.new.self in let i = c.in-Some.index in let inv = c.loop.invariant in let key = c.args.key in let item = c.entry-in-Some.result.now in
+    let eq = g.K.PartialEq.eq in let b = c.loop.self in let after = c.try_push_absent.new.self in let i = c.in-Some.at in let inv = c.loop.invariant in let key = c.args.key in let item = c.entry-in-Some.result.now in
     let back = err_at c.in_ok-index.field-0 (c.in-Err.key, c.in-Err.value) _ c.in-Err.is c.in_ok-index.ensures.again in
     let same = ap (λ q. q.0) (back.0 ∙ inv.5) in let f = c.in-Some.ensures.found in
     inserts_since eq c.args.self.now b after key (record { value = item.value; index = i; is_new = false }) ((inv.0, inv.1), inv.2, inv.3) c.requires.absent

@@ -6,4 +6,4 @@ use Rattle.elsa_lock_free_map.proofs.iter.MapIter.next_entry.Goals as goal
 pub returns : goal.returns
 returns g c =
     let it = c.self.inside in let es = it.entries in let e = c.item-entry.result.now in
-    sym c.self.view_is ∙ (pair_at es it.place e c.item-entry.ensures ∙ ap (λ k. (e.key, e.value) ∷ drop k (pairs_of es)) (sym (add-one it.place)))
+    sym c.self.view_is ∙ (pair_at es it.index e c.item-entry.ensures ∙ ap (λ k. (e.key, e.value) ∷ drop k (pairs_of es)) (sym (add-one it.index)))

@@ -12,14 +12,14 @@ returns-in-Some-clause-inserted g c =
     let f = c.in-Some.ensures.found in
     let old = items_of c.args.self.now.seen in
     let new = items_of c.find.new.self.seen in
-    let here = stands_at is_text new c.in-Some.index c.args.text.now c.entry.result.now (f.0, f.1, f.2) c.entry.ensures in (
+    let here = stands_at is_text new c.in-Some.at c.args.text.now c.entry.result.now (f.0, f.1, f.2) c.entry.ensures in (
       here,
       c.find.ensures.continues.2,
       λ j v h.
           let kept = later_at old new j h.0 (items_prefix c.args.self.now.seen c.find.new.self.seen c.find.ensures.continues.1) h.1 in
           let same = sym (nat_list_eq_equiv.congr c.args.text.now f.0.key.now h.0.key.now f.2) ∙ h.2 in
-          let index = c.one_to_one.ensures c.in-Some.index j f.0.key h.0.key (key_at new c.in-Some.index f.0 f.1) (key_at new j h.0 kept) same in
-          (index, one_value is_text new c.args.text.now c.in-Some.index j _ v index here (h.0, kept, h.2, h.3), refl),
+          let index = c.one_to_one.ensures c.in-Some.at j f.0.key h.0.key (key_at new c.in-Some.at f.0 f.1) (key_at new j h.0 kept) same in
+          (index, one_value is_text new c.args.text.now c.in-Some.at j _ v index here (h.0, kept, h.2, h.3), refl),
     )
 
 pub returns-clause-inserted : goal.returns-clause-inserted

@@ -46,5 +46,5 @@ returns-clause-on_shard g c =
     let within : k < length items = omega (arith, c.shard_index-chosen.ensures.within, ap (λ v. length v.0) c.self.view_is) in
     let at = slice_get-get_or items k view within ∙ ap Some (sym c.index_mut-names.ensures.value) in
     let count_is : c.len-count.result ≡ length c.args.self.now.0 = omega (arith, c.len-count.ensures, ap (λ v. length v.0) c.self.view_is) in
-    let place_is = sym c.number_of.ensures.place ∙ ap (λ n. c.number_of.result / n) count_is in
-    on_shard_at items c.args.self.now.0 k _ view c.try_put_text.new.self _ (ap (λ v. v.0) c.self.view_is) c.shard_index-chosen.ensures.chosen at (c.try_put_text.ensures.later, c.try_put_text.ensures.one_to_one, subst (λ i. PutsText view c.try_put_text.new.self i c.args.text.now) place_is c.in-Ok.ensures.numbered, tt)
+    let index_is = sym c.number_of.ensures.index ∙ ap (λ n. c.number_of.result / n) count_is in
+    on_shard_at items c.args.self.now.0 k _ view c.try_put_text.new.self _ (ap (λ v. v.0) c.self.view_is) c.shard_index-chosen.ensures.chosen at (c.try_put_text.ensures.later, c.try_put_text.ensures.one_to_one, subst (λ i. PutsText view c.try_put_text.new.self i c.args.text.now) index_is c.in-Ok.ensures.numbered, tt)

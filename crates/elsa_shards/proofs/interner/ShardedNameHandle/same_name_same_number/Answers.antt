@@ -4,8 +4,8 @@ use Rattle.elsa_shards.proofs.MeetLemmas.{same_length}
 use Rattle.elsa_shards.proofs.NumberLemmas.{agree_more, vectors_at}
 use Rattle.elsa_shards.proofs.interner.ShardedNameHandle.same_name_same_number.Goals as goal
 
-pub same_name_same_place-requires : goal.same_name_same_place-requires
-same_name_same_place-requires g c =
+pub same_name_same_index-requires : goal.same_name_same_index-requires
+same_name_same_index-requires g c =
     let one = c.self.inside.names.items in
     let two = c.other.inside.names.items in
     let k = c.loop-index.index in
@@ -30,4 +30,4 @@ loop-index-preserved g c =
     let within_two : k < length two = omega (arith, within, same_length two one same) in
     let at = slice_get-get_or one k a within ∙ ap Some (sym c.index.ensures) in
     let at_two = slice_get-get_or two k b within_two ∙ ap Some (sym c.index-in-loop-index.ensures) in
-    agree_more g.T.PartialEq.eq k one two a b c.loop-index.invariant at at_two c.same_name_same_place.ensures
+    agree_more g.T.PartialEq.eq k one two a b c.loop-index.invariant at at_two c.same_name_same_index.ensures

@@ -7,7 +7,7 @@ use Rattle.test_lock_free.proofs.rising.Writer.push.Goals as goal
 pub push_at-requires-clause-obeys_rule : goal.push_at-requires-clause-obeys_rule
 push_at-requires-clause-obeys_rule g c =
     let old = c.self.inside.handle in let new = c.len-len.new.self in
-    subst (λ (n : ℕ). AllBelow c.raised-item.result (pushed_by new.author (take n new.seen))) (sym c.len-len.ensures.length)
+    subst (λ (n : ℕ). AllBelow c.raised-item.result (pushed_by new.writer (take n new.seen))) (sym c.len-len.ensures.length)
     (may_push old new c.self.inside.next c.raised-item.result c.len-len.ensures.continues c.self.invariant c.raised-item.ensures)
 
 pub invariant_of-self : goal.invariant_of-self

@@ -6,7 +6,7 @@ use Rattle.elsa_lock_free.specs.SharedList.{Vector, View, pushed_by}
 use Rattle.elsa_program.specs.declared.shared.Done.{Done}
 use Rattle.elsa_program.specs.declared.shared.WorkOf.{WorkOf}
 use Rattle.elsa_program.specs.Workers.{Each, IsPromiseOf, IsWorkOf}
-use Rattle.elsa_program.proofs.Places.{Each-push}
+use Rattle.elsa_program.proofs.Indices.{Each-push}
 use Rattle.elsa_lock_free.proofs.Pushed.{nothing_pushed}
 use Rattle.elsa_program.proofs.shared.fn.run_workers.scope.Goals as goal
 use Rattle.elsa_program.proofs.shared.fn.run_workers.scope.Goals.{else-loop-worker-test, then-loop-worker-test+in_default}
@@ -16,7 +16,7 @@ pub spawn_scoped_with-requires-clause-keeps : goal.spawn_scoped_with-requires-cl
 spawn_scoped_with-requires-clause-keeps g c κs within done did =
     let theirs = c.begin-theirs.result in let made = c.begin-theirs.ensures in let begun = c.captures.begun.now.seen in
     let seen : theirs.seen ≡ begun = made.seen ∙ c.loop-worker.invariant.1 in
-    let none : pushed_by theirs.author begun ≡ [] = ap (λ (es : List (Entry ℕ)). pushed_by theirs.author es) (sym seen) ∙ nothing_pushed theirs.author theirs.seen made.nothing_mine in
+    let none : pushed_by theirs.writer begun ≡ [] = ap (λ (es : List (Entry ℕ)). pushed_by theirs.writer es) (sym seen) ∙ nothing_pushed theirs.writer theirs.seen made.nothing_mine in
     let vector = c.captures.vector.now in let count = c.captures.count in let of = c.promise_of-promise.ensures in
     let kept : IsWorkOf vector begun count c.loop-worker.worker done.pass done.fault = (did.0.0 ∙ made.same_vector, ap (λ (a : ℕ). pushed_by a begun) did.0.1 ∙ none, did.1) in
     rw (of.0, of.1, of.2, of.3) kept

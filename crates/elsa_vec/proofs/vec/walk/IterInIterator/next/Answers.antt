@@ -4,4 +4,4 @@ use Rattle.elsa_vec.proofs.vec.walk.IterInIterator.next.Goals as goal
 
 pub returns-clause-steps : goal.returns-clause-steps
 returns-clause-steps g c =
-    rw (← c.self.view_is) (first_between c.self.inside.items.now c.self.inside.place c.self.inside.end c.get_unchecked-item.result (omega (arith, c.if-self.false, c.self.invariant)) c.get_unchecked-item.ensures)
+    rw (← c.self.view_is) (first_between c.self.inside.items.now c.self.inside.index c.self.inside.end c.get_unchecked-item.result (omega (arith, c.if-self.false, c.self.invariant)) c.get_unchecked-item.ensures)
