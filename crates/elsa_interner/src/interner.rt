@@ -1,9 +1,7 @@
 //! The interner of one thread, and the public names of the crate.
 //!
 //! [`Interner`] finds a name by its hash in a table of indices (`elsa_buckets`). One search
-//! suffices, also for a new name. [`intern_engine`] runs an interner over the lines of a reader. It
-//! is generic over [`Source`] and [`Sink`], which [`Counted`] makes from readers and writers of
-//! std.
+//! suffices, also for a new name.
 ghost use Rattle.std.specs.Prelude.{◌≡◌, ◌↔◌, ℕ, [], List, length, None, Some, slice_get, position, map, is_some, ◌<◌, ◌≤◌, ◌-◌, ◌^◌, IfOk, IfSome, IsTrue, OnErr, OnOk};
 ghost use Rattle.std.specs.Borrow.{Bor};
 ghost use Rattle.std.specs.Fmt.{debug_list, debug_str};
@@ -16,8 +14,6 @@ ghost use mathlib.Core.List.{IsPrefix};
 ghost use Rattle.std.specs.Slice.Iter.{iter_rest};
 ghost use Rattle.elsa_interner.specs.Names.{Puts, PutsAll, IsFull, IsOneToOne};
 
-pub use crate::devices::{Counted, Failed, Sink, Source};
-pub use crate::engine::{EngineFault, intern_engine, intern_engine_with_hasher};
 pub use crate::reader::InternerReader;
 pub use crate::symbol::Symbol;
 use bumpalo::Bump;

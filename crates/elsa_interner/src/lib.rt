@@ -1,15 +1,7 @@
-//! The interner of one thread, and the engine that replies to lines about names.
+//! The interner of one thread: names with their numbers.
 #![tactic(auto)]
 
-mod ahead;
-mod chunk;
-pub mod devices;
-pub mod digits;
-pub mod engine;
 pub mod interner;
-mod names;
-mod pending;
+pub mod names;
 pub mod reader;
-mod reply;
-mod request;
 pub mod symbol;

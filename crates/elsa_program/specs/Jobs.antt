@@ -3,7 +3,7 @@
 use Rattle.std.specs.Prelude.{ℕ, ◌≤◌, ⊤, ◌&&◌, nat_le, Bool, List, [], ◌∷◌, Option, None, Some, codes, if◌then◌else◌}
 use Rattle.std.specs.Str.{bytes_eq}
 use Rattle.std.specs.Str.Parse.{digits_value}
-use Rattle.elsa_interner.specs.Lines.{is_number}
+use Rattle.elsa_program.specs.Lines.{is_number}
 use Rattle.elsa_program.specs.declared.jobs.Job.{Job}
 use Rattle.elsa_program.specs.declared.jobs.Job.TheVariants.{Intern, Shared}
 

@@ -4,8 +4,8 @@ ghost use Rattle.std.specs.Str.Parse.{digits_value};
 ghost use Rattle.std.specs.String.{string_bytes};
 ghost use Rattle.elsa_program.specs.Jobs.{IsWithinLimits, is_number_within, job_of};
 
+use crate::digits::number_of;
 pub use crate::jobs::Job;
-use elsa_interner::digits::number_of;
 
 /// Returns the number that a word writes in digits, if it is from `low` to `high`.
 fn number_within(word: &str, low: u64, high: u64) -> Option<usize>

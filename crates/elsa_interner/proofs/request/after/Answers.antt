@@ -1,5 +1,0 @@
-use Rattle.elsa_interner.proofs.RequestLemmas.{after_word}
-use Rattle.elsa_interner.proofs.request.after.Goals as goal
-
-pub returns : goal.returns
-returns c = after_word c.args.word.now c.args.text.now c.strip_prefix.result c.strip_prefix.ensures.cases
