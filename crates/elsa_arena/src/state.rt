@@ -244,6 +244,8 @@ fn open_fresh<T, A: Allocator + Copy>(
     requires location { IsAt _n buffer _slot × (buffer < 31) × (length into.now ≡ 31) }
     requires closed { IsClosedAt into.now _n further.of }
     requires ready { AreNext buffer ready.old.items }
+
+    // The slot is in an open buffer, or nothing was ready and the buffer stays closed.
     ensures open { IfOk result (λ o. IsOpenAt into.now _n buffer _slot
         o.buffer.of o.buffer.value.0 o.slots.of o.further.of) }
     ensures left { OnOk result (ready.new.items ≡ drop 1 ready.old.items) }
@@ -279,6 +281,8 @@ fn open_next<T, A: Allocator + Copy>(
     requires location { IsAt _n buffer _slot × (buffer < 31) × (length into.now ≡ 31) }
     requires ahead { GoesOn into.now _n ahead.opened ahead.slots.of ahead.further.of }
     requires ready { AreReady ahead.further.of ready.old.items }
+
+    // The slot is in an open buffer, or nothing was ready and the buffer stays closed.
     ensures open { IfOk result (λ o. IsOpenAt into.now _n buffer _slot
         o.buffer.of o.buffer.value.0 o.slots.of o.further.of) }
     ensures ready { IfOk result (λ o. AreReady o.further.of ready.new.items
@@ -326,6 +330,8 @@ fn write_next<'v, T, A: Allocator + Copy>(
         from.buffer.of from.buffer.value.0 from.slots.of from.further.of }
     requires buffer_count { buffer < 31 }
     requires prefix { (prefix.old.buffer_slots ≡ into.now) × (length prefix.old.items ≡ _n) }
+
+    // The prefix has the item, and the slot after it is known.
     ensures written { (prefix.new.buffer_slots ≡ prefix.old.buffer_slots)
         × (prefix.new.items ≡ prefix.old.items ++ item ∷ []) }
     ensures ahead { GoesOn into.now (_n + 1)
@@ -382,6 +388,8 @@ pub fn push_item<'v, T, A: Allocator + Copy>(
     item: T,
 ) -> Result<(usize, &'v T), T>
     requires { IsStateOf into.now state.old }
+
+    // The item is the last, or it comes back and the items stay.
     ensures same_vector { IsStateOf into.now state.new }
     ensures pushed { IfOk result (λ r. (r.0 ≡ length state.old.prefix.items)
         × (r.1.now ≡ item) × (state.new.prefix.items ≡ state.old.prefix.items ++ item ∷ [])) }
@@ -474,6 +482,8 @@ pub fn reserve<T, A: Allocator + Copy>(
     additional: usize,
 ) -> Result<(), AllocError>
     requires { IsStateOf into.now state.old }
+
+    // The items stay. On success there is room for the additional ones.
     ensures same_vector { IsStateOf into.now state.new }
     ensures same { state.new.prefix.items ≡ state.old.prefix.items }
     ensures capacity { capacity_of state.old ≤ capacity_of state.new }

@@ -171,6 +171,8 @@ fn hashes_in(group: &Group, hashes: &[u32]) -> [u32; 12]
 fn enter_all(groups: &mut [Group], from: &Group, hashes: &[u32]) -> Result<(), AllocError>
     requires known { TakenBelow from.now (length hashes.now) }
     requires only { AllTakenBelow groups.old (length hashes.now) }
+
+    // The hashes of `from` are added to those that the groups had.
     ensures entered { OnOk result (StoresAll groups.new hashes.now from.now 12) }
     ensures stays { (hash n : ℕ) → Stores groups.old hash n → Stores groups.new hash n }
     ensures only { AllTakenBelow groups.new (length hashes.now) }
@@ -238,6 +240,8 @@ pub(crate) fn widened<A: Allocator + Copy>(
     size: Size,
 ) -> Result<Vec<Group, A>, AllocError>
     requires { Indexes old.now hashes.old.items }
+
+    // The new groups have the same hashes. If the call fails, there are none.
     ensures indexes { IfOk result (λ groups. Indexes groups.items hashes.new.items) }
     ensures count { IfOk result (λ groups. length groups.items ≡ size.count) }
     ensures hashes { hashes.new.items ≡ hashes.old.items }

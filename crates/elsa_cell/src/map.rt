@@ -86,6 +86,8 @@ pub(crate) fn find_beside<
 >(entries: &Observed<'m, Entry<K, V>, A>, query: Q) -> Option<(usize, &'m Entry<K, V>)>
     requires limit { length entries.now.seen ≤ 2 ^ 32 - 1 }
     requires rule { HoldsEach R.holds entries.now.seen }
+
+    // Index, entry and value are those of the first key that the query finds.
     ensures index { option_map (λ f. f.0) result
         ≡ position (Q.finds query) (map key_of entries.now.seen) }
     ensures entry { IfSome result (λ f. slice_get entries.now.seen f.0 ≡ Some f.1.now) }
@@ -565,6 +567,8 @@ impl<K: Drop, V: Drop, T: Indices<K> + Drop, A: Allocator + Copy, R: EntryRule<K
     ) -> Result<Inserted<&V, usize>, TryFault<V, E>>
         requires callable { F.pre make }
         requires rule { (v : V) → F.post make (Ok v) → R.holds key v }
+
+        // A new value is one that `make` returned, and so is an error of it.
         ensures holds { IfOk result (λ r. HoldsAt R.holds (T.same key) r.value.now) }
         ensures made { IfOk result (λ r. r.is_new ≡ true → F.post make (Ok r.value.now)) }
         ensures limit { IfOk result (λ r. r.index < 2 ^ 32 - 1) }

@@ -294,6 +294,8 @@ impl<
     /// One search. An ordered table then moves the 4 bytes of each greater key: `O(n)`.
     pub fn insert_new(&mut self, key: K, value: V) -> Result<Inserted<&'m V, usize>, CellFault<V>>
         requires rule { R.holds key value }
+
+        // The first value of a key stays. If the insertion fails, the value comes back.
         ensures continues { Continues self.old self.new }
         ensures inserted { IfOk result (λ r. InsertsOnce T.same self.old.seen self.new.seen key value
             r.value.now r.index r.is_new) }
@@ -390,6 +392,8 @@ impl<
     ) -> Result<Inserted<&'m V, usize>, CellFault<Option<V>>>
         requires callable { lookup (T.same key) (pairs_of self.old.seen) ≡ None → F.pre make }
         requires rule { (v : V) → F.post make v → R.holds key v }
+
+        // The first value of a key stays, and a new one was made by `make`.
         ensures continues { Continues self.old self.new }
         ensures inserted { IfOk result (λ r. InsertsOnce T.same self.old.seen self.new.seen key
             r.value.now r.value.now r.index r.is_new) }
@@ -434,6 +438,9 @@ impl<
     ) -> Result<Inserted<&'m V, usize>, TryFault<V, E>>
         requires callable { lookup (T.same key) (pairs_of self.old.seen) ≡ None → F.pre make }
         requires rule { (v : V) → F.post make (Ok v) → R.holds key v }
+
+        // The first value of a key stays, and a new one was made by `make`. An error of `make`
+        // comes back.
         ensures continues { Continues self.old self.new }
         ensures inserted { IfOk result (λ r. InsertsOnce T.same self.old.seen self.new.seen key
             r.value.now r.value.now r.index r.is_new) }

@@ -12,11 +12,11 @@ ghost use Rattle.std.proofs.lemmas.Cmp.{lists_total, nat_list_cmp_total};
 ghost use Rattle.elsa_cell.specs.Ordered.{HasPosition, HasRoomAt, IsBetween, IsBlockGap, IsFilled, IsGreatest, IsInOrder, IsLeast, IsOrdered, IsTableFor, joined, rank_of};
 ghost use Rattle.elsa_cell.specs.Queries.{equal_alike, higher_stays, lower_stays};
 
+use crate::indices::{Indices, KeyList, Seeks};
 use crate::map::{Entry, Frozen};
 use crate::map_handle::FrozenHandle;
 use crate::map_hold::FrozenHold;
 use crate::map_state::MOST;
-use crate::indices::{Indices, KeyList, Seeks};
 use elsa_arena::observed::Observed;
 use elsa_tables::{AnyEntries, EntryRule};
 use std::alloc::{AllocError, Allocator, Global};

@@ -1,7 +1,6 @@
 -- The names after texts are put in their order.
 use Rattle.std.proofs.Common.{◌≡◌, ℕ, Bool, true, false, ◌||◌, if◌then◌else◌, List, [], ◌∷◌, ◌++◌, length, map, position, refl, sym, ap, subst, ◌∙◌, append_assoc, append-nil, arith, Option, Bor, None, Some, MatchOption}
 use mathlib.Core.List.{IsPrefix}
-use Rattle.std.specs.Cmp.{IsEquivalence}
 use Rattle.std.specs.Cmp.Lexicographic.{nat_list_eq_equiv}
 use Rattle.std.specs.List.{AllByRecursion, IsDistinct, list_any, position_or_len}
 use Rattle.std.specs.Str.{bytes_eq}

@@ -301,6 +301,9 @@ impl<'v, T: Drop, A: Allocator + Copy, K: ItemRule<T>> Handle<'v, T, A, K> {
         requires callable { (i : ℕ) → i + 1 < 2 ^ 62 → F.pre make i }
         requires obeys_rule { (i : ℕ) (item : T) (es : List (Entry T)) → F.post make i item →
             K.is_new es (entry self.old.writer item) }
+
+        // The item is pushed once, at the index for which it was made, or the view has pushed
+        // nothing.
         ensures later { IsLaterPass self.old self.new }
         ensures pushed { IfOk result (λ i.
             (item : T) × F.post make i item × Pushes self.old self.new i item) }
@@ -336,6 +339,8 @@ impl<'v, T: Drop, A: Allocator + Copy, K: ItemRule<T>> Handle<'v, T, A, K> {
         item: T,
     ) -> Result<usize, AttemptFault<T, AllocFailed<T>>>
         requires obeys_rule { (es : List (Entry T)) → K.is_new es (entry self.old.writer item) }
+
+        // The item is pushed once, or it comes back and the view has pushed nothing.
         ensures later { IsLaterPass self.old self.new }
         ensures pushed { IfOk result (λ i. Pushes self.old self.new i item) }
         ensures limit { IfOk result (λ i. i + 1 < 2 ^ 62) }

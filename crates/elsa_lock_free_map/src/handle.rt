@@ -355,6 +355,8 @@ impl<
     ) -> Result<Result<usize, (K, V)>, AllocError>
         requires absent { Lacks K.eq (items_of self.old.seen) key }
         requires rule { L.holds key value }
+
+        // The entry is pushed, or the list has grown and the pair comes back, or the push failed.
         ensures later { IsLaterPass self.old self.new }
         ensures pushed { IfOk result (λ a. IfOk a (λ i.
             (i ≡ length self.old.seen) × PushesPair self.old self.new key value)) }
@@ -383,6 +385,8 @@ impl<
     ) -> Result<Inserted<&'m V, usize>, AllocError>
         requires absent { Lacks K.eq (items_of self.old.seen) key }
         requires rule { L.holds key value }
+
+        // The first value of a key stays. If the insertion fails, the view has inserted nothing.
         ensures later { IsLaterPass self.old self.new }
         ensures inserted { IfOk result (λ r. InsertsOnce K.eq self.old self.new key
             (record { value = r.value.now; index = r.index; is_new = r.is_new })) }
@@ -425,6 +429,9 @@ impl<
     ) -> Result<Result<usize, (K, V)>, AttemptFault<(K, V)>>
         requires absent { Lacks K.eq (items_of self.old.seen) key }
         requires rule { L.holds key value }
+
+        // The entry is pushed, or the list has grown, or the attempt failed and the pair comes
+        // back.
         ensures later { IsLaterPass self.old self.new }
         ensures pushed { IfOk result (λ a. IfOk a (λ i.
             (i ≡ length self.old.seen) × PushesPair self.old self.new key value)) }
@@ -457,6 +464,8 @@ impl<
     ) -> Result<Inserted<&'m V, usize>, AttemptFault<(K, V)>>
         requires absent { Lacks K.eq (items_of self.old.seen) key }
         requires rule { L.holds key value }
+
+        // The first value of a key stays. If the insertion fails, the view has inserted nothing.
         ensures later { IsLaterPass self.old self.new }
         ensures inserted { IfOk result (λ r. InsertsOnce K.eq self.old self.new key
             (record { value = r.value.now; index = r.index; is_new = r.is_new })) }
@@ -604,6 +613,8 @@ impl<
     ) -> Result<Inserted<&'m V, usize>, AllocError>
         requires callable { Lacks K.eq (items_of self.old.seen) key → F.pre make }
         requires rule { (v : V) → F.post make v → L.holds key v }
+
+        // The first value of a key stays, and a new one was made by `make`.
         ensures later { IsLaterPass self.old self.new }
         ensures inserted { IfOk result (λ r. InsertsOnce K.eq self.old self.new key
             (record { value = r.value.now; index = r.index; is_new = r.is_new })) }

@@ -196,6 +196,8 @@ impl<T: Copy + Drop + Hash, S: BuildHasher + Copy + Drop, A: Allocator + Copy> S
         name: T,
     ) -> Result<usize, AllocError>
         requires same_vector { names.old.vector ≡ self.now }
+
+        // Names and indices are one to one. If the call fails, the view has added no name.
         ensures later { IsLaterPass names.old names.new }
         ensures one_to_one { IsOneToOne T.eq (items_of names.new.seen) }
         ensures numbered { IfOk result (λ i. PutsName T.eq names.old names.new i name) }

@@ -279,7 +279,8 @@ fn a_put_of_a_known_name_asks_for_no_memory(rt: HostRuntime) -> Result<(), Fail>
 /// number in both, by contract.
 fn agree(one: &NamePass, other: &NamePass) -> (usize, usize)
     requires { one.now.vector ≡ other.now.vector }
-    ensures { AgreeOnIndices ⟦<Name as PartialEq>⟧.eq (items_of one.now.seen) (items_of other.now.seen) }
+    ensures { AgreeOnIndices ⟦<Name as PartialEq>⟧.eq (items_of one.now.seen)
+        (items_of other.now.seen) }
 {
     one.one_to_one();
     one.same_name_same_index(other);

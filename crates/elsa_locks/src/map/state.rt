@@ -257,6 +257,8 @@ where
     ) -> Result<Arc<V, A>, AllocError>
         requires callable { value_at T.same self.old key ≡ None → FnOnceTakesAt F.FnOnce f key }
         requires holds { (v : V) → FnOnceReturnsAt F.FnOnce f key v → R.holds key v }
+
+        // The first value of a key stays. If the insertion fails, nothing changes.
         ensures answer { IfOk result (λ a.
             UnwrapsOrElse (value_at T.same self.old key) (FnOnceReturnsAt F.FnOnce f key)
             (arc_value a)) }
@@ -286,6 +288,8 @@ where
     ) -> Result<Arc<V, A>, AllocError>
         requires callable { value_at T.same self.old key ≡ None → F.pre f }
         requires holds { (v : V) → F.post f v → R.holds key v }
+
+        // The first value of a key stays. If the insertion fails, nothing changes.
         ensures answer { IfOk result (λ a.
             UnwrapsOrElse (value_at T.same self.old key) (F.post f) (arc_value a)) }
         ensures holds { IfOk result (λ a. HoldsAt R.holds (T.same key) (arc_value a)) }
@@ -309,6 +313,8 @@ where
     /// Fails as [`insert`](State::insert) does, with the same allocations.
     pub fn insert_new(&mut self, key: K, value: V) -> Result<(Arc<V, A>, bool), AllocError>
         requires { R.holds key value }
+
+        // The first value of a key stays. If the insertion fails, nothing changes.
         ensures holds { IfOk result (λ r. HoldsAt R.holds (T.same key) (arc_value r.0)) }
         ensures value_after { IfOk result (λ r. value_at T.same self.new key ≡ Some (arc_value r.0)) }
         ensures is_new { IfOk result (λ r. IsTrue r.1 ↔ (value_at T.same self.old key ≡ None)) }
@@ -416,6 +422,8 @@ where
     ) -> Result<V, AllocError>
         requires callable { value_at T.same self.old key ≡ None → F.pre f }
         requires holds { (v : V) → F.post f v → R.holds key v }
+
+        // The first value of a key stays. If the insertion fails, nothing changes.
         ensures answer { IfOk result (UnwrapsOrElse (value_at T.same self.old key) (F.post f)) }
         ensures holds { IfOk result (HoldsAt R.holds (T.same key)) }
         ensures value_after { IfOk result (λ v. value_at T.same self.new key ≡ Some v) }

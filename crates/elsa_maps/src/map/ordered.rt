@@ -128,7 +128,7 @@ impl<R: Copy, K: Ord + Drop, V: StableDeref<R>, A: Allocator + Copy> FrozenBTree
     /// Returns an iterator over the entries whose keys are in the range, ascending. It can be used
     /// from the back.
     ///
-    /// The start of the range must not be after its end, as in `5..3`.
+    /// The start of the range must not be after its end, as it is in `5..3`.
     ///
     /// # Cost
     /// `O(log n)`, and `O(1)` on average for each entry. It allocates nothing.

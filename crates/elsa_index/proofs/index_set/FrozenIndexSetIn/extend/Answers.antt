@@ -1,4 +1,3 @@
-use Rattle.std.proofs.Common.{rules, ◌∙◌}
 use Rattle.elsa_index.proofs.Collecting.{set_extends_grows, set_extends_none, set_extends_push}
 use Rattle.elsa_index.proofs.index_set.FrozenIndexSetIn.extend.Goals as goal
 
