@@ -195,6 +195,29 @@ class TestLandings(unittest.TestCase):
         self.landing(self.first)
         self.assertIn("mutant c/top", self.due())
 
+    def renamed(self, old, new):
+        return {path: text.replace(old, new) for path, text in FILES.items() if old in text and "." in path}
+
+    def test_a_word_that_is_renamed_everywhere_makes_nothing_due(self):
+        self.landing(self.first, files={**self.renamed("Store", "Shelf"), "tools/renamed": "Store Shelf\n"})
+        self.assertEqual(self.due(), set())
+
+    def test_a_renamed_function_and_test_keep_their_checks(self):
+        files = {**self.renamed("far", "wide"), "tools/renamed": "far wide\nfar_is_true wide_is_true\n"}
+        self.landing(self.first, files=files)
+        self.assertEqual(self.due(), set())
+
+    def test_a_renamed_word_that_joins_another_one_is_due(self):
+        files = {**self.renamed("rows: u64", "index: u64"), STORE: FILES[STORE].replace("rows", "twice")}
+        self.landing(self.first, files={**files, "tools/renamed": "rows twice\n"})
+        self.assertIn("mutant a/twice_is_once", self.due())
+
+    def test_what_changes_besides_a_renamed_word_is_due(self):
+        files = self.renamed("Store", "Shelf")
+        files[STORE] = files[STORE].replace("twice(&self) -> u64 {", "twice(&self) -> u64\n        ensures { 2 }\n    {")
+        self.landing(self.first, files={**files, "tools/renamed": "Store Shelf\n"})
+        self.assertEqual(self.due(), {"mutant a/twice_is_once", "mutant c/top", "fault a/bottom"})
+
     def test_an_owed_crate_waits_except_for_what_changed_itself_and_runs_when_it_is_taken_out(self):
         second = self.landing(self.first, "a\nc\n", self.contract("ensures { result ≡ 2 }"))
         self.assertEqual(self.due(), {"mutant a/twice_is_once", "fault a/bottom"})

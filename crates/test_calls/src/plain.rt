@@ -237,8 +237,8 @@ impl Plain {
                 },
             ) => {
                 let index = self.len();
-                if let Some(index) = self.indices.get_mut(call.key as usize) {
-                    *index = Some(index);
+                if let Some(known) = self.indices.get_mut(call.key as usize) {
+                    *known = Some(index);
                 }
                 self.entries.push((call.key, call.value))?;
                 Ok(())

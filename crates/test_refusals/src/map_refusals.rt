@@ -132,13 +132,13 @@ fn new_given_in_order<'a, A: Allocator + Copy + Drop>(
     map: &mut Indexed<'a, A>,
     key: Text<A>,
     value: Text<A>,
-    index: usize,
+    wanted: usize,
 ) -> Result<(&'a str, bool), AllocError> {
-    if !is_full(index) {
+    if !is_full(wanted) {
         return map.insert_new(key, value);
     }
     let (index, kept, is_new) = map.insert_full_new(key, value)?;
-    Ok((if index == index { kept } else { "" }, is_new))
+    Ok((if index == wanted { kept } else { "" }, is_new))
 }
 
 fn hashed_of<'a, A: Allocator + Copy + Drop>(

@@ -3,7 +3,7 @@ use mathlib.Core.Path.{◌≡◌, refl, sym, subst, ap}
 use mathlib.Core.List.{List, [], ◌∷◌, ◌++◌}
 use lib.Dec.{T}
 use seplogic.Ra.Ura.{Ura}
-use mir.Syntax.{Fn, Body, index, copy, assign, rv_opd, seq, return}
+use mir.Syntax.{Fn, Body, place, copy, assign, rv_opd, seq, return}
 use mir.MapTy.{inst_fn}
 use mir.Val.{Val, vptr, has_ty, WT}
 use base.Logic.{SProp, ent, id⊢}
@@ -45,7 +45,7 @@ use Rattle.elsa_c.proofs.handle.Parts.into_box.Statement as stated
 use Rattle.elsa_c.proofs.handle.Parts.into_box.Code as code
 
 abbrev rest : Body
-rest = seq (assign (index 0 []) (rv_opd (copy (index 4 [])))) return
+rest = seq (assign (place 0 []) (rv_opd (copy (place 4 [])))) return
 
 module _ (E : Bx) where
   abbrev fn' : Fn

@@ -14,8 +14,8 @@ returns-clause-accepted g c =
     let same : c.in-Vacant.room.map.now.entries ≡ c.self.inside.table.entries = subst (λ e. (entry_map_ref e).now.entries ≡ c.self.inside.table.entries) c.in-Vacant.is c.in-Ok.ensures.unchanged in
     let keyed : c.in-Vacant.room.key ≡ c.args.key = subst (λ e. entry_value e ≡ None → entry_key e ≡ c.args.key) c.in-Vacant.is c.in-Ok.ensures.key refl in
     let at : c.index-index.result ≡ length c.args.self.now = search (rules, same) in
-    let is : g.V.HasTarget.shown c.in-Ok-index.borrow ≡ g.V.HasTarget.target c.args.value = search rules in
-    new_pair_goes_last g.K.PartialEq.eq g.V.HasTarget.target g.V.HasTarget.shown c.args.self.now c.args.key c.args.value c.index-index.result c.in-Ok-index.borrow _ none at is (search (rules, same, keyed))
+    let is : g.V.HasTarget.shown c.in-Ok-place.borrow ≡ g.V.HasTarget.target c.args.value = search rules in
+    new_pair_goes_last g.K.PartialEq.eq g.V.HasTarget.target g.V.HasTarget.shown c.args.self.now c.args.key c.args.value c.index-index.result c.in-Ok-place.borrow _ none at is (search (rules, same, keyed))
 
 pub returns-clause-value_after : goal.returns-clause-value_after
 returns-clause-value_after g c = (stands_inserted g.K.PartialEq.eq g.met.K.Eq.laws g.V.HasTarget.target g.V.HasTarget.shown _ _ _ _ _ _ (returns-clause-accepted g c).0).1
