@@ -2,7 +2,7 @@
 use bumpalo::Bump;
 use elsa_buckets::append_map::AppendMap;
 use elsa_maps::map::laws::keeps_earlier_pairs;
-use elsa_maps::map::{FrozenAppendMap, InsertFault, MapForm};
+use elsa_maps::map::{FrozenAppendMap, MapForm};
 use elsa_tables::{IntoPairs, Table};
 use elsa_vec::stable::Own;
 use std::alloc::{AllocError, Global};
@@ -44,20 +44,6 @@ fn a_present_key_keeps_its_value_and_its_index(rt: HostRuntime) -> Result<(), Fa
     let (found, is_new) = keeps_earlier_pairs(&mut map, 30, Own(9))?;
     assert!(rt; *found == 3 && !is_new);
     assert!(rt; has_three(map.as_mut()));
-    Ok(())
-}
-
-// Whether an insertion whose closure fails returns the closure's error.
-fn fails_with_its_error(map: &mut Ages<'_>) -> bool {
-    let outcome = map.try_insert_with(40, || -> Result<Own<u64>, u8> { Err(7) });
-    matches!(outcome, Err(InsertFault::Value(7)))
-}
-
-#[test]
-fn a_failed_closure_leaves_the_entries(rt: HostRuntime) -> Result<(), Fail> {
-    let arena = Bump::new(rt.alloc());
-    let mut map = three(rt.alloc(), &arena)?;
-    assert!(rt; fails_with_its_error(&mut map) && has_three(map.as_mut()));
     Ok(())
 }
 

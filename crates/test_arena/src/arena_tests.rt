@@ -1,7 +1,7 @@
 //! Values that count their drops, blocks that a budget counts, and requests that it denies.
 use crate::callers::{push_two, two_values};
 use elsa_arena::arena::TypedArena;
-use elsa_arena::fault::{CellFault, Fault};
+use elsa_arena::fault::CellFault;
 use std::alloc::{AllocError, Allocator, Global};
 use std::cell::Cell;
 use std::test::*;
@@ -157,80 +157,6 @@ fn values_up_to_the_capacity_take_no_memory(rt: HostRuntime) -> Result<(), Fail>
             "{capacity}"
         );
     }
-    Ok(())
-}
-
-/// Returns the number of values, at most a hundred, that an arena of `count` values stores after a
-/// reservation, while all further requests are denied.
-fn placed_after_reserve(
-    heap: &Budget<Global>,
-    count: usize,
-    additional: usize,
-) -> Result<usize, AllocError> {
-    let arena = TypedArena::new(heap)?;
-    for number in 0..count {
-        let Ok(_index) = arena.push(number) else {
-            return Err(AllocError);
-        };
-    }
-    let Ok(()) = arena.reserve(additional) else {
-        return Err(AllocError);
-    };
-    heap.refuse(heap.asked(), u64::MAX);
-    for number in 0..100usize {
-        if arena.push(number).is_err() {
-            return Ok(number);
-        }
-    }
-    Ok(100)
-}
-
-#[test]
-fn values_that_were_reserved_take_no_memory(rt: HostRuntime) -> Result<(), Fail> {
-    for (count, additional, wanted) in [
-        (0, 0, 0),
-        (0, 1, 3),
-        (2, 1, 1),
-        (2, 2, 13),
-        (3, 12, 12),
-        (3, 13, 60),
-        (10, 0, 5),
-        (15, 100, 100),
-    ] {
-        let heap = Budget::new(rt.alloc());
-        let placed = placed_after_reserve(&heap, count, additional)?;
-        assert!(rt;
-            placed == wanted && heap.given() == heap.granted(),
-            "{count} {additional}"
-        );
-    }
-    Ok(())
-}
-
-/// Returns whether a denied reservation leaves the values, and the next one succeeds, also if it is
-/// for fewer values than are reserved.
-fn reserves_again(heap: &Budget<Global>) -> Result<bool, AllocError> {
-    let arena = TypedArena::new(heap)?;
-    let is_first = arena.alloc(7usize).is_ok();
-    heap.refuse_next(1);
-    let refused = matches!(arena.reserve(100), Err(Fault::Memory));
-    heap.refuse_next(0);
-    let kept = refused && arena.len() == 1 && arena.get(0) == Some(&7);
-    let reserved = arena.reserve(100).is_ok() && arena.reserve(50).is_ok();
-    heap.refuse(heap.asked(), u64::MAX);
-    for number in 0..100usize {
-        if arena.push(number).is_err() {
-            return Ok(false);
-        }
-    }
-    Ok(is_first && kept && reserved && arena.get(100) == Some(&99))
-}
-
-#[test]
-fn a_denied_reservation_lost_a_value(rt: HostRuntime) -> Result<(), Fail> {
-    let heap = Budget::new(rt.alloc());
-    let again = reserves_again(&heap)?;
-    assert!(rt; again && heap.given() == heap.granted());
     Ok(())
 }
 

@@ -7,6 +7,9 @@ pub enum Kind {
     Push,
     InsertNew,
     InsertFull,
+    InsertFullNew,
+    /// `insert_absent`, if the item is absent.
+    InsertAbsent,
     InsertWith,
     TryInsertWith,
     /// `try_insert_with` whose closure fails.
@@ -22,6 +25,8 @@ pub enum Kind {
     GetCopyOrInsertWith,
     Get,
     GetFull,
+    GetKeyValue,
+    GetIndexOf,
     GetSince,
     GetByHandle,
     GetFullByHandle,
@@ -36,6 +41,9 @@ pub enum Kind {
     MapGet,
     GetCopy,
     GetIndex,
+    /// `[]` with an index or a key that is present.
+    Index,
+    GetUnchecked,
     First,
     Last,
     Len,
@@ -58,11 +66,13 @@ pub enum Kind {
 }
 
 /// The insertions, of which each second call is one.
-pub const INSERTIONS: [Kind; 15] = [
+pub const INSERTIONS: [Kind; 17] = [
     Kind::Insert,
     Kind::Push,
     Kind::InsertNew,
     Kind::InsertFull,
+    Kind::InsertFullNew,
+    Kind::InsertAbsent,
     Kind::InsertWith,
     Kind::TryInsertWith,
     Kind::InsertFails,
@@ -77,9 +87,11 @@ pub const INSERTIONS: [Kind; 15] = [
 ];
 
 /// The other calls.
-pub const OTHERS: [Kind; 32] = [
+pub const OTHERS: [Kind; 36] = [
     Kind::Get,
     Kind::GetFull,
+    Kind::GetKeyValue,
+    Kind::GetIndexOf,
     Kind::GetSince,
     Kind::GetByHandle,
     Kind::GetFullByHandle,
@@ -93,6 +105,8 @@ pub const OTHERS: [Kind; 32] = [
     Kind::MapGet,
     Kind::GetCopy,
     Kind::GetIndex,
+    Kind::Index,
+    Kind::GetUnchecked,
     Kind::First,
     Kind::Last,
     Kind::Len,
@@ -158,6 +172,8 @@ pub enum Reply {
     Search(Result<usize, usize>),
     /// The number of entries of a walk, and a sum over them that depends on their order.
     Walk(usize, u64),
+    /// The same of a walk in any order, with a sum that doesn't depend on it.
+    WalkOfAny(usize, u64),
     /// The cause, the value that came back, and how often the closure was called.
     Failed(Cause, Option<u64>, u64),
     /// The number of requests for memory of a call that needs none.
@@ -172,6 +188,11 @@ pub fn walked(sum: u64, key: u64, value: u64) -> u64 {
         .wrapping_add(key)
         .wrapping_mul(31)
         .wrapping_add(value)
+}
+
+/// The sum of a walk in any order, after another entry.
+pub fn walked_of_any(sum: u64, key: u64, value: u64) -> u64 {
+    sum.wrapping_add(walked(1, key, value).wrapping_mul(0x9e37_79b9_7f4a_7c15))
 }
 
 /// A collection that makes the calls of a script.
@@ -205,6 +226,12 @@ pub trait Calls {
     /// Returns whether insertions in reserved room need no memory.
     fn keeps_room(&self) -> bool {
         true
+    }
+
+    /// Returns whether a call may grow the table though it inserts nothing: one whose closure then
+    /// fails, and one that extends the collection by a present key.
+    fn grows_first(&self) -> bool {
+        false
     }
 
     /// Returns the number of values that were made and not yet dropped, if they are counted.

@@ -17,6 +17,22 @@ pub fn drawn<R: Clock>(rt: &R) -> Result<(u64, u64), Fail> {
     Ok((seed, Draws::new(seed).size()))
 }
 
+/// The number of scripts of a test.
+pub const PLANS: u64 = 60;
+
+/// Returns the seed and the size of the script with this number, after those that were drawn. Most
+/// have five keys: a script of few keys makes nearly each call with nearly each index.
+pub fn plan(drawn: (u64, u64), number: u64) -> (u64, u64) {
+    let keys = match number {
+        0 => 1,
+        1 => 20,
+        2 => 3000,
+        3 => drawn.1,
+        _ => 5,
+    };
+    (drawn.0.wrapping_add(number), keys)
+}
+
 /// Returns an allocator that denies each request.
 pub fn denying(alloc: Global) -> Heap {
     let none = Budget::new(alloc);

@@ -1,6 +1,6 @@
 //! The list in `cell` with a script of a random size, until it is dropped or taken apart.
 use crate::call::Reply;
-use crate::ends::{Heap, denying, drawn, is_freed, walk_of_items};
+use crate::ends::{Heap, PLANS, denying, drawn, is_freed, plan, walk_of_items};
 use crate::lists::ListCalls;
 use crate::script::{Script, Step};
 use elsa_arena::fault::CellFault;
@@ -53,8 +53,9 @@ fn list_script(alloc: Global, seed: u64, size: u64) -> Result<Step, AllocError> 
 
 #[test]
 fn a_list_of_cell_differed_from_a_list(rt: HostRuntime) -> Result<(), Fail> {
-    let (seed, size) = drawn(&rt)?;
-    for keys in [1, 20, 3000, size] {
+    let from = drawn(&rt)?;
+    for number in 0..PLANS {
+        let (seed, keys) = plan(from, number);
         let step = list_script(rt.alloc(), seed, keys)?;
         assert_eq!(rt; step.got, step.wanted, "seed {seed}, size {keys}: {step:?}");
     }

@@ -1,7 +1,7 @@
 //! The maps and the set in `cell` with a script of a random size, until they are dropped or taken
 //! apart.
 use crate::call::{Reply, walked};
-use crate::ends::{Heap, denying, drawn, is_freed, walk_of_items};
+use crate::ends::{Heap, PLANS, denying, drawn, is_freed, plan, walk_of_items};
 use crate::maps::MapCalls;
 use crate::script::{Script, Step};
 use crate::sets::SetCalls;
@@ -89,8 +89,9 @@ fn map_script(alloc: Global, seed: u64, size: u64) -> Result<Step, AllocError> {
 
 #[test]
 fn a_map_of_cell_differed_from_a_list(rt: HostRuntime) -> Result<(), Fail> {
-    let (seed, size) = drawn(&rt)?;
-    for keys in [1, 20, 3000, size] {
+    let from = drawn(&rt)?;
+    for number in 0..PLANS {
+        let (seed, keys) = plan(from, number);
         let step = map_script(rt.alloc(), seed, keys)?;
         assert_eq!(rt; step.got, step.wanted, "seed {seed}, size {keys}: {step:?}");
     }
@@ -161,8 +162,9 @@ fn ordered_script(alloc: Global, seed: u64, size: u64) -> Result<Ordered, AllocE
 
 #[test]
 fn an_ordered_map_of_cell_differed_from_a_list(rt: HostRuntime) -> Result<(), Fail> {
-    let (seed, size) = drawn(&rt)?;
-    for keys in [1, 20, 3000, size] {
+    let from = drawn(&rt)?;
+    for number in 0..PLANS {
+        let (seed, keys) = plan(from, number);
         let (step, got, wanted) = ordered_script(rt.alloc(), seed, keys)?;
         assert_eq!(rt; step.got, step.wanted, "seed {seed}, size {keys}: {step:?}");
         assert_eq!(rt; got, wanted, "seed {seed}, size {keys}, ascending");
@@ -211,8 +213,9 @@ fn set_script(alloc: Global, seed: u64, size: u64) -> Result<Step, AllocError> {
 
 #[test]
 fn a_set_of_cell_differed_from_a_list(rt: HostRuntime) -> Result<(), Fail> {
-    let (seed, size) = drawn(&rt)?;
-    for keys in [1, 20, 3000, size] {
+    let from = drawn(&rt)?;
+    for number in 0..PLANS {
+        let (seed, keys) = plan(from, number);
         let step = set_script(rt.alloc(), seed, keys)?;
         assert_eq!(rt; step.got, step.wanted, "seed {seed}, size {keys}: {step:?}");
     }

@@ -1,5 +1,5 @@
 //! The plain list, and the replies that it gives.
-use crate::call::{Call, Cause, Entry, Kind, Reply, walked};
+use crate::call::{Call, Cause, Entry, Kind, Reply, walked, walked_of_any};
 use std::alloc::{AllocError, Global};
 
 /// The entries in the order of their insertion, and the index of each key.
@@ -105,6 +105,15 @@ impl Plain {
         Reply::Walk(count, sum)
     }
 
+    /// Returns the walk over all entries in any order.
+    pub fn walk_of_any(&self) -> Reply {
+        let mut sum = 0_u64;
+        for entry in self.entries.iter() {
+            sum = walked_of_any(sum, entry.0, entry.1);
+        }
+        Reply::WalkOfAny(self.len(), sum)
+    }
+
     /// Returns the entries, ascending by key.
     ///
     /// # Errors
@@ -166,7 +175,11 @@ impl Plain {
     pub fn reply(&self, call: Call) -> Reply {
         match call.kind {
             Kind::Get | Kind::GetSince | Kind::GetByHandle => Reply::Value(self.value_of(call.key)),
-            Kind::MapGet | Kind::GetCopy => Reply::Value(self.value_of(call.key)),
+            Kind::MapGet | Kind::GetCopy | Kind::GetKeyValue | Kind::Index => {
+                Reply::Value(self.value_of(call.key))
+            }
+            Kind::GetIndexOf => Reply::Value(self.index_of(call.key).map(|index| index as u64)),
+            Kind::GetUnchecked => Reply::Value(self.value_at(call.key as usize)),
             Kind::GetFull | Kind::GetFullByHandle | Kind::GetFullByGuard => {
                 Reply::Full(self.full_of(call.key))
             }
@@ -237,8 +250,8 @@ impl Plain {
                 },
             ) => {
                 let index = self.len();
-                if let Some(known) = self.indices.get_mut(call.key as usize) {
-                    *known = Some(index);
+                if let Some(kept) = self.indices.get_mut(call.key as usize) {
+                    *kept = Some(index);
                 }
                 self.entries.push((call.key, call.value))?;
                 Ok(())

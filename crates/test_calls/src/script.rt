@@ -1,5 +1,5 @@
 //! The script: random calls, each compared with the reply of a plain list.
-use crate::call::{Call, Calls, INSERTIONS, Kind, OTHERS, Reply};
+use crate::call::{Call, Calls, Cause, INSERTIONS, Kind, OTHERS, Reply};
 use crate::plain::Plain;
 use std::alloc::{AllocError, Global};
 use test_alloc::Budget;
@@ -70,7 +70,9 @@ pub struct Step {
 fn key_of<G: Calls>(grown: &G, kind: Kind, draws: &mut Draws, keys: u64, count: u64) -> u64 {
     match kind {
         Kind::GetIndex | Kind::GetIndexByHandle => draws.below(count.wrapping_add(2)),
+        Kind::GetUnchecked => draws.below(count.wrapping_add(2)),
         Kind::Get | Kind::GetSince | Kind::GetByHandle => draws.below(keys),
+        Kind::Index => draws.below(keys),
         Kind::GetFullByHandle | Kind::GetFullByGuard => draws.below(keys),
         Kind::SeenGet | Kind::SeenGetFull => draws.below(keys),
         _ => {
@@ -87,10 +89,10 @@ fn visits_all(kind: Kind) -> bool {
 
 /// Returns the next kind of call: as often an insertion as another one.
 fn drawn_kind(draws: &mut Draws) -> Option<Kind> {
-    let drawn = draws.below(30) as usize;
+    let drawn = draws.below(34) as usize;
     match INSERTIONS.get(drawn) {
         Some(kind) => Some(*kind),
-        None => OTHERS.get(draws.below(32) as usize).copied(),
+        None => OTHERS.get(draws.below(36) as usize).copied(),
     }
 }
 
@@ -115,7 +117,10 @@ fn drawn<G: Calls>(grown: &G, draws: &mut Draws, keys: u64, count: u64) -> Optio
 }
 
 /// Returns the wanted reply without the parts that the call doesn't return.
-fn as_far_as(wanted: Reply, got: Reply) -> Reply {
+fn as_far_as(plain: &Plain, wanted: Reply, got: Reply) -> Reply {
+    if let (Reply::Walk(_, _), Reply::WalkOfAny(_, _)) = (wanted, got) {
+        return plain.walk_of_any();
+    }
     let (Reply::Inserted(mut entry), Reply::Inserted(said)) = (wanted, got) else {
         return wanted;
     };
@@ -131,14 +136,22 @@ fn as_far_as(wanted: Reply, got: Reply) -> Reply {
     Reply::Inserted(entry)
 }
 
-/// Returns the wanted reply of a call that failed, without the value if none comes back.
-fn as_given_back<G: Calls>(grown: &G, wanted: Reply, got: Reply) -> Reply {
+/// Returns the wanted reply of a call that failed for memory, without the value if none comes back:
+/// then a closure is called only after the table has grown, unless it makes the key too.
+fn as_given_back<G: Calls>(grown: &G, kind: Kind, wanted: Reply, got: Reply) -> Reply {
     match (wanted, got) {
-        (Reply::Failed(cause, _, _), Reply::Failed(_, _, calls)) if !grown.gives_back() => {
-            Reply::Failed(cause, None, calls)
+        (Reply::Failed(cause, _, _), Reply::Failed(_, _, _)) if !grown.gives_back() => {
+            let is_first = grows_first(grown, kind);
+            let calls = if matches!(kind, Kind::InsertBy) { 1 } else { 0 };
+            Reply::Failed(if is_first { Cause::Memory } else { cause }, None, calls)
         }
         _ => wanted,
     }
+}
+
+/// Returns whether a call may grow the table though it inserts nothing.
+fn grows_first<G: Calls>(grown: &G, kind: Kind) -> bool {
+    grown.grows_first() && matches!(kind, Kind::InsertFails | Kind::Extend)
 }
 
 /// Returns the reply of the plain list, and does to the list what the call does.
@@ -150,12 +163,14 @@ fn followed<G: Calls>(
     is_refused: bool,
 ) -> Result<(Reply, bool), AllocError> {
     if is_refused && matches!(got, Reply::Failed(_, _, _)) {
-        return Ok((as_given_back(grown, plain.refused(call), got), true));
+        let wanted = plain.refused(call);
+        return Ok((as_given_back(grown, call.kind, wanted, got), true));
     }
     let wanted = plain.reply(call);
-    let needs_memory = plain.needs_memory(call.kind, wanted, grown.keeps_room());
+    let needs_memory = plain.needs_memory(call.kind, wanted, grown.keeps_room())
+        || grows_first(grown, call.kind);
     plain.follow(call, wanted)?;
-    Ok((as_far_as(wanted, got), needs_memory))
+    Ok((as_far_as(plain, wanted, got), needs_memory))
 }
 
 /// Makes a call. Returns its reply and that of the plain list: of the call, or of the memory or of

@@ -1,5 +1,5 @@
-//! Maps and sets whose entries have an index: a handle reads what it has observed, a set keeps the
-//! first of equal items, and each entry is dropped once, in the order of insertion.
+//! Maps and sets whose entries have an index: a set keeps the first of equal items, and each entry
+//! is dropped once, in the order of insertion.
 ghost use Rattle.std.specs.Prelude.{◌==◌};
 ghost use Rattle.std.specs.Cmp.{nat_eq_equiv, on_equiv, partial_equiv_from_equiv};
 ghost use Rattle.std.specs.Hash as fed;
@@ -11,19 +11,6 @@ use std::cell::Cell;
 use std::hash::{Hash, Hasher};
 use std::sync::Arc;
 use std::test::*;
-
-#[test]
-fn a_handle_read_another_entry(rt: HostRuntime) -> Result<(), Fail> {
-    let map: FrozenMap<&str, u64> = FrozenMap::new(rt.alloc())?;
-    let mut handle = map.handle();
-    map.insert("ann", 1)?;
-    map.insert("bob", 2)?;
-    assert_eq!(rt; handle.get_index(1), None);
-    assert_eq!(rt; handle.get_full("bob"), Some((1, &"bob", &2)));
-    assert_eq!(rt; handle.get_index(0), Some((&"ann", &1)));
-    assert_eq!(rt; handle.get_index(2), None);
-    Ok(())
-}
 
 /// A number with a mark that `==` and the hash leave out.
 #[derive(Drop)]

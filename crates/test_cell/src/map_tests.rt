@@ -1,36 +1,9 @@
-//! A map of values that own memory: a present key keeps its first value, and keys and values are
-//! dropped once.
+//! A map of values that own memory: keys and values are dropped once.
 use elsa_cell::FrozenMap;
 use elsa_cell::map::first_value_stays;
 use std::alloc::Global;
 use std::sync::Arc;
 use std::test::*;
-
-/// Returns the first inserted value after others were inserted, and the values of three keys that
-/// texts find.
-fn first_values(alloc: Global) -> Result<String, Fail> {
-    let map: FrozenMap<String, String> = FrozenMap::new(alloc)?;
-    let seven = String::from_str(alloc, "seven")?;
-    let first = map.insert(seven, String::from_str(alloc, "fox")?)?;
-    for key in ["eight", "nine", "seven", "ten"] {
-        map.insert(
-            String::from_str(alloc, key)?,
-            String::from_str(alloc, "dog")?,
-        )?;
-    }
-    let found = (map.get("seven"), map.get("nine"), map.get("six"));
-    Ok(format!(in alloc; "{first} {found:?} {}", map.len())?)
-}
-
-#[test]
-fn the_first_value_of_a_key_was_replaced(rt: HostRuntime) -> Result<(), Fail> {
-    let found = first_values(rt.alloc())?;
-    assert_eq!(rt;
-        found.as_str(),
-        "fox (Some(\"fox\"), Some(\"dog\"), None) 4"
-    );
-    Ok(())
-}
 
 /// Returns the number of owners of values after five insertions of three keys, and after the drop.
 fn owners_of_values(alloc: Global) -> Result<(usize, usize), Fail> {

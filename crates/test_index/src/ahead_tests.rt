@@ -3,7 +3,9 @@
 ghost use Rattle.std.specs.Prelude.{◌≤◌, IfOk};
 
 use bumpalo::Bump;
-use elsa_interner::interner::{Counted, Interner, intern_engine};
+use elsa_interner::interner::Interner;
+use elsa_program::devices::Counted;
+use elsa_program::engine::intern_engine;
 use std::alloc::Global;
 use std::io;
 use std::io::Read;

@@ -3,7 +3,8 @@
 ghost use Rattle.std.specs.Prelude.{◌≤◌, IfOk};
 
 use bumpalo::Bump;
-use elsa_interner::interner::{Counted, EngineFault, intern_engine};
+use elsa_program::devices::Counted;
+use elsa_program::engine::{EngineFault, intern_engine};
 use std::alloc::Global;
 use std::io;
 use std::io::{ErrorKind, Read, Write};

@@ -3,9 +3,11 @@
 use bumpalo::Bump;
 use elsa_hash::seeded::SeededState;
 use elsa_index::index_set::FrozenIndexSet;
-use elsa_interner::interner::{Counted, Interner, intern_engine_with_hasher};
+use elsa_interner::interner::Interner;
 use elsa_maps::index_map::FrozenIndexMap;
 use elsa_maps::map::FrozenMap;
+use elsa_program::devices::Counted;
+use elsa_program::engine::intern_engine_with_hasher;
 use elsa_vec::stable::Own;
 use std::alloc::{AllocError, Global};
 use std::hash::{BuildHasher, BuildHasherDefault, FoldHasher};

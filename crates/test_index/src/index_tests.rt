@@ -16,53 +16,6 @@ use std::alloc::{AllocError, Global};
 use std::hash::{BuildHasherDefault, FoldHasher};
 use std::test::Fail;
 
-// ---- looking up in a map
-
-type Keyed<'a> = FrozenIndexMap<'a, &'a str, &'a str>;
-
-fn at_indices<'a>(map: &Keyed<'a>) -> [Option<(&'a str, &'a str)>; 3] {
-    [
-        map.get_index(0),
-        map.get_index(1),
-        map.get_index(usize::MAX),
-    ]
-}
-
-fn full<'a>(map: &Keyed<'a>, key: &'a str) -> Option<(usize, &'a str, &'a str)> {
-    map.get_full(&key)
-}
-
-fn index<'a>(map: &Keyed<'a>, key: &'a str) -> Option<usize> {
-    map.get_index_of(&key)
-}
-
-fn length<'a>(map: &Keyed<'a>, key: &'a str) -> Option<usize> {
-    map.map_get(&key, |value: &str| -> usize { value.len() })
-}
-
-// Returns the value at a key by `[]`, or `None` if the key is absent.
-fn by_key<'a>(map: &Keyed<'a>, key: &'a str) -> Option<&'a str> {
-    if map.get(&key).is_none() {
-        return None;
-    }
-    Some(map[&key])
-}
-
-#[test]
-fn a_lookup_in_an_index_map_found_the_wrong_entry(rt: HostRuntime) -> Result<(), Fail> {
-    let arena = Bump::new(rt.alloc());
-    let mut map: Keyed<'_> = FrozenIndexMap::new(rt.alloc(), &arena);
-    let before = map.get_index(usize::MAX);
-    let first = map.insert_full("foo", "a")?;
-    assert!(rt; before.is_none() && first == (0, "a") && by_key(&map, "foo") == Some("a"));
-    assert!(rt; at_indices(&map) == [Some(("foo", "a")), None, None]);
-    assert!(rt; [full(&map, "foo"), full(&map, "2")] == [Some((0, "foo", "a")), None]);
-    assert!(rt;
-        [index(&map, "foo"), index(&map, "2"), length(&map, "foo")] == [Some(0), None, Some(1)]
-    );
-    Ok(())
-}
-
 // ---- making a map, and comparing
 
 type Texts<'a> = FrozenIndexMap<'a, u32, &'a str>;
@@ -303,46 +256,6 @@ fn set_of<'a>(alloc: Global, arena: &'a Bump, texts: &[&str]) -> Result<Set<'a>,
     FrozenIndexSet::from_iter(alloc, arena, BuildHasherDefault::new(), given)
 }
 
-// Returns the value at an index by `[]`, or `None` if there is none.
-fn by_index<'a>(set: &Set<'a>, index: usize) -> Option<&'a str> {
-    if set.get_index(index).is_none() {
-        return None;
-    }
-    Some(set[index])
-}
-
-// Returns what is found by an owner and by a text, and the result of inserting the owner again.
-fn found<'a>(
-    set: &mut Set<'a>,
-    owner: String,
-) -> Result<
-    (
-        Option<&'a str>,
-        Option<(usize, &'a str)>,
-        (usize, &'a str, bool),
-    ),
-    AllocError,
-> {
-    let by_owner = set.get(&owner);
-    let by_text = set.get_full(&owner.as_str());
-    Ok((by_owner, by_text, set.insert_full_new(owner)?))
-}
-
-#[test]
-fn a_set_finds_by_owner_text_and_place(rt: HostRuntime) -> Result<(), Fail> {
-    let alloc = rt.alloc();
-    let arena = Bump::new(alloc);
-    let mut ab = set_of(alloc, &arena, &["a", "b", "a"])?;
-    let ba = set_of(alloc, &arena, &["b", "a"])?;
-    assert!(rt; ab == ba && by_index(&ba, 0) == Some("b"));
-    assert!(rt;
-        [by_index(&ab, 0), by_index(&ab, 1), by_index(&ab, 2)] == [Some("a"), Some("b"), None]
-    );
-    let b = found(&mut ab, String::from_str(alloc, "b")?)?;
-    assert!(rt; b == (Some("b"), Some((1, "b")), (1, "b", false)));
-    Ok(())
-}
-
 // Adds a value to a clone, takes it apart and makes it again. Returns whether the value was new,
 // whether the clone then differed, and the value's index.
 fn made_again<'a>(
@@ -370,14 +283,6 @@ fn sets_are_cloned_and_cleared(rt: HostRuntime) -> Result<(), Fail> {
     Ok(())
 }
 
-// Returns whether a set of numbers finds a number by an equal one, and none by another.
-fn finds_numbers(alloc: Global, arena: &Bump) -> Result<bool, AllocError> {
-    let mut numbers: FrozenIndexSet<'_, Own<u32>> = FrozenIndexSet::new(alloc, arena);
-    let seven = *numbers.insert(Own(7))?;
-    let indices = [numbers.get_index_of(&Own(7)), numbers.get_index_of(&Own(8))];
-    Ok(seven == 7 && indices == [Some(0), None])
-}
-
 // Returns whether a set of lists finds a list by a slice of equal items.
 fn finds_lists(alloc: Global, arena: &Bump) -> Result<bool, AllocError> {
     let mut lists: FrozenIndexSet<'_, Vec<u32>> = FrozenIndexSet::new(alloc, arena);
@@ -386,9 +291,9 @@ fn finds_lists(alloc: Global, arena: &Bump) -> Result<bool, AllocError> {
 }
 
 #[test]
-fn a_set_of_numbers_or_lists_lost_a_value(rt: HostRuntime) -> Result<(), Fail> {
+fn a_set_of_lists_lost_a_value(rt: HostRuntime) -> Result<(), Fail> {
     let arena = Bump::new(rt.alloc());
-    assert!(rt; finds_numbers(rt.alloc(), &arena)? && finds_lists(rt.alloc(), &arena)?);
+    assert!(rt; finds_lists(rt.alloc(), &arena)?);
     Ok(())
 }
 

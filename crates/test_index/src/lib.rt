@@ -7,8 +7,6 @@ mod ahead_tests;
 #[cfg(test)]
 mod bulk;
 #[cfg(test)]
-mod by_closure;
-#[cfg(test)]
 mod cache_tests;
 #[cfg(test)]
 mod caller_tests;
@@ -36,7 +34,5 @@ mod run_vec_tests;
 mod set_texts;
 #[cfg(test)]
 mod shelf;
-#[cfg(test)]
-mod value_names;
 #[cfg(test)]
 mod walks;

@@ -1,12 +1,11 @@
-//! Runs of the three maps with known replies: examples, an insertion of each kind, and a new base.
+//! Runs of a hashed map with known replies: examples, an insertion of each kind, and a new base. The
+//! runs of each map have the same code.
 use bumpalo::Bump;
-use elsa_maps::index_map::FrozenIndexMap;
-use elsa_maps::map::{FrozenBTreeMap, FrozenMap};
+use elsa_maps::map::FrozenMap;
 use elsa_run::run::run_map;
 use elsa_run::run_map::{MapCommand, MapReply};
-use indexmap::IndexMap;
 use std::alloc::{AllocError, Global};
-use std::collections::{BTreeMap, HashMap};
+use std::collections::HashMap;
 use std::test::Fail;
 
 // A command with a text instead of an owner.
@@ -139,8 +138,6 @@ fn commands<M: Drop>(
     Ok(made)
 }
 
-// ---- the hashed map
-
 fn hashed_base<'a>(alloc: Global) -> Result<HashMap<u32, &'a str>, AllocError> {
     let mut base = HashMap::new(alloc);
     base.insert(2, "z")?;
@@ -172,77 +169,5 @@ fn hashed_is_answered(alloc: Global, arena: &Bump) -> Result<bool, AllocError> {
 fn a_run_on_a_hashed_map_had_other_replies(rt: HostRuntime) -> Result<(), Fail> {
     let arena = Bump::new(rt.alloc());
     assert!(rt; hashed_is_answered(rt.alloc(), &arena)?);
-    Ok(())
-}
-
-// ---- the ordered map
-
-fn ordered_base<'a>(alloc: Global) -> Result<BTreeMap<u32, &'a str>, AllocError> {
-    let mut base = BTreeMap::new(alloc);
-    base.insert(2, "z")?;
-    Ok(base)
-}
-
-fn ordered_replies<'a>(
-    alloc: Global,
-    arena: &'a Bump,
-    rows: Rows<'_>,
-    base: BTreeMap<u32, &'a str>,
-) -> Result<Vec<MapReply<&'a str>>, AllocError> {
-    let mut map: FrozenBTreeMap<'a, u32, String> = FrozenBTreeMap::new(alloc, arena);
-    run_map(&mut map, commands(alloc, rows, base)?)
-}
-
-fn ordered_is_answered(alloc: Global, arena: &Bump) -> Result<bool, AllocError> {
-    let stays = ordered_replies(alloc, arena, STAYS, BTreeMap::new(alloc))?;
-    let first_wins = ordered_replies(alloc, arena, FIRST_WINS, ordered_base(alloc)?)?;
-    let new_once = ordered_replies(alloc, arena, NEW_ONCE, BTreeMap::new(alloc))?;
-    Ok(
-        are_of_stays(stays.as_slice())
-            && are_first_wins(first_wins.as_slice())
-            && are_new_once(new_once.as_slice()),
-    )
-}
-
-#[test]
-fn a_run_on_an_ordered_map_had_other_replies(rt: HostRuntime) -> Result<(), Fail> {
-    let arena = Bump::new(rt.alloc());
-    assert!(rt; ordered_is_answered(rt.alloc(), &arena)?);
-    Ok(())
-}
-
-// ---- the index map
-
-fn index_base<'a>(alloc: Global) -> Result<IndexMap<u32, &'a str>, AllocError> {
-    let mut base = IndexMap::new(alloc);
-    base.insert(2, "z")?;
-    Ok(base)
-}
-
-fn index_replies<'a>(
-    alloc: Global,
-    arena: &'a Bump,
-    rows: Rows<'_>,
-    base: IndexMap<u32, &'a str>,
-) -> Result<Vec<MapReply<&'a str>>, AllocError> {
-    let mut map: FrozenIndexMap<'a, u32, String> = FrozenIndexMap::new(alloc, arena);
-    run_map(&mut map, commands(alloc, rows, base)?)
-}
-
-fn index_is_answered(alloc: Global, arena: &Bump) -> Result<bool, AllocError> {
-    let stays = index_replies(alloc, arena, STAYS, IndexMap::new(alloc))?;
-    let first_wins = index_replies(alloc, arena, FIRST_WINS, index_base(alloc)?)?;
-    let new_once = index_replies(alloc, arena, NEW_ONCE, IndexMap::new(alloc))?;
-    Ok(
-        are_of_stays(stays.as_slice())
-            && are_first_wins(first_wins.as_slice())
-            && are_new_once(new_once.as_slice()),
-    )
-}
-
-#[test]
-fn a_run_on_an_index_map_had_other_replies(rt: HostRuntime) -> Result<(), Fail> {
-    let arena = Bump::new(rt.alloc());
-    assert!(rt; index_is_answered(rt.alloc(), &arena)?);
     Ok(())
 }

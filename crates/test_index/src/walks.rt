@@ -49,14 +49,6 @@ fn an_index_map_is_walked_in_the_order_of_first_insertions(rt: HostRuntime) -> R
     Ok(())
 }
 
-#[test]
-fn an_index_map_counts_each_key_once(rt: HostRuntime) -> Result<(), Fail> {
-    let arena = Bump::new(rt.alloc());
-    let map = map(rt.alloc(), &arena)?;
-    assert!(rt; map.len() == 3 && map.contains_key(&2) && !map.contains_key(&4));
-    Ok(())
-}
-
 fn set<'a>(alloc: Global, arena: &'a Bump) -> Result<FrozenIndexSet<'a, &'a str>, AllocError> {
     let mut set = FrozenIndexSet::new(alloc, arena);
     for value in ["ccc", "a", "bb", "a"] {
@@ -84,15 +76,5 @@ fn an_index_set_is_walked_in_the_order_of_first_insertions(rt: HostRuntime) -> R
     let arena = Bump::new(rt.alloc());
     let set = set(rt.alloc(), &arena)?;
     assert_eq!(rt; walked(&set), (312, 213));
-    Ok(())
-}
-
-#[test]
-fn an_index_set_counts_each_value_once(rt: HostRuntime) -> Result<(), Fail> {
-    let arena = Bump::new(rt.alloc());
-    let full = set(rt.alloc(), &arena)?;
-    let empty: FrozenIndexSet<'_, &str> = FrozenIndexSet::new(rt.alloc(), &arena);
-    assert!(rt; full.len() == 3 && !full.is_empty() && empty.len() == 0 && empty.is_empty());
-    assert!(rt; full.contains(&"bb") && !full.contains(&"b"));
     Ok(())
 }

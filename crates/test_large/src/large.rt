@@ -1,13 +1,12 @@
-//! Collections with thousands of entries and texts of 2,000 bytes: no call fails because of the
-//! size.
+//! A hundred thousand names, runs of a thousand commands and long texts: no call fails because of
+//! the size.
 use bumpalo::Bump;
 use elsa::cache::{CacheFault, ParsedCache};
 use elsa::interner::Interner;
 use elsa::run::{MapCommand, VecCommand, run_map, run_vec};
-use elsa::{FrozenBTreeMap, FrozenIndexMap, FrozenIndexSet, FrozenMap, FrozenVec, Own};
+use elsa::{FrozenMap, FrozenVec, Own};
 use std::alloc::{AllocError, Global};
 use std::convert::Infallible;
-use std::hash::BuildHasherDefault;
 use std::test::Fail;
 
 /// Makes a text of 2,000 bytes that ends with `end`, which has at most that length.
@@ -18,129 +17,6 @@ fn long(alloc: Global, end: &str) -> Result<String, AllocError> {
     }
     text.push_str(end)?;
     Ok(text)
-}
-
-/// Returns whether a vector collects a thousand items and is extended by another thousand.
-fn vector_holds(alloc: Global, arena: &Bump) -> Result<bool, AllocError> {
-    let mut items: FrozenVec<'_, Own<usize>> = FrozenVec::from_iter(
-        alloc,
-        arena,
-        (0..1000).map(Own),
-    )?;
-    items.extend((1000..2000).map(Own))?;
-    Ok(items.len() == 2000 && items.get(1999) == Some(&1999) && items.get(1000) == Some(&1000))
-}
-
-#[test]
-fn a_vector_takes_thousands_of_items(rt: HostRuntime) -> Result<(), Fail> {
-    let arena = Bump::new(rt.alloc());
-    assert!(rt; vector_holds(rt.alloc(), &arena)?);
-    Ok(())
-}
-
-/// Returns whether a hashed map collects a thousand pairs and accepts another thousand.
-fn hashed_holds(alloc: Global, arena: &Bump) -> Result<bool, AllocError> {
-    let pairs = (0..1000).map(|key| (key, Own(key)));
-    let mut map: FrozenMap<'_, usize, Own<usize>> = FrozenMap::from_iter(
-        alloc,
-        arena,
-        BuildHasherDefault::default(),
-        pairs,
-    )?;
-    for key in 1000..2000 {
-        map.insert(key, Own(key))?;
-    }
-    Ok(map.len() == 2000 && map.get(&999) == Some(&999) && map.get(&1999) == Some(&1999))
-}
-
-/// Returns the same for an ordered map.
-fn ordered_holds(alloc: Global, arena: &Bump) -> Result<bool, AllocError> {
-    let pairs = (0..1000).map(|key| (key, Own(key)));
-    let mut map: FrozenBTreeMap<'_, usize, Own<usize>> = FrozenBTreeMap::from_iter(
-        alloc, arena, pairs,
-    )?;
-    for key in 1000..2000 {
-        map.insert(key, Own(key))?;
-    }
-    Ok(map.len() == 2000 && map.get(&999) == Some(&999) && map.get(&1999) == Some(&1999))
-}
-
-/// Returns the same for an index map.
-fn indexed_holds(alloc: Global, arena: &Bump) -> Result<bool, AllocError> {
-    let pairs = (0..1000).map(|key| (key, Own(key)));
-    let mut map: FrozenIndexMap<'_, usize, Own<usize>> = FrozenIndexMap::from_iter(
-        alloc,
-        arena,
-        BuildHasherDefault::default(),
-        pairs,
-    )?;
-    for key in 1000..2000 {
-        map.insert(key, Own(key))?;
-    }
-    Ok(map.get_index_of(&999) == Some(999) && map.get_index_of(&1999) == Some(1999))
-}
-
-#[test]
-fn maps_take_thousands_of_pairs(rt: HostRuntime) -> Result<(), Fail> {
-    let arena = Bump::new(rt.alloc());
-    assert!(rt; hashed_holds(rt.alloc(), &arena)?);
-    assert!(rt; ordered_holds(rt.alloc(), &arena)?);
-    assert!(rt; indexed_holds(rt.alloc(), &arena)?);
-    Ok(())
-}
-
-/// Returns whether a set accepts two thousand values, every second one by `insert_absent` after a
-/// lookup.
-fn set_holds(alloc: Global, arena: &Bump) -> Result<bool, AllocError> {
-    let mut set: FrozenIndexSet<'_, Own<usize>> = FrozenIndexSet::new(alloc, arena);
-    for value in 0..1000 {
-        set.insert(Own(value))?;
-        let next = Own(value + 1000);
-        if set.get_index_of(&&next.0).is_none() {
-            set.insert_absent(next)?;
-        }
-    }
-    Ok(set.len() == 2000 && set.get_index_of(&&1999) == Some(1999))
-}
-
-#[test]
-fn a_set_takes_thousands_of_values(rt: HostRuntime) -> Result<(), Fail> {
-    let arena = Bump::new(rt.alloc());
-    assert!(rt; set_holds(rt.alloc(), &arena)?);
-    Ok(())
-}
-
-/// Returns whether a hashed map accepts a long text as a key and as a value, and finds it.
-fn hashed_takes_long(alloc: Global, arena: &Bump) -> Result<bool, AllocError> {
-    let key = long(alloc, "key")?;
-    let mut map: FrozenMap<'_, &str, String> = FrozenMap::new(alloc, arena);
-    map.insert_text(key.as_str(), long(alloc, "value")?)?;
-    Ok(map.get(key.as_str()).is_some_and(|kept| kept.len() == 2000))
-}
-
-/// Returns the same for an ordered map.
-fn ordered_takes_long(alloc: Global, arena: &Bump) -> Result<bool, AllocError> {
-    let key = long(alloc, "key")?;
-    let mut map: FrozenBTreeMap<'_, &str, String> = FrozenBTreeMap::new(alloc, arena);
-    map.insert_text(key.as_str(), long(alloc, "value")?)?;
-    Ok(map.get(key.as_str()).is_some_and(|kept| kept.len() == 2000))
-}
-
-/// Returns the same for an index map.
-fn indexed_takes_long(alloc: Global, arena: &Bump) -> Result<bool, AllocError> {
-    let key = long(alloc, "key")?;
-    let mut map: FrozenIndexMap<'_, &str, String> = FrozenIndexMap::new(alloc, arena);
-    map.insert_text(key.as_str(), long(alloc, "value")?)?;
-    Ok(map.get(key.as_str()).is_some_and(|kept| kept.len() == 2000))
-}
-
-#[test]
-fn long_texts_are_keys_and_values(rt: HostRuntime) -> Result<(), Fail> {
-    let arena = Bump::new(rt.alloc());
-    assert!(rt; hashed_takes_long(rt.alloc(), &arena)?);
-    assert!(rt; ordered_takes_long(rt.alloc(), &arena)?);
-    assert!(rt; indexed_takes_long(rt.alloc(), &arena)?);
-    Ok(())
 }
 
 /// Returns whether a cache loads and parses a long text at a long path.

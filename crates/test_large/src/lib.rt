@@ -1,8 +1,8 @@
-//! Cases that are larger than in the other test crates, by `elsa` alone: collections of thousands,
-//! texts of 2,000 bytes, a hundred thousand names, and devices that are interrupted a thousand
-//! times. Others check the output of `{:?}` for four entries, calls that must not allocate though
-//! there is room, the number of bytes, requests, hashes and comparisons of a call, a cache of
-//! parsed texts over a budget, interners with reserved capacity, and their readers on four threads.
+//! Cases that are larger than in the other test crates, by `elsa` alone: runs of a thousand calls, a
+//! hundred thousand names, and devices that are interrupted a thousand times. Others check calls
+//! that must not allocate though there is room, the number of bytes, requests, hashes and
+//! comparisons of a call, a cache of parsed texts over a budget, names that are in the arena
+//! already, and readers of an interner on four threads.
 #![tactic(auto)]
 
 #[cfg(test)]
@@ -13,8 +13,6 @@ mod interrupted;
 mod large;
 #[cfg(test)]
 mod parsed;
-#[cfg(test)]
-mod prints;
 #[cfg(test)]
 mod reserved;
 #[cfg(test)]

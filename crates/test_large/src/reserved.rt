@@ -1,75 +1,8 @@
-//! Interners with reserved capacity: it isn't allocated again, texts that are in the arena aren't
-//! copied, and a reader has the names that were put.
+//! Interners: texts that are in the arena aren't copied, and a reader has the names that were put.
 use bumpalo::Bump;
 use elsa::interner::{Interner, InternerReader};
-use std::alloc::{AllocError, Allocator, Global};
-use std::hash::{BuildHasherDefault, FoldHasher};
+use std::alloc::{AllocError, Global};
 use std::test::*;
-use test_alloc::Budget;
-
-type Hasher = BuildHasherDefault<FoldHasher>;
-
-/// Returns whether the names with the numbers from `from` to `to - 1` are put while every request
-/// is denied, and get these numbers.
-fn puts_without_memory(
-    heap: &Budget<Global>,
-    names: &mut Interner<'_, Hasher, &Budget<Global>>,
-    from: usize,
-    to: usize,
-) -> bool {
-    let asked = heap.asked();
-    heap.refuse(asked, u64::MAX);
-    for number in from..to {
-        let bytes = [
-            b'a' + (number % 26) as u8,
-            b'a' + (number / 26 % 26) as u8,
-            b'a' + (number / 676 % 26) as u8,
-        ];
-        let Ok(name) = std::str::from_utf8(&bytes) else {
-            return false;
-        };
-        if names.put(name) != Ok(number) {
-            return false;
-        }
-    }
-    heap.refuse_next(0);
-    heap.asked() == asked
-}
-
-/// Returns whether an interner with capacity for a thousand names accepts them without a request,
-/// and another thousand after `reserve`.
-fn reserves(heap: &Budget<Global>, arena: &Bump) -> Result<bool, AllocError> {
-    let mut names: Interner<'_, Hasher, _> = Interner::with_capacity(heap, arena, 1000)?;
-    let has_room = names.capacity() >= 1000 && names.is_empty();
-    let first = puts_without_memory(heap, &mut names, 0, 1000);
-    names.reserve(1000)?;
-    let second = puts_without_memory(heap, &mut names, 1000, 2000);
-    Ok(has_room && first && second && names.len() == 2000 && names.capacity() >= 2000)
-}
-
-/// Returns whether a failed `reserve` leaves the names unchanged, also if the capacity is greater
-/// than the number of possible names.
-fn refuses(heap: &Budget<Global>, arena: &Bump) -> Result<bool, AllocError> {
-    let mut names: Interner<'_, Hasher, _> = Interner::new(heap, arena);
-    let _ = names.put("name")?;
-    heap.refuse_next(1);
-    let list = names.reserve(1000).is_err();
-    let asked = heap.asked();
-    heap.refuse(asked.saturating_add(1), asked.saturating_add(2));
-    let table = names.reserve(1000).is_err();
-    heap.refuse_next(0);
-    let many = names.reserve(1 << 33).is_err();
-    Ok(list && table && many && names.len() == 1 && names.find("name") == Some(0))
-}
-
-#[test]
-fn names_that_have_room_ask_for_nothing(rt: HostRuntime) -> Result<(), Fail> {
-    let heap = Budget::new(rt.alloc());
-    let arena = Bump::new(rt.alloc());
-    assert!(rt; reserves(&heap, &arena)?);
-    assert!(rt; refuses(&heap, &arena)?);
-    Ok(())
-}
 
 /// Returns whether texts that are in the arena already take no room there, and are found as any
 /// others.

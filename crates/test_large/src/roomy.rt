@@ -1,7 +1,9 @@
 //! Calls that must not allocate, though the arena and the tables have room.
 use bumpalo::Bump;
 use elsa::interner::Interner;
-use elsa::{FrozenBTreeMap, FrozenIndexMap, FrozenIndexSet, FrozenMap, FrozenVec, Own};
+use elsa::{
+    FrozenAppendMap, FrozenBTreeMap, FrozenIndexMap, FrozenIndexSet, FrozenMap, FrozenVec, Own,
+};
 use std::alloc::{AllocError, Allocator, Global};
 use std::hash::{BuildHasherDefault, FoldHasher};
 use std::test::Fail;
@@ -124,5 +126,42 @@ fn a_present_value_and_walks_of_lists_ask_for_nothing(rt: HostRuntime) -> Result
     assert!(rt; vector_asks_nothing(&heap, &arena)?);
     assert!(rt; set_asks_nothing(&heap, &arena)?);
     assert!(rt; interner_asks_nothing(&heap, &arena)?);
+    Ok(())
+}
+
+/// Returns the capacity of each collection that has room for the number of entries.
+fn capacities(alloc: Global, count: usize) -> Result<[usize; 6], AllocError> {
+    let arena = Bump::new(alloc);
+    let items: FrozenVec<'_, Own<u64>> = FrozenVec::with_capacity(alloc, &arena, count)?;
+    let mut hashed: FrozenMap<'_, u64, Own<u64>> = FrozenMap::new(alloc, &arena);
+    hashed.reserve(count)?;
+    let mut indexed: FrozenIndexMap<'_, u64, Own<u64>> = FrozenIndexMap::new(alloc, &arena);
+    indexed.reserve(count)?;
+    let mut large: FrozenAppendMap<'_, u64, Own<u64>> = FrozenAppendMap::new(alloc, &arena);
+    let Ok(()) = large.reserve(count) else {
+        return Err(AllocError);
+    };
+    let mut set: FrozenIndexSet<'_, Own<u64>> = FrozenIndexSet::new(alloc, &arena);
+    set.reserve(count)?;
+    let mut names = Interner::new(alloc, &arena);
+    names.reserve(count)?;
+    Ok([
+        items.capacity(),
+        hashed.capacity(),
+        indexed.capacity(),
+        large.capacity(),
+        set.capacity(),
+        names.capacity(),
+    ])
+}
+
+#[test]
+fn a_capacity_was_not_that_of_the_reserved_room(rt: HostRuntime) -> Result<(), Fail> {
+    for count in [1usize, 100, 10_000, 150_000] {
+        let most = count.wrapping_mul(8).wrapping_add(64);
+        for capacity in capacities(rt.alloc(), count)? {
+            assert_eq!(rt; capacity, capacity.max(count).min(most), "room for {count}");
+        }
+    }
     Ok(())
 }

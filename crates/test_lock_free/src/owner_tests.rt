@@ -195,17 +195,6 @@ fn texts_were_lost_or_compared_wrongly_without_a_handle(rt: HostRuntime) -> Resu
 }
 
 #[test]
-fn equal_vectors_of_texts_were_unequal_without_a_handle(rt: HostRuntime) -> Result<(), Fail> {
-    let one: LockFreeFrozenVec<String> = LockFreeFrozenVec::new(rt.alloc())?;
-    let two: LockFreeFrozenVec<String> = LockFreeFrozenVec::new(rt.alloc())?;
-    assert!(rt; one.equals(&two));
-    assert!(rt; push_texts(&rt, rt.alloc(), &one, &["x", "yz"])?);
-    assert!(rt; push_texts(&rt, rt.alloc(), &two, &["x", "yz"])?);
-    assert!(rt; one.equals(&two));
-    Ok(())
-}
-
-#[test]
 fn an_item_of_a_refused_push_was_kept_without_a_handle(rt: HostRuntime) -> Result<(), Fail> {
     let budget = Budget::new(rt.alloc());
     let owner = Arc::new(rt.alloc(), 7u64)?;

@@ -87,43 +87,6 @@ fn a_walk_gives_what_was_seen(rt: HostRuntime) -> Result<(), Fail> {
     Ok(())
 }
 
-/// Returns whether a view of a vector with the numbers below `count` reads them all, and `None` at
-/// the other indices.
-fn reads_all(vector: &LockFreeFrozenVec<u64>, count: u64) -> bool {
-    let mut pass = vector.pass();
-    let (end, top) = (vector.len_as(&mut pass), usize::MAX);
-    let above = vector.get_as(&mut pass, end).is_none() && vector.get_as(&mut pass, top).is_none();
-    above && reads_below(vector, &mut pass, count) && vector.get(top).is_none()
-}
-
-#[test]
-fn a_pass_reads_what_was_seen(rt: HostRuntime) -> Result<(), Fail> {
-    for count in [0, 1, 3, 4, 15, 16, 63, 1000] {
-        let vector = LockFreeFrozenVec::<u64>::new(rt.alloc())?;
-        assert!(rt;
-            push_to(&rt, &vector, 0, count) && reads_all(&vector, count),
-            "of {count}"
-        );
-    }
-    Ok(())
-}
-
-/// Returns whether a view that pushes reads its own item and those that were pushed before, and has
-/// observed none that was pushed after.
-fn reads_what_it_pushed<R: Wait>(rt: &R, vector: &LockFreeFrozenVec<u64>) -> bool {
-    let mut pass = vector.pass();
-    let own = push_to(rt, vector, 0, 2) && vector.push_as(rt, &mut pass, 2) == Ok(2);
-    let later = vector.push(rt, 3) == Ok(3);
-    own && later && pass.seen_len() == 3 && walks(vector, &pass, 3)
-}
-
-#[test]
-fn a_pusher_has_seen_its_own_items(rt: HostRuntime) -> Result<(), Fail> {
-    let vector = LockFreeFrozenVec::<u64>::new(rt.alloc())?;
-    assert!(rt; reads_what_it_pushed(&rt, &vector));
-    Ok(())
-}
-
 /// Returns whether a clone's view has observed the whole clone, and a view reads the observed
 /// prefix of another after a merge.
 fn clone_and_meet(vector: &LockFreeFrozenVec<u64>, count: u64) -> Result<bool, AllocError> {
@@ -147,25 +110,6 @@ fn a_clone_and_a_meeting_hand_out_what_was_seen(rt: HostRuntime) -> Result<(), F
             "of {count}"
         );
     }
-    Ok(())
-}
-
-/// Returns whether a view that has observed two of five numbers clones all five.
-fn clones_what_it_had_not_seen<R: Wait>(
-    rt: &R,
-    vector: &LockFreeFrozenVec<u64>,
-) -> Result<bool, AllocError> {
-    let mut pass = vector.pass();
-    let part = push_to(rt, vector, 0, 2) && vector.len_as(&mut pass) == 2;
-    let later = push_to(rt, vector, 2, 5);
-    let (copy, copy_pass) = vector.clone_as(&mut pass)?;
-    Ok(part && later && walks(&copy, &copy_pass, 5))
-}
-
-#[test]
-fn a_clone_has_what_was_pushed_since_its_pass_looked(rt: HostRuntime) -> Result<(), Fail> {
-    let vector = LockFreeFrozenVec::<u64>::new(rt.alloc())?;
-    assert!(rt; clones_what_it_had_not_seen(&rt, &vector)?);
     Ok(())
 }
 
@@ -310,38 +254,5 @@ fn a_push_that_waits_long_comes_next(rt: HostRuntime) -> Result<(), Fail> {
         (did.as_slice(), shared.len()),
         ([true, true, true].as_slice(), 5)
     );
-    Ok(())
-}
-
-/// Reads the numbers below `seen` by the view again and again until the vector has `end` items, and
-/// returns whether each read was right.
-fn reads_until(vector: &LockFreeFrozenVec<u64>, pass: Pass<u64>, seen: u64, end: usize) -> bool
-    requires { pass.vector ≡ vector.now }
-{
-    let mut pass = pass;
-    for _turn in 0..TURNS {
-        if !reads_below(vector, &mut pass, seen) {
-            return false;
-        }
-        if vector.len() == end {
-            return pass.seen_len() == seen as usize;
-        }
-    }
-    false
-}
-
-#[test]
-fn a_pass_keeps_reading_in_another_thread(rt: HostRuntime) -> Result<(), Fail> {
-    let vector = LockFreeFrozenVec::<u64>::new(rt.alloc())?;
-    let shared = &vector;
-    assert!(rt; push_to(&rt, shared, 0, 100));
-    let mut pass = shared.pass();
-    let length = shared.len_as(&mut pass);
-    let (read, pushed) = thread::join(
-        &rt,
-        move || reads_until(shared, pass, 100, 5000),
-        || push_to(&rt, shared, 100, 5000),
-    );
-    assert_eq!(rt; (length, read, pushed), (100, true, true));
     Ok(())
 }

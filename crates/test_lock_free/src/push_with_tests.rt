@@ -54,61 +54,6 @@ fn a_node_of_a_thread_had_the_index_of_another(rt: HostRuntime) -> Result<(), Fa
     Ok(())
 }
 
-// Pushes a number, or, where it is no multiple of three, the sum of it and of its index, which the
-// closure adds. Returns what the list then has at its index.
-fn push_drawn(
-    rt: &impl Wait,
-    handle: &mut Handle<'_, u64>,
-    drawn: u64,
-    len: u64,
-) -> Result<u64, AllocError> {
-    if drawn % 3 == 0 {
-        handle.push(rt, drawn)?;
-        return Ok(drawn);
-    }
-    handle.push_with(rt, |index| drawn.wrapping_add(index as u64))?;
-    Ok(drawn.wrapping_add(len))
-}
-
-// Pushes by two handles, at random by either call. Returns the list that is expected, and the one
-// that is read.
-fn pushed(
-    rt: &impl Wait,
-    alloc: Global,
-    calls: u64,
-) -> Result<(Vec<Option<u64>>, Vec<Option<u64>>), AllocError> {
-    let numbers: LockFreeFrozenVec<u64> = LockFreeFrozenVec::new(alloc)?;
-    let (mut expected, mut read) = (Vec::new(alloc), Vec::new(alloc));
-    let (mut one, mut other) = (numbers.handle(), numbers.handle());
-    let mut seed = calls;
-    for len in 0..calls {
-        seed = seed
-            .wrapping_mul(6364136223846793005)
-            .wrapping_add(1442695040888963407);
-        let drawn = seed >> 33;
-        let item = if drawn % 2 == 0 {
-            push_drawn(rt, &mut one, drawn, len)?
-        } else {
-            push_drawn(rt, &mut other, drawn, len)?
-        };
-        expected.push(Some(item))?;
-    }
-    expected.push(None)?;
-    for index in 0..=calls {
-        read.push(one.get(index as usize))?;
-    }
-    Ok((expected, read))
-}
-
-#[test]
-fn an_item_was_made_for_another_index(rt: HostRuntime) -> Result<(), Fail> {
-    for calls in [0_u64, 1, 3, 4, 15, 16, 3000] {
-        let (expected, read) = pushed(&rt, rt.alloc(), calls)?;
-        assert_eq!(rt; read, expected, "{calls} calls");
-    }
-    Ok(())
-}
-
 // An item that counts itself, by an owner of one number.
 #[derive(Drop)]
 struct Counted {

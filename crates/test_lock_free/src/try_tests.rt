@@ -1,16 +1,14 @@
-//! Pushes that don't wait: by one thread alone, while another handle has the vector locked, with
-//! each allocation denied in turn, and by two threads at once.
+//! Pushes that don't wait: while another handle has the vector locked, and by two threads at once.
 ghost use Rattle.std.specs.Prelude.{◌≡◌};
 
 use elsa_lock_free::lock_free::{Handle, LockFreeFrozenVec};
 use elsa_lock_free::may_lock::{AttemptFault, LockPermit};
-use std::alloc::{AllocError, Allocator, Global};
+use std::alloc::Allocator;
 use std::sync::Wait;
 use std::sync::atomic::{AtomicU64, Ordering};
 use std::test::*;
 use std::thread;
 use std::thread::Threads;
-use test_alloc::Budget;
 
 /// The greatest number of attempts to push one item.
 const TURNS: u64 = 10_000_000;
@@ -38,33 +36,6 @@ fn outcome_of_push<A: Allocator + Copy>(
         Err(AttemptFault::Busy(item)) => Pushed::Busy(item),
         Err(AttemptFault::Failed(failed)) => Pushed::Failed(failed.value),
     }
-}
-
-/// Pushes `count` numbers by two handles in turn, neither of which has observed the other's last
-/// push. Returns the first result that isn't the next index.
-fn alone(vector: &LockFreeFrozenVec<u64>, may: LockPermit, count: usize) -> Option<Pushed> {
-    let mut one = vector.handle();
-    let mut other = vector.handle();
-    for number in 0..count {
-        let result = if number % 2 == 0 {
-            outcome_of_push(&mut one, may, number as u64)
-        } else {
-            outcome_of_push(&mut other, may, number as u64)
-        };
-        if result != Pushed::At(number) {
-            return Some(result);
-        }
-    }
-    None
-}
-
-#[test]
-fn one_thread_alone_found_the_vector_busy(rt: HostRuntime) -> Result<(), Fail> {
-    let vector = LockFreeFrozenVec::<u64>::new(rt.alloc())?;
-    let may = LockPermit::trying(rt.alloc());
-    assert_eq!(rt; alone(&vector, may, 100), None);
-    assert_eq!(rt; (vector.len(), vector.get(99)), (100, Some(99)));
-    Ok(())
 }
 
 /// Pushes `count` numbers, and then 7 by another handle while the vector is locked. Returns what
@@ -104,37 +75,6 @@ fn a_push_at_a_locked_vector_did_not_return_its_item(rt: HostRuntime) -> Result<
         assert_eq!(rt; vector.len(), count as usize, "at {count}");
         let after = outcome_of_push(&mut vector.handle(), may, 8);
         assert_eq!(rt; after, Pushed::At(count as usize), "at {count}");
-    }
-    Ok(())
-}
-
-/// Tries to push 7 at the length `count`, while the budget denies the next request, and then
-/// 8. Returns both results, and the length.
-fn denied_once(
-    heap: &Budget<Global>,
-    may: LockPermit,
-    count: u64,
-) -> Result<(Pushed, Pushed, usize), AllocError> {
-    let vector = LockFreeFrozenVec::<u64, _>::new(heap)?;
-    let mut handle = vector.handle();
-    for number in 0..count {
-        outcome_of_push(&mut handle, may, number);
-    }
-    heap.refuse_next(1);
-    let first = outcome_of_push(&mut handle, may, 7);
-    let again = outcome_of_push(&mut handle, may, 8);
-    Ok((first, again, vector.len()))
-}
-
-#[test]
-fn a_push_without_memory_did_not_return_its_item(rt: HostRuntime) -> Result<(), Fail> {
-    for count in [0, 3, 15, 63] {
-        let heap = Budget::new(rt.alloc());
-        let results = denied_once(&heap, LockPermit::trying(rt.alloc()), count)?;
-        let after = count as usize;
-        let wanted = (Pushed::Failed(7), Pushed::At(after), after + 1);
-        assert_eq!(rt; results, wanted, "at {count}");
-        assert_eq!(rt; heap.given(), heap.granted(), "at {count}");
     }
     Ok(())
 }

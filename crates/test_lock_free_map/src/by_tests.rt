@@ -1,19 +1,12 @@
-//! Maps of owned texts: insertions by a query, whose key and value are made only for a new key, and
-//! insertions of a value that is made.
+//! Maps of owned texts: insertions whose key or value is made, while another handle inserts and while
+//! allocations fail.
 use elsa_lock_free_map::handle::MapHandle;
 use elsa_lock_free_map::map::LockFreeFrozenMap;
 use std::alloc::{AllocError, Allocator, Global};
 use std::hash::{BuildHasherDefault, FoldHasher};
 use std::sync::{Arc, Wait};
 use std::test::*;
-use std::thread;
-use std::thread::Threads;
 use test_alloc::Budget;
-
-/// The number of drawn keys, and the number of insertions.
-const KEYS: u64 = 400;
-
-const CALLS: u64 = 2_000;
 
 type State = BuildHasherDefault<FoldHasher>;
 
@@ -87,64 +80,6 @@ fn by_key<R: Wait, A: Allocator + Copy>(
     (done, runs)
 }
 
-/// Returns what four insertions of two texts return: of the second text first one whose closure
-/// fails.
-fn four_by_query<R: Wait>(
-    rt: &R,
-    alloc: Global,
-    owner: &Arc<u64, Global>,
-) -> Result<[Done; 4], AllocError> {
-    let map: Owners<Global> = LockFreeFrozenMap::new(alloc)?;
-    let (mut one, mut other) = (map.handle(), map.handle());
-    Ok([
-        by_query(rt, alloc, &mut one, owner, "ann", 30),
-        by_query(rt, alloc, &mut other, owner, "ann", 31),
-        by_query(rt, alloc, &mut other, owner, "bob", 0),
-        by_query(rt, alloc, &mut one, owner, "bob", 20),
-    ])
-}
-
-#[test]
-fn an_entry_was_made_for_a_text_that_the_map_had(rt: HostRuntime) -> Result<(), Fail> {
-    let owner = Arc::new(rt.alloc(), 7u64)?;
-    let done = four_by_query(&rt, rt.alloc(), &owner)?;
-    assert_eq!(rt; done[0], (Some((30, 0, true)), 1));
-    assert_eq!(rt; done[1], (Some((30, 0, false)), 0));
-    assert_eq!(rt; done[2], (None, 1));
-    assert_eq!(rt; done[3], (Some((20, 1, true)), 1));
-    assert_eq!(rt; Arc::strong_count(&owner), 1);
-    Ok(())
-}
-
-/// Returns what two insertions of a text by a value that is made return.
-fn two_by_key<R: Wait>(
-    rt: &R,
-    alloc: Global,
-    owner: &Arc<u64, Global>,
-) -> Result<[Done; 2], AllocError> {
-    let map: Owners<Global> = LockFreeFrozenMap::new(alloc)?;
-    let (mut one, mut other) = (map.handle(), map.handle());
-    let (first, second) = (owner.clone()?, owner.clone()?);
-    let (key, same) = (
-        String::from_str(alloc, "ann")?,
-        String::from_str(alloc, "ann")?,
-    );
-    Ok([
-        by_key(rt, &mut one, first, key, 30),
-        by_key(rt, &mut other, second, same, 31),
-    ])
-}
-
-#[test]
-fn a_value_was_made_for_an_owner_that_the_map_had(rt: HostRuntime) -> Result<(), Fail> {
-    let owner = Arc::new(rt.alloc(), 7u64)?;
-    let done = two_by_key(&rt, rt.alloc(), &owner)?;
-    assert_eq!(rt; done[0], (Some((30, 0, true)), 1));
-    assert_eq!(rt; done[1], (Some((30, 0, false)), 0));
-    assert_eq!(rt; Arc::strong_count(&owner), 1);
-    Ok(())
-}
-
 /// Inserts the text by another handle from inside the closure, and returns the number of the value
 /// that the key then has.
 fn overtaken<R: Wait>(
@@ -169,63 +104,6 @@ fn an_entry_that_came_while_one_was_made_was_replaced(rt: HostRuntime) -> Result
     // The value of the other handle, and of the closure none.
     assert_eq!(rt; overtaken(&rt, rt.alloc(), &map, &owner)?, (1, false, 2));
     drop(map);
-    assert_eq!(rt; Arc::strong_count(&owner), 1);
-    Ok(())
-}
-
-/// Returns the next of a row of numbers.
-fn next_of(drawn: u64) -> u64 {
-    drawn
-        .wrapping_mul(6_364_136_223_846_793_005)
-        .wrapping_add(1_442_695_040_888_963_407)
-}
-
-/// Makes an insertion and a look-up of a drawn text, each by one of two handles. Returns what
-/// differs from the plain list of the values in the order of insertion, at the index of each text.
-fn draws<R: Wait>(
-    rt: &R,
-    alloc: Global,
-    owner: &Arc<u64, Global>,
-    seed: u64,
-) -> Result<Option<u64>, AllocError> {
-    let map: Owners<Global> = LockFreeFrozenMap::new(alloc)?;
-    let (mut one, mut other) = (map.handle(), map.handle());
-    let mut indices: Vec<Option<(u64, usize, bool)>> = Vec::from_elem(alloc, None, KEYS as usize)?;
-    let (mut drawn, mut count) = (seed, 0usize);
-    for call in 1..CALLS {
-        drawn = next_of(drawn);
-        let (key, kind) = ((drawn >> 33) % KEYS, (drawn >> 20) % 3);
-        let text = format!(in alloc; "key {key}")?;
-        let known = indices[key as usize];
-        if one.contains_key(text.as_str()) != known.is_some() {
-            return Ok(Some(call));
-        }
-        let done = match kind {
-            0 => by_key(rt, &mut one, owner.clone()?, text, call),
-            1 => by_query(rt, alloc, &mut one, owner, text.as_str(), call),
-            _ => by_query(rt, alloc, &mut other, owner, text.as_str(), call),
-        };
-        let (right, runs) = match known {
-            Some((number, index, _)) => ((number, index, false), 0),
-            None => ((call, count, true), 1),
-        };
-        if done != (Some(right), runs) {
-            return Ok(Some(call));
-        }
-        if known.is_none() {
-            indices[key as usize] = Some(right);
-            count = count.wrapping_add(1);
-        }
-    }
-    Ok(None)
-}
-
-#[test]
-fn insertions_of_drawn_texts_differ_from_a_plain_list(rt: HostRuntime) -> Result<(), Fail> {
-    let owner = Arc::new(rt.alloc(), 7u64)?;
-    for seed in 1..6u64 {
-        assert_eq!(rt; draws(&rt, rt.alloc(), &owner, seed)?, None, "seed {seed}");
-    }
     assert_eq!(rt; Arc::strong_count(&owner), 1);
     Ok(())
 }
@@ -304,64 +182,5 @@ fn a_refused_insertion_of_a_made_entry_left_an_owner(rt: HostRuntime) -> Result<
         denied = denied.wrapping_add(refused);
     }
     assert!(rt; denied > 3, "{denied} requests were denied");
-    Ok(())
-}
-
-/// Inserts the same texts as other threads do, each with a value of this thread's own. Returns the
-/// sum of the values that the texts have.
-fn sum_of_values<R: Wait>(
-    rt: &R,
-    alloc: Global,
-    map: &Owners<Global>,
-    owner: &Arc<u64, Global>,
-    thread: usize,
-) -> Result<u64, AllocError> {
-    let mut handle = map.handle();
-    let mut sum = 0u64;
-    for key in 0..KEYS {
-        let text = format!(in alloc; "key {key}")?;
-        let own = key
-            .wrapping_mul(8)
-            .wrapping_add(thread as u64)
-            .wrapping_add(1);
-        if let (Some((value, _, _)), _) = by_query(
-            rt,
-            alloc,
-            &mut handle,
-            owner,
-            text.as_str(),
-            own,
-        ) {
-            sum = sum.wrapping_add(value);
-        }
-    }
-    Ok(sum)
-}
-
-/// Returns the sums of four threads, and that of a handle afterwards.
-fn sums_of_threads<R: Wait + Threads + Sync>(
-    rt: &R,
-    alloc: Global,
-    owner: &Arc<u64, Global>,
-) -> Result<(Vec<u64>, u64), AllocError> {
-    let map: Owners<Global> = LockFreeFrozenMap::new(alloc)?;
-    let sums = thread::map_indices(
-        rt,
-        alloc,
-        4,
-        &|at| { sum_of_values(rt, alloc, &map, owner, at).unwrap_or(0) },
-    )?;
-    let after = sum_of_values(rt, alloc, &map, owner, 5)?;
-    Ok((sums, after))
-}
-
-#[test]
-fn two_threads_made_different_values_of_a_text(rt: HostRuntime) -> Result<(), Fail> {
-    let owner = Arc::new(rt.alloc(), 7u64)?;
-    let (sums, after) = sums_of_threads(&rt, rt.alloc(), &owner)?;
-    for sum in &sums {
-        assert_eq!(rt; *sum, after);
-    }
-    assert_eq!(rt; Arc::strong_count(&owner), 1);
     Ok(())
 }

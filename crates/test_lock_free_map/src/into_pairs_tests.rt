@@ -1,6 +1,5 @@
-//! Maps whose entries are moved out: each entry comes out once, in the order of insertion, also if
-//! threads inserted while allocations failed; and a map whose entries can't be moved out is
-//! returned whole.
+//! Maps whose entries are moved out: each entry comes out once, in the order of insertion; and a map
+//! whose entries can't be moved out is returned whole.
 use elsa_lock_free_map::handle::MapHandle;
 use elsa_lock_free_map::map::LockFreeFrozenMap;
 use std::alloc::{AllocError, AllocFailed, Allocator, Global};
@@ -8,7 +7,6 @@ use std::hash::{BuildHasherDefault, FoldHasher};
 use std::process::Abort;
 use std::sync::{Arc, Wait};
 use std::test::*;
-use std::thread::{self, Threads};
 use test_alloc::Budget;
 
 /// The numbers of entries on both sides of the ends of the first four buffers, and a larger one.
@@ -162,146 +160,6 @@ fn a_map_was_lost_when_its_entries_could_not_come_out(rt: HostRuntime) -> Result
         if count > 0 {
             assert!(rt; is_returned(&rt, rt.alloc(), count)?, "{count} entries");
         }
-    }
-    Ok(())
-}
-
-/// The random numbers of one thread.
-#[derive(Clone, Copy)]
-struct Draws {
-    state: u64,
-}
-
-impl Draws {
-    /// Returns a number below `count`, which is at most 2^31.
-    fn below(&mut self, count: u64) -> u64 {
-        self.state = self
-            .state
-            .wrapping_mul(6364136223846793005)
-            .wrapping_add(1442695040888963407);
-        (self.state >> 33).wrapping_mul(count) >> 31
-    }
-}
-
-/// Returns whether the key of this number has its value, or is in no entry yet.
-fn is_right(
-    alloc: Global,
-    handle: &mut OwnersHandle<'_, '_>,
-    number: u64,
-) -> Result<bool, AllocError> {
-    let text = format!(in alloc; "key {number}")?;
-    let right = match handle.get_ref(text.as_str()) {
-        Some(value) => value.number == number,
-        None => true,
-    };
-    Ok(right)
-}
-
-/// Makes 400 random calls: insertions of 300 keys, look-ups, and failures of the next requests.
-/// Returns the number of its new keys, or `None` if a look-up found another value.
-fn calls<R: Wait>(
-    rt: &R,
-    alloc: Global,
-    map: &Owners<'_>,
-    budget: &Budget<Global>,
-    owner: &Arc<u64, Global>,
-    thread: u64,
-) -> Option<u64> {
-    let mut handle = map.handle();
-    let mut draws = Draws { state: thread };
-    let mut new = 0u64;
-    for _ in 0..400u64 {
-        let (kind, number) = (draws.below(16), draws.below(300));
-        if kind == 0 {
-            budget.refuse_next(draws.below(3));
-        } else if kind < 9 {
-            if insert_by(rt, alloc, &mut handle, owner, number).ok()? {
-                new = new.wrapping_add(1);
-            }
-        } else if !is_right(alloc, &mut handle, number).ok()? {
-            return None;
-        }
-    }
-    Some(new)
-}
-
-/// Returns whether these are all entries that four threads inserted, each of another key.
-fn are_of_four<A: Allocator>(
-    alloc: Global,
-    entries: &Entries<A>,
-    new: &[Option<u64>],
-) -> Result<bool, AllocError> {
-    let mut all = 0u64;
-    for count in new {
-        let Some(count) = *count else {
-            return Ok(false);
-        };
-        all = all.wrapping_add(count);
-    }
-    let mut came = vec![in alloc; 0u8; 300]?;
-    for entry in entries {
-        let number = entry.1.number;
-        if !is_of(alloc, entry.0.as_str(), &entry.1, number)? || number >= 300 {
-            return Ok(false);
-        }
-        came[number as usize] = came[number as usize].wrapping_add(1);
-    }
-    Ok(entries.len() as u64 == all && came.iter().all(|count| *count < 2))
-}
-
-/// Four threads insert, look up and let allocations fail at random. Returns whether each entry that
-/// they inserted comes out once, and all memory is deallocated.
-fn come_out_of_threads<R: Threads + Wait + Sync>(
-    rt: &R,
-    alloc: Global,
-) -> Result<bool, AllocError> {
-    let budget = Budget::new(alloc);
-    let owner = Arc::new(alloc, 7u64)?;
-    let map = Owners::with_hasher(&budget, BuildHasherDefault::new())?;
-    let (shared, meter, one) = (&map, &budget, &owner);
-    let new = thread::map_indices(
-        rt,
-        alloc,
-        4,
-        &|thread| calls(rt, alloc, shared, meter, one, thread as u64),
-    )?;
-    budget.refuse_next(0);
-    let entries = map.into_tuple_vec()?;
-    let whole = are_of_four(alloc, &entries, &new)?
-        && Arc::strong_count(&owner) == entries.len().wrapping_add(1);
-    drop(entries);
-    Ok(whole && Arc::strong_count(&owner) == 1 && budget.given() == budget.granted())
-}
-
-#[test]
-fn an_entry_of_four_threads_did_not_come_out_once(rt: HostRuntime) -> Result<(), Fail> {
-    for _ in 0..10u64 {
-        assert!(rt; come_out_of_threads(&rt, rt.alloc())?);
-    }
-    Ok(())
-}
-
-/// Returns whether a handle yields references to all entries, in order.
-fn are_yielded<R: Wait>(rt: &R, alloc: Global, count: u64) -> Result<bool, AllocError> {
-    let budget = Budget::new(alloc);
-    let owner = Arc::new(alloc, 7u64)?;
-    let map = filled(rt, alloc, &budget, &owner, count)?;
-    let mut handle = map.handle();
-    handle.len();
-    let mut number = 0u64;
-    for (key, value) in handle.iter().refs() {
-        if !is_of(alloc, key.as_str(), value, number)? {
-            return Ok(false);
-        }
-        number = number.wrapping_add(1);
-    }
-    Ok(number == count && handle.iter().refs().size_hint().0 as u64 == count)
-}
-
-#[test]
-fn an_iterator_over_references_missed_an_entry(rt: HostRuntime) -> Result<(), Fail> {
-    for count in LENGTHS {
-        assert!(rt; are_yielded(&rt, rt.alloc(), count)?, "{count} entries");
     }
     Ok(())
 }

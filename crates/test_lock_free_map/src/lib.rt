@@ -18,12 +18,8 @@ mod once_tests;
 #[cfg(test)]
 mod owner_tests;
 #[cfg(test)]
-mod refusal_tests;
-#[cfg(test)]
 mod thread_tests;
 #[cfg(test)]
 mod try_tests;
-#[cfg(test)]
-mod value_tests;
 #[cfg(test)]
 mod walk_tests;

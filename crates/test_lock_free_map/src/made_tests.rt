@@ -1,39 +1,10 @@
-//! Values that a closure makes for an absent key.
+//! A value that a closure makes for a key that is inserted meanwhile.
 use elsa_lock_free_map::map::LockFreeFrozenMap;
 use std::alloc::AllocError;
 use std::sync::Wait;
-use std::sync::atomic::{AtomicU64, Ordering};
 use std::test::*;
 
 type Map = LockFreeFrozenMap<u64, u64>;
-
-/// Returns whether a key that another handle inserted keeps its value, and no value is made for it,
-/// though this handle has not observed it yet.
-fn keeps_what_another_inserted<R: Wait>(rt: &R, map: &Map) -> Result<bool, AllocError> {
-    let made = AtomicU64::new(0);
-    let mut handle = map.handle();
-    map.handle().insert(rt, 3, 9)?;
-    let found = handle.get_or_insert_with(rt, 3, || made.fetch_add(1, Ordering::SeqCst))?;
-    Ok(!found.is_new && *found.value == 9 && made.load(Ordering::SeqCst) == 0)
-}
-
-/// Returns whether two calls make one value, which both return.
-fn makes_once<R: Wait>(rt: &R, map: &Map) -> Result<bool, AllocError> {
-    let made = AtomicU64::new(40);
-    let mut handle = map.handle();
-    let first = handle.get_or_insert_with(rt, 7, || made.fetch_add(1, Ordering::SeqCst))?;
-    let second = handle.get_or_insert_with(rt, 7, || made.fetch_add(1, Ordering::SeqCst))?;
-    let once = made.load(Ordering::SeqCst) == 41;
-    Ok(first.is_new && !second.is_new && *first.value == 40 && *second.value == 40 && once)
-}
-
-#[test]
-fn a_value_is_made_for_an_absent_key_alone(rt: HostRuntime) -> Result<(), Fail> {
-    let map = Map::new(rt.alloc())?;
-    assert!(rt; keeps_what_another_inserted(&rt, &map)?);
-    assert!(rt; makes_once(&rt, &map)?);
-    Ok(())
-}
 
 /// Runs in a closure: inserts the key by another handle, and returns 1 if that succeeds.
 fn inserted_beside<R: Wait>(rt: &R, map: &Map, key: u64) -> u64 {

@@ -8,7 +8,6 @@ use std::sync::atomic::{AtomicU64, Ordering};
 use std::sync::{Arc, Wait};
 use std::test::*;
 use std::thread;
-use std::thread::Threads;
 use test_alloc::Budget;
 
 /// The number of keys, and of calls of each thread.
@@ -63,31 +62,6 @@ fn try_make<R: Wait, A: Allocator + Copy>(
         Err(fault) => Err(fault.code),
     };
     Ok((done, runs))
-}
-
-/// Returns what five calls return: the first one's maker fails, and the last one is for another
-/// text.
-fn five_calls<R: Wait>(rt: &R, alloc: Global) -> Result<[Done; 5], AllocError> {
-    let map: Texts<Global> = OnceMap::new(alloc)?;
-    let (mut one, mut other) = (map.handle(), map.handle());
-    Ok([
-        try_make(rt, alloc, &mut one, "ann", 0)?,
-        try_make(rt, alloc, &mut other, "ann", 30)?,
-        try_make(rt, alloc, &mut one, "ann", 31)?,
-        try_make(rt, alloc, &mut other, "ann", 0)?,
-        try_make(rt, alloc, &mut one, "bob", 20)?,
-    ])
-}
-
-#[test]
-fn a_maker_ran_for_a_key_that_has_its_value(rt: HostRuntime) -> Result<(), Fail> {
-    let done = five_calls(&rt, rt.alloc())?;
-    assert_eq!(rt; done[0], (Err(3), 1));
-    assert_eq!(rt; done[1], (Ok((30, true)), 1));
-    assert_eq!(rt; done[2], (Ok((30, false)), 0));
-    assert_eq!(rt; done[3], (Ok((30, false)), 0));
-    assert_eq!(rt; done[4], (Ok((20, true)), 1));
-    Ok(())
 }
 
 /// Returns the value of a text before a maker has failed, after that, and after one has not.

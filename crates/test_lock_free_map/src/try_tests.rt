@@ -1,11 +1,11 @@
-//! Insertions that don't wait: by one thread alone, while another thread's insertion is halted,
-//! with each request denied in turn, and by two threads at once.
+//! Insertions that don't wait: by one thread alone, while another thread's insertion is halted, and by two threads at
+//! once.
 ghost use Rattle.std.specs.Prelude.{◌≡◌};
 
 use elsa_lock_free::may_lock::{AttemptFault, LockPermit};
 use elsa_lock_free_map::handle::MapHandle;
 use elsa_lock_free_map::map::LockFreeFrozenMap;
-use std::alloc::{AllocError, Allocator, Global};
+use std::alloc::{Allocator, Global};
 use std::hash::{BuildHasherDefault, FoldHasher};
 use std::sync::Wait;
 use std::test::*;
@@ -117,48 +117,6 @@ fn an_insertion_into_a_locked_map_did_not_return_its_key(rt: HostRuntime) -> Res
     let mut handle = map.handle();
     assert_eq!(rt; (handle.len(), handle.get(7)), (1, None));
     assert_eq!(rt; outcome_of(&mut handle, may, 7, 70), Tried::At(1, true));
-    Ok(())
-}
-
-/// Inserts 16 keys, each again if its insertion fails. Returns the number of failures, or the first
-/// result that is wrong.
-fn insert_stubbornly(map: &Map<&Budget<Global>>, may: LockPermit) -> Result<u64, Tried> {
-    let mut handle = map.handle();
-    let mut failed = 0u64;
-    for index in 0..16usize {
-        let mut result = outcome_of(&mut handle, may, index as u64, 5);
-        if result == Tried::Failed && handle.len() == index {
-            failed = failed.wrapping_add(1);
-            result = outcome_of(&mut handle, may, index as u64, 5);
-        }
-        if result != Tried::At(index, true) {
-            return Err(result);
-        }
-    }
-    Ok(failed)
-}
-
-/// Inserts while the request with this number is denied. Returns the result, and the number of
-/// denied requests.
-fn without(
-    heap: &Budget<Global>,
-    may: LockPermit,
-    number: u64,
-) -> Result<(Result<u64, Tried>, u64), AllocError> {
-    let map = Map::new(heap)?;
-    let denied = heap.asked().wrapping_add(number);
-    heap.refuse(denied, denied.wrapping_add(1));
-    Ok((insert_stubbornly(&map, may), heap.refused()))
-}
-
-#[test]
-fn an_insertion_without_memory_inserted_or_leaked(rt: HostRuntime) -> Result<(), Fail> {
-    for number in 0..8 {
-        let heap = Budget::new(rt.alloc());
-        let (failed, denied) = without(&heap, LockPermit::trying(rt.alloc()), number)?;
-        assert_eq!(rt; failed, Ok(denied), "request {number}");
-        assert_eq!(rt; heap.given(), heap.granted(), "request {number}");
-    }
     Ok(())
 }
 

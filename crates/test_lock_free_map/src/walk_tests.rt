@@ -1,4 +1,4 @@
-//! Walks over the observed prefix of a map, and `contains_key`.
+//! Walks over the observed prefix of a map.
 use elsa_lock_free_map::handle::MapHandle;
 use elsa_lock_free_map::map::LockFreeFrozenMap;
 use std::alloc::AllocError;
@@ -44,20 +44,5 @@ fn a_walk_gives_what_was_seen_when_it_began(rt: HostRuntime) -> Result<(), Fail>
         let map = Map::new(rt.alloc())?;
         assert!(rt; walks_over(&rt, &map, count)?, "at {count}");
     }
-    Ok(())
-}
-
-/// Returns whether a new handle contains a key that another inserted, and no other key.
-fn contains_what_another_inserted<R: Wait>(rt: &R, map: &Map) -> Result<bool, AllocError> {
-    let mut fresh = map.handle();
-    let before = fresh.contains_key(&5);
-    map.handle().insert(rt, 5, 25)?;
-    Ok(!before && fresh.contains_key(&5) && !fresh.contains_key(&6))
-}
-
-#[test]
-fn a_key_is_contained_once_another_handle_inserted_it(rt: HostRuntime) -> Result<(), Fail> {
-    let map = Map::new(rt.alloc())?;
-    assert!(rt; contains_what_another_inserted(&rt, &map)?);
     Ok(())
 }

@@ -1,8 +1,6 @@
-//! Closures that a locked map calls. A closure that makes a value runs under the lock; a closure
-//! that reads a value runs without it.
+//! Closures that read a value of a locked map: they run without the lock.
 use crate::marks::Mark;
 use elsa_locks::map::{FrozenBTreeMap, FrozenMap};
-use std::alloc::Global;
 use std::sync::Wait;
 use std::test::Fail;
 use std::thread;
@@ -16,120 +14,8 @@ type Ordered = FrozenBTreeMap<u64, u64>;
 #[derive(Drop)]
 struct Hold {
     runs: Mark,
-    asks: Mark,
     answered: Mark,
-    held: Mark,
 }
-
-impl Hold {
-    fn new() -> Hold {
-        Hold {
-            runs: Mark::new(),
-            asks: Mark::new(),
-            answered: Mark::new(),
-            held: Mark::new(),
-        }
-    }
-
-    // Runs in the closure: raises `held` if the other thread's call doesn't return while the
-    // closure runs.
-    fn run(&self) {
-        self.runs.raise(1);
-        if self.asks.comes_to(1) && !self.answered.comes_soon(1) {
-            self.held.raise(1);
-        }
-    }
-
-    // Runs in the closure. Returns 6.
-    fn make(&self) -> u64 {
-        self.run();
-        6
-    }
-}
-
-// A call of a locked map that takes a closure, and a call that must wait for the closure's end.
-trait Holding {
-    // Makes the call with a closure, and returns whether its result is 6.
-    fn holds<R: Wait>(&self, rt: &R, hold: &Hold) -> bool;
-
-    // Makes the call that must wait.
-    fn asks<R: Wait>(&self, rt: &R);
-}
-
-// The calls of a hashed map that make a value under the lock, by number. The call that must wait is
-// a read.
-#[derive(Drop)]
-struct Making {
-    map: Hashed,
-    call: u64,
-}
-
-impl Making {
-    fn of(alloc: Global, call: u64) -> Making {
-        Making {
-            map: FrozenMap::new(alloc),
-            call,
-        }
-    }
-}
-
-fn is_six<E>(made: Result<u64, E>) -> bool
-where
-    E: Drop,
-{
-    match made {
-        Ok(value) => value == 6,
-        Err(_) => false,
-    }
-}
-
-impl Holding for Making {
-    fn holds<R: Wait>(&self, rt: &R, hold: &Hold) -> bool {
-        match self.call {
-            0 => matches!(self.map.insert_with(rt, 1, || hold.make()), Ok(value) if *value == 6),
-            1 => {
-                matches!(self.map.insert_with_key(rt, 1, |_| hold.make()), Ok(value) if *value == 6)
-            }
-            2 => is_six(self.map.get_copy_or_insert_with(rt, 1, || hold.make())),
-            _ => is_six(self.map.get_copy_or_insert_with_key(rt, 1, |_| hold.make())),
-        }
-    }
-
-    fn asks<R: Wait>(&self, rt: &R) {
-        let _ = self.map.get_copy(rt, &2);
-    }
-}
-
-// Makes the other call while the closure runs.
-fn asks_beside<R: Wait, H: Holding>(rt: &R, map: &H, hold: &Hold) -> bool {
-    if !hold.runs.comes_to(1) {
-        return false;
-    }
-    hold.asks.raise(1);
-    map.asks(rt);
-    hold.answered.raise(1);
-    true
-}
-
-// Returns whether the other call waited for the closure's end.
-fn is_held<R: Threads + Wait + Sync, H: Holding + Sync>(rt: &R, map: &H) -> bool {
-    let own = Hold::new();
-    let hold = &own;
-    let (made, asked) = thread::join(rt, || map.holds(rt, hold), || asks_beside(rt, map, hold));
-    made && asked && hold.held.is_at(1)
-}
-
-// Checks that a read waits for a closure that makes a value. If the map called the closure without
-// the lock, the read would return while the closure runs.
-#[test]
-fn a_closure_that_makes_a_value_runs_under_the_lock(rt: HostRuntime) -> Result<(), Fail> {
-    for call in 0..4u64 {
-        assert!(rt; is_held(&rt, &Making::of(rt.alloc(), call)));
-    }
-    Ok(())
-}
-
-// ---- closures that read
 
 // A shared map that has 6 at 1.
 trait Read {
@@ -191,7 +77,10 @@ fn puts_beside<R: Wait, M: Read>(rt: &R, map: &M, hold: &Hold) -> bool {
 
 // Returns whether a closure that reads may call the same map while another thread inserts.
 fn is_free<R: Threads + Wait + Sync, M: Read + Sync>(rt: &R, map: &M) -> bool {
-    let own = Hold::new();
+    let own = Hold {
+        runs: Mark::new(),
+        answered: Mark::new(),
+    };
     let hold = &own;
     let (found, put) = thread::join(
         rt,

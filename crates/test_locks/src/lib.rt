@@ -23,8 +23,6 @@ mod maps;
 #[cfg(test)]
 mod marks;
 #[cfg(test)]
-mod no_memory;
-#[cfg(test)]
 mod overlaps;
 #[cfg(test)]
 mod printed;

@@ -18,34 +18,6 @@ fn stands(rt: &impl Wait, list: &List, item: &str, index: usize) -> Result<bool,
     Ok(is(list.get(rt, index)?, item))
 }
 
-// Returns whether the push returns this index.
-fn goes_to(
-    rt: &impl Wait,
-    list: &List,
-    item: &'static str,
-    index: usize,
-) -> Result<bool, AllocError> {
-    Ok(list.push_get_index(rt, item)? == index)
-}
-
-fn gets(rt: &impl Wait, list: &List, item: &'static str) -> Result<bool, AllocError> {
-    Ok(*list.push_get(rt, item)? == item)
-}
-
-fn is_absent(rt: &impl Wait, list: &List, index: usize) -> Result<bool, AllocError> {
-    Ok(list.get(rt, index)?.is_none())
-}
-
-#[test]
-fn places_count_from_0(rt: HostRuntime) -> Result<(), Fail> {
-    let list: List = FrozenVec::new(rt.alloc());
-    assert!(rt; goes_to(&rt, &list, "a", 0)? && stands(&rt, &list, "a", 0)?);
-    assert!(rt;
-        goes_to(&rt, &list, "b", 1)? && gets(&rt, &list, "c")? && is_absent(&rt, &list, 3)?
-    );
-    Ok(())
-}
-
 // Returns whether the walk returns this item next.
 fn answers(
     rt: &impl Wait,
@@ -63,34 +35,6 @@ fn a_walk_goes_on_after_a_push(rt: HostRuntime) -> Result<(), Fail> {
     assert!(rt; answers(&rt, &mut walk, "a")? && walk.next(&rt)?.is_none());
     list.push(&rt, "b")?;
     assert!(rt; answers(&rt, &mut walk, "b")?);
-    Ok(())
-}
-
-type Numbers = FrozenVec<u64>;
-
-fn are_equal(rt: &impl Wait, list: &Numbers, other: &Numbers) -> Result<bool, AllocError> {
-    Ok(list.equals(rt, list)? && list.equals(rt, other)?)
-}
-
-// Returns whether the lists differ after a push into `other`.
-fn parts(rt: &impl Wait, list: &Numbers, other: &Numbers) -> Result<bool, AllocError> {
-    other.push(rt, 8)?;
-    Ok(!list.equals(rt, other)? && other.len(rt) == 2)
-}
-
-fn is_cloned(rt: &impl Wait, list: &Numbers) -> Result<bool, AllocError> {
-    let other = list.clone(rt)?;
-    Ok(are_equal(rt, list, &other)? && parts(rt, list, &other)?)
-}
-
-#[test]
-fn pushes_into_a_clone_leave_its_source(rt: HostRuntime) -> Result<(), Fail> {
-    let mut list: Numbers = FrozenVec::new(rt.alloc());
-    let empty = list.is_empty(&rt);
-    list.push(&rt, 7)?;
-    assert!(rt; empty && is_cloned(&rt, &list)? && list.len(&rt) == 1);
-    list.as_mut().clear();
-    assert!(rt; list.len(&rt) == 0);
     Ok(())
 }
 

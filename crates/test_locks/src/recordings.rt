@@ -5,7 +5,7 @@ use elsa_history::{
     CloseFault, Core, Entries, History, MapCommand, MapReply, ReceiptsFault, RecordPass, Recorder,
     VecCommand, VecReply,
 };
-use elsa_locks::map::{MapState, TreeState};
+use elsa_locks::map::MapState;
 use elsa_locks::vec::VecState;
 use std::alloc::{AllocError, Global};
 use std::sync::Wait;
@@ -22,25 +22,6 @@ fn both<C: Core>(
     passes.push(one)?;
     passes.push(two)?;
     Ok(passes)
-}
-
-// Makes the list of one pass.
-fn alone<C: Core>(alloc: Global, pass: RecordPass<C>) -> Result<Vec<RecordPass<C>>, AllocError> {
-    let mut passes = Vec::new(alloc);
-    passes.push(pass)?;
-    Ok(passes)
-}
-
-// Returns whether the receipts are the history, and it has `count` entries.
-fn closes_with<C: Core + Drop>(
-    recorder: Recorder<C>,
-    passes: Vec<RecordPass<C>>,
-    count: usize,
-) -> bool {
-    match recorder.close(passes) {
-        Ok(history) => history.entries().len() == count,
-        Err(_) => false,
-    }
 }
 
 // ---- a map over numbers
@@ -90,10 +71,11 @@ fn two_insertions_at_one_key_had_other_replies(rt: HostRuntime) -> Result<(), Fa
 #[test]
 fn the_history_of_one_call_was_wrong(rt: HostRuntime) -> Result<(), Fail> {
     let core: Numbers = MapState::new(rt.alloc());
-    let Ok(history) = recorded_alone(&rt, rt.alloc(), core, 1, MapCommand::Insert(1, 6))? else {
+    let command = MapCommand::InsertNew(1, 6);
+    let Ok(history) = recorded_alone(&rt, rt.alloc(), core, 1, command)? else {
         return Err(Fail::from("the receipt is the history"));
     };
-    let entries = [(1, MapCommand::Insert(1, 6), MapReply::Value(6))];
+    let entries = [(1, command, MapReply::ValueNew(6, true))];
     assert!(rt; history.entries() == entries.as_slice());
     Ok(())
 }
@@ -117,44 +99,12 @@ fn the_second_part_goes_on_where_the_first_ended(rt: HostRuntime) -> Result<(), 
     Ok(())
 }
 
-#[test]
-fn a_close_without_one_pass_succeeded(rt: HostRuntime) -> Result<(), Fail> {
-    let recorder = numbers(rt.alloc());
-    let mut a = recorder.pass(1);
-    let mut b = recorder.pass(2);
-    let first = answers_six(&rt, &recorder, &mut a, 6)?;
-    assert!(rt; first && answers_six(&rt, &recorder, &mut b, 12)?);
-    let passes = alone(rt.alloc(), a)?;
-    let Err(CloseFault::Receipts(ReceiptsFault::MissingPass, history)) = recorder.close(passes)
-    else {
-        return Err(Fail::from("an entry has no receipt"));
-    };
-    assert!(rt; is_of_both(&history));
-    Ok(())
-}
-
 // Returns whether the recorder finds a pass of another recorder among these.
 fn is_foreign_to(recorder: Recorder<Numbers>, passes: Vec<Pass>) -> bool {
     matches!(
         recorder.close(passes),
         Err(CloseFault::Receipts(ReceiptsFault::ForeignPass, _))
     )
-}
-
-// Returns whether a recorder without calls closes with no passes and no entries.
-fn closes_empty(alloc: Global) -> bool {
-    let recorder: Recorder<VecState<u64>> = Recorder::new(alloc, VecState::new(alloc));
-    closes_with(recorder, Vec::new(alloc), 0)
-}
-
-#[test]
-fn a_close_with_a_pass_of_another_recorder_succeeded(rt: HostRuntime) -> Result<(), Fail> {
-    let one = numbers(rt.alloc());
-    let mut pass = one.pass(1);
-    assert!(rt; answers_six(&rt, &one, &mut pass, 6)?);
-    let two = numbers(rt.alloc());
-    assert!(rt; is_foreign_to(two, alone(rt.alloc(), pass)?) && closes_empty(rt.alloc()));
-    Ok(())
 }
 
 // Checks that a close rejects the receipts of another recorder if they have the same reply at the
@@ -187,52 +137,6 @@ fn a_close_with_a_foreign_pass_instead_of_a_missing_one_succeeded(
 }
 
 // ---- an ordered map
-
-type Ordered = TreeState<u64, u64>;
-
-fn answers(
-    rt: &impl Wait,
-    recorder: &Recorder<Ordered>,
-    pass: &mut RecordPass<Ordered>,
-    command: MapCommand<u64, u64>,
-    want: MapReply<u64>,
-) -> Result<bool, AllocError> {
-    Ok(recorder.call(rt, pass, command)? == want)
-}
-
-// Returns whether 1 is new with 6, is not new with 12, and is then the only key.
-fn is_new_once(
-    rt: &impl Wait,
-    recorder: &Recorder<Ordered>,
-    a: &mut RecordPass<Ordered>,
-    b: &mut RecordPass<Ordered>,
-) -> Result<bool, AllocError> {
-    let calls = [
-        (MapCommand::InsertNew(1, 12), MapReply::ValueNew(6, false)),
-        (MapCommand::Len, MapReply::Count(1)),
-    ];
-    let mut good = answers(
-        rt,
-        recorder,
-        a,
-        MapCommand::InsertNew(1, 6),
-        MapReply::ValueNew(6, true),
-    )?;
-    for (command, want) in calls {
-        good = answers(rt, recorder, b, command, want)? && good;
-    }
-    Ok(good)
-}
-
-#[test]
-fn a_new_key_is_new_once(rt: HostRuntime) -> Result<(), Fail> {
-    let recorder: Recorder<Ordered> = Recorder::new(rt.alloc(), TreeState::new(rt.alloc()));
-    let mut a = recorder.pass(1);
-    let mut b = recorder.pass(2);
-    assert!(rt; is_new_once(&rt, &recorder, &mut a, &mut b)?);
-    assert!(rt; closes_with(recorder, both(rt.alloc(), a, b)?, 3));
-    Ok(())
-}
 
 // ---- threads
 

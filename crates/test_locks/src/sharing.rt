@@ -1,6 +1,5 @@
-//! What a locked call does in one step. Readers share the lock, one of nine inserters gets
-//! `is_new = true`, a push returns an owner of its own item, and a comparison compares contents and
-//! not only lengths.
+//! What a locked call does in one step. One of nine inserters gets `is_new = true`, a push returns
+//! an owner or the index of its own item, and a comparison compares contents and not only lengths.
 use crate::marks::Mark;
 use elsa_locks::map::{FrozenBTreeMap, FrozenMap};
 use elsa_locks::vec::FrozenVec;
@@ -15,86 +14,6 @@ type Hashed = FrozenMap<u64, u64>;
 type Ordered = FrozenBTreeMap<u64, u64>;
 
 type List = FrozenVec<u64>;
-
-// ---- readers
-
-// A map with 6 at the key 1, which the tests read by a closure and as a copy. The ordered map
-// copies by a closure too.
-trait Read {
-    // Returns whether the closure was called and returned `true`.
-    fn reads<R: Wait>(&self, rt: &R, mine: &Mark, other: &Mark) -> bool;
-
-    // Returns the copy.
-    fn copies<R: Wait>(&self, rt: &R) -> Option<u64>;
-}
-
-// Runs in a closure: raises this thread's mark, and waits for the other thread's.
-fn meets(mine: &Mark, other: &Mark) -> bool {
-    mine.raise(1);
-    other.comes_to(1)
-}
-
-impl Read for Hashed {
-    fn reads<R: Wait>(&self, rt: &R, mine: &Mark, other: &Mark) -> bool {
-        self.map_get(rt, &1, |_| meets(mine, other)) == Some(true)
-    }
-
-    fn copies<R: Wait>(&self, rt: &R) -> Option<u64> {
-        self.get_copy(rt, &1)
-    }
-}
-
-impl Read for Ordered {
-    fn reads<R: Wait>(&self, rt: &R, mine: &Mark, other: &Mark) -> bool {
-        self.map_get(rt, &1, |_| meets(mine, other)) == Some(true)
-    }
-
-    fn copies<R: Wait>(&self, rt: &R) -> Option<u64> {
-        self.map_get(rt, &1, |value| *value)
-    }
-}
-
-// Returns whether two closures that wait for each other run at once.
-fn closures_meet<R: Threads + Wait + Sync, M: Read + Sync>(rt: &R, map: &M) -> bool {
-    let marks = (Mark::new(), Mark::new());
-    let (one, two) = (&marks.0, &marks.1);
-    let (a, b) = thread::join(rt, || map.reads(rt, one, two), || map.reads(rt, two, one));
-    a && b
-}
-
-// Copies while a closure runs, and raises `copied` after that.
-fn copies_beside<R: Wait, M: Read>(rt: &R, map: &M, runs: &Mark, copied: &Mark) -> bool {
-    if !runs.comes_to(1) {
-        return false;
-    }
-    let six = map.copies(rt) == Some(6);
-    copied.raise(1);
-    six
-}
-
-// Returns whether a copy is made while a closure runs that waits for it.
-fn a_copy_meets<R: Threads + Wait + Sync, M: Read + Sync>(rt: &R, map: &M) -> bool {
-    let marks = (Mark::new(), Mark::new());
-    let (runs, copied) = (&marks.0, &marks.1);
-    let (a, b) = thread::join(
-        rt,
-        || map.reads(rt, runs, copied),
-        || copies_beside(rt, map, runs, copied),
-    );
-    a && b
-}
-
-// Checks that a closure of a read can wait for another read. So the closure runs without the lock,
-// or shares it with other readers.
-#[test]
-fn closures_of_reads_run_at_once(rt: HostRuntime) -> Result<(), Fail> {
-    let hashed: Hashed = FrozenMap::new(rt.alloc());
-    let ordered: Ordered = FrozenBTreeMap::new(rt.alloc());
-    assert!(rt; hashed.insert(&rt, 1, 6).is_ok() && ordered.insert(&rt, 1, 6).is_ok());
-    assert!(rt; closures_meet(&rt, &hashed) && a_copy_meets(&rt, &hashed));
-    assert!(rt; closures_meet(&rt, &ordered) && a_copy_meets(&rt, &ordered));
-    Ok(())
-}
 
 // ---- one of nine gets `is_new = true`
 
@@ -164,11 +83,15 @@ fn one_thread_is_told_that_a_key_was_new(rt: HostRuntime) -> Result<(), Fail> {
 
 const ROUNDS: u64 = 20_000;
 
-// Returns whether the owner that a push returns is that of its own item.
-fn owns_its_item(rt: &impl Wait, list: &List, item: u64) -> bool {
-    match list.push_get(rt, item) {
-        Ok(owner) => *owner == item,
-        Err(_) => false,
+// Returns the item whose owner or whose index a push of an item returns.
+fn pushed(rt: &impl Wait, list: &List, item: u64) -> Result<Option<u64>, AllocError> {
+    if item % 4 < 2 {
+        return Ok(Some(*list.push_get(rt, item)?));
+    }
+    let index = list.push_get_index(rt, item)?;
+    match list.get(rt, index)? {
+        Some(owner) => Ok(Some(*owner)),
+        None => Ok(None),
     }
 }
 
@@ -176,7 +99,7 @@ fn owns_its_item(rt: &impl Wait, list: &List, item: u64) -> bool {
 fn pushes_in_step<R: Wait>(rt: &R, list: &List, mine: &Mark, other: &Mark, number: u64) -> bool {
     for round in 0..ROUNDS {
         let item = round.wrapping_mul(2).wrapping_add(number);
-        if !other.comes_to(round) || !owns_its_item(rt, list, item) {
+        if !other.comes_to(round) || pushed(rt, list, item) != Ok(Some(item)) {
             return false;
         }
         mine.raise(round + 1);
@@ -184,10 +107,10 @@ fn pushes_in_step<R: Wait>(rt: &R, list: &List, mine: &Mark, other: &Mark, numbe
     true
 }
 
-// Checks that a push returns an owner of its own item. If it read the last item under another lock,
-// it would return the other thread's item in some round.
+// Checks that a push returns an owner or the index of its own item. If it read the last item or the
+// length under another lock, it would return the other thread's in some round.
 #[test]
-fn pushers_in_step_get_owners_of_their_own_items(rt: HostRuntime) -> Result<(), Fail> {
+fn pushers_in_step_get_the_owner_or_the_index_of_another_item(rt: HostRuntime) -> Result<(), Fail> {
     let list: List = FrozenVec::new(rt.alloc());
     let marks = (Mark::new(), Mark::new());
     let (shared, handle) = (&list, &rt);

@@ -10,8 +10,6 @@ use test_alloc::Budget;
 
 type Texts = FrozenMap<String, u64, SeededState>;
 
-type Numbers = FrozenMap<u64, u64, SeededState>;
-
 fn seeded() -> SeededState {
     SeededState::with_seed(3, 5)
 }
@@ -38,19 +36,6 @@ fn texts_are_found_in_a_map_with_a_seed(rt: HostRuntime) -> Result<(), Fail> {
     let map: Texts = FrozenMap::with_hasher(rt.alloc(), seeded());
     assert!(rt; keeps_the_first(&rt, &map)? && finds(&rt, &map));
     assert!(rt; finds_an_own(&rt, rt.alloc(), &map)? && map.len(&rt) == 2);
-    Ok(())
-}
-
-// Returns whether a clone is equal and has the one key.
-fn is_copied(rt: &impl Wait, map: &Numbers) -> Result<bool, AllocError> {
-    let copy = map.clone(rt)?;
-    Ok(map.equals(rt, &copy)? && copy.keys_cloned(rt)?.len() == 1)
-}
-
-#[test]
-fn a_map_with_a_seed_is_copied(rt: HostRuntime) -> Result<(), Fail> {
-    let map: Numbers = FrozenMap::with_hasher(rt.alloc(), seeded());
-    assert!(rt; *map.insert(&rt, 7, 70)? == 70 && is_copied(&rt, &map)?);
     Ok(())
 }
 

@@ -7,20 +7,14 @@
 #![tactic(auto)]
 
 #[cfg(test)]
-mod arena_refusals;
-#[cfg(test)]
 mod lines_refused;
 #[cfg(test)]
 mod map_refusals;
 #[cfg(test)]
 mod name_refusals;
 #[cfg(test)]
-mod no_memory;
-#[cfg(test)]
 mod refusals;
 #[cfg(test)]
 mod room_refusals;
 #[cfg(test)]
 mod run_refusals;
-#[cfg(test)]
-mod text_refusals;

@@ -1,7 +1,8 @@
 //! The engine, with each request for memory and each allocation in the arena denied in turn. Each
 //! output line is that of the names stored so far, or `no memory`.
 use bumpalo::Bump;
-use elsa_interner::interner::{Counted, intern_engine};
+use elsa_program::devices::Counted;
+use elsa_program::engine::intern_engine;
 use std::alloc::{AllocError, Allocator, Global};
 use std::test::Fail;
 use test_alloc::Budget;

@@ -113,7 +113,7 @@ fn is_full(index: usize) -> bool {
     (index / 2).wrapping_add(index / 4) % 2 == 1
 }
 
-// Inserts by `insert` or by `insert_full`, which has to return `index`.
+// Inserts by `insert` or by `insert_full`, which has to return the index `index`.
 fn given_in_order<'a, A: Allocator + Copy + Drop>(
     map: &mut Indexed<'a, A>,
     key: Text<A>,
@@ -127,18 +127,18 @@ fn given_in_order<'a, A: Allocator + Copy + Drop>(
     Ok(if at == index { kept } else { "" })
 }
 
-// Inserts by `insert_new` or by `insert_full_new`, which has to return `index`.
+// Inserts by `insert_new` or by `insert_full_new`, which has to return the index `index`.
 fn new_given_in_order<'a, A: Allocator + Copy + Drop>(
     map: &mut Indexed<'a, A>,
     key: Text<A>,
     value: Text<A>,
-    wanted: usize,
+    index: usize,
 ) -> Result<(&'a str, bool), AllocError> {
-    if !is_full(wanted) {
+    if !is_full(index) {
         return map.insert_new(key, value);
     }
-    let (index, kept, is_new) = map.insert_full_new(key, value)?;
-    Ok((if index == wanted { kept } else { "" }, is_new))
+    let (at, kept, is_new) = map.insert_full_new(key, value)?;
+    Ok((if at == index { kept } else { "" }, is_new))
 }
 
 fn hashed_of<'a, A: Allocator + Copy + Drop>(

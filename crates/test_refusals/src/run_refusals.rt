@@ -4,7 +4,7 @@
 use bumpalo::Bump;
 use elsa_index::index_set::FrozenIndexSet;
 use elsa_maps::index_map::FrozenIndexMap;
-use elsa_maps::map::{FrozenBTreeMap, FrozenMap};
+use elsa_maps::map::FrozenMap;
 use elsa_run::run::{run_index, run_map, run_set, run_vec};
 use elsa_run::run_index::{IndexCommand, IndexReply};
 use elsa_run::run_map::{MapCommand, MapReply};
@@ -119,7 +119,6 @@ fn nowhere(is_empty: bool) -> Went {
 enum Runs {
     Vector,
     HashedMap,
-    OrderedMap,
     IndexMap,
     IndexSet,
 }
@@ -131,7 +130,6 @@ impl Runs {
         match self {
             Runs::Vector => vec_goes(heap, arena),
             Runs::HashedMap => hashed_goes(heap, arena),
-            Runs::OrderedMap => ordered_goes(heap, arena),
             Runs::IndexMap => index_goes(heap, arena),
             Runs::IndexSet => set_goes(heap, arena),
         }
@@ -271,7 +269,7 @@ fn a_refused_push_of_a_run_is_told_and_the_run_goes_on(rt: HostRuntime) -> Resul
     Ok(())
 }
 
-// ---- the maps
+// ---- the hashed map
 
 // Returns the value of an insertion: 99 if the key must be present already.
 fn value_of(number: usize) -> usize {
@@ -330,36 +328,11 @@ fn hashed_goes(heap: &Budget<Global>, arena: &Bump) -> Went {
     outcome_of(good, &model)
 }
 
-type Ordered<'a, A> = FrozenBTreeMap<'a, usize, Own<usize>, A>;
-
-fn ordered_is<A: Allocator + Copy + Drop>(map: &Ordered<'_, A>, model: &Model) -> bool {
-    for key in 0..17 {
-        if map.get(&key).copied() != model.value(key) {
-            return false;
-        }
-    }
-    map.len() == model.below(16)
-}
-
-fn ordered_goes(heap: &Budget<Global>, arena: &Bump) -> Went {
-    let mut map: Ordered<'_, &Budget<Global>> = FrozenBTreeMap::new(heap, arena);
-    let Ok(commands) = commands(heap) else {
-        return Went::Wrong;
-    };
-    let mut model = Model::new();
-    let Ok(replies) = run_map(&mut map, commands) else {
-        return nowhere(map.is_empty());
-    };
-    let good = all_fit(replies.as_slice(), &mut model) && ordered_is(&map, &model);
-    outcome_of(good, &model)
-}
-
 #[test]
 fn a_refused_insertion_of_a_map_run_is_told_and_the_run_goes_on(
     rt: HostRuntime,
 ) -> Result<(), Fail> {
-    assert!(rt; stands(rt.alloc(), Runs::HashedMap), "hashed");
-    assert!(rt; stands(rt.alloc(), Runs::OrderedMap), "ordered");
+    assert!(rt; stands(rt.alloc(), Runs::HashedMap));
     Ok(())
 }
 

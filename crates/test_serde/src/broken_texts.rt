@@ -9,7 +9,7 @@ use elsa_vec::stable::Own;
 use serde::Deserialize;
 use serde_json::Error;
 use serde_json::error::Category;
-use std::alloc::{AllocError, Global};
+use std::alloc::Global;
 use std::test::Fail;
 
 /// Returns the kind of the error if the text can't be read as a `T`, or `None` if it is read.
@@ -173,29 +173,5 @@ fn a_second_value_of_a_key_went_in(rt: HostRuntime) -> Result<(), Fail> {
     assert_eq!(rt; hashed_of(alloc, serde_json::from_str(alloc, text)?), told);
     assert_eq!(rt; ordered_of(alloc, serde_json::from_str(alloc, text)?), told);
     assert_eq!(rt; indexed_of(alloc, serde_json::from_str(alloc, text)?), told);
-    Ok(())
-}
-
-/// Returns the text that a fault prints.
-fn told(alloc: Global, fault: ReadFault) -> Result<String, AllocError> {
-    format!(in alloc; "{fault}")
-}
-
-#[test]
-fn a_refusal_printed_another_text(rt: HostRuntime) -> Result<(), Fail> {
-    let alloc = rt.alloc();
-    for (fault, text) in [
-        (
-            ReadFault::Duplicate(7),
-            "what was read at index 7 is a duplicate",
-        ),
-        (
-            ReadFault::TooMany,
-            "more names than an interner has numbers for",
-        ),
-        (ReadFault::Memory, "out of memory"),
-    ] {
-        assert_eq!(rt; told(alloc, fault)?.as_str(), text);
-    }
     Ok(())
 }

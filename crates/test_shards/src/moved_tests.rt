@@ -46,17 +46,6 @@ impl Model {
         }
         Ok(())
     }
-
-    // Removes a key. Returns whether it had this value.
-    fn takes(&mut self, key: u64, value: u64) -> bool {
-        let index = key as usize;
-        if index >= self.values.len() {
-            return false;
-        }
-        let was = self.values[index];
-        self.values[index] = None;
-        was == Some(value)
-    }
 }
 
 // Returns the next number of a random sequence.
@@ -65,43 +54,6 @@ fn drawn(seed: &mut u64) -> u64 {
         .wrapping_mul(6364136223846793005)
         .wrapping_add(1442695040888963407);
     *seed >> 33
-}
-
-// Inserts random keys into a map of shards that have locks, and moves all entries out. Returns
-// whether they are those of a plain model.
-fn comes_out_of_locks(
-    rt: &impl Wait,
-    alloc: Global,
-    count: usize,
-    calls: u64,
-) -> Result<bool, AllocError>
-    requires { 0 < count }
-{
-    let map: Locked = ShardedMap::with_shards(alloc, count, BuildHasherDefault::new())?;
-    let mut model = Model::new(alloc)?;
-    let mut seed = calls;
-    for value in 0..calls {
-        let key = drawn(&mut seed) % KEYS;
-        map.insert(rt, key, value)?;
-        model.insert(key, value)?;
-    }
-    let pairs = map.into_tuple_vec()?;
-    let mut right = pairs.len() == model.keys.len();
-    for (key, value) in pairs {
-        right = model.takes(key, *value) && right;
-    }
-    Ok(right)
-}
-
-#[test]
-fn an_entry_of_a_locked_shard_did_not_come_out(rt: HostRuntime) -> Result<(), Fail> {
-    for count in [1_usize, 7, 64] {
-        for calls in [0_u64, 1, 20, 2000] {
-            let right = comes_out_of_locks(&rt, rt.alloc(), count, calls)?;
-            assert!(rt; right, "{count} shards, {calls} calls");
-        }
-    }
-    Ok(())
 }
 
 // Inserts random keys into a map of lock-free shards. Returns the entries that are to come out,

@@ -1,38 +1,10 @@
-//! An interner with thousands of names, and texts of 2,000 bytes: no call fails because of the
-//! size.
+//! An interner of texts of 2,000 bytes: no call fails because of the size.
 use bumpalo::Bump;
 use elsa_lock_free_map::place_text::TextBuffer;
-use elsa_shared_interner::handle::NameHandle;
 use elsa_shared_interner::shared::SharedInterner;
 use std::alloc::{AllocError, Global};
 use std::sync::Wait;
 use std::test::*;
-
-/// The number of names.
-const MANY: u64 = 5000;
-
-/// Returns whether the numbers below [`MANY`] are put twice, each at itself as the index.
-fn takes_many<R: Wait>(rt: &R, names: &mut NameHandle<'_, u64>) -> bool {
-    for name in 0..MANY {
-        let index = Ok(name as usize);
-        if names.put(rt, name) != index || names.put(rt, name) != index {
-            return false;
-        }
-    }
-    true
-}
-
-/// Returns whether another handle finds the last of them.
-fn is_found(names: &mut NameHandle<'_, u64>) -> bool {
-    names.find(&(MANY - 1)) == Some((MANY - 1) as usize)
-}
-
-#[test]
-fn an_interner_takes_thousands_of_names(rt: HostRuntime) -> Result<(), Fail> {
-    let interner = SharedInterner::<u64>::new(rt.alloc())?;
-    assert!(rt; takes_many(&rt, &mut interner.handle()) && is_found(&mut interner.handle()));
-    Ok(())
-}
 
 /// Makes a text of 2,000 bytes that ends with `end`.
 fn long(alloc: Global, end: &str) -> Result<String, AllocError> {

@@ -9,8 +9,6 @@ mod interner_tests;
 #[cfg(test)]
 mod large_tests;
 #[cfg(test)]
-mod moment_tests;
-#[cfg(test)]
 mod name_tests;
 #[cfg(test)]
 mod push_at_tests;

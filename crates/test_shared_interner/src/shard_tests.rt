@@ -1,15 +1,16 @@
 //! The interner of shards: one number for each name, whichever thread puts it and however the names
-//! are spread over the shards, also after a failed allocation.
+//! are spread over the shards.
 use bumpalo::Bump;
+use elsa_lock_free::may_lock::LockPermit;
 use elsa_shards::interner::{ShardedInterner, ShardedNameHandle};
 use elsa_shared_interner::name::Name;
-use std::alloc::{AllocError, Allocator, Global};
+use std::alloc::{AllocError, Global};
 use std::hash::{BuildHasherDefault, FoldHasher};
 use std::sync::Wait;
 use std::sync::atomic::{AtomicU64, Ordering};
 use std::test::*;
 use std::thread;
-use test_alloc::Budget;
+use test_script::WORDS;
 
 /// The number of names that four threads put.
 const MANY: u64 = 100_000;
@@ -118,83 +119,6 @@ fn names_of_one_shard_had_other_numbers(rt: HostRuntime) -> Result<(), Fail> {
     Ok(())
 }
 
-/// Returns whether `number` leads to `name`, which has it by a look-up too.
-fn leads_back<A: Allocator + Copy>(
-    names: &mut NumberedHandle<'_, A>,
-    number: usize,
-    name: u64,
-) -> bool {
-    names.at(number) == Some(name) && names.find(&name) == Some(number)
-}
-
-/// Puts a name. If the call fails, the name must be absent, and the same call must succeed later.
-/// Returns whether that is so and the name's number leads back to it.
-fn puts_or_changes_nothing<A: Allocator + Copy>(
-    rt: &impl Wait,
-    names: &mut NumberedHandle<'_, A>,
-    name: u64,
-) -> Result<bool, AllocError> {
-    let before = names.len();
-    let number = match names.put(rt, name) {
-        Ok(number) => number,
-        Err(_) => {
-            if names.find(&name).is_some() || names.len() != before {
-                return Ok(false);
-            }
-            names.put(rt, name)?
-        }
-    };
-    Ok(leads_back(names, number, name))
-}
-
-/// Puts a hundred names while the request with the number `denied` fails, and looks all of them up
-/// again. `None` if no interner or handle could be made.
-fn survives(rt: &impl Wait, budget: &Budget<Global>) -> Option<bool> {
-    let interner: Numbered<&Budget<Global>> = ShardedInterner::with_shards(
-        budget,
-        3,
-        BuildHasherDefault::new(),
-    ).ok()?;
-    let mut names = interner.handle().ok()?;
-    let mut keeps = true;
-    for name in 0..100u64 {
-        keeps = puts_or_changes_nothing(rt, &mut names, name).ok()? && keeps;
-    }
-    for name in 0..100u64 {
-        let number = names.find(&name)?;
-        keeps = leads_back(&mut names, number, name) && keeps;
-    }
-    Some(keeps && names.len() == 100)
-}
-
-/// Denies each request in turn, one alone. Returns whether each run kept its names, and the number
-/// of runs that had all their names in spite of a denied request.
-fn survives_each(rt: &impl Wait, alloc: Global) -> (bool, u64) {
-    let count = {
-        let budget = Budget::new(alloc);
-        let _ = survives(rt, &budget);
-        budget.asked()
-    };
-    let mut keeps = true;
-    let mut whole = 0u64;
-    for denied in 0..count {
-        let budget = Budget::new(alloc);
-        budget.refuse(denied, denied.wrapping_add(1));
-        if let Some(kept) = survives(rt, &budget) {
-            keeps = keeps && kept;
-            whole = whole.wrapping_add(1);
-        }
-    }
-    (keeps, whole)
-}
-
-#[test]
-fn a_failed_allocation_changed_the_interner(rt: HostRuntime) -> Result<(), Fail> {
-    let (keeps, whole) = survives_each(&rt, rt.alloc());
-    assert!(rt; keeps && whole >= 3, "{whole} runs");
-    Ok(())
-}
-
 /// Returns whether texts and short names have one number in an interner of shards, by any query.
 fn numbers_texts<'a>(rt: &impl Wait, alloc: Global, arena: &'a Bump) -> Result<bool, AllocError> {
     let interner: ShardedInterner<&'a str> = ShardedInterner::new(alloc)?;
@@ -211,6 +135,31 @@ fn numbers_texts<'a>(rt: &impl Wait, alloc: Global, arena: &'a Bump) -> Result<b
 fn a_text_had_two_numbers_in_shards(rt: HostRuntime) -> Result<(), Fail> {
     let arena = Bump::new(rt.alloc());
     assert!(rt; numbers_texts(&rt, rt.alloc(), &arena)?);
+    Ok(())
+}
+
+/// Puts each word by a call that doesn't wait, and then by one that does. Returns the number of
+/// words for which they return different numbers.
+fn differing<'a>(rt: &impl Wait, alloc: Global, arena: &'a Bump) -> Result<usize, AllocError> {
+    let interner: ShardedInterner<&'a str> = ShardedInterner::new(alloc)?;
+    let (mut names, may) = (interner.handle()?, LockPermit::trying(alloc));
+    let mut differing = 0usize;
+    for word in WORDS {
+        let tried = match names.try_put_text(may, arena, word) {
+            Ok(number) => Some(number),
+            Err(_) => None,
+        };
+        if tried != Some(names.put_text(rt, arena, word)?) {
+            differing = differing.wrapping_add(1);
+        }
+    }
+    Ok(differing)
+}
+
+#[test]
+fn a_text_put_without_waiting_had_another_number(rt: HostRuntime) -> Result<(), Fail> {
+    let arena = Bump::new(rt.alloc());
+    assert_eq!(rt; differing(&rt, rt.alloc(), &arena)?, 0);
     Ok(())
 }
 
@@ -232,27 +181,6 @@ fn observes_after_meeting(rt: &impl Wait, interner: &ShardedInterner) -> Result<
 fn a_handle_lacked_the_name_of_another(rt: HostRuntime) -> Result<(), Fail> {
     let interner: ShardedInterner = ShardedInterner::new(rt.alloc())?;
     assert!(rt; observes_after_meeting(&rt, &interner)?);
-    Ok(())
-}
-
-/// Reads the number of names by a handle after each of `FEW` names that another handle puts.
-/// Returns how often it was right.
-fn reads_each_length(rt: &impl Wait, interner: &Numbered) -> Result<usize, AllocError> {
-    let (mut one, mut two) = (interner.handle()?, interner.handle()?);
-    let mut right = 0usize;
-    for name in 0..FEW {
-        let _ = one.put(rt, name as u64)?;
-        if two.len() == name.wrapping_add(1) {
-            right = right.wrapping_add(1);
-        }
-    }
-    Ok(right)
-}
-
-#[test]
-fn a_length_lacked_a_name_of_another_handle(rt: HostRuntime) -> Result<(), Fail> {
-    let interner: Numbered = ShardedInterner::new(rt.alloc())?;
-    assert_eq!(rt; reads_each_length(&rt, &interner)?, FEW);
     Ok(())
 }
 

@@ -52,29 +52,6 @@ fn reads_the_other<'a, R: Wait>(
     Ok(first && second && nothing_placed && q.at(1) == Some(""))
 }
 
-/// Returns whether a handle that put nothing finds the texts of another, and no others.
-fn finds_without_a_put<'a, R: Wait>(
-    rt: &R,
-    alloc: Global,
-    arena: &'a Bump,
-) -> Result<bool, AllocError> {
-    let interner: SharedInterner<&'a str> = SharedInterner::new(alloc)?;
-    let mut p = interner.handle();
-    let mut q = interner.handle();
-    let first = twice(rt, &mut p, arena, "best friend")? == (0, 0)
-        && twice(rt, &mut p, arena, "")? == (1, 1);
-    let found = q.find("") == Some(1);
-    let absent = q.find("best").is_none();
-    Ok(first && found && absent && q.find("best friend") == Some(0))
-}
-
-#[test]
-fn a_handle_finds_texts_that_it_did_not_put(rt: HostRuntime) -> Result<(), Fail> {
-    let arena = Bump::new(rt.alloc());
-    assert!(rt; finds_without_a_put(&rt, rt.alloc(), &arena)?);
-    Ok(())
-}
-
 #[test]
 fn a_text_that_another_handle_put_is_read_and_not_placed(rt: HostRuntime) -> Result<(), Fail> {
     let one = Bump::new(rt.alloc());

@@ -26,7 +26,7 @@ fn numbered(number: u64) -> Option<Name> {
 }
 
 /// Counts this thread, and waits until `count` threads are counted.
-pub fn meet_all(there: &AtomicU64, count: u64) -> bool {
+fn meet_all(there: &AtomicU64, count: u64) -> bool {
     let _ = there.fetch_add(1, Ordering::SeqCst);
     for _ in 0..TURNS {
         if there.load(Ordering::SeqCst) >= count {
@@ -123,43 +123,5 @@ fn four_threads<R: Threads + Wait + Sync>(rt: &R, interner: &SharedInterner) -> 
 fn four_threads_give_a_hundred_names_a_hundred_places(rt: HostRuntime) -> Result<(), Fail> {
     let interner = SharedInterner::<Name>::new(rt.alloc())?;
     assert!(rt; four_threads(&rt, &interner));
-    Ok(())
-}
-
-/// Puts a name, and then reads until the other is there.
-fn sees_other<R: Wait>(rt: &R, interner: &SharedInterner, mine: u64, other: u64) -> bool {
-    let mut names = interner.pass();
-    let (Some(mine), Some(other)) = (numbered(mine), numbered(other)) else {
-        return false;
-    };
-    if interner.put(rt, &mut names, mine).is_err() {
-        return false;
-    }
-    waits_for(interner, &mut names, other)
-}
-
-/// Waits until the name has the number 0 or 1, and returns whether it does within the bound.
-fn waits_for(interner: &SharedInterner, names: &mut NamePass, other: Name) -> bool
-    requires { names.old.vector ≡ interner.now }
-{
-    for turn in 0..TURNS {
-        if interner.at(names, (turn % 2) as usize) == Some(other) {
-            return true;
-        }
-        thread::yield_now();
-    }
-    false
-}
-
-#[test]
-fn two_threads_see_each_others_names(rt: HostRuntime) -> Result<(), Fail> {
-    let interner = SharedInterner::<Name>::new(rt.alloc())?;
-    let shared = &interner;
-    let (one, two) = thread::join(
-        &rt,
-        || sees_other(&rt, shared, 1, 2),
-        || sees_other(&rt, shared, 2, 1),
-    );
-    assert!(rt; one && two);
     Ok(())
 }

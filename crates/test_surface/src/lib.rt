@@ -3,17 +3,9 @@
 #![tactic(auto)]
 
 #[cfg(test)]
-mod arena_form_tests;
-#[cfg(test)]
-mod base_form_tests;
-#[cfg(test)]
-mod bulk_form_tests;
-#[cfg(test)]
 mod error_tests;
 #[cfg(test)]
 mod filled;
-#[cfg(test)]
-mod form_tests;
 #[cfg(test)]
 mod free_map_tests;
 #[cfg(test)]
@@ -21,17 +13,9 @@ mod gates;
 #[cfg(test)]
 mod handle_tests;
 #[cfg(test)]
-mod index_form_tests;
-#[cfg(test)]
-mod into_vec_tests;
+mod item_tests;
 #[cfg(test)]
 mod job_tests;
-#[cfg(test)]
-mod locked_form_tests;
-#[cfg(test)]
-mod locked_text_tests;
-#[cfg(test)]
-mod map_form_tests;
 #[cfg(test)]
 mod moment_form_tests;
 #[cfg(test)]
@@ -41,19 +25,11 @@ mod names;
 #[cfg(test)]
 mod names_tests;
 #[cfg(test)]
-mod pass_form_tests;
-#[cfg(test)]
 mod placed_name_tests;
 #[cfg(test)]
 mod printed_form_tests;
 #[cfg(test)]
 mod rare_form_tests;
-#[cfg(test)]
-mod reached_form_tests;
-#[cfg(test)]
-mod run_form_tests;
-#[cfg(test)]
-mod search_form_tests;
 #[cfg(test)]
 mod shared_names;
 #[cfg(test)]
@@ -63,12 +39,8 @@ mod state_form_tests;
 #[cfg(test)]
 mod table_tests;
 #[cfg(test)]
-mod text_key_tests;
-#[cfg(test)]
 mod twice_tests;
 #[cfg(test)]
 mod upstream_tests;
-#[cfg(test)]
-mod walk_tests;
 #[cfg(test)]
 mod worker_tests;

@@ -1,42 +1,10 @@
 //! Look-ups among what a handle has observed, and names without their table, by `elsa` alone.
 use bumpalo::Bump;
-use elsa::interner::{Interner, SharedInterner};
-use elsa::sync::{LockFreeFrozenMap, LockFreeShardedMap, MapHandle, ShardedHandle};
+use elsa::interner::Interner;
+use elsa::sync::{LockFreeShardedMap, ShardedHandle};
 use std::alloc::{AllocError, Global};
 use std::sync::Wait;
 use std::test::Fail;
-
-type Ages = LockFreeFrozenMap<String, u64>;
-
-/// Returns what a moment has of a name: its index, the length of its key, and its age.
-fn entry(moment: &MapHandle<'_, String, u64>, name: &str) -> Option<(usize, usize, u64)> {
-    let (index, key, age) = moment.seen_get_full(name)?;
-    Some((index, key.len(), *age))
-}
-
-/// Returns what a handle that has observed one of two names has of both.
-fn ages_seen(
-    rt: &impl Wait,
-    alloc: Global,
-    ages: &Ages,
-) -> Result<[Option<(usize, usize, u64)>; 2], AllocError> {
-    let mut moment = ages.handle();
-    moment.insert_ref(rt, String::from_str(alloc, "ann")?, 30)?;
-    ages.handle()
-        .insert_ref(rt, String::from_str(alloc, "bob")?, 20)?;
-    Ok([entry(&moment, "ann"), entry(&moment, "bob")])
-}
-
-#[test]
-fn a_moment_of_a_map_had_a_later_key(rt: HostRuntime) -> Result<(), Fail> {
-    let ages = Ages::new(rt.alloc())?;
-    assert_eq!(rt;
-        ages_seen(&rt, rt.alloc(), &ages)?,
-        [Some((0, 3, 30)), None]
-    );
-    assert!(rt; ages.handle().seen_get("ann").is_none());
-    Ok(())
-}
 
 /// Returns the value that a handle of shards has observed of a key.
 fn in_shard(moment: &ShardedHandle<'_, u64, u64>, key: u64) -> Option<u64> {
@@ -60,24 +28,6 @@ fn values_seen(
 fn a_moment_of_shards_had_a_later_key(rt: HostRuntime) -> Result<(), Fail> {
     let map = LockFreeShardedMap::new(rt.alloc())?;
     assert_eq!(rt; values_seen(&rt, &map)?, (Some(10), None));
-    Ok(())
-}
-
-/// Returns the numbers that a handle has observed of two names, of which another handle put one.
-fn numbers_seen(
-    rt: &impl Wait,
-    names: &SharedInterner<&'static str>,
-) -> Result<(Option<usize>, Option<usize>), AllocError> {
-    let mut moment = names.handle();
-    moment.put(rt, "fox")?;
-    names.handle().put(rt, "owl")?;
-    Ok((moment.seen_find("fox"), moment.seen_find("owl")))
-}
-
-#[test]
-fn a_moment_of_an_interner_had_a_later_name(rt: HostRuntime) -> Result<(), Fail> {
-    let names = SharedInterner::new(rt.alloc())?;
-    assert_eq!(rt; numbers_seen(&rt, &names)?, (Some(0), None));
     Ok(())
 }
 

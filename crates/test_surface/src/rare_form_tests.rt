@@ -1,54 +1,11 @@
 //! The call forms that docs/reference lists and no other crate makes by `elsa` alone. Each is
 //! proved and run.
-use bumpalo::Bump;
+use elsa::SeededState;
 use elsa::interner::{Name, NameHandle, SharedInterner, TextBuffer};
 use elsa::sync::LockFreeFrozenVec;
-use elsa::{FrozenBTreeMap, FrozenIndexMap, FrozenMap, FrozenVec, Own, SeededState};
 use std::alloc::{AllocError, Global};
 use std::sync::Wait;
 use std::test::*;
-
-/// Returns the lengths of the names from the back, as the digits of a number.
-fn lengths_from_the_back(names: &FrozenVec<'_, String>) -> usize {
-    let mut lengths = 0usize;
-    for name in names.iter().rev() {
-        lengths = lengths.wrapping_mul(10).wrapping_add(name.len());
-    }
-    lengths
-}
-
-#[test]
-fn a_vector_is_walked_from_the_back(rt: HostRuntime) -> Result<(), Fail> {
-    let arena = Bump::new(rt.alloc());
-    let mut names = FrozenVec::new(rt.alloc(), &arena);
-    names.push(String::from_str(rt.alloc(), "b")?)?;
-    names.push(String::from_str(rt.alloc(), "fox")?)?;
-    assert_eq!(rt; lengths_from_the_back(&names), 31);
-    Ok(())
-}
-
-/// Returns what each map with `String` keys has at a text. The key "fox" has the value 7.
-fn at_text(alloc: Global, text: &str) -> Result<[Option<u64>; 3], AllocError> {
-    let arena = Bump::new(alloc);
-    let mut hashed: FrozenMap<'_, String, Own<u64>> = FrozenMap::new(alloc, &arena);
-    let mut ordered: FrozenBTreeMap<'_, String, Own<u64>> = FrozenBTreeMap::new(alloc, &arena);
-    let mut indexed: FrozenIndexMap<'_, String, Own<u64>> = FrozenIndexMap::new(alloc, &arena);
-    hashed.insert(String::from_str(alloc, "fox")?, Own(7))?;
-    ordered.insert(String::from_str(alloc, "fox")?, Own(7))?;
-    indexed.insert(String::from_str(alloc, "fox")?, Own(7))?;
-    Ok([
-        hashed.get(text).copied(),
-        ordered.get(text).copied(),
-        indexed.get(text).copied(),
-    ])
-}
-
-#[test]
-fn maps_with_string_keys_are_asked_by_a_text(rt: HostRuntime) -> Result<(), Fail> {
-    assert_eq!(rt; at_text(rt.alloc(), "fox")?, [Some(7); 3]);
-    assert_eq!(rt; at_text(rt.alloc(), "b")?, [None; 3]);
-    Ok(())
-}
 
 /// Returns whether a push by a view at the index 0 of a vector of distinct items succeeds.
 fn is_pushed_at(rt: &impl Wait, alloc: Global) -> Result<bool, AllocError> {

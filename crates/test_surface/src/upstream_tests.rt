@@ -1,12 +1,9 @@
 //! Cases of upstream's own tests and examples, written anew: threads that read what other running
-//! threads have just pushed or inserted, and pairs by value.
+//! threads have just pushed or inserted.
 //!
 //! In each test with threads, a thread waits for another's progress. If the threads ran one after
 //! the other, the test would fail.
-use bumpalo::Bump;
 use elsa::sync::LockFreeFrozenVec;
-use elsa::{FrozenMap, sync};
-use std::alloc::{AllocError, Global};
 use std::sync::atomic::{AtomicU64, Ordering};
 use std::sync::{Mutex, Wait};
 use std::test::Fail;
@@ -158,65 +155,5 @@ fn a_reader_follows_two_pushers(rt: HostRuntime) -> Result<(), Fail> {
         || read_in_order(shared, count),
     );
     assert_eq!(rt; (pushed, sum), ((true, true), Some(1999 * 2000 / 2)));
-    Ok(())
-}
-
-/// Numbers with their decimal texts.
-type Texts = sync::FrozenMap<u64, String>;
-
-/// Reads a number until another thread has inserted it, and returns whether it has its text.
-fn is_inserted<R: Wait>(rt: &R, map: &Texts, number: u64) -> Result<bool, AllocError> {
-    for _ in 0..LOOKS {
-        if let Some(text) = map.get(rt, &number)? {
-            return Ok(text.as_str().parse::<u64>() == Ok(number));
-        }
-        thread::yield_now();
-    }
-    Ok(false)
-}
-
-/// Inserts every second number from `first` on, each after the other thread has inserted the number
-/// before it.
-fn take_turns<R: Wait>(rt: &R, alloc: Global, map: &Texts, first: u64) -> Result<bool, AllocError> {
-    for round in 0..100u64 {
-        let number = first.wrapping_add(2 * round);
-        if number > 1 && !is_inserted(rt, map, number.wrapping_sub(1))? {
-            return Ok(false);
-        }
-        let text = format!(in alloc; "{number}")?;
-        let _ = map.insert(rt, number, text)?;
-    }
-    Ok(true)
-}
-
-#[test]
-fn a_thread_finds_what_another_running_one_inserts(rt: HostRuntime) -> Result<(), Fail> {
-    let alloc = rt.alloc();
-    let map: Texts = sync::FrozenMap::new(alloc);
-    let (shared, handle) = (&map, &rt);
-    let (odd, even) = thread::join(
-        &rt,
-        || take_turns(handle, alloc, shared, 1),
-        || take_turns(handle, alloc, shared, 2),
-    );
-    assert!(rt; odd? && even?);
-    Ok(())
-}
-
-/// Returns whether the sorted pairs of a hashed map are those that were inserted first.
-fn has_pairs(alloc: Global) -> Result<bool, AllocError> {
-    let arena = Bump::new(alloc);
-    let mut map: FrozenMap<u64, &str> = FrozenMap::new(alloc, &arena);
-    for (key, value) in [(3, "c"), (1, "a"), (2, "b"), (1, "z")] {
-        map.insert(key, value)?;
-    }
-    let mut pairs = map.into_tuple_vec()?;
-    pairs.sort()?;
-    Ok(pairs.as_slice() == [(1, "a"), (2, "b"), (3, "c")].as_slice())
-}
-
-#[test]
-fn pairs_of_a_hashed_map_have_their_values(rt: HostRuntime) -> Result<(), Fail> {
-    assert!(rt; has_pairs(rt.alloc())?);
     Ok(())
 }

@@ -3,11 +3,7 @@
 #![tactic(auto)]
 
 #[cfg(test)]
-mod any_arena;
-#[cfg(test)]
 mod bulk;
-#[cfg(test)]
-mod by_closure;
 #[cfg(test)]
 mod law_tests;
 #[cfg(test)]

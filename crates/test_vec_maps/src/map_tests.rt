@@ -32,27 +32,6 @@ struct NoHash(u32);
 
 // ---- collecting
 
-// Inserts these pairs into an ordered map, and returns its pairs as a list.
-fn ordered_pairs<'a>(
-    alloc: Global,
-    arena: &'a Bump,
-    pairs: [(u32, &'a str); 3],
-) -> Result<Vec<(u32, &'a str)>, AllocError> {
-    let mut map: FrozenBTreeMap<'_, u32, &str> = FrozenBTreeMap::new(alloc, arena);
-    for (key, value) in pairs {
-        map.insert(key, value)?;
-    }
-    map.into_tuple_vec()
-}
-
-#[test]
-fn ordered_pairs_ascend(rt: HostRuntime) -> Result<(), Fail> {
-    let arena = Bump::new(rt.alloc());
-    let pairs = ordered_pairs(rt.alloc(), &arena, [(2, "b"), (1, "a"), (3, "c")])?;
-    assert!(rt; pairs.as_slice() == [(1, "a"), (2, "b"), (3, "c")].as_slice());
-    Ok(())
-}
-
 // Collects a hashed map of these pairs, and returns its values at 1 and 2 and its length.
 fn hashed_of<'a>(
     alloc: Global,
@@ -86,38 +65,6 @@ fn collecting_keeps_the_last_value(rt: HostRuntime) -> Result<(), Fail> {
     let ordered = ordered_of(alloc, &arena, [(1, "a"), (1, "b")])?;
     let want = ([Some("b"), None], 1);
     assert!(rt; hashed == want && ordered == want);
-    Ok(())
-}
-
-// ---- looking up
-
-type Keyed<'a, 'k> = FrozenMap<'a, &'k str, String>;
-
-fn pair<'a, 'k>(map: &Keyed<'a, 'k>, key: &'k str) -> Option<(&'k str, &'a str)> {
-    map.get_key_value(&key)
-}
-
-fn length_at<'k>(map: &Keyed<'_, 'k>, key: &'k str) -> Option<usize> {
-    map.map_get(&key, |value| value.len())
-}
-
-// Returns the number of calls of a lookup's closure.
-fn calls_at<'k>(map: &Keyed<'_, 'k>, key: &'k str) -> usize {
-    let mut calls = 0usize;
-    let _answer = map.map_get(&key, |_| calls = 1);
-    calls
-}
-
-#[test]
-fn an_absent_key_calls_nothing(rt: HostRuntime) -> Result<(), Fail> {
-    let arena = Bump::new(rt.alloc());
-    let mut map: Keyed<'_, '_> = FrozenMap::new(rt.alloc(), &arena);
-    let text = String::from_str(rt.alloc(), "a")?;
-    map.insert("1", text)?;
-    let there = pair(&map, "1");
-    assert!(rt; there == Some(("1", "a")) && pair(&map, "2").is_none());
-    assert!(rt; length_at(&map, "1") == Some(1) && length_at(&map, "2").is_none());
-    assert!(rt; calls_at(&map, "1") == 1 && calls_at(&map, "2") == 0);
     Ok(())
 }
 

@@ -1,5 +1,5 @@
-//! Sorted sets, which are ordered maps to `()`: examples, walks, a caller that is proved from the
-//! contracts alone, and each request for memory denied in turn.
+//! Sorted sets, which are ordered maps to `()`: examples, walks, and a caller that is proved from
+//! the contracts alone.
 ghost use Rattle.std.specs.Prelude.{◌≡◌, IfOk, is_some, true};
 ghost use Rattle.std.specs.Ordering.{eq_by_cmp, nat_cmp};
 ghost use Rattle.elsa_maps.specs.FirstWins.{value_at};
@@ -8,12 +8,6 @@ use bumpalo::Bump;
 use elsa_maps::map::FrozenBTreeSet;
 use std::alloc::{AllocError, Global};
 use std::test::*;
-use test_alloc::Budget;
-use test_script::{Family, Script, Squeeze, WORDS, goes_through, refuse_each_in_turn};
-
-type Heap<'a> = &'a Budget<Global>;
-
-type Sorted<'a> = FrozenBTreeSet<'a, &'a str, Heap<'a>>;
 
 /// Numbers in the order of their insertion, and whether each is new.
 const NUMBERS: [(u64, bool); 4] = [(3, true), (1, true), (2, true), (1, false)];
@@ -155,77 +149,5 @@ fn text_outlasts(alloc: Global, arena: &Bump) -> Result<bool, AllocError> {
 fn a_stored_text_ends_with_its_set(rt: HostRuntime) -> Result<(), Fail> {
     let arena = Bump::new(rt.alloc());
     assert!(rt; text_outlasts(rt.alloc(), &arena)?);
-    Ok(())
-}
-
-// ---- allocation failures
-
-const CALLS: usize = 32;
-
-struct Given<'a> {
-    heap: Heap<'a>,
-    texts: Sorted<'a>,
-}
-
-impl<'a> Drop for Given<'a> {
-    fn drop(self) {
-        let Given {
-            heap: _heap,
-            texts: _texts,
-        } = self;
-    }
-}
-
-// Of each two calls, the first inserts a new word, and the second the first word again, which
-// allocates nothing.
-impl<'a> Script for Given<'a> {
-    fn call(&mut self, number: usize) -> Result<bool, AllocError> {
-        if number % 2 == 0 {
-            let word = WORDS[number / 2 % 16];
-            self.texts.insert_text(word, ())?;
-            return Ok(self.texts.contains_key(word));
-        }
-        let asked = self.heap.asked();
-        self.texts.insert_text(WORDS[0], ())?;
-        Ok(self.heap.asked() == asked)
-    }
-
-    fn holds(&self, number: usize) -> bool {
-        let count = number.div_ceil(2);
-        for index in 0..16usize {
-            if self.texts.contains_key(WORDS[index]) != (index < count) {
-                return false;
-            }
-        }
-        self.texts.len() == count
-    }
-}
-
-#[derive(Drop)]
-struct Sets;
-
-impl Family for Sets {
-    fn calls(&self) -> usize {
-        CALLS
-    }
-
-    // A new word is copied into the arena.
-    fn placings(&self, number: usize) -> usize {
-        if number % 2 == 0 { 1 } else { 0 }
-    }
-
-    fn goes_over(&self, alloc: Global, heap: &Budget<Global>, squeezed: Squeeze) -> Option<u64> {
-        let arena = Bump::new(alloc);
-        let texts: Sorted<'_> = FrozenBTreeSet::new(heap, &arena);
-        let mut script = Given { heap, texts };
-        goes_through(&mut script, CALLS, heap, &arena, squeezed)
-    }
-}
-
-#[test]
-fn a_refused_text_changes_a_sorted_set(rt: HostRuntime) -> Result<(), Fail> {
-    let refused = refuse_each_in_turn(rt.alloc(), &Sets)?;
-    assert!(rt; refused.requests > 1);
-    assert_eq!(rt; refused.placings, 16);
     Ok(())
 }

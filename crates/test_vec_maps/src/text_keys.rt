@@ -1,6 +1,7 @@
 //! Keys that are inserted as texts of any lifetime: a new one is copied into the arena, and a
 //! present one allocates nothing.
 use bumpalo::Bump;
+use elsa_maps::index_map::FrozenIndexMap;
 use elsa_maps::map::{FrozenBTreeMap, FrozenMap};
 use elsa_vec::stable::Own;
 use std::alloc::{AllocError, Global};
@@ -11,7 +12,11 @@ use test_script::{Family, Script, Squeeze, WORDS, goes_through, leave_room, refu
 
 type Heap<'a> = &'a Budget<Global>;
 
-type Hashed<'a> = FrozenMap<'a, &'a str, Own<u64>, BuildHasherDefault<FoldHasher>, Heap<'a>>;
+type State = BuildHasherDefault<FoldHasher>;
+
+type Hashed<'a> = FrozenMap<'a, &'a str, Own<u64>, State, Heap<'a>>;
+
+type Indexed<'a> = FrozenIndexMap<'a, &'a str, Own<u64>, State, Heap<'a>>;
 
 type Ordered<'a> = FrozenBTreeMap<'a, &'a str, Own<u64>, Heap<'a>>;
 
@@ -51,6 +56,33 @@ impl<'a> ByText<'a> for Ordered<'a> {
 
     fn give(&mut self, key: &str, value: u64) -> Result<u64, AllocError> {
         Ok(*self.insert_text(key, Own(value))?)
+    }
+
+    fn at(&self, key: &str) -> Option<u64> {
+        self.get(key).copied()
+    }
+
+    fn count(&self) -> usize {
+        self.len()
+    }
+}
+
+impl<'a> ByText<'a> for Indexed<'a> {
+    fn empty(heap: Heap<'a>, arena: &'a Bump) -> Self {
+        FrozenIndexMap::new(heap, arena)
+    }
+
+    // Inserts alternately by `insert_text` and by `insert_full_text`.
+    fn give(&mut self, key: &str, value: u64) -> Result<u64, AllocError> {
+        if value % 2 == 0 {
+            return Ok(*self.insert_text(key, Own(value))?);
+        }
+        let (index, kept) = self.insert_full_text(key, Own(value))?;
+        Ok(if self.get_index_of(key) == Some(index) {
+            *kept
+        } else {
+            u64::MAX
+        })
     }
 
     fn at(&self, key: &str) -> Option<u64> {
@@ -136,9 +168,11 @@ fn goes<'a, M: ByText<'a>>(
     goes_through(&mut script, CALLS, heap, arena, squeezed)
 }
 
-#[derive(Drop)]
-struct Maps {
-    is_ordered: bool,
+#[derive(Clone, Copy, Debug, Drop)]
+enum Maps {
+    Hashed,
+    Ordered,
+    Indexed,
 }
 
 impl Family for Maps {
@@ -153,20 +187,31 @@ impl Family for Maps {
 
     fn goes_over(&self, alloc: Global, heap: &Budget<Global>, squeezed: Squeeze) -> Option<u64> {
         let arena = Bump::new(alloc);
-        if self.is_ordered {
-            let map: Ordered<'_> = ByText::empty(heap, &arena);
-            return goes(heap, &arena, map, squeezed);
+        match self {
+            Maps::Hashed => {
+                let map: Hashed<'_> = ByText::empty(heap, &arena);
+                goes(heap, &arena, map, squeezed)
+            }
+            Maps::Ordered => {
+                let map: Ordered<'_> = ByText::empty(heap, &arena);
+                goes(heap, &arena, map, squeezed)
+            }
+            Maps::Indexed => {
+                let map: Indexed<'_> = ByText::empty(heap, &arena);
+                goes(heap, &arena, map, squeezed)
+            }
         }
-        let map: Hashed<'_> = ByText::empty(heap, &arena);
-        goes(heap, &arena, map, squeezed)
     }
 }
 
 #[test]
-fn a_refused_text_or_value_leaves_either_map_as_it_was(rt: HostRuntime) -> Result<(), Fail> {
-    for is_ordered in [false, true] {
-        let refused = refuse_each_in_turn(rt.alloc(), &Maps { is_ordered })?;
-        assert!(rt; refused.requests > 16 && refused.placings == 32);
+fn a_refused_text_or_value_changed_a_map(rt: HostRuntime) -> Result<(), Fail> {
+    for map in [Maps::Hashed, Maps::Ordered, Maps::Indexed] {
+        let refused = refuse_each_in_turn(rt.alloc(), &map)?;
+        assert!(rt;
+            refused.requests > 16 && refused.placings == 32,
+            "{map:?}: {refused:?}"
+        );
     }
     Ok(())
 }

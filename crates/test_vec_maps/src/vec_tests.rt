@@ -1,5 +1,4 @@
-//! Facts of the vector that no clause states: examples, upstream's cases, and the indices at which
-//! a search calls its closure.
+//! Facts of the vector that no clause states: examples, and upstream's cases.
 ghost use Rattle.std.specs.Prelude.{◌≡◌, ◌<◌, ℕ, IfOk, Some, false, length, ltb, slice_get, true};
 ghost use denote.Ref.{Bor};
 ghost use Rattle.std.specs.List.Sorted.{IsBinarySearchResult, IsPartitionPoint, IsPartitionedBy};
@@ -10,7 +9,6 @@ use elsa_vec::stable::Own;
 use elsa_vec::vec::{Cursor, FrozenVec};
 use elsa_vec::vec_laws::{pushed_apart, read_on, walked};
 use std::alloc::{AllocError, Global};
-use std::cmp::Ordering;
 use std::test::Fail;
 
 type Names<'a> = FrozenVec<'a, String>;
@@ -62,60 +60,6 @@ fn the_first_borrow_outlives_the_vector(rt: HostRuntime) -> Result<(), Fail> {
     let arena = Bump::new(rt.alloc());
     let (first, good) = first_of_many(rt.alloc(), &arena)?;
     assert!(rt; good && first == "a");
-    Ok(())
-}
-
-#[derive(Clone, Copy)]
-struct Thing<'a> {
-    name: &'a str,
-    friends: &'a [Thing<'a>],
-}
-
-type Things<'a> = FrozenVec<'a, Own<Thing<'a>>>;
-
-// Adds a thing whose friends are the things in `before`.
-fn befriend<'a>(
-    arena: &'a Bump,
-    things: &mut Things<'a>,
-    before: &[Thing<'a>],
-    name: &'a str,
-) -> Result<Thing<'a>, AllocError> {
-    let friends: &'a [Thing<'a>] = arena.try_alloc_slice_copy(before)?;
-    Ok(*things.push_get(Own(Thing { name, friends }))?)
-}
-
-// Returns whether the things have these names, and each has the number of friends that is its
-// index.
-fn are_named(things: &Things<'_>, names: &[&str]) -> bool {
-    let mut index = 0usize;
-    for thing in things {
-        if names.get(index) != Some(&thing.name) || thing.friends.len() != index {
-            return false;
-        }
-        index = index.saturating_add(1);
-    }
-    index == names.len()
-}
-
-// Returns the name of the first friend of the second thing.
-fn a_friend<'a>(things: &Things<'a>) -> Option<&'a str> {
-    if things.len() < 2 {
-        return None;
-    }
-    Some(things[1].friends.first()?.name)
-}
-
-#[test]
-fn a_thing_lost_a_friend(rt: HostRuntime) -> Result<(), Fail> {
-    let arena = Bump::new(rt.alloc());
-    let mut things: Things<'_> = FrozenVec::new(rt.alloc(), &arena);
-    let lonely = befriend(&arena, &mut things, &[], "lonely")?;
-    let best = befriend(&arena, &mut things, &[lonely], "best friend")?;
-    befriend(&arena, &mut things, &[lonely, best], "threes a crowd")?;
-    assert!(rt;
-        are_named(&things, &["lonely", "best friend", "threes a crowd"])
-            && a_friend(&things) == Some("lonely")
-    );
     Ok(())
 }
 
@@ -190,16 +134,6 @@ fn a_cursor_missed_an_item_pushed_during_its_walk(rt: HostRuntime) -> Result<(),
 
 // ---- searches
 
-// Returns whether the search for each text has the result that is next to it.
-fn finds<'a>(texts: &Texts<'a>, rows: &[(&'a str, Result<usize, usize>)]) -> bool {
-    for row in rows {
-        if texts.binary_search(row.0) != row.1 {
-            return false;
-        }
-    }
-    true
-}
-
 // Returns the index of a text of this length, or the index at which it would be inserted.
 fn of_length(texts: &Texts<'_>, wanted: usize) -> Result<usize, usize>
     ensures index { IsBinarySearchResult (λ text. nat_cmp (length text.now) wanted)
@@ -264,150 +198,7 @@ fn a_search_of_sorted_texts_missed_its_target(rt: HostRuntime) -> Result<(), Fai
         &arena,
         ["ab", "cde", "fghij"].into_iter(),
     )?;
-    assert!(rt;
-        finds(
-            &texts,
-            &[
-                ("cde", Ok(1)),
-                ("cdf", Err(2)),
-                ("a", Err(0)),
-                ("g", Err(3))
-            ],
-        )
-    );
     assert!(rt; finds_by_length(&texts, &[(1, Err(0)), (3, Ok(1)), (4, Err(2))]));
     assert!(rt; [shorter(&texts, 4), shorter(&texts, 0), shorter(&texts, 9)] == [2, 0, 3]);
-    Ok(())
-}
-
-type Numbers<'a> = FrozenVec<'a, Own<usize>>;
-
-// Makes a vector of the numbers below `count`.
-fn numbers(alloc: Global, arena: &Bump, count: usize) -> Result<Numbers<'_>, AllocError> {
-    let mut made = FrozenVec::new(alloc, arena);
-    for number in 0..count {
-        made.push(Own(number))?;
-    }
-    Ok(made)
-}
-
-// No index of a search.
-const NO: usize = usize::MAX;
-
-// Returns whether these are the noted indices, of which there are at most four.
-fn are_noted(indices: &Vec<usize>, calls: [usize; 4]) -> bool {
-    for at in 0..4 {
-        if indices.get(at).copied().unwrap_or(NO) != calls[at] {
-            return false;
-        }
-    }
-    indices.len() <= 4
-}
-
-// Searches by a closure that notes the index of each call. It returns the first of `answers`, and
-// from the second call on the last.
-fn searched(
-    items: &Numbers<'_>,
-    answers: [Ordering; 2],
-    indices: &mut Vec<usize>,
-) -> Result<usize, usize> {
-    let [mut answer, last] = answers;
-    items.binary_search_by(|index| {
-        let _noted = indices.push(*index);
-        let now = answer;
-        answer = last;
-        now
-    })
-}
-
-// Returns whether such a search of `count` items calls the closure at these indices and has this
-// result.
-fn calls_at(
-    alloc: Global,
-    count: usize,
-    answers: [Ordering; 2],
-    calls: [usize; 4],
-    answer: Result<usize, usize>,
-) -> Result<bool, AllocError> {
-    let arena = Bump::new(alloc);
-    let items = numbers(alloc, &arena, count)?;
-    let mut indices = Vec::new(alloc);
-    Ok(searched(&items, answers, &mut indices) == answer && are_noted(&indices, calls))
-}
-
-#[test]
-fn a_search_called_its_closure_at_other_indices(rt: HostRuntime) -> Result<(), Fail> {
-    use std::cmp::Ordering::{Equal, Greater, Less};
-    for (count, answers, calls, answer) in [
-        (8, [Less, Less], [4, 6, 7, NO], Err(8)),
-        (8, [Greater, Greater], [4, 2, 1, 0], Err(0)),
-        (8, [Equal, Equal], [4, NO, NO, NO], Ok(4)),
-        (3, [Less, Greater], [1, 2, NO, NO], Err(2)),
-        (3, [Greater, Less], [1, 0, NO, NO], Err(1)),
-        (3, [Less, Less], [1, 2, NO, NO], Err(3)),
-        (0, [Less, Less], [NO, NO, NO, NO], Err(0)),
-    ] {
-        assert!(rt;
-            calls_at(rt.alloc(), count, answers, calls, answer)?,
-            "at {count}"
-        );
-    }
-    Ok(())
-}
-
-// Partitions by a closure that notes the index of each call and returns three results in turn, the
-// last one from then on.
-fn parted(items: &Numbers<'_>, answers: [bool; 3], indices: &mut Vec<usize>) -> usize {
-    let [mut answer, mut next, last] = answers;
-    items.partition_point(|index| {
-        let _noted = indices.push(*index);
-        let now = answer;
-        answer = next;
-        next = last;
-        now
-    })
-}
-
-fn parts_at(
-    alloc: Global,
-    count: usize,
-    answers: [bool; 3],
-    calls: [usize; 4],
-    answer: usize,
-) -> Result<bool, AllocError> {
-    let arena = Bump::new(alloc);
-    let items = numbers(alloc, &arena, count)?;
-    let mut indices = Vec::new(alloc);
-    Ok(parted(&items, answers, &mut indices) == answer && are_noted(&indices, calls))
-}
-
-#[test]
-fn a_partition_called_its_closure_at_other_indices(rt: HostRuntime) -> Result<(), Fail> {
-    for (count, answers, calls, answer) in [
-        (7, [true, true, true], [3, 5, 6, NO], 7),
-        (4, [false, true, true], [2, 1, NO, NO], 2),
-        (5, [true, false, true], [2, 4, 3, NO], 4),
-        (0, [true, true, true], [NO, NO, NO, NO], 0),
-    ] {
-        assert!(rt;
-            parts_at(rt.alloc(), count, answers, calls, answer)?,
-            "at {count}"
-        );
-    }
-    Ok(())
-}
-
-fn finds_one_and_not_three(items: &FrozenVec<'_, Own<u32>>) -> bool {
-    [items.binary_search(&1), items.binary_search(&3)] == [Ok(1), Err(3)]
-}
-
-#[test]
-fn a_search_of_unsorted_numbers_had_another_result(rt: HostRuntime) -> Result<(), Fail> {
-    let arena = Bump::new(rt.alloc());
-    let mut items: FrozenVec<'_, Own<u32>> = FrozenVec::new(rt.alloc(), &arena);
-    for number in [3, 1, 2] {
-        items.push(Own(number))?;
-    }
-    assert!(rt; finds_one_and_not_three(&items));
     Ok(())
 }

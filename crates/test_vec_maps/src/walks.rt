@@ -1,78 +1,11 @@
 //! Walks over the maps, and the items that `extend` adds to a vector.
 use bumpalo::Bump;
-use elsa_maps::map::{FrozenBTreeMap, FrozenMap};
+use elsa_maps::map::FrozenMap;
 use elsa_vec::stable::Own;
 use elsa_vec::vec::FrozenVec;
 use std::alloc::{AllocError, Global};
 use std::test::*;
 use test_alloc::Budget;
-
-type Ordered<'a> = FrozenBTreeMap<'a, u64, &'a str>;
-
-/// Keys and values in the order of their insertion. The second value of the key 1 is dropped.
-const PAIRS: [(u64, &str); 4] = [(3, "c"), (1, "a"), (2, "b"), (1, "z")];
-
-fn ordered<'a>(alloc: Global, arena: &'a Bump) -> Result<Ordered<'a>, AllocError> {
-    let mut map = FrozenBTreeMap::new(alloc, arena);
-    for (key, value) in PAIRS {
-        map.insert(key, value)?;
-    }
-    Ok(map)
-}
-
-/// Returns the keys in the order of the walk, as the digits of a number, from the front and from
-/// the back.
-fn digits<'a>(map: &Ordered<'a>) -> (u64, u64) {
-    let mut front = 0u64;
-    for (key, _value) in map.iter() {
-        front = front.wrapping_mul(10).wrapping_add(*key);
-    }
-    let mut back = 0u64;
-    for (key, _value) in map.iter().rev() {
-        back = back.wrapping_mul(10).wrapping_add(*key);
-    }
-    (front, back)
-}
-
-#[test]
-fn an_ordered_map_is_walked_in_the_order_of_its_keys(rt: HostRuntime) -> Result<(), Fail> {
-    let arena = Bump::new(rt.alloc());
-    let map = ordered(rt.alloc(), &arena)?;
-    assert_eq!(rt; digits(&map), (123, 321));
-    Ok(())
-}
-
-/// Returns the number of keys from `low` on and below `high`.
-fn within<'a>(map: &Ordered<'a>, low: u64, high: u64) -> usize {
-    let mut count = 0usize;
-    if high < low {
-        return 0;
-    }
-    for (_key, _value) in map.range(low..high) {
-        count = count.saturating_add(1);
-    }
-    count
-}
-
-#[test]
-fn a_range_has_the_keys_from_its_start_and_below_its_end(rt: HostRuntime) -> Result<(), Fail> {
-    let arena = Bump::new(rt.alloc());
-    let map = ordered(rt.alloc(), &arena)?;
-    for (low, high, count) in [(0, 9, 3), (2, 3, 1), (2, 4, 2), (4, 9, 0)] {
-        assert_eq!(rt; within(&map, low, high), count);
-    }
-    Ok(())
-}
-
-#[test]
-fn an_end_of_an_ordered_map_was_wrong(rt: HostRuntime) -> Result<(), Fail> {
-    let arena = Bump::new(rt.alloc());
-    let map = ordered(rt.alloc(), &arena)?;
-    let empty: Ordered<'_> = FrozenBTreeMap::new(rt.alloc(), &arena);
-    assert!(rt; map.first_key_value() == Some((1, "a")) && map.last_key_value() == Some((3, "c")));
-    assert!(rt; empty.first_key_value().is_none() && empty.last_key_value().is_none());
-    Ok(())
-}
 
 /// Returns the sums of the keys and of the lengths of the values, by the three walks.
 fn sums<'a>(map: &FrozenMap<'a, u64, &'a str>) -> (u64, u64, u64) {
@@ -103,15 +36,6 @@ fn a_hashed_map_is_walked_once_for_each_key(rt: HostRuntime) -> Result<(), Fail>
     Ok(())
 }
 
-/// Returns the keys in the order of `for` over an ordered map itself, as the digits of a number.
-fn digits_by_for<'a>(map: &Ordered<'a>) -> u64 {
-    let mut digits = 0u64;
-    for (key, _value) in map {
-        digits = digits.wrapping_mul(10).wrapping_add(*key);
-    }
-    digits
-}
-
 /// Returns the sum of the keys and of the lengths of the values, by `for` over a hashed map itself.
 fn sum_by_for<'a>(map: &FrozenMap<'a, u64, &'a str>) -> u64 {
     let mut sum = 0u64;
@@ -129,7 +53,6 @@ fn for_over_a_map_gives_each_entry_once(rt: HostRuntime) -> Result<(), Fail> {
         hashed.insert(key, value)?;
     }
     assert_eq!(rt; sum_by_for(&hashed), 327);
-    assert_eq!(rt; digits_by_for(&ordered(rt.alloc(), &arena)?), 123);
     Ok(())
 }
 
