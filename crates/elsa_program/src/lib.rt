@@ -1,5 +1,5 @@
-//! The parts of the program `elsa` that don't need its `main`: the parser of its arguments, the engine
-//! that replies to lines about names, and the workers of `elsa shared`.
+//! The parts of the program `elsa` that don't need its `main`: the parser of its arguments, the
+//! engine that replies to lines about names, and the workers of `elsa shared`.
 #![tactic(auto)]
 
 mod ahead;

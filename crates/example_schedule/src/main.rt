@@ -108,6 +108,6 @@ fn main(rt: HostRuntime) -> io::Result<()> {
     picture(&rt, alloc, heads, &plans, &PUSHES)?;
     println!(rt; "")?;
     let plans = extension(alloc)?;
-    let heads = ["0 appends 7, 8", "1 pushes 9", "2 reads places 0, 1"];
+    let heads = ["0 appends 7, 8", "1 pushes 9", "2 reads indices 0, 1"];
     picture(&rt, alloc, heads, &plans, &EXTENSION)
 }

@@ -1,7 +1,7 @@
 //! Values that count their drops, blocks that a budget counts, and requests that it denies.
 use crate::callers::{push_two, two_values};
 use elsa_arena::arena::TypedArena;
-use elsa_arena::fault::CellFault;
+use elsa_arena::fault::{CellFault, Fault};
 use std::alloc::{AllocError, Allocator, Global};
 use std::cell::Cell;
 use std::test::*;
@@ -22,7 +22,7 @@ impl Drop for Counted<'_> {
 
 /// Returns whether `count` values are stored one after the other, and the borrow of the first is
 /// valid after all of them.
-fn indices<'c, A: Allocator + Copy>(
+fn places<'c, A: Allocator + Copy>(
     arena: &TypedArena<Counted<'c>, A>,
     drops: &'c Cell<usize>,
     count: usize,
@@ -47,7 +47,7 @@ fn a_value_is_dropped_once_and_not_before_its_arena(rt: HostRuntime) -> Result<(
     for count in [1, 3, 4, 15, 16, 100, 2000] {
         let drops = Cell::new(0);
         let arena = TypedArena::new(rt.alloc())?;
-        let placed = indices(&arena, &drops, count) && drops.get() == 0;
+        let placed = places(&arena, &drops, count) && drops.get() == 0;
         drop(arena);
         assert!(rt; placed && drops.get() == count, "{count}");
     }
@@ -160,6 +160,80 @@ fn values_up_to_the_capacity_take_no_memory(rt: HostRuntime) -> Result<(), Fail>
     Ok(())
 }
 
+/// Returns the number of values, at most a hundred, that an arena of `count` values stores after a
+/// reservation, while all further requests are denied.
+fn placed_after_reserve(
+    heap: &Budget<Global>,
+    count: usize,
+    additional: usize,
+) -> Result<usize, AllocError> {
+    let arena = TypedArena::new(heap)?;
+    for number in 0..count {
+        let Ok(_index) = arena.push(number) else {
+            return Err(AllocError);
+        };
+    }
+    let Ok(()) = arena.reserve(additional) else {
+        return Err(AllocError);
+    };
+    heap.refuse(heap.asked(), u64::MAX);
+    for number in 0..100usize {
+        if arena.push(number).is_err() {
+            return Ok(number);
+        }
+    }
+    Ok(100)
+}
+
+#[test]
+fn values_that_were_reserved_take_no_memory(rt: HostRuntime) -> Result<(), Fail> {
+    for (count, additional, wanted) in [
+        (0, 0, 0),
+        (0, 1, 3),
+        (2, 1, 1),
+        (2, 2, 13),
+        (3, 12, 12),
+        (3, 13, 60),
+        (10, 0, 5),
+        (15, 100, 100),
+    ] {
+        let heap = Budget::new(rt.alloc());
+        let placed = placed_after_reserve(&heap, count, additional)?;
+        assert!(rt;
+            placed == wanted && heap.given() == heap.granted(),
+            "{count} {additional}"
+        );
+    }
+    Ok(())
+}
+
+/// Returns whether a denied reservation leaves the values, and the next one succeeds, also if it is
+/// for fewer values than are reserved.
+fn reserves_again(heap: &Budget<Global>) -> Result<bool, AllocError> {
+    let arena = TypedArena::new(heap)?;
+    let is_first = arena.alloc(7usize).is_ok();
+    heap.refuse_next(1);
+    let refused = matches!(arena.reserve(100), Err(Fault::Memory));
+    heap.refuse_next(0);
+    let kept = refused && arena.len() == 1 && arena.get(0) == Some(&7);
+    let reserved = arena.reserve(100).is_ok() && arena.reserve(50).is_ok();
+    heap.refuse(heap.asked(), u64::MAX);
+    for number in 0..100usize {
+        if arena.push(number).is_err() {
+            return Ok(false);
+        }
+    }
+    Ok(is_first && kept && reserved && arena.get(100) == Some(&99))
+}
+
+#[test]
+fn a_denied_reservation_lost_a_value(rt: HostRuntime) -> Result<(), Fail> {
+    let heap = Budget::new(rt.alloc());
+    let again = reserves_again(&heap)?;
+    assert!(rt; again && heap.given() == heap.granted());
+    Ok(())
+}
+
 /// Returns whether two values are stored under a guard that has reserved capacity for them, while
 /// all further requests are denied.
 fn stores_what_it_reserved(heap: &Budget<Global>) -> Result<bool, AllocError> {
@@ -232,5 +306,22 @@ fn a_buffer_that_was_ready_was_lost(rt: HostRuntime) -> Result<(), Fail> {
 fn an_index_showed_the_value_of_another(rt: HostRuntime) -> Result<(), Fail> {
     let arena = TypedArena::new(rt.alloc())?;
     assert!(rt; two_values(&arena, 7, 8) == Some((7, 8)));
+    Ok(())
+}
+
+/// Returns the length of a guard that has appended the numbers below `count`, and that of the list
+/// after it.
+fn extended(alloc: Global, count: u64) -> Result<(usize, usize), Fail> {
+    let list: TypedArena<u64> = TypedArena::new(alloc)?;
+    let mut hold = list.hold()?;
+    hold.extend(0..count)?;
+    let length = hold.len();
+    drop(hold);
+    Ok((length, list.len()))
+}
+
+#[test]
+fn an_extension_of_thousands_ended_early(rt: HostRuntime) -> Result<(), Fail> {
+    assert_eq!(rt; extended(rt.alloc(), 5000)?, (5000, 5000));
     Ok(())
 }

@@ -26,8 +26,8 @@ pub fn plan(drawn: (u64, u64), number: u64) -> (u64, u64) {
     let keys = match number {
         0 => 1,
         1 => 20,
-        2 => 3000,
-        3 => drawn.1,
+        2..=5 => 3000,
+        6 => drawn.1,
         _ => 5,
     };
     (drawn.0.wrapping_add(number), keys)

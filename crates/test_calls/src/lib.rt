@@ -2,12 +2,6 @@
 //! each result, at random sizes up to 200,000, with allocations that fail at random.
 #![tactic(auto)]
 
-#[cfg(test)]
-mod arena_lists;
-#[cfg(test)]
-mod arena_maps;
-#[cfg(test)]
-mod arena_tests;
 mod call;
 #[cfg(test)]
 mod ends;

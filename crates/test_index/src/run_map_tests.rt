@@ -1,5 +1,5 @@
-//! Runs of a hashed map with known replies: examples, an insertion of each kind, and a new base. The
-//! runs of each map have the same code.
+//! Runs of a hashed map with known replies: examples, an insertion of each kind, and a new base.
+//! The runs of each map have the same code.
 use bumpalo::Bump;
 use elsa_maps::map::FrozenMap;
 use elsa_run::run::run_map;

@@ -157,7 +157,7 @@ fn capacities(alloc: Global, count: usize) -> Result<[usize; 6], AllocError> {
 
 #[test]
 fn a_capacity_was_not_that_of_the_reserved_room(rt: HostRuntime) -> Result<(), Fail> {
-    for count in [1usize, 100, 10_000, 150_000] {
+    for count in [1usize, 100, 1000, 10_000, 150_000] {
         let most = count.wrapping_mul(8).wrapping_add(64);
         for capacity in capacities(rt.alloc(), count)? {
             assert_eq!(rt; capacity, capacity.max(count).min(most), "room for {count}");

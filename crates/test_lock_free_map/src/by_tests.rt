@@ -1,5 +1,5 @@
-//! Maps of owned texts: insertions whose key or value is made, while another handle inserts and while
-//! allocations fail.
+//! Maps of owned texts: insertions whose key or value is made, while another handle inserts and
+//! while allocations fail.
 use elsa_lock_free_map::handle::MapHandle;
 use elsa_lock_free_map::map::LockFreeFrozenMap;
 use std::alloc::{AllocError, Allocator, Global};

@@ -1,5 +1,5 @@
-//! Maps whose entries are moved out: each entry comes out once, in the order of insertion; and a map
-//! whose entries can't be moved out is returned whole.
+//! Maps whose entries are moved out: each entry comes out once, in the order of insertion; and a
+//! map whose entries can't be moved out is returned whole.
 use elsa_lock_free_map::handle::MapHandle;
 use elsa_lock_free_map::map::LockFreeFrozenMap;
 use std::alloc::{AllocError, AllocFailed, Allocator, Global};

@@ -1,5 +1,5 @@
-//! Insertions that don't wait: by one thread alone, while another thread's insertion is halted, and by two threads at
-//! once.
+//! Insertions that don't wait: by one thread alone, while another thread's insertion is halted, and
+//! by two threads at once.
 ghost use Rattle.std.specs.Prelude.{◌≡◌};
 
 use elsa_lock_free::may_lock::{AttemptFault, LockPermit};

@@ -91,7 +91,7 @@ fn found_then<A: Allocator + Copy>(then: &One<'_, A>, name: u64) -> Reply {
 fn keep<A: Allocator + Copy>(calls: &mut NameCalls<'_, A>) -> Reply {
     let mut now = calls.interner.handle();
     let count = now.len();
-    calls.then = now;
+    let _before = std::mem::replace(&mut calls.then, now);
     Reply::Count(count)
 }
 
@@ -216,7 +216,7 @@ fn shard_keep<A: Allocator + Copy>(calls: &mut ShardCalls<'_, A>) -> Reply {
         return no_memory(0);
     };
     let count = now.len();
-    calls.then = now;
+    let _before = std::mem::replace(&mut calls.then, now);
     Reply::Count(count)
 }
 

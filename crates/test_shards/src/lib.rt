@@ -1,6 +1,7 @@
-//! Tests of the collections that threads share: one script of random calls for all of them, with the
-//! replies of a plain list; and the maps of shards, in which every shard is used, a key is found in
-//! the shard into which it was inserted, by any query and any thread, and each entry comes out once.
+//! Tests of the collections that threads share: one script of random calls for all of them, with
+//! the replies of a plain list; and the maps of shards, in which every shard is used, a key is
+//! found in the shard into which it was inserted, by any query and any thread, and each entry comes
+//! out once.
 #![tactic(auto)]
 
 #[cfg(test)]

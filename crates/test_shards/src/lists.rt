@@ -21,7 +21,7 @@ pub struct PlainList<'m, A: Allocator + Copy> {
     pub list: &'m LockFreeFrozenVec<u64, A>,
 }
 
-/// Reads each item: at most one more than there are.
+/// Reads each item, and at most the index after the last.
 fn reads<A: Allocator + Copy>(list: &LockFreeFrozenVec<u64, A>) -> Reply {
     let (mut count, mut sum) = (0_usize, 0_u64);
     for index in 0..list.len().wrapping_add(1) {

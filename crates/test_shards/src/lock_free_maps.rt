@@ -371,7 +371,7 @@ fn shard_keep<A: Allocator + Copy>(calls: &mut ShardCalls<'_, A>) -> Reply {
         return no_memory(0);
     };
     let count = now.len();
-    calls.then = now;
+    let _before = std::mem::replace(&mut calls.then, now);
     Reply::Count(count)
 }
 

@@ -3,15 +3,29 @@
 #![tactic(auto)]
 
 #[cfg(test)]
+mod arena_form_tests;
+#[cfg(test)]
+mod base_form_tests;
+#[cfg(test)]
+mod bulk_form_tests;
+#[cfg(test)]
+mod cache_form_tests;
+#[cfg(test)]
 mod error_tests;
 #[cfg(test)]
 mod filled;
+#[cfg(test)]
+mod form_tests;
 #[cfg(test)]
 mod free_map_tests;
 #[cfg(test)]
 mod gates;
 #[cfg(test)]
 mod handle_tests;
+#[cfg(test)]
+mod index_form_tests;
+#[cfg(test)]
+mod into_vec_tests;
 #[cfg(test)]
 mod item_tests;
 #[cfg(test)]
@@ -25,11 +39,15 @@ mod names;
 #[cfg(test)]
 mod names_tests;
 #[cfg(test)]
+mod pass_form_tests;
+#[cfg(test)]
 mod placed_name_tests;
 #[cfg(test)]
 mod printed_form_tests;
 #[cfg(test)]
 mod rare_form_tests;
+#[cfg(test)]
+mod run_form_tests;
 #[cfg(test)]
 mod shared_names;
 #[cfg(test)]

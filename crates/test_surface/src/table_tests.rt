@@ -3,7 +3,8 @@ ghost use Rattle.std.specs.Prelude.{◌≡◌, IfOk, Some};
 ghost use Rattle.std.specs.Map.{lookup};
 
 use bumpalo::Bump;
-use elsa::{Own, StableDeref};
+use elsa::map::InsertFault;
+use elsa::{FrozenMap, Own, StableDeref};
 use elsa_maps::map::Frozen;
 use elsa_tables::{Put, Refusal, Table, insert_with};
 use std::alloc::{AllocError, Global};
@@ -60,6 +61,52 @@ fn closures_are_called_once(alloc: Global) -> bool {
     };
     let is_stored = Table::find_entry(&table, &7) == Some((&7, &1));
     is_stored && Table::find(&table, &7) == Some(&1) && Table::find(&table, &8).is_none()
+}
+
+// Returns whether a map calls the closure that makes a value only for an absent key, and returns
+// the closure's error.
+fn values_are_made_for_absent_keys(alloc: Global) -> Result<bool, AllocError> {
+    let arena = Bump::new(alloc);
+    let mut map: FrozenMap<'_, u64, Own<u64>> = FrozenMap::new(alloc, &arena);
+    let first = *map.insert_with(7, || Own(1))?;
+    let again = *map.insert_with(7, || Own(2))?;
+    let present = map.try_insert_with(7, || -> Result<Own<u64>, u8> { Err(3) });
+    let absent = map.try_insert_with(8, || -> Result<Own<u64>, u8> { Err(3) });
+    let is_kept = matches!(present, Ok(1)) && matches!(absent, Err(InsertFault::Value(3)));
+    Ok(first == 1 && again == 1 && is_kept && map.len() == 1)
+}
+
+// What the map has at a key that is looked up, and whether it was absent and got this value.
+fn kept_by_query(
+    map: &mut FrozenMap<'_, u64, Own<u64>>,
+    key: u64,
+    value: u64,
+) -> Option<(u64, bool)> {
+    let make = || -> Result<(u64, Own<u64>), AllocError>
+        ensures { IfOk result (λ entry. entry.0 ≡ key) }
+    { Ok((key, Own(value))) };
+    let done = map.insert_by(&key, make).ok()?;
+    Some((*done.value, done.is_new))
+}
+
+// Whether an insertion by a query keeps the first value of a key.
+fn queries_insert_once(alloc: Global) -> bool {
+    let arena = Bump::new(alloc);
+    let mut map: FrozenMap<'_, u64, Own<u64>> = FrozenMap::new(alloc, &arena);
+    let first = kept_by_query(&mut map, 7, 1) == Some((1, true));
+    first && kept_by_query(&mut map, 7, 2) == Some((1, false)) && map.len() == 1
+}
+
+#[test]
+fn an_insertion_by_a_query_gave_a_key_another_value(rt: HostRuntime) -> Result<(), Fail> {
+    assert!(rt; queries_insert_once(rt.alloc()));
+    Ok(())
+}
+
+#[test]
+fn a_map_makes_a_value_for_an_absent_key_alone(rt: HostRuntime) -> Result<(), Fail> {
+    assert!(rt; values_are_made_for_absent_keys(rt.alloc())?);
+    Ok(())
 }
 
 #[test]

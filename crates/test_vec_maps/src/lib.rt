@@ -21,6 +21,8 @@ mod sets;
 #[cfg(test)]
 mod shelf;
 #[cfg(test)]
+mod stored;
+#[cfg(test)]
 mod text_keys;
 #[cfg(test)]
 mod vec_tests;

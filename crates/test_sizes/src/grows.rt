@@ -1,0 +1,32 @@
+//! What the collections have in common.
+use std::alloc::AllocError;
+
+/// A collection of keys and values that are numbers.
+pub trait Grows {
+    /// Returns the key of the next insertion: the given one, or in a list the next index.
+    fn next_key(&self, drawn: u64) -> u64 {
+        drawn
+    }
+
+    /// Returns the value that an insertion of this key stores: the given one, or in a set the key.
+    fn stored(&self, _key: u64, value: u64) -> u64 {
+        value
+    }
+
+    /// Inserts the key, and returns the value that it then has.
+    ///
+    /// # Errors
+    /// Fails if an allocation fails.
+    fn insert(&mut self, key: u64, value: u64) -> Result<u64, AllocError>;
+
+    /// Returns the value of the key, or `None`.
+    fn get(&self, key: u64) -> Option<u64>;
+
+    /// Returns the number of entries.
+    fn count(&self) -> usize;
+
+    /// Returns whether the key has this index. A collection without indices returns `true`.
+    fn has_index(&self, _key: u64, _index: usize) -> bool {
+        true
+    }
+}

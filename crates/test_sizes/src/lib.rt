@@ -1,0 +1,16 @@
+//! Each collection of one thread at a random size up to 200,000, with allocations that fail at
+//! random, against a plain list. A failed test prints its seed.
+#![tactic(auto)]
+
+#[cfg(test)]
+mod bulk;
+#[cfg(test)]
+mod grows;
+#[cfg(test)]
+mod kinds;
+#[cfg(test)]
+mod room;
+#[cfg(test)]
+mod script;
+#[cfg(test)]
+mod tests;

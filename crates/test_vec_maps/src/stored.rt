@@ -1,0 +1,43 @@
+//! Values in each kind of arena are read as they were stored.
+use bumpalo::Bump;
+use elsa_arena::arena::TypedArena;
+use elsa_vec::stable::Own;
+use elsa_vec::vec::{FrozenVec, FrozenVecIn};
+use std::alloc::{AllocError, Global};
+use std::test::Fail;
+
+/// Returns the second of two texts that are moved into an arena.
+fn moved_text<'a>(alloc: Global, arena: &'a TypedArena<String>) -> Result<&'a str, AllocError> {
+    let mut texts: FrozenVecIn<&TypedArena<String>, String> = FrozenVecIn::new(alloc, arena);
+    texts.push(String::from_str(alloc, "owl")?)?;
+    texts.push_get(String::from_str(alloc, " fox ")?)
+}
+
+/// Returns the second of two numbers that are moved into an arena.
+fn moved_number<'a>(alloc: Global, arena: &'a TypedArena<u64>) -> Result<&'a u64, AllocError> {
+    let mut numbers: FrozenVecIn<&TypedArena<u64>, Own<u64>> = FrozenVecIn::new(alloc, arena);
+    numbers.push(Own(7))?;
+    numbers.push_get(Own(8))
+}
+
+/// Returns a list that is copied into an arena.
+fn copied_list<'a>(alloc: Global, arena: &'a Bump) -> Result<&'a [u64], AllocError> {
+    let mut lists: FrozenVec<'a, Vec<u64>> = FrozenVec::new(alloc, arena);
+    let mut list = Vec::new(alloc);
+    for number in [7, 8, 9] {
+        list.push(number)?;
+    }
+    lists.push_get(list)
+}
+
+#[test]
+fn a_stored_value_was_not_the_one_that_was_passed(rt: HostRuntime) -> Result<(), Fail> {
+    let (alloc, arena) = (rt.alloc(), Bump::new(rt.alloc()));
+    let (texts, numbers) = (TypedArena::new(alloc)?, TypedArena::new(alloc)?);
+    assert_eq!(rt; moved_text(alloc, &texts)?, " fox ");
+    assert_eq!(rt; *moved_number(alloc, &numbers)?, 8);
+    assert_eq!(rt; copied_list(alloc, &arena)?, [7, 8, 9].as_slice());
+    let mut borrowed: FrozenVec<'_, &u64> = FrozenVec::new(alloc, &arena);
+    assert_eq!(rt; borrowed.push_get(&5).ok(), Some(&5));
+    Ok(())
+}
