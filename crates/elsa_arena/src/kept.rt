@@ -40,13 +40,13 @@ impl<X: Fits> Kept<X> {
         requires { X.fits self.now value }
         ensures { X.fits self.now result }
     {
-        let index = &raw const self.value as *mut X;
+        let address = &raw const self.value as *mut X;
         // SAFETY: no reference to the value exists, as no call returns one: `replace` moves it out
         // and in. A type with `shr_at` counts as an `UnsafeCell`, so the write through `&self` is
         // one to a cell.
         unsafe {
-            let old = index.read();
-            index.write(value);
+            let old = address.read();
+            address.write(value);
             old
         }
     }

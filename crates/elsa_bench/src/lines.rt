@@ -3,11 +3,9 @@
 ghost use Rattle.std.specs.Prelude.{◌≡◌, ◌<◌};
 
 use bumpalo::Bump;
-use elsa::append_map::AppendMap;
 use elsa::interner::{ShardedInterner, SharedInterner};
 use elsa::sync::LockFreeFrozenMap;
 use elsa::{FrozenAppendMap, Own, SeededState};
-use elsa_vec::stable::KeepsText;
 use std::alloc::{AllocError, Global};
 use std::hash::{BuildHasher, BuildHasherDefault, FoldHasher};
 use std::io::{self, BufRead, BufReader, Input};
@@ -45,20 +43,12 @@ fn read_texts<R: Input>(rt: &R, alloc: Global, count: usize) -> io::Result<Vec<S
 /// then has for the texts. A new text is copied into the arena.
 fn insertions<'a, S: BuildHasher + Drop>(
     map: &mut FrozenAppendMap<'a, &'a str, Own<u64>, S>,
-    arena: &'a Bump,
     texts: &[String],
 ) -> Result<u64, AllocError> {
     let mut sum = 0u64;
     let mut index = 0u64;
     for text in texts {
-        let value = match map.get(text.as_str()) {
-            Some(found) => *found,
-            None => {
-                let kept = arena.keep_text(text.as_str())?;
-                *map.insert(kept, Own(index))?
-            }
-        };
-        sum = sum.wrapping_add(value);
+        sum = sum.wrapping_add(*map.insert_text(text.as_str(), Own(index))?);
         index = index.wrapping_add(1);
     }
     Ok(sum)
@@ -72,10 +62,9 @@ fn timed_insertions<R: Clock, S: BuildHasher + Drop>(
     texts: &[String],
 ) -> io::Result<(u128, u64)> {
     let arena = Bump::new(alloc);
-    let table = AppendMap::with_hasher(alloc, hash_builder);
-    let mut map = FrozenAppendMap::over(alloc, &arena, table);
+    let mut map = FrozenAppendMap::with_hasher(alloc, &arena, hash_builder);
     let start = Instant::now(rt)?;
-    let sum = insertions(&mut map, &arena, texts)?;
+    let sum = insertions(&mut map, texts)?;
     Ok((start.elapsed(rt)?.as_nanos(), sum))
 }
 

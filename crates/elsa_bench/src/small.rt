@@ -3,11 +3,9 @@
 use crate::draws::{Draws, key};
 use crate::tables::{Numbers, Table, Texts, made_texts};
 use bumpalo::Bump;
-use elsa::append_map::AppendMap;
 use elsa::{
     FrozenAppendMap, FrozenBTreeMap, FrozenIndexMap, FrozenMap, FrozenVec, Own, TypedArena, cell,
 };
-use elsa_vec::stable::KeepsText;
 use std::alloc::{AllocError, Global};
 use std::io;
 use std::rt::Clock;
@@ -57,39 +55,10 @@ trait Whole: Table {
     fn copy(&self) -> Result<u64, AllocError>;
 }
 
-/// A map for large collections, with texts as keys that are copied into the arena.
-#[derive(Drop)]
-struct AppendTexts<'a, 't> {
-    map: FrozenAppendMap<'a, &'a str, Own<u64>>,
-    arena: &'a Bump,
-    texts: &'t [String],
-}
-
 /// A map that grows through `&self`.
 #[derive(Drop)]
 struct CellNumbers<M> {
     map: M,
-}
-
-impl<'a, 't> Table for AppendTexts<'a, 't> {
-    #[inline(always)]
-    fn insert(&mut self, index: usize) -> Result<u64, AllocError> {
-        let Some(text) = self.texts.get(index) else {
-            return Ok(0);
-        };
-        let text = text.as_str();
-        if let Some(found) = self.map.get(text) {
-            return Ok(*found);
-        }
-        let kept = self.arena.keep_text(text)?;
-        Ok(*self.map.insert(kept, Own(index as u64))?)
-    }
-
-    #[inline(always)]
-    fn get(&self, index: usize) -> Option<u64> {
-        let text = self.texts.get(index)?;
-        self.map.get(text.as_str()).copied()
-    }
 }
 
 impl Table for CellNumbers<cell::FrozenMap<u64, u64>> {
@@ -212,19 +181,12 @@ fn filled(alloc: Global, kind: Kind, texts: &[String], count: usize) -> Result<u
             fill(Texts { map, texts }, count)
         }
         Kind::AppendMap => {
-            let map = FrozenAppendMap::over(alloc, &arena, AppendMap::new(alloc));
+            let map = FrozenAppendMap::new(alloc, &arena);
             fill(Numbers { map }, count)
         }
         Kind::AppendMapText => {
-            let map = FrozenAppendMap::over(alloc, &arena, AppendMap::new(alloc));
-            fill(
-                AppendTexts {
-                    map,
-                    arena: &arena,
-                    texts,
-                },
-                count,
-            )
+            let map = FrozenAppendMap::new(alloc, &arena);
+            fill(Texts { map, texts }, count)
         }
         Kind::IndexMap => fill(
             Numbers {
@@ -382,17 +344,12 @@ pub fn timed<R: Clock>(
             timed_look_ups(rt, Texts { map, texts }, call, turns, count)
         }
         Kind::AppendMap => {
-            let map = FrozenAppendMap::over(alloc, &arena, AppendMap::new(alloc));
+            let map = FrozenAppendMap::new(alloc, &arena);
             timed_look_ups(rt, Numbers { map }, call, turns, count)
         }
         Kind::AppendMapText => {
-            let map = FrozenAppendMap::over(alloc, &arena, AppendMap::new(alloc));
-            let table = AppendTexts {
-                map,
-                arena: &arena,
-                texts,
-            };
-            timed_look_ups(rt, table, call, turns, count)
+            let map = FrozenAppendMap::new(alloc, &arena);
+            timed_look_ups(rt, Texts { map, texts }, call, turns, count)
         }
         Kind::IndexMap => {
             let map = FrozenIndexMap::new(alloc, &arena);

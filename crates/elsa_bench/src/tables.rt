@@ -72,6 +72,22 @@ impl<'a, 't> Table for Texts<'t, FrozenMap<'a, &'a str, Own<u64>>> {
     }
 }
 
+impl<'a, 't> Table for Texts<'t, FrozenAppendMap<'a, &'a str, Own<u64>>> {
+    #[inline(always)]
+    fn insert(&mut self, index: usize) -> Result<u64, AllocError> {
+        let Some(text) = self.texts.get(index) else {
+            return Ok(0);
+        };
+        Ok(*self.map.insert_text(text.as_str(), Own(index as u64))?)
+    }
+
+    #[inline(always)]
+    fn get(&self, index: usize) -> Option<u64> {
+        let text = self.texts.get(index)?;
+        self.map.get(text.as_str()).copied()
+    }
+}
+
 impl<'a, 't> Table for Texts<'t, FrozenBTreeMap<'a, &'a str, Own<u64>>> {
     #[inline(always)]
     fn insert(&mut self, index: usize) -> Result<u64, AllocError> {

@@ -1,15 +1,16 @@
 -- What the indices of a map's table show of its entries.
-use Rattle.std.proofs.Common.{◌≡◌, ℕ, ◌<◌, Bool, true, List, length, get_or, position, slice_get, Some, ap, subst, sym, ◌∙◌, inl, inr, arith}
-use Rattle.std.proofs.lemmas.List.{length-map, get_or-map}
+use Rattle.std.proofs.Common.{◌≡◌, ℕ, ◌<◌, ◌++◌, ◌∷◌, [], Bool, true, List, length, get_or, position, slice_get, None, Some, ap, subst, sym, ◌∙◌, inl, inr, arith}
+use Rattle.std.proofs.lemmas.List.{length-append, length-map, get_or-map}
 use Rattle.std.proofs.lemmas.List.Elements.{AllZip-get_or, length_all_zip}
 use Rattle.std.proofs.lemmas.Option.{none-some, same_Some, slice_get_cases, slice_get_within, slice_get-get_or, get_or_from_slice_get}
 use Rattle.std.proofs.lemmas.Map.Keys.{IsDistinct-from_apart, apart_from_distinct}
 use Rattle.std.specs.Cmp.{IsEquivalence}
 use Rattle.std.specs.Map.{keys_of, lookup, lookup_key}
 use Rattle.std.specs.Option.{option_map}
-use Rattle.std_collections.proofs.HashLookup.{get_key, get_value}
-use Rattle.indexmap.proofs.MapLemmas.{Found-position}
+use Rattle.std_collections.proofs.HashLookup.{Updated-push, get_key, get_value}
+use Rattle.indexmap.proofs.MapLemmas.{Found-position, Missing-position}
 use Rattle.elsa_tables.specs.Insertions.{IsCloneOf}
+use Rattle.elsa_tables.specs.Tables.{AddsNew}
 use Rattle.elsa_buckets.specs.Table.{Entries, Has}
 use Rattle.elsa_buckets.specs.Placed.{IsPlaced}
 
@@ -33,6 +34,12 @@ pub key_there : {K X : Type 0} (test : K → Bool) (es : List (K × X)) (i : ℕ
 key_there {K} {X} test es i at d =
     let f = Found-position test es i at in
     f.key ∙ get_key es i ∙ ap (option_map (λ (e : K × X). e.0)) (slice_get-get_or es i d f.within)
+
+-- What an entry adds that is appended for an absent key.
+pub appended : {K X : Type 0} (same : K → K → Bool) → IsEquivalence same → (es : List (K × X)) (key : K) (value : X) → position (same key) (keys_of es) ≡ None → AddsNew same es (es ++ (key, value) ∷ []) key value
+appended same laws es key value none =
+    let updated = Updated-push same laws es key value (Missing-position (same key) es none).absent in
+    (updated.1, updated.0, omega (arith, length-append es ((key, value) ∷ [])))
 
 -- The table of keys is for keys that equal them, index by index.
 placed_alike : {K : Type 0} (same : K → K → Bool) (laws : IsEquivalence same) (hash : K → ℕ) (table : Entries) (ks cs : List K) → ((x y : K) → same x y ≡ true → hash x ≡ hash y) → IsPlaced same hash table ks → length ks ≡ length cs

@@ -1,16 +1,17 @@
 //! [`AppendMap`]: entries in a list, whose indices a hash table finds by the hash of their keys.
-ghost use Rattle.std.specs.Prelude.{◌≡◌, ◌↔◌, ◌++◌, ◌∷◌, ◌+◌, ◌<◌, ◌≤◌, [], ℕ, None, Some, IfErr, IfOk, IfSome, IsOk, IsTrue, OnErr, length, position, slice_get, slice_index_or};
+ghost use Rattle.std.specs.Prelude.{◌≡◌, ◌↔◌, ◌++◌, ◌∷◌, ◌+◌, ◌<◌, ◌≤◌, [], ℕ, None, Ok, Err, Some, true, IfErr, IfOk, IfSome, IsOk, IsTrue, OnErr, length, position, slice_get, slice_index_or};
 ghost use Rattle.std.specs.List.{IsDistinct};
 ghost use Rattle.std.specs.Map.{keys_of, lookup, lookup_key};
 ghost use Rattle.std.specs.Option.{option_map};
 ghost use Rattle.elsa_tables.specs.Insertions.{IsCloneOf};
+ghost use Rattle.elsa_tables.specs.Tables.{AddsNew, IfValue, was_present};
 ghost use Rattle.elsa_buckets.specs.Room.{most_entries, IfRoomFault, IsFull};
 ghost use Rattle.elsa_buckets.specs.Placed.{key_hash, IsPlaced};
 ghost use Rattle.elsa_buckets.specs.Table.{IsVacancy};
 
 use crate::query::{self, Missing, Query};
 use crate::table::IndexTable;
-use elsa_tables::{IntoPairs, Put, Refusal, Table};
+use elsa_tables::{Inserted, IntoPairs, Put, Refusal, Table};
 use std::alloc::{AllocError, Allocator, Global};
 use std::error::Error;
 use std::fmt::{self, Debug, Formatter, Write};
@@ -221,6 +222,73 @@ impl<K: Eq + Hash, B, S: BuildHasher, A: Allocator + Copy> AppendMap<K, B, S, A>
             return Err(RoomFault::Memory);
         };
         Ok(())
+    }
+
+    /// Looks up the key that `query` finds, and appends the entry that `make` returns if the map
+    /// has no such key.
+    ///
+    /// `make` returns a key that `query` finds, and its value. It is called only if the map has no
+    /// such key, after the map has room for it. If the map has the key, the call allocates nothing.
+    ///
+    /// # Errors
+    /// Fails only for an absent key: with `Refusal::Room` if an allocation fails or the map has
+    /// 2^32 - 1 entries, and with `Refusal::Value` if `make` fails. The entries are then unchanged.
+    ///
+    /// # Cost
+    /// One hash and one search.
+    #[inline(always)]
+    pub fn insert_by<Q: Query<K>, E, F: FnOnce() -> Result<(K, B), E> + Drop>(
+        &mut self,
+        query: Q,
+        make: F,
+    ) -> Result<Inserted<B>, Refusal<E>>
+    where
+        K: Drop,
+        B: Copy,
+        requires callable { lookup (Q.finds query) self.old ≡ None → F.pre make }
+        requires found { (k : K) (b : B) → F.post make (Ok (k, b)) → Q.finds query k ≡ true }
+
+        // A present key keeps its value. Otherwise the closure's pair is appended.
+        ensures present { (x : B) → lookup (Q.finds query) self.old ≡ Some x →
+            (result ≡ Ok (was_present x)) × (self.new ≡ self.old) }
+        ensures value_after { IfOk result (λ r. lookup (Q.finds query) self.new ≡ Some r.value) }
+        ensures added { lookup (Q.finds query) self.old ≡ None → IfOk result (λ r.
+            (k : K) × F.post make (Ok (k, r.value)) × (r.is_new ≡ true)
+            × AddsNew K.eq self.old self.new k r.value × (self.new ≡ self.old ++ (k, r.value) ∷ [])) }
+
+        // A failed call changes nothing, and has its cause.
+        ensures refused { OnErr result (
+            (self.new ≡ self.old) × (lookup (Q.finds query) self.old ≡ None)) }
+        ensures cause { IfErr result (λ e. IfValue e (λ c. F.post make (Err c))) }
+    {
+        let pairs = self.pairs.as_slice();
+        let absent = match search(pairs, &self.table, &self.hash_builder, query) {
+            Ok(index) => {
+                return Ok(Inserted {
+                    value: pairs[index].1,
+                    index: (),
+                    is_new: false,
+                });
+            }
+            Err(absent) => absent,
+        };
+        let Ok(()) = self.pairs.reserve(1) else {
+            return Err(Refusal::Room);
+        };
+        let Ok(room) = self.table.reserve(absent.hash, absent.end) else {
+            return Err(Refusal::Room);
+        };
+        let (key, value) = match make() {
+            Ok(entry) => entry,
+            Err(e) => return Err(Refusal::Value(e)),
+        };
+        self.table.add(absent.hash, room);
+        self.pairs.push_reserved((key, value));
+        Ok(Inserted {
+            value,
+            index: (),
+            is_new: true,
+        })
     }
 }
 

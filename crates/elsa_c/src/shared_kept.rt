@@ -163,12 +163,12 @@ impl SharedKept {
         let map = &self.names;
         let mut names = MapHandle::of(map, replace(&mut self.pass, map.pass()));
         names.len();
-        let index = match text_at(&names, number) {
+        let found = match text_at(&names, number) {
             Some(text) => Some(address_of(text)),
             None => None,
         };
         self.pass = names.into_pass();
-        index
+        found
     }
 
     /// Returns the number of texts, all of which the handle has then observed. It takes no lock and

@@ -1,6 +1,8 @@
 //! The collections, each with the calls of the script.
+ghost use Rattle.std.specs.Prelude.{◌≡◌, IfOk};
+
 use crate::grows::Grows;
-use bumpalo::Bump;
+use elsa::append_map::AppendMap;
 use elsa::interner::Interner;
 use elsa::{
     FrozenAppendMap, FrozenBTreeMap, FrozenBTreeSet, FrozenIndexMap, FrozenIndexSet, FrozenMap,
@@ -91,6 +93,42 @@ impl<A: Allocator + Copy> Grows for FrozenAppendMap<'_, u64, Own<u64>, Hasher, A
     fn count(&self) -> usize {
         self.len()
     }
+
+    fn has_index(&self, key: u64, index: usize) -> bool {
+        match self.get_full(&key) {
+            Some((at, kept, _)) => at == index && kept == key,
+            None => false,
+        }
+    }
+}
+
+/// An owned map has each entry once, with its index.
+impl<A: Allocator + Copy> Grows for AppendMap<u64, u64, Hasher, A> {
+    fn insert(&mut self, key: u64, value: u64) -> Result<u64, AllocError> {
+        let make = || -> Result<(u64, u64), AllocError>
+            ensures { IfOk result (λ entry. entry.0 ≡ key) }
+        { Ok((key, value)) };
+        match self.insert_by(&key, make) {
+            Ok(done) => Ok(done.value),
+            Err(_) => Err(AllocError),
+        }
+    }
+
+    fn get(&self, key: u64) -> Option<u64> {
+        let (_, _, value) = self.get_full(&key)?;
+        Some(*value)
+    }
+
+    fn count(&self) -> usize {
+        self.entries().len()
+    }
+
+    fn has_index(&self, key: u64, index: usize) -> bool {
+        let Some((at, _, _)) = self.get_full(&key) else {
+            return false;
+        };
+        at == index && self.entries()[index].0 == key
+    }
 }
 
 impl<A: Allocator + Copy> Grows for FrozenIndexSet<'_, Own<u64>, Hasher, A> {
@@ -180,6 +218,45 @@ impl<A: Allocator + Copy> Grows for Interner<'_, Hasher, A> {
         match std::str::from_utf8(&letters) {
             Ok(name) => self.find(name) == Some(index),
             Err(_) => false,
+        }
+    }
+}
+
+/// A map whose keys are texts that end with the call which inserts them.
+#[derive(Drop)]
+pub struct Texts<M> {
+    pub map: M,
+}
+
+impl<'a, A: Allocator + Copy> Grows for Texts<FrozenAppendMap<'a, &'a str, Own<u64>, Hasher, A>> {
+    fn insert(&mut self, key: u64, value: u64) -> Result<u64, AllocError> {
+        let letters = letters(key);
+        let Ok(name) = std::str::from_utf8(&letters) else {
+            return Err(AllocError);
+        };
+        Ok(*self.map.insert_text(name, Own(value))?)
+    }
+
+    fn get(&self, key: u64) -> Option<u64> {
+        let letters = letters(key);
+        let Ok(name) = std::str::from_utf8(&letters) else {
+            return None;
+        };
+        self.map.get(name).copied()
+    }
+
+    fn count(&self) -> usize {
+        self.map.len()
+    }
+
+    fn has_index(&self, key: u64, index: usize) -> bool {
+        let letters = letters(key);
+        let Ok(name) = std::str::from_utf8(&letters) else {
+            return false;
+        };
+        match self.map.get_full(name) {
+            Some((at, kept, _)) => at == index && kept == name,
+            None => false,
         }
     }
 }

@@ -1,8 +1,9 @@
 //! Each collection with a script of a random size, and with reserved room.
-use crate::kinds::Hasher;
+use crate::kinds::{Hasher, Texts};
 use crate::room::first_without_room;
 use crate::script::{Draws, is_right};
 use bumpalo::Bump;
+use elsa::append_map::AppendMap;
 use elsa::interner::Interner;
 use elsa::{
     FrozenAppendMap, FrozenBTreeMap, FrozenBTreeSet, FrozenIndexMap, FrozenIndexSet, FrozenMap,
@@ -33,10 +34,12 @@ enum Kind {
     Interner,
     BTreeMap,
     BTreeSet,
+    OwnedAppendMap,
+    AppendMapTexts,
 }
 
 /// The collections whose capacity can be reserved, and then the others.
-const KINDS: [Kind; 8] = [
+const KINDS: [Kind; 10] = [
     Kind::Vec,
     Kind::Map,
     Kind::IndexMap,
@@ -45,6 +48,8 @@ const KINDS: [Kind; 8] = [
     Kind::Interner,
     Kind::BTreeMap,
     Kind::BTreeSet,
+    Kind::OwnedAppendMap,
+    Kind::AppendMapTexts,
 ];
 
 /// Returns whether a new collection has the results of a plain list.
@@ -94,6 +99,16 @@ fn kind_is_right(
         Kind::BTreeSet => {
             let mut grown: FrozenBTreeSet<'_, u64, _> = FrozenBTreeSet::new(heap, arena);
             is_right(alloc, heap, &mut grown, seed, size)
+        }
+        Kind::OwnedAppendMap => {
+            let mut grown: AppendMap<u64, u64, Hasher, _> = AppendMap::new(heap);
+            is_right(alloc, heap, &mut grown, seed, size)
+        }
+        Kind::AppendMapTexts => {
+            let map: FrozenAppendMap<'_, &str, Own<u64>, Hasher, _> = FrozenAppendMap::new(
+                heap, arena,
+            );
+            is_right(alloc, heap, &mut Texts { map }, seed, size)
         }
     }
 }

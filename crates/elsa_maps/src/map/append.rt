@@ -1,18 +1,19 @@
 //! The map for large collections.
-ghost use Rattle.std.specs.Prelude.{◌≡◌, ◌↔◌, ◌+◌, ◌<◌, ◌≤◌, [], Some, IfErr, IfSome, IsOk, IsTrue, length, position, slice_get};
+ghost use Rattle.std.specs.Prelude.{◌≡◌, ◌↔◌, ◌++◌, ◌∷◌, ◌+◌, ◌<◌, ◌≤◌, [], ℕ, List, None, Ok, Some, true, IfErr, IfOk, IfSome, IsOk, IsTrue, OnErr, length, position, slice_get};
+ghost use Rattle.std.specs.Borrow.{Bor};
 ghost use Rattle.std.specs.Iterator.{ExtendsWithItems, IsFinite};
 ghost use Rattle.std.specs.List.{IsDistinct};
 ghost use Rattle.std.specs.Map.{keys_of, lookup};
 ghost use Rattle.std.specs.Option.{option_map};
 ghost use Rattle.elsa_tables.specs.Insertions.{Grows};
-ghost use Rattle.elsa_maps.specs.FirstWins.{AppendsFirsts, HoldsFirst};
+ghost use Rattle.elsa_maps.specs.FirstWins.{AppendsFirsts, HoldsFirst, IsRefused, value_at};
 ghost use Rattle.elsa_buckets.specs.Room.{most_entries, IfRoomFault, IsFull};
 
 use super::Frozen;
 use bumpalo::Bump;
 use elsa_buckets::append_map::{AppendMap, RoomFault};
 use elsa_buckets::query::Query;
-use elsa_vec::stable::StableDeref;
+use elsa_vec::stable::{KeepsText, StableDeref};
 use std::alloc::{AllocError, Allocator, Global};
 use std::hash::{BuildHasher, BuildHasherDefault, FoldHasher, Hash};
 
@@ -162,5 +163,97 @@ where
         // Keys may be present, so only a failed insertion is an error.
         let _room = self.reserve(pairs.size_hint().0);
         self.insert_all(pairs)
+    }
+}
+
+/// An arena that stores a key for a query.
+trait KeepsKey<Q, K>: Copy {
+    // Which keys it may store for a query.
+    ghost keeps: { Q → K → Type 0 };
+
+    /// Stores the key.
+    fn keep_key(self, query: Q) -> Result<K, AllocError>
+        ensures { IfOk result (keeps query) };
+}
+
+impl<'a, 'q, R: KeepsText<'a>> KeepsKey<&'q str, &'a str> for R {
+    ghost keeps = { λ q k. k.now ≡ q.now };
+
+    fn keep_key(self, query: &'q str) -> Result<&'a str, AllocError> {
+        self.keep_text(query)
+    }
+}
+
+/// Inserts the value under the key that the arena stores for `query`, unless the map has a key that
+/// the query finds.
+fn insert_kept<R, K, V, S, A, Q>(
+    map: &mut AppendMap<K, V::Borrow, S, A>,
+    arena: R,
+    query: Q,
+    value: V,
+) -> Result<V::Borrow, AllocError>
+where
+    R: KeepsKey<Q, K>,
+    K: Eq + Hash + Drop,
+    V: StableDeref<R>,
+    S: BuildHasher,
+    A: Allocator + Copy,
+    Q: Query<K>,
+    requires found { (k : K) → R.keeps query k → Q.finds query k ≡ true }
+    ensures present { (x : V.Borrow) → lookup (Q.finds query) map.old ≡ Some x →
+        (result ≡ Ok x) × (map.new ≡ map.old) }
+    ensures value_after { IfOk result (λ b. lookup (Q.finds query) map.new ≡ Some b) }
+    ensures added { lookup (Q.finds query) map.old ≡ None → IfOk result (λ b.
+        (V.shown b ≡ V.target value) × (k : K) × R.keeps query k
+        × (map.new ≡ map.old ++ (k, b) ∷ [])) }
+    ensures refused { OnErr result (
+        (map.new ≡ map.old) × (lookup (Q.finds query) map.old ≡ None)) }
+{
+    let make = || -> Result<(K, V::Borrow), AllocError>
+        ensures { IfOk result (λ p. R.keeps query p.0 × (V.shown p.1 ≡ V.target value)) }
+    {
+        let key = arena.keep_key(query)?;
+        let Ok(borrow) = value.place(arena) else {
+            return Err(AllocError);
+        };
+        Ok((key, borrow))
+    };
+    let Ok(done) = map.insert_by(query, make) else {
+        return Err(AllocError);
+    };
+    Ok(done.value)
+}
+
+impl<'a, R: KeepsText<'a>, V, S: BuildHasher, A> FrozenAppendMapIn<R, &'a str, V, S, A>
+where
+    V: StableDeref<R>,
+    A: Allocator + Copy,
+{
+    /// Appends an entry with the text as its key unless the map has that key, and returns the value
+    /// that the text then has: [`insert`](Frozen::insert) for a text of any lifetime.
+    ///
+    /// If the map has the text, the given value is dropped and nothing is allocated. Otherwise the
+    /// list of pairs and the buckets grow, and then the text is copied into the arena.
+    ///
+    /// # Errors
+    /// Fails if the text is new, and an allocation fails or the map has 2^32 - 1 entries. The map
+    /// is then unchanged. If the arena has room for the text but not for the value, it keeps an
+    /// unused copy of the text.
+    ///
+    /// # Cost
+    /// One hash and one search.
+    pub fn insert_text(&mut self, key: &str, value: V) -> Result<V::Borrow, AllocError>
+        ensures present { (x : V.Borrow) →
+            value_at ⟦<&'a str as PartialEq>⟧.eq self.old key.entry ≡ Some x →
+            (result ≡ Ok x) × (self.new ≡ self.old) }
+        ensures value_after { IfOk result (λ b.
+            value_at ⟦<&'a str as PartialEq>⟧.eq self.new key.entry ≡ Some b) }
+        ensures added { value_at ⟦<&'a str as PartialEq>⟧.eq self.old key.entry ≡ None →
+            IfOk result (λ b. (V.shown b ≡ V.target value) × (k : Bor (List ℕ))
+            × (k.now ≡ key.now) × (self.new ≡ self.old ++ (k, b) ∷ [])) }
+        ensures refused { OnErr result (
+            IsRefused ⟦<&'a str as PartialEq>⟧.eq self.old key.entry self.new) }
+    {
+        insert_kept(&mut self.table, self.arena, key, value)
     }
 }

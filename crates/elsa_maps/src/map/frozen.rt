@@ -263,10 +263,10 @@ where
         ensures refused { OnErr result (IsRefused T.same self.old key self.new) }
     {
         let arena = self.arena;
-        let index = |_key: &K| -> Result<V::Borrow, V>
+        let store = |_key: &K| -> Result<V::Borrow, V>
             ensures { IfOk result (λ b. V.shown b ≡ V.target value) }
         { value.place(arena) };
-        let Ok(done) = insert_with(&mut self.table, key, index) else {
+        let Ok(done) = insert_with(&mut self.table, key, store) else {
             return Err(AllocError);
         };
         Ok((done.value, done.is_new))
@@ -343,14 +343,14 @@ where
         ensures refused { OnErr result (IsRefused T.same self.old key self.new) }
     {
         let to = self.arena;
-        let index = |_key: &K| -> Result<V::Borrow, V>
+        let store = |_key: &K| -> Result<V::Borrow, V>
             requires { F.pre make }
             ensures { IfOk result (λ b. (v : V) × F.post make v × (V.shown b ≡ V.target v)) }
         {
             let value = make();
             value.place(to)
         };
-        let Ok(done) = insert_with(&mut self.table, key, index) else {
+        let Ok(done) = insert_with(&mut self.table, key, store) else {
             return Err(AllocError);
         };
         Ok(done.value)
@@ -384,7 +384,7 @@ where
         ensures cause { IfErr result (λ e. IfCause e (λ c. F.post make (Err c))) }
     {
         let to = self.arena;
-        let index = |_key: &K| -> Result<V::Borrow, InsertFault<E>>
+        let store = |_key: &K| -> Result<V::Borrow, InsertFault<E>>
             requires { F.pre make }
             ensures made { IfOk result (λ b.
                 (v : V) × F.post make (Ok v) × (V.shown b ≡ V.target v)) }
@@ -399,7 +399,7 @@ where
             };
             Ok(borrow)
         };
-        match insert_with(&mut self.table, key, index) {
+        match insert_with(&mut self.table, key, store) {
             Ok(done) => Ok(done.value),
             Err(Refusal::Room) => Err(InsertFault::Memory),
             Err(Refusal::Value(fault)) => Err(fault),

@@ -1,11 +1,10 @@
-use Rattle.std.proofs.Common.{◌≡◌, ◌++◌, ◌∷◌, [], List, None, position, refl, ap, subst, sym, ◌∙◌, arith}
+use Rattle.std.proofs.Common.{◌≡◌, ◌++◌, ◌∷◌, [], List, None, position, refl, ap, subst, sym, ◌∙◌}
 use Rattle.std.specs.Map.{keys_of, lookup}
 use Rattle.std.specs.Option.{unwrap_or}
-use Rattle.std.proofs.lemmas.List.{length-append}
-use Rattle.std_collections.proofs.HashLookup.{Updated-push, keys_push}
-use Rattle.indexmap.proofs.MapLemmas.{Missing-position}
+use Rattle.std_collections.proofs.HashLookup.{keys_push}
 use Rattle.elsa_tables.specs.Tables.{AddsNew}
 use Rattle.elsa_buckets.specs.Placed.{key_hash, IsPlaced}
+use Rattle.elsa_buckets.proofs.AppendLemmas.{appended}
 use Rattle.elsa_buckets.proofs.PlacedLemmas.{placed_put, placed_same}
 use Rattle.elsa_buckets.proofs.append_map.AppendMapTable.put_with.Goals as goal
 
@@ -69,6 +68,5 @@ returns-clause-added g c absent =
     let last : c.push_reserved.new.self.items ≡ es ++ (c.args.key, v) ∷ [] =
     c.push_reserved.ensures.items ∙ ap (λ l. l ++ (c.args.key, v) ∷ []) (c.in-Ok-reserve.ensures.items ∙ c.self.view_is) in
     let none = subst (λ (l : List (g.row.K.Denot × g.row.B.Denot)). position (same c.args.key) (keys_of l) ≡ None) (c.as_slice-pairs.ensures.value ∙ c.self.view_is) c.in-Err.ensures.absent in
-    let updated = Updated-push same g.met.K.Eq.laws es c.args.key v (Missing-position (same c.args.key) es none).absent in
-    let adds : AddsNew same es (es ++ (c.args.key, v) ∷ []) c.args.key v = (updated.1, updated.0, omega (arith, length-append es ((c.args.key, v) ∷ []))) in
+    let adds = appended same g.met.K.Eq.laws es c.args.key v none in
     (v, (_, c.in-Ok-make.ensures, refl), subst (λ l. AddsNew same es l c.args.key v) (sym last) adds, last)
