@@ -1,6 +1,6 @@
 """The rows of bench/run --first-hour: what a user does first, by the number of entries; and the rows of interners that
 threads share. A figure is the median of the ratios of one round, with their quartiles."""
-import os, re, statistics, subprocess, time
+import collections, os, re, statistics, subprocess, time
 
 from job import FREE_MAP, FREE_SHARDS, NAMES, OUR_HASH, Job
 from jobs import all_jobs
@@ -167,6 +167,34 @@ def first_hour(peers, cli, bench, minutes, only=""):
     ends = f"Medians of the ratios of {rounds} rounds, in brackets their quartiles. {loaded(before)}"
     text = table(head, rows_of_uses(small))
     return text + "\n" + table(["You", "With", "ns a call", "Ratio", "The other choice"], whole) * bool(whole) + "\n" + ends
+
+
+class Row(collections.namedtuple("Row", "nanos ratios upstream")):
+    """A row of the published table by size: our nanoseconds, and the ratios to the other choice and to upstream."""
+
+
+def rows_of_page(page):
+    """The rows by size of RESULTS.md, by what the user does and with which type."""
+    rows = {}
+    for line in page.split("<!-- first hour: begin -->")[1].split("<!-- first hour: end -->")[0].split("\n"):
+        cells = [it.strip() for it in line.strip("| ").split("|")]
+        if len(cells) == 5 + len(SIZES) and " / " in cells[2]:
+            ratios = [float(it.split("**")[1]) for it in cells[3:-2]]
+            upstream = [float(it) for it in cells[-1].split(" / ")] if "/" in cells[-1] else []
+            rows[cells[0], cells[1]] = Row([float(it) for it in cells[2].split(" / ")], ratios, upstream)
+    return rows
+
+
+def append_table(page):
+    """The table of a `FrozenAppendMap`, compared with a `FrozenMap`, from the rows of RESULTS.md."""
+    rows, lines = rows_of_page(page), []
+    for does, call, types in USES[:3]:
+        names = [(TYPES[more][0], TYPES[less][0]) for more, less in (("append", "map"), ("append text", "text"))]
+        both = [[ours / other for ours, other in zip(rows[does, more].nanos, rows[does, less].nanos)] for more, less in names]
+        head = "made, filled and dropped" if call == "fill" else f"a look-up of {does.partition('look up ')[2]}"
+        lines.append([f"{head}: numbers as keys; texts", *(f"{number:.2f}; {text:.2f}" for number, text in zip(*both))])
+    title = "Time of a `FrozenAppendMap`, compared with a `FrozenMap`, by the number of keys"
+    return table([title, *(f"{size:,}" for size in SIZES)], lines)
 
 
 def loaded(before):

@@ -143,6 +143,54 @@ class TestFirstHour(unittest.TestCase):
         self.assertEqual(line[3:-2], ["**1.00** (1.00 to 1.00)"] * len(first_hour.SIZES))
 
 
+class TestPagesOfFirstHour(unittest.TestCase):
+    """The pages for users repeat figures of the table by size: they are those of RESULTS.md."""
+
+    page = (root / "bench" / "RESULTS.md").read_text()
+    rows = first_hour.rows_of_page(page)
+
+    def assert_says(self, page, *words):
+        text = (root / page).read_text()
+        for word in words:
+            self.assertIn(word, text, page)
+
+    def ratios(self, does, title):
+        return self.rows[does, title].ratios
+
+    def test_a_row_has_a_figure_for_each_size(self):
+        for row in self.rows.values():
+            self.assertEqual([len(row.nanos), len(row.ratios)], [len(first_hour.SIZES)] * 2)
+
+    def test_the_guide_compares_both_hashed_maps_as_published(self):
+        self.assert_says("docs/guide/types.md", first_hour.append_table(self.page))
+
+    def test_the_guide_says_what_a_look_up_takes_as_published(self):
+        row = self.rows["look up a present key", "`FrozenMap`"]
+        nanos = f"{min(row.nanos):.0f} to {max(row.nanos):.0f} ns with 10 to 10,000 numbers"
+        self.assert_says("docs/guide/README.md", f"{nanos}, {span(row.ratios, 1)} times that of hashbrown")
+
+    def test_the_readme_says_what_is_slower_as_published(self):
+        fill, get, absent = "make a memo map, fill it, drop it", "look up a present key", "look up an absent key"
+        cell, texts, tree = "`cell::FrozenMap`", "`FrozenMap`, texts", "`cell::FrozenBTreeMap`"
+        upstream = [span(self.rows[does, cell].upstream) for does in (get, absent)]
+        trees = [span(self.ratios(does, tree)) for does in (ORDERED_FILL, "look up in an ordered map")]
+        first, *more = self.ratios("make an arena of numbers, fill it, drop it", "`TypedArena<u64>`")
+        self.assert_says(
+            "README.md",
+            f"| {cell}, get, 10 to 10,000 keys | {upstream[0]}; absent {upstream[1]} |",
+            f"10 to 10,000 texts: filled; get | {span(self.ratios(fill, texts))}; {span(self.ratios(get, texts))} |",
+            f"| {tree}, 10 to 10,000 keys: filled; get | {'; '.join(trees)} |",
+            f"filled with 10; with 100 to 10,000 | {first:.2f}; {span(more)} |",
+        )
+
+
+ORDERED_FILL = "make an ordered map, fill it in random order, drop it"
+
+
+def span(figures, digits=2):
+    return f"{min(figures):.{digits}f} to {max(figures):.{digits}f}"
+
+
 def page_of(*rows):
     """A page with the tables of these rows."""
     return tables.tables(rows)
