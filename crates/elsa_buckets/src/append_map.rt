@@ -4,7 +4,7 @@ ghost use Rattle.std.specs.List.{IsDistinct};
 ghost use Rattle.std.specs.Map.{keys_of, lookup, lookup_key};
 ghost use Rattle.std.specs.Option.{option_map};
 ghost use Rattle.elsa_tables.specs.Insertions.{IsCloneOf};
-ghost use Rattle.elsa_tables.specs.Tables.{AddsNew, IfValue, was_present};
+ghost use Rattle.elsa_tables.specs.Tables.{AddsNew, IfValue, was_present_at};
 ghost use Rattle.elsa_buckets.specs.Room.{most_entries, IfRoomFault, IsFull};
 ghost use Rattle.elsa_buckets.specs.Placed.{key_hash, IsPlaced};
 ghost use Rattle.elsa_buckets.specs.Table.{IsVacancy};
@@ -227,8 +227,9 @@ impl<K: Eq + Hash, B, S: BuildHasher, A: Allocator + Copy> AppendMap<K, B, S, A>
     /// Looks up the key that `query` finds, and appends the entry that `make` returns if the map
     /// has no such key.
     ///
-    /// `make` returns a key that `query` finds, and its value. It is called only if the map has no
-    /// such key, after the map has room for it. If the map has the key, the call allocates nothing.
+    /// Returns the value and the index of the entry, and whether it is new. `make` returns a key
+    /// that `query` finds, and its value. It is called only if the map has no such key, after the
+    /// map has room for it. If the map has the key, the call allocates nothing.
     ///
     /// # Errors
     /// Fails only for an absent key: with `Refusal::Room` if an allocation fails or the map has
@@ -241,7 +242,7 @@ impl<K: Eq + Hash, B, S: BuildHasher, A: Allocator + Copy> AppendMap<K, B, S, A>
         &mut self,
         query: Q,
         make: F,
-    ) -> Result<Inserted<B>, Refusal<E>>
+    ) -> Result<Inserted<B, usize>, Refusal<E>>
     where
         K: Drop,
         B: Copy,
@@ -250,10 +251,11 @@ impl<K: Eq + Hash, B, S: BuildHasher, A: Allocator + Copy> AppendMap<K, B, S, A>
 
         // A present key keeps its value. Otherwise the closure's pair is appended.
         ensures present { (x : B) → lookup (Q.finds query) self.old ≡ Some x →
-            (result ≡ Ok (was_present x)) × (self.new ≡ self.old) }
+            (i : ℕ) × (position (Q.finds query) (keys_of self.old) ≡ Some i)
+            × (result ≡ Ok (was_present_at i x)) × (self.new ≡ self.old) }
         ensures value_after { IfOk result (λ r. lookup (Q.finds query) self.new ≡ Some r.value) }
         ensures added { lookup (Q.finds query) self.old ≡ None → IfOk result (λ r.
-            (k : K) × F.post make (Ok (k, r.value)) × (r.is_new ≡ true)
+            (k : K) × F.post make (Ok (k, r.value)) × (r.is_new ≡ true) × (r.index ≡ length self.old)
             × AddsNew K.eq self.old self.new k r.value × (self.new ≡ self.old ++ (k, r.value) ∷ [])) }
 
         // A failed call changes nothing, and has its cause.
@@ -266,7 +268,7 @@ impl<K: Eq + Hash, B, S: BuildHasher, A: Allocator + Copy> AppendMap<K, B, S, A>
             Ok(index) => {
                 return Ok(Inserted {
                     value: pairs[index].1,
-                    index: (),
+                    index,
                     is_new: false,
                 });
             }
@@ -282,11 +284,11 @@ impl<K: Eq + Hash, B, S: BuildHasher, A: Allocator + Copy> AppendMap<K, B, S, A>
             Ok(entry) => entry,
             Err(e) => return Err(Refusal::Value(e)),
         };
-        self.table.add(absent.hash, room);
+        let index = self.table.add(absent.hash, room);
         self.pairs.push_reserved((key, value));
         Ok(Inserted {
             value,
-            index: (),
+            index,
             is_new: true,
         })
     }

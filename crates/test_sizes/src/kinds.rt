@@ -108,9 +108,12 @@ impl<A: Allocator + Copy> Grows for AppendMap<u64, u64, Hasher, A> {
         let make = || -> Result<(u64, u64), AllocError>
             ensures { IfOk result (λ entry. entry.0 ≡ key) }
         { Ok((key, value)) };
-        match self.insert_by(&key, make) {
-            Ok(done) => Ok(done.value),
-            Err(_) => Err(AllocError),
+        let Ok(done) = self.insert_by(&key, make) else {
+            return Err(AllocError);
+        };
+        match self.entries().get(done.index) {
+            Some(entry) if entry.0 == key => Ok(done.value),
+            _ => Ok(u64::MAX),
         }
     }
 

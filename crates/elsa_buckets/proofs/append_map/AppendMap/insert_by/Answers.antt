@@ -1,4 +1,5 @@
-use Rattle.std.proofs.Common.{◌≡◌, ◌++◌, ◌∷◌, [], List, None, Some, IsTrue, position, refl, ap, subst, sym, ◌∙◌}
+use Rattle.std.proofs.Common.{◌≡◌, ◌++◌, ◌∷◌, [], List, None, Some, IsTrue, length, position, refl, ap, subst, sym, ◌∙◌, arith}
+use Rattle.std.proofs.lemmas.List.{length-map}
 use Rattle.std.specs.Map.{keys_of, lookup}
 use Rattle.std_collections.proofs.HashLookup.{keys_push}
 use Rattle.elsa_tables.specs.Tables.{AddsNew}
@@ -16,7 +17,7 @@ invariant_of-self-2 g c =
     let finds = g.Q.Query.finds c.args.query in
     let es = c.self.inside.pairs.items in
     let wide = c.reserve-2.new.self in
-    let after = c.add.new.self in
+    let after = c.add-index.new.self in
     let told = c.in-Ok-reserve-2.ensures in
     let made : IsTrue (finds key) = c.requires.found key value c.in-Ok-make.ensures in
     let alike : finds ≡ same key = λ i other. g.met.Q.Query.respects_eq c.args.query key other made i in
@@ -28,8 +29,8 @@ invariant_of-self-2 g c =
     let before = placed_same _ g.met.K.Eq.laws hash c.self.inside.table wide (keys_of es) c.self.invariant told.indices told.same in
     subst (λ (l : List (g.row.K.Denot × g.row.B.Denot)). IsPlaced same hash after (keys_of l)) (sym last)
     (subst (IsPlaced same hash after) (sym (keys_push es (key, value)))
-    (placed_put _ g.met.K.Eq.laws hash wide after (keys_of es) key c.in-Err.absent.hash c.add.result before hashed
-    c.add.ensures.index c.add.ensures.indices c.add.ensures.adds none))
+    (placed_put _ g.met.K.Eq.laws hash wide after (keys_of es) key c.in-Err.absent.hash c.add-index.result before hashed
+    c.add-index.ensures.index c.add-index.ensures.indices c.add-index.ensures.adds none))
 
 pub returns-clause-added : goal.returns-clause-added
 returns-clause-added g c absent =
@@ -44,7 +45,9 @@ returns-clause-added g c absent =
     let none : position (same key) (keys_of es) ≡ None =
     ap (λ test. position test (keys_of es)) (sym alike)
     ∙ subst (λ (l : List (g.row.K.Denot × g.row.B.Denot)). position finds (keys_of l) ≡ None) (c.as_slice-pairs.ensures.value ∙ c.self.view_is) c.in-Err.ensures.absent in
-    (key, c.in-Ok-make.ensures, refl, subst (λ l. AddsNew same es l key value) (sym last) (appended same g.met.K.Eq.laws es key value none), last)
+    let next : c.add-index.result ≡ length es =
+    omega (arith, c.add-index.ensures.index, c.in-Ok-reserve-2.ensures.indices, c.self.invariant.counted, length-map c.self.inside.pairs.items (λ (e : g.row.K.Denot × g.row.B.Denot). e.0), ap length c.self.view_is) in
+    (key, c.in-Ok-make.ensures, refl, next, subst (λ l. AddsNew same es l key value) (sym last) (appended same g.met.K.Eq.laws es key value none), last)
 
 pub returns-clause-value_after : goal.returns-clause-value_after
 unfolding returns-clause-added
@@ -55,5 +58,5 @@ returns-clause-value_after g c =
     let made : IsTrue (finds key) = c.requires.found key value c.in-Ok-make.ensures in
     let alike : finds ≡ same key = λ i other. g.met.Q.Query.respects_eq c.args.query key other made i in
     let absent = subst (λ l. lookup finds l ≡ None) (c.as_slice-pairs.ensures.value ∙ c.self.view_is) c.in-Err.ensures.no_value in
-    let (_, _, _, adds, _) = returns-clause-added g c absent in
+    let (_, _, _, _, adds, _) = returns-clause-added g c absent in
     ap (λ test. lookup test c.push_reserved.new.self.items) alike ∙ adds.0
