@@ -57,6 +57,33 @@ fn a_map_of_twenty_thousand_entries_finds_each(rt: HostRuntime) -> Result<(), Fa
     let copy = map.as_mut().clone()?;
     map.rebase(copy);
     assert!(rt; has_first(&map, 20_000) && !map.is_full());
+    // The buckets of the clone double.
+    fill(&mut map, 20_000, 50_000)?;
+    assert!(rt; has_first(&map, 50_000) && are_in_order(map.entries()));
+    Ok(())
+}
+
+// Returns the first number of entries below `count` at which a map is full, or has no room for one
+// more of what it reserved.
+fn first_wrong(alloc: Global, arena: &Bump, count: u64) -> Result<Option<u64>, AllocError> {
+    for number in 0..count {
+        let heap = Budget::new(alloc);
+        let mut map: Numbers<'_, &Budget<Global>> = Numbers::new(&heap, arena);
+        if map.reserve(number as usize).is_err() {
+            return Ok(Some(number));
+        }
+        heap.refuse_next(u64::MAX);
+        if fill(&mut map, 0, number).is_err() || map.is_full() {
+            return Ok(Some(number));
+        }
+    }
+    Ok(None)
+}
+
+#[test]
+fn a_map_is_full_or_refuses_a_number_of_entries(rt: HostRuntime) -> Result<(), Fail> {
+    let arena = Bump::new(rt.alloc());
+    assert_eq!(rt; first_wrong(rt.alloc(), &arena, 1100)?, None);
     Ok(())
 }
 

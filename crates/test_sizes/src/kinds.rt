@@ -108,11 +108,13 @@ impl<A: Allocator + Copy> Grows for AppendMap<u64, u64, Hasher, A> {
         let make = || -> Result<(u64, u64), AllocError>
             ensures { IfOk result (λ entry. entry.0 ≡ key) }
         { Ok((key, value)) };
+        let before = self.entries().len();
         let Ok(done) = self.insert_by(&key, make) else {
             return Err(AllocError);
         };
+        let is_new = before < self.entries().len();
         match self.entries().get(done.index) {
-            Some(entry) if entry.0 == key => Ok(done.value),
+            Some(entry) if entry.0 == key && done.is_new == is_new => Ok(done.value),
             _ => Ok(u64::MAX),
         }
     }

@@ -119,6 +119,45 @@ fn a_walk_gives_each_item_once(rt: HostRuntime) -> Result<(), Fail> {
     Ok(())
 }
 
+// Returns the first number that `for` does not visit in its turn.
+fn first_missed(numbers: &FrozenVec<'_, Own<u64>>) -> Option<u64> {
+    let mut next = 0u64;
+    for number in numbers {
+        if *number != next {
+            return Some(next);
+        }
+        next = next.wrapping_add(1);
+    }
+    if next == 100 { None } else { Some(next) }
+}
+
+#[test]
+fn a_read_of_a_hundred_items_missed_one(rt: HostRuntime) -> Result<(), Fail> {
+    let arena = Bump::new(rt.alloc());
+    let mut numbers: FrozenVec<'_, Own<u64>> = FrozenVec::new(rt.alloc(), &arena);
+    for number in 0..100 {
+        numbers.push(Own(number))?;
+    }
+    assert_eq!(rt; first_missed(&numbers), None);
+    assert_eq!(rt; numbers.iter().size_hint(), (100, Some(100)));
+    Ok(())
+}
+
+#[test]
+fn an_item_was_found_that_is_not_there(rt: HostRuntime) -> Result<(), Fail> {
+    let arena = Bump::new(rt.alloc());
+    let mut numbers: FrozenVec<'_, Own<u64>> = FrozenVec::new(rt.alloc(), &arena);
+    for number in 0..100 {
+        numbers.push(Own(number))?;
+    }
+    assert_eq!(rt;
+        [numbers.contains(&99), numbers.contains(&100)],
+        [true, false]
+    );
+    assert_eq!(rt; numbers.as_mut().len(), 100);
+    Ok(())
+}
+
 #[test]
 fn a_cursor_missed_an_item_pushed_during_its_walk(rt: HostRuntime) -> Result<(), Fail> {
     let arena = Bump::new(rt.alloc());
