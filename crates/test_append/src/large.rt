@@ -1,4 +1,6 @@
 //! Maps of thousands of entries, and reserved room.
+ghost use Rattle.std.specs.Prelude.{◌≡◌, IfOk};
+
 use bumpalo::Bump;
 use elsa_buckets::append_map::RoomFault;
 use elsa_maps::map::FrozenAppendMap;
@@ -48,6 +50,33 @@ fn are_in_order(entries: &[(u64, &u64)]) -> bool {
     true
 }
 
+// Returns the first number whose entry an insertion by its key doesn't return.
+fn first_not_returned(map: &mut Numbers<'_, Global>, count: u64) -> Option<u64> {
+    for number in 0..count {
+        let wanted = key(number);
+        let make = || -> Result<(u64, &u64), AllocError>
+            ensures { IfOk result (λ entry. entry.0 ≡ wanted) }
+        { Err(AllocError) };
+        let Ok(done) = map.as_mut().insert_by(&wanted, make) else {
+            return Some(number);
+        };
+        if done.is_new || *done.value != number || done.index as u64 != number {
+            return Some(number);
+        }
+    }
+    None
+}
+
+#[test]
+fn an_insertion_by_a_present_key_returned_another_entry(rt: HostRuntime) -> Result<(), Fail> {
+    let arena = Bump::new(rt.alloc());
+    let mut map = Numbers::new(rt.alloc(), &arena);
+    fill(&mut map, 0, 2000)?;
+    assert_eq!(rt; first_not_returned(&mut map, 2000), None);
+    assert_eq!(rt; first_not_returned(&mut map, 2001), Some(2000));
+    Ok(())
+}
+
 #[test]
 fn a_map_of_twenty_thousand_entries_finds_each(rt: HostRuntime) -> Result<(), Fail> {
     let arena = Bump::new(rt.alloc());
@@ -87,16 +116,17 @@ fn a_map_is_full_or_refuses_a_number_of_entries(rt: HostRuntime) -> Result<(), F
     Ok(())
 }
 
-// Whether `count` insertions after a reservation allocate nothing, though the arena has no limit.
+// Whether insertions after a reservation of `count` allocate nothing up to the capacity, though the
+// arena has no limit.
 fn needs_no_memory(alloc: Global, arena: &Bump, from: u64, count: u64) -> Result<bool, AllocError> {
     let heap = Budget::new(alloc);
-    let end = from.saturating_add(count);
     let mut map: Numbers<'_, &Budget<Global>> = Numbers::new(&heap, arena);
     fill(&mut map, 0, from)?;
     if map.reserve(count as usize).is_err() {
         return Ok(false);
     }
-    let has_room = map.capacity() as u64 >= end;
+    let end = map.capacity() as u64;
+    let has_room = end >= from.saturating_add(count);
     heap.refuse_next(u64::MAX);
     let before = heap.asked();
     let filled = fill(&mut map, from, end);
