@@ -2,8 +2,9 @@
 ghost use Rattle.std.specs.Prelude.{◌≡◌, IfOk};
 
 use bumpalo::Bump;
-use elsa_buckets::append_map::RoomFault;
+use elsa_buckets::append_map::{AppendMap, RoomFault};
 use elsa_maps::map::FrozenAppendMap;
+use elsa_tables::Inserted;
 use elsa_vec::stable::Own;
 use std::alloc::{AllocError, Allocator, Global};
 use std::hash::{BuildHasherDefault, FoldHasher};
@@ -50,30 +51,42 @@ fn are_in_order(entries: &[(u64, &u64)]) -> bool {
     true
 }
 
-// Returns the first number whose entry an insertion by its key doesn't return.
-fn first_not_returned(map: &mut Numbers<'_, Global>, count: u64) -> Option<u64> {
+// Inserts a value by the key of a number.
+fn inserted(
+    map: &mut AppendMap<u64, u64>,
+    number: u64,
+    value: u64,
+) -> Result<Inserted<u64, usize>, AllocError> {
+    let wanted = key(number);
+    let make = || -> Result<(u64, u64), AllocError>
+        ensures { IfOk result (λ entry. entry.0 ≡ wanted) }
+    { Ok((wanted, value)) };
+    match map.insert_by(&wanted, make) {
+        Ok(done) => Ok(done),
+        Err(_) => Err(AllocError),
+    }
+}
+
+// Returns the first number below `count` of which an insertion doesn't return the entry.
+fn first_unlike(
+    map: &mut AppendMap<u64, u64>,
+    count: u64,
+    is_new: bool,
+) -> Result<Option<u64>, AllocError> {
     for number in 0..count {
-        let wanted = key(number);
-        let make = || -> Result<(u64, &u64), AllocError>
-            ensures { IfOk result (λ entry. entry.0 ≡ wanted) }
-        { Err(AllocError) };
-        let Ok(done) = map.as_mut().insert_by(&wanted, make) else {
-            return Some(number);
-        };
-        if done.is_new || *done.value != number || done.index as u64 != number {
-            return Some(number);
+        let done = inserted(map, number, if is_new { number } else { u64::MAX })?;
+        if done.is_new != is_new || done.value != number || done.index as u64 != number {
+            return Ok(Some(number));
         }
     }
-    None
+    Ok(None)
 }
 
 #[test]
-fn an_insertion_by_a_present_key_returned_another_entry(rt: HostRuntime) -> Result<(), Fail> {
-    let arena = Bump::new(rt.alloc());
-    let mut map = Numbers::new(rt.alloc(), &arena);
-    fill(&mut map, 0, 2000)?;
-    assert_eq!(rt; first_not_returned(&mut map, 2000), None);
-    assert_eq!(rt; first_not_returned(&mut map, 2001), Some(2000));
+fn an_insertion_by_a_key_returned_another_entry(rt: HostRuntime) -> Result<(), Fail> {
+    let mut map = AppendMap::new(rt.alloc());
+    assert_eq!(rt; first_unlike(&mut map, 2000, true)?, None);
+    assert_eq!(rt; first_unlike(&mut map, 2000, false)?, None);
     Ok(())
 }
 
