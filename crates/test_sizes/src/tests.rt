@@ -52,6 +52,18 @@ const KINDS: [Kind; 10] = [
     Kind::AppendMapTexts,
 ];
 
+/// Returns whether a new map of texts has the results of a plain list.
+fn texts_are_right(
+    alloc: Global,
+    heap: Heap<'_>,
+    arena: &Bump,
+    seed: u64,
+    size: u64,
+) -> Result<bool, AllocError> {
+    let map: FrozenAppendMap<'_, &str, Own<u64>, Hasher, _> = FrozenAppendMap::new(heap, arena);
+    is_right(alloc, heap, &mut Texts { map }, seed, size)
+}
+
 /// Returns whether a new collection has the results of a plain list.
 fn kind_is_right(
     alloc: Global,
@@ -104,12 +116,7 @@ fn kind_is_right(
             let mut grown: AppendMap<u64, u64, Hasher, _> = AppendMap::new(heap);
             is_right(alloc, heap, &mut grown, seed, size)
         }
-        Kind::AppendMapTexts => {
-            let map: FrozenAppendMap<'_, &str, Own<u64>, Hasher, _> = FrozenAppendMap::new(
-                heap, arena,
-            );
-            is_right(alloc, heap, &mut Texts { map }, seed, size)
-        }
+        Kind::AppendMapTexts => texts_are_right(alloc, heap, arena, seed, size),
     }
 }
 
