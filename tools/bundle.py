@@ -47,6 +47,19 @@ def digest_of(folder):
     return sum.hexdigest()
 
 
+def static_archive(crates):
+    """The archive of the static library. `rt lib` proves and builds it over the proofs that `rt ci` left in these crates of
+    a copy of the repository, whose libraries it then takes as proved."""
+    for name in stands_on(STATIC):
+        if name != STATIC:
+            pathlib.Path(crates[name].rlib).with_name("stamp").write_text(crates[name].stamp())
+    folder = pathlib.Path(crates[STATIC].folder)
+    done = subprocess.run(["rt", "lib"], cwd=folder, capture_output=True, text=True, errors="replace")
+    if done.returncode:
+        raise Rejected(f"rt lib does not prove {STATIC}. It printed:\n{done.stdout[-2000:]}{done.stderr[-1000:]}")
+    return folder / "out" / f"lib{STATIC}.a"
+
+
 def plain(entry):
     """An entry of an archive without owner and time, so that the same files make the same archive."""
     entry.uid = entry.gid = entry.mtime = 0

@@ -1,11 +1,14 @@
-"""Compares factorize and an Interner with dict.setdefault, and with pandas.factorize if pandas is installed.
+"""Compares factorize and an Interner with dict.setdefault, and with pandas.factorize if pandas is installed; and two threads
+that number a block each with one that numbers both.
 
 usage: PYTHONPATH=DIR/python python3 compare.py [TEXTS [DISTINCT]]
 """
 import bisect
 import itertools
 import random
+import statistics
 import sys
+import threading
 import time
 
 import elsa_proved
@@ -27,6 +30,25 @@ def least(call, texts):
     return min(times) * 1e3, made
 
 
+def by_two_threads(call):
+    """The wall time of two threads with one call each, as a part of that of one thread with both calls: the quartiles of
+    20 ratios. The pauses are for `chrt -r 1`, as Linux stops a process of its real-time class that never pauses."""
+    ratios = []
+    for _ in range(20):
+        times = []
+        time.sleep(0.3)
+        for calls in ([lambda: (call(), call())], [call, call]):
+            threads = [threading.Thread(target=it) for it in calls]
+            begun = time.perf_counter()
+            for it in threads:
+                it.start()
+            for it in threads:
+                it.join()
+            times.append(time.perf_counter() - begun)
+        ratios.append(times[1] / times[0])
+    return statistics.quantiles(ratios, n=4)
+
+
 def with_dict(texts):
     seen = {}
     return [seen.setdefault(text, len(seen)) for text in texts]
@@ -41,7 +63,7 @@ def main(count=1_000_000, distinct=50_000):
     base, expected = least(with_dict, texts)
     print(f"{count} texts, {len(set(texts))} distinct")
     print(f"dict.setdefault          {base:8.1f} ms")
-    packed = elsa_proved._block(texts)
+    packed = elsa_proved._block(texts, range(count))
     rows = [
         ("factorize, with packing", lambda given: elsa_proved.factorize(given)[0]),
         ("factorize_block", lambda _: elsa_proved.factorize_block(*packed)),
@@ -58,6 +80,12 @@ def main(count=1_000_000, distinct=50_000):
         taken, codes = least(lambda given: pandas.factorize(numpy.array(given, dtype=object))[0], texts)
         assert list(codes) == expected
         print(f"{'pandas.factorize':24} {taken:8.1f} ms  {taken / base:.2f}")
+    for name, call in (
+        ("block", lambda: elsa_proved.factorize_block(*packed)),
+        ("list", lambda: elsa_proved.factorize(texts)),
+    ):
+        lower, median, upper = by_two_threads(call)
+        print(f"two threads, a {name} each: {median:.2f} of one thread's time for both ({lower:.2f} to {upper:.2f})")
 
 
 main(*map(int, sys.argv[1:]))

@@ -3,17 +3,21 @@
 usage: fuzz.py SECONDS [THREADS [SEED]]
 
 All threads share one interner and one SharedInterner, and each has its own objects too. In every second round the calls of
-the library run at once, as they do in a Python without a GIL. Results are compared with plain Python. The last line has
-the number of calls; the status is 1 at the first wrong result or unexpected exception, whose seed is printed. A fault of
-memory ends the process: run it with the sanitized shared object (`tools/bindings --sanitized DIR`) or under valgrind.
+the library run at once, as they do in a Python without a GIL; in the others the threads fork, too. A pool of processes, by
+fork and by spawn in turn, has tasks of all threads. Results are compared with plain Python. The last line has the number
+of calls; the status is 1 at the first wrong result, unexpected exception or process that doesn't end, whose seed is
+printed. A fault of memory ends the process: run it with the sanitized shared object, of which it doesn't fork
+(`tools/bindings --unproved DIR` writes DIR/sanitized/libelsa_c_asan.so), or under valgrind.
 """
 import array
 import copy
 import ctypes
 import itertools
+import multiprocessing
 import os
 import pickle
 import random
+import signal
 import sys
 import threading
 import time
@@ -29,6 +33,8 @@ except ImportError:
     pandas = None
 # The greatest number of seconds of a round, which has interners of its own.
 ROUND = 20
+# The seconds after which a child or a task of a pool hangs, also on a machine with a high load.
+HANGS = 300
 # What a call may raise for a wrong argument.
 REFUSED = (TypeError, ValueError, IndexError, OverflowError, BufferError, NotImplementedError, ZeroDivisionError)
 
@@ -99,23 +105,36 @@ def factorized(texts):
 
 
 def numbered(block, ends):
-    """The codes of a block, and whether all texts have theirs."""
+    """The codes of a block by a dict, and the number of the fault that ends it."""
     seen, codes, start = {}, [], 0
     for end in ends:
         if end < start or end > len(block):
-            return codes, False
+            return codes, 3
         try:
             text = block[start:end].decode()
         except UnicodeDecodeError:
-            return codes, False
+            return codes, 2
         codes.append(seen.setdefault(text, len(seen)))
         start = end
-    return codes, True
+    return codes, 0
+
+
+def codes_of(call, *given):
+    """The codes that a call returns, and the number of its fault."""
+    try:
+        return list(call(*given)), 0
+    except Fault as fault:
+        return list(fault.codes), fault.number
+
+
+def put_in_copy(names, text):
+    return names.put(text), names.get(text), len(names)
 
 
 class Thread:
-    def __init__(self, seed, shared, of_threads):
+    def __init__(self, seed, shared, of_threads, pool, forks):
         self.random, self.shared, self.of_threads, self.calls = random.Random(seed), shared, of_threads, 0
+        self.pool, self.forks = pool, forks
         self.own, self.known = Interner(), {}
 
     def text(self):
@@ -130,7 +149,9 @@ class Thread:
         choose = self.random
         kinds = [
             lambda: None,
-            lambda: choose.choice([0, -1, 3, 2**31, 2**63 - 1, 2**63, 2**64, 2**64 + 1, -(2**63), -(2**200)]),
+            lambda: choose.choice(
+                [0, -1, 3, 2**31, 2**63 - 1, 2**63, 2**64, 2**64 + 1, -(2**63), -(2**200)]
+            ),
             lambda: choose.random() * 100,
             lambda: float("nan"),
             lambda: self.text(),
@@ -170,6 +191,7 @@ class Thread:
             ]
         if pandas is not None:
             kinds += [lambda: pandas.Series(self.texts(), dtype=object), lambda: pandas.NA, lambda: pandas.NaT]
+            kinds += [lambda: pandas.DataFrame({"a": self.texts()}), lambda: pandas.Index(self.texts(), dtype=object)]
         return choose.choice(kinds)()
 
     def released(self):
@@ -227,14 +249,16 @@ class Thread:
             count = len(known)
             at = self.random.randrange(-count - 2, count + 2)
             if -count <= at < count:
-                must(names[at] == self.listed(known)[at], at)
+                must(names[at] == list(known)[at], at)
             else:
                 try:
                     must(False, names[at])
                 except IndexError:
                     pass
         elif kind == 4:
-            made = self.random.choice([copy.copy, copy.deepcopy, lambda it: pickle.loads(pickle.dumps(it)), Interner])(names)
+            made = self.random.choice([copy.copy, copy.deepcopy, lambda it: pickle.loads(pickle.dumps(it)), Interner])(
+                names
+            )
             made.put("of the copy")
             must(list(made) == [*known, *["of the copy"] * ("of the copy" not in known)])
             del made
@@ -243,12 +267,10 @@ class Thread:
             must(list(names) == list(known) and names[::-1] == list(known)[::-1])
             self.own, self.known = Interner(), {}
 
-    @staticmethod
-    def listed(known):
-        return list(known)
-
     def try_list(self):
-        texts = [self.text() if self.random.random() < 0.9 else self.random.choice([None, float("nan")]) for _ in range(30)]
+        texts = [
+            self.text() if self.random.random() < 0.9 else self.random.choice([None, float("nan")]) for _ in range(30)
+        ]
         makers = [lambda: texts, lambda: iter(texts), lambda: tuple(texts)]
         if numpy is not None:
             makers.append(lambda: numpy.array([*texts, None], object)[:-1])
@@ -269,12 +291,10 @@ class Thread:
         kinds = [lambda: ends, lambda: array.array("q", ends), lambda: array.array("I", ends), lambda: iter(ends)]
         if numpy is not None:
             kinds += [lambda: numpy.array(ends, "u8"), lambda: numpy.repeat(numpy.array(ends, "i4"), 2)[::2]]
-        try:
-            found = call(self.random.choice([bytes(block), block, memoryview(block)]), self.random.choice(kinds)()), True
-        except Fault as fault:
-            found = fault.codes, False
-        must((list(found[0]), found[1]) == wanted, bytes(block), ends, found)
-        if wanted[1]:
+        text = self.random.choice([bytes(block), block, memoryview(block)])
+        found = codes_of(call, text, self.random.choice(kinds)())
+        must(found == wanted, bytes(block), ends, found)
+        if not wanted[1]:
             first = [wanted[0].index(it) for it in range(len(set(wanted[0])))]
             must(list(firsts(found[0])) == first, wanted, first)
 
@@ -300,9 +320,50 @@ class Thread:
             listed = list(names)
             must(len(set(listed)) == len(listed) and all(names.get(it) == code for code, it in enumerate(listed)))
 
+    def try_child(self):
+        """A child of a fork, which the other threads' calls don't wait for, has all names and can put more."""
+        if not self.forks or self.random.random() > 0.02:
+            return
+        names, text = self.random.choice([self.own, self.shared, self.of_threads]), self.text()
+        before = names.put(text)
+        if names is self.own:
+            must(self.known.setdefault(text, len(self.known)) == before, text)
+        child = os.fork()
+        if not child:
+            signal.alarm(HANGS)
+            status = 1
+            try:
+                code, count = names.put(text + "of the child"), len(names)
+                must(names[code] == text + "of the child" and names.get(text) == before and names[before] == text, text)
+                must(names.put(text + "of the child") == code and count == len(names))
+                must(factorize([text, None, text])[1] == [text])
+                must(type(names)([text])[0] == text)
+                status = 0
+            except BaseException:
+                traceback.print_exc()
+            os._exit(status)
+        must(os.waitpid(child, 0)[1] == 0, "a child failed or hangs", text)
+
+    def try_pool(self):
+        """A task of a pool returns what a call here does, or its exception."""
+        if self.random.random() > 0.05:
+            return
+        texts = self.texts()
+        codes, distinct = self.pool.apply_async(factorize, (texts,)).get(HANGS)
+        must((codes.tolist(), distinct) == factorized(texts), texts, codes, distinct)
+        block = "".join(texts).encode()
+        try:
+            self.pool.apply_async(factorize_block, (block + b"\xff", [len(block), len(block) + 1])).get(HANGS)
+            must(False, "no fault", block)
+        except Fault as fault:
+            must((fault.number, list(fault.codes)) == (2, [0]), block)
+        names = self.random.choice([Interner, SharedInterner])(texts)
+        put = self.pool.apply_async(put_in_copy, (names, "of the child")).get(HANGS)
+        must(put == (len(names), len(names), len(names) + 1) and "of the child" not in names, texts)
+
     def run(self, until):
         calls = [self.try_garbage, self.try_own, self.try_list, self.try_block, self.try_shared, self.try_of_threads]
-        calls += [self.try_garbage, self.try_of_threads]
+        calls += [self.try_garbage, self.try_of_threads, self.try_child, self.try_pool]
         while time.monotonic() < until:
             call = self.random.choice(calls)
             for _ in range(20):
@@ -318,8 +379,14 @@ def main(seconds, threads=4, seed=None):
     rounds, libraries = itertools.count(), [elsa_proved._so, overlapping()]
     while time.monotonic() < until and not failed:
         at, shared, of_threads = next(rounds), Interner(), SharedInterner()
+        # the allocator of AddressSanitizer doesn't expect a fork
+        forks = "asan" not in elsa_proved._so._name
+        # a worker ends after some tasks, so that the next one is forked while the threads are in calls
+        method = "fork" if forks and at // 2 % 2 == 0 else "spawn"
+        processes = multiprocessing.get_context(method).Pool(2, maxtasksperchild=100)
         elsa_proved._so = libraries[at % 2]
-        pool = [Thread(f"{seed} {at} {it}", shared, of_threads) for it in range(int(threads))]
+        given = shared, of_threads, processes, forks and at % 2 == 0
+        pool = [Thread(f"{seed} {at} {it}", *given) for it in range(int(threads))]
 
         def run(thread):
             try:
@@ -332,6 +399,7 @@ def main(seconds, threads=4, seed=None):
             it.start()
         for it in started:
             it.join()
+        processes.terminate()
         total += sum(it.calls for it in pool)
         listed = list(shared)
         must(len(set(listed)) == len(listed) and list(shared.put_many(listed)) == list(range(len(listed))))

@@ -1,12 +1,18 @@
 """The calls of elsa_proved against plain models in Python."""
+import concurrent.futures
 import copy
+import multiprocessing
+import os
 import pathlib
 import pickle
 import random
+import re
+import signal
 import subprocess
 import sys
 import threading
 import time
+import types
 import unittest
 import unittest.mock
 from array import array
@@ -14,36 +20,10 @@ from array import array
 import elsa_proved
 import fuzz
 from elsa_proved import ClosedInterner, Fault, Interner, OutOfMemory, SharedInterner, factorize, factorize_block, firsts
+from fuzz import HANGS, codes_of, numbered, numpy, pandas
 
-numpy = elsa_proved.numpy
-try:
-    import pandas
-except ImportError:
-    pandas = None
 needs_numpy = unittest.skipIf(numpy is None, "NumPy is not installed")
 needs_pandas = unittest.skipIf(pandas is None, "pandas is not installed")
-
-
-def model(block, ends):
-    """The codes of a block by a dict, and the number of the fault that ends it."""
-    seen, codes, start = {}, [], 0
-    for end in ends:
-        if end < start or end > len(block):
-            return codes, 3
-        try:
-            text = block[start:end].decode()
-        except UnicodeDecodeError:
-            return codes, 2
-        codes.append(seen.setdefault(text, len(seen)))
-        start = end
-    return codes, 0
-
-
-def codes_of(call, *given):
-    try:
-        return list(call(*given)), 0
-    except Fault as fault:
-        return list(fault.codes), fault.number
 
 
 def at_once(calls):
@@ -94,8 +74,8 @@ class TestCalls(unittest.TestCase):
             if self.random.random() < 0.8:
                 ends.sort()
             block = bytes(block)
-            self.assertEqual(codes_of(factorize_block, block, ends), model(block, ends))
-            self.assertEqual(codes_of(Interner().put_block, block, ends), model(block, ends))
+            self.assertEqual(codes_of(factorize_block, block, ends), numbered(block, ends))
+            self.assertEqual(codes_of(Interner().put_block, block, ends), numbered(block, ends))
 
     def test_the_texts_of_the_codes_are_others(self):
         for count in (0, 1, 2000):
@@ -215,7 +195,13 @@ class TestShared(unittest.TestCase):
         with SharedInterner(["fig"]) as names:
             self.assertEqual(names.put("plum"), 1)
         names.close()
-        calls = (lambda: names.put("fig"), lambda: names.get("fig"), lambda: names[0], lambda: len(names), lambda: list(names))
+        calls = (
+            lambda: names.put("fig"),
+            lambda: names.get("fig"),
+            lambda: names[0],
+            lambda: len(names),
+            lambda: list(names),
+        )
         for call in calls:
             self.assertRaises(ClosedInterner, call)
 
@@ -285,24 +271,235 @@ class TestCopies(unittest.TestCase):
         names.label = "fruit"
         self.assertEqual((list(copy.copy(names)), copy.copy(names).label), (["fig"], "fruit"))
 
+    def test_a_copied_exception_differs(self):
+        for number, kind in ((1, OutOfMemory), (2, Fault)):
+            fault = kind(number, factorize(["a", "b", "a"])[0])
+            for copied in (copy.copy, copy.deepcopy, lambda it: pickle.loads(pickle.dumps(it))):
+                other = copied(fault)
+                self.assertEqual((type(other), str(other)), (kind, str(fault)))
+                self.assertEqual((other.number, other.done, list(other.codes)), (number, 3, [0, 1, 0]))
+        closed = exception_of(call_a_closed_one, None)
+        other = pickle.loads(pickle.dumps(closed))
+        self.assertEqual((type(other), str(other)), (ClosedInterner, str(copy.copy(closed))))
+        self.assertEqual(str(closed), "the interner was closed")
+
 
 class Named(Interner):
     pass
 
 
+class Text(str):
+    pass
+
+
+def exception_of(call, *given):
+    try:
+        call(*given)
+    except Exception as why:
+        return why
+
+
+def call_a_closed_one(_):
+    with SharedInterner() as names:
+        pass
+    return names.put("fig")
+
+
+def run_out_of_memory(_):
+    raise OutOfMemory(1, [0])
+
+
+def put_in_copy(names):
+    return names.put("of the child"), list(names)
+
+
+class TestProcesses(unittest.TestCase):
+    """Forks, and pools of processes."""
+
+    def in_child(self, call):
+        """What a call returns in a child."""
+        reads, writes = os.pipe()
+        child = os.fork()
+        if not child:
+            signal.alarm(HANGS)
+            try:
+                os.write(writes, repr(call()).encode())
+            finally:
+                os._exit(0)
+        os.close(writes)
+        with open(reads) as found:
+            text = found.read()
+        self.assertEqual(os.waitpid(child, 0)[1], 0, "the child did not end by itself")
+        return text
+
+    def test_a_child_hangs_that_was_forked_during_calls(self):
+        for kind, call in ((Interner, "get"), (Interner, "put"), (SharedInterner, "get"), (SharedInterner, "put")):
+            names, stopped = kind(["a"]), threading.Event()
+
+            def work(thread):
+                count = 0
+                while not stopped.is_set():
+                    count += 1
+                    getattr(names, call)("a" if count % 3 else f"{thread} {count % 2_000}")
+
+            threads = [threading.Thread(target=work, args=(it,)) for it in range(4)]
+            for it in threads:
+                it.start()
+            try:
+                for _ in range(4):
+                    self.assertEqual(
+                        self.in_child(
+                            lambda: (names.get("a"), names[names.put("new")], [*names][0], repr(names) != "")
+                        ),
+                        "(0, 'new', 'a', True)",
+                    )
+            finally:
+                stopped.set()
+                for it in threads:
+                    it.join()
+
+    def test_a_child_hangs_if_a_thread_has_the_lock(self):
+        for kind in (Interner, SharedInterner):
+            names, locked, done = kind(["a"]), threading.Event(), threading.Event()
+
+            def hold():
+                with names._lock:
+                    locked.set()
+                    done.wait()
+
+            thread = threading.Thread(target=hold)
+            thread.start()
+            locked.wait()
+            if kind is SharedInterner:
+                names._free.clear()
+            try:
+                self.assertEqual(self.in_child(lambda: (names.get("a"), kind(names)[0])), "(0, 'a')")
+            finally:
+                done.set()
+                thread.join()
+
+    def test_a_child_hangs_that_was_forked_while_a_block_is_numbered(self):
+        block, ends, stopped = b"abcdefgh" * 20_000, array("q", range(0, 160_001, 2)), threading.Event()
+
+        def work():
+            while not stopped.is_set():
+                factorize_block(block, ends)
+
+        threads = [threading.Thread(target=work) for _ in range(2)]
+        for it in threads:
+            it.start()
+        try:
+            for _ in range(8):
+                self.assertEqual(self.in_child(lambda: list(factorize_block(block, ends)[:5])), "[0, 1, 2, 3, 4]")
+        finally:
+            stopped.set()
+            for it in threads:
+                it.join()
+
+    def test_a_pool_waits_for_ever_for_a_task_that_failed(self):
+        failing = [(factorize_block, (b"a\xff", [1, 2])), (call_a_closed_one, (0,)), (run_out_of_memory, (0,))]
+        for method in ("fork", "spawn"):
+            with multiprocessing.get_context(method).Pool(2) as pool:
+                for (call, given), kind in zip(failing, (Fault, ClosedInterner, OutOfMemory)):
+                    with self.assertRaises(kind) as raised:
+                        pool.apply_async(call, given).get(timeout=HANGS)
+                    if kind is not ClosedInterner:
+                        self.assertEqual(list(raised.exception.codes), [0])
+                names = [Interner(["a"]), SharedInterner(["a"])]
+                put = pool.map_async(put_in_copy, names).get(timeout=HANGS)
+                self.assertEqual(put, [(1, ["a", "of the child"])] * 2)
+                self.assertEqual([list(it) for it in names], [["a"]] * 2)
+                codes, texts = pool.apply_async(factorize, (["b", None, "b"],)).get(timeout=HANGS)
+                self.assertEqual((list(codes), texts), ([0, -1, 0], ["b"]))
+        with concurrent.futures.ProcessPoolExecutor(1) as pool:
+            self.assertRaises(Fault, pool.submit(factorize_block, b"a\xff", [1, 2]).result, HANGS)
+            self.assertEqual(list(pool.submit(factorize_block, b"ab", [1, 2]).result(HANGS)), [0, 1])
+
+
+def block_of(count):
+    text = "".join(f"name {it * 0x9E3779B97F4A7C15 % 50_021}" for it in range(count)).encode()
+    return text, array("q", [len(text) * it // count for it in range(1, count + 1)])
+
+
+class TestBlocksAtOnce(unittest.TestCase):
+    """Blocks that threads number at once, each without the GIL."""
+
+    def test_a_block_differs_that_is_numbered_while_others_are(self):
+        block, ends = block_of(100_000)
+        wanted, bad = numbered(block, ends)[0], block[:-1] + b"\xff"
+
+        def number():
+            for _ in range(3):
+                self.assertEqual(list(factorize_block(block, ends)), wanted)
+                self.assertEqual(codes_of(factorize_block, bad, ends), (wanted[:-1], 2))
+
+        at_once([number] * 4)
+
+    def test_a_block_is_numbered_while_another_thread_writes_it(self):
+        block, ends = block_of(50_000)
+        shared, shared_ends, stopped = bytearray(block), array("q", ends), threading.Event()
+
+        def write():
+            while not stopped.is_set():
+                shared[:] = b"\xff" * len(shared)
+                shared[:] = block
+                shared_ends[7] = -1
+                shared_ends[7] = ends[7]
+
+        thread = threading.Thread(target=write)
+        thread.start()
+        wanted = numbered(block, ends)[0]
+        try:
+            for _ in range(50):
+                codes, number = codes_of(factorize_block, shared, shared_ends)
+                self.assertIn((len(codes), number), [(len(ends), 0), *((it, 2) for it in range(8)), (7, 3)])
+                self.assertEqual(codes, wanted[: len(codes)])
+        finally:
+            stopped.set()
+            thread.join()
+
+
+class TestLargeTexts(unittest.TestCase):
+    """A text whose length is none of a C int."""
+
+    def test_a_text_of_4_gib_is_cut(self):
+        if not os.environ.get("ELSA_LARGE"):
+            self.skipTest("a text of 4 GiB: set ELSA_LARGE=1 for it")
+        available = int(re.search(r"MemAvailable: +(\d+)", pathlib.Path("/proc/meminfo").read_text())[1]) // 1_000_000
+        if available < 12:
+            self.skipTest(f"a text of 4 GiB needs 12 GB of memory, of which {available} are available")
+        # the first process to be ended if memory runs out all the same
+        text = """
+import pathlib, elsa_proved
+pathlib.Path("/proc/self/oom_score_adj").write_text("1000")
+block, names, code = bytes(2**32 + 5), elsa_proved.Interner(["other"]), elsa_proved._size()
+codes = [*names.put_block(block, [len(block)]), names.put("last")]
+print(codes, names._find(block, code), code.value, names._find(bytes(5), code))
+found = names._at(1)
+print(len(found), found == block, names[2])
+"""
+        done = subprocess.run([sys.executable, "-B", "-c", text], capture_output=True, text=True)
+        if done.returncode == -signal.SIGKILL:
+            self.skipTest("a text of 4 GiB: memory ran out")
+        self.assertEqual(done.stdout, "[1, 2] True 1 False\n4294967301 True last\n", done.stderr)
+
+
 class TestIterables(unittest.TestCase):
     def test_a_generator_is_read_twice(self):
-        for made in (lambda: (it for it in "aba"), lambda: map(str, "aba"), lambda: iter("aba"), lambda: "aba"):
+        for made in (lambda: (it for it in "aba"), lambda: map(str, "aba"), lambda: iter("aba"), lambda: tuple("aba")):
             codes, distinct = factorize(made())
             self.assertEqual((list(codes), distinct), ([0, 1, 0], ["a", "b"]))
             self.assertEqual(list(Interner().put_many(made())), [0, 1, 0])
+            self.assertEqual(list(SharedInterner(made())), ["a", "b"])
         self.assertEqual(sorted(factorize({"a", "b"})[1]), ["a", "b"])
-        self.assertEqual(factorize({"a": 1, "b": 2})[1], ["a", "b"])
+        self.assertEqual(factorize({"a": 1, "b": 2}.keys())[1], ["a", "b"])
 
     def test_none_and_nan_are_texts(self):
-        for texts in ([None, "a", float("nan"), "b", "a"], (it for it in [None, "a", None, "b", "a"])):
-            codes, distinct = factorize(texts)
+        for made in (lambda: [None, "a", float("nan"), "b", "a"], lambda: (it for it in [None, "a", None, "b", "a"])):
+            codes, distinct = factorize(made())
             self.assertEqual((list(codes), distinct), ([-1, 0, -1, 1, 0], ["a", "b"]))
+            for kind in (Interner, SharedInterner):
+                self.assertEqual(list(kind(made())), ["a", "b"])
         self.assertEqual(list(Interner().put_many(["a", None])), [0, -1])
         self.assertEqual((list(factorize([None])[0]), factorize([None])[1]), ([-1], []))
 
@@ -365,9 +562,39 @@ class TestWrongArguments(unittest.TestCase):
     def test_a_lone_surrogate_is_put(self):
         names = Interner(["fig"])
         self.assertEqual((names.get("\ud800"), "\ud800" in names), (None, False))
-        for call in (names.put, lambda it: names.put_many([it]), lambda it: factorize([it])):
-            with self.assertRaises(UnicodeEncodeError):
-                call("\ud800")
+        self.assertRaises(UnicodeEncodeError, names.put, "\ud800")
+
+    def test_the_text_with_a_lone_surrogate_is_not_named(self):
+        wrong = "plum\ud800"
+        for texts, index in ((["fig", wrong, wrong], 1), ([wrong], 0), ([None, "fig", Text("é"), Text(wrong)], 3)):
+            for call in (factorize, Interner().put_many, Interner, SharedInterner):
+                raised = exception_of(call, texts)
+                for it in (raised, pickle.loads(pickle.dumps(raised))):
+                    self.assertIsInstance(it, UnicodeEncodeError)
+                    self.assertRegex(str(it), f"in position 4: surrogates not allowed, in text {index}$")
+
+    def test_what_is_no_column_of_texts_is_numbered(self):
+        square = memoryview(b"abcd").cast("B", (2, 2))
+        wrong = ["pear", {"a": 1, "b": 2}, types.MappingProxyType({"a": 1}), square]
+        if numpy is not None:
+            wrong += [
+                numpy.str_("pear"),
+                numpy.array("pear"),
+                numpy.array([["a", "b"]], object),
+                numpy.zeros((0, 2), object),
+            ]
+        if pandas is not None:
+            frame = pandas.DataFrame({"city": ["a", "b", "a"]})
+            wrong += [frame[["city"]], frame]
+            self.assertEqual(factorize(frame["city"])[1], ["a", "b"])
+            labels = pandas.Series(["b", "a"], index=["columns", "to_pylist"])
+            self.assertEqual(factorize(labels)[1], ["b", "a"])
+        for it in wrong:
+            for call in (factorize, Interner().put_many, Interner, SharedInterner):
+                with self.assertRaisesRegex(
+                    TypeError, rf"not a list of texts: {type(it).__name__}\. Pass \[text\] for"
+                ):
+                    call(it)
 
     def test_a_buffer_is_read_as_what_it_is_not(self):
         names, ends = Interner(), array("q", [1, 3])
@@ -413,7 +640,12 @@ class TestWrongArguments(unittest.TestCase):
         locked = numpy.array([1, 2, 3, 5])
         locked.flags.writeable = False
         self.assertEqual(factorize_block(block, locked).tolist(), [0, 0, 1, 2])
-        for wrong in (numpy.array([1.0, 5.0]), numpy.array([[1, 2], [3, 5]]), numpy.array([1, 5], ">i8"), numpy.array(5)):
+        for wrong in (
+            numpy.array([1.0, 5.0]),
+            numpy.array([[1, 2], [3, 5]]),
+            numpy.array([1, 5], ">i8"),
+            numpy.array(5),
+        ):
             for call in (lambda it: factorize_block(block, it), firsts):
                 with self.assertRaises(TypeError):
                     call(wrong)
@@ -494,6 +726,15 @@ class TestPandas(unittest.TestCase):
             self.same(pandas.Series(texts, index=index, dtype=object))
 
     @needs_pandas
+    def test_texts_with_nul_are_equal(self):
+        texts = ["a", "a\0", "a\0b", "a"]
+        self.same(numpy.array([*texts, None], object))
+        codes, distinct = factorize(numpy.array(texts, object))
+        self.assertEqual((codes.tolist(), distinct), ([0, 1, 2, 0], texts[:3]))
+        if pandas.__version__.startswith("1.5"):
+            self.assertEqual(pandas.factorize(numpy.array(texts, object))[0].tolist(), [0, 0, 0, 0])
+
+    @needs_pandas
     def test_a_generator_differs(self):
         texts = ["b", None, "a", "b"]
         wanted, unique = pandas.factorize(numpy.array(texts, object))
@@ -505,7 +746,15 @@ class TestSurface(unittest.TestCase):
     def test_names_are_missing(self):
         self.assertTrue(all(hasattr(elsa_proved, it) for it in elsa_proved.__all__))
         self.assertRegex(elsa_proved.__version__, r"^\d+\.\d+\.\d+$")
-        for it in (factorize, factorize_block, firsts, Interner.put, Interner.get, Interner.put_many, Interner.put_block):
+        for it in (
+            factorize,
+            factorize_block,
+            firsts,
+            Interner.put,
+            Interner.get,
+            Interner.put_many,
+            Interner.put_block,
+        ):
             self.assertIn("return", it.__annotations__)
         for it in (SharedInterner.put, SharedInterner.get, SharedInterner.close):
             self.assertIn("return", it.__annotations__)

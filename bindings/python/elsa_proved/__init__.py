@@ -12,8 +12,10 @@ import pathlib
 import sys
 import threading
 import time
+import weakref
 from array import array
 from collections import deque
+from collections.abc import Mapping
 from itertools import accumulate
 from typing import Any, Iterable, Iterator, List, Optional, Sequence, Tuple, Union, overload
 
@@ -41,7 +43,14 @@ Codes = Sequence[int]
 # in a Python without a GIL each dictionary has a lock, each call of a shared interner has a handle of its own, and what
 # others could write is copied before it is passed.
 _so = ctypes.PyDLL(os.environ.get("ELSA_SO", str(pathlib.Path(__file__).resolve().parent / "libelsa_c.so")))
+# The same library by calls that release the GIL, for elsa_factorize: its dictionary ends with the call, and no other thread
+# can write what it reads.
+_released = ctypes.CDLL(_so._name)
 _size, _numbers_at = ctypes.c_size_t, ctypes.c_void_p
+# ctypes.string_at has an int for the size, which a text of 2 GiB exceeds.
+_bytes_at = ctypes.PYFUNCTYPE(ctypes.py_object, ctypes.c_void_p, ctypes.c_ssize_t)(
+    ("PyBytes_FromStringAndSize", ctypes.pythonapi)
+)
 
 FAULTS = {
     1: "an allocation failed",
@@ -105,7 +114,8 @@ for _name, _result, _given in [
     ("elsa_shared_len", _size, [_sharing]),
     ("elsa_shared_free", None, [_sharing]),
 ]:
-    getattr(_so, _name).restype, getattr(_so, _name).argtypes = _result, _given
+    for _library in (_so, _released):
+        getattr(_library, _name).restype, getattr(_library, _name).argtypes = _result, _given
 
 
 class Fault(ValueError):
@@ -115,6 +125,9 @@ class Fault(ValueError):
         super().__init__(f"{FAULTS[number]}, at text {len(codes)}")
         self.number, self.done, self.codes = number, len(codes), codes
 
+    def __reduce__(self) -> Any:
+        return type(self), (self.number, self.codes), vars(self)
+
 
 class OutOfMemory(Fault, MemoryError):
     """The fault of an allocation that failed. It is a MemoryError too."""
@@ -122,9 +135,6 @@ class OutOfMemory(Fault, MemoryError):
 
 class ClosedInterner(ValueError):
     """A call of a SharedInterner that was closed."""
-
-    def __init__(self) -> None:
-        super().__init__("the interner was closed")
 
 
 def _fault(number: int, codes: Codes) -> Fault:
@@ -164,13 +174,22 @@ def _bytes(block: Any) -> bytes:
         return view.tobytes()
 
 
-def _block(texts: List[str]) -> Tuple[bytes, Any]:
-    """The texts as one block of bytes and their ends. Each is a str, and of no other class."""
+def _in_utf8(texts: List[str], at: Sequence[int]) -> List[bytes]:
+    """The texts in UTF-8. Each is a str, and of no other class. `at` has their indices, for the message of a failure."""
+    try:
+        return [it.encode() for it in texts]
+    except UnicodeEncodeError as why:
+        index = next(index for index, it in zip(at, texts) if it is why.object)
+        raise UnicodeEncodeError(*why.args[:4], f"{why.reason}, in text {index}") from None
+
+
+def _block(texts: List[str], at: Sequence[int]) -> Tuple[bytes, Any]:
+    """The texts as one block of bytes and their ends, by _in_utf8."""
     joined = "".join(texts)
     if joined.isascii():
         block, parts = joined.encode(), texts
     else:
-        parts = [it.encode() for it in texts]
+        parts = _in_utf8(texts, at)
         block = b"".join(parts)
     if numpy is not None:
         return block, numpy.fromiter(map(len, parts), numpy.int64, len(parts)).cumsum()
@@ -197,15 +216,18 @@ def _is_missing(it: Any) -> bool:
 
 def _listed(texts: Iterable[Any]) -> List[Any]:
     """The texts by their order, as a list that nobody else has: of Arrow's arrays by their own call."""
-    made = getattr(texts, "to_pylist", None)
-    return list(texts if made is None else made())
+    kind = type(texts)
+    if isinstance(texts, (str, Mapping)) or getattr(texts, "ndim", 1) != 1 or hasattr(kind, "columns"):
+        raise TypeError(
+            f"not a list of texts: {kind.__name__}. Pass [text] for one text, list(it.values()) or list(it) for a dict, "
+            "and one column, such as frame['name'], for a table"
+        )
+    made = getattr(kind, "to_pylist", None)
+    return list(texts if made is None else made(texts))
 
 
-def _numbered(texts: List[Any], block_codes: Any) -> Tuple[Any, List[Any], Any]:
-    """The codes of a list in which None and NaN have -1, the texts without these, and their codes."""
-    if set(map(type, texts)) <= {str}:
-        codes = block_codes(*_block(texts))
-        return codes, texts, codes
+def _present(texts: List[Any]) -> Tuple[List[int], List[str]]:
+    """The indices of the texts that are not None or NaN, and these texts."""
     at, plain = [], []
     for index, it in enumerate(texts):
         if isinstance(it, str):
@@ -213,7 +235,16 @@ def _numbered(texts: List[Any], block_codes: Any) -> Tuple[Any, List[Any], Any]:
             plain.append(str.__str__(it))
         elif not _is_missing(it):
             raise TypeError(f"text {index} is no str, None or NaN: {type(it).__name__}")
-    known = block_codes(*_block(plain))
+    return at, plain
+
+
+def _numbered(texts: List[Any], block_codes: Any) -> Tuple[Any, List[Any], Any]:
+    """The codes of a list in which None and NaN have -1, the texts without these, and their codes."""
+    if set(map(type, texts)) <= {str}:
+        codes = block_codes(*_block(texts, range(len(texts))))
+        return codes, texts, codes
+    at, plain = _present(texts)
+    known = block_codes(*_block(plain, at))
     codes = array("q", [-1]) * len(texts)
     for index, code in zip(at, known):
         codes[index] = code
@@ -223,7 +254,7 @@ def _numbered(texts: List[Any], block_codes: Any) -> Tuple[Any, List[Any], Any]:
 
 
 def _factorized(block: bytes, ends: Any) -> Any:
-    return _codes(_so.elsa_factorize, block, ends, seed=(_secret(),))
+    return _codes(_released.elsa_factorize, block, ends, seed=(_secret(),))
 
 
 def factorize_block(block: Block, ends: Iterable[int]) -> Codes:
@@ -314,9 +345,25 @@ class _Texts:
 def _read(call: Any, handle: Any, code: int) -> Optional[bytes]:
     """A copy of the text with this code, by a call of C. Nobody frees the text meanwhile."""
     at, length = ctypes.c_void_p(), _size()
-    if not call(handle, code, at, length):
-        return None
-    return ctypes.string_at(at, length.value) if length.value else b""
+    return _bytes_at(at, length.value) if call(handle, code, at, length) else None
+
+
+# All interners by their addresses. In the child of a fork they have new locks: the threads that held the old ones are not
+# there. No call of the library was in progress: a fork takes the GIL, and a call that uses names keeps it.
+_interners: Any = weakref.WeakValueDictionary()
+
+
+def _unlock_in_child() -> None:
+    for it in list(_interners.values()):
+        it._lock = threading.RLock()
+
+
+os.register_at_fork(after_in_child=_unlock_in_child)
+
+
+def _lock_for(interner: Any) -> Any:
+    _interners[id(interner)] = interner
+    return threading.RLock()
 
 
 class Interner(_Texts):
@@ -329,11 +376,10 @@ class Interner(_Texts):
 
     def __new__(cls, *_given: Any, **_named: Any) -> "Interner":
         made = super().__new__(cls)
-        made._raw = _Dictionary(None, False, _secret())
-        made._lock = threading.RLock()
+        made._raw, made._lock = _Dictionary(None, False, _secret()), _lock_for(made)
         return made
 
-    def __init__(self, texts: Iterable[str] = ()) -> None:
+    def __init__(self, texts: Iterable[Optional[str]] = ()) -> None:
         self.put_many(texts)
 
     def __len__(self) -> int:
@@ -391,15 +437,16 @@ class SharedInterner(_Texts):
         made = super().__new__(cls)
         # Others are made of the first handle, under the lock, so that it is given to one call at a time. Those that no call
         # has are in the deque, whose calls are atomic.
-        made._first, made._lock, made._free = _Shared(), threading.RLock(), deque()
+        made._first, made._lock, made._free = _Shared(), _lock_for(made), deque()
         number = _so.elsa_shared_new(made._first, _secret())
         if number:
             raise _fault(number, [])
         return made
 
-    def __init__(self, texts: Iterable[str] = ()) -> None:
-        for it in texts:
-            self.put(it)
+    def __init__(self, texts: Iterable[Optional[str]] = ()) -> None:
+        at, plain = _present(_listed(texts))
+        for it in _in_utf8(plain, at):
+            self._put(it)
 
     def _take(self) -> _Shared:
         """A handle for one call."""
@@ -413,7 +460,7 @@ class SharedInterner(_Texts):
             if number:
                 raise _fault(number, [])
         if self._first is None:
-            raise ClosedInterner
+            raise ClosedInterner("the interner was closed")
         return handle
 
     def _give(self, handle: _Shared) -> None:
@@ -442,7 +489,10 @@ class SharedInterner(_Texts):
 
     def put(self, text: str) -> int:
         """Returns the code of a text, which is kept if it is new."""
-        given, code = _encoded(text), _size()
+        return self._put(_encoded(text))
+
+    def _put(self, given: bytes) -> int:
+        code = _size()
         handle = self._take()
         number = _so.elsa_shared_try_put(handle, given, len(given), code)
         while number == _BUSY:
