@@ -5,10 +5,10 @@
 //! never block. A [`ShardedMap`] and a [`LockFreeShardedMap`] are maps of shards, for many threads
 //! that insert. [`history`] has the recorder, [`machine`] the model of every schedule of the
 //! concurrent vector, and [`tie`] the law that ties it to the vector.
-pub use elsa_lock_free::lock_free::{Handle, LockFreeFrozenVec, Pass};
+pub use elsa_lock_free::lock_free::{Handle, LockFreeFrozenVec, Pass, VectorHistory};
 pub use elsa_lock_free::may_lock::{AttemptFault, LockPermit};
 pub use elsa_lock_free_map::handle::MapHandle;
-pub use elsa_lock_free_map::map::{LockFreeFrozenMap, MapPass};
+pub use elsa_lock_free_map::map::{LockFreeFrozenMap, MapHistory, MapPass};
 pub use elsa_lock_free_map::once::{Made, OnceMap, OnceValue};
 pub use elsa_locks::map::{FrozenBTreeMap, FrozenMap};
 pub use elsa_locks::vec;

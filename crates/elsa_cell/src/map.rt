@@ -466,7 +466,8 @@ impl<K: Drop, V: Drop, T: Indices<K> + Drop, A: Allocator + Copy, R: EntryRule<K
     /// three quarters are taken, and of 4 bytes for each key if it is ordered.
     ///
     /// # Cost
-    /// One search. An ordered table then moves the 4 bytes of each greater key: `O(n)`.
+    /// One search. An ordered table then moves at most 1 kB within a block; if the block is full,
+    /// it first moves some 24 bytes for each block of greater keys: `O(n)`.
     pub fn insert_new(&self, key: K, value: V) -> Result<Inserted<&V, usize>, CellFault<V>>
         requires rule { R.holds key value }
         ensures holds { IfOk result (λ r. HoldsAt R.holds (T.same key) r.value.now) }

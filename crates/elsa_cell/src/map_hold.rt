@@ -258,7 +258,8 @@ impl<
     /// three quarters are taken, and of 4 bytes for each key if it is ordered.
     ///
     /// # Cost
-    /// One search. An ordered table then moves the 4 bytes of each greater key: `O(n)`.
+    /// One search. An ordered table then moves at most 1 kB within a block; if the block is full,
+    /// it first moves some 24 bytes for each block of greater keys: `O(n)`.
     pub fn insert_new(&mut self, key: K, value: V) -> Result<Inserted<&'m V, usize>, CellFault<V>>
         requires rule { R.holds key value }
         ensures continues { Continues self.old self.new }

@@ -6,6 +6,7 @@ pub mod History
 pub mod Hold
 pub mod HoldEnd
 pub mod Keyless
+pub mod Made
 pub mod Offers
 pub mod Steps
 pub mod Tails

@@ -36,7 +36,7 @@ module _ {T : Type 0} where
   held_from b [] = b
   held_from b (e ∷ es) = held_from (begins_hold e) es
 
-  -- whether a thread holds: at the start the maker does, and later who took last and has not given back
+  -- whether a thread holds: at the start the maker does, and later the one that acquired last and has not released
   abbrev pub is_held : List (Event T) → Bool
   is_held es = held_from true es
 

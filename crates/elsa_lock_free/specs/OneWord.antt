@@ -5,25 +5,34 @@ use mathlib.Core.List.{IsPrefix}
 use Rattle.logbook.specs.Pages.{Cell, Step, View, Book, Named}
 use Rattle.elsa_lock_free.specs.declared.event.Entry.{Entry}
 use Rattle.elsa_lock_free.specs.declared.event.Event.{Event}
-use Rattle.elsa_lock_free.specs.AtomicSteps as steps
+use Rattle.elsa_lock_free.specs.AtomicSteps as atomic
 use Rattle.elsa_lock_free.specs.Distinct.{EachIsNew}
 use Rattle.elsa_lock_free.specs.History.{list_of, is_held, shared_by}
+use Rattle.elsa_lock_free.specs.Rights.{IsStep}
 
 -- the vector's word is the first of its book
 abbrev pub word_in : Book → Named
 word_in b = record { tracked = true; key = 0; book = b }
 
+-- A history that the rule allows: steps of the rule lead to it from the empty history, at which the maker of the vector
+-- has the lock.
+pub data IsMade {T : Type 0} : List (Event T) → Type 0 where
+  begins : IsMade []
+  steps : (event : Event T) (before answer : List (Event T)) {after : List (Event T)} → IsMade before → IsStep event before after answer → IsMade after
+
 module _ {T : Type 0} where
   -- the word that a history leaves
   abbrev pub word_of : List (Event T) → ℕ
-  word_of log = steps.word_of (shared_by log)
+  word_of log = atomic.word_of (shared_by log)
 
   -- the rule: the state word has the length of the list and whether a thread has the lock; a second word, which no
-  -- thread uses, stays 0. Each entry of the list was new to those before it, by the vector's rule for items
+  -- thread uses, stays 0. Each entry of the list was new to those before it, by the vector's rule for items. The history
+  -- was made by the rule's own steps
   pub record IsKept (is_new : List (Entry T) → Entry T → Type 0) (cells : List Cell) (log : List (Event T)) : Type 0 where
     pub words : cells ≡ (word_of log, true) ∷ (0, true) ∷ []
     pub small : length (list_of log) < 2 ^ 62
     pub each_is_new : EachIsNew is_new (list_of log)
+    pub made : IsMade log
 
   -- a read of the word: the history so far was seen
   abbrev pub Sees : Step (Event T) → View (Event T) (List (Event T)) → ℕ → View (Event T) (List (Event T)) → Type 0

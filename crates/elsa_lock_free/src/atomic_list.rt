@@ -13,7 +13,7 @@ ghost use Rattle.elsa_lock_free.specs.declared.event.Event.TheVariants.{OfferOf}
 ghost use Rattle.elsa_lock_free.specs.History.{list_of};
 ghost use Rattle.elsa_lock_free.specs.Rights.{buffer_slots_of};
 ghost use Rattle.elsa_lock_free.specs.SeenHistory.{IsOf};
-ghost use Rattle.elsa_lock_free.specs.OneWord.{word_in, word_of};
+ghost use Rattle.elsa_lock_free.specs.OneWord.{IsMade, word_in, word_of};
 ghost use Rattle.crossbeam_utils.specs.Padded.{padded_value};
 
 mod begin;
@@ -51,11 +51,12 @@ pub struct AtomicList<T, A: Allocator, K: ItemRule<T>, X: Beside<T> = ()> {
     ghost empty: { first.log ≡ [] },
 }
 
-/// What holds of a history that was seen: each entry of its list was new to those before it, and
-/// the list is below the limit. It does nothing when it runs.
+/// What holds of a history that was seen: each entry of its list was new to those before it, the
+/// list is below the limit, and the rule's steps made the history. It does nothing when it runs.
 pub fn obeys_rule<T, A: Allocator, K: ItemRule<T>, X: Beside<T>>(seen: &SeenHistory<T, A, K, X>)
     ensures obeys_rule { EachIsNew K.is_new (list_of seen.now.log) }
     ensures limit { length (list_of seen.now.log) < 2 ^ 62 }
+    ensures made { IsMade seen.now.log }
 {
     let mut known = seen.again();
     known.learn(seen);

@@ -8,9 +8,12 @@ ghost use Rattle.elsa_lock_free.specs.SharedList.{BeginsABuffer, BeginsAmong, Co
 ghost use Rattle.elsa_lock_free.specs.declared.event.Entry.{Entry};
 ghost use Rattle.elsa_lock_free.specs.Attempts.{IfBusy, IfFailed};
 ghost use Rattle.elsa_lock_free.specs.Distinct.{AgreeOnIndices, EachIsNew, EachItemIsNew, IsOneToOne};
+ghost use mathlib.Core.List.{IsPrefix};
+ghost use Rattle.elsa_lock_free.specs.History.{list_of};
 ghost use lib.Pointwise.{pointwise};
 
 use crate::atomic_list::{AtomicList, LIMIT, wait_a_little};
+use crate::history::VectorHistory;
 use crate::item_rule::{AnyItems, DistinctItems, ItemRule};
 use crate::lock_free::LockFreeFrozenVec;
 use crate::may_lock::{AttemptFault, LockPermit};
@@ -148,8 +151,27 @@ impl<'v, T: Drop, A: Allocator + Copy, K: ItemRule<T>, X: Beside<T> + Drop> Hand
         ensures fresh { length self.old.seen ≤ result }
         ensures limit { result < 2 ^ 62 }
     {
+        let known = self.history();
+        self.len_after(&known)
+    }
+
+    /// Returns the number of items, by one load of the length, as [`len`](Self::len) does. `known`
+    /// is a history of the vector that another thread may have observed, and passed on before the
+    /// call. The handle then has observed all that the other one had: the items that it had pushed,
+    /// and those before them.
+    ///
+    /// # Cost
+    /// `O(1)`.
+    pub fn len_after(&mut self, known: &VectorHistory<T, A, K, X>) -> usize
+        requires same_vector { known.now.vector ≡ self.old.vector }
+        ensures continues { Continues self.old self.new }
+        ensures known { IsPrefix (list_of known.now.events) self.new.seen }
+        ensures length { result ≡ length self.new.seen }
+        ensures fresh { length self.old.seen ≤ result }
+        ensures limit { result < 2 ^ 62 }
+    {
         let list = self.list;
-        let (pass, n) = self.pass.lend().read_length(list);
+        let (pass, n) = self.pass.lend().read_length(list, known);
         self.pass = pass;
         n
     }
@@ -172,6 +194,14 @@ impl<'v, T: Drop, A: Allocator + Copy, K: ItemRule<T>, X: Beside<T> + Drop> Hand
         ensures items { EachItemIsNew K.is_new self.now.seen }
     {
         self.pass.obeys_rule();
+    }
+
+    /// Returns the history that the handle has observed. It has no bytes, and takes no atomic step.
+    pub fn history(&self) -> VectorHistory<T, A, K, X>
+        ensures same_vector { result.vector ≡ self.now.vector }
+        ensures list { list_of result.events ≡ self.now.seen }
+    {
+        self.pass.history()
     }
 
     /// Returns a reference to the item at an index that the handle has observed. It takes no atomic

@@ -252,7 +252,7 @@ impl<'v, T: Drop, A: Allocator + Copy, K: ItemRule<T>, X: Beside<T> + Drop> Hold
             slice_get (items_of self.seen) (length self.seen - 1) ≡ Some last →
             X.fits x last → X.fits x item }
 
-        // The item stands behind what was seen, and is the handle's.
+        // The item is after what was observed, and is the handle's.
         ensures pushed { IsSamePass handle.old handle.new × PushesNext handle.old handle.new item }
     {
         let Hold {
@@ -287,7 +287,7 @@ impl<'v, T: Drop, A: Allocator + Copy, K: ItemRule<T>, X: Beside<T> + Drop> Hold
         handle.pass = Pass::released(seen, writer, at + 1);
     }
 
-    /// Ends the hold, and pushes an item as the first of a new buffer, with this beside its slots.
+    /// Ends the hold, and pushes an item as the first of a new buffer, with this next to its slots.
     /// `O(1)`.
     ///
     /// # Errors
@@ -306,7 +306,7 @@ impl<'v, T: Drop, A: Allocator + Copy, K: ItemRule<T>, X: Beside<T> + Drop> Hold
         requires obeys_rule { K.is_new self.seen (entry handle.old.writer item) }
         requires fits { X.fits beside item }
 
-        // The item stands behind what was seen, and is the handle's, or nothing changed.
+        // The item is after what was observed, and is the handle's, or nothing changed.
         ensures pushed { IfOk result (λ _. IsSamePass handle.old handle.new
             × PushesNext handle.old handle.new item) }
         ensures refused { IfErr result (λ e. (handle.new ≡ handle.old) × (e.value ≡ item)) }

@@ -13,6 +13,7 @@ macro_rules! spend {
 mod atomic_list;
 mod event;
 mod handle;
+mod history;
 pub mod hold;
 pub mod item_rule;
 pub mod lock_free;

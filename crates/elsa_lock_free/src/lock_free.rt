@@ -16,6 +16,7 @@ mod short;
 
 use crate::atomic_list::AtomicList;
 pub use crate::handle::{Handle, Observed};
+pub use crate::history::VectorHistory;
 use crate::item_rule::{AnyItems, DistinctItems, ItemRule};
 pub use crate::pass::Pass;
 use crate::tokens::Writer;

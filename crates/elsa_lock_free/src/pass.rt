@@ -9,6 +9,7 @@ ghost use Rattle.elsa_lock_free.specs.Rights.{buffer_slots_of};
 ghost use Rattle.elsa_lock_free.specs.SeenHistory.{view_of};
 
 use crate::atomic_list::{AtomicList, SeenHistory, obeys_rule};
+use crate::history::VectorHistory;
 use crate::item_rule::{AnyItems, DistinctItems, ItemRule};
 use crate::lock_free::LockFreeFrozenVec;
 use crate::tokens::{Writer, apart, bounded_by_tickets, evidence, take_read};
@@ -166,6 +167,16 @@ impl<T, A: Allocator, K: ItemRule<T>, X: Beside<T>> Pass<T, A, K, X> {
         obeys_rule(&self.seen);
     }
 
+    /// Returns the history that the view has observed. It has no bytes, and takes no atomic step.
+    pub fn history(&self) -> VectorHistory<T, A, K, X>
+        ensures same_vector { result.vector ≡ self.now.vector }
+        ensures list { list_of result.events ≡ self.now.seen }
+    {
+        VectorHistory {
+            seen: self.seen.again(),
+        }
+    }
+
     /// Returns the evidence for all that the view has observed. It has no bytes, and takes no
     /// atomic step.
     pub(crate) fn evidence(&self) -> WrittenPrefix<T, Buffer<T, A, X>>
@@ -248,14 +259,23 @@ impl<T, A: Allocator, K: ItemRule<T>, X: Beside<T>> Pass<T, A, K, X> {
 }
 
 impl<T: Drop, A: Allocator + Copy, K: ItemRule<T>, X: Beside<T> + Drop> Pass<T, A, K, X> {
-    /// Reads the number of items in the vector, by one load.
-    pub(crate) fn read_length(self, list: &AtomicList<T, A, K, X>) -> (Pass<T, A, K, X>, usize)
-        requires { self.vector ≡ (list.now.first.book, list.now.first.names) }
+    /// Reads the number of items in the vector, by one load. The view then has observed as much as
+    /// `known`.
+    pub(crate) fn read_length(
+        self,
+        list: &AtomicList<T, A, K, X>,
+        known: &VectorHistory<T, A, K, X>,
+    ) -> (Pass<T, A, K, X>, usize)
+        requires same_vector { self.vector ≡ (list.now.first.book, list.now.first.names) }
+        requires known { known.now.vector ≡ self.vector }
         ensures continues { Continues self result.0 }
+        ensures fresh { IsPrefix (list_of known.now.events) result.0.seen }
         ensures length { (result.1 ≡ length result.0.seen) × (result.1 < 2 ^ 62) }
     {
         let (seen, writer, _length) = self.parts();
-        let (n, seen, gained) = list.read_length(seen, writer);
+        let mut both = seen;
+        both.learn(&known.seen);
+        let (n, seen, gained) = list.read_length(both, writer);
         let (writer, prefix) = take_read(gained);
         prefix.discard();
         (Pass::of(seen, writer, n), n)

@@ -35,7 +35,7 @@ module _ {K V S : Type 0} where
     abbrev pub HasAt : List (Entry K V S) → ℕ → Q → V → Type 0
     HasAt es i key value = (e : Entry K V S) × (slice_get es i ≡ Some e) × (equal key e.key ≡ true) × (e.value ≡ value)
 
-    -- it is at some index
+    -- The key has this value, at some index.
     abbrev pub Has : List (Entry K V S) → Q → V → Type 0
     Has es key value = (i : ℕ) × HasAt es i key value
 
@@ -53,7 +53,7 @@ abbrev pub AgreeOnEntries : {K V S : Type 0} → (K → K → Bool) → List (En
 AgreeOnEntries {K} {V} equal xs ys =
     (key : K) (i j : ℕ) (v w : V) → HasAt equal xs i key v → HasAt equal ys j key w → (i ≡ j) × (v ≡ w)
 
--- a text as a query finds the borrows of equal texts
+-- Whether a text, as a query, finds a key: the key has the same bytes.
 abbrev pub is_text : List ℕ → Bor (List ℕ) → Bool
 is_text text key = bytes_eq text key.now
 
@@ -66,8 +66,8 @@ abbrev pub Came : {T : Type 0} → Bool → View T → View T → ℕ → Type 0
 Came true before after i = (length before.seen ≤ i) × (mine after ≡ mine before ++ i ∷ [])
 Came false before after i = mine after ≡ mine before
 
--- the effect of a successful insertion: the value that the key then has is at the index, pushed by the writer of the view
--- or present before; and an observed entry of the key stays, with its value
+-- The effect of a successful insertion: the value that the key then has is at the index, pushed by the writer of the
+-- view or present before; an observed entry of the key stays.
 abbrev pub InsertsOnce : {Q K V S : Type 0} → (Q → K → Bool) → View (Entry K V S) → View (Entry K V S) → Q → Inserted V ℕ → Type 0
 InsertsOnce {V = V} equal before after key r =
     HasAt equal (items_of after.seen) r.index key r.value × Came r.is_new before after r.index

@@ -9,7 +9,7 @@ ghost use Rattle.elsa_lock_free_map.specs.Entries.{AgreeOnEntries, short};
 use elsa_hash_index::entry::{Entry, Sought};
 use elsa_hash_index::row::Row;
 use elsa_lock_free::item_rule::ItemRule;
-use elsa_lock_free::lock_free::{Handle, LockFreeFrozenVec, Observed, Pass};
+use elsa_lock_free::lock_free::{Handle, LockFreeFrozenVec, Observed, Pass, VectorHistory};
 use elsa_slots::slots::Beside;
 use elsa_tables::{AnyEntries, EntryRule};
 use indexmap::Equivalent;
@@ -56,6 +56,14 @@ impl<K: Drop, V: Drop, S: Copy + Drop, A: Allocator> Beside<Entry<K, V, S>> for 
 
 /// The list of a map.
 pub type Entries<K, V, S, A, L = AnyEntries> = LockFreeFrozenVec<
+    Entry<K, V, S>,
+    A,
+    NewKeys<S, L>,
+    Index<S, A>,
+>;
+
+/// The history of such a list.
+pub type EntriesHistory<K, V, S, A, L = AnyEntries> = VectorHistory<
     Entry<K, V, S>,
     A,
     NewKeys<S, L>,

@@ -5,8 +5,9 @@
 //!
 //! A look-up reads through the handle itself: the entries that it has observed, and the row of
 //! index entries next to each buffer of them.
-ghost use Rattle.std.specs.Prelude.{◌≡◌, ◌↔◌, ◌⊎◌, ◌+◌, ◌≤◌, ◌<◌, ◌^◌, true, false, IsTrue, IfOk, IfErr, IfSome, IfNone, Some, Ok, Err, alloc_error, length, slice_get};
+ghost use Rattle.std.specs.Prelude.{◌≡◌, ◌↔◌, ◌⊎◌, ◌+◌, ◌≤◌, ◌<◌, ◌^◌, true, false, IsTrue, IfOk, IfErr, IfSome, IfNone, OnErr, Some, Ok, Err, alloc_error, length, slice_get};
 ghost use Rattle.elsa_lock_free.specs.Attempts.{IfBusy};
+ghost use Rattle.elsa_lock_free.specs.History.{list_of};
 ghost use Rattle.elsa_lock_free.specs.SharedList.{Continues, IsLaterPass, IsSamePass, Meet, SeesAlike, items_of, mine};
 ghost use Rattle.elsa_lock_free.specs.Distinct.{AgreeOnIndices, IsOneToOne};
 ghost use Rattle.elsa_hash_index.specs.declared.entry.Entry.{Entry};
@@ -16,7 +17,7 @@ ghost use Rattle.elsa_lock_free_map.specs.Entries.{AgreeOnEntries, FindsAt, Gets
 
 use crate::entries::{EntriesHandle, Index, NewKeys, Query, hash_of, one_to_one, same_index};
 use crate::iter::{MapIter, walk};
-use crate::map::{LockFreeFrozenMap, MapPass, copied};
+use crate::map::{LockFreeFrozenMap, MapHistory, MapPass, copied};
 use elsa_hash_index::entry::{Entry, Shelf, entered, lookup, regrown};
 use elsa_hash_index::row::Row;
 use elsa_lock_free::hold::{ATTEMPTS, Hold};
@@ -140,6 +141,15 @@ impl<
         ensures same_view { result.now ≡ self.now }
     {
         self.list.pass()
+    }
+
+    /// Returns the history of the map's list that the handle has observed. It has no bytes, and
+    /// takes no atomic step.
+    pub fn history(&self) -> MapHistory<K, V, S, A, L>
+        ensures same_vector { result.vector ≡ self.now.vector }
+        ensures list { list_of result.events ≡ self.now.seen }
+    {
+        self.list.history()
     }
 
     /// Returns the number of entries that the handle has observed, without an atomic step.
@@ -507,8 +517,9 @@ impl<
     /// A key that the handle has observed is found without a read of the length.
     ///
     /// # Errors
-    /// Fails if an allocation fails, or if the map has `2^32 - 1` entries. Then nothing is
-    /// inserted, and `key` and `value` are dropped; the same insertion may succeed later.
+    /// Fails if an allocation fails, or if the map has `2^32 - 1` entries; never for a key that the
+    /// handle has observed. Then nothing is inserted, and `key` and `value` are dropped; the same
+    /// insertion may succeed later.
     ///
     /// # Blocks
     /// While another thread pushes, unless the handle has observed the key.
@@ -531,12 +542,13 @@ impl<
             (record { value = r.value.now; index = r.index; is_new = r.is_new })) }
         ensures own_value { IfOk result (λ r. r.is_new ≡ true → r.value.now ≡ value) }
         ensures refused { IfErr result (λ e. mine self.new ≡ mine self.old) }
+        ensures only_new { OnErr result (Lacks K.eq (items_of self.old.seen) key) }
     {
-        if let Some(index) = self.index_of(&key) {
+        if let Some(earlier) = self.index_of(&key) {
             self.one_to_one();
             return Ok(Inserted {
-                value: &self.entry(index).value,
-                index,
+                value: &self.entry(earlier).value,
+                index: earlier,
                 is_new: false,
             });
         }
@@ -549,8 +561,8 @@ impl<
     /// # Errors
     /// Fails with `Busy` if another thread has the lock, or has inserted first in each of four
     /// attempts: the error has the key and the value. Fails with `Failed` where `insert_ref` fails:
-    /// `key` and `value` are dropped. In both cases nothing is inserted; the same insertion may
-    /// succeed later.
+    /// `key` and `value` are dropped. In both cases nothing is inserted, and the handle had not
+    /// observed the key; the same insertion may succeed later.
     ///
     /// # Allocates
     /// A buffer and its row of index entries, as `insert_ref` does. The call then has the lock
@@ -572,12 +584,13 @@ impl<
         ensures own_value { IfOk result (λ r. r.is_new ≡ true → r.value.now ≡ value) }
         ensures refused { IfErr result (λ f. (mine self.new ≡ mine self.old)
             × IfBusy f (λ pair. pair ≡ (key, value))) }
+        ensures only_new { OnErr result (Lacks K.eq (items_of self.old.seen) key) }
     {
-        if let Some(at) = self.index_of(&key) {
+        if let Some(observed) = self.index_of(&key) {
             self.one_to_one();
             return Ok(Inserted {
-                value: &self.entry(at).value,
-                index: at,
+                value: &self.entry(observed).value,
+                index: observed,
                 is_new: false,
             });
         }
@@ -621,6 +634,7 @@ impl<
         ensures value { IfOk result (λ r. (r.is_new ≡ true → F.post make r.value.now)
             × HoldsAt L.holds (K.eq key) r.value.now) }
         ensures refused { IfErr result (λ e. mine self.new ≡ mine self.old) }
+        ensures only_new { OnErr result (Lacks K.eq (items_of self.old.seen) key) }
     {
         if let Some(known) = self.find(&key) {
             self.one_to_one();
@@ -674,6 +688,7 @@ impl<
             (record { value = r.value.now; index = r.index; is_new = r.is_new })) }
         ensures refused { IfErr result (λ e. (mine self.new ≡ mine self.old)
             × (F.post make (Err e) ⊎ E.from_gives alloc_error e)) }
+        ensures only_new { OnErr result (Lacks Q.equivalent (items_of self.old.seen) query) }
     {
         if let Some(present) = self.find(query) {
             self.one_to_one();
@@ -776,8 +791,8 @@ impl<
     /// of the value that the key has.
     ///
     /// # Errors
-    /// Fails if an allocation fails, or if the map has `2^32 - 1` entries. Nothing is inserted; the
-    /// same insertion may succeed later.
+    /// Fails if an allocation fails, or if the map has `2^32 - 1` entries; never for a key that the
+    /// handle has observed. Nothing is inserted; the same insertion may succeed later.
     ///
     /// # Blocks
     /// While another thread pushes, unless the handle has observed the key.
@@ -792,6 +807,7 @@ impl<
         ensures inserted { IfOk result (λ r. InsertsOnce K.eq self.old self.new key r) }
         ensures own_value { IfOk result (λ r. r.is_new ≡ true → r.value ≡ value) }
         ensures refused { IfErr result (λ e. mine self.new ≡ mine self.old) }
+        ensures only_new { OnErr result (Lacks K.eq (items_of self.old.seen) key) }
     {
         Ok(copied(self.insert_ref(rt, key, value)?))
     }
@@ -813,6 +829,7 @@ impl<
         ensures own_value { IfOk result (λ r. r.is_new ≡ true → r.value ≡ value) }
         ensures refused { IfErr result (λ f. (mine self.new ≡ mine self.old)
             × IfBusy f (λ pair. pair ≡ (key, value))) }
+        ensures only_new { OnErr result (Lacks K.eq (items_of self.old.seen) key) }
     {
         Ok(copied(self.try_insert_ref(may, key, value)?))
     }

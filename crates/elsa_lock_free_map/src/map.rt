@@ -9,7 +9,7 @@
 ghost use Rattle.std.specs.Prelude.{◌≡◌, []};
 ghost use Rattle.elsa_lock_free.specs.SharedList.{mine};
 
-use crate::entries::{Entries, EntriesPass};
+use crate::entries::{Entries, EntriesHistory, EntriesPass};
 use crate::handle::MapHandle;
 use elsa_lock_free::lock_free::LockFreeFrozenVec;
 use elsa_tables::{AnyEntries, EntryRule, Inserted};
@@ -19,6 +19,9 @@ use std::marker::Model;
 
 /// What a thread has observed of a map, and the right to insert as its writer.
 pub type MapPass<K, V, S, A, L = AnyEntries> = EntriesPass<K, V, S, A, L>;
+
+/// The history of a map's list, as far as a view has observed it: it has no bytes.
+pub type MapHistory<K, V, S, A, L = AnyEntries> = EntriesHistory<K, V, S, A, L>;
 
 /// Returns an insertion's result with a copy of the value.
 pub(crate) fn copied<V: Copy + Drop>(inserted: Inserted<&V, usize>) -> Inserted<V, usize>

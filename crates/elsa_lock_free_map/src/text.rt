@@ -1,8 +1,8 @@
 //! A map whose keys are borrowed texts. Its queries are texts of any lifetime.
-ghost use Rattle.std.specs.Prelude.{◌≡◌, true, IfOk, IfErr};
+ghost use Rattle.std.specs.Prelude.{◌≡◌, true, IfOk, IfErr, OnErr};
 ghost use Rattle.elsa_lock_free.specs.Attempts.{IfBusy};
-ghost use Rattle.elsa_lock_free.specs.SharedList.{IsLaterPass, mine};
-ghost use Rattle.elsa_lock_free_map.specs.Entries.{InsertsOnce, is_text};
+ghost use Rattle.elsa_lock_free.specs.SharedList.{IsLaterPass, items_of, mine};
+ghost use Rattle.elsa_lock_free_map.specs.Entries.{InsertsOnce, Lacks, is_text};
 
 use crate::handle::MapHandle;
 use crate::map::copied;
@@ -42,6 +42,7 @@ impl<'m, 'a, V: Copy + Drop, S: BuildHasher + Copy + Drop, A: Allocator + Copy> 
         ensures inserted { IfOk result (λ r. InsertsOnce is_text self.old self.new text.now r) }
         ensures own_value { IfOk result (λ r. r.is_new ≡ true → r.value ≡ value) }
         ensures refused { IfErr result (λ e. mine self.new ≡ mine self.old) }
+        ensures only_new { OnErr result (Lacks is_text (items_of self.old.seen) text.now) }
     {
         if let Some(index) = self.find(text) {
             self.one_to_one();
@@ -75,6 +76,7 @@ impl<'m, 'a, V: Copy + Drop, S: BuildHasher + Copy + Drop, A: Allocator + Copy> 
         ensures own_value { IfOk result (λ r. r.is_new ≡ true → r.value ≡ value) }
         ensures refused { IfErr result (λ f. (mine self.new ≡ mine self.old)
             × IfBusy f (λ pair. (pair.0.now ≡ text.now) × (pair.1 ≡ value))) }
+        ensures only_new { OnErr result (Lacks is_text (items_of self.old.seen) text.now) }
     {
         if let Some(at) = self.find(text) {
             self.one_to_one();

@@ -1,12 +1,12 @@
 -- The histories of the running code, and the machine's worlds. The code's rule defines how an event extends a history.
 -- Here each event of a history is a block of turns of the machine. The last turn of the block is the atomic step of the
 -- event, and the turns before it change nothing that the threads share.
-use Rattle.std.specs.Prelude.{ℕ, suc, ◌≡◌, ◌^◌, Bool, List, [], ◌∷◌, ◌++◌, length, map, replicate, is_some}
+use Rattle.std.specs.Prelude.{ℕ, suc, ◌≡◌, ◌^◌, Bool, false, List, [], ◌∷◌, ◌++◌, length, map, replicate, is_some}
 use Rattle.elsa_lock_free.specs.declared.event.Event.{Event}
 use Rattle.elsa_lock_free.specs.declared.event.Event.TheVariants.{Acquired, Published, Extended, Cloned, Released, OfferOf}
 use Rattle.elsa_lock_free.specs.AtomicSteps.{Acquires, Extends, Publishes, Releases, Shared}
-use Rattle.elsa_lock_free.specs.History.{begins_hold, entries}
-use Rattle.elsa_lock_free.specs.Rights.{IsStep}
+use Rattle.elsa_lock_free.specs.History as history
+use Rattle.elsa_lock_free.specs.History.{begins_hold, entries, held_from}
 use Rattle.elsa_lock_free.specs.SharedList.{items_of}
 use Rattle.elsa_machine.specs.declared.machine.Plan.{Plan}
 use Rattle.elsa_machine.specs.declared.machine.Plan.TheVariants.{Pusher, Extender}
@@ -14,12 +14,6 @@ use Rattle.elsa_machine.specs.declared.machine.Turn.{Turn}
 use Rattle.elsa_machine.specs.Machine.{world_of}
 use Rattle.elsa_machine.specs.Turns.{shared_of}
 use Rattle.elsa_machine.specs.Worlds.{written_by, list_of}
-
--- A history that the code's rule allows: steps of the rule lead to it from the empty history, at which the maker of the
--- vector has the lock.
-pub data IsMade {T : Type 0} : List (Event T) → Type 0 where
-  begins : IsMade []
-  steps : (event : Event T) (before answer : List (Event T)) {after : List (Event T)} → IsMade before → IsStep event before after answer → IsMade after
 
 -- This number of items.
 unfoldable pub zeros : ℕ → List ℕ
@@ -40,6 +34,10 @@ pub record Agrees {A : Type 0} (plans : List (Plan A)) (front : List Turn) (list
 abbrev pub AreQuiet : {A : Type 0} → List (Plan A) → List Turn → List Turn → Type 0
 AreQuiet plans front [] = Unit {0}
 AreQuiet plans front (turn ∷ more) = (shared_of (world_of plans (front ++ turn ∷ [])) ≡ shared_of (world_of plans front)) × AreQuiet plans (front ++ turn ∷ []) more
+
+-- The item of an entry of the machine's list.
+abbrev pub number_of : ℕ × ℕ → ℕ
+number_of entry = entry.1
 
 -- The machine's items are numbers: `code` makes an item of the vector a number.
 module _ {T : Type 0} (code : T → ℕ) where
@@ -85,3 +83,14 @@ module _ {T : Type 0} (code : T → ℕ) where
   abbrev pub IsOfMachine : Type 0 → List (Event T) → Type 0
   IsOfMachine A [] = Unit {0}
   IsOfMachine A (e ∷ es) = (front : List Turn) × Follows {A = A} (map plan_of (e ∷ es)) 1 es front (written_by 0 (items e)) (begins_hold e)
+
+  -- After this schedule the machine has the items of the history's list, as numbers, the length of it, and a thread has
+  -- the lock exactly if one has it in the history. Before the first event the machine's lock is free.
+  pub record Reaches {A : Type 0} (plans : List (Plan A)) (log : List (Event T)) (schedule : List Turn) : Type 0 where
+    pub items_are : map number_of (list_of (world_of plans schedule).events) ≡ map code (items_of (history.list_of log))
+    pub length_is : (world_of plans schedule).length ≡ length (history.list_of log)
+    pub held_is : is_some (world_of plans schedule).held ≡ held_from false log
+
+  -- For the plans of its events, some schedule reaches what the history leaves.
+  abbrev pub IsReached : Type 0 → List (Event T) → Type 0
+  IsReached A log = (schedule : List Turn) × Reaches (map (plan_of {A = A}) log) log schedule

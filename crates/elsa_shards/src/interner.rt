@@ -215,8 +215,8 @@ impl<
     /// A buffer of the shard and its row of index entries, if a buffer begins.
     ///
     /// # Cost
-    /// Two hashes and one search. If a buffer begins, its row is filled with all names of the
-    /// shard.
+    /// Two hashes and one search for a known name, three hashes and two searches for a new one. If
+    /// a buffer begins, its row is filled with all names of the shard.
     pub fn put<R: Wait>(&mut self, rt: &R, name: T) -> Result<usize, AllocError>
         ensures same_interner { IsSameMap self.old self.new }
         ensures on_shard { OnShard self.old.0 self.new.0
@@ -422,7 +422,7 @@ impl<'i, 'a, S: BuildHasher + Copy + Drop, A: Allocator + Copy> ShardedNameHandl
     /// While another thread adds a name to the same shard, unless the text is found.
     ///
     /// # Cost
-    /// Two hashes and one search.
+    /// Two hashes and one search for a known text, three hashes and two searches for a new one.
     pub fn put_text<R: Wait, P: PlaceText<'a> + Drop>(
         &mut self,
         rt: &R,

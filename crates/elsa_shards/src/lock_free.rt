@@ -414,7 +414,8 @@ impl<
     /// A buffer of the shard and its row of index entries, if a buffer begins.
     ///
     /// # Cost
-    /// Two hashes and one search. If a buffer begins, its row is filled with all keys of the shard.
+    /// Two hashes and one search for a present key, three hashes and two searches for a new one. If
+    /// a buffer begins, its row is filled with all keys of the shard.
     pub fn insert_ref<R: Wait>(
         &mut self,
         rt: &R,
@@ -495,7 +496,8 @@ impl<
     /// As [`insert_ref`](Self::insert_ref) does, unless the key was found.
     ///
     /// # Cost
-    /// Two hashes and one search, and those of `make`.
+    /// Two hashes and one search for a present key, three hashes and two searches for a new one,
+    /// and those of `make`.
     pub fn get_or_insert_with<R: Wait, F: FnOnce() -> V + Drop>(
         &mut self,
         rt: &R,
@@ -538,7 +540,8 @@ impl<
     /// As [`insert_ref`](Self::insert_ref) does, unless the key was found.
     ///
     /// # Cost
-    /// Two hashes and one search, and those of `make`.
+    /// Two hashes and one search for a present key, four hashes and three searches for a new one,
+    /// and those of `make`.
     pub fn insert_by<R, Q, E, F>(
         &mut self,
         rt: &R,
@@ -607,7 +610,7 @@ impl<
     /// While another thread inserts into the same shard, unless the handle has observed the key.
     ///
     /// # Cost
-    /// Two hashes and one search.
+    /// Two hashes and one search for a present key, three hashes and two searches for a new one.
     pub fn insert<R: Wait>(
         &mut self,
         rt: &R,

@@ -13,7 +13,7 @@ use Rattle.elsa_lock_free.specs.Distinct.{EachIsNew}
 use Rattle.elsa_lock_free.specs.History.{list_of, entries, begins_hold, is_held, shared_by}
 use Rattle.elsa_lock_free.specs.SharedList.{written_by, copied}
 use Rattle.elsa_lock_free.specs.Rights.{IsStep}
-use Rattle.elsa_lock_free.specs.OneWord.{IsKept, Acquires, EndsHold, word_of}
+use Rattle.elsa_lock_free.specs.OneWord.{IsKept, IsMade, steps, Acquires, EndsHold, word_of}
 use Rattle.elsa_lock_free.proofs.RuleLemmas.History.{held_snoc, list_prefix, list_snoc, prefix_whole}
 
 -- a bit is at most 1
@@ -74,11 +74,12 @@ module _ (T : Type 0) where
     abbrev AcquireGoes : List Cell → Log → Type 0
     AcquireGoes cs log = Goes (IsKept is_new) shown (IsStep {T = T} Acquired) 0 (v, (no_nib, None)) (λ n. either (n == found) (found + 1) n) (Acquires (step 0 found (found + 1) Acquired) (v, (no_nib, None))) cs log
 
-    acquire_goes : (log : Log) → length (list_of log) < 2 ^ 62 → EachIsNew is_new (list_of log) → (b : Bool) → (word_of log == found) ≡ b → AcquireGoes ((word_of log, true) ∷ (0, true) ∷ []) log
-    acquire_goes log tiny all_new true is =
+    acquire_goes : (log : Log) → length (list_of log) < 2 ^ 62 → EachIsNew is_new (list_of log) → IsMade log → (b : Bool) → (word_of log == found) ≡ b → AcquireGoes ((word_of log, true) ∷ (0, true) ∷ []) log
+    acquire_goes log tiny all_new made true is =
         let here : word_of log ≡ found = grind (arith, nat_tests) in
         let small = bit_small (is_held log) in
         let free : is_held log ≡ false = bit_none (is_held log) (omega arith) in
+        let moved : IsStep Acquired log (log ++ Acquired ∷ []) log = (refl, (refl, acquire_holds log (log ++ Acquired ∷ []) refl free)) in
         let held : bit (is_held (log ++ Acquired ∷ [])) ≡ 1 = ap bit (held_snoc true log Acquired) in
         let len : length (list_of (log ++ Acquired ∷ [])) ≡ length (list_of log) = omega (arith, ap length (list_snoc log Acquired), length-append (list_of log) []) in
         let n : either (word_of log == found) (found + 1) (word_of log) ≡ word_of (log ++ Acquired ∷ []) = rw is (let z = ap bit free in omega arith) in (
@@ -86,25 +87,25 @@ module _ (T : Type 0) where
           Acquired ∷ [],
           Some log,
           tt,
-          record { words = ap (λ (k : ℕ). (k, true) ∷ (0, true) ∷ []) n; small = omega (arith, len, tiny); each_is_new = subst (EachIsNew is_new) (sym (list_snoc log Acquired ∙ append-nil (list_of log))) all_new },
-          inr (log, refl, refl, (refl, (refl, acquire_holds log (log ++ Acquired ∷ []) refl free))),
+          record { words = ap (λ (k : ℕ). (k, true) ∷ (0, true) ∷ []) n; small = omega (arith, len, tiny); each_is_new = subst (EachIsNew is_new) (sym (list_snoc log Acquired ∙ append-nil (list_of log))) all_new; made = steps Acquired log log made moved },
+          inr (log, refl, refl, moved),
           rw is (log, refl, refl, refl, free, tiny),
         )
-    acquire_goes log tiny all_new false is =
+    acquire_goes log tiny all_new made false is =
         let all : log ++ [] ≡ log = append-nil log in
         let n : either (word_of log == found) (found + 1) (word_of log) ≡ word_of (log ++ []) = rw is (ap word_of (sym all)) in (
           keeps,
           [],
           None,
           tt,
-          record { words = ap (λ (k : ℕ). (k, true) ∷ (0, true) ∷ []) n; small = subst (λ (x : Log). length (list_of x) < 2 ^ 62) (sym all) tiny; each_is_new = subst (λ (x : Log). EachIsNew is_new (list_of x)) (sym all) all_new },
+          record { words = ap (λ (k : ℕ). (k, true) ∷ (0, true) ∷ []) n; small = subst (λ (x : Log). length (list_of x) < 2 ^ 62) (sym all) tiny; each_is_new = subst (λ (x : Log). EachIsNew is_new (list_of x)) (sym all) all_new; made = subst (λ (x : Log). IsMade x) (sym all) made },
           inl (refl, all),
           rw is (ap word_of all),
         )
 
     pub acquire_moves : Moves (IsKept is_new) shown (IsStep {T = T} Acquired) 0 (v, (no_nib, None)) (λ n. either (n == found) (found + 1) n) (Acquires (step 0 found (found + 1) Acquired) (v, (no_nib, None)))
     acquire_moves cs log kept pre away = let P : List Cell → Type 0 = λ c. (0 < length c) × ((cell c 0).1 ≡ true) × AcquireGoes c log in
-        subst P (sym kept.words) (omega arith, refl, acquire_goes log kept.small kept.each_is_new (word_of log == found) refl)
+        subst P (sym kept.words) (omega arith, refl, acquire_goes log kept.small kept.each_is_new kept.made (word_of log == found) refl)
 
   -- ---- the end of a hold
   -- the items of a clone are published into an empty list alone
@@ -141,8 +142,8 @@ module _ (T : Type 0) where
     abbrev EndGoes : List Cell → Log → Type 0
     EndGoes cs log = Goes (IsKept is_new) shown (IsStep e) 0 (v, (no_nib, None)) (λ n. either (n == held) after n) (EndsHold (step 0 held after e) (v, (no_nib, None))) cs log
 
-    end_goes : (log : Log) → length (list_of log) < 2 ^ 62 → EachIsNew is_new (list_of log) → IsPrefix v log → (b : Bool) → (word_of log == held) ≡ b → EndGoes ((word_of log, true) ∷ (0, true) ∷ []) log
-    end_goes log tiny all_new pre true is =
+    end_goes : (log : Log) → length (list_of log) < 2 ^ 62 → EachIsNew is_new (list_of log) → IsMade log → IsPrefix v log → (b : Bool) → (word_of log == held) ≡ b → EndGoes ((word_of log, true) ∷ (0, true) ∷ []) log
+    end_goes log tiny all_new made pre true is =
         let here : word_of log ≡ held = grind (arith, nat_tests) in
         let one = ap bit holds in let small = bit_small (is_held log) in
         let on : is_held log ≡ true = bit_one (is_held log) (omega arith) in
@@ -152,31 +153,32 @@ module _ (T : Type 0) where
         let same : length (list_of log) ≡ length (list_of v) = let z = ap bit on in omega (arith, here, was, one, z) in
         let whole : list_of v ≡ list_of log = prefix_whole (list_of v) (list_of log) (list_prefix v log pre) (omega (arith, same)) in
         let lists : list_of v ++ entries e ≡ list_of (log ++ e ∷ []) = ap (λ (l : List (Entry T)). l ++ entries e) whole ∙ sym (list_snoc log e) in
+        let moved : IsStep e log (log ++ e ∷ []) log = is_step e log (log ++ e ∷ []) log ends pl (refl, inr (refl, on, may_follow e (list_of v) (list_of log) same may)) in
         let few : length (list_of (log ++ e ∷ [])) < 2 ^ 62 = omega (arith, lv, ll, low, here, was, one, small) in
         let n : either (word_of log == held) after (word_of log) ≡ word_of (log ++ e ∷ []) = rw is (let z = ap bit on in omega arith) in (
           keeps,
           e ∷ [],
           Some log,
           tt,
-          record { words = ap (λ (k : ℕ). (k, true) ∷ (0, true) ∷ []) n; small = few; each_is_new = subst (EachIsNew is_new) lists (new (subst (EachIsNew is_new) (sym whole) all_new)) },
-          inr (log, refl, refl, is_step e log (log ++ e ∷ []) log ends pl (refl, inr (refl, on, may_follow e (list_of v) (list_of log) same may))),
+          record { words = ap (λ (k : ℕ). (k, true) ∷ (0, true) ∷ []) n; small = few; each_is_new = subst (EachIsNew is_new) lists (new (subst (EachIsNew is_new) (sym whole) all_new)); made = steps e log log made moved },
+          inr (log, refl, refl, moved),
           (log, pre, refl, refl, rw is refl),
         )
-    end_goes log tiny all_new pre false is =
+    end_goes log tiny all_new made pre false is =
         let all : log ++ [] ≡ log = append-nil log in
         let n : either (word_of log == held) after (word_of log) ≡ word_of (log ++ []) = rw is (ap word_of (sym all)) in (
           keeps,
           [],
           Some log,
           tt,
-          record { words = ap (λ (k : ℕ). (k, true) ∷ (0, true) ∷ []) n; small = subst (λ (x : Log). length (list_of x) < 2 ^ 62) (sym all) tiny; each_is_new = subst (λ (x : Log). EachIsNew is_new (list_of x)) (sym all) all_new },
+          record { words = ap (λ (k : ℕ). (k, true) ∷ (0, true) ∷ []) n; small = subst (λ (x : Log). length (list_of x) < 2 ^ 62) (sym all) tiny; each_is_new = subst (λ (x : Log). EachIsNew is_new (list_of x)) (sym all) all_new; made = subst (λ (x : Log). IsMade x) (sym all) made },
           inr (log, refl, refl, is_step e log (log ++ []) log ends pl (refl, inl all)),
           (log, pre, refl, refl, rw is all),
         )
 
     pub end_moves : Moves (IsKept is_new) shown (IsStep e) 0 (v, (no_nib, None)) (λ n. either (n == held) after n) (EndsHold (step 0 held after e) (v, (no_nib, None)))
     end_moves cs log kept pre away = let P : List Cell → Type 0 = λ c. (0 < length c) × ((cell c 0).1 ≡ true) × EndGoes c log in
-        subst P (sym kept.words) (omega arith, refl, end_goes log kept.small kept.each_is_new pre (word_of log == held) refl)
+        subst P (sym kept.words) (omega arith, refl, end_goes log kept.small kept.each_is_new kept.made pre (word_of log == held) refl)
 
 -- at equal numbers the first branch was taken
 pub chosen : {A : Type 0} (B : Type 0) (m n : ℕ) → m ≡ n → MatchBool (m == n) A B → A

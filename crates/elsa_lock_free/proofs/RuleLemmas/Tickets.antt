@@ -83,7 +83,7 @@ module _ {M : Type 1} {𝓤 : Ura M} (𝓛 : Logic 𝓤) where
           use2 𝓛 (given (k < n) (‵ (ticket a k) ⊛ ‵ (tickets_from a n))) (ticket_issued 𝓛 a n k) $ learn ! (λ lt. split ! $ nothing ! $ fpack ! (count (suc a) pre ≤ k) (λ _. ftrue) so $ move ! (1 ∷ 0 ∷ []) $ fjoin ! $ fpack ! ℕ F k $
           rewrite ! 0 (λ (b : ℕ). ‵ (one_ticket pre b)) (sym same) refl $ move ! (0 ∷ 2 ∷ 1 ∷ []) $ by ! (goes rest (let s = count_snoc (suc a) pre e in let b = small (e.writer == suc a) in omega arith)))))
 
-    -- who has a writer's tickets from n on has all entries of that writer before them
+    -- a thread with a writer's tickets from n on has all entries of that writer before them
     pub tickets_bound : (a n : ℕ) (pre es : Entries) → count (suc a) pre ≤ n → ⟦ tickets pre es ⟧ ∗ ⟦ tickets_from a n ⟧ ⊢ Bound a n pre es
     tickets_bound a n pre [] le = qed 𝓛 (‵ ftrue ∷ ‵ (tickets_from a n) ∷ []) ∵ check ! (subst (λ (l : Entries). count (suc a) l ≤ n) (sym (append-nil pre)) le) $ done !
     tickets_bound a n pre (e ∷ es) le = by_name a n pre e es le (λ more. tickets_bound a n (pre ++ e ∷ []) es more) (ℕ_discrete e.writer (suc a))

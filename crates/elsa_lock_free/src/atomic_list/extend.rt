@@ -26,7 +26,7 @@ use std::alloc::Allocator;
 use std::sync::Wait;
 
 /// What many pushes leave: what is known of the history, its writer, the index of the first item,
-/// and how many were pushed.
+/// and the number of those that were pushed.
 pub type Extension<T, A, K> = (SeenHistory<T, A, K, ()>, Writer, usize, usize);
 
 /// What an acquire at the length `n` gained: the hold, and what it takes to append there.
@@ -73,7 +73,7 @@ impl<T: Copy + Drop, A: Allocator + Copy, K: ItemRule<T>> AtomicList<T, A, K> {
         requires same_vector { IsOf seen self.now.first × (is_held seen.log ≡ true) }
         requires length { (n ≡ length (list_of seen.log)) × (n + pushed < 2 ^ 62) }
 
-        // The offer of these items, by the writer, who has no fewer tickets than entries.
+        // The offer of these items, by the writer, which has no fewer tickets than entries.
         requires writer { _right.now ≡ suc (writer_of offer.about) }
         requires offer { (offer.names ≡ seen.names) × (offer.state ≡ None) }
         requires about { offer.about
@@ -84,7 +84,7 @@ impl<T: Copy + Drop, A: Allocator + Copy, K: ItemRule<T>> AtomicList<T, A, K> {
             ≤ count (suc (writer_of offer.about)) (list_of seen.log) }
         requires obeys_rule { (es : List (Entry T)) (e : Entry T) → K.is_new es e }
 
-        // The word is free, the list has these entries more, and the writer as many tickets fewer.
+        // The word is free, the list has these entries more, and the writer a ticket less for each.
         ensures free { is_held result.0.log ≡ false }
         ensures same { IsOf result.0 seen × (result.1.name ≡ writer_of offer.about)
             × (result.1.used ≡ used_of offer.about + pushed) }
@@ -107,8 +107,8 @@ impl<T: Copy + Drop, A: Allocator + Copy, K: ItemRule<T>> AtomicList<T, A, K> {
         (seen, take_extended(offer.into_gain()))
     }
 
-    /// Appends items, and releases the word that was acquired at the length `n`. Returns how many
-    /// were pushed: all, or none if an allocation failed.
+    /// Appends items, and releases the word that was acquired at the length `n`. Returns the
+    /// number of those that were pushed: all, or none if an allocation failed.
     fn append_all(
         &self,
         by: &PushRight,
@@ -162,8 +162,8 @@ impl<T: Copy + Drop, A: Allocator + Copy, K: ItemRule<T>> AtomicList<T, A, K> {
     }
 
     /// Pushes items side by side under one hold, tried first at the length `guess`, and publishes
-    /// them at once. Returns the index of the first, and how many were pushed: all, or none if an
-    /// allocation failed.
+    /// them at once. Returns the index of the first, and the number of those that were pushed: all,
+    /// or none if an allocation failed.
     pub fn extend<R: Wait>(
         &self,
         rt: &R,

@@ -241,7 +241,7 @@ impl<T: Drop, A: Allocator + Copy, K: ItemRule<T>, X: Beside<T> + Drop> AtomicLi
         item: T,
     ) -> (SeenHistory<T, A, K, X>, Writer)
 
-        // The holder, its writer, and the rights to the slot and to all behind it.
+        // The holder, its writer, and the rights to the slot and to all after it.
         requires writer { _right.now ≡ suc ready.writer.name }
         requires same_vector { IsOf ready.seen self.now.first }
         requires held { IsHolder ready.held ready.seen }

@@ -1,7 +1,7 @@
 //! Short forms of a handle's calls: with a view instead of a handle, or with a handle of their own,
 //! which they drop.
-ghost use Rattle.std.specs.Prelude.{◌≡◌, ◌≤◌, ◌<◌, ◌^◌, ◌+◌, [], length, slice_get, IfOk, IfErr, IfSome, IfNone, take};
-ghost use Rattle.elsa_lock_free.specs.SharedList.{BeginsABuffer, Continues, IsLaterPass, Pushes, PushesNext, copied, entry, items_of, mine};
+ghost use Rattle.std.specs.Prelude.{◌≡◌, ◌==◌, ◌≤◌, ◌<◌, ◌^◌, ◌+◌, [], length, slice_get, IfOk, IfErr, IfSome, IfNone, take};
+ghost use Rattle.elsa_lock_free.specs.SharedList.{BeginsABuffer, Continues, IsLaterPass, Pushes, PushesNext, View, copied, entry, items_of, mine};
 ghost use lib.Pointwise.{pointwise};
 
 use super::{LockFreeFrozenVec, Pass};
@@ -88,10 +88,15 @@ impl<T: Drop, A: Allocator + Copy, K: ItemRule<T>, X: Beside<T> + Drop> LockFree
         self.handle().len()
     }
 
-    /// Returns whether the vector has no item, by one load of the length. It promises nothing;
-    /// [`Handle::len`](super::Handle::len) does.
-    pub fn is_empty(&self) -> bool {
-        self.len() == 0
+    /// Returns whether the vector has no item, by one load of the length. It makes a handle and
+    /// drops it, and promises the result for some view of the vector;
+    /// [`Handle::len`](super::Handle::len) says for which.
+    pub fn is_empty(&self) -> bool
+        ensures empty { (at : View T) × (at.vector ≡ self.now)
+            × (result ≡ (length at.seen == 0)) }
+    {
+        let mut handle = self.handle();
+        handle.len() == 0
     }
 }
 
@@ -176,12 +181,16 @@ impl<T: Copy + Drop, A: Allocator + Copy, K: ItemRule<T>> LockFreeFrozenVec<T, A
         self.handle().get(index)
     }
 
-    /// Makes an independent vector of the items. It makes a handle and drops it, so it promises
-    /// nothing; [`Handle::clone_vector`](super::Handle::clone_vector) does.
+    /// Makes an independent vector of the items. It makes a handle and drops it, and promises a
+    /// copy of the items of some view of the vector;
+    /// [`Handle::clone_vector`](super::Handle::clone_vector) says of which.
     ///
     /// # Errors
     /// Fails if an allocation fails. All memory that was allocated is then deallocated.
-    pub fn clone(&self) -> Result<LockFreeFrozenVec<T, A>, AllocError> {
+    pub fn clone(&self) -> Result<LockFreeFrozenVec<T, A>, AllocError>
+        ensures clone_items { IfOk result (λ copy. (at of_copy : View T) × (at.vector ≡ self.now)
+            × (of_copy.vector ≡ copy) × (of_copy.seen ≡ copied (items_of at.seen))) }
+    {
         let (copy, _copy_pass) = self.handle().clone_vector()?;
         Ok(copy)
     }
@@ -211,8 +220,13 @@ impl<T: Drop + PartialEq, A: Allocator + Copy, K: ItemRule<T>> LockFreeFrozenVec
     }
 
     /// Returns whether two vectors have equal items in the same order. It makes handles and drops
-    /// them, so it promises nothing; [`Handle::equals`](super::Handle::equals) does.
-    pub fn equals<L: ItemRule<T>>(&self, other: &LockFreeFrozenVec<T, A, L>) -> bool {
+    /// them, and promises the result for some view of each vector;
+    /// [`Handle::equals`](super::Handle::equals) says for which.
+    pub fn equals<L: ItemRule<T>>(&self, other: &LockFreeFrozenVec<T, A, L>) -> bool
+        ensures equal { (at other_at : View T) × (at.vector ≡ self.now)
+            × (other_at.vector ≡ other.now)
+            × (result ≡ pointwise T.eq (items_of at.seen) (items_of other_at.seen)) }
+    {
         self.handle().equals(&mut other.handle())
     }
 }

@@ -1,6 +1,6 @@
 -- Each history that the code's rule allows is a history of the machine.
-use Rattle.std.proofs.Common.{ℕ, zero, suc, ◌≡◌, ◌∙◌, ◌+◌, ◌^◌, ◌<◌, ◌≤◌, ◌==◌, not, Bool, true, false, List, [], ◌∷◌, ◌++◌, length, map, refl, ap, sym, subst, arith, Some, None, slice_get, inl, inr, true≢false}
-use Rattle.std.proofs.lemmas.List.{append-nil, length-append, length-map, length-replicate}
+use Rattle.std.proofs.Common.{ℕ, zero, suc, ◌≡◌, ◌∙◌, ◌+◌, ◌^◌, ◌<◌, ◌≤◌, ◌==◌, not, Bool, true, false, List, [], ◌∷◌, ◌++◌, append_assoc, length, map, refl, ap, sym, subst, arith, Some, None, slice_get, inl, inr, true≢false}
+use Rattle.std.proofs.lemmas.List.{append-nil, length-append, length-map, length-replicate, map-append}
 use Rattle.std.proofs.lemmas.Bool.Decides.{nat_tests}
 use Rattle.std.specs.Prelude.{is_some}
 use Rattle.elsa_lock_free.specs.declared.event.Entry.{Entry}
@@ -8,6 +8,7 @@ use Rattle.elsa_lock_free.specs.declared.event.Event.{Event}
 use Rattle.elsa_lock_free.specs.declared.event.Event.TheVariants.{Acquired, Published, Extended, Cloned, Released, OfferOf}
 use Rattle.elsa_lock_free.specs.History as history
 use Rattle.elsa_lock_free.specs.History.{begins_hold, held_from}
+use Rattle.elsa_lock_free.specs.OneWord.{IsMade, begins, steps}
 use Rattle.elsa_lock_free.specs.Rights.{IsStep}
 use Rattle.elsa_lock_free.specs.SharedList.{items_of, written_by as entries_by}
 use Rattle.elsa_machine.specs.declared.machine.Answer.{Answer}
@@ -25,7 +26,7 @@ use Rattle.elsa_machine.proofs.MachineLemmas.ExtensionsEnd.{extensions_end}
 use Rattle.elsa_machine.proofs.MachineLemmas.Solo.{pushes_end}
 use Rattle.elsa_machine.proofs.TieLemmas.Holding.{Caller, pusher, extender, next_turn, at_length, shared_after, to_acquire, to_end}
 use Rattle.elsa_machine.proofs.TieLemmas.Refused.{refusal_ends}
-use Rattle.elsa_machine.specs.Tie.{IsMade, begins, steps, zeros, too_many, Agrees, AreQuiet, items, plan_of, AtomicStep, Does, Follows, IsOfMachine}
+use Rattle.elsa_machine.specs.Tie.{zeros, too_many, Agrees, AreQuiet, items, plan_of, AtomicStep, Does, Follows, IsOfMachine, number_of, IsReached}
 
 -- a number is not a smaller one
 apart : (i j : ℕ) → i < j → (i == j) ≡ false
@@ -343,3 +344,44 @@ module _ {T : Type 0} (code : T → ℕ) where
         subst (λ (z : Bool). Follows code plans 1 es after (written_by 0 (items code e)) z) (sym ends_it)
             (follows plans es 1 after (written_by 0 (items code e)) (subst (λ (z : Bool). Alternates z es) ends_it so.1) b.ended (later plans 0 e es all) (omega (arith, t, l, small))),
       )
+
+  -- the numbers of a thread's entries are its items
+  numbers : (k : ℕ) (xs : List ℕ) → map number_of (written_by k xs) ≡ xs
+  numbers k [] = refl
+  numbers k (x ∷ xs) = ap (λ (l : List ℕ). x ∷ l) (numbers k xs)
+
+  -- the items of an event and those of the events after it
+  items_first : (e : Event T) (es : List (Event T)) → map code (items_of (history.list_of (e ∷ es))) ≡ items code e ++ map code (items_of (history.list_of es))
+  items_first e es =
+      let a = map-append (λ (x : Entry T). x.item) (history.entries e) (history.list_of es) in
+      ap (map code) a ∙ map-append code (items_of (history.entries e)) (items_of (history.list_of es))
+
+  -- what the machine has after events that it follows
+  record Ended {A : Type 0} (plans : List (Plan A)) (es : List (Event T)) (list : List (ℕ × ℕ)) (held : Bool) (schedule : List Turn) (end : List (ℕ × ℕ)) : Type 0 where
+    agrees : Agrees plans schedule end (held_from held es)
+    numbers_are : map number_of end ≡ map number_of list ++ map code (items_of (history.list_of es))
+
+  follows_to : {A : Type 0} (plans : List (Plan A)) (k : ℕ) (es : List (Event T)) (front : List Turn) (list : List (ℕ × ℕ)) (held : Bool)
+      → Follows code plans k es front list held → (schedule : List Turn) × (end : List (ℕ × ℕ)) × Ended plans es list held schedule end
+  follows_to plans k [] front list held agrees = (front, list, record { agrees = agrees; numbers_are = sym (append-nil (map number_of list)) })
+  follows_to plans k (e ∷ es) front list held (agrees, (lead, turn, does, more)) =
+      let new : List (ℕ × ℕ) = written_by k (items code e) in
+      let r = follows_to plans (suc k) es ((front ++ lead) ++ turn ∷ []) (list ++ new) (begins_hold e) more in
+      let rest : List ℕ = map code (items_of (history.list_of es)) in
+      let here : map number_of (list ++ new) ≡ map number_of list ++ items code e = map-append number_of list new ∙ ap (λ (l : List ℕ). map number_of list ++ l) (numbers k (items code e)) in
+      let all : map number_of (list ++ new) ++ rest ≡ map number_of list ++ map code (items_of (history.list_of (e ∷ es))) =
+      ap (λ (l : List ℕ). l ++ rest) here ∙ (append_assoc (map number_of list) (items code e) rest ∙ ap (λ (l : List ℕ). map number_of list ++ l) (sym (items_first e es))) in
+      (r.0, r.1, record { agrees = r.2.agrees; numbers_are = r.2.numbers_are ∙ all })
+
+  -- The machine ends where the history does.
+  pub machine_ends : (A : Type 0) (log : List (Event T)) → IsOfMachine code A log → IsReached code A log
+  machine_ends A [] of = ([], record { items_are = refl; length_is = refl; held_is = refl })
+  machine_ends A (e ∷ es) of =
+      let plans : List (Plan A) = map (plan_of code) (e ∷ es) in
+      let r = follows_to plans 1 es of.0 (written_by 0 (items code e)) (begins_hold e) of.1 in
+      let at = r.2 in
+      let whole : map number_of r.1 ≡ map code (items_of (history.list_of (e ∷ es))) =
+      at.numbers_are ∙ (ap (λ (l : List ℕ). l ++ map code (items_of (history.list_of es))) (numbers 0 (items code e)) ∙ sym (items_first e es)) in
+      let many : length r.1 ≡ length (history.list_of (e ∷ es)) =
+      sym (length-map r.1 number_of) ∙ (ap length whole ∙ (length-map (items_of (history.list_of (e ∷ es))) code ∙ length-map (history.list_of (e ∷ es)) (λ (x : Entry T). x.item))) in
+      (r.0, record { items_are = ap (map number_of) at.agrees.list_is ∙ whole; length_is = at.agrees.length_is ∙ many; held_is = at.agrees.held_is })

@@ -1,6 +1,8 @@
-use Rattle.elsa_machine.proofs.TieLemmas.Histories.{each_made}
+use Rattle.elsa_machine.proofs.TieLemmas.Histories.{each_made, machine_ends}
 use Rattle.elsa_machine.proofs.tie.runs_on_machine.Goals as goal
 
--- Of what the rule keeps, the bound of the length is needed.
-pub returns : goal.returns
-returns g c = λ cells log code made kept. each_made code _ log made kept.small
+pub returns-clause-steps : goal.returns-clause-steps
+returns-clause-steps g c = λ code. each_made code _ c.args.history.now.events c.is_made.ensures.made c.is_made.ensures.limit
+
+pub returns-clause-end : goal.returns-clause-end
+returns-clause-end g c = λ code. machine_ends code _ c.args.history.now.events (each_made code _ c.args.history.now.events c.is_made.ensures.made c.is_made.ensures.limit)

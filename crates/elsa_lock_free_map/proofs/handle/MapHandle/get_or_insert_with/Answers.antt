@@ -2,6 +2,7 @@ use Rattle.std.proofs.Common.{◌≡◌, true, refl, rules, sym, ◌∙◌}
 use Rattle.elsa_lock_free.specs.SharedList.{items_of}
 use Rattle.elsa_lock_free.proofs.RuleLemmas.History.{items_prefix}
 use Rattle.elsa_lock_free_map.proofs.MapLemmas.{inserts_later, key_at, lacks_before, later_at, one_value, stands_at, stands_holds}
+use Rattle.elsa_lock_free_map.proofs.OnError.{on_error}
 use Rattle.elsa_lock_free_map.proofs.handle.MapHandle.get_or_insert_with.Goals as goal
 
 pub returns-in-Some-clause-inserted : goal.returns-in-Some-clause-inserted
@@ -38,3 +39,8 @@ returns-clause-value g c =
     let r = c.in_ok-inserted.inserted in
     let made : r.is_new ≡ true → goal.F-post g c.args.make r.value.now = search rules in
     (made, stands_holds g.K.PartialEq.eq g.L.EntryRule.holds (items_of c.insert_absent.new.self.seen) c.args.key r.index r.value.now c.obeys_rule-2.ensures c.in_ok-inserted.ensures.inserted.0)
+
+pub returns-in_err-inserted-clause-only_new : goal.returns-in_err-inserted-clause-only_new
+returns-in_err-inserted-clause-only_new g c =
+    let p = items_prefix c.args.self.now.seen c.find.new.self.seen c.find.ensures.continues.1 in
+    on_error c.from_residual.result (lacks_before g.K.PartialEq.eq (items_of c.args.self.now.seen) (items_of c.find.new.self.seen) c.args.key p c.in_default.ensures.absent)

@@ -36,3 +36,13 @@ returns-in-Ok-insert_ref-clause-inserted g c =
     let lacks = lacks_before g.Q.Equivalent.equivalent (items_of c.args.self.now.seen) (items_of c.find.new.self.seen) c.args.query p c.in_default.ensures.absent in
     let done = c.in-Ok-insert_ref.ensures in
     inr (made.0, made.1, c.in-Ok.ensures, lacks, inserts_later g.K.PartialEq.eq c.args.self.now c.find.new.self c.insert_ref.new.self made.0 _ c.find.ensures.continues done.inserted, done.own_value)
+
+pub returns-in-Err-clause-only_new : goal.returns-in-Err-clause-only_new
+returns-in-Err-clause-only_new g c =
+    let p = items_prefix c.args.self.now.seen c.find.new.self.seen c.find.ensures.continues.1 in
+    lacks_before g.Q.Equivalent.equivalent (items_of c.args.self.now.seen) (items_of c.find.new.self.seen) c.args.query p c.in_default.ensures.absent
+
+pub returns-in-Err-insert_ref-clause-only_new : goal.returns-in-Err-insert_ref-clause-only_new
+returns-in-Err-insert_ref-clause-only_new g c =
+    let p = items_prefix c.args.self.now.seen c.find.new.self.seen c.find.ensures.continues.1 in
+    lacks_before g.Q.Equivalent.equivalent (items_of c.args.self.now.seen) (items_of c.find.new.self.seen) c.args.query p c.in_default.ensures.absent

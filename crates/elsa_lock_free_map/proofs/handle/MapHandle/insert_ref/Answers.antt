@@ -7,11 +7,11 @@ pub returns-in-Some-clause-inserted : goal.returns-in-Some-clause-inserted
 returns-in-Some-clause-inserted g c =
     let f = c.in-Some.ensures.found in
     let es = items_of c.args.self.now.seen in
-    let here = stands_at g.K.PartialEq.eq es c.in-Some.index c.args.key c.entry.result.now f c.entry.ensures in (
+    let here = stands_at g.K.PartialEq.eq es c.in-Some.earlier c.args.key c.entry.result.now f c.entry.ensures in (
       here,
       refl,
       λ j v h.
           let same = sym (g.met.K.Eq.laws.congr c.args.key f.0.key h.0.key f.2) ∙ h.2 in
-          let index = c.one_to_one.ensures c.in-Some.index j f.0.key h.0.key (key_at es c.in-Some.index f.0 f.1) (key_at es j h.0 h.1) same in
-          (index, one_value g.K.PartialEq.eq es c.args.key c.in-Some.index j _ v index here h, refl),
+          let index = c.one_to_one.ensures c.in-Some.earlier j f.0.key h.0.key (key_at es c.in-Some.earlier f.0 f.1) (key_at es j h.0 h.1) same in
+          (index, one_value g.K.PartialEq.eq es c.args.key c.in-Some.earlier j _ v index here h, refl),
     )

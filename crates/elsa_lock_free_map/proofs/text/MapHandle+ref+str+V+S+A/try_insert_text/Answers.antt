@@ -5,6 +5,7 @@ use Rattle.elsa_lock_free.specs.SharedList.{items_of}
 use Rattle.elsa_lock_free.proofs.RuleLemmas.History.{items_prefix}
 use Rattle.elsa_lock_free_map.specs.Entries.{InsertsOnce, is_text}
 use Rattle.elsa_lock_free_map.proofs.MapLemmas.{inserts_since, key_at, lacks_before, later_at, one_value, stands_at, text_stands}
+use Rattle.elsa_lock_free_map.proofs.OnError.{on_error}
 use Rattle.elsa_lock_free_map.proofs.text.MapHandle+ref+str+V+S+A.try_insert_text.Goals as goal
 
 pub returns-in-Some-clause-inserted : goal.returns-in-Some-clause-inserted
@@ -32,3 +33,13 @@ returns-clause-inserted g c =
     let s = subst (λ r. InsertsOnce (λ a b. bytes_eq a.now b.now) c.find.new.self after c.in-Ok.key r) (sym c.copied.ensures) c.in_ok-try_insert_absent.ensures.inserted in
     let here = text_stands (items_of after.seen) c.args.text.now c.in-Ok.key c.in-Ok.ensures r.index r.value s.0 in
     inserts_since is_text c.args.self.now c.find.new.self after c.args.text.now r c.find.ensures.continues lacks here s.1
+
+pub returns-in_default-place_text-clause-only_new : goal.returns-in_default-place_text-clause-only_new
+returns-in_default-place_text-clause-only_new g c =
+    let p = items_prefix c.args.self.now.seen c.find.new.self.seen c.find.ensures.continues.1 in
+    lacks_before is_text (items_of c.args.self.now.seen) (items_of c.find.new.self.seen) c.args.text.now p c.in_default.ensures.absent
+
+pub returns-in_err-try_insert_absent-clause-only_new : goal.returns-in_err-try_insert_absent-clause-only_new
+returns-in_err-try_insert_absent-clause-only_new g c =
+    let p = items_prefix c.args.self.now.seen c.find.new.self.seen c.find.ensures.continues.1 in
+    on_error c.from_residual.result (lacks_before is_text (items_of c.args.self.now.seen) (items_of c.find.new.self.seen) c.args.text.now p c.in_default.ensures.absent)

@@ -1,6 +1,6 @@
 use Rattle.std.proofs.Common.{length, ap, ◌∙◌, arith}
 use Rattle.elsa_lock_free.proofs.ListLemmas.Prefix.{prefix_within}
-use Rattle.elsa_lock_free.proofs.handle.Handle.len.Goals as goal
+use Rattle.elsa_lock_free.proofs.handle.Handle.len_after.Goals as goal
 
 pub returns-clause-fresh : goal.returns-clause-fresh
 returns-clause-fresh g c =
