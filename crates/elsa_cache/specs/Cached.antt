@@ -36,7 +36,7 @@ module _ {Made : Type 0} where
     pub other_texts : (q : Bor (List ℕ)) → same_text path q ≡ false → text_at new q ≡ text_at old q
     pub other_resources : (q : Bor (List ℕ)) → same_text path q ≡ false → resource_at new q ≡ resource_at old q
 
-  -- if the path gains a text, then one that the loader may return
+  -- If the path gains a text, it is one that the loader may return.
   abbrev pub GainsText : (List ℕ → Type 0) → Cached Made → Cached Made → Bor (List ℕ) → Type 0
   GainsText loads old new path = (t : Bor (List ℕ)) → text_at old path ≡ None → text_at new path ≡ Some t → loads t.now
 

@@ -28,7 +28,7 @@ module _ {K B : Type 0} (eq : K → K → Bool) (laws : IsEquivalence eq) (is_cl
       here = sym (laws.congr x y f.0 e) ∙ laws.symm x f.0 ∙ sym (laws.congr p.0 f.0 x h.0.1) ∙ laws.symm p.0 x
   found_in_clones es fs x y h e = absurd h
 
-  -- one more clone
+  -- another clone
   pub clone_more : (es fs gs : List (K × B)) (i : ℕ) (x y : K) (b : B) → i < length es → slice_get es i ≡ Some (x, b) → IsDistinct eq (keys_of es)
       → IsCloneOf eq is_clone (take i es) fs → is_clone x y → eq x y ≡ true → gs ≡ insert_entry eq fs y b → IsCloneOf eq is_clone (take (i + 1) es) gs
   clone_more es fs gs i x y b within at distinct before cloned same is =

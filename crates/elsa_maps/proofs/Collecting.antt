@@ -1,4 +1,4 @@
--- What an index map holds when one more pair was collected.
+-- What an index map holds when another pair was collected.
 use Rattle.std.proofs.Common.{Some, ◌≡◌, Bool, true, false, cond, if◌then◌else◌, List, [], ◌∷◌, ◌++◌, reverse, refl, sym, ap, ◌∙◌, append-nil}
 use Rattle.std.specs.Cmp.{IsEquivalence}
 use Rattle.std.specs.List.{list_any}
@@ -28,7 +28,7 @@ module _ {K B : Type 0} (eq : K → K → Bool) (laws : IsEquivalence eq) where
       by true = ap keys_of (sym (append-nil firsts))
       by false = sym (map-append (λ p. p.0) firsts ((k, b) ∷ []))
 
-  -- one more pair
+  -- another pair
   pub collects_push : {V T : Type 0} (target : V → T) (shown : B → T) (xs : List (K × V)) (es fs : List (K × B)) (k : K) (v : V) (b : B)
       → CollectsTargets eq target shown xs es → shown b ≡ target v → fs ≡ insert_entry eq es k b → ((q : K) → lookup (eq q) fs ≡ cond (eq k q) (Some b) (lookup (eq q) es))
       → CollectsTargets eq target shown (xs ++ (k, v) ∷ []) fs

@@ -28,7 +28,7 @@ module _ {K V B T : Type 0} (eq : K → K → Bool) (laws : IsEquivalence eq) (t
   pub holds_none : (es : List (K × B)) → es ≡ [] → HoldsLast eq target shown [] es
   holds_none es none q = ap (λ fs. option_map shown (lookup (eq q) fs)) none
 
-  -- one more pair
+  -- another pair
   pub holds_more : (pairs : List (K × V)) (es fs : List (K × B)) (k : K) (v : V) (b : B) → HoldsLast eq target shown pairs es
       → shown b ≡ target v → ((q : K) → value_at eq fs q ≡ cond (eq k q) (Some b) (value_at eq es q)) → HoldsLast eq target shown (pairs ++ (k, v) ∷ []) fs
   holds_more pairs es fs k v b held shows looks q =
@@ -79,7 +79,7 @@ module _ {K B : Type 0} (eq : K → K → Bool) (laws : IsEquivalence eq) where
         by None is (Ok a) same h = ((λ f. is), (λ none. (h none).0))
         by None is (Err e) same h = tt
 
-  -- one more pair, under a key that equals its own
+  -- another pair, under a key that equals its own
   pub copies_more : (pairs : List (K × B)) (es fs : List (K × B)) (k c : K) (v : B) → ((q : K) → value_at eq es q ≡ update_all eq (λ _. None) pairs q) → eq k c ≡ true
       → ((q : K) → value_at eq fs q ≡ cond (eq c q) (Some v) (value_at eq es q)) → (q : K) → value_at eq fs q ≡ update_all eq (λ _. None) (pairs ++ (k, v) ∷ []) q
   copies_more pairs es fs k c v held same looks q =

@@ -22,7 +22,7 @@ module _ {F K B : Type 0} (T : F → K → B → Bool → B → F → Type 0) (l
       subst (λ ks. AllZip (HasValueOf C) (s ∷ ss) ks) (sym (ran.6 ∙ ap (λ b. cond b ((e.0, ran.1) ∷ ran.3) ran.3) a.0)) ((clones.0.0, a.1), rest)
   gets_values f ss es kept is clones ran = absurd clones
 
--- a clone is asked for where its source is
+-- a clone is looked up where its source is
 alike : {K : Type 0} (eq : K → K → Bool) (laws : IsEquivalence eq) (q k c : K) → eq k c ≡ true → eq q c ≡ eq q k
 alike eq laws q k c same = laws.symm q c ∙ sym (laws.congr k c q same) ∙ laws.symm k q
 

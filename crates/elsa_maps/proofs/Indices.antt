@@ -24,7 +24,7 @@ none_passes t xs e = list_any_none t xs (λ k d l. fails_before_first t xs k d (
 pub new_value_goes_last : {T : Type 0} (eq : T → T → Bool) (ks : List T) (k : T) → position (eq k) ks ≡ None → insert_key eq ks k ≡ ks ++ k ∷ []
 new_value_goes_last eq ks k e = ap (λ b. if b then ks else ks ++ k ∷ []) (none_passes (eq k) ks e)
 
--- the value that a test finds stands at the index that it finds
+-- the value that a test finds is at the index that it finds
 pub found_at : {X : Type 0} (t : X → Bool) (xs : List X) (i : ℕ) → position t xs ≡ Some i → find t xs ≡ slice_get xs i
 found_at {X} t xs i e = find_at t xs ∙ ap (slice_get xs) at
   where

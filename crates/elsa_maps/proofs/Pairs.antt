@@ -12,7 +12,7 @@ use Rattle.elsa_tables.proofs.Entries.{found_last}
 use Rattle.elsa_tables.proofs.MapEquality.{same_from_each}
 use Rattle.elsa_maps.proofs.Indices.{no_value, index_of_last, value_there}
 
--- after an insertion the key stands at the index that was answered, and has the value that was answered
+-- after an insertion the key is at the index that was returned, and has the value that was returned
 pub stands_inserted : {K V T B : Type 0} (eq : K → K → Bool) (laws : IsEquivalence eq) (target : V → T) (shown : B → T) (es : List (K × B)) (k : K) (v : V) (i : ℕ) (b : B) (fs : List (K × B))
     → Inserted eq target shown es k v i b fs → (index_of eq fs k ≡ Some i) × (value_at eq fs k ≡ Some b)
 stands_inserted eq laws target shown es k v i b fs h = by (index_of eq es k) refl h

@@ -8,12 +8,13 @@ use Rattle.elsa_tables.specs.Insertions.{first_of_each}
 pub use Rattle.elsa_tables.specs.FirstWins.{value_at, entry_at, Adds, Keeps, SameAt, same_values, Inserts, HoldsLast}
 
 module _ {K B : Type 0} (eq : K → K → Bool) where
-  -- the borrow b shows the target of v, and new is old with it under k, at each key that equals k, and one entry longer
+  -- The borrow `b` shows the target of `v`. `new` is `old` with `b` at each key that equals `k`, and has one entry more
+  -- than `old`.
   abbrev pub AddsNew : {V T : Type 0} → (V → T) → (B → T) → List (K × B) → K → V → B → List (K × B) → Type 0
   AddsNew target shown old k v b new =
       (shown b ≡ target v) × Adds eq (value_at eq old) (value_at eq new) k b × (length new ≡ length old + 1)
 
-  -- a refusal comes at an absent key alone, and leaves the entries
+  -- A failed insertion is of an absent key, and leaves the entries unchanged.
   abbrev pub IsRefused : List (K × B) → K → List (K × B) → Type 0
   IsRefused old k new = (new ≡ old) × (value_at eq old k ≡ None)
 

@@ -18,15 +18,15 @@ module _ {T V S : Type 0} where
   abbrev pub name_of : Pushed (Entry T V S) → Pushed T
   name_of e = record { writer = e.writer; item = e.item.key }
 
-  -- a pass of the interner's map as a pass of names alone
+  -- The view of the interner's map as a view of names alone.
   abbrev pub names_of : View (Entry T V S) → View T
   names_of pass = record { vector = pass.vector; writer = pass.writer; seen = map name_of pass.seen }
 
--- at this index of the list is an item that is equal to x
+-- At this index of the list is an item that equals x.
 abbrev pub HasAt : {Q T : Type 0} → (Q → T → Bool) → List T → ℕ → Q → Type 0
 HasAt {Q} {T} equal xs i x = (y : T) × (slice_get xs i ≡ Some y) × (equal x y ≡ true)
 
--- at this index of the list is a borrow of this text
+-- At this index of the list is a borrow of this text.
 abbrev pub HasTextAt : List (Bor (List ℕ)) → ℕ → List ℕ → Type 0
 HasTextAt xs i text = (y : Bor (List ℕ)) × (slice_get xs i ≡ Some y) × (y.now ≡ text)
 
@@ -41,11 +41,12 @@ PutsBy has before after i =
     has (items_of after.seen) i × ((mine after ≡ mine before) ⊎ (mine after ≡ mine before ++ i ∷ []))
     × ((j : ℕ) → has (items_of before.seen) j → (i ≡ j) × (mine after ≡ mine before))
 
--- a name was put
+-- A `put` of a name returned this index: the view has observed the name there, or has pushed it there. If the view had
+-- observed the name before, nothing was pushed.
 abbrev pub PutsName : {T : Type 0} → (T → T → Bool) → View T → View T → ℕ → T → Type 0
 PutsName equal before after i name = PutsBy (λ xs j. HasAt equal xs j name) before after i
 
--- a text was put
+-- The same of a text.
 abbrev pub PutsText : View (Bor (List ℕ)) → View (Bor (List ℕ)) → ℕ → List ℕ → Type 0
 PutsText before after i text = PutsBy (λ xs j. HasTextAt xs j text) before after i
 

@@ -24,7 +24,8 @@ pub fn keeps_earlier_values<R, M: MapForm<R>>(
     ensures kept { Keeps (value_at M.same (M.entries map.old)) (value_at M.same (M.entries map.new)) }
     ensures found_after { IfOk result (λ r. value_at M.same (M.entries map.new) key ≡ Some r.0) }
 
-    // Whether it was new, and by how many entries the map grew. A failed call changes nothing.
+    // Whether it was new, and the number of entries by which the map grew. A failed call changes
+    // nothing.
     ensures flag { IfOk result (λ r.
         IsTrue r.1 ↔ (value_at M.same (M.entries map.old) key ≡ None)) }
     ensures grows { IfOk result (λ r.

@@ -1,6 +1,6 @@
 use Rattle.elsa_cache.proofs.parsed_cache.keep.Goals as goal
 
--- the placed path reads as the path does
+-- the stored path reads as the path does
 pub returns-in-Some-clause-present : goal.returns-in-Some-clause-present
 returns-in-Some-clause-present g c = rw (← c.requires.reads_same _ c.in-Some.is) c.insert.ensures.present
 

@@ -1,4 +1,4 @@
--- The pair with a new key goes last: what the vacant entry knows of the map is told of the map that was lent.
+-- The pair with a new key goes last: what the vacant entry knows of the map holds of the map that was borrowed.
 use Rattle.std.proofs.Common.{rules, ◌≡◌, length, None, subst, sym, refl}
 use Rattle.std.specs.Map.{lookup}
 use Rattle.indexmap.specs.Entry.{entry_map_ref, entry_index, entry_key, entry_value, map_with_value}
