@@ -161,51 +161,28 @@ fn a_failed_call_leaves_the_map_as_it_was(rt: HostRuntime) -> Result<(), Fail> {
 
 type Numbers<'a, 'b> = FrozenAppendMap<'a, u64, Own<u64>, BuildHasherDefault<FoldHasher>, Heap<'b>>;
 
-fn has_first(map: &Numbers<'_, '_>, count: u64) -> bool {
-    for number in 0..count {
-        if map.get(&number) != Some(&number) {
-            return false;
-        }
-    }
-    map.len() as u64 == count && map.get(&count).is_none()
-}
-
-// Whether an insertion fails if no memory is granted, leaves the entries, and then succeeds.
-fn fails_and_succeeds(map: &mut Numbers<'_, '_>, heap: Heap<'_>, number: u64) -> bool {
-    heap.refuse_next(u64::MAX);
-    let refused = heap.refused();
-    let outcome = map.insert(number, Own(number)).is_ok();
-    let is_told = outcome == (heap.refused() == refused);
-    let is_kept = outcome || has_first(map, number);
-    heap.refuse_next(0);
-    is_told
-        && is_kept
-        && map.insert(number, Own(number)).is_ok()
-        && has_first(map, number.saturating_add(1))
-}
-
-// The number of insertions that failed, if each of `count` left what it must.
-fn failed_doublings(alloc: Global, arena: &Bump, count: u64) -> Option<u64> {
-    let heap = Budget::new(alloc);
-    let mut map: Numbers<'_, '_> = Numbers::new(&heap, arena);
-    let mut failures = 0u64;
-    for number in 0..count {
-        let refused = heap.refused();
-        if !fails_and_succeeds(&mut map, &heap, number) {
-            return None;
-        }
-        if heap.refused() > refused {
-            failures = failures.saturating_add(1);
-        }
-    }
-    Some(failures)
-}
-
 #[test]
 fn a_failed_doubling_leaves_every_entry(rt: HostRuntime) -> Result<(), Fail> {
-    let arena = Bump::new(rt.alloc());
-    let failures = failed_doublings(rt.alloc(), &arena, 600);
+    let (heap, arena) = (Budget::new(rt.alloc()), Bump::new(rt.alloc()));
+    let mut map: Numbers<'_, '_> = Numbers::new(&heap, &arena);
+    let mut failures = 0;
+    for number in 0..600 {
+        heap.refuse_next(u64::MAX);
+        let refused = heap.refused();
+        let is_inserted = map.insert(number, Own(number)).is_ok();
+        assert_eq!(rt; is_inserted, heap.refused() == refused, "{number}");
+        heap.refuse_next(0);
+        if !is_inserted {
+            failures += 1;
+            for key in 0..number + 1 {
+                let wanted = if key < number { Some(&key) } else { None };
+                assert_eq!(rt; map.get(&key), wanted, "{number}");
+            }
+            assert_eq!(rt; map.len() as u64, number);
+        }
+        assert_eq!(rt; *map.insert(number, Own(number))?, number);
+    }
     // The hash table grows at 0, 12, 39, 147, 291 and 579 entries.
-    assert!(rt; failures >= Some(6));
+    assert!(rt; failures >= 6);
     Ok(())
 }

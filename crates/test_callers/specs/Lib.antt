@@ -1,3 +1,4 @@
 pub mod Fibonacci
 pub mod KeyLaws
 pub mod Parts
+pub mod Rising

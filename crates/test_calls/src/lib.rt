@@ -1,20 +1,19 @@
-//! The calls of a collection by a random script, with the replies of a plain list: each part of
-//! each result, at random sizes up to 200,000, with allocations that fail at random.
+//! The calls of the collections in `cell` by the script of `test_model`: each part of each result,
+//! at random sizes up to 200,000 and at each length where something grows, with allocations that
+//! fail, and with values that count their drops. The script itself is tested by planted faults.
 #![tactic(auto)]
 
-mod call;
 #[cfg(test)]
-mod ends;
+mod counted;
 #[cfg(test)]
-mod list_tests;
+mod fault_tests;
 #[cfg(test)]
 mod lists;
 #[cfg(test)]
-mod map_tests;
-#[cfg(test)]
 mod maps;
-mod plain;
+#[cfg(test)]
 mod replies;
-mod script;
+#[cfg(test)]
+mod script_tests;
 #[cfg(test)]
 mod sets;

@@ -1,392 +1,212 @@
 //! The calls of the maps in `cell`, over any table.
-use crate::call::{Call, Calls, Cause, Entry, Kind, Reply, walked};
-use crate::replies::{failed, failed_empty, failed_made, inserted};
-use elsa_arena::fault::{CellFault, Fault};
-use elsa_cell::{Frozen, FrozenHandle, FrozenHold, Indices, Seeks, TryFault};
+use crate::counted::{Counted, Number};
+use crate::replies::{done, failed, failed_empty, failed_made};
+use elsa_arena::fault::{CellFault, Fault, InUse};
+use elsa_cell::{Entry, Frozen, FrozenHandle, FrozenHold, Indices, Seeks, Seen, TryFault};
 use elsa_tables::Inserted;
-use std::alloc::Allocator;
+use std::cell::Cell;
+use test_model::call::{Call, Calls, Cause, Kind, Reply, Walk, inserted, made};
+use test_model::script::Heap;
 
-/// A map, a handle of it that is as old as the map, one that observed a moment, and the keys by
-/// their numbers.
+type Map<'c, 'h, T> = Frozen<Counted<'c>, Counted<'c>, T, &'h Heap>;
+
+type Old<'m, 'c, 'h, T> = FrozenHandle<'m, Counted<'c>, Counted<'c>, T, &'h Heap>;
+
+type Guard<'m, 'c, 'h, T> = FrozenHold<'m, Counted<'c>, Counted<'c>, T, &'h Heap>;
+
+/// A map, a handle of it that is as old as the map, evidence of that moment, and a handle that
+/// observed a later moment.
 #[derive(Drop)]
-pub struct MapCalls<'m, 'k, T: Indices<u64> + Drop, A: Allocator + Copy> {
-    map: &'m Frozen<u64, u64, T, A>,
-    handle: FrozenHandle<'m, u64, u64, T, A>,
-    then: FrozenHandle<'m, u64, u64, T, A>,
-    keys: &'k [u64],
+pub struct MapCalls<'m, 'c, 'h, T: Indices<Counted<'c>> + Drop> {
+    map: &'m Map<'c, 'h, T>,
+    handle: Old<'m, 'c, 'h, T>,
+    seen: Seen<Entry<Counted<'c>, Counted<'c>>, &'h Heap>,
+    then: Old<'m, 'c, 'h, T>,
     keeps_room: bool,
-}
-
-impl<'m, 'k, T: Indices<u64> + Drop, A: Allocator + Copy> MapCalls<'m, 'k, T, A> {
-    pub fn of(
-        map: &'m Frozen<u64, u64, T, A>,
-        keys: &'k [u64],
-        keeps_room: bool,
-    ) -> MapCalls<'m, 'k, T, A> {
-        MapCalls {
-            map,
-            handle: map.handle(),
-            then: map.handle(),
-            keys,
-            keeps_room,
-        }
-    }
+    alive: &'c Cell<u64>,
 }
 
 /// The reply of an insertion that called its closure `calls` times.
-fn all_of(done: Inserted<&u64, usize>, calls: u64) -> Reply {
-    Reply::Inserted(Entry {
-        value: Some(*done.value),
-        index: Some(done.index),
-        is_new: Some(done.is_new),
+fn all_of(done: Inserted<&Counted<'_>, usize>, calls: u64) -> Reply {
+    made(
+        Some(done.value.number()),
+        Some(done.index),
+        Some(done.is_new),
         calls,
-    })
-}
-
-fn insert<T: Indices<u64> + Drop, A: Allocator + Copy>(
-    map: &Frozen<u64, u64, T, A>,
-    call: Call,
-) -> Reply {
-    match map.insert(call.key, call.value) {
-        Ok(kept) => inserted(Some(*kept), None, None),
-        Err(fault) => failed(fault),
-    }
-}
-
-fn insert_new<T: Indices<u64> + Drop, A: Allocator + Copy>(
-    map: &Frozen<u64, u64, T, A>,
-    call: Call,
-) -> Reply {
-    match map.insert_new(call.key, call.value) {
-        Ok(done) => all_of(done, 0),
-        Err(fault) => failed(fault),
-    }
-}
-
-fn insert_with<T: Indices<u64> + Drop, A: Allocator + Copy>(
-    map: &Frozen<u64, u64, T, A>,
-    call: Call,
-) -> Reply {
-    let mut calls = 0_u64;
-    let made = || {
-        calls = calls.wrapping_add(1);
-        call.value
-    };
-    let done = map.insert_with(call.key, made);
-    match done {
-        Ok(done) => all_of(done, calls),
-        Err(fault) => failed_made(fault, calls),
-    }
-}
-
-/// Inserts by a closure that may fail, and fails if `fails`.
-fn try_insert_with<T: Indices<u64> + Drop, A: Allocator + Copy>(
-    map: &Frozen<u64, u64, T, A>,
-    call: Call,
-    fails: bool,
-) -> Reply {
-    let mut calls = 0_u64;
-    let made = || -> Result<u64, u64> {
-        calls = calls.wrapping_add(1);
-        if fails {
-            Err(call.value)
-        } else {
-            Ok(call.value)
-        }
-    };
-    let done = map.try_insert_with(call.key, made);
-    match done {
-        Ok(done) => all_of(done, calls),
-        Err(TryFault::Map(fault)) => failed_made(fault, calls),
-        Err(TryFault::Value(error)) => Reply::Failed(Cause::Closure(error), None, calls),
-    }
-}
-
-fn insert_by<T: Indices<u64> + Drop, Q: Seeks<u64, T>, A: Allocator + Copy>(
-    map: &Frozen<u64, u64, T, A>,
-    query: Q,
-    call: Call,
-) -> Reply {
-    let mut calls = 0_u64;
-    let made = || -> Result<(u64, u64), Fault> {
-        calls = calls.wrapping_add(1);
-        Ok((call.key, call.value))
-    };
-    let done = map.insert_by(query, made);
-    match done {
-        Ok(done) => all_of(done, calls),
-        Err(fault) => failed_empty(fault, calls),
-    }
-}
-
-fn get_or_try_insert<T: Indices<u64> + Drop, Q: Seeks<u64, T>, A: Allocator + Copy>(
-    map: &Frozen<u64, u64, T, A>,
-    query: Q,
-    call: Call,
-) -> Reply {
-    let mut calls = 0_u64;
-    let made = || -> Result<(u64, u64), Fault> {
-        calls = calls.wrapping_add(1);
-        Ok((call.key, call.value))
-    };
-    let done = map.get_or_try_insert(query, made);
-    match done {
-        Ok(value) => Reply::Inserted(Entry {
-            value: Some(*value),
-            index: None,
-            is_new: None,
-            calls,
-        }),
-        Err(fault) => failed_empty(fault, calls),
-    }
-}
-
-fn insert_by_handle<T: Indices<u64> + Drop, A: Allocator + Copy>(
-    handle: &mut FrozenHandle<'_, u64, u64, T, A>,
-    call: Call,
-) -> Reply {
-    match handle.insert_new(call.key, call.value) {
-        Ok(done) => all_of(done, 0),
-        Err(fault) => failed(fault),
-    }
-}
-
-fn insert_by_guard<T: Indices<u64> + Drop, A: Allocator + Copy>(
-    map: &Frozen<u64, u64, T, A>,
-    call: Call,
-) -> Reply {
-    let Ok(mut hold) = map.hold() else {
-        return failed(CellFault::InUse(call.value));
-    };
-    match hold.insert_new(call.key, call.value) {
-        Ok(done) => all_of(done, 0),
-        Err(fault) => failed(fault),
-    }
-}
-
-fn extend<T: Indices<u64> + Drop, A: Allocator + Copy>(
-    map: &Frozen<u64, u64, T, A>,
-    call: Call,
-) -> Reply {
-    let pairs = [
-        (call.key, call.value),
-        (call.key, call.value.wrapping_add(1)),
-    ];
-    match map.extend(pairs) {
-        Ok(()) => inserted(None, None, None),
-        Err(fault) => failed_made(fault, 0),
-    }
-}
-
-fn extend_by_guard<T: Indices<u64> + Drop, A: Allocator + Copy>(
-    map: &Frozen<u64, u64, T, A>,
-    call: Call,
-) -> Reply {
-    let Ok(mut hold) = map.hold() else {
-        return failed(CellFault::InUse(call.value));
-    };
-    let pairs = [
-        (call.key, call.value),
-        (call.key, call.value.wrapping_add(1)),
-    ];
-    match hold.extend(pairs) {
-        Ok(()) => inserted(None, None, None),
-        Err(fault) => failed(fault),
-    }
-}
-
-/// Makes an insertion.
-fn on_entry<T: Indices<u64> + Drop, Q: Seeks<u64, T>, A: Allocator + Copy>(
-    map: &Frozen<u64, u64, T, A>,
-    handle: &mut FrozenHandle<'_, u64, u64, T, A>,
-    query: Q,
-    call: Call,
-) -> Reply {
-    match call.kind {
-        Kind::Insert => insert(map, call),
-        Kind::InsertNew => insert_new(map, call),
-        Kind::InsertWith => insert_with(map, call),
-        Kind::TryInsertWith => try_insert_with(map, call, false),
-        Kind::InsertFails => try_insert_with(map, call, true),
-        Kind::InsertBy => insert_by(map, query, call),
-        Kind::GetOrTryInsert => get_or_try_insert(map, query, call),
-        Kind::InsertByHandle => insert_by_handle(handle, call),
-        Kind::InsertByGuard => insert_by_guard(map, call),
-        Kind::Extend => extend(map, call),
-        Kind::ExtendByGuard => extend_by_guard(map, call),
-        _ => Reply::NotOffered,
-    }
+    )
 }
 
 /// The reply of a read of an entry with its index.
-fn full(found: Option<(usize, &u64, &u64)>) -> Reply {
-    match found {
-        Some((index, key, value)) => Reply::Full(Some((index, *key, *value))),
-        None => Reply::Full(None),
-    }
+fn full(found: Option<(usize, &Counted<'_>, &Counted<'_>)>) -> Reply {
+    Reply::Full(found.map(|entry| (entry.0, entry.1.number(), entry.2.number())))
 }
 
 /// The reply of a read at an index.
-fn full_at(index: usize, found: Option<(&u64, &u64)>) -> Reply {
-    match found {
-        Some((key, value)) => Reply::Full(Some((index, *key, *value))),
-        None => Reply::Full(None),
-    }
+fn full_at(index: usize, found: Option<(&Counted<'_>, &Counted<'_>)>) -> Reply {
+    Reply::Full(found.map(|entry| (index, entry.0.number(), entry.1.number())))
 }
 
-fn get_since<T: Indices<u64> + Drop, Q: Seeks<u64, T>, A: Allocator + Copy>(
-    map: &Frozen<u64, u64, T, A>,
-    query: Q,
-) -> Reply {
-    let seen = map.observed().evidence();
-    Reply::Value(map.get_since(&seen, query).copied())
+fn value(found: Option<&Counted<'_>>) -> Reply {
+    Reply::Value(found.map(|item| item.number()))
 }
 
-/// Reads by the guard that exists, or by a new one.
-fn get_full_by_guard<T: Indices<u64> + Drop, Q: Seeks<u64, T>, A: Allocator + Copy>(
-    map: &Frozen<u64, u64, T, A>,
-    guard: &Option<FrozenHold<'_, u64, u64, T, A>>,
-    query: Q,
-) -> Reply {
-    if let Some(hold) = guard {
-        return full(hold.get_full(query));
+impl<'m, 'c, 'h, T: Indices<Counted<'c>> + Drop> MapCalls<'m, 'c, 'h, T>
+where
+    Number: Seeks<Counted<'c>, T>,
+{
+    pub fn of(
+        map: &'m Map<'c, 'h, T>,
+        alive: &'c Cell<u64>,
+        keeps_room: bool,
+    ) -> MapCalls<'m, 'c, 'h, T> {
+        MapCalls {
+            map,
+            handle: map.handle(),
+            seen: map.observed().evidence(),
+            then: map.handle(),
+            keeps_room,
+            alive,
+        }
     }
-    match map.hold() {
-        Ok(hold) => full(hold.get_full(query)),
-        Err(_) => Reply::Flag(false),
-    }
-}
 
-/// Returns the number of entries by the guard that exists, or by a new one.
-fn len_by_guard<T: Indices<u64> + Drop, A: Allocator + Copy>(
-    map: &Frozen<u64, u64, T, A>,
-    guard: &Option<FrozenHold<'_, u64, u64, T, A>>,
-) -> Reply {
-    if let Some(hold) = guard {
-        return Reply::Count(hold.len());
+    fn counted(&self, number: u64) -> Counted<'c> {
+        Counted::of(number, self.alive)
     }
-    match map.hold() {
-        Ok(hold) => Reply::Count(hold.len()),
-        Err(_) => Reply::Flag(false),
+
+    /// Makes an insertion whose value is given.
+    fn insertion(&mut self, call: Call) -> Option<Reply> {
+        let map = self.map;
+        let (key, value) = (self.counted(call.key), self.counted(call.value));
+        Some(match call.kind {
+            Kind::Insert => match map.insert(key, value) {
+                Ok(kept) => inserted(Some(kept.number()), None, None),
+                Err(fault) => failed(fault),
+            },
+            Kind::InsertNew => match map.insert_new(key, value) {
+                Ok(done) => all_of(done, 0),
+                Err(fault) => failed(fault),
+            },
+            Kind::InsertByHandle => match self.handle.insert_new(key, value) {
+                Ok(done) => all_of(done, 0),
+                Err(fault) => failed(fault),
+            },
+            Kind::InsertByGuard => match map.hold() {
+                Ok(mut hold) => match hold.insert_new(key, value) {
+                    Ok(done) => all_of(done, 0),
+                    Err(fault) => failed(fault),
+                },
+                Err(InUse) => failed(CellFault::InUse(value)),
+            },
+            Kind::Extend => {
+                let again = (self.counted(call.key), self.counted(call.value + 1));
+                match map.extend([(key, value), again]) {
+                    Ok(()) => inserted(None, None, None),
+                    Err(fault) => failed_made(fault, 0),
+                }
+            }
+            Kind::ExtendByGuard => match map.hold() {
+                Ok(mut hold) => {
+                    let again = (self.counted(call.key), self.counted(call.value + 1));
+                    match hold.extend([(key, value), again]) {
+                        Ok(()) => inserted(None, None, None),
+                        Err(fault) => failed(fault),
+                    }
+                }
+                Err(InUse) => failed(CellFault::InUse(value)),
+            },
+            _ => return None,
+        })
     }
-}
 
-/// Makes a read by a key.
-fn on_key<T: Indices<u64> + Drop, Q: Seeks<u64, T>, A: Allocator + Copy>(
-    map: &Frozen<u64, u64, T, A>,
-    handle: &mut FrozenHandle<'_, u64, u64, T, A>,
-    guard: &Option<FrozenHold<'_, u64, u64, T, A>>,
-    query: Q,
-    kind: Kind,
-) -> Option<Reply> {
-    Some(match kind {
-        Kind::Get => Reply::Value(map.get(query).copied()),
-        Kind::GetFull => full(map.get_full(query)),
-        Kind::GetSince => get_since(map, query),
-        Kind::GetByHandle => Reply::Value(handle.get(query).copied()),
-        Kind::GetFullByHandle => full(handle.get_full(query)),
-        Kind::GetFullByGuard => get_full_by_guard(map, guard, query),
-        Kind::ContainsKey => Reply::Flag(map.contains_key(query)),
-        Kind::ContainsKeyByHandle => Reply::Flag(handle.contains_key(query)),
-        Kind::MapGet => Reply::Value(map.map_get(query, |value| *value)),
-        Kind::LenByGuard => len_by_guard(map, guard),
-        _ => return None,
-    })
-}
-
-/// Makes a look-up as of the moment that a handle has observed.
-fn on_then<T: Indices<u64> + Drop, Q: Seeks<u64, T>, A: Allocator + Copy>(
-    then: &FrozenHandle<'_, u64, u64, T, A>,
-    query: Q,
-    kind: Kind,
-) -> Option<Reply> {
-    Some(match kind {
-        Kind::SeenGet => Reply::Value(then.seen_get(query).copied()),
-        Kind::SeenGetFull => full(then.seen_get_full(query)),
-        _ => return None,
-    })
-}
-
-/// Makes a look-up of a kept moment, another read by a key, or an insertion.
-fn on_query<T: Indices<u64> + Drop, Q: Seeks<u64, T>, A: Allocator + Copy>(
-    calls: &mut MapCalls<'_, '_, T, A>,
-    guard: &Option<FrozenHold<'_, u64, u64, T, A>>,
-    query: Q,
-    call: Call,
-) -> Reply {
-    let map = calls.map;
-    if let Some(reply) = on_then(&calls.then, query, call.kind) {
-        return reply;
+    /// Makes an insertion whose closure makes the value, or the entry.
+    fn insertion_with(&mut self, call: Call) -> Reply {
+        let (map, query, alive) = (self.map, Number { number: call.key }, self.alive);
+        let mut calls = 0;
+        match call.kind {
+            Kind::InsertWith => {
+                let make = || {
+                    calls += 1;
+                    Counted::of(call.value, alive)
+                };
+                match map.insert_with(self.counted(call.key), make) {
+                    Ok(done) => all_of(done, calls),
+                    Err(fault) => failed_made(fault, calls),
+                }
+            }
+            Kind::TryInsertWith | Kind::InsertFails => {
+                let make = || -> Result<Counted<'_>, u64> {
+                    calls += 1;
+                    if call.kind == Kind::InsertFails {
+                        return Err(call.value);
+                    }
+                    Ok(Counted::of(call.value, alive))
+                };
+                match map.try_insert_with(self.counted(call.key), make) {
+                    Ok(done) => all_of(done, calls),
+                    Err(TryFault::Map(fault)) => failed_made(fault, calls),
+                    Err(TryFault::Value(error)) if error == call.value => {
+                        Reply::Failed(Cause::Closure, None, calls)
+                    }
+                    Err(TryFault::Value(error)) => Reply::Value(Some(error)),
+                }
+            }
+            Kind::InsertBy | Kind::GetOrTryInsert => {
+                let make = || -> Result<(Counted<'_>, Counted<'_>), Fault> {
+                    calls += 1;
+                    Ok((Counted::of(call.key, alive), Counted::of(call.value, alive)))
+                };
+                if call.kind == Kind::InsertBy {
+                    match map.insert_by(query, make) {
+                        Ok(done) => all_of(done, calls),
+                        Err(fault) => failed_empty(fault, calls),
+                    }
+                } else {
+                    match map.get_or_try_insert(query, make) {
+                        Ok(kept) => made(Some(kept.number()), None, None, calls),
+                        Err(fault) => failed_empty(fault, calls),
+                    }
+                }
+            }
+            _ => Reply::NotOffered,
+        }
     }
-    match on_key(map, &mut calls.handle, guard, query, call.kind) {
-        Some(reply) => reply,
-        None => on_entry(map, &mut calls.handle, query, call),
-    }
-}
 
-/// Keeps a handle that has observed all entries, and returns their number.
-fn keep<T: Indices<u64> + Drop, A: Allocator + Copy>(calls: &mut MapCalls<'_, '_, T, A>) -> Reply {
-    let handle = calls.map.handle();
-    let count = handle.seen_len();
-    calls.then = handle.again();
-    Reply::Count(count)
+    /// Makes a read by a guard, by the one that exists or by a new one.
+    fn by_guard(&self, guard: &Option<Guard<'m, 'c, 'h, T>>, call: Call) -> Reply {
+        let own = if guard.is_none() {
+            self.map.hold().ok()
+        } else {
+            None
+        };
+        let Some(hold) = guard.as_ref().or(own.as_ref()) else {
+            return Reply::Done;
+        };
+        if call.kind == Kind::LenByGuard {
+            return Reply::Count(hold.len());
+        }
+        full(hold.get_full(Number { number: call.key }))
+    }
+
+    /// Keeps a handle that has observed all entries, and returns their number.
+    fn keep(&mut self) -> Reply {
+        let handle = self.map.handle();
+        self.then = handle.again();
+        Reply::Count(handle.seen_len())
+    }
 }
 
 /// Walks over a map: at most one entry more than it says to have.
-fn iter<T: Indices<u64> + Drop, A: Allocator + Copy>(map: &Frozen<u64, u64, T, A>) -> Reply {
-    let mut walk = map.iter();
-    let (mut count, mut sum) = (0_usize, 0_u64);
-    for _ in 0..map.len().wrapping_add(1) {
-        if let Some(entry) = walk.next() {
-            sum = walked(sum, *entry.key(), *entry.value());
-            count = count.wrapping_add(1);
-        }
+fn iter<'c, T: Indices<Counted<'c>> + Drop>(map: &Map<'c, '_, T>) -> Reply {
+    let mut walk = Walk::new(true);
+    for entry in map.iter().take(map.len() + 1) {
+        walk.add(entry.key().number(), entry.value().number());
     }
-    Reply::Walk(count, sum)
+    walk.reply()
 }
 
-fn get_index_by_handle<T: Indices<u64> + Drop, A: Allocator + Copy>(
-    handle: &mut FrozenHandle<'_, u64, u64, T, A>,
-    index: usize,
-) -> Reply {
-    handle.len();
-    full_at(index, handle.get_index(index))
-}
-
-fn reserve<T: Indices<u64> + Drop, A: Allocator + Copy>(
-    map: &Frozen<u64, u64, T, A>,
-    additional: usize,
-) -> Reply {
-    match map.reserve(additional) {
-        Ok(()) => Reply::Done,
-        Err(fault) => failed_empty(fault, 0),
-    }
-}
-
-/// Makes a call with an index, or with none.
-fn on_map<T: Indices<u64> + Drop, A: Allocator + Copy>(
-    map: &Frozen<u64, u64, T, A>,
-    handle: &mut FrozenHandle<'_, u64, u64, T, A>,
-    call: Call,
-) -> Option<Reply> {
-    let index = call.key as usize;
-    Some(match call.kind {
-        Kind::GetIndex => full_at(index, map.get_index(index)),
-        Kind::GetIndexByHandle => get_index_by_handle(handle, index),
-        Kind::Len => Reply::Count(map.len()),
-        Kind::LenByHandle => Reply::Count(handle.len()),
-        Kind::IsEmpty => Reply::Flag(map.is_empty()),
-        Kind::IsFull => Reply::Flag(map.is_full()),
-        Kind::Iter => iter(map),
-        Kind::Hold => Reply::Flag(map.hold().is_ok()),
-        Kind::Reserve | Kind::ReserveAll => reserve(map, call.value as usize),
-        _ => return None,
-    })
-}
-
-impl<'k, T: Indices<u64> + Drop, A: Allocator + Copy> Calls for MapCalls<'_, 'k, T, A>
+impl<'m, 'c, 'h, T: Indices<Counted<'c>> + Drop> Calls for MapCalls<'m, 'c, 'h, T>
 where
-    &'k u64: Seeks<u64, T>,
+    Number: Seeks<Counted<'c>, T>,
 {
     fn has_guard(&self) -> bool {
         true
@@ -396,20 +216,50 @@ where
         self.keeps_room
     }
 
+    fn gives_back(&self, kind: Kind) -> bool {
+        !kind.reads_first()
+    }
+
+    fn alive(&self, count: u64) -> (u64, u64) {
+        (self.alive.get(), 2 * count)
+    }
+
     fn reply(&mut self, call: Call) -> Reply {
-        let map = self.map;
+        let (map, query, index) = (self.map, Number { number: call.key }, call.key as usize);
         let guard = if call.is_held { map.hold().ok() } else { None };
-        if matches!(call.kind, Kind::Keep) {
-            return keep(self);
-        }
-        let reply = match on_map(map, &mut self.handle, call) {
-            Some(reply) => Some(reply),
-            None => match self.keys.get(call.key as usize) {
-                Some(query) => Some(on_query(self, &guard, query, call)),
-                None => None,
+        let reply = match call.kind {
+            Kind::Get => value(map.get(query)),
+            Kind::GetFull => full(map.get_full(query)),
+            Kind::GetSince => value(map.get_since(&self.seen, query)),
+            Kind::HandleSince => value(map.handle_since(&self.seen).seen_get(query)),
+            Kind::GetByHandle => value(self.handle.get(query)),
+            Kind::GetFullByHandle => full(self.handle.get_full(query)),
+            Kind::GetFullByGuard | Kind::LenByGuard => self.by_guard(&guard, call),
+            Kind::ContainsKey => Reply::Flag(map.contains_key(query)),
+            Kind::ContainsKeyByHandle => Reply::Flag(self.handle.contains_key(query)),
+            Kind::MapGet => Reply::Value(map.map_get(query, |found| found.number())),
+            Kind::Keep => self.keep(),
+            Kind::SeenGet => value(self.then.seen_get(query)),
+            Kind::SeenGetFull => full(self.then.seen_get_full(query)),
+            Kind::SeenLen => Reply::Count(self.then.seen_len()),
+            Kind::GetIndex => full_at(index, map.get_index(index)),
+            Kind::GetIndexByHandle => {
+                self.handle.len();
+                full_at(index, self.handle.get_index(index))
+            }
+            Kind::Len => Reply::Count(map.len()),
+            Kind::LenByHandle => Reply::Count(self.handle.len()),
+            Kind::IsEmpty => Reply::Flag(map.is_empty()),
+            Kind::IsFull => Reply::Flag(map.is_full()),
+            Kind::Iter => iter(map),
+            Kind::Hold => Reply::Flag(map.hold().is_ok()),
+            Kind::Reserve | Kind::ReserveAll => done(map.reserve(call.value as usize)),
+            _ => match self.insertion(call) {
+                Some(reply) => reply,
+                None => self.insertion_with(call),
             },
         };
         drop(guard);
-        reply.unwrap_or(Reply::NotOffered)
+        reply
     }
 }

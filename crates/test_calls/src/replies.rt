@@ -1,40 +1,43 @@
 //! The replies that the calls of several collections have.
-use crate::call::{Cause, Entry, Reply};
+use crate::counted::Counted;
 use elsa_arena::fault::{CellFault, Fault};
+use test_model::call::{Cause, Reply};
+
+/// The cause of a fault, and its value.
+fn parts<T: Drop>(fault: CellFault<T>) -> (Cause, T) {
+    match fault {
+        CellFault::Memory(value) => (Cause::Memory, value),
+        CellFault::InUse(value) => (Cause::InUse, value),
+        CellFault::Full(value) => (Cause::Full, value),
+    }
+}
 
 /// The reply of a call that failed without a value.
 pub fn failed_empty(fault: Fault, calls: u64) -> Reply {
-    match fault {
-        Fault::Memory => Reply::Failed(Cause::Memory, None, calls),
-        Fault::InUse => Reply::Failed(Cause::InUse, None, calls),
-        Fault::Full => Reply::Failed(Cause::Full, None, calls),
-    }
+    let cause = match fault {
+        Fault::Memory => Cause::Memory,
+        Fault::InUse => Cause::InUse,
+        Fault::Full => Cause::Full,
+    };
+    Reply::Failed(cause, None, calls)
 }
 
 /// The reply of an insertion that failed with its item.
-pub fn failed(fault: CellFault<u64>) -> Reply {
-    match fault {
-        CellFault::Memory(item) => Reply::Failed(Cause::Memory, Some(item), 0),
-        CellFault::InUse(item) => Reply::Failed(Cause::InUse, Some(item), 0),
-        CellFault::Full(item) => Reply::Failed(Cause::Full, Some(item), 0),
-    }
+pub fn failed(fault: CellFault<Counted<'_>>) -> Reply {
+    let (cause, item) = parts(fault);
+    Reply::Failed(cause, Some(item.number()), 0)
 }
 
 /// The reply of an insertion that failed, after its closure had made the value or not.
-pub fn failed_made(fault: CellFault<Option<u64>>, calls: u64) -> Reply {
-    match fault {
-        CellFault::Memory(made) => Reply::Failed(Cause::Memory, made, calls),
-        CellFault::InUse(made) => Reply::Failed(Cause::InUse, made, calls),
-        CellFault::Full(made) => Reply::Failed(Cause::Full, made, calls),
-    }
+pub fn failed_made(fault: CellFault<Option<Counted<'_>>>, calls: u64) -> Reply {
+    let (cause, made) = parts(fault);
+    Reply::Failed(cause, made.map(|item| item.number()), calls)
 }
 
-/// The reply of an insertion with the parts that it returns.
-pub fn inserted(value: Option<u64>, index: Option<usize>, is_new: Option<bool>) -> Reply {
-    Reply::Inserted(Entry {
-        value,
-        index,
-        is_new,
-        calls: 0,
-    })
+/// The reply of a call that inserts nothing.
+pub fn done(reserved: Result<(), Fault>) -> Reply {
+    match reserved {
+        Ok(()) => Reply::Done,
+        Err(fault) => failed_empty(fault, 0),
+    }
 }

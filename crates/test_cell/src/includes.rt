@@ -90,23 +90,27 @@ fn load<'m>(
     Ok(files.insert(path, File { words, total })?)
 }
 
-/// Returns the number of words of a file with its includes, the number of its own words, and the
-/// number of files that were loaded for it.
-fn counts(alloc: Global, path: &str) -> Result<(usize, usize, usize), LoadFault> {
-    let files = FrozenMap::new(alloc)?;
-    let file = load(alloc, &files, path, FILES.len())?;
-    Ok((file.total, file.words.len(), files.len()))
-}
-
 #[test]
 fn includes_are_loaded_once_and_first(rt: HostRuntime) -> Result<(), Fail> {
-    assert!(rt; counts(rt.alloc(), "main") == Ok((9, 2, 3)));
+    let files = FrozenMap::new(rt.alloc())?;
+    let file = load(rt.alloc(), &files, "main", FILES.len())
+        .ok()
+        .ok_or("not loaded")?;
+    assert_eq!(rt; (file.total, file.words.len(), files.len()), (9, 2, 3));
     Ok(())
 }
 
 #[test]
 fn a_file_that_includes_itself_or_is_missing_is_told(rt: HostRuntime) -> Result<(), Fail> {
-    assert!(rt; counts(rt.alloc(), "loop") == Err(LoadFault::IncludesItself));
-    assert!(rt; counts(rt.alloc(), "none") == Err(LoadFault::Missing));
+    for (path, fault) in [
+        ("loop", LoadFault::IncludesItself),
+        ("none", LoadFault::Missing),
+    ] {
+        let files = FrozenMap::new(rt.alloc())?;
+        assert_eq!(rt;
+            load(rt.alloc(), &files, path, FILES.len()).err(),
+            Some(fault)
+        );
+    }
     Ok(())
 }

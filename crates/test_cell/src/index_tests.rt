@@ -6,10 +6,8 @@ ghost use Rattle.std.specs.Hash as fed;
 ghost use Rattle.std.proofs.Common.{ap, eqb-true};
 
 use elsa_cell::{FrozenIndexSet, FrozenMap};
-use std::alloc::{AllocError, Global};
 use std::cell::Cell;
 use std::hash::{Hash, Hasher};
-use std::sync::Arc;
 use std::test::*;
 
 /// A number with a mark that `==` and the hash leave out.
@@ -43,52 +41,12 @@ impl Hash for Marked {
     }
 }
 
-/// Returns the marks of the items that four insertions return: two pairs of equal items, whose
-/// marks differ.
-fn marks(alloc: Global) -> Result<[u64; 4], AllocError> {
-    let set: FrozenIndexSet<Marked> = FrozenIndexSet::new(alloc)?;
-    let mut found = [0; 4];
-    let pairs = [(1, 10), (2, 20), (1, 11), (2, 21)];
-    for (step, (number, mark)) in pairs.iter().enumerate() {
-        let item = Marked {
-            number: *number,
-            mark: *mark,
-        };
-        if let Ok(kept) = set.insert(item) {
-            if step < 4 {
-                found[step] = kept.mark;
-            }
-        }
-    }
-    Ok(found)
-}
-
 #[test]
 fn a_set_replaced_an_item(rt: HostRuntime) -> Result<(), Fail> {
-    assert_eq!(rt; marks(rt.alloc())?, [10, 20, 10, 20]);
-    Ok(())
-}
-
-/// Returns the number of owners of keys and of values after five insertions, and whether none is
-/// left after the drop. Three keys of the five are distinct, and each is an owner.
-fn owners(alloc: Global) -> Result<(usize, usize, bool), AllocError> {
-    let (keys, values) = (Arc::new(alloc, 0_u64)?, Arc::new(alloc, 0_u64)?);
-    let map: FrozenMap<(u64, Arc<u64>), Arc<u64>> = FrozenMap::new(alloc)?;
-    for number in [1, 2, 2, 3, 1] {
-        let key = (number, keys.clone()?);
-        if map.insert(key, values.clone()?).is_err() {
-            return Ok((0, 0, false));
-        }
+    let set: FrozenIndexSet<Marked> = FrozenIndexSet::new(rt.alloc())?;
+    for (number, mark, kept) in [(1, 10, 10), (2, 20, 20), (1, 11, 10), (2, 21, 20)] {
+        assert_eq!(rt; set.insert(Marked { number, mark })?.mark, kept);
     }
-    let held = (Arc::strong_count(&keys), Arc::strong_count(&values));
-    drop(map);
-    let is_dropped = Arc::strong_count(&keys) == 1 && Arc::strong_count(&values) == 1;
-    Ok((held.0, held.1, is_dropped))
-}
-
-#[test]
-fn a_key_or_a_value_was_not_dropped_once(rt: HostRuntime) -> Result<(), Fail> {
-    assert_eq!(rt; owners(rt.alloc())?, (4, 4, true));
     Ok(())
 }
 
@@ -129,33 +87,20 @@ impl Hash for Noted<'_> {
     }
 }
 
-/// Inserts three entries, one of them with a key that is present, and drops the map. Returns the
-/// digits in the order of their drops.
-fn drops_in_order(alloc: Global, drops: &Cell<u64>) -> Result<u64, AllocError> {
-    let map: FrozenMap<Noted<'_>, Noted<'_>> = FrozenMap::new(alloc)?;
-    for (key, value) in [(1, 6), (2, 7), (1, 9)] {
-        let key = Noted { digit: key, drops };
-        if map
-            .insert(
-                key,
-                Noted {
-                    digit: value,
-                    drops,
-                },
-            )
-            .is_err()
-        {
-            return Ok(0);
-        }
-    }
-    drops.set(0);
-    drop(map);
-    Ok(drops.get())
-}
-
 #[test]
 fn entries_were_dropped_in_another_order(rt: HostRuntime) -> Result<(), Fail> {
     let drops = Cell::new(0);
-    assert_eq!(rt; drops_in_order(rt.alloc(), &drops)?, 1627);
+    let noted = |digit: u64| Noted {
+        digit,
+        drops: &drops,
+    };
+    let map: FrozenMap<Noted<'_>, Noted<'_>> = FrozenMap::new(rt.alloc())?;
+    for (key, value) in [(1, 6), (2, 7), (1, 9)] {
+        map.insert(noted(key), noted(value))?;
+    }
+    drops.set(0);
+    drop(map);
+    // Each key before its value.
+    assert_eq!(rt; drops.get(), 1627);
     Ok(())
 }

@@ -1,13 +1,12 @@
 //! Calls from inside other calls: in the hash and the comparison of a look-up or an insertion, each
-//! insertion fails with `InUse` and each read returns; in the closure of an insertion each call
-//! succeeds.
+//! insertion fails with `InUse` and each read returns; in the closure of an insertion or of
+//! `map_get` each call succeeds.
 ghost use Rattle.std.specs.Prelude.{◌==◌};
 ghost use Rattle.std.specs.Cmp.{nat_eq_equiv, on_equiv, partial_equiv_from_equiv};
 ghost use Rattle.std.specs.Hash as fed;
 ghost use Rattle.std.proofs.Common.{ap, eqb-true};
 
-use elsa_cell::{CellFault, Fault, FrozenMap, Query, TryFault};
-use std::alloc::Global;
+use elsa_cell::{CellFault, Fault, FrozenBTreeMap, FrozenMap, Query, TryFault};
 use std::hash::{Hash, Hasher};
 use std::sync::atomic::{AtomicU64, Ordering};
 use std::test::*;
@@ -42,80 +41,59 @@ fn made_pair(key: u64) -> Result<(u64, u64), Fault> {
     Ok((key, 6))
 }
 
-/// Returns the `n`th Fibonacci number from the map, or 0 if the map lacks it.
-fn fibonacci(map: &FrozenMap<u64, u64>, n: u64) -> u64 {
-    if n < 2 {
-        return n;
-    }
-    map.get(&n).copied().unwrap_or(0)
-}
-
-/// Inserts the Fibonacci numbers up to `last`, by closures that look the earlier ones up in the
-/// same map. Returns the number of insertions that were new.
-fn computed(map: &FrozenMap<u64, u64>, last: u64) -> usize {
-    let mut new = 0_usize;
-    for n in 2..last.wrapping_add(1) {
-        let mut handle = map.handle();
-        let sum = || {
-            let before = fibonacci(map, n.wrapping_sub(1));
-            before.wrapping_add(fibonacci(map, n.wrapping_sub(2)))
-        };
-        if matches!(handle.insert_with(n, sum), Ok(made) if made.is_new) {
-            new = new.wrapping_add(1);
-        }
-    }
-    new
-}
-
 #[test]
 fn a_closure_did_not_find_what_its_map_has(rt: HostRuntime) -> Result<(), Fail> {
     let map: FrozenMap<u64, u64> = FrozenMap::new(rt.alloc())?;
-    assert_eq!(rt; computed(&map, 80), 79);
-    assert_eq!(rt; fibonacci(&map, 80), 23416728348467685);
+    map.extend([(0, 0), (1, 1)])?;
+    for n in 2..81 {
+        let mut handle = map.handle();
+        let read = |key: u64| map.get(&key).copied().unwrap_or(0);
+        let made = handle.insert_with(n, || read(n - 1) + read(n - 2))?;
+        assert!(rt; made.is_new, "{n}");
+    }
+    // The eightieth Fibonacci number.
+    assert_eq!(rt; map.get(&80), Some(&23416728348467685));
     Ok(())
-}
-
-/// Inserts at key 5 by a closure that inserts at 5 itself. Returns the value that the key then has,
-/// and whether the insertion reports it as new.
-fn first_inside(map: &FrozenMap<u64, u64>) -> Option<(u64, bool)> {
-    let mut handle = map.handle();
-    let made = handle.insert_with(5, || {
-        let _inside = map.insert(5, 2).is_ok();
-        7
-    });
-    let inserted = made.ok()?;
-    Some((*inserted.value, inserted.is_new))
 }
 
 #[test]
 fn a_value_from_inside_was_replaced(rt: HostRuntime) -> Result<(), Fail> {
     let map: FrozenMap<u64, u64> = FrozenMap::new(rt.alloc())?;
-    assert_eq!(rt; first_inside(&map), Some((2, false)));
+    let mut handle = map.handle();
+    let made = handle.insert_with(5, || {
+        let _inside = map.insert(5, 2).is_ok();
+        7
+    })?;
+    assert_eq!(rt; (*made.value, made.is_new), (2, false));
     Ok(())
 }
 
-/// Takes a guard inside `make`. Returns the value with which the insertion then fails, why others
-/// fail, and what the map has of the key after the guard.
-fn locked_inside(map: &FrozenMap<u64, u64>) -> (Option<u64>, [Option<Fault>; 7], Option<u64>) {
+#[test]
+fn a_closure_that_reads_could_not_insert(rt: HostRuntime) -> Result<(), Fail> {
+    let map: FrozenMap<u64, u64> = FrozenMap::new(rt.alloc())?;
+    map.insert(1, 10)?;
+    let read = map.map_get(&1, |value| map.insert(2, *value * 2).ok().copied());
+    assert_eq!(rt; (read, map.len()), (Some(Some(20)), 2));
+    let tree: FrozenBTreeMap<u64, u64> = FrozenBTreeMap::new(rt.alloc())?;
+    tree.insert(1, 10)?;
+    let read = tree.map_get(&1, |value| tree.insert(2, *value * 2).ok().copied());
+    assert_eq!(rt; (read, tree.len()), (Some(Some(20)), 2));
+    Ok(())
+}
+
+#[test]
+fn a_guard_from_inside_did_not_lock(rt: HostRuntime) -> Result<(), Fail> {
+    let map: FrozenMap<u64, u64> = FrozenMap::new(rt.alloc())?;
     let mut handle = map.handle();
     let mut kept = None;
     let failed = handle.insert_with(11, || {
         kept = map.hold().ok();
         7
     });
-    let value = match failed {
-        Err(CellFault::InUse(made)) => made,
-        _ => None,
-    };
-    let others = failures(map);
+    assert!(rt; matches!(failed, Err(CellFault::InUse(Some(7)))));
+    assert_eq!(rt; failures(&map), IN_USE);
     drop(kept);
-    (value, others, handle.get(&11).copied())
-}
-
-#[test]
-fn a_guard_from_inside_did_not_lock(rt: HostRuntime) -> Result<(), Fail> {
-    let map: FrozenMap<u64, u64> = FrozenMap::new(rt.alloc())?;
-    assert_eq!(rt; locked_inside(&map), (Some(7), IN_USE, None));
+    assert_eq!(rt; handle.get(&11), None);
     Ok(())
 }
 
@@ -226,20 +204,13 @@ fn found_by_guard(map: &FrozenMap<u64, u64>, query: Nested<'_>) -> (Option<u64>,
     )
 }
 
-/// Makes a map of 0 to 9 with the values from 100 on.
-fn ten(alloc: Global) -> Result<FrozenMap<u64, u64>, Fault> {
-    let map: FrozenMap<u64, u64> = FrozenMap::new(alloc)?;
-    for key in 0..10_u64 {
-        map.insert(key, key.wrapping_add(100))?;
-    }
-    Ok(map)
-}
-
 #[test]
 fn a_call_inside_a_look_up_changed_the_map_or_was_not_answered(
     rt: HostRuntime,
 ) -> Result<(), Fail> {
-    let map = ten(rt.alloc())?;
+    // The keys 0 to 9, with the values from 100 on.
+    let map: FrozenMap<u64, u64> = FrozenMap::new(rt.alloc())?;
+    map.extend((0..10).map(|key| (key, key + 100)))?;
     let calls = Calls {
         made: AtomicU64::new(0),
         right: AtomicU64::new(0),
@@ -252,9 +223,7 @@ fn a_call_inside_a_look_up_changed_the_map_or_was_not_answered(
     assert_eq!(rt; found_nested(&map, query), [Some(104); 10]);
     assert_eq!(rt; (map.contains_key(query), map.len()), (true, 10));
     let made = calls.made.load(Ordering::SeqCst);
-    assert_eq!(rt;
-        (made >= 22, calls.right.load(Ordering::SeqCst)),
-        (true, made)
-    );
+    assert!(rt; made >= 22);
+    assert_eq!(rt; calls.right.load(Ordering::SeqCst), made);
     Ok(())
 }

@@ -1,9 +1,6 @@
 //! The loads of a look-up, in a row of which two thirds are set: of tags, and of numbers.
-ghost use Rattle.std.specs.Prelude.{◌≡◌};
-
 use elsa_hash_index::probe::{Words, enter, find};
 use elsa_hash_index::row::Row;
-use std::alloc::{AllocError, Global};
 use std::test::*;
 
 /// The number of index entries of the row.
@@ -59,17 +56,10 @@ fn hash_of(number: usize) -> u32 {
     (twice >> 32) as u32
 }
 
-/// The loads of some look-ups.
-#[derive(Drop)]
-struct Loads {
-    tags: u64,
-    numbers: u64,
-}
-
-/// Returns the loads of one look-up of each entered index, and of the same number of look-ups of
-/// absent indices.
-fn count_loads(alloc: Global) -> Result<(Loads, Loads), AllocError> {
-    let row = Row::new(alloc, COUNT, 7u64)?;
+/// Looks each entered index up, and the same number of absent ones.
+#[test]
+fn a_look_up_walked_the_row_or_read_the_number_of_another_key(rt: HostRuntime) -> Result<(), Fail> {
+    let row = Row::new(rt.alloc(), COUNT, 7u64)?;
     let mut view = Counting {
         words: row.view(),
         tags: 0,
@@ -78,60 +68,23 @@ fn count_loads(alloc: Global) -> Result<(Loads, Loads), AllocError> {
     for index in 0..ENTERED {
         enter(&mut view, hash_of(index), index)?;
     }
-    view.tags = 0;
-    view.numbers = 0;
-    for index in 0..ENTERED {
-        let _ = find(&mut view, hash_of(index), ENTERED, |p| p == index);
-    }
-    let present = Loads {
-        tags: view.tags,
-        numbers: view.numbers,
-    };
-    view.tags = 0;
-    view.numbers = 0;
-    for index in 0..ENTERED {
-        let _ = find(
-            &mut view,
-            hash_of(index.wrapping_add(ENTERED)),
-            ENTERED,
-            |_p| false,
+    let entered = ENTERED as u64;
+    for (is_present, most_tags, most_numbers) in [
+        (true, 4 * entered, 41 * (entered / 40)),
+        (false, 10 * entered, entered / 20),
+    ] {
+        (view.tags, view.numbers) = (0, 0);
+        for index in 0..ENTERED {
+            let hash = hash_of(if is_present { index } else { index + ENTERED });
+            let found = find(&mut view, hash, ENTERED, |p| is_present && p == index);
+            assert_eq!(rt; found, if is_present { Some(index) } else { None });
+        }
+        let (tags, numbers) = (view.tags, view.numbers);
+        assert!(rt; tags <= most_tags, "{tags} tags, present: {is_present}");
+        assert!(rt;
+            numbers <= most_numbers,
+            "{numbers} numbers, present: {is_present}"
         );
     }
-    let absent = Loads {
-        tags: view.tags,
-        numbers: view.numbers,
-    };
-    Ok((present, absent))
-}
-
-#[test]
-fn a_look_up_walks_the_row(rt: HostRuntime) -> Result<(), Fail> {
-    let (present, absent) = count_loads(rt.alloc())?;
-    assert!(rt;
-        present.tags <= 4 * ENTERED as u64,
-        "{} tags for entered indices",
-        present.tags
-    );
-    assert!(rt;
-        absent.tags <= 10 * ENTERED as u64,
-        "{} tags for absent indices",
-        absent.tags
-    );
-    Ok(())
-}
-
-#[test]
-fn a_look_up_reads_the_number_of_another_key(rt: HostRuntime) -> Result<(), Fail> {
-    let (present, absent) = count_loads(rt.alloc())?;
-    assert!(rt;
-        present.numbers <= 41 * (ENTERED as u64 / 40),
-        "{} numbers for entered indices",
-        present.numbers
-    );
-    assert!(rt;
-        absent.numbers <= ENTERED as u64 / 20,
-        "{} numbers for absent indices",
-        absent.numbers
-    );
     Ok(())
 }

@@ -12,33 +12,26 @@ fn hash_of(index: usize) -> u32 {
 #[test]
 fn a_thread_lost_an_index_entry(rt: HostRuntime) -> Result<(), Fail> {
     let row = Row::new(rt.alloc(), 1024, 7u64)?;
-    let shared = &row;
-    let entered = thread::map_indices(
+    let lost = thread::map_indices(
         &rt,
         rt.alloc(),
         4,
         &|thread| {
-            let mut view = shared.view();
-            let mut count = 0u64;
-            for k in 0..100 {
-                let index = (thread as usize).wrapping_mul(100).wrapping_add(k) % 400;
-                if enter(&mut view, hash_of(index), index).is_ok()
-                    && find(&mut view, hash_of(index), 400, |p| p == index) == Some(index)
-                {
-                    count = count.wrapping_add(1);
-                }
-            }
-            count
+            let mut view = row.view();
+            (100 * thread..100 * thread + 100).find(|index| {
+                enter(&mut view, hash_of(*index), *index).is_err()
+                    || find(&mut view, hash_of(*index), 400, |p| p == *index) != Some(*index)
+            })
         },
     )?;
-    for count in entered.iter() {
-        assert!(rt; *count == 100);
-    }
+    assert_eq!(rt; lost.as_slice(), [None; 4].as_slice());
     let mut view = row.view();
     for index in 0..400 {
-        assert!(rt; find(&mut view, hash_of(index), 400, |p| p == index) == Some(index));
-        assert!(rt; find(&mut view, hash_of(index), index, |p| p == index).is_none());
+        let hash = hash_of(index);
+        assert_eq!(rt; find(&mut view, hash, 400, |p| p == index), Some(index));
+        let got = (index, find(&mut view, hash, index, |p| p == index));
+        assert_eq!(rt; got, (index, None));
     }
-    assert!(rt; find(&mut view, 5, 400, |_p| true).is_none());
+    assert_eq!(rt; find(&mut view, 5, 400, |_| true), None);
     Ok(())
 }

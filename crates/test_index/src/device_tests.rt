@@ -1,7 +1,5 @@
 //! The engine with devices of std that are slow, are interrupted, or fail at one of their calls:
 //! the fault that it returns, and what was written.
-ghost use Rattle.std.specs.Prelude.{◌≤◌, IfOk};
-
 use bumpalo::Bump;
 use elsa_program::devices::Counted;
 use elsa_program::engine::{EngineFault, intern_engine};
@@ -14,7 +12,7 @@ const INPUT: &[u8] =
     b"put lonely\nput best friend\nput threes a crowd\nput rando\nput facebook\nput best friend\nat 1\n";
 
 /// The output for `INPUT`, 24 bytes.
-const ANSWERS: &[u8] = b"0\n1\n2\n3\n4\n1\nbest friend\n";
+const REPLIES: &[u8] = b"0\n1\n2\n3\n4\n1\nbest friend\n";
 
 /// The behaviour of a device: the greatest number of bytes of a call, the number of the call that
 /// fails, counted from 0, and whether a signal interrupts each call once.
@@ -32,9 +30,10 @@ const GOOD: Habits = Habits {
     is_interrupted: false,
 };
 
-/// The state of a device.
+/// A device: a reader of the bytes, or a writer that appends to them.
 #[derive(Drop)]
-struct Device {
+struct Device<B> {
+    bytes: B,
     habits: Habits,
     calls: usize,
     interruptions: usize,
@@ -42,65 +41,45 @@ struct Device {
     is_again: bool,
 }
 
-impl Device {
-    fn new(habits: Habits) -> Device {
-        Device {
+impl<B> Device<B> {
+    fn new(habits: Habits, bytes: B) -> Counted<Device<B>> {
+        Counted::new(Device {
+            bytes,
             habits,
             calls: 0,
             interruptions: 0,
             is_again: false,
-        }
+        })
     }
 
     /// Makes a call with `bytes` bytes, and returns the number of bytes that it moves.
-    ///
-    /// # Errors
-    /// Fails if the call is interrupted, or if it is the one that fails.
-    fn call(&mut self, bytes: usize) -> io::Result<usize>
-        ensures { IfOk result (λ n. n ≤ bytes) }
-    {
-        if self.habits.is_interrupted && !self.is_again {
-            self.is_again = true;
-            self.interruptions = self.interruptions.wrapping_add(1);
+    fn call(&mut self, bytes: usize) -> io::Result<usize> {
+        self.is_again = self.habits.is_interrupted && !self.is_again;
+        if self.is_again {
+            self.interruptions += 1;
             return Err(io::Error::from(ErrorKind::Interrupted));
         }
-        self.is_again = false;
-        let call = self.calls;
-        self.calls = call.wrapping_add(1);
-        if call == self.habits.fails_at {
+        self.calls += 1;
+        if self.calls == self.habits.fails_at + 1 {
             return Err(io::Error::from(ErrorKind::BrokenPipe));
         }
         Ok(bytes.min(self.habits.most))
     }
 }
 
-/// A reader of the rest of a text.
-#[derive(Drop)]
-struct Giver<'t> {
-    left: &'t [u8],
-    device: Device,
-}
-
-impl<'t> Read for Giver<'t> {
+impl<'t> Read for Device<&'t [u8]> {
     fn read(&mut self, buf: &mut [u8]) -> io::Result<usize> {
-        let n = self.device.call(self.left.len().min(buf.len()))?;
-        buf[..n].copy_from_slice(&self.left[..n]);
-        self.left = &self.left[n..];
+        let n = self.call(self.bytes.len().min(buf.len()))?;
+        buf[..n].copy_from_slice(&self.bytes[..n]);
+        self.bytes = &self.bytes[n..];
         Ok(n)
     }
 }
 
-/// A writer that stores what was written.
-#[derive(Drop)]
-struct Taker {
-    held: Vec<u8>,
-    device: Device,
-}
-
-impl Write for Taker {
+impl Write for Device<Vec<u8>> {
     fn write(&mut self, buf: &[u8]) -> io::Result<usize> {
-        let n = self.device.call(buf.len())?;
-        self.held.extend_from_slice(&buf[..n])?;
+        let n = self.call(buf.len())?;
+        self.bytes.extend_from_slice(&buf[..n])?;
         Ok(n)
     }
 
@@ -109,180 +88,111 @@ impl Write for Taker {
     }
 }
 
-/// The result of a run of the engine: what it returned, what was written, the failures of the two
-/// devices, and the number of interruptions.
-#[derive(Drop)]
-struct Outcome {
-    result: Result<(), EngineFault>,
-    held: Vec<u8>,
-    read_failures: u64,
-    write_failures: u64,
-    interruptions: usize,
-}
+/// The result of a run of the engine, the failures of the reader and of the writer, and the number
+/// of bytes that were written if they are a beginning of `REPLIES`.
+type Outcome = (Result<(), EngineFault>, u64, u64, Option<usize>);
 
-/// Runs the engine on `INPUT` with a reader and a writer of these behaviours.
-fn run(alloc: Global, reader: Habits, writer: Habits) -> Outcome {
+/// Runs the engine on `INPUT` with a reader and a writer of these behaviours. Returns its outcome
+/// and the number of interruptions.
+fn run(alloc: Global, reader: Habits, writer: Habits) -> (Outcome, usize) {
     let arena = Bump::new(alloc);
-    let mut source = Counted::new(Giver {
-        left: INPUT,
-        device: Device::new(reader),
-    });
-    let mut sink = Counted::new(Taker {
-        held: Vec::new(alloc),
-        device: Device::new(writer),
-    });
+    let mut source = Device::new(reader, INPUT);
+    let mut sink = Device::new(writer, Vec::new(alloc));
     let result = intern_engine(alloc, &arena, &mut source, &mut sink);
-    let seen = source.device.device.interruptions;
-    let Counted {
-        device: Taker { held, device },
-        failures,
-    } = sink;
-    Outcome {
-        result,
-        held,
-        read_failures: source.failures,
-        write_failures: failures,
-        interruptions: seen.wrapping_add(device.interruptions),
-    }
-}
-
-/// Returns the number of lines that end in the bytes.
-fn lines_in(bytes: &[u8]) -> usize {
-    let mut lines: usize = 0;
-    for byte in bytes {
-        if *byte == 10 {
-            lines = lines.wrapping_add(1);
-        }
-    }
-    lines
-}
-
-/// Returns the beginning of the output that has this number of lines.
-fn answers_to(lines: usize) -> &'static [u8] {
-    for end in 0..ANSWERS.len() {
-        if lines_in(&ANSWERS[..end]) == lines {
-            return &ANSWERS[..end];
-        }
-    }
-    ANSWERS
-}
-
-/// Returns whether the reader failed once and the output for all lines that were read as a whole
-/// was written. If the failing read wasn't made, the whole output was written.
-fn is_read_fault(outcome: &Outcome, habits: Habits) -> bool {
-    let given = habits.most.saturating_mul(habits.fails_at);
-    // The read after the last byte returns 0.
-    if given.saturating_sub(habits.most) >= INPUT.len() {
-        return outcome.result.is_ok()
-            && outcome.read_failures == 0
-            && outcome.held.as_slice() == ANSWERS;
-    }
-    let whole = lines_in(&INPUT[..given.min(INPUT.len())]);
-    outcome.result == Err(EngineFault::Read)
-        && outcome.read_failures == 1
-        && outcome.write_failures == 0
-        && outcome.held.as_slice() == answers_to(whole)
-}
-
-/// Returns whether the writer failed once and what it took is a beginning of the output. If the
-/// failing write wasn't made, the whole output was written.
-fn is_write_fault(outcome: &Outcome, habits: Habits) -> bool {
-    let taken = habits.most.saturating_mul(habits.fails_at).min(24);
-    let fault = if taken == 24 {
-        Ok(())
+    let written = sink.device.bytes.as_slice();
+    let count = if REPLIES.starts_with(written) {
+        Some(written.len())
     } else {
-        Err(EngineFault::Write)
+        None
     };
-    outcome.result == fault
-        && outcome.read_failures == 0
-        && outcome.write_failures == (taken < 24) as u64
-        && outcome.held.as_slice() == &ANSWERS[..taken]
+    let interruptions = source.device.interruptions + sink.device.interruptions;
+    (
+        (result, source.failures, sink.failures, count),
+        interruptions,
+    )
 }
 
-/// Returns whether no output is lost with a reader of `most` bytes in a call whose call `fails_at`
-/// fails, interrupted or not.
-fn stands_reads(alloc: Global, most: usize, fails_at: usize) -> bool {
-    for is_interrupted in [false, true] {
-        let habits = Habits {
-            most,
-            fails_at,
-            is_interrupted,
-        };
-        if !is_read_fault(&run(alloc, habits, GOOD), habits) {
-            return false;
-        }
-    }
-    true
+/// Returns the number of bytes of the replies to the whole lines among the first bytes of `INPUT`.
+fn replied(bytes: usize) -> usize {
+    let lines = INPUT[..bytes].iter().filter(|byte| **byte == b'\n').count();
+    [0, 2, 4, 6, 8, 10, 12, 24][lines]
 }
 
 #[test]
-fn a_reader_that_fails_at_one_call_loses_no_answer(rt: HostRuntime) -> Result<(), Fail> {
+fn a_reader_that_failed_at_one_call_lost_a_reply(rt: HostRuntime) -> Result<(), Fail> {
     for most in 1..=INPUT.len() {
-        // A read with a greater number is never made.
-        let reads = (INPUT.len() / most).saturating_add(3);
-        for fails_at in 0..reads {
-            assert!(rt;
-                stands_reads(rt.alloc(), most, fails_at),
-                "{most} bytes a read, read {fails_at} fails"
-            );
+        // A read with a greater number is never made; the read after the last byte returns 0.
+        for fails_at in 0..INPUT.len() / most + 3 {
+            let given = most * fails_at;
+            let wanted = if given < INPUT.len() + most {
+                (
+                    Err(EngineFault::Read),
+                    1,
+                    0,
+                    Some(replied(given.min(INPUT.len()))),
+                )
+            } else {
+                (Ok(()), 0, 0, Some(24))
+            };
+            for is_interrupted in [false, true] {
+                let habits = Habits {
+                    most,
+                    fails_at,
+                    is_interrupted,
+                };
+                let (outcome, _) = run(rt.alloc(), habits, GOOD);
+                assert_eq!(rt;
+                    outcome,
+                    wanted,
+                    "{most} bytes a read, read {fails_at} fails"
+                );
+            }
         }
     }
     Ok(())
 }
 
-/// Returns whether a writer of `most` bytes in a call, whose call `fails_at` fails, has a beginning
-/// of the output, interrupted or not.
-fn stands_writes(alloc: Global, most: usize, fails_at: usize) -> bool {
-    for is_interrupted in [false, true] {
-        let habits = Habits {
-            most,
-            fails_at,
-            is_interrupted,
-        };
-        if !is_write_fault(&run(alloc, GOOD, habits), habits) {
-            return false;
-        }
-    }
-    true
-}
-
 #[test]
-fn a_writer_that_fails_at_one_call_holds_a_beginning_of_the_answers(
+fn a_writer_that_failed_at_one_call_had_no_beginning_of_the_replies(
     rt: HostRuntime,
 ) -> Result<(), Fail> {
     for most in 0..=25 {
         for fails_at in 0..26 {
-            assert!(rt;
-                stands_writes(rt.alloc(), most, fails_at),
-                "{most} bytes a write, write {fails_at} fails"
-            );
+            let taken = (most * fails_at).min(24);
+            let wanted = if taken < 24 {
+                (Err(EngineFault::Write), 0, 1, Some(taken))
+            } else {
+                (Ok(()), 0, 0, Some(24))
+            };
+            for is_interrupted in [false, true] {
+                let habits = Habits {
+                    most,
+                    fails_at,
+                    is_interrupted,
+                };
+                let (outcome, _) = run(rt.alloc(), GOOD, habits);
+                assert_eq!(rt;
+                    outcome,
+                    wanted,
+                    "{most} bytes a write, write {fails_at} fails"
+                );
+            }
         }
     }
     Ok(())
 }
 
-/// Returns whether nothing failed, more than four calls were interrupted, and the whole output was
-/// written.
-fn is_interrupted_alone(outcome: &Outcome) -> bool {
-    outcome.result.is_ok()
-        && outcome.read_failures == 0
-        && outcome.write_failures == 0
-        && outcome.interruptions > 4
-        && outcome.held.as_slice() == ANSWERS
-}
-
 #[test]
-fn calls_that_a_signal_interrupts_are_made_again(rt: HostRuntime) -> Result<(), Fail> {
+fn a_call_that_a_signal_interrupted_was_not_made_again(rt: HostRuntime) -> Result<(), Fail> {
     for most in 1..=24 {
         let habits = Habits {
             most,
             fails_at: 1000,
             is_interrupted: true,
         };
-        assert!(rt;
-            is_interrupted_alone(&run(rt.alloc(), habits, habits)),
-            "{most} bytes a call"
-        );
+        let (outcome, interruptions) = run(rt.alloc(), habits, habits);
+        assert_eq!(rt; outcome, (Ok(()), 0, 0, Some(24)), "{most} bytes a call");
+        assert!(rt; interruptions > 4, "{most} bytes a call");
     }
     Ok(())
 }

@@ -1,44 +1,44 @@
-//! Examples of the index collections, with their expected results.
-use crate::odd_keys::{Fold, SameHash};
+//! The index collections: the order and the values of collected, cloned and walked ones, look-ups
+//! by texts and slices, keys with one hash, equal keys with different marks, values that own
+//! memory, and the output of `{:?}`.
+use crate::odd_keys::Marked;
 use bumpalo::Bump;
+use elsa_arena::arena::TypedArena;
 use elsa_index::index_laws::{
     clone_and_part, is_new_once, keeps_earlier_pairs, set_is_new_once, set_keeps_earlier_values,
 };
 use elsa_index::index_set::FrozenIndexSet;
-use elsa_maps::index_map::FrozenIndexMap;
+use elsa_maps::index_map::{FrozenIndexMap, FrozenIndexMapIn};
 use elsa_maps::map::{FrozenBTreeMap, FrozenMap};
-use elsa_run::run::{run_index, run_set};
-use elsa_run::run_index::{IndexCommand, IndexReply};
-use elsa_run::run_set::{SetCommand, SetReply};
-use elsa_vec::stable::Own;
-use indexmap::{IndexMap, IndexSet};
+use elsa_vec::stable::{Own, Shelf};
 use std::alloc::{AllocError, Global};
-use std::hash::{BuildHasherDefault, FoldHasher};
+use std::hash::BuildHasherDefault;
+use std::sync::Arc;
 use std::test::Fail;
-
-// ---- making a map, and comparing
+use test_script::leave_room;
 
 type Texts<'a> = FrozenIndexMap<'a, u32, &'a str>;
 
-// Collects a map of these pairs.
+type Set<'a> = FrozenIndexSet<'a, String>;
+
+/// Collects a map of these pairs.
 fn collected<'a>(
     alloc: Global,
     arena: &'a Bump,
     pairs: &[(u32, &'a str)],
 ) -> Result<Texts<'a>, AllocError> {
-    let mut given: Vec<(u32, &'a str)> = Vec::new(alloc);
-    for pair in pairs {
-        given.push(*pair)?;
-    }
-    FrozenIndexMap::from_iter(alloc, arena, BuildHasherDefault::new(), given)
+    let pairs = pairs.iter().copied();
+    FrozenIndexMap::from_iter(alloc, arena, BuildHasherDefault::new(), pairs)
 }
 
 #[test]
-fn collecting_keeps_the_first_place_and_the_last_value(rt: HostRuntime) -> Result<(), Fail> {
+fn collecting_moved_a_pair_or_lost_the_last_value(rt: HostRuntime) -> Result<(), Fail> {
     let arena = Bump::new(rt.alloc());
     let map = collected(rt.alloc(), &arena, &[(1, "a"), (2, "x"), (1, "b")])?;
-    let pairs = map.into_tuple_vec()?;
-    assert!(rt; pairs.as_slice() == [(1, "b"), (2, "x")].as_slice());
+    assert_eq!(rt;
+        map.into_tuple_vec()?.as_slice(),
+        [(1, "b"), (2, "x")].as_slice()
+    );
     Ok(())
 }
 
@@ -47,420 +47,310 @@ fn maps_in_different_orders_were_unequal(rt: HostRuntime) -> Result<(), Fail> {
     let arena = Bump::new(rt.alloc());
     let ab = collected(rt.alloc(), &arena, &[(1, "a"), (2, "b")])?;
     let ba = collected(rt.alloc(), &arena, &[(2, "b"), (1, "a")])?;
-    let other = collected(rt.alloc(), &arena, &[(1, "a"), (2, "c")])?;
-    assert!(rt; ab == ba && ab != other);
-    assert!(rt; [ab.get_index_of(&1), ba.get_index_of(&1)] == [Some(0), Some(1)]);
-    Ok(())
-}
-
-// Returns the pairs at the first three indices of a map.
-fn pairs_of<'a>(map: &Texts<'a>) -> [Option<(u32, &'a str)>; 3] {
-    [map.get_index(0), map.get_index(1), map.get_index(2)]
-}
-
-#[test]
-fn insertions_into_a_clone_leave_its_source(rt: HostRuntime) -> Result<(), Fail> {
-    let arena = Bump::new(rt.alloc());
-    let mut map = collected(rt.alloc(), &arena, &[(1, "a")])?;
-    let copy = clone_and_part(&mut map, (2, "b"), (3, "c"))?;
-    let kept = pairs_of(&FrozenIndexMap::from_map(&arena, copy.into_map()));
-    assert!(rt; kept == [Some((1, "a")), Some((3, "c")), None]);
-    assert!(rt; pairs_of(&map) == [Some((1, "a")), Some((2, "b")), None]);
-    map.as_mut().clear();
-    assert!(rt; map.insert_full(2, "z")? == (0, "z"));
-    Ok(())
-}
-
-// ---- runs
-
-type MapCommand<'a> = IndexCommand<
-    u32,
-    &'a str,
-    IndexMap<u32, &'a str, BuildHasherDefault<FoldHasher>>,
->;
-
-// Makes commands in which a key is inserted several times. Its first value stays.
-fn insertions<'a>(alloc: Global) -> Result<Vec<MapCommand<'a>>, AllocError> {
-    Ok(Vec::from_array(
-        alloc,
-        [
-            IndexCommand::IsEmpty,
-            IndexCommand::InsertFull(12, "a"),
-            IndexCommand::InsertFull(12, "b"),
-            IndexCommand::InsertNew(12, "c"),
-            IndexCommand::InsertFullNew(7, "d"),
-            IndexCommand::Insert(7, "e"),
-            IndexCommand::Get(7),
-            IndexCommand::Get(8),
-        ],
-    )?)
-}
-
-fn are_insertions(replies: &[IndexReply<&str>]) -> bool {
-    replies
-        == [
-            IndexReply::Flag(true),
-            IndexReply::Full(0, "a"),
-            IndexReply::Full(0, "a"),
-            IndexReply::New("a", false),
-            IndexReply::FullNew(1, "d", true),
-            IndexReply::Item("d"),
-            IndexReply::Found(Some("d")),
-            IndexReply::Found(None),
-        ]
-        .as_slice()
-}
-
-// Makes commands whose replies show whether the key was new.
-fn repeats<'a>(alloc: Global) -> Result<Vec<MapCommand<'a>>, AllocError> {
-    Ok(Vec::from_array(
-        alloc,
-        [
-            IndexCommand::InsertFullNew(12, "a"),
-            IndexCommand::InsertFullNew(12, "b"),
-        ],
-    )?)
-}
-
-fn are_repeats(replies: &[IndexReply<&str>]) -> bool {
-    replies
-        == [
-            IndexReply::FullNew(0, "a", true),
-            IndexReply::FullNew(0, "a", false),
-        ]
-        .as_slice()
-}
-
-fn map_commands<'a>(alloc: Global) -> Result<Vec<MapCommand<'a>>, AllocError> {
-    Ok(Vec::from_array(
-        alloc,
-        [
-            IndexCommand::InsertFull(5, "p"),
-            IndexCommand::InsertFull(4, "q"),
-            IndexCommand::InsertFull(5, "r"),
-            IndexCommand::IndexOf(4),
-            IndexCommand::IndexOf(9),
-            IndexCommand::InsertNew(4, "s"),
-            IndexCommand::InsertFullNew(6, "t"),
-            IndexCommand::Insert(6, "u"),
-            IndexCommand::Get(6),
-            IndexCommand::IsEmpty,
-        ],
-    )?)
-}
-
-fn are_of_a_map(replies: &[IndexReply<&str>]) -> bool {
-    replies
-        == [
-            IndexReply::Full(0, "p"),
-            IndexReply::Full(1, "q"),
-            IndexReply::Full(0, "p"),
-            IndexReply::Place(Some(1)),
-            IndexReply::Place(None),
-            IndexReply::New("q", false),
-            IndexReply::FullNew(2, "t", true),
-            IndexReply::Item("t"),
-            IndexReply::Found(Some("t")),
-            IndexReply::Flag(false),
-        ]
-        .as_slice()
-}
-
-fn replies_to<'a>(
-    alloc: Global,
-    arena: &'a Bump,
-    commands: Vec<MapCommand<'a>>,
-) -> Result<Vec<IndexReply<&'a str>>, AllocError> {
-    let mut map: Texts<'a> = FrozenIndexMap::new(alloc, arena);
-    run_index(&mut map, commands)
-}
-
-fn are_rows(alloc: Global, arena: &Bump) -> Result<bool, AllocError> {
-    Ok(
-        are_insertions(replies_to(alloc, arena, insertions(alloc)?)?.as_slice())
-            && are_repeats(replies_to(alloc, arena, repeats(alloc)?)?.as_slice())
-            && are_of_a_map(replies_to(alloc, arena, map_commands(alloc)?)?.as_slice()),
-    )
-}
-
-#[test]
-fn a_run_on_an_index_map_had_other_replies(rt: HostRuntime) -> Result<(), Fail> {
-    let arena = Bump::new(rt.alloc());
-    assert!(rt; are_rows(rt.alloc(), &arena)?);
-    Ok(())
-}
-
-type BorrowCommand<'a> = SetCommand<
-    &'a str,
-    &'a str,
-    IndexSet<&'a str, BuildHasherDefault<FoldHasher>>,
->;
-
-fn set_commands<'a>(alloc: Global, arena: &'a Bump) -> Result<Vec<BorrowCommand<'a>>, Fail> {
-    let mut base: FrozenIndexSet<'a, &'a str> = FrozenIndexSet::new(alloc, arena);
-    base.insert("b")?;
-    Ok(Vec::from_array(
-        alloc,
-        [
-            SetCommand::Insert("a"),
-            SetCommand::InsertFull("b"),
-            SetCommand::InsertFull("a"),
-            SetCommand::IndexOf("c"),
-            SetCommand::At(1),
-            SetCommand::Rebase(base.into_set()),
-            SetCommand::IndexOf("b"),
-            SetCommand::InsertNew("b"),
-            SetCommand::InsertFullNew("c"),
-            SetCommand::Get("c"),
-        ],
-    )?)
-}
-
-fn are_of_a_set(replies: &[SetReply<&str>]) -> bool {
-    replies
-        == [
-            SetReply::Item("a"),
-            SetReply::Full(1, "b"),
-            SetReply::Full(0, "a"),
-            SetReply::Place(None),
-            SetReply::Found(Some("b")),
-            SetReply::Done,
-            SetReply::Place(Some(0)),
-            SetReply::New("b", false),
-            SetReply::FullNew(1, "c", true),
-            SetReply::Found(Some("c")),
-        ]
-        .as_slice()
-}
-
-#[test]
-fn a_run_on_an_index_set_had_other_replies(rt: HostRuntime) -> Result<(), Fail> {
-    let alloc = rt.alloc();
-    let arena = Bump::new(alloc);
-    let mut set: FrozenIndexSet<'_, &str> = FrozenIndexSet::new(alloc, &arena);
-    let replies = run_set(&mut set, set_commands(alloc, &arena)?)?;
-    assert!(rt; are_of_a_set(replies.as_slice()));
-    Ok(())
-}
-
-// ---- sets
-
-type Set<'a> = FrozenIndexSet<'a, String>;
-
-// Collects a set of owned copies of these texts.
-fn set_of<'a>(alloc: Global, arena: &'a Bump, texts: &[&str]) -> Result<Set<'a>, AllocError> {
-    let mut given: Vec<String> = Vec::new(alloc);
-    for of in texts {
-        given.push(String::from_str(alloc, *of)?)?;
-    }
-    FrozenIndexSet::from_iter(alloc, arena, BuildHasherDefault::new(), given)
-}
-
-// Adds a value to a clone, takes it apart and makes it again. Returns whether the value was new,
-// whether the clone then differed, and the value's index.
-fn made_again<'a>(
-    alloc: Global,
-    arena: &'a Bump,
-    set: &Set<'a>,
-) -> Result<(bool, bool, Option<usize>), AllocError> {
-    let mut copy = set.clone()?;
-    let (_, new) = copy.insert_new(String::from_str(alloc, "c")?)?;
-    let differs = copy != *set;
-    let again: Set<'a> = FrozenIndexSet::from_set(arena, copy.into_set());
-    Ok((new, differs, again.get_index_of(&"c")))
-}
-
-#[test]
-fn sets_are_cloned_and_cleared(rt: HostRuntime) -> Result<(), Fail> {
-    let arena = Bump::new(rt.alloc());
-    let mut ab = set_of(rt.alloc(), &arena, &["a", "b"])?;
-    assert!(rt; made_again(rt.alloc(), &arena, &ab)? == (true, true, Some(2)));
-    let before = ab.get_index(usize::MAX);
-    ab.as_mut().clear();
-    assert!(rt;
-        before.is_none() && ab.get_index(0).is_none() && ab.get_index(usize::MAX).is_none()
+    assert!(rt; ab == ba);
+    assert!(rt; ab != collected(rt.alloc(), &arena, &[(1, "a"), (2, "c")])?);
+    assert!(rt; ab != collected(rt.alloc(), &arena, &[(1, "a"), (3, "b")])?);
+    assert_eq!(rt;
+        [&ab, &ba].map(|map| map.get_index_of(&1)),
+        [Some(0), Some(1)]
     );
     Ok(())
 }
 
-// Returns whether a set of lists finds a list by a slice of equal items.
-fn finds_lists(alloc: Global, arena: &Bump) -> Result<bool, AllocError> {
-    let mut lists: FrozenIndexSet<'_, Vec<u32>> = FrozenIndexSet::new(alloc, arena);
-    let (index, _) = lists.insert_full(Vec::from_slice(alloc, &[1, 2])?)?;
-    Ok(index == 0 && lists.get_index_of(&[1u32, 2].as_slice()) == Some(0))
-}
-
 #[test]
-fn a_set_of_lists_lost_a_value(rt: HostRuntime) -> Result<(), Fail> {
+fn an_insertion_into_a_clone_changed_its_source(rt: HostRuntime) -> Result<(), Fail> {
     let arena = Bump::new(rt.alloc());
-    assert!(rt; finds_lists(rt.alloc(), &arena)?);
+    let mut map = collected(rt.alloc(), &arena, &[(1, "a")])?;
+    let copy = clone_and_part(&mut map, (2, "b"), (3, "c"))?;
+    let copy: Texts<'_> = FrozenIndexMap::from_map(&arena, copy.into_map());
+    let wanted = [
+        (&map, [Some((1, "a")), Some((2, "b")), None]),
+        (&copy, [Some((1, "a")), Some((3, "c")), None]),
+    ];
+    for (map, pairs) in wanted {
+        assert_eq!(rt; [0, 1, 2].map(|index| map.get_index(index)), pairs);
+    }
+    map.as_mut().clear();
+    assert_eq!(rt; map.insert_full(2, "z")?, (0, "z"));
     Ok(())
 }
 
-// ---- the indices and flags of the laws
-
-fn laws_of_a_map(alloc: Global, arena: &Bump) -> Result<bool, AllocError> {
-    let mut map: Texts<'_> = FrozenIndexMap::new(alloc, arena);
-    let five = keeps_earlier_pairs(&mut map, 5, "a")?;
-    let four = keeps_earlier_pairs(&mut map, 4, "b")?;
-    let (first, again) = is_new_once(
-        &mut map,
-        (6, "c"),
-        vec![in alloc; (7, "e"), (5, "z")]?,
-        (6, "d"),
-    )?;
-    let last = keeps_earlier_pairs(&mut map, 7, "z")?;
-    Ok(
-        five == (0, "a", true)
-            && four == (1, "b", true)
-            && first == (2, "c", true)
-            && again == (2, "c", false)
-            && last == (3, "e", false),
-    )
+#[test]
+fn a_walk_over_an_index_map_had_another_order(rt: HostRuntime) -> Result<(), Fail> {
+    let (alloc, arena) = (rt.alloc(), Bump::new(rt.alloc()));
+    let mut map: FrozenIndexMap<'_, u64, &str> = FrozenIndexMap::new(alloc, &arena);
+    for (key, value) in [(3, "c"), (1, "aa"), (2, "b"), (1, "zzz")] {
+        map.insert(key, value)?;
+    }
+    let mut front = Vec::new(alloc);
+    for (key, value) in &map {
+        front.push((*key, *value))?;
+    }
+    assert_eq!(rt;
+        front.as_slice(),
+        [(3, "c"), (1, "aa"), (2, "b")].as_slice()
+    );
+    let back: Vec<u64> = map.iter().rev().map(|(key, _)| *key).collect(alloc)?;
+    let keys: Vec<u64> = map.keys().copied().collect(alloc)?;
+    let values: Vec<&str> = map.values().copied().collect(alloc)?;
+    assert_eq!(rt;
+        (back.as_slice(), keys.as_slice()),
+        ([2, 1, 3].as_slice(), [3, 1, 2].as_slice())
+    );
+    assert_eq!(rt; values.as_slice(), ["c", "aa", "b"].as_slice());
+    let printed = format!(in alloc; "{map:?}")?;
+    assert_eq!(rt; printed.as_str(), "{3: \"c\", 1: \"aa\", 2: \"b\"}");
+    map.as_mut().clear();
+    let printed = format!(in alloc; "{map:?}")?;
+    assert_eq!(rt; printed.as_str(), "{}");
+    Ok(())
 }
 
-fn laws_of_a_set(alloc: Global, arena: &Bump) -> Result<bool, AllocError> {
-    let mut set: Set<'_> = FrozenIndexSet::new(alloc, arena);
-    let a = set_keeps_earlier_values(&mut set, String::from_str(alloc, "a")?)?;
-    let b = set_keeps_earlier_values(&mut set, String::from_str(alloc, "b")?)?;
-    let between = vec![in alloc; String::from_str(alloc, "d")?]?;
-    let c = String::from_str(alloc, "c")?;
-    let (first, again) = set_is_new_once(&mut set, c, between, String::from_str(alloc, "c")?)?;
-    let last = set_keeps_earlier_values(&mut set, String::from_str(alloc, "d")?)?;
-    Ok(
-        a == (0, "a", true)
-            && b == (1, "b", true)
-            && first == (2, "c", true)
-            && again == (2, "c", false)
-            && last == (3, "d", false),
-    )
+#[test]
+fn a_walk_over_an_index_set_had_another_order(rt: HostRuntime) -> Result<(), Fail> {
+    let (alloc, arena) = (rt.alloc(), Bump::new(rt.alloc()));
+    let mut set: FrozenIndexSet<'_, Own<u64>> = FrozenIndexSet::new(alloc, &arena);
+    set.extend([3, 1, 2, 1].map(|number| Own(number)))?;
+    let front: Vec<u64> = set.iter().map(|value| **value).collect(alloc)?;
+    let back: Vec<u64> = set.iter().rev().map(|value| **value).collect(alloc)?;
+    assert_eq!(rt;
+        (front.as_slice(), back.as_slice()),
+        ([3, 1, 2].as_slice(), [2, 1, 3].as_slice())
+    );
+    let printed = format!(in alloc; "{set:?}")?;
+    assert_eq!(rt; printed.as_str(), "{3, 1, 2}");
+    let mut one: FrozenIndexSet<'_, Own<u64>> = FrozenIndexSet::new(alloc, &arena);
+    one.extend([Own(1), Own(2), Own(2)])?;
+    let (all, part) = (set.inner(), one.inner());
+    assert_eq!(rt; (part.is_subset(all), all.is_subset(part)), (true, false));
+    assert_eq!(rt; all.difference(part).next().map(|value| **value), Some(3));
+    Ok(())
+}
+
+#[test]
+fn a_set_changed_when_it_was_cloned_or_cleared(rt: HostRuntime) -> Result<(), Fail> {
+    let (alloc, arena) = (rt.alloc(), Bump::new(rt.alloc()));
+    let texts = vec![in alloc;
+        String::from_str(alloc, "a")?,
+        String::from_str(alloc, "b")?,
+    ]?;
+    let mut ab: Set<'_> = FrozenIndexSet::from_iter(
+        alloc,
+        &arena,
+        BuildHasherDefault::new(),
+        texts,
+    )?;
+    let mut copy = ab.clone()?;
+    assert!(rt; copy == ab);
+    assert_eq!(rt;
+        copy.insert_new(String::from_str(alloc, "c")?)?,
+        ("c", true)
+    );
+    assert!(rt; copy != ab);
+    let again: Set<'_> = FrozenIndexSet::from_set(&arena, copy.into_set());
+    assert_eq!(rt; again.get_index_of(&"c"), Some(2));
+    let ends = [0, 1, 2, usize::MAX];
+    let before = ends.map(|index| ab.get_index(index));
+    assert_eq!(rt; before, [Some("a"), Some("b"), None, None]);
+    ab.as_mut().clear();
+    assert_eq!(rt; ends.map(|index| ab.get_index(index)), [None; 4]);
+    Ok(())
 }
 
 #[test]
 fn a_law_of_an_index_collection_returned_a_wrong_index_or_flag(
     rt: HostRuntime,
 ) -> Result<(), Fail> {
-    let arena = Bump::new(rt.alloc());
-    assert!(rt; laws_of_a_map(rt.alloc(), &arena)? && laws_of_a_set(rt.alloc(), &arena)?);
+    let (alloc, arena) = (rt.alloc(), Bump::new(rt.alloc()));
+    let mut map: Texts<'_> = FrozenIndexMap::new(alloc, &arena);
+    assert_eq!(rt; keeps_earlier_pairs(&mut map, 5, "a")?, (0, "a", true));
+    assert_eq!(rt; keeps_earlier_pairs(&mut map, 4, "b")?, (1, "b", true));
+    let between = vec![in alloc; (7, "e"), (5, "z")]?;
+    let twice = is_new_once(&mut map, (6, "c"), between, (6, "d"))?;
+    assert_eq!(rt; twice, ((2, "c", true), (2, "c", false)));
+    assert_eq!(rt; keeps_earlier_pairs(&mut map, 7, "z")?, (3, "e", false));
+    let owned = |text: &str| String::from_str(alloc, text);
+    let mut set: Set<'_> = FrozenIndexSet::new(alloc, &arena);
+    for (index, text) in [(0, "a"), (1, "b")] {
+        let kept = set_keeps_earlier_values(&mut set, owned(text)?)?;
+        assert_eq!(rt; kept, (index, text, true));
+    }
+    let between = vec![in alloc; owned("d")?]?;
+    let twice = set_is_new_once(&mut set, owned("c")?, between, owned("c")?)?;
+    assert_eq!(rt; twice, ((2, "c", true), (2, "c", false)));
+    assert_eq!(rt;
+        set_keeps_earlier_values(&mut set, owned("d")?)?,
+        (3, "d", false)
+    );
     Ok(())
 }
 
 // ---- odd keys
 
-type AlikeMap<'a> = FrozenIndexMap<'a, SameHash, Own<u32>>;
-
-fn map_has_all(map: &AlikeMap<'_>) -> bool {
-    for i in 0..200u32 {
-        let key = SameHash(i);
-        if map.get_index_of(&key) != Some(i as usize) || map.get(&key).copied() != Some(i + 1) {
-            return false;
-        }
-    }
-    map.get_index_of(&SameHash(200)).is_none()
-}
-
 #[test]
-fn a_map_confused_keys_with_equal_hashes(rt: HostRuntime) -> Result<(), Fail> {
+fn an_index_collection_confused_keys_with_equal_hashes(rt: HostRuntime) -> Result<(), Fail> {
     let arena = Bump::new(rt.alloc());
-    let mut map: AlikeMap<'_> = FrozenIndexMap::new(rt.alloc(), &arena);
-    for i in 0..200u32 {
-        map.insert(SameHash(i), Own(i + 1))?;
+    let mut map: FrozenIndexMap<'_, Marked, Own<u32>> = FrozenIndexMap::new(rt.alloc(), &arena);
+    let mut set: FrozenIndexSet<'_, Own<Marked>> = FrozenIndexSet::new(rt.alloc(), &arena);
+    for i in 0..200 {
+        map.insert(Marked(i, 'x'), Own(i + 1))?;
+        set.insert(Own(Marked(i, 'x')))?;
     }
-    assert!(rt; map_has_all(&map));
+    for i in 0..201 {
+        let key = Marked(i, 'y');
+        let index = if i < 200 { Some(i as usize) } else { None };
+        let found = (
+            map.get_index_of(&key),
+            map.get(&key).copied(),
+            set.get_index_of(&Own(key)),
+        );
+        assert_eq!(rt; found, (index, index.map(|_| i + 1), index), "{i}");
+    }
     Ok(())
 }
 
-type AlikeSet<'a> = FrozenIndexSet<'a, Own<SameHash>>;
-
-fn set_has_all(set: &AlikeSet<'_>) -> bool {
-    for i in 0..200u32 {
-        if set.get_index_of(&Own(SameHash(i))) != Some(i as usize) {
-            return false;
-        }
-    }
-    set.get_index_of(&Own(SameHash(200))).is_none()
-}
-
 #[test]
-fn a_set_confused_values_with_equal_hashes(rt: HostRuntime) -> Result<(), Fail> {
+fn a_second_equal_key_replaced_the_first(rt: HostRuntime) -> Result<(), Fail> {
     let arena = Bump::new(rt.alloc());
-    let mut set: AlikeSet<'_> = FrozenIndexSet::new(rt.alloc(), &arena);
-    for i in 0..200u32 {
-        set.insert(Own(SameHash(i)))?;
+    let mut indexed: FrozenIndexMap<'_, Marked, &str> = FrozenIndexMap::new(rt.alloc(), &arena);
+    let mut hashed: FrozenMap<'_, Marked, &str> = FrozenMap::new(rt.alloc(), &arena);
+    let mut ordered: FrozenBTreeMap<'_, Marked, &str> = FrozenBTreeMap::new(rt.alloc(), &arena);
+    let rows = [
+        (2, 'b', "z", "z"),
+        (1, 'A', "x", "x"),
+        (1, 'a', "y", "x"),
+        (2, 'B', "w", "z"),
+    ];
+    for (number, mark, value, kept) in rows {
+        let key = Marked(number, mark);
+        let values = [
+            indexed.insert(key, value)?,
+            hashed.insert(key, value)?,
+            ordered.insert(key, value)?,
+        ];
+        assert_eq!(rt; values, [kept; 3], "{number} {mark}");
     }
-    assert!(rt; set_has_all(&set));
+    for (number, wanted) in [(1, Some(('A', "x"))), (2, Some(('b', "z"))), (3, None)] {
+        let key = Marked(number, '?');
+        let shown = [
+            indexed.get_full(&key).map(|(_, key, value)| (key.1, value)),
+            hashed
+                .get_key_value(&key)
+                .map(|(key, value)| (key.1, value)),
+            ordered
+                .get_key_value(&key)
+                .map(|(key, value)| (key.1, value)),
+        ];
+        assert_eq!(rt; shown, [wanted; 3], "{number}");
+    }
+    assert_eq!(rt; [indexed.len(), hashed.len(), ordered.len()], [2; 3]);
+    let mut in_order = Vec::new(rt.alloc());
+    for (key, value) in &ordered.into_tuple_vec()? {
+        in_order.push((key.0, key.1, *value))?;
+    }
+    assert_eq!(rt;
+        in_order.as_slice(),
+        [(1, 'A', "x"), (2, 'b', "z")].as_slice()
+    );
     Ok(())
 }
 
-type Folded<'a> = FrozenIndexMap<'a, Fold<'a>, &'a str>;
-
-fn folded_at<'a>(map: &Folded<'a>, key: &'a str) -> (Option<usize>, Option<&'a str>) {
-    let found = map.get_full(&Fold(key)).map(|found| -> &str { found.1.0 });
-    (map.get_index_of(&Fold(key)), found)
-}
+// ---- look-ups by texts and slices
 
 #[test]
-fn an_index_map_shows_the_first_of_equal_keys(rt: HostRuntime) -> Result<(), Fail> {
-    let arena = Bump::new(rt.alloc());
-    let mut map: Folded<'_> = FrozenIndexMap::new(rt.alloc(), &arena);
-    let answers = [map.insert(Fold("AB"), "x")?, map.insert(Fold("ab"), "y")?];
-    assert!(rt; answers == ["x", "x"] && folded_at(&map, "aB") == (Some(0), Some("AB")));
+fn a_set_of_lists_or_a_map_of_strings_lost_a_value(rt: HostRuntime) -> Result<(), Fail> {
+    let (alloc, arena) = (rt.alloc(), Bump::new(rt.alloc()));
+    let mut lists: FrozenIndexSet<'_, Vec<u32>> = FrozenIndexSet::new(alloc, &arena);
+    assert_eq!(rt; lists.insert_full(vec![in alloc; 1, 2]?)?.0, 0);
+    assert_eq!(rt; lists.get_index_of(&[1u32, 2].as_slice()), Some(0));
+    assert_eq!(rt; lists.get_index_of(&[2u32, 1].as_slice()), None);
+    let mut map: FrozenIndexMap<'_, String, Own<u64>> = FrozenIndexMap::new(alloc, &arena);
+    map.insert(String::from_str(alloc, "a name")?, Own(7))?;
+    assert_eq!(rt; (map.get("a name"), map.get("a nam")), (Some(&7), None));
     Ok(())
 }
 
-type HashedFolds<'a> = FrozenMap<'a, Fold<'a>, &'a str>;
-
-// Returns the stored key and its value.
-fn hashed_pair<'a>(map: &HashedFolds<'a>, key: &'a str) -> Option<(&'a str, &'a str)> {
-    let (shown, value) = map.get_key_value(&Fold(key))?;
-    Some((shown.0, value))
-}
-
 #[test]
-fn a_hashed_map_shows_the_first_of_equal_keys(rt: HostRuntime) -> Result<(), Fail> {
-    let arena = Bump::new(rt.alloc());
-    let mut map: HashedFolds<'_> = FrozenMap::new(rt.alloc(), &arena);
-    let answers = [map.insert(Fold("AB"), "x")?, map.insert(Fold("ab"), "y")?];
-    assert!(rt; answers == ["x", "x"] && map.len() == 1);
-    assert!(rt; hashed_pair(&map, "aB") == Some(("AB", "x")) && hashed_pair(&map, "a").is_none());
+fn a_set_did_not_have_a_text_at_its_first_index(rt: HostRuntime) -> Result<(), Fail> {
+    let (alloc, arena) = (rt.alloc(), Bump::new(rt.alloc()));
+    let mut names: FrozenIndexSet<'_, &str> = FrozenIndexSet::new(alloc, &arena);
+    let mut owned: Set<'_> = FrozenIndexSet::new(alloc, &arena);
+    for (text, index) in [("b", 0), ("a", 1), ("b", 0), ("", 2)] {
+        // The text is a copy that ends with this turn.
+        let copy = String::from_str(alloc, text)?;
+        assert_eq!(rt; names.insert_text(copy.as_str())?, text);
+        assert_eq!(rt; owned.insert_full(copy)?, (index, text));
+    }
+    for (text, index) in [
+        ("b", Some(0)),
+        ("a", Some(1)),
+        ("", Some(2)),
+        ("c", None),
+        ("aa", None),
+    ] {
+        let full = index.map(|index| (index, text));
+        let wanted = (full, full.map(|it| it.1), index, full.is_some());
+        let found = (
+            names.get_full(text),
+            names.get(text),
+            names.get_index_of(text),
+            names.contains(text),
+        );
+        assert_eq!(rt; found, wanted, "{text}");
+        let found = (
+            owned.get_full(text),
+            owned.get(text),
+            owned.get_index_of(text),
+            owned.contains(text),
+        );
+        assert_eq!(rt; found, wanted, "{text}");
+    }
+    assert_eq!(rt; (names.len(), owned.len()), (3, 3));
     Ok(())
 }
 
-type OrderedFolds<'a> = FrozenBTreeMap<'a, Fold<'a>, &'a str>;
-
-// Inserts the pairs into a map, and returns the pairs of the map.
-fn ordered_folds<'a>(
-    alloc: Global,
-    arena: &'a Bump,
-    pairs: [(&'a str, &'a str); 4],
-) -> Result<Vec<(Fold<'a>, &'a str)>, AllocError> {
-    let mut map: OrderedFolds<'a> = FrozenBTreeMap::new(alloc, arena);
-    for (key, value) in pairs {
-        map.insert(Fold(key), value)?;
-    }
-    map.into_tuple_vec()
-}
-
-// Returns whether these are the pairs, with the keys as they were inserted first.
-fn are_shown(pairs: &[(Fold<'_>, &str)], want: &[(&str, &str)]) -> bool {
-    let mut index = 0usize;
-    for pair in pairs {
-        if want.get(index) != Some(&(pair.0.0, pair.1)) {
-            return false;
-        }
-        index = index.saturating_add(1);
-    }
-    index == want.len()
+#[test]
+fn a_set_stored_a_text_twice_or_a_text_that_did_not_fit(rt: HostRuntime) -> Result<(), Fail> {
+    let arena = Bump::new(rt.alloc());
+    let mut names: FrozenIndexSet<'_, &str> = FrozenIndexSet::new(rt.alloc(), &arena);
+    names.insert_text("lonely")?;
+    let left = arena.chunk_capacity();
+    assert_eq!(rt;
+        (names.insert_text("lonely")?, arena.chunk_capacity()),
+        ("lonely", left)
+    );
+    leave_room(&arena, 0);
+    assert!(rt; names.insert_text("best friend").is_err());
+    assert_eq!(rt; (names.len(), names.contains("best friend")), (1, false));
+    Ok(())
 }
 
 #[test]
-fn an_ordered_map_shows_the_first_of_equal_keys(rt: HostRuntime) -> Result<(), Fail> {
-    let arena = Bump::new(rt.alloc());
-    let pairs = ordered_folds(
-        rt.alloc(),
-        &arena,
-        [("b", "z"), ("AB", "x"), ("ab", "y"), ("B", "w")],
-    )?;
-    assert!(rt; are_shown(pairs.as_slice(), [("AB", "x"), ("b", "z")].as_slice()));
+fn a_value_that_owns_memory_moved_or_was_not_dropped_once(rt: HostRuntime) -> Result<(), Fail> {
+    let alloc = rt.alloc();
+    let counted = Arc::new(alloc, 7_u64)?;
+    let (texts, values) = (Bump::new(alloc), TypedArena::new(alloc)?);
+    let shelf = Shelf {
+        texts: &texts,
+        values: &values,
+    };
+    let mut owners: FrozenIndexMapIn<Shelf<'_, Arc<u64>>, &str, Own<Arc<u64>>> =
+        FrozenIndexMapIn::new(alloc, shelf);
+    for (name, index) in [("b", 0), ("a", 1), ("b", 0), ("c", 2)] {
+        let text = String::from_str(alloc, name)?;
+        let (at, kept) = owners.insert_full_text(text.as_str(), Own(counted.clone()?))?;
+        assert_eq!(rt; (at, **kept), (index, 7), "{name}");
+    }
+    let first = owners.insert_text("b", Own(Arc::new(alloc, 9)?))?;
+    assert_eq!(rt;
+        (owners.get("b").is_some(), owners.get("d").is_none()),
+        (true, true)
+    );
+    // Three of the four are stored, besides `counted` itself.
+    assert_eq!(rt; Arc::strong_count(&counted), 4);
+    drop(owners);
+    assert_eq!(rt; (**first, Arc::strong_count(&counted)), (7, 4));
+    drop(values);
+    assert_eq!(rt; Arc::strong_count(&counted), 1);
     Ok(())
 }

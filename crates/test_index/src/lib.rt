@@ -3,13 +3,7 @@
 #![tactic(auto)]
 
 #[cfg(test)]
-mod ahead_tests;
-#[cfg(test)]
-mod bulk;
-#[cfg(test)]
 mod cache_tests;
-#[cfg(test)]
-mod caller_tests;
 #[cfg(test)]
 mod device_tests;
 #[cfg(test)]
@@ -23,16 +17,4 @@ mod name_tests;
 #[cfg(test)]
 mod odd_keys;
 #[cfg(test)]
-mod parsed_cache_tests;
-#[cfg(test)]
-mod printed;
-#[cfg(test)]
-mod run_map_tests;
-#[cfg(test)]
-mod run_vec_tests;
-#[cfg(test)]
-mod set_texts;
-#[cfg(test)]
-mod shelf;
-#[cfg(test)]
-mod walks;
+mod run_tests;

@@ -1,9 +1,6 @@
 //! The engine with a device that a signal interrupts a thousand times before each call.
-ghost use Rattle.std.specs.Prelude.{◌≤◌, IfOk};
-
 use bumpalo::Bump;
 use elsa::interner::{Counted, intern_engine};
-use std::alloc::Global;
 use std::io;
 use std::io::{ErrorKind, Read};
 use std::test::Fail;
@@ -26,22 +23,17 @@ impl<'t> Read for Giver<'t> {
     }
 }
 
-/// Returns whether the engine writes the right output for two lines of such a reader.
-fn answers(alloc: Global) -> bool {
-    let arena = Bump::new(alloc);
+#[test]
+fn a_thousand_interruptions_end_no_read(rt: HostRuntime) -> Result<(), Fail> {
+    let arena = Bump::new(rt.alloc());
     let mut reader = Counted::new(Giver {
         left: b"put fox\nat 0\n".as_slice(),
         interruptions: 0,
     });
-    let mut bytes: Vec<u8> = Vec::new(alloc);
+    let mut bytes: Vec<u8> = Vec::new(rt.alloc());
     let mut writer = Counted::new(&mut bytes);
-    let is_done = intern_engine(alloc, &arena, &mut reader, &mut writer).is_ok();
+    assert!(rt; intern_engine(rt.alloc(), &arena, &mut reader, &mut writer).is_ok());
     drop(writer);
-    is_done && bytes.as_slice() == b"0\nfox\n".as_slice()
-}
-
-#[test]
-fn a_thousand_interruptions_end_no_read(rt: HostRuntime) -> Result<(), Fail> {
-    assert!(rt; answers(rt.alloc()));
+    assert_eq!(rt; bytes.as_slice(), b"0\nfox\n".as_slice());
     Ok(())
 }

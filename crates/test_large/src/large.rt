@@ -9,111 +9,76 @@ use std::alloc::{AllocError, Global};
 use std::convert::Infallible;
 use std::test::Fail;
 
-/// Makes a text of 2,000 bytes that ends with `end`, which has at most that length.
-fn long(alloc: Global, end: &str) -> Result<String, AllocError> {
+/// Makes a text of this many bytes that ends with `end`.
+fn long(alloc: Global, count: usize, end: &str) -> Result<String, AllocError> {
     let mut text = String::new(alloc);
-    for _ in end.len()..2000 {
+    for _ in end.len()..count {
         text.push_str("x")?;
     }
     text.push_str(end)?;
     Ok(text)
 }
 
-/// Returns whether a cache loads and parses a long text at a long path.
-fn cache_takes_long(alloc: Global, arena: &Bump) -> Result<bool, AllocError> {
-    let path = long(alloc, "path")?;
-    let mut cache: ParsedCache<'_, usize> = ParsedCache::new(alloc, arena);
-    let parsed: Result<&usize, CacheFault<AllocError, Infallible>> = cache.get_or_parse(
-        path.as_str(),
-        |_| long(alloc, "text"),
-        |text| Ok(text.len()),
-    );
-    Ok(matches!(parsed, Ok(2000)))
-}
-
 #[test]
 fn a_cache_takes_a_long_path_and_a_long_text(rt: HostRuntime) -> Result<(), Fail> {
-    let arena = Bump::new(rt.alloc());
-    assert!(rt; cache_takes_long(rt.alloc(), &arena)?);
+    let (alloc, arena) = (rt.alloc(), Bump::new(rt.alloc()));
+    let path = long(alloc, 2000, "path")?;
+    let mut cache: ParsedCache<'_, usize> = ParsedCache::new(alloc, &arena);
+    let parsed: Result<&usize, CacheFault<AllocError, Infallible>> = cache.get_or_parse(
+        path.as_str(),
+        |_| long(alloc, 2000, "text"),
+        |text| Ok(text.len()),
+    );
+    assert!(rt; matches!(parsed, Ok(2000)));
     Ok(())
-}
-
-/// Returns whether `count` names are numbered in order, and a name that is put again keeps its
-/// number.
-fn names_are_numbered(alloc: Global, arena: &Bump, count: usize) -> Result<bool, AllocError> {
-    let mut names = Interner::new(alloc, arena);
-    for number in 0..count {
-        let bytes = [
-            b'a' + (number % 26) as u8,
-            b'a' + (number / 26 % 26) as u8,
-            b'a' + (number / 676 % 26) as u8,
-            b'a' + (number / 17576 % 26) as u8,
-        ];
-        let Ok(name) = std::str::from_utf8(&bytes) else {
-            return Ok(false);
-        };
-        if names.put(name)? != number {
-            return Ok(false);
-        }
-    }
-    Ok(
-        names.len() == count
-            && names.put("aaaa")? == 0
-            && names.put(long(alloc, "name")?.as_str())? == count,
-    )
 }
 
 #[test]
 fn an_interner_numbers_more_than_a_hundred_thousand_names(rt: HostRuntime) -> Result<(), Fail> {
     let arena = Bump::new(rt.alloc());
-    assert!(rt; names_are_numbered(rt.alloc(), &arena, 120_000)?);
-    Ok(())
-}
-
-/// Returns whether a name of 300,000 bytes is put, and found by the name and by its number.
-fn long_name_is_put(alloc: Global, arena: &Bump) -> Result<bool, AllocError> {
-    let mut text = String::new(alloc);
-    for _ in 0..30_000 {
-        text.push_str("0123456789")?;
+    let mut names = Interner::new(rt.alloc(), &arena);
+    for number in 0..120_000 {
+        let mut bytes = [b'a'; 4];
+        let mut rest = number;
+        for letter in bytes.iter_mut() {
+            *letter += (rest % 26) as u8;
+            rest /= 26;
+        }
+        let name = std::str::from_utf8(&bytes).map_err(|_| "no text")?;
+        assert_eq!(rt; names.put(name)?, number);
     }
-    let mut names = Interner::new(alloc, arena);
-    let is_put = names.put("short")? == 0 && names.put(text.as_str())? == 1;
-    Ok(is_put && names.find(text.as_str()) == Some(1) && names.at(1) == Some(text.as_str()))
+    assert_eq!(rt; (names.len(), names.put("aaaa")?), (120_000, 0));
+    assert_eq!(rt;
+        names.put(long(rt.alloc(), 2000, "name")?.as_str())?,
+        120_000
+    );
+    Ok(())
 }
 
 #[test]
 fn a_name_may_have_hundreds_of_thousands_of_bytes(rt: HostRuntime) -> Result<(), Fail> {
     let arena = Bump::new(rt.alloc());
-    assert!(rt; long_name_is_put(rt.alloc(), &arena)?);
+    let text = long(rt.alloc(), 300_000, "the end")?;
+    let mut names = Interner::new(rt.alloc(), &arena);
+    assert_eq!(rt; (names.put("short")?, names.put(text.as_str())?), (0, 1));
+    assert_eq!(rt; names.find(text.as_str()), Some(1));
+    assert!(rt; names.at(1) == Some(text.as_str()));
     Ok(())
-}
-
-/// Returns whether a run of a thousand pushes makes each of them.
-fn vec_runs(alloc: Global, arena: &Bump) -> Result<bool, AllocError> {
-    let mut items: FrozenVec<'_, Own<usize>> = FrozenVec::new(alloc, arena);
-    let mut commands = Vec::new(alloc);
-    for number in 0..1000 {
-        commands.push(VecCommand::Push(Own(number)))?;
-    }
-    let replies = run_vec(&mut items, commands)?;
-    Ok(replies.len() == 1000 && items.len() == 1000 && items.last() == Some(&999))
-}
-
-/// Returns the same for insertions into a map.
-fn map_runs(alloc: Global, arena: &Bump) -> Result<bool, AllocError> {
-    let mut map: FrozenMap<'_, usize, Own<usize>> = FrozenMap::new(alloc, arena);
-    let mut commands = Vec::new(alloc);
-    for number in 0..1000 {
-        commands.push(MapCommand::Insert(number, Own(number)))?;
-    }
-    let replies = run_map(&mut map, commands)?;
-    Ok(replies.len() == 1000 && map.len() == 1000)
 }
 
 #[test]
 fn runs_make_a_thousand_calls(rt: HostRuntime) -> Result<(), Fail> {
     let arena = Bump::new(rt.alloc());
-    assert!(rt; vec_runs(rt.alloc(), &arena)?);
-    assert!(rt; map_runs(rt.alloc(), &arena)?);
+    let mut items: FrozenVec<'_, Own<usize>> = FrozenVec::new(rt.alloc(), &arena);
+    let mut map: FrozenMap<'_, usize, Own<usize>> = FrozenMap::new(rt.alloc(), &arena);
+    let (mut pushes, mut insertions) = (Vec::new(rt.alloc()), Vec::new(rt.alloc()));
+    for number in 0..1000 {
+        pushes.push(VecCommand::Push(Own(number)))?;
+        insertions.push(MapCommand::Insert(number, Own(number)))?;
+    }
+    assert_eq!(rt; run_vec(&mut items, pushes)?.len(), 1000);
+    assert_eq!(rt; (items.len(), items.last()), (1000, Some(&999)));
+    assert_eq!(rt; run_map(&mut map, insertions)?.len(), 1000);
+    assert_eq!(rt; (map.len(), map.get(&999)), (1000, Some(&999)));
     Ok(())
 }

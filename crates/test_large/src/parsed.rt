@@ -28,50 +28,38 @@ fn length_at<'a>(alloc: Global, cache: &mut Cache<'a, '_>, path: &str) -> Length
     )
 }
 
-/// Returns the number of paths for which the first try failed, or `None` if the second try failed
-/// or the value is wrong.
-fn goes_through(alloc: Global, heap: &Budget<Global>) -> Option<u64> {
-    let arena = Bump::new(alloc);
-    let mut cache: Cache<'_, '_> = ParsedCache::new(heap, &arena);
-    let mut failures = 0u64;
-    for path in PATHS {
-        if length_at(alloc, &mut cache, path) != Ok(&2) {
-            failures = failures.saturating_add(1);
-            heap.refuse_next(0);
-        }
-        if length_at(alloc, &mut cache, path) != Ok(&2) {
-            return None;
-        }
-    }
-    if cache.len() == PATHS.len() {
-        Some(failures)
-    } else {
-        None
-    }
-}
-
-/// Returns the first request of which the denial left a block, or lost a path; or the number of
-/// requests if none did.
-fn first_lost(alloc: Global) -> Result<u64, u64> {
-    let open = Budget::new(alloc);
-    if goes_through(alloc, &open) != Some(0) || open.given() != open.granted() {
-        return Err(u64::MAX);
-    }
-    for number in 0..open.asked() {
-        let heap = Budget::new(alloc);
-        heap.refuse(number, number.saturating_add(1));
-        let is_whole = goes_through(alloc, &heap).is_some();
-        if !is_whole || heap.given() != heap.granted() || heap.refused() != 1 {
-            return Err(number);
-        }
-    }
-    Ok(open.asked())
-}
-
 #[test]
 fn a_parsed_cache_gives_every_block_back(rt: HostRuntime) -> Result<(), Fail> {
-    let lost = first_lost(rt.alloc());
-    assert!(rt; matches!(lost, Ok(asked) if asked > 0), "{lost:?}");
+    let mut number = 0;
+    // Denies each request in turn, and then none.
+    loop {
+        let (heap, arena) = (Budget::new(rt.alloc()), Bump::new(rt.alloc()));
+        heap.refuse(number, number + 1);
+        let mut cache: Cache<'_, '_> = ParsedCache::new(&heap, &arena);
+        let mut failures = 0;
+        for path in PATHS {
+            if length_at(rt.alloc(), &mut cache, path) != Ok(&2) {
+                failures += 1;
+            }
+            assert_eq!(rt;
+                length_at(rt.alloc(), &mut cache, path),
+                Ok(&2),
+                "request {number}"
+            );
+        }
+        assert_eq!(rt;
+            (cache.len(), failures),
+            (PATHS.len(), heap.refused()),
+            "request {number}"
+        );
+        drop(cache);
+        assert_eq!(rt; heap.given(), heap.granted(), "request {number}");
+        if heap.refused() == 0 {
+            break;
+        }
+        number += 1;
+    }
+    assert!(rt; number > 0);
     Ok(())
 }
 

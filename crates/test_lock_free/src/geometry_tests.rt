@@ -5,7 +5,7 @@ use elsa_slots::geometry::{buffer_index, buffer_size, locate, prior_total_buffer
 use std::alloc::AllocError;
 
 #[test]
-fn buffers_open_as_the_list_grows(rt: HostRuntime) -> Result<(), AllocError> {
+fn a_buffer_was_opened_too_early_or_late(rt: HostRuntime) -> Result<(), AllocError> {
     let alloc = rt.alloc();
     let items = [0; 16];
     let plans = plans_of(alloc, &[PlanRow::Pusher(&items)])?;
@@ -23,19 +23,14 @@ fn buffers_open_as_the_list_grows(rt: HostRuntime) -> Result<(), AllocError> {
     ] {
         let schedule = schedule_of(alloc, vec![in alloc; 0; turns]?.as_slice(), 99)?;
         let world = run(alloc, &plans, &schedule)?;
-        let good = world.length == length && prior_total_buffer_size(world.opened) == slots;
-        assert!(rt; good, "after {turns} turns");
+        let got = (turns, world.length, prior_total_buffer_size(world.opened));
+        assert_eq!(rt; got, (turns, length, slots));
     }
     Ok(())
 }
 
 /// The greatest index.
 const LAST: usize = (1 << 62) - 2;
-
-/// Returns whether an index is in this buffer at this slot.
-fn lies_at(index: usize, buffer: usize, slot: usize) -> bool {
-    index <= LAST && buffer_index(index) == buffer && locate(index) == (buffer, slot)
-}
 
 #[test]
 fn an_index_was_located_in_the_wrong_buffer_or_slot(rt: HostRuntime) {
@@ -49,10 +44,11 @@ fn an_index_was_located_in_the_wrong_buffer_or_slot(rt: HostRuntime) {
         (63, 3, 0),
         (LAST, 30, 3458764513820540927),
     ] {
-        assert!(rt; lies_at(index, buffer, slot), "at {index}");
+        assert_eq!(rt; (index, buffer_index(index)), (index, buffer));
+        assert_eq!(rt; (index, locate(index)), (index, (buffer, slot)));
     }
-    assert!(rt; buffer_size(0) == 3 && buffer_size(31) == 13835058055282163712);
-    assert!(rt;
-        prior_total_buffer_size(0) == 0 && prior_total_buffer_size(31) == 4611686018427387903
-    );
+    let got = [buffer_size(0), buffer_size(31)];
+    assert_eq!(rt; got, [3, 13835058055282163712]);
+    let before = [prior_total_buffer_size(0), prior_total_buffer_size(31)];
+    assert_eq!(rt; before, [0, 4611686018427387903]);
 }

@@ -3,8 +3,6 @@
 #![tactic(auto)]
 
 #[cfg(test)]
-mod even;
-#[cfg(test)]
 mod extend_tests;
 #[cfg(test)]
 mod geometry_tests;
@@ -17,15 +15,11 @@ mod machine_tests;
 #[cfg(test)]
 mod news_tests;
 #[cfg(test)]
-mod no_memory;
-#[cfg(test)]
 mod owner_tests;
 #[cfg(test)]
 mod pass_tests;
 #[cfg(test)]
 mod push_with_tests;
-#[cfg(test)]
-mod rising;
 #[cfg(test)]
 mod schedule_rows;
 #[cfg(test)]

@@ -1,6 +1,10 @@
 //! Rows of schedules, with the worlds that they leave, which are hand-written.
+pub use crate::schedule_rows::AnswerRow::{CloneRefused, Cloned, Extended, Pushed, Read, Refused};
+pub use crate::schedule_rows::EventRow::{Append, Extend, Look};
+pub use crate::schedule_rows::PlanRow::{Cloner, Extender, Pusher, Reader};
 use elsa_machine::machine::{Answer, Event, Items, Plan, Turn, World, run};
 use std::alloc::{AllocError, Allocator, Global};
+use std::process::Abort;
 
 /// The plan of a thread.
 #[derive(Clone, Copy)]
@@ -152,17 +156,15 @@ pub fn world_of(alloc: Global, row: &Row) -> Result<World, AllocError> {
     })
 }
 
-/// Returns the name of the first row whose schedule leaves another world than the row's, or `None`.
+/// Checks that each schedule leaves the world of its row.
 ///
 /// # Errors
 /// Fails if an allocation fails.
-pub fn wrong_row<'a>(alloc: Global, rows: &[Row<'a>]) -> Result<Option<&'a str>, AllocError> {
+pub fn check_rows(rt: &impl Abort, alloc: Global, rows: &[Row]) -> Result<(), AllocError> {
     for row in rows {
-        let plans = plans_of(alloc, row.plans)?;
         let schedule = schedule_of(alloc, row.turns, row.refused)?;
-        if run(alloc, &plans, &schedule)? != world_of(alloc, row)? {
-            return Ok(Some(row.name));
-        }
+        let world = run(alloc, &plans_of(alloc, row.plans)?, &schedule)?;
+        assert_eq!(rt; world, world_of(alloc, row)?, "{}", row.name);
     }
-    Ok(None)
+    Ok(())
 }

@@ -1,6 +1,4 @@
 //! The slots, with an allocator that denies and counts requests.
-ghost use Rattle.std.specs.Prelude.{◌≡◌, length, slice_index_or, IfSome};
-
 use elsa_slots::slots::{Ahead, Buffer, Copied, Slots, WriteRight, WriteRights, WrittenPrefix};
 use std::alloc::Global;
 use std::process::Abort;
@@ -8,10 +6,7 @@ use std::test::*;
 use test_alloc::Budget;
 
 /// Returns the write right that a failed opening of the first buffer returns.
-fn refused<'a>(slots: &Slots<u64, &'a Budget<Global>>, right: WriteRight) -> Option<WriteRight>
-    requires { (right.of ≡ slice_index_or slots.now 0 0) × (length slots.now ≡ 31) }
-    ensures { IfSome result (λ r. r.of ≡ right.of) }
-{
+fn refused<'a>(slots: &Slots<u64, &'a Budget<Global>>, right: WriteRight) -> Option<WriteRight> {
     match slots.open(0, right) {
         Err(right) => Some(right),
         Ok((opened, rights)) => {
@@ -23,9 +18,7 @@ fn refused<'a>(slots: &Slots<u64, &'a Budget<Global>>, right: WriteRight) -> Opt
 }
 
 /// Opens the first buffer, writes 7 into its first slot, and returns what that slot then has.
-fn first_of_opened<'a>(slots: &Slots<u64, &'a Budget<Global>>, right: WriteRight) -> Option<u64>
-    requires { (right.of ≡ slice_index_or slots.now 0 0) × (length slots.now ≡ 31) }
-{
+fn first_of_opened<'a>(slots: &Slots<u64, &'a Budget<Global>>, right: WriteRight) -> Option<u64> {
     match slots.open(0, right) {
         Ok((opened, rights)) => {
             let mut rights = rights;
@@ -55,7 +48,7 @@ fn a_failed_opening_lost_its_write_right(rt: HostRuntime) -> Result<(), Fail> {
         panic!(rt; "a request was granted that the budget refuses");
     };
     assert_eq!(rt; first_of_opened(&slots, right), Some(7));
-    assert_eq!(rt; budget.asked(), asked.wrapping_add(2));
+    assert_eq!(rt; budget.asked(), asked + 2);
     drop(slots);
     assert_eq!(rt; budget.given(), budget.granted());
     Ok(())
@@ -65,10 +58,7 @@ fn a_failed_opening_lost_its_write_right(rt: HostRuntime) -> Result<(), Fail> {
 fn two_items<'a>(
     slots: &Slots<u64, &'a Budget<Global>>,
     further: WriteRights,
-) -> Option<WrittenPrefix<u64, Buffer<u64, &'a Budget<Global>>>>
-    requires { (further.of ≡ slots.now) × (length slots.now ≡ 31) }
-    ensures { IfSome result (λ t. (t.buffer_slots ≡ slots.now) × (length t.items ≡ 2)) }
-{
+) -> Option<WrittenPrefix<u64, Buffer<u64, &'a Budget<Global>>>> {
     let mut prefix = WrittenPrefix::none(&further);
     let mut further = further;
     let right = further.take();
@@ -95,9 +85,7 @@ fn two_items<'a>(
 fn second_of_a_copy<'a>(
     slots: &Slots<u64, &'a Budget<Global>>,
     prefix: &WrittenPrefix<u64, Buffer<u64, &'a Budget<Global>>>,
-) -> Option<u64>
-    requires { (prefix.now.buffer_slots ≡ slots.now) × (length prefix.now.items ≡ 2) }
-{
+) -> Option<u64> {
     let Ok(
         Copied {
             slots: copy,
@@ -134,8 +122,7 @@ fn a_copy_with_a_denied_request_succeeded_or_leaked(rt: HostRuntime) -> Result<(
         panic!(rt; "a request was refused that the budget allows");
     };
     for refused in 0..2u64 {
-        let number = budget.asked().wrapping_add(refused);
-        budget.refuse(number, number.wrapping_add(1));
+        budget.refuse(budget.asked() + refused, budget.asked() + refused + 1);
         assert_eq!(rt; second_of_a_copy(&slots, &prefix), None, "at {refused}");
     }
     budget.refuse_next(0);

@@ -5,10 +5,8 @@ ghost use Rattle.std.specs.Cmp.{nat_eq_equiv, on_equiv, partial_equiv_from_equiv
 ghost use Rattle.std.specs.Hash as fed;
 ghost use Rattle.std.proofs.Common.{ap, eqb-true};
 
-use elsa_lock_free_map::handle::MapHandle;
 use elsa_lock_free_map::map::LockFreeFrozenMap;
 use std::hash::{Hash, Hasher};
-use std::sync::Wait;
 use std::sync::atomic::{AtomicU64, Ordering};
 use std::test::*;
 
@@ -76,62 +74,32 @@ impl Hash for Key<'_> {
     }
 }
 
-type Map<'c> = LockFreeFrozenMap<Key<'c>, u64>;
-
-type Seen<'m, 'c> = MapHandle<'m, Key<'c>, u64>;
-
-/// Returns whether the numbers below [`MANY`] are inserted, each at its own index.
-fn takes_many<'c, R: Wait>(rt: &R, map: &mut Seen<'_, 'c>, counts: &'c Counts) -> bool {
-    for number in 0..MANY {
-        let Ok(put) = map.insert(rt, Key { number, counts }, number) else {
-            return false;
-        };
-        if !put.is_new || put.index != number as usize {
-            return false;
-        }
-    }
-    true
-}
-
-/// Returns whether the call with this number has the right result for a key.
-fn answers<'c, R: Wait>(rt: &R, map: &mut Seen<'_, 'c>, call: u64, key: Key<'c>) -> bool {
-    match call {
-        0 => map.get(key) == Some(key.number),
-        1 => map.contains_key(&key),
-        _ => matches!(map.insert(rt, key, 7), Ok(put) if put.value == key.number),
-    }
-}
-
-/// Returns whether each such call, by a handle that has observed the key, makes one hash and few
-/// comparisons.
-fn looks_up_once<'c, R: Wait>(rt: &R, map: &mut Seen<'_, 'c>, counts: &'c Counts) -> bool {
-    for call in 0u64..3 {
-        let number = call.wrapping_mul(1201);
-        let _ = counts.taken();
-        let held = answers(rt, map, call, Key { number, counts });
-        let (hashes, equalities) = counts.taken();
-        if !held || hashes != 1 || equalities > FEW {
-            return false;
-        }
-    }
-    true
-}
-
-/// Returns whether all keys are inserted, and found by one hash, also by a handle that has observed
-/// them by `len` alone.
-fn is_quick<'c, R: Wait>(rt: &R, map: &Map<'c>, counts: &'c Counts) -> bool {
-    let mut one = map.handle();
-    let mut other = map.handle();
-    let taken = takes_many(rt, &mut one, counts) && other.len() == MANY as usize;
-    taken && looks_up_once(rt, &mut one, counts) && looks_up_once(rt, &mut other, counts)
-}
-
 #[test]
-fn a_look_up_among_thousands_hashes_once_and_compares_with_few(
+fn a_look_up_among_thousands_hashed_twice_or_compared_with_many(
     rt: HostRuntime,
 ) -> Result<(), Fail> {
-    let counts = Counts::new();
-    let map: Map<'_> = LockFreeFrozenMap::new(rt.alloc())?;
-    assert!(rt; is_quick(&rt, &map, &counts));
+    let counts = &Counts::new();
+    let map: LockFreeFrozenMap<Key<'_>, u64> = LockFreeFrozenMap::new(rt.alloc())?;
+    let (mut one, mut other) = (map.handle(), map.handle());
+    for number in 0..MANY {
+        let put = one.insert(&rt, Key { number, counts }, number)?;
+        assert_eq!(rt; (put.index as u64, put.is_new), (number, true));
+    }
+    assert_eq!(rt; other.len() as u64, MANY);
+    // Both have observed the keys, one by `len` alone.
+    for handle in [&mut one, &mut other] {
+        for (call, number) in [("get", 0), ("contains_key", 1201), ("insert", 2402)] {
+            let _ = counts.taken();
+            let key = Key { number, counts };
+            let found = match call {
+                "get" => handle.get(key) == Some(number),
+                "contains_key" => handle.contains_key(&key),
+                _ => handle.insert(&rt, key, 7)?.value == number,
+            };
+            let (hashes, equalities) = counts.taken();
+            assert_eq!(rt; (call, found, hashes), (call, true, 1));
+            assert!(rt; equalities <= FEW, "{call}: {equalities} comparisons");
+        }
+    }
     Ok(())
 }

@@ -2,24 +2,16 @@
 #![tactic(auto)]
 
 #[cfg(test)]
-mod by_tests;
-#[cfg(test)]
 mod counted_tests;
-#[cfg(test)]
-mod first_value;
-#[cfg(test)]
-mod into_pairs_tests;
 #[cfg(test)]
 mod made_tests;
 #[cfg(test)]
-mod moment_tests;
-#[cfg(test)]
 mod once_tests;
 #[cfg(test)]
-mod owner_tests;
+mod owned_tests;
+#[cfg(test)]
+mod seen_tests;
 #[cfg(test)]
 mod thread_tests;
 #[cfg(test)]
 mod try_tests;
-#[cfg(test)]
-mod walk_tests;

@@ -1,5 +1,6 @@
 //! Values that are made once for each key: by one thread, by four at once, with makers that fail,
 //! and with allocations that fail.
+use crate::thread_tests::comes;
 use elsa_lock_free_map::handle::MapHandle;
 use elsa_lock_free_map::once::{OnceMap, OnceValue};
 use std::alloc::{AllocError, Allocator, Global};
@@ -14,9 +15,6 @@ use test_alloc::Budget;
 const KEYS: u64 = 50;
 
 const CALLS: u64 = 400;
-
-/// The greatest number of looks for another thread.
-const TURNS: u64 = 10_000_000;
 
 type State = BuildHasherDefault<FoldHasher>;
 
@@ -64,286 +62,181 @@ fn try_make<R: Wait, A: Allocator + Copy>(
     Ok((done, runs))
 }
 
-/// Returns the value of a text before a maker has failed, after that, and after one has not.
-fn three_looks<R: Wait>(rt: &R, alloc: Global) -> Result<[Option<(u64, bool)>; 3], AllocError> {
-    let map: Texts<Global> = OnceMap::new(alloc)?;
-    let (mut one, mut other) = (map.handle(), map.handle());
-    let look = |handle: &mut TextsHandle<'_, Global>| -> Option<(u64, bool)> {
-        let made = handle.get_made("ann")?;
-        Some((**made.value, made.is_new))
-    };
-    let before = look(&mut other);
-    let _ = try_make(rt, alloc, &mut one, "ann", 0)?;
-    let failed = look(&mut other);
-    let _ = try_make(rt, alloc, &mut one, "ann", 30)?;
-    Ok([before, failed, look(&mut other)])
-}
-
 #[test]
 fn a_look_up_found_a_value_that_was_not_made(rt: HostRuntime) -> Result<(), Fail> {
-    assert_eq!(rt;
-        three_looks(&rt, rt.alloc())?,
-        [None, None, Some((30, false))]
-    );
+    let map: Texts<Global> = OnceMap::new(rt.alloc())?;
+    let (mut one, mut other) = (map.handle(), map.handle());
+    assert!(rt; other.get_made("ann").is_none());
+    assert_eq!(rt; try_make(&rt, rt.alloc(), &mut one, "ann", 0)?, (Err(3), 1));
+    assert!(rt; other.get_made("ann").is_none());
+    let got = try_make(&rt, rt.alloc(), &mut one, "ann", 30)?;
+    assert_eq!(rt; got, (Ok((30, true)), 1));
+    let made = other
+        .get_made("ann")
+        .map(|made| (**made.value, made.is_new));
+    assert_eq!(rt; made, Some((30, false)));
     Ok(())
 }
 
 type Numbers<A = Global> = OnceMap<u64, u64, State, A>;
 
-/// Makes the values of drawn keys, each a number of this thread's own. Returns the sum of the
-/// values that the keys have.
-fn sum_of_values<R: Wait>(
-    rt: &R,
-    map: &Numbers,
-    makers: &[AtomicU64],
-    thread: u64,
-) -> Result<u64, AllocError> {
-    let mut handle = map.handle();
-    let mut sum = 0u64;
-    for call in 0..CALLS {
-        let key = call.wrapping_mul(7).wrapping_add(thread) % KEYS;
-        let make = || -> u64 {
-            if let Some(runs) = makers.get(key as usize) {
-                runs.fetch_add(1, Ordering::SeqCst);
-            }
-            thread::yield_now();
-            key.wrapping_mul(8).wrapping_add(thread)
-        };
-        let made = handle.get_or_init(rt, key, make)?;
-        sum = sum.wrapping_add(*made.value);
-    }
-    Ok(sum)
-}
-
-/// Returns the sum of all values, by a handle that has observed none of them.
-fn sum_afterwards(map: &Numbers) -> u64 {
-    let mut handle = map.handle();
-    let mut sum = 0u64;
-    for key in 0..KEYS {
-        if let Some(made) = handle.get_made(&key) {
-            sum = sum.wrapping_add(*made.value);
-        }
-    }
-    sum.wrapping_mul(CALLS / KEYS)
-}
-
+/// Each thread makes the values of drawn keys, each a number of its own, and sums the values that
+/// the keys have.
 #[test]
 fn four_threads_ran_two_makers_of_a_key(rt: HostRuntime) -> Result<(), Fail> {
-    let map: Numbers = OnceMap::new(rt.alloc())?;
+    let (map, handle): (Numbers, _) = (OnceMap::new(rt.alloc())?, &rt);
     let mut makers = Vec::with_capacity(rt.alloc(), KEYS as usize)?;
     for _ in 0..KEYS {
         makers.push(AtomicU64::new(0))?;
     }
-    let sums = thread::map_indices(
-        &rt,
-        rt.alloc(),
-        4,
-        &|at| { sum_of_values(&rt, &map, makers.as_slice(), at as u64).unwrap_or(0) },
-    )?;
-    for runs in &makers {
-        assert_eq!(rt; runs.load(Ordering::SeqCst), 1);
+    let sum_of_values = |thread: u64| -> Result<u64, AllocError> {
+        let (mut own, mut sum) = (map.handle(), 0);
+        for call in 0..CALLS {
+            let key = (7 * call + thread) % KEYS;
+            let make = || -> u64 {
+                makers[key as usize].fetch_add(1, Ordering::SeqCst);
+                thread::yield_now();
+                8 * key + thread
+            };
+            sum += *own.get_or_init(handle, key, make)?.value;
+        }
+        Ok(sum)
+    };
+    let sums = thread::map_indices(handle, rt.alloc(), 4, &|at| sum_of_values(at as u64))?;
+    // By a handle that has observed none of the values.
+    let (mut later, mut sum) = (map.handle(), 0);
+    for key in 0..KEYS {
+        assert_eq!(rt; makers[key as usize].load(Ordering::SeqCst), 1, "{key}");
+        let Some(made) = later.get_made(&key) else {
+            return Err(Fail::from("a value was lost"));
+        };
+        sum += *made.value * (CALLS / KEYS);
     }
-    for sum in &sums {
-        assert_eq!(rt; *sum, sum_afterwards(&map));
-    }
+    assert_eq!(rt; sums.as_slice(), [Ok(sum); 4].as_slice());
     Ok(())
 }
 
-/// Waits until the flag is set, for a while. Returns whether it is.
-fn comes(flag: &AtomicU64) -> bool {
-    for _ in 0..TURNS {
-        if flag.load(Ordering::SeqCst) == 1 {
-            return true;
-        }
-        thread::yield_now();
-    }
-    false
-}
-
-/// Makes the value of one key with a maker that ends once another thread has made that of another
-/// key. Returns whether the maker of this thread saw it.
-fn waits_for_another_key<R: Wait>(
-    rt: &R,
-    map: &Numbers,
-    flags: &[AtomicU64; 2],
-    thread: usize,
-) -> Result<bool, AllocError> {
-    let mut handle = map.handle();
-    if thread == 0 {
-        let make = || -> u64 {
-            flags[0].store(1, Ordering::SeqCst);
-            comes(&flags[1]) as u64
-        };
-        return Ok(*handle.get_or_init(rt, 1, make)?.value == 1);
-    }
-    let has_begun = comes(&flags[0]);
-    let is_made = handle.get_or_init(rt, 2, || 5)?.is_new && handle.get_made(&1).is_none();
-    flags[1].store(1, Ordering::SeqCst);
-    Ok(has_begun && is_made)
-}
-
+/// One maker ends once another thread has made the value of another key.
 #[test]
 fn a_key_waited_for_the_maker_of_another_key(rt: HostRuntime) -> Result<(), Fail> {
-    let map: Numbers = OnceMap::new(rt.alloc())?;
+    let (map, handle): (Numbers, _) = (OnceMap::new(rt.alloc())?, &rt);
     let flags = [AtomicU64::new(0), AtomicU64::new(0)];
-    let seen = thread::map_indices(
-        &rt,
-        rt.alloc(),
-        2,
-        &|at| { waits_for_another_key(&rt, &map, &flags, at).unwrap_or(false) },
-    )?;
-    for saw in &seen {
-        assert_eq!(rt; *saw, true);
-    }
+    let (one, other) = thread::join(
+        handle,
+        || {
+            let make = || -> u64 {
+                flags[0].store(1, Ordering::SeqCst);
+                comes(|| flags[1].load(Ordering::SeqCst) == 1) as u64
+            };
+            map.handle()
+                .get_or_init(handle, 1, make)
+                .map(|made| *made.value)
+        },
+        || {
+            let mut own = map.handle();
+            let has_begun = comes(|| flags[0].load(Ordering::SeqCst) == 1);
+            let is_new = own.get_or_init(handle, 2, || 5).map(|made| made.is_new);
+            let is_open = own.get_made(&1).is_none();
+            flags[1].store(1, Ordering::SeqCst);
+            (has_begun, is_new, is_open)
+        },
+    );
+    assert_eq!(rt; (one, other), (Ok(1), (true, Ok(true), true)));
     Ok(())
-}
-
-/// Makes the value of a key by a maker that makes that of another key of the map.
-fn made_of_another<R: Wait>(rt: &R, map: &Numbers) -> Result<u64, AllocError> {
-    let make = || -> Result<u64, AllocError> {
-        Ok(map.handle().get_or_init(rt, 1, || 5)?.value.wrapping_add(2))
-    };
-    Ok(*map.handle().get_or_try_init(rt, 2, make)?.value)
 }
 
 #[test]
 fn a_maker_could_not_use_the_map_for_another_key(rt: HostRuntime) -> Result<(), Fail> {
-    let map: Numbers = OnceMap::new(rt.alloc())?;
-    assert_eq!(rt; made_of_another(&rt, &map)?, 7);
+    let (map, handle): (Numbers, _) = (OnceMap::new(rt.alloc())?, &rt);
+    let make = || -> Result<u64, AllocError> {
+        Ok(*map.handle().get_or_init(handle, 1, || 5)?.value + 2)
+    };
+    assert_eq!(rt; *map.handle().get_or_try_init(handle, 2, make)?.value, 7);
     Ok(())
 }
 
-/// Makes 16 values, with one of the map's requests denied, and each that failed again. Returns how
-/// often a call failed, and how often a maker ran, or `None` if a result was wrong.
-fn stubborn<R: Wait>(rt: &R, map: &Numbers<&Budget<Global>>) -> Option<(u64, u64)> {
-    let (mut handle, mut refused, mut runs) = (map.handle(), 0u64, 0u64);
-    for key in 0..16u64 {
-        for _ in 0..2 {
-            let make = || -> u64 {
-                runs = runs.wrapping_add(1);
-                key
-            };
-            match handle.get_or_init(rt, key, make) {
-                Ok(made) => {
-                    if *made.value != key {
-                        return None;
-                    }
-                }
-                Err(_) => {
-                    refused = refused.wrapping_add(1);
-                    if handle.contains_key(&key) || handle.get_made(&key).is_some() {
-                        return None;
-                    }
-                }
-            }
-        }
-    }
-    Some((refused, runs))
-}
-
-/// Returns how often a call failed and a maker ran, the number of denied requests, and that of the
-/// blocks that were not deallocated.
-fn with_one_denied<R: Wait>(
-    rt: &R,
-    alloc: Global,
-    number: u64,
-) -> Result<(Option<(u64, u64)>, u64, u64), AllocError> {
-    let heap = Budget::new(alloc);
-    let map: Numbers<&Budget<Global>> = OnceMap::with_hasher(&heap, BuildHasherDefault::new())?;
-    let asked = heap.asked().wrapping_add(number);
-    heap.refuse(asked, asked.wrapping_add(1));
-    let done = stubborn(rt, &map);
-    drop(map);
-    Ok((
-        done,
-        heap.refused(),
-        heap.granted().wrapping_sub(heap.given()),
-    ))
-}
-
+/// Makes 16 values, with one of the map's requests denied, and each that failed again.
 #[test]
 fn a_refused_request_ran_a_maker_or_left_a_key(rt: HostRuntime) -> Result<(), Fail> {
-    let mut denied = 0u64;
-    for number in 0..8u64 {
-        let (done, refused, left) = with_one_denied(&rt, rt.alloc(), number)?;
-        assert_eq!(rt; (done, left), (Some((refused, 16)), 0), "request {number}");
-        denied = denied.wrapping_add(refused);
+    let mut denied = 0;
+    for request in 0..8 {
+        let heap = Budget::new(rt.alloc());
+        let map: Numbers<&Budget<Global>> = OnceMap::with_hasher(&heap, BuildHasherDefault::new())?;
+        heap.refuse(heap.asked() + request, heap.asked() + request + 1);
+        let (mut handle, mut failed, mut runs) = (map.handle(), 0, 0);
+        for key in 0..16 {
+            for _ in 0..2 {
+                let make = || -> u64 {
+                    runs += 1;
+                    key
+                };
+                if let Ok(made) = handle.get_or_init(&rt, key, make) {
+                    assert_eq!(rt; *made.value, key);
+                    continue;
+                }
+                failed += 1;
+                let is_there = handle.contains_key(&key) || handle.get_made(&key).is_some();
+                assert!(rt; !is_there, "request {request}, key {key}");
+            }
+        }
+        drop(handle);
+        drop(map);
+        assert_eq!(rt; (failed, runs), (heap.refused(), 16), "request {request}");
+        assert_eq!(rt; heap.given(), heap.granted(), "request {request}");
+        denied += failed;
     }
     assert!(rt; denied > 3, "{denied} requests were denied");
     Ok(())
 }
 
-/// Makes the values of three keys: of the second one the maker fails.
-fn make_three<R: Wait>(rt: &R, alloc: Global, map: &Texts<Global>) -> Result<(), AllocError> {
-    let mut handle = map.handle();
-    let _ = try_make(rt, alloc, &mut handle, "ann", 30)?;
-    let _ = try_make(rt, alloc, &mut handle, "bob", 0)?;
-    let _ = try_make(rt, alloc, &mut handle, "eve", 20)?;
-    Ok(())
-}
-
-/// Returns the values that come out of a map of three keys.
-fn come_out<R: Wait>(rt: &R, alloc: Global) -> Result<Vec<Option<u64>>, AllocError> {
-    let map: Texts<Global> = OnceMap::new(alloc)?;
-    make_three(rt, alloc, &map)?;
-    let mut values = Vec::new(alloc);
-    for (_, value) in map.into_tuple_vec()? {
-        values.push(value.into_inner().map(|owner| *owner))?;
-    }
-    Ok(values)
-}
-
+/// Of the second of three keys the maker fails.
 #[test]
 fn a_value_did_not_come_out_of_its_map(rt: HostRuntime) -> Result<(), Fail> {
-    let values = come_out(&rt, rt.alloc())?;
-    assert_eq!(rt; values.as_slice(), &[Some(30), None, Some(20)][..]);
+    let map: Texts<Global> = OnceMap::new(rt.alloc())?;
+    let mut handle = map.handle();
+    for (text, number) in [("ann", 30), ("bob", 0), ("eve", 20)] {
+        let _ = try_make(&rt, rt.alloc(), &mut handle, text, number)?;
+    }
+    drop(handle);
+    let Ok(entries) = map.into_tuple_vec() else {
+        return Err(Fail::from("the entries could not be moved out"));
+    };
+    let mut values = Vec::new(rt.alloc());
+    for (_, value) in entries {
+        values.push(value.into_inner().map(|owner| *owner))?;
+    }
+    assert_eq!(rt; values.as_slice(), [Some(30), None, Some(20)].as_slice());
     Ok(())
 }
 
-/// Returns the next of a row of numbers.
-fn next_of(drawn: u64) -> u64 {
-    drawn
-        .wrapping_mul(6_364_136_223_846_793_005)
-        .wrapping_add(1_442_695_040_888_963_407)
-}
-
-/// Makes values of drawn texts, of which some makers fail, by two handles. Returns the number of
-/// the first call that differs from the plain list of the value of each text.
-fn draws<R: Wait>(rt: &R, alloc: Global, seed: u64) -> Result<Option<u64>, AllocError> {
-    let map: Texts<Global> = OnceMap::new(alloc)?;
-    let (mut one, mut other) = (map.handle(), map.handle());
-    let mut values: Vec<Option<u64>> = Vec::from_elem(alloc, None, KEYS as usize)?;
-    let mut drawn = seed;
-    for call in 1..CALLS {
-        drawn = next_of(drawn);
-        let (key, kind) = ((drawn >> 33) % KEYS, (drawn >> 20) % 4);
-        let text = format!(in alloc; "key {key}")?;
-        let number = if kind == 0 { 0 } else { call };
-        let known = values[key as usize];
-        let right = match known {
-            Some(value) => (Ok((value, false)), 0),
-            None if number == 0 => (Err(3), 1),
-            None => (Ok((call, true)), 1),
-        };
-        let done = if kind == 1 {
-            try_make(rt, alloc, &mut one, text.as_str(), number)?
-        } else {
-            try_make(rt, alloc, &mut other, text.as_str(), number)?
-        };
-        if done != right {
-            return Ok(Some(call));
-        }
-        if known.is_none() && number != 0 {
-            values[key as usize] = Some(call);
-        }
-    }
-    Ok(None)
-}
-
+/// Makes values of drawn texts, of which some makers fail, by two handles.
 #[test]
-fn values_of_drawn_texts_differ_from_a_plain_list(rt: HostRuntime) -> Result<(), Fail> {
+fn values_of_drawn_texts_differed_from_a_plain_list(rt: HostRuntime) -> Result<(), Fail> {
+    let alloc = rt.alloc();
     for seed in 1..6u64 {
-        assert_eq!(rt; draws(&rt, rt.alloc(), seed)?, None, "seed {seed}");
+        let map: Texts<Global> = OnceMap::new(alloc)?;
+        let mut handles = [map.handle(), map.handle()];
+        let mut values: Vec<Option<u64>> = Vec::from_elem(alloc, None, KEYS as usize)?;
+        let mut drawn = seed;
+        for call in 1..CALLS {
+            drawn = drawn
+                .wrapping_mul(6_364_136_223_846_793_005)
+                .wrapping_add(1_442_695_040_888_963_407);
+            let (key, kind) = ((drawn >> 33) % KEYS, (drawn >> 20) % 4);
+            let text = format!(in alloc; "key {key}")?;
+            let number = if kind == 0 { 0 } else { call };
+            let wanted = match values[key as usize] {
+                Some(value) => (Ok((value, false)), 0),
+                None if number == 0 => (Err(3), 1),
+                None => {
+                    values[key as usize] = Some(call);
+                    (Ok((call, true)), 1)
+                }
+            };
+            let by = usize::from(kind == 1);
+            let done = try_make(&rt, alloc, &mut handles[by], text.as_str(), number)?;
+            assert_eq!(rt; done, wanted, "seed {seed}, call {call}, key {key}");
+        }
     }
     Ok(())
 }

@@ -1,27 +1,22 @@
 //! Insertions that don't wait: by one thread alone, while another thread's insertion is halted, and
-//! by two threads at once.
-ghost use Rattle.std.specs.Prelude.{◌≡◌};
-
+//! by two threads at once; and a value that is dropped because its insertion failed.
+use crate::thread_tests::{TURNS, comes};
 use elsa_lock_free::may_lock::{AttemptFault, LockPermit};
 use elsa_lock_free_map::handle::MapHandle;
 use elsa_lock_free_map::map::LockFreeFrozenMap;
 use std::alloc::{Allocator, Global};
 use std::hash::{BuildHasherDefault, FoldHasher};
-use std::sync::Wait;
+use std::sync::atomic::{AtomicU64, Ordering};
 use std::test::*;
 use std::thread;
-use std::thread::Threads;
 use test_alloc::Budget;
-
-/// The greatest number of attempts to insert a key, and of looks for another thread.
-const TURNS: u64 = 10_000_000;
 
 /// The number of keys that two threads insert, each in an order of its own.
 const KEYS: u64 = 1_000;
 
-type Map<A> = LockFreeFrozenMap<u64, u64, BuildHasherDefault<FoldHasher>, A>;
+type State = BuildHasherDefault<FoldHasher>;
 
-type Handle<'m, A> = MapHandle<'m, u64, u64, BuildHasherDefault<FoldHasher>, A>;
+type Map<A> = LockFreeFrozenMap<u64, u64, State, A>;
 
 /// What an insertion returned: the index and whether the key is new, or the key and the value that
 /// it has not inserted.
@@ -32,14 +27,12 @@ enum Tried {
     Failed,
 }
 
-fn outcome_of<A: Allocator + Copy>(
-    handle: &mut Handle<'_, A>,
+fn tried<A: Allocator + Copy>(
+    handle: &mut MapHandle<'_, u64, u64, State, A>,
     may: LockPermit,
     key: u64,
     value: u64,
-) -> Tried
-    ensures vector { handle.new.vector ≡ handle.old.vector }
-{
+) -> Tried {
     match handle.try_insert(may, key, value) {
         Ok(inserted) => Tried::At(inserted.index, inserted.is_new),
         Err(AttemptFault::Busy((key, value))) => Tried::Busy(key, value),
@@ -47,141 +40,135 @@ fn outcome_of<A: Allocator + Copy>(
     }
 }
 
-/// Inserts each of `count` keys by one handle and then by another, which has not observed it.
-/// Returns the first pair of results that isn't the next index, new and then known.
-fn alone(map: &Map<Global>, may: LockPermit, count: usize) -> Option<(Tried, Tried)> {
-    let mut one = map.handle();
-    let mut other = map.handle();
-    for index in 0..count {
-        let first = outcome_of(&mut one, may, index as u64, 1);
-        let second = outcome_of(&mut other, may, index as u64, 2);
-        if (first, second) != (Tried::At(index, true), Tried::At(index, false)) {
-            return Some((first, second));
-        }
-    }
-    None
-}
-
+/// The second handle has not observed the key that the first one inserts.
 #[test]
 fn one_thread_alone_found_the_map_busy(rt: HostRuntime) -> Result<(), Fail> {
-    let map = Map::new(rt.alloc())?;
-    assert_eq!(rt; alone(&map, LockPermit::trying(rt.alloc()), 100), None);
+    let (map, may) = (Map::new(rt.alloc())?, LockPermit::trying(rt.alloc()));
+    let (mut one, mut other) = (map.handle(), map.handle());
+    for index in 0..100 {
+        let both = [
+            tried(&mut one, may, index as u64, 1),
+            tried(&mut other, may, index as u64, 2),
+        ];
+        assert_eq!(rt; both, [Tried::At(index, true), Tried::At(index, false)]);
+    }
     assert_eq!(rt; map.handle().get(99), Some(1));
     Ok(())
-}
-
-/// Returns whether a request is halted within the bound.
-fn halts(heap: &Budget<Global>) -> bool {
-    for _ in 0..TURNS {
-        if heap.is_halted() {
-            return true;
-        }
-        thread::yield_now();
-    }
-    false
-}
-
-/// Tries to insert 7 while another thread's insertion is halted in its request, and lets that
-/// insertion continue. Returns the result, and the number of observed entries after it. `None` if
-/// no request was halted.
-fn during_an_insertion(
-    heap: &Budget<Global>,
-    map: &Map<&Budget<Global>>,
-    may: LockPermit,
-) -> Option<(Tried, usize)> {
-    let mut handle = map.handle();
-    let stands = halts(heap);
-    let result = outcome_of(&mut handle, may, 7, 70);
-    let still = heap.is_halted();
-    heap.go_on();
-    if stands && still {
-        Some((result, handle.seen_len()))
-    } else {
-        None
-    }
 }
 
 #[test]
 fn an_insertion_into_a_locked_map_did_not_return_its_key(rt: HostRuntime) -> Result<(), Fail> {
     let heap = Budget::<Global>::new(rt.alloc());
-    let map = Map::new(&heap)?;
-    let may = LockPermit::trying(rt.alloc());
+    let (map, may) = (Map::new(&heap)?, LockPermit::trying(rt.alloc()));
     heap.halt_next();
-    let (busy, first) = thread::join(
+    let ((halted, result, still, seen), first) = thread::join(
         &rt,
-        || during_an_insertion(&heap, &map, may),
-        || outcome_of(&mut map.handle(), may, 1, 10),
+        || {
+            let mut handle = map.handle();
+            let halted = comes(|| heap.is_halted());
+            let result = tried(&mut handle, may, 7, 70);
+            let still = heap.is_halted();
+            heap.go_on();
+            (halted, result, still, handle.seen_len())
+        },
+        || tried(&mut map.handle(), may, 1, 10),
     );
-    assert_eq!(rt; busy, Some((Tried::Busy(7, 70), 0)));
-    assert_eq!(rt; first, Tried::At(0, true));
+    assert!(rt; halted && still);
+    let got = (result, seen, first);
+    assert_eq!(rt; got, (Tried::Busy(7, 70), 0, Tried::At(0, true)));
     let mut handle = map.handle();
     assert_eq!(rt; (handle.len(), handle.get(7)), (1, None));
-    assert_eq!(rt; outcome_of(&mut handle, may, 7, 70), Tried::At(1, true));
+    assert_eq!(rt; tried(&mut handle, may, 7, 70), Tried::At(1, true));
     Ok(())
 }
 
-/// Inserts a key, and tries again while another thread has the lock. Returns whether it is new, or
-/// `None` if an insertion failed.
-fn insert_patiently(
-    handle: &mut Handle<'_, Global>,
-    may: LockPermit,
-    key: u64,
-    value: u64,
-) -> Option<bool> {
-    for _ in 0..TURNS {
-        match outcome_of(handle, may, key, value) {
-            Tried::At(_, is_new) => return Some(is_new),
-            Tried::Busy(_, _) => thread::yield_now(),
-            Tried::Failed => return None,
-        }
-    }
-    None
-}
-
-/// Inserts all keys, from `first` on. Returns the number of keys that were new.
+/// Inserts all keys, from `first` on, each again while another thread has the lock. Returns the
+/// number of keys that were new, or `None` if an insertion failed.
 fn insert_all(map: &Map<Global>, may: LockPermit, first: u64) -> Option<u64> {
-    let mut handle = map.handle();
-    let mut new = 0u64;
+    let (mut handle, mut new) = (map.handle(), 0);
     for i in 0..KEYS {
-        let key = first.wrapping_add(i) % KEYS;
-        if insert_patiently(&mut handle, may, key, first)? {
-            new = new.wrapping_add(1);
+        let mut done = Tried::Failed;
+        for _ in 0..TURNS {
+            done = tried(&mut handle, may, (first + i) % KEYS, first);
+            if !matches!(done, Tried::Busy(_, _)) {
+                break;
+            }
+            thread::yield_now();
         }
+        let Tried::At(_, is_new) = done else {
+            return None;
+        };
+        new += u64::from(is_new);
     }
     Some(new)
 }
 
-/// Returns the number of keys that were new to one of two threads that insert all keys at once.
-fn two_threads<R: Threads + Wait + Sync>(
-    rt: &R,
-    map: &Map<Global>,
-    may: LockPermit,
-) -> Option<u64> {
-    let (one, two) = thread::join(
-        rt,
-        || insert_all(map, may, 0),
-        || insert_all(map, may, KEYS / 2),
-    );
-    Some(one?.wrapping_add(two?))
-}
-
-/// Returns the number of keys that the map has.
-fn present(map: &Map<Global>) -> u64 {
-    let mut handle = map.handle();
-    let mut count = 0u64;
-    for key in 0..KEYS {
-        if handle.get(key).is_some() {
-            count = count.wrapping_add(1);
-        }
-    }
-    count
-}
-
 #[test]
 fn a_key_was_new_to_two_threads_that_do_not_wait_or_to_none(rt: HostRuntime) -> Result<(), Fail> {
-    let map = Map::new(rt.alloc())?;
-    let new = two_threads(&rt, &map, LockPermit::trying(rt.alloc()));
-    assert_eq!(rt; new, Some(KEYS));
-    assert_eq!(rt; (map.handle().len() as u64, present(&map)), (KEYS, KEYS));
+    let (map, may) = (Map::new(rt.alloc())?, LockPermit::trying(rt.alloc()));
+    let (Some(one), Some(two)) = thread::join(
+        &rt,
+        || insert_all(&map, may, 0),
+        || insert_all(&map, may, KEYS / 2),
+    ) else {
+        return Err(Fail::from("an insertion failed"));
+    };
+    assert_eq!(rt; (one + two, map.handle().len() as u64), (KEYS, KEYS));
+    let mut handle = map.handle();
+    for key in 0..KEYS {
+        assert!(rt; handle.get(key).is_some(), "{key}");
+    }
+    Ok(())
+}
+
+/// A value whose drop waits, once, until another thread's call returns.
+struct Dropped<'t> {
+    drops: &'t AtomicU64,
+    answered: &'t AtomicU64,
+}
+
+impl Drop for Dropped<'_> {
+    fn drop(self) {
+        let Self { drops, answered } = self;
+        drops.store(1, Ordering::SeqCst);
+        let _ = comes(|| answered.load(Ordering::SeqCst) == 1);
+    }
+}
+
+/// Keys are inserted with one request denied. The value of the one that fails is dropped, and
+/// another thread inserts meanwhile: it would find the map busy if the drop had the lock.
+#[test]
+fn a_value_was_dropped_under_the_lock_when_its_insertion_failed(
+    rt: HostRuntime,
+) -> Result<(), Fail> {
+    let (handle, may) = (&rt, LockPermit::trying(rt.alloc()));
+    for request in 0..4 {
+        let (heap, drops, answered) = (
+            Budget::new(rt.alloc()),
+            AtomicU64::new(0),
+            AtomicU64::new(0),
+        );
+        let value = || Dropped {
+            drops: &drops,
+            answered: &answered,
+        };
+        let map: LockFreeFrozenMap<u64, Dropped<'_>, State, &Budget<Global>> =
+            LockFreeFrozenMap::with_hasher(&heap, BuildHasherDefault::new())?;
+        heap.refuse(heap.asked() + request, heap.asked() + request + 1);
+        let (failed, (dropped, is_busy)) = thread::join(
+            handle,
+            || (0..100).find(|key| map.handle().insert_ref(handle, *key, value()).is_err()),
+            || {
+                let dropped = comes(|| drops.load(Ordering::SeqCst) == 1);
+                let done = map.handle().try_insert_ref(may, 1000, value());
+                let is_busy = matches!(done, Err(AttemptFault::Busy(_)));
+                answered.store(1, Ordering::SeqCst);
+                (dropped, is_busy)
+            },
+        );
+        let got = (dropped, is_busy);
+        assert_eq!(rt; got, (true, false), "request {request}, {failed:?}");
+        assert!(rt; failed.is_some(), "request {request}");
+    }
     Ok(())
 }

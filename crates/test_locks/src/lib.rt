@@ -5,25 +5,9 @@
 #[cfg(test)]
 mod beside;
 #[cfg(test)]
-mod closings;
-#[cfg(test)]
-mod closures;
-#[cfg(test)]
-mod drops;
-#[cfg(test)]
-mod harness;
-#[cfg(test)]
 mod keys;
 #[cfg(test)]
-mod large;
-#[cfg(test)]
-mod lists;
-#[cfg(test)]
-mod maps;
-#[cfg(test)]
 mod marks;
-#[cfg(test)]
-mod overlaps;
 #[cfg(test)]
 mod printed;
 #[cfg(test)]
@@ -39,4 +23,6 @@ mod tables;
 #[cfg(test)]
 mod texts;
 #[cfg(test)]
-mod walks;
+mod unlocked;
+#[cfg(test)]
+mod worked;

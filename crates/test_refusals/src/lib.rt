@@ -1,17 +1,12 @@
 //! Allocation failures in the maps, the index collections, the runs, the interner, the engine and
 //! the cache. Each request for memory, and each allocation in the arena, is denied in turn. Other
 //! tests make the calls that must not allocate.
-//!
-//! Scripts are generic over the allocator, and only their callers name the one that denies
-//! requests. That reduces the time of their proofs to a third.
 #![tactic(auto)]
 
 #[cfg(test)]
 mod lines_refused;
 #[cfg(test)]
 mod map_refusals;
-#[cfg(test)]
-mod name_refusals;
 #[cfg(test)]
 mod refusals;
 #[cfg(test)]

@@ -4,15 +4,13 @@ use bumpalo::Bump;
 use elsa_cache::{LoadFault, ResourceCache};
 use elsa_index::index_set::FrozenIndexSet;
 use elsa_interner::interner::Interner;
-use std::alloc::{AllocError, Allocator, Global};
+use std::alloc::{AllocError, Global};
 use std::hash::{BuildHasherDefault, FoldHasher};
 use std::test::Fail;
 use test_alloc::Budget;
 use test_script::{Family, Script, Squeeze, WORDS, goes_through, leave_room, refuse_each_in_turn};
 
 type Heap<'b> = &'b Budget<Global>;
-
-type Text<A> = String<A>;
 
 type Hasher = BuildHasherDefault<FoldHasher>;
 
@@ -24,25 +22,43 @@ fn word(index: usize) -> &'static str {
 
 // ---- the set
 
-type Set<'a, A> = FrozenIndexSet<'a, Text<A>, Hasher, A>;
+type Set<'a, 'b> = FrozenIndexSet<'a, String<Heap<'b>>, Hasher, Heap<'b>>;
 
-// An even call adds the next word, by each of the set's five insertions in turn. Of each three odd
-// calls the first adds the last word again, the second clones, and the third collects.
+/// An even call adds the next word, by each of the set's insertions in turn. Of each three odd
+/// calls the first adds the last word again, the second clones, and the third collects.
 #[derive(Drop)]
-struct SetCalls<'a, A: Allocator + Copy + Drop> {
-    heap: A,
+struct SetCalls<'a, 'b> {
+    alloc: Global,
+    heap: Heap<'b>,
     arena: &'a Bump,
-    set: Set<'a, A>,
+    set: Set<'a, 'b>,
 }
 
-impl<A: Allocator + Copy + Drop> Script for SetCalls<'_, A> {
+impl Script for SetCalls<'_, '_> {
     fn call(&mut self, number: usize) -> Result<bool, AllocError> {
-        match number % 6 {
-            1 => added_again(&mut self.set, self.heap, number / 2),
-            3 => cloned(&self.set, number.div_ceil(2)),
-            5 => collected(self.heap, self.arena),
-            _ => added(&mut self.set, self.heap, number / 2),
-        }
+        let (index, heap, set) = (number / 2, self.heap, &mut self.set);
+        let name = word(index);
+        Ok(match number % 6 {
+            1 => set.insert_full_new(String::from_str(heap, name)?)? == (index, name, false),
+            3 => has_words(&set.clone()?, index + 1),
+            5 => {
+                let mut texts = Vec::new(self.alloc);
+                for text in [word(0), word(1), word(0)] {
+                    texts.push(String::from_str(heap, text)?)?;
+                }
+                has_words(&Set::from_iter(heap, self.arena, Hasher::new(), texts)?, 2)
+            }
+            _ => {
+                let text = String::from_str(heap, name)?;
+                set.get_index_of(&text).is_none()
+                    && match index % 6 {
+                        0 | 1 => set.insert_absent(text)? == (index, name),
+                        2 => set.insert(text)? == name,
+                        3 => set.insert_full(text)? == (index, name),
+                        _ => set.insert_full_new(text)? == (index, name, true),
+                    }
+            }
+        })
     }
 
     fn holds(&self, number: usize) -> bool {
@@ -50,77 +66,12 @@ impl<A: Allocator + Copy + Drop> Script for SetCalls<'_, A> {
     }
 }
 
-fn added<A: Allocator + Copy + Drop>(
-    set: &mut Set<'_, A>,
-    heap: A,
-    index: usize,
-) -> Result<bool, AllocError> {
-    if set.get_index_of(&word(index)).is_some() {
-        return Ok(false);
-    }
-    match index % 6 {
-        0 | 1 => absent(set, String::from_str(heap, word(index))?, index),
-        way => inserted(set, String::from_str(heap, word(index))?, index, way),
-    }
+/// Returns whether the values are the first `count` words, in order.
+fn has_words(set: &Set<'_, '_>, count: usize) -> bool {
+    (0..count).all(|index| set.get_index(index) == Some(word(index)))
+        && set.get_index(count).is_none()
 }
 
-fn absent<A: Allocator + Copy + Drop>(
-    set: &mut Set<'_, A>,
-    text: Text<A>,
-    index: usize,
-) -> Result<bool, AllocError> {
-    if set.get_index_of(&text).is_some() {
-        return Ok(false);
-    }
-    Ok(set.insert_absent(text)? == (index, word(index)))
-}
-
-fn inserted<A: Allocator + Copy + Drop>(
-    set: &mut Set<'_, A>,
-    text: Text<A>,
-    index: usize,
-    way: usize,
-) -> Result<bool, AllocError> {
-    match way {
-        2 => Ok(set.insert(text)? == word(index)),
-        3 => Ok(set.insert_full(text)? == (index, word(index))),
-        _ => Ok(set.insert_full_new(text)? == (index, word(index), true)),
-    }
-}
-
-fn added_again<A: Allocator + Copy + Drop>(
-    set: &mut Set<'_, A>,
-    heap: A,
-    index: usize,
-) -> Result<bool, AllocError> {
-    let text = String::from_str(heap, word(index))?;
-    Ok(set.insert_full_new(text)? == (index, word(index), false))
-}
-
-fn cloned<A: Allocator + Copy + Drop>(set: &Set<'_, A>, count: usize) -> Result<bool, AllocError> {
-    Ok(has_words(&set.clone()?, count))
-}
-
-fn collected<A: Allocator + Copy + Drop>(heap: A, arena: &Bump) -> Result<bool, AllocError> {
-    let mut texts = Vec::new(heap);
-    for text in [word(0), word(1), word(0)] {
-        texts.push(String::from_str(heap, text)?)?;
-    }
-    let made: Set<'_, A> = FrozenIndexSet::from_iter(heap, arena, Hasher::new(), texts)?;
-    Ok(has_words(&made, 2))
-}
-
-// Returns whether the values are the first `count` words, in order.
-fn has_words<A: Allocator + Copy + Drop>(set: &Set<'_, A>, count: usize) -> bool {
-    for index in 0..count {
-        if set.get_index(index) != Some(word(index)) {
-            return false;
-        }
-    }
-    set.get_index(count).is_none()
-}
-
-#[derive(Drop)]
 struct Sets;
 
 impl Family for Sets {
@@ -129,16 +80,13 @@ impl Family for Sets {
     }
 
     fn placings(&self, number: usize) -> usize {
-        match number % 6 {
-            0 | 2 | 4 => 1,
-            5 => 2,
-            _ => 0,
-        }
+        [1, 0, 1, 0, 1, 2][number % 6]
     }
 
     fn goes_over(&self, alloc: Global, heap: &Budget<Global>, squeezed: Squeeze) -> Option<u64> {
         let arena = Bump::new(alloc);
         let mut script = SetCalls {
+            alloc,
             heap,
             arena: &arena,
             set: FrozenIndexSet::new(heap, &arena),
@@ -148,44 +96,41 @@ impl Family for Sets {
 }
 
 #[test]
-fn a_refused_call_leaves_the_index_set_as_it_was(rt: HostRuntime) -> Result<(), Fail> {
+fn a_denied_call_changed_an_index_set(rt: HostRuntime) -> Result<(), Fail> {
     let refused = refuse_each_in_turn(rt.alloc(), &Sets)?;
-    assert!(rt; refused.requests > 40 && refused.placings == 26);
+    assert!(rt; refused.requests > 40, "{refused:?}");
+    assert_eq!(rt; refused.placings, 26);
     Ok(())
 }
 
 // ---- the interner
 
-// An even call puts the next word, an odd one puts the last word again.
+/// An even call puts the next word, an odd one puts the last word again.
 #[derive(Drop)]
-struct Puts<'a, A: Allocator + Copy + Drop> {
-    names: Interner<'a, Hasher, A>,
+struct Puts<'a, 'b> {
+    names: Interner<'a, Hasher, Heap<'b>>,
 }
 
-impl<A: Allocator + Copy + Drop> Script for Puts<'_, A> {
+impl Script for Puts<'_, '_> {
     fn call(&mut self, number: usize) -> Result<bool, AllocError> {
         Ok(self.names.put(word(number / 2))? == number / 2)
     }
 
     fn holds(&self, number: usize) -> bool {
-        has_names(&self.names, number.div_ceil(2))
+        let (names, count) = (&self.names, number.div_ceil(2));
+        let are_found = (0..16).all(|index| {
+            let found = (names.at(index), names.find(word(index)));
+            found
+                == if index < count {
+                    (Some(word(index)), Some(index))
+                } else {
+                    (None, None)
+                }
+        });
+        are_found && names.len() == count && names.at(usize::MAX).is_none()
     }
 }
 
-// Returns whether exactly the first `count` words are the names.
-fn has_names<A: Allocator + Copy + Drop>(names: &Interner<'_, Hasher, A>, count: usize) -> bool {
-    for index in 0..16 {
-        let there = index < count;
-        let name = if there { Some(word(index)) } else { None };
-        let number = if there { Some(index) } else { None };
-        if names.at(index) != name || names.find(word(index)) != number {
-            return false;
-        }
-    }
-    names.len() == count && names.at(usize::MAX).is_none()
-}
-
-#[derive(Drop)]
 struct Interners;
 
 impl Family for Interners {
@@ -207,87 +152,67 @@ impl Family for Interners {
 }
 
 #[test]
-fn a_refused_put_adds_no_name(rt: HostRuntime) -> Result<(), Fail> {
+fn a_denied_put_added_a_name(rt: HostRuntime) -> Result<(), Fail> {
     let refused = refuse_each_in_turn(rt.alloc(), &Interners)?;
-    assert!(rt; refused.requests > 3 && refused.placings == 16);
+    assert!(rt; refused.requests > 3, "{refused:?}");
+    assert_eq!(rt; refused.placings, 16);
     Ok(())
 }
 
 // ---- the cache
 
-// Loads a path whose text is the path and whose resource is the first character of it. Counts the
-// calls of the loader.
-fn first_at<'a, A: Allocator + Copy + Drop>(
-    cache: &mut ResourceCache<'a, A>,
+/// Loads a path, with `text` as its text, and returns the first character of the text that the path
+/// has. Counts the calls of the loader.
+fn first_at<'a>(
+    cache: &mut ResourceCache<'a, Heap<'_>>,
     alloc: Global,
-    path: &'a str,
+    (path, text): (&'a str, &str),
     loads: &mut u64,
 ) -> Result<&'a str, LoadFault> {
-    let resource = cache.get_resource(path, |path| {
-        *loads = loads.saturating_add(1);
-        match String::from_str(alloc, path) {
-            Ok(text) => Ok(text),
-            Err(_) => Err(LoadFault::Memory),
-        }
+    let resource = cache.get_resource(path, |_| {
+        *loads += 1;
+        String::from_str(alloc, text).map_err(|_| LoadFault::Memory)
     })?;
     Ok(resource.get())
 }
 
-// An even call gets the resource of the next word, an odd one gets those of all earlier words
-// again. The text of a path is the path.
+/// An even call gets the resource of the next word, an odd one gets those of all earlier words
+/// again. The text of a path is the path.
 #[derive(Drop)]
-struct Resources<'a, A: Allocator + Copy + Drop> {
+struct Resources<'a, 'b> {
     alloc: Global,
-    cache: ResourceCache<'a, A>,
+    cache: ResourceCache<'a, Heap<'b>>,
     loads: u64,
 }
 
-impl<A: Allocator + Copy + Drop> Script for Resources<'_, A> {
+impl Script for Resources<'_, '_> {
     fn call(&mut self, number: usize) -> Result<bool, AllocError> {
-        if number % 2 == 1 {
-            return Ok(are_kept(&mut self.cache, self.alloc, number.div_ceil(2)));
+        let (cache, index) = (&mut self.cache, number / 2);
+        if number % 2 == 0 {
+            let path = (word(index), word(index));
+            return match first_at(cache, self.alloc, path, &mut self.loads) {
+                Ok(first) => Ok(first == &word(index)[..1]),
+                Err(LoadFault::Memory) => Err(AllocError),
+                Err(LoadFault::NotFound) => Ok(false),
+            };
         }
-        match first_at(
-            &mut self.cache,
-            self.alloc,
-            word(number / 2),
-            &mut self.loads,
-        ) {
-            Ok(first) => Ok(is_first(first, number / 2)),
-            Err(LoadFault::Memory) => Err(AllocError),
-            Err(LoadFault::NotFound) => Ok(false),
+        let mut loads = 0;
+        for index in 0..=index {
+            let first = first_at(cache, self.alloc, (word(index), ""), &mut loads);
+            if first != Ok(&word(index)[..1]) {
+                return Ok(false);
+            }
         }
+        Ok(loads == 0)
     }
 
-    // Each path was loaded once, except for one whose text could not be stored.
+    /// Each path was loaded once, except for one whose text could not be stored.
     fn holds(&self, number: usize) -> bool {
         let paths = number.div_ceil(2) as u64;
-        paths <= self.loads && self.loads <= paths + 1
+        self.loads == paths || self.loads == paths + 1
     }
 }
 
-fn is_first(first: &str, index: usize) -> bool {
-    word(index).starts_with(first) && first.len() == 1
-}
-
-// Returns whether the first `count` words have their resources, without a call of the loader.
-fn are_kept<A: Allocator + Copy + Drop>(
-    cache: &mut ResourceCache<'_, A>,
-    alloc: Global,
-    count: usize,
-) -> bool {
-    let mut loads = 0;
-    for index in 0..count {
-        let is_kept =
-            matches!(first_at(cache, alloc, word(index), &mut loads), Ok(first) if is_first(first, index));
-        if !is_kept {
-            return false;
-        }
-    }
-    loads == 0
-}
-
-#[derive(Drop)]
 struct Caches;
 
 impl Family for Caches {
@@ -295,7 +220,7 @@ impl Family for Caches {
         CALLS
     }
 
-    // A load stores a text of eight bytes and a resource of sixteen.
+    /// A load stores a text of eight bytes and a resource of sixteen.
     fn placings(&self, number: usize) -> usize {
         if number % 2 == 0 { 3 } else { 0 }
     }
@@ -312,96 +237,59 @@ impl Family for Caches {
 }
 
 #[test]
-fn a_refused_load_is_made_again_and_loses_no_other(rt: HostRuntime) -> Result<(), Fail> {
+fn a_denied_load_was_not_made_again_or_lost_another(rt: HostRuntime) -> Result<(), Fail> {
     let refused = refuse_each_in_turn(rt.alloc(), &Caches)?;
-    assert!(rt; refused.requests > 4 && refused.placings == 48);
+    assert!(rt; refused.requests > 4, "{refused:?}");
+    assert_eq!(rt; refused.placings, 48);
     Ok(())
 }
 
-// The denied part of the memory that one load requires.
-#[derive(Clone, Copy, Debug)]
-enum Refusal {
-    // The request with this number. The first half of the requests are those of the texts' table,
-    // the rest are those of the resources' table.
-    Request(u64),
-    // Each allocation for which the arena has no room, if it has room for this number of times
-    // eight bytes. The text uses one of them, and its resource two.
-    Room(usize),
-}
+/// The result of a load whose text begins with `a` and during which memory is denied, that of the
+/// next load, whose text begins with `b`, and the number of calls of the loader.
+type Loads = (
+    Result<&'static str, LoadFault>,
+    Result<&'static str, LoadFault>,
+    u64,
+);
 
-fn refuse(refusal: Refusal, heap: Heap<'_>, arena: &Bump) {
-    match refusal {
-        Refusal::Request(number) => heap.refuse(number, number.saturating_add(1)),
-        Refusal::Room(room) => leave_room(arena, room),
-    }
-}
-
-// Loads twice, with memory denied at the first load only. Returns the fault of the first load,
-// whose text begins with `a`; the result of the second load, whose text begins with `b`; and the
-// number of calls of the loader after the first load and after both.
-fn loads_after(alloc: Global, refusal: Refusal) -> (Option<LoadFault>, Option<char>, u64, u64) {
+/// Loads a path twice. At the first load, the request with the number `request` is denied, and the
+/// arena has room for `room` times eight bytes, if there is such a number.
+fn loads_after(alloc: Global, request: Option<u64>, room: Option<usize>) -> (Loads, u64) {
     let (heap, arena) = (Budget::new(alloc), Bump::new(alloc));
     let mut cache = ResourceCache::new(&heap, &arena);
-    let mut loads = 0;
-    refuse(refusal, &heap, &arena);
-    let first = load(&mut cache, alloc, "aardvark", &mut loads).err();
-    let once = loads;
+    let (mut loads, first_of) = (0, |text: &str| if text == "a" { "a" } else { "b" });
+    if let Some(number) = request {
+        heap.refuse(number, number + 1);
+    }
+    if let Some(room) = room {
+        leave_room(&arena, room);
+    }
+    let first = first_at(&mut cache, alloc, ("path", "aardvark"), &mut loads).map(first_of);
+    let requests = heap.asked();
     heap.refuse_next(0);
     arena.set_allocation_limit(None);
-    let second = load(&mut cache, alloc, "bandicot", &mut loads).ok();
-    (first, second, once, loads)
+    let second = first_at(&mut cache, alloc, ("path", "bandicot"), &mut loads).map(first_of);
+    ((first, second, loads), requests)
 }
 
-fn load<A: Allocator + Copy + Drop>(
-    cache: &mut ResourceCache<'_, A>,
-    alloc: Global,
-    text: &str,
-    loads: &mut u64,
-) -> Result<char, LoadFault> {
-    let resource = cache.get_resource("path", |_| {
-        *loads = loads.saturating_add(1);
-        match String::from_str(alloc, text) {
-            Ok(text) => Ok(text),
-            Err(_) => Err(LoadFault::Memory),
-        }
-    })?;
-    match resource.get().chars().next() {
-        Some(first) => Ok(first),
-        None => Err(LoadFault::NotFound),
-    }
-}
-
-// Returns whether the load fails, and the next load then calls the loader if `again`, and otherwise
-// uses the text that the first one stored.
-fn is_refused(alloc: Global, refusal: Refusal, again: bool) -> bool {
-    let (first, loads) = if again { ('b', 2) } else { ('a', 1) };
-    loads_after(alloc, refusal) == (Some(LoadFault::Memory), Some(first), 1, loads)
-}
-
-// Returns the number of requests of a load.
-fn requests_of_a_load(alloc: Global) -> u64 {
-    let (heap, arena) = (Budget::new(alloc), Bump::new(alloc));
-    let mut cache = ResourceCache::new(&heap, &arena);
-    let mut loads = 0;
-    let is_loaded = load(&mut cache, alloc, "aardvark", &mut loads) == Ok('a');
-    if is_loaded { heap.asked() } else { 0 }
-}
-
+/// Checks that a load that was denied memory is made again, unless its text was stored. The first
+/// half of the requests are those of the texts' table, the rest are those of the resources' table.
+/// The text takes one of the three times eight bytes in the arena, and its resource two.
 #[test]
-fn a_text_gained_by_a_refused_load_is_not_loaded_again(rt: HostRuntime) -> Result<(), Fail> {
-    let requests = requests_of_a_load(rt.alloc());
+fn a_text_that_was_stored_was_loaded_again_or_another_was_not(rt: HostRuntime) -> Result<(), Fail> {
+    let (open, requests) = loads_after(rt.alloc(), None, None);
+    assert_eq!(rt; open, (Ok("a"), Ok("a"), 1));
     assert!(rt; requests > 1 && requests % 2 == 0);
+    let again = (Err(LoadFault::Memory), Ok("b"), 2);
+    let kept = (Err(LoadFault::Memory), Ok("a"), 1);
     for number in 0..requests {
-        assert!(rt;
-            is_refused(rt.alloc(), Refusal::Request(number), number < requests / 2),
-            "at request {number}"
-        );
+        let (loads, _) = loads_after(rt.alloc(), Some(number), None);
+        let wanted = if number < requests / 2 { again } else { kept };
+        assert_eq!(rt; (number, loads), (number, wanted));
     }
-    for (room, again) in [(0, true), (1, false), (2, false)] {
-        assert!(rt;
-            is_refused(rt.alloc(), Refusal::Room(room), again),
-            "with room for {room}"
-        );
+    for (room, wanted) in [(0, again), (1, kept), (2, kept)] {
+        let (loads, _) = loads_after(rt.alloc(), None, Some(room));
+        assert_eq!(rt; (room, loads), (room, wanted));
     }
     Ok(())
 }

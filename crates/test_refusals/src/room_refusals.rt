@@ -1,137 +1,135 @@
-//! Growths of a vector, an index set and an index map that fail. Each collection makes room in the
-//! table first, so no copy stays in the arena.
+//! Growths of a vector, an index set, an index map and an interner that fail. Each makes room in
+//! its tables first, so no copy stays in the arena. The arena may have any allocator.
 use bumpalo::Bump;
 use elsa_index::index_set::FrozenIndexSet;
+use elsa_interner::interner::Interner;
 use elsa_maps::index_map::FrozenIndexMap;
 use elsa_vec::stable::Own;
 use elsa_vec::vec::FrozenVec;
-use std::alloc::{Allocator, Global};
+use std::alloc::Global;
 use std::hash::{BuildHasherDefault, FoldHasher};
 use std::test::Fail;
 use test_alloc::Budget;
 use test_script::WORDS;
 
+type Heap<'b> = &'b Budget<Global>;
+
 type Hasher = BuildHasherDefault<FoldHasher>;
 
-type Numbers<'a, A> = FrozenVec<'a, Own<u64>, A>;
-
-type Values<'a, A> = FrozenIndexSet<'a, Own<u64>, Hasher, A>;
-
-type Texts<'a, A> = FrozenIndexMap<'a, &'a str, Own<u64>, Hasher, A>;
-
-// Returns the arena's allocated bytes and the room that is left in its chunk. Any allocation
-// changes one of the two.
+/// Returns the arena's allocated bytes and the room that is left in its chunk. Any allocation
+/// changes one of the two.
 fn room(arena: &Bump) -> (usize, usize) {
     (arena.allocated_bytes(), arena.chunk_capacity())
 }
 
-// Returns how often a push fails in a hundred calls.
-fn refused_pushes<A: Allocator + Copy>(numbers: &mut Numbers<'_, A>) -> usize {
-    let mut refused = 0usize;
-    for number in 0..100u64 {
-        if numbers.push(Own(number)).is_err() {
-            refused = refused.saturating_add(1);
-        }
-    }
-    refused
-}
-
-// Returns how often an insertion fails in a hundred calls, with the numbers from `from` on.
-fn refused_values<A: Allocator + Copy>(values: &mut Values<'_, A>, from: u64) -> usize {
-    let mut refused = 0usize;
-    for number in 0..100u64 {
-        if values.insert(Own(from.saturating_add(number))).is_err() {
-            refused = refused.saturating_add(1);
-        }
-    }
-    refused
-}
-
-// Returns how often an insertion of a word fails, with each word tried seven times.
-fn refused_texts<A: Allocator + Copy>(texts: &mut Texts<'_, A>) -> usize {
-    let mut refused = 0usize;
-    for number in 0..112usize {
-        if texts.insert_text(WORDS[number % 16], Own(7)).is_err() {
-            refused = refused.saturating_add(1);
-        }
-    }
-    refused
-}
-
-// Returns whether a hundred pushes fail after `count` items, and the arena is unchanged.
-fn pushes_leave_no_copy(alloc: Global, count: usize) -> bool {
-    let (heap, arena) = (Budget::new(alloc), Bump::new(alloc));
-    let mut numbers = Numbers::new(&heap, &arena);
-    for _ in 0..count {
-        if numbers.push(Own(1)).is_err() {
-            return false;
-        }
-    }
-    heap.refuse(heap.asked(), u64::MAX);
-    let _fills = refused_pushes(&mut numbers);
-    let (len, before) = (numbers.len(), room(&arena));
-    let refused = refused_pushes(&mut numbers);
-    refused == 100 && numbers.len() == len && room(&arena) == before
-}
-
-// Returns whether a hundred insertions into a set fail after the numbers below `count`, and the
-// arena is unchanged.
-fn values_leave_no_copy(alloc: Global, count: u64) -> bool {
-    let (heap, arena) = (Budget::new(alloc), Bump::new(alloc));
-    let mut values = Values::new(&heap, &arena);
-    for number in 0..count {
-        if values.insert(Own(number)).is_err() {
-            return false;
-        }
-    }
-    heap.refuse(heap.asked(), u64::MAX);
-    let _fills = refused_values(&mut values, 1000);
-    let (len, before) = (values.len(), room(&arena));
-    let refused = refused_values(&mut values, 2000);
-    refused == 100 && values.len() == len && room(&arena) == before
-}
-
-// Returns whether insertions by text into a map fail after the first `count` words, and the arena
-// is unchanged.
-fn texts_leave_no_copy(alloc: Global, count: usize) -> bool {
-    let (heap, arena) = (Budget::new(alloc), Bump::new(alloc));
-    let mut texts = Texts::new(&heap, &arena);
-    for number in 0..count.min(WORDS.len()) {
-        if texts.insert_text(WORDS[number], Own(7)).is_err() {
-            return false;
-        }
-    }
-    heap.refuse(heap.asked(), u64::MAX);
-    let _fills = refused_texts(&mut texts);
-    let (len, before) = (texts.len(), room(&arena));
-    let refused = refused_texts(&mut texts);
-    refused > 0 && texts.len() == len && room(&arena) == before
+/// Makes a hundred calls, and returns the number of those that fail.
+fn failures(mut fails: impl FnMut(u64) -> bool) -> usize {
+    (0..100).filter(|number| fails(*number)).count()
 }
 
 #[test]
-fn a_push_whose_growth_is_refused_leaves_no_copy_in_the_arena(rt: HostRuntime) -> Result<(), Fail> {
+fn a_push_whose_growth_failed_left_a_copy_in_the_arena(rt: HostRuntime) -> Result<(), Fail> {
     for count in [0, 1, 4, 5, 8, 100] {
-        assert!(rt; pushes_leave_no_copy(rt.alloc(), count), "{count} items");
+        let (heap, arena) = (Budget::new(rt.alloc()), Bump::new(rt.alloc()));
+        let mut numbers: FrozenVec<'_, Own<u64>, Heap<'_>> = FrozenVec::new(&heap, &arena);
+        for number in 0..count {
+            numbers.push(Own(number))?;
+        }
+        heap.refuse(heap.asked(), u64::MAX);
+        // The room that is left is filled first.
+        failures(|number| numbers.push(Own(number)).is_err());
+        let before = (numbers.len(), room(&arena));
+        let failed = failures(|number| numbers.push(Own(number)).is_err());
+        assert_eq!(rt; failed, 100, "{count} items");
+        assert_eq!(rt; (numbers.len(), room(&arena)), before, "{count} items");
     }
     Ok(())
 }
 
 #[test]
-fn an_insertion_into_a_set_whose_growth_is_refused_leaves_no_copy_in_the_arena(
+fn an_insertion_into_a_set_whose_growth_failed_left_a_copy_in_the_arena(
     rt: HostRuntime,
 ) -> Result<(), Fail> {
     for count in [0, 1, 7, 8, 100] {
-        assert!(rt; values_leave_no_copy(rt.alloc(), count), "{count} values");
+        let (heap, arena) = (Budget::new(rt.alloc()), Bump::new(rt.alloc()));
+        let mut values: FrozenIndexSet<'_, Own<u64>, Hasher, Heap<'_>> = FrozenIndexSet::new(
+            &heap, &arena,
+        );
+        for number in 0..count {
+            values.insert(Own(number))?;
+        }
+        heap.refuse(heap.asked(), u64::MAX);
+        failures(|number| values.insert(Own(1000 + number)).is_err());
+        let before = (values.len(), room(&arena));
+        let failed = failures(|number| values.insert(Own(2000 + number)).is_err());
+        assert_eq!(rt; failed, 100, "{count} values");
+        assert_eq!(rt; (values.len(), room(&arena)), before, "{count} values");
     }
     Ok(())
 }
 
 #[test]
-fn an_insertion_by_text_whose_growth_is_refused_leaves_no_copy_in_the_arena(
+fn an_insertion_by_text_whose_growth_failed_left_a_copy_in_the_arena(
     rt: HostRuntime,
 ) -> Result<(), Fail> {
     for count in [0, 1] {
-        assert!(rt; texts_leave_no_copy(rt.alloc(), count), "{count} texts");
+        let (heap, arena) = (Budget::new(rt.alloc()), Bump::new(rt.alloc()));
+        let mut texts: FrozenIndexMap<'_, &str, Own<u64>, Hasher, Heap<'_>> = FrozenIndexMap::new(
+            &heap, &arena,
+        );
+        for number in 0..count {
+            texts.insert_text(WORDS[number], Own(7))?;
+        }
+        heap.refuse(heap.asked(), u64::MAX);
+        let word = |number: u64| WORDS[number as usize % 16];
+        failures(|number| texts.insert_text(word(number), Own(7)).is_err());
+        let before = (texts.len(), room(&arena));
+        let failed = failures(|number| texts.insert_text(word(number), Own(7)).is_err());
+        assert!(rt; failed > 0, "{count} texts");
+        assert_eq!(rt; (texts.len(), room(&arena)), before, "{count} texts");
     }
+    Ok(())
+}
+
+#[test]
+fn a_put_whose_growth_failed_left_a_copy_in_the_arena(rt: HostRuntime) -> Result<(), Fail> {
+    // Without names, the list allocates before the hash table, which makes two requests. The list
+    // grows at the fifth and at the ninth name, the hash table at the thirteenth.
+    for (count, granted) in [(0, 0), (0, 1), (0, 2), (4, 0), (8, 0), (12, 0), (12, 1)] {
+        let (heap, arena) = (Budget::new(rt.alloc()), Bump::new(rt.alloc()));
+        let mut names: Interner<'_, Hasher, Heap<'_>> = Interner::new(&heap, &arena);
+        for number in 0..count {
+            assert_eq!(rt; names.put(WORDS[number])?, number);
+        }
+        heap.refuse(heap.asked() + granted, u64::MAX);
+        let before = (names.len(), room(&arena));
+        let failed = failures(|_| names.put("seventeen letters").is_err());
+        assert_eq!(rt; failed, 100, "{count} names, {granted} granted");
+        assert_eq!(rt;
+            (names.len(), room(&arena)),
+            before,
+            "{count} names, {granted} granted"
+        );
+    }
+    Ok(())
+}
+
+#[test]
+fn an_arena_that_was_denied_requests_lost_a_name_or_a_block(rt: HostRuntime) -> Result<(), Fail> {
+    let heap = Budget::new(rt.alloc());
+    let arena = Bump::new(&heap);
+    let mut names: Interner<'_, Hasher, Global, Heap<'_>> = Interner::new(rt.alloc(), &arena);
+    heap.refuse(0, u64::MAX);
+    let failed = failures(|_| names.put("seventeen letters").is_err());
+    assert_eq!(rt; (failed, names.len()), (100, 0));
+    heap.refuse_next(0);
+    for (number, word) in WORDS.iter().enumerate() {
+        assert_eq!(rt; names.put(word)?, number);
+    }
+    assert_eq!(rt; (names.len(), names.at(15)), (16, Some("platypus")));
+    drop(names);
+    drop(arena);
+    assert!(rt; heap.granted() > 0);
+    assert_eq!(rt; heap.given(), heap.granted());
     Ok(())
 }

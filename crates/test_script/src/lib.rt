@@ -98,7 +98,7 @@ pub fn goes_through<S: Script>(
         let good = match outcome {
             Ok(good) => good,
             Err(_) => {
-                failures = failures.saturating_add(1);
+                failures += 1;
                 let is_refused = heap.refused() > refused || number == squeezed.call;
                 heap.refuse_next(0);
                 is_refused && script.holds(number) && matches!(script.call(number), Ok(true))
@@ -136,15 +136,16 @@ pub struct Refused {
     pub placings: u64,
 }
 
-/// The run in which a script failed.
+/// The run in which a script failed, with the number of calls that failed in it. `None` means that
+/// a call or the content was wrong.
 #[derive(Clone, Copy, Debug, Drop)]
 pub enum Wrong {
     /// The run with no request denied.
-    Open,
+    Open(Option<u64>),
     /// A run with the request of this number denied, alone or with all later ones.
-    Request(u64),
+    Request(u64, Option<u64>),
     /// A run with an allocation in the arena denied that the call of this number makes.
-    Placing(usize),
+    Placing(usize, Option<u64>),
 }
 
 /// Runs the script with no request denied, and with each request and each allocation in the arena
@@ -154,59 +155,39 @@ pub enum Wrong {
 /// Returns the first run in which the script failed.
 pub fn refuse_each_in_turn<F: Family>(alloc: Global, family: &F) -> Result<Refused, Wrong> {
     let open = Budget::new(alloc);
-    if family.goes_over(alloc, &open, NO_SQUEEZE) != Some(0) || open.given() != open.granted() {
-        return Err(Wrong::Open);
+    let failures = family.goes_over(alloc, &open, NO_SQUEEZE);
+    if failures != Some(0) || open.given() != open.granted() {
+        return Err(Wrong::Open(failures));
     }
     let requests = open.asked();
     for number in 0..requests {
-        if !stands_one(alloc, family, number, requests) || !stands_all(alloc, family, number) {
-            return Err(Wrong::Request(number));
-        }
-    }
-    let placings = refuse_each_placing(alloc, family)?;
-    Ok(Refused { requests, placings })
-}
-
-// Returns whether exactly one call fails if the request with this number is denied, or none fails
-// and another request was made instead.
-fn stands_one<F: Family>(alloc: Global, family: &F, number: u64, requests: u64) -> bool {
-    let budget = Budget::new(alloc);
-    budget.refuse(number, number.saturating_add(1));
-    let failures = family.goes_over(alloc, &budget, NO_SQUEEZE);
-    let is_told = failures == Some(1) || failures == Some(0) && budget.asked() > requests;
-    is_told && budget.refused() == 1 && budget.given() == budget.granted()
-}
-
-// Returns whether exactly one call fails if each request from this number on is denied until the
-// first call fails.
-fn stands_all<F: Family>(alloc: Global, family: &F, number: u64) -> bool {
-    let budget = Budget::new(alloc);
-    budget.refuse(number, u64::MAX);
-    let failures = family.goes_over(alloc, &budget, NO_SQUEEZE);
-    failures == Some(1) && budget.refused() > 0 && budget.given() == budget.granted()
-}
-
-// Returns the number of allocations in the arena. Each is denied in a run in which the arena has
-// room for the earlier ones of its call only.
-fn refuse_each_placing<F: Family>(alloc: Global, family: &F) -> Result<u64, Wrong> {
-    let mut placings = 0u64;
-    for call in 0..family.calls() {
-        let wanted = family.placings(call);
-        for room in 0..wanted {
-            if !is_squeezed(alloc, family, Squeeze { call, room }, 1) {
-                return Err(Wrong::Placing(call));
+        for to in [number + 1, u64::MAX] {
+            let heap = Budget::new(alloc);
+            heap.refuse(number, to);
+            let failures = family.goes_over(alloc, &heap, NO_SQUEEZE);
+            // If one request alone is denied, the call may make another instead.
+            let is_alone = to != u64::MAX;
+            let is_saved = is_alone && failures == Some(0) && heap.asked() > requests;
+            let is_denied = heap.refused() == 1 || !is_alone && heap.refused() > 1;
+            let is_reported = failures == Some(1) || is_saved;
+            if !is_reported || !is_denied || heap.given() != heap.granted() {
+                return Err(Wrong::Request(number, failures));
             }
-            placings = placings.saturating_add(1);
-        }
-        if !is_squeezed(alloc, family, Squeeze { call, room: wanted }, 0) {
-            return Err(Wrong::Placing(call));
         }
     }
-    Ok(placings)
-}
-
-// Returns whether `failures` calls fail if the arena is limited by `squeezed`.
-fn is_squeezed<F: Family>(alloc: Global, family: &F, squeezed: Squeeze, failures: u64) -> bool {
-    let open = Budget::new(alloc);
-    family.goes_over(alloc, &open, squeezed) == Some(failures) && open.given() == open.granted()
+    let mut placings = 0;
+    for call in 0..family.calls() {
+        // Each allocation is denied in a run in which the arena has room for the earlier ones of
+        // its call only. With room for all of them, no call fails.
+        let wanted = family.placings(call);
+        for room in 0..=wanted {
+            let heap = Budget::new(alloc);
+            let failures = family.goes_over(alloc, &heap, Squeeze { call, room });
+            if failures != Some((room < wanted) as u64) || heap.given() != heap.granted() {
+                return Err(Wrong::Placing(call, failures));
+            }
+        }
+        placings += wanted as u64;
+    }
+    Ok(Refused { requests, placings })
 }

@@ -11,8 +11,9 @@ use elsa_serde::{Entries, Items, Names, ReadFault};
 use elsa_tables::Table;
 use elsa_vec::stable::Own;
 use elsa_vec::vec::FrozenVec;
-use serde_json::{Error, Value};
+use serde_json::Value;
 use std::alloc::{AllocError, Global};
+use std::process::Abort;
 use std::test::Fail;
 
 /// The number of broken files.
@@ -20,7 +21,7 @@ const FILES: u64 = 10_000;
 
 const WORDS: [&str; 8] = ["fox", "dog", "", "猫", "a b", "\\\"", "\\u00e9", "zebra"];
 
-const BITS: [u8; 8] = [1, 2, 4, 8, 16, 32, 64, 128];
+const NUMBERS: [&str; 3] = ["0", "7", "18446744073709551615"];
 
 /// Numbers that follow from a seed.
 #[derive(Drop)]
@@ -46,44 +47,20 @@ impl Draws {
     }
 }
 
-/// Returns the bytes from `from` to `to`.
-fn part(text: &[u8], from: usize, to: usize) -> &[u8] {
-    text.get(from..to).unwrap_or(&[])
-}
-
 /// Returns the parts of the text in another order, or some of them twice or not at all.
 fn rearranged(alloc: Global, draws: &mut Draws, text: &[u8]) -> Result<Vec<u8>, AllocError> {
-    let one = draws.below(text.len().saturating_add(1));
-    let other = draws.below(text.len().saturating_add(1));
-    let (from, to) = if one < other {
-        (one, other)
-    } else {
-        (other, one)
+    let ends = (draws.below(text.len() + 1), draws.below(text.len() + 1));
+    let (from, to) = (ends.0.min(ends.1), ends.0.max(ends.1));
+    let (middle, rest) = (&text[from..to], &text[to..]);
+    let mut made = Vec::from_slice(alloc, &text[..from])?;
+    let parts: &[&[u8]] = match draws.below(4) {
+        0 => &[],
+        1 => &[middle, middle, rest],
+        2 => &[rest, middle],
+        _ => &[rest],
     };
-    let mut made = Vec::from_slice(alloc, part(text, 0, from))?;
-    match draws.below(4) {
-        0 => {}
-        1 => {
-            made.extend_from_slice(part(text, from, to))?;
-            made.extend_from_slice(part(text, from, to))?;
-            made.extend_from_slice(part(text, to, text.len()))?;
-        }
-        2 => {
-            made.extend_from_slice(part(text, to, text.len()))?;
-            made.extend_from_slice(part(text, from, to))?;
-        }
-        _ => made.extend_from_slice(part(text, to, text.len()))?,
-    }
-    Ok(made)
-}
-
-/// Returns the text with a bit flipped.
-fn flipped(alloc: Global, draws: &mut Draws, text: &[u8]) -> Result<Vec<u8>, AllocError> {
-    let mut made = Vec::from_slice(alloc, text)?;
-    let at = draws.below(text.len());
-    let bit = BITS.get(draws.below(8)).copied().unwrap_or(1);
-    if let Some(byte) = made.get_mut(at) {
-        *byte ^= bit;
+    for part in parts {
+        made.extend_from_slice(part)?;
     }
     Ok(made)
 }
@@ -92,273 +69,139 @@ fn flipped(alloc: Global, draws: &mut Draws, text: &[u8]) -> Result<Vec<u8>, All
 /// quarters of the texts are broken after that.
 fn broken(alloc: Global, draws: &mut Draws, is_map: bool) -> Result<Vec<u8>, AllocError> {
     let mut text = String::from_str(alloc, if is_map { "{" } else { "[" })?;
-    let count = draws.below(6);
-    for index in 0..count {
-        if index > 0 {
-            text.push_str(",")?;
-        }
-        text.push_str("\"")?;
-        text.push_str(WORDS.get(draws.below(8)).copied().unwrap_or(""))?;
-        text.push_str(if is_map { "\":" } else { "\"" })?;
+    for index in 0..draws.below(6) {
+        let comma = if index > 0 { "," } else { "" };
+        let word = WORDS[draws.below(8)];
+        write!(text, "{comma}\"{word}\"")?;
         if is_map {
-            text.push_str(
-                ["0", "7", "18446744073709551615"]
-                    .get(draws.below(3))
-                    .copied()
-                    .unwrap_or(""),
-            )?;
+            write!(text, ":{}", NUMBERS[draws.below(3)])?;
         }
     }
     text.push_str(if is_map { "}" } else { "]" })?;
     match draws.below(4) {
         0 => Vec::from_slice(alloc, text.as_bytes()),
-        1 => flipped(alloc, draws, text.as_bytes()),
+        1 => {
+            let mut made = Vec::from_slice(alloc, text.as_bytes())?;
+            let at = draws.below(made.len());
+            made[at] ^= 1 << draws.below(8);
+            Ok(made)
+        }
         _ => rearranged(alloc, draws, text.as_bytes()),
     }
 }
 
-// ---- lists
-
-/// Returns the index of the first text that occurs before, or the number of texts.
-fn first_repeated(texts: &[String]) -> usize {
-    for (index, text) in texts.iter().enumerate() {
-        for (before, earlier) in texts.iter().enumerate() {
-            if before < index && earlier == text {
-                return index;
-            }
+/// Returns the index of the first key that occurs before, or the number of keys; and what an
+/// insertion of these keys reports.
+fn first_repeated(keys: &[&str]) -> (usize, Result<(), ReadFault>) {
+    for (index, key) in keys.iter().enumerate() {
+        if keys[..index].contains(key) {
+            return (index, Err(ReadFault::Duplicate(index)));
         }
     }
-    texts.len()
+    (keys.len(), Ok(()))
 }
 
-/// Returns what an insertion of texts reports whose first repeated one has this index.
-fn report(stop: usize, count: usize) -> Result<(), ReadFault> {
-    if stop < count {
-        Err(ReadFault::Duplicate(stop))
-    } else {
-        Ok(())
-    }
-}
-
-fn vec_has(alloc: Global, bytes: &[u8], texts: &[String]) -> Result<bool, Error> {
-    let arena = Bump::new(alloc);
-    let mut vec: FrozenVec<'_, String> = FrozenVec::new(alloc, &arena);
-    let read: Items<String> = serde_json::from_slice(alloc, bytes)?;
-    if read.push_into(&mut vec).is_err() || vec.len() != texts.len() {
-        return Ok(false);
-    }
-    for (index, text) in texts.iter().enumerate() {
-        if vec.get(index) != Some(text.as_str()) {
-            return Ok(false);
-        }
-    }
-    Ok(true)
-}
-
-fn set_has(alloc: Global, bytes: &[u8], texts: &[String]) -> Result<bool, Error> {
-    let arena = Bump::new(alloc);
-    let mut set: FrozenIndexSet<'_, String> = FrozenIndexSet::new(alloc, &arena);
-    let read: Items<String> = serde_json::from_slice(alloc, bytes)?;
-    let stop = first_repeated(texts);
-    if read.insert_into(&mut set) != report(stop, texts.len()) || set.len() != stop {
-        return Ok(false);
-    }
-    for (index, text) in texts.iter().enumerate() {
-        if index < stop && set.get_index(index) != Some(text.as_str()) {
-            return Ok(false);
-        }
-    }
-    Ok(true)
-}
-
-fn interner_has(alloc: Global, bytes: &[u8], texts: &[String]) -> Result<bool, Error> {
-    let arena = Bump::new(alloc);
-    let mut names: Interner<'_> = Interner::new(alloc, &arena);
-    let read: Names = serde_json::from_slice(alloc, bytes)?;
-    let stop = first_repeated(texts);
-    if read.put_into(&mut names) != report(stop, texts.len()) || names.len() != stop {
-        return Ok(false);
-    }
-    for (index, text) in texts.iter().enumerate() {
-        if index < stop && names.find(text.as_str()) != Some(index) {
-            return Ok(false);
-        }
-    }
-    Ok(true)
-}
-
-/// Returns whether the value is an array of exactly these texts.
-fn is_array_of(value: &Value, texts: &[String]) -> bool {
-    let Some(array) = value.as_array() else {
-        return false;
-    };
-    for (index, text) in texts.iter().enumerate() {
-        if array.get(index).and_then(Value::as_str) != Some(text.as_str()) {
-            return false;
-        }
-    }
-    array.len() == texts.len()
-}
-
-/// Returns whether the value is an array of texts.
-fn is_array_of_texts(value: &Value) -> bool {
-    let Some(array) = value.as_array() else {
-        return false;
-    };
-    for item in array {
-        if !item.is_string() {
-            return false;
-        }
-    }
-    true
-}
-
-/// What became of a file.
-#[derive(Clone, Copy, Debug, Drop, PartialEq)]
-enum Outcome {
-    Refused,
-    Read,
-    Wrong,
-}
-
-/// Reads the file into each collection of texts.
-fn list_outcome(alloc: Global, bytes: &[u8]) -> Result<Outcome, Error> {
+/// Reads a file into each collection of texts. Returns whether it could be read.
+fn is_read_as_list(at: (&impl Abort, Global, u64), bytes: &[u8]) -> Result<bool, Fail> {
+    let ((rt, alloc, seed), arena) = (at, Bump::new(at.1));
     let value = Value::from_slice(alloc, bytes);
     let Ok(read) = serde_json::from_slice::<Items<String>>(alloc, bytes) else {
-        let is_list = match &value {
-            Ok(value) => is_array_of_texts(value),
-            Err(_) => false,
-        };
-        return Ok(if is_list {
-            Outcome::Wrong
-        } else {
-            Outcome::Refused
-        });
-    };
-    let Ok(value) = value else {
-        return Ok(Outcome::Wrong);
-    };
-    let texts = read.0.as_slice();
-    let is_read = is_array_of(&value, texts)
-        && vec_has(alloc, bytes, texts)?
-        && set_has(alloc, bytes, texts)?
-        && interner_has(alloc, bytes, texts)?;
-    Ok(if is_read {
-        Outcome::Read
-    } else {
-        Outcome::Wrong
-    })
-}
-
-// ---- maps
-
-type Entry = (String, Own<u64>);
-
-/// Returns the index of the first entry whose key occurs before, or the number of entries.
-fn first_repeated_key(entries: &[Entry]) -> usize {
-    for (index, entry) in entries.iter().enumerate() {
-        for (before, earlier) in entries.iter().enumerate() {
-            if before < index && earlier.0 == entry.0 {
-                return index;
-            }
-        }
-    }
-    entries.len()
-}
-
-fn map_has<'a, T: Table<String, &'a u64> + Drop>(
-    alloc: Global,
-    bytes: &[u8],
-    entries: &[Entry],
-    map: &mut Frozen<&'a Bump, String, Own<u64>, T>,
-) -> Result<bool, Error> {
-    let read: Entries<String, Own<u64>> = serde_json::from_slice(alloc, bytes)?;
-    let stop = first_repeated_key(entries);
-    if read.insert_into(map) != report(stop, entries.len()) || map.len() != stop {
+        let array = value.ok().and_then(|value| value
+            .as_array()
+            .map(|all| all.iter().all(|it| it.is_string())));
+        assert_ne!(rt; array, Some(true), "file {seed}");
         return Ok(false);
+    };
+    let texts: Vec<&str> = read.0.iter().map(|text| text.as_str()).collect(alloc)?;
+    let value = value?;
+    let array: Vec<Option<&str>> = match value.as_array() {
+        Some(array) => array.iter().map(|it| it.as_str()).collect(alloc)?,
+        None => Vec::new(alloc),
+    };
+    assert_eq!(rt; value.is_array(), true, "file {seed}");
+    let wanted: Vec<Option<&str>> = texts.iter().map(|text| Some(*text)).collect(alloc)?;
+    assert_eq!(rt; array.as_slice(), wanted.as_slice(), "file {seed}");
+    let (stop, report) = first_repeated(&texts);
+    let mut vec: FrozenVec<'_, String> = FrozenVec::new(alloc, &arena);
+    serde_json::from_slice::<Items<String>>(alloc, bytes)?.push_into(&mut vec)?;
+    let all: Vec<&str> = vec.iter().collect(alloc)?;
+    assert_eq!(rt; all.as_slice(), texts.as_slice(), "file {seed}");
+    let mut set: FrozenIndexSet<'_, String> = FrozenIndexSet::new(alloc, &arena);
+    let said = serde_json::from_slice::<Items<String>>(alloc, bytes)?.insert_into(&mut set);
+    let all: Vec<&str> = set.iter().copied().collect(alloc)?;
+    assert_eq!(rt;
+        (said, all.as_slice()),
+        (report, &texts[..stop]),
+        "file {seed}"
+    );
+    let mut names: Interner<'_> = Interner::new(alloc, &arena);
+    let said = serde_json::from_slice::<Names>(alloc, bytes)?.put_into(&mut names);
+    for (index, text) in texts[..stop].iter().enumerate() {
+        assert_eq!(rt; names.find(text), Some(index), "file {seed}");
     }
-    for (index, entry) in entries.iter().enumerate() {
-        if index < stop && map.get(&entry.0) != Some(&entry.1.0) {
-            return Ok(false);
-        }
-    }
+    assert_eq!(rt; (said, names.len()), (report, stop), "file {seed}");
     Ok(true)
 }
 
-fn maps_have(alloc: Global, bytes: &[u8], entries: &[Entry]) -> Result<bool, Error> {
-    let arena = Bump::new(alloc);
-    let mut hashed: FrozenMap<'_, String, Own<u64>> = FrozenMap::new(alloc, &arena);
-    let mut ordered: FrozenBTreeMap<'_, String, Own<u64>> = FrozenBTreeMap::new(alloc, &arena);
-    let mut indexed: FrozenIndexMap<'_, String, Own<u64>> = FrozenIndexMap::new(alloc, &arena);
-    let mut large: FrozenAppendMap<'_, String, Own<u64>> = FrozenAppendMap::new(alloc, &arena);
-    Ok(
-        map_has(alloc, bytes, entries, &mut hashed)?
-            && map_has(alloc, bytes, entries, &mut ordered)?
-            && map_has(alloc, bytes, entries, &mut indexed)?
-            && map_has(alloc, bytes, entries, &mut large)?,
-    )
+type Read = Entries<String, Own<u64>>;
+
+/// Checks what a map has after the file was read into it.
+fn has_entries<'a, T: Table<String, &'a u64> + Drop>(
+    (rt, alloc, seed): (&impl Abort, Global, u64),
+    bytes: &[u8],
+    keys: &[&str],
+    mut map: Frozen<&'a Bump, String, Own<u64>, T>,
+) -> Result<(), Fail> {
+    let (stop, report) = first_repeated(keys);
+    let said = serde_json::from_slice::<Read>(alloc, bytes)?.insert_into(&mut map);
+    assert_eq!(rt; (said, map.len()), (report, stop), "file {seed}");
+    for (key, value) in &serde_json::from_slice::<Read>(alloc, bytes)?.0[..stop] {
+        assert_eq!(rt; map.get(key), Some(&value.0), "file {seed}");
+    }
+    Ok(())
 }
 
-/// Returns whether the value is an object of exactly these entries, whose keys differ.
-fn is_object_of(value: &Value, entries: &[Entry]) -> bool {
-    let Some(object) = value.as_object() else {
-        return false;
+/// Reads a file into each map. Returns whether it could be read.
+fn is_read_as_map(at: (&impl Abort, Global, u64), bytes: &[u8]) -> Result<bool, Fail> {
+    let ((rt, alloc, seed), arena) = (at, Bump::new(at.1));
+    let Ok(read) = serde_json::from_slice::<Read>(alloc, bytes) else {
+        return Ok(false);
     };
-    for entry in entries {
-        if object.get(&entry.0).and_then(Value::as_u64) != Some(entry.1.0) {
-            return false;
+    let value = Value::from_slice(alloc, bytes)?;
+    let keys: Vec<&str> = read.0.iter().map(|entry| entry.0.as_str()).collect(alloc)?;
+    // A `Value` keeps the last value of a key.
+    if first_repeated(&keys).0 == keys.len() {
+        let Some(object) = value.as_object() else {
+            return Err(Fail::new(format_args!("file {seed} has no object")));
+        };
+        assert_eq!(rt; object.len(), keys.len(), "file {seed}");
+        for (key, number) in &read.0 {
+            assert_eq!(rt;
+                object.get(key).and_then(Value::as_u64),
+                Some(number.0),
+                "file {seed}"
+            );
         }
     }
-    object.len() == entries.len()
-}
-
-/// Reads the file into each map.
-fn map_outcome(alloc: Global, bytes: &[u8]) -> Result<Outcome, Error> {
-    let Ok(read) = serde_json::from_slice::<Entries<String, Own<u64>>>(alloc, bytes) else {
-        return Ok(Outcome::Refused);
-    };
-    let Ok(value) = Value::from_slice(alloc, bytes) else {
-        return Ok(Outcome::Wrong);
-    };
-    let entries = read.0.as_slice();
-    let differ = first_repeated_key(entries) == entries.len();
-    let is_read = (!differ || is_object_of(&value, entries)) && maps_have(alloc, bytes, entries)?;
-    Ok(if is_read {
-        Outcome::Read
-    } else {
-        Outcome::Wrong
-    })
-}
-
-// ---- all files
-
-fn outcome_of_seed(alloc: Global, seed: u64) -> Result<Outcome, Error> {
-    let mut draws = Draws::new(seed);
-    let is_map = draws.below(2) == 1;
-    let bytes = broken(alloc, &mut draws, is_map)?;
-    if is_map {
-        map_outcome(alloc, &bytes)
-    } else {
-        list_outcome(alloc, &bytes)
-    }
-}
-
-/// Reads each file. Returns the seed of the first one that was read as another collection, and
-/// whether at least a tenth of the files were read.
-fn read_all(alloc: Global) -> Result<(Option<u64>, bool), Error> {
-    let mut count = 0u64;
-    for seed in 0..FILES {
-        match outcome_of_seed(alloc, seed)? {
-            Outcome::Refused => {}
-            Outcome::Read => count = count.saturating_add(1),
-            Outcome::Wrong => return Ok((Some(seed), false)),
-        }
-    }
-    Ok((None, count > FILES / 10))
+    has_entries(at, bytes, &keys, FrozenMap::new(alloc, &arena))?;
+    has_entries(at, bytes, &keys, FrozenBTreeMap::new(alloc, &arena))?;
+    has_entries(at, bytes, &keys, FrozenIndexMap::new(alloc, &arena))?;
+    has_entries(at, bytes, &keys, FrozenAppendMap::new(alloc, &arena))?;
+    Ok(true)
 }
 
 #[test]
 fn a_broken_file_was_read_as_another_collection(rt: HostRuntime) -> Result<(), Fail> {
-    assert_eq!(rt; read_all(rt.alloc())?, (None, true));
+    let mut read = 0;
+    for seed in 0..FILES {
+        let (at, mut draws) = ((&rt, rt.alloc(), seed), Draws::new(seed));
+        let is_map = draws.below(2) == 1;
+        let bytes = broken(rt.alloc(), &mut draws, is_map)?;
+        read += match is_map {
+            true => is_read_as_map(at, &bytes)?,
+            false => is_read_as_list(at, &bytes)?,
+        } as u64;
+    }
+    assert!(rt; read > FILES / 10, "only {read} files were read");
     Ok(())
 }

@@ -7,55 +7,63 @@ use elsa_maps::map::{FrozenBTreeMap, FrozenMap};
 use elsa_serde::{Entries, Items, Names, ReadFault};
 use elsa_vec::stable::Own;
 use serde::Deserialize;
-use serde_json::Error;
 use serde_json::error::Category;
 use std::alloc::Global;
 use std::test::Fail;
 
+type Read = Entries<String, Own<u64>>;
+
 /// Returns the kind of the error if the text can't be read as a `T`, or `None` if it is read.
 fn refusal<'a, T: Deserialize<'a>>(alloc: Global, text: &'a str) -> Option<Category> {
-    serde_json::from_str::<T>(alloc, text)
-        .err()
-        .map(|error| error.classify())
+    Some(serde_json::from_str::<T>(alloc, text).err()?.classify())
 }
 
 #[test]
-fn a_text_of_a_wrong_type_was_read(rt: HostRuntime) -> Result<(), Fail> {
+fn a_broken_text_was_read(rt: HostRuntime) -> Result<(), Fail> {
     let alloc = rt.alloc();
-    for text in [
-        "{}",
-        "1",
-        "null",
-        "[1]",
-        r#"["a",null]"#,
-        r#"["a",["b"]]"#,
-        r#"[{"a":1}]"#,
+    // Of a wrong type, cut, and with further text after the collection.
+    let (data, cut, more) = (Category::Data, Category::Eof, Category::Syntax);
+    for (text, kind) in [
+        ("{}", data),
+        ("1", data),
+        ("null", data),
+        ("[1]", data),
+        (r#"["a",null]"#, data),
+        (r#"["a",["b"]]"#, data),
+        (r#"[{"a":1}]"#, data),
+        ("", cut),
+        ("[", cut),
+        (r#"["fox""#, cut),
+        (r#"["fox","#, cut),
+        (r#"["fox","do"#, cut),
+        (r#"["\u00"#, cut),
+        (r#"["a"]]"#, more),
+        (r#"["a"],"#, more),
+        (r#"["a","b",]"#, more),
     ] {
-        assert_eq!(rt;
-            refusal::<Names>(alloc, text),
-            Some(Category::Data),
-            "{text}"
-        );
-        assert_eq!(rt;
-            refusal::<Items<String>>(alloc, text),
-            Some(Category::Data),
-            "{text}"
-        );
+        assert_eq!(rt; refusal::<Names>(alloc, text), Some(kind), "{text}");
+        assert_eq!(rt; refusal::<Items<String>>(alloc, text), Some(kind), "{text}");
     }
-    for text in [
-        "[]",
-        r#"{"a":"1"}"#,
-        r#"{"a":null}"#,
-        r#"{"a":[1]}"#,
-        r#""a""#,
+    for (text, kind) in [
+        ("[]", data),
+        (r#"{"a":"1"}"#, data),
+        (r#"{"a":null}"#, data),
+        (r#"{"a":[1]}"#, data),
+        (r#""a""#, data),
+        ("", cut),
+        ("{", cut),
+        (r#"{"a""#, cut),
+        (r#"{"a":"#, cut),
+        (r#"{"a":1"#, cut),
+        (r#"{"a":1,"#, cut),
+        (r#"{"a":1}}"#, more),
     ] {
-        let kind = refusal::<Entries<String, Own<u64>>>(alloc, text);
-        assert_eq!(rt; kind, Some(Category::Data), "{text}");
+        assert_eq!(rt; refusal::<Read>(alloc, text), Some(kind), "{text}");
     }
     for text in ["[256]", "[-1]", "[1.5]"] {
         assert_eq!(rt;
             refusal::<Items<Own<u8>>>(alloc, text),
-            Some(Category::Data),
+            Some(data),
             "{text}"
         );
     }
@@ -63,115 +71,39 @@ fn a_text_of_a_wrong_type_was_read(rt: HostRuntime) -> Result<(), Fail> {
 }
 
 #[test]
-fn a_truncated_text_was_read(rt: HostRuntime) -> Result<(), Fail> {
-    let alloc = rt.alloc();
-    for text in [
-        "",
-        "[",
-        r#"["fox""#,
-        r#"["fox","#,
-        r#"["fox","do"#,
-        r#"["\u00"#,
+fn a_duplicate_was_inserted(rt: HostRuntime) -> Result<(), Fail> {
+    let (alloc, arena) = (rt.alloc(), Bump::new(rt.alloc()));
+    for (text, index, last) in [
+        (r#"["a","a"]"#, 1, "a"),
+        (r#"["a","b","a","a"]"#, 2, "b"),
+        (r#"["a","b","c","\u0061"]"#, 3, "c"),
     ] {
+        let told = Err(ReadFault::Duplicate(index));
+        let mut names: Interner<'_> = Interner::new(alloc, &arena);
+        let said = serde_json::from_str::<Names>(alloc, text)?.put_into(&mut names);
         assert_eq!(rt;
-            refusal::<Names>(alloc, text),
-            Some(Category::Eof),
+            (said, names.len(), names.at(index - 1)),
+            (told, index, Some(last)),
             "{text}"
         );
-        assert_eq!(rt;
-            refusal::<Items<String>>(alloc, text),
-            Some(Category::Eof),
-            "{text}"
-        );
+        let mut set: FrozenIndexSet<'_, String> = FrozenIndexSet::new(alloc, &arena);
+        let said = serde_json::from_str::<Items<String>>(alloc, text)?.insert_into(&mut set);
+        assert_eq!(rt; (said, set.len()), (told, index), "{text}");
     }
-    for text in ["", "{", r#"{"a""#, r#"{"a":"#, r#"{"a":1"#, r#"{"a":1,"#] {
-        let kind = refusal::<Entries<String, Own<u64>>>(alloc, text);
-        assert_eq!(rt; kind, Some(Category::Eof), "{text}");
-    }
-    Ok(())
-}
-
-#[test]
-fn a_text_behind_the_collection_was_read(rt: HostRuntime) -> Result<(), Fail> {
-    let alloc = rt.alloc();
-    for text in [r#"["a"]]"#, r#"["a"],"#, r#"["a","b",]"#] {
-        assert_eq!(rt;
-            refusal::<Names>(alloc, text),
-            Some(Category::Syntax),
-            "{text}"
-        );
-    }
-    let kind = refusal::<Entries<String, Own<u64>>>(alloc, r#"{"a":1}}"#);
-    assert_eq!(rt; kind, Some(Category::Syntax));
-    Ok(())
-}
-
-/// Puts the names of the text into an interner. Returns the result, and whether the last name is
-/// `left`.
-fn names_of(alloc: Global, text: &str, left: &str) -> Result<(Result<(), ReadFault>, bool), Error> {
-    let arena = Bump::new(alloc);
-    let mut names: Interner<'_> = Interner::new(alloc, &arena);
-    let said = serde_json::from_str::<Names>(alloc, text)?.put_into(&mut names);
-    let is_left = names.find(left) == names.len().checked_sub(1);
-    Ok((said, is_left))
-}
-
-fn set_of(alloc: Global, text: &str) -> Result<Result<(), ReadFault>, Error> {
-    let arena = Bump::new(alloc);
-    let mut set: FrozenIndexSet<'_, String> = FrozenIndexSet::new(alloc, &arena);
-    Ok(serde_json::from_str::<Items<String>>(alloc, text)?.insert_into(&mut set))
-}
-
-#[test]
-fn a_duplicate_went_in(rt: HostRuntime) -> Result<(), Fail> {
-    let alloc = rt.alloc();
-    for (text, index) in [
-        (r#"["a","a"]"#, 1),
-        (r#"["a","b","a","a"]"#, 2),
-        (r#"["a","b","c","\u0061"]"#, 3),
-    ] {
-        let left = ["", "a", "b", "c"][index];
-        assert_eq!(rt;
-            names_of(alloc, text, left)?,
-            (Err(ReadFault::Duplicate(index)), true),
-            "{text}"
-        );
-        assert_eq!(rt;
-            set_of(alloc, text)?,
-            Err(ReadFault::Duplicate(index)),
-            "{text}"
-        );
-    }
-    Ok(())
-}
-
-type Read = Entries<String, Own<u64>>;
-
-fn hashed_of(alloc: Global, read: Read) -> Result<(), ReadFault> {
-    let arena = Bump::new(alloc);
-    let mut map: FrozenMap<'_, String, Own<u64>> = FrozenMap::new(alloc, &arena);
-    read.insert_into(&mut map)
-}
-
-fn ordered_of(alloc: Global, read: Read) -> Result<(), ReadFault> {
-    let arena = Bump::new(alloc);
-    let mut map: FrozenBTreeMap<'_, String, Own<u64>> = FrozenBTreeMap::new(alloc, &arena);
-    read.insert_into(&mut map)
-}
-
-fn indexed_of(alloc: Global, read: Read) -> Result<(), ReadFault> {
-    let arena = Bump::new(alloc);
-    let mut map: FrozenIndexMap<'_, String, Own<u64>> = FrozenIndexMap::new(alloc, &arena);
-    read.insert_into(&mut map)
-}
-
-#[test]
-fn a_second_value_of_a_key_went_in(rt: HostRuntime) -> Result<(), Fail> {
-    let alloc = rt.alloc();
     let text = r#"{"a":1,"b":2,"a":1}"#;
     let told = Err(ReadFault::Duplicate(2));
-    assert_eq!(rt; hashed_of(alloc, serde_json::from_str(alloc, text)?), told);
-    assert_eq!(rt; ordered_of(alloc, serde_json::from_str(alloc, text)?), told);
-    assert_eq!(rt; indexed_of(alloc, serde_json::from_str(alloc, text)?), told);
+    let read = || serde_json::from_str::<Read>(alloc, text);
+    assert_eq!(rt;
+        read()?.insert_into(&mut FrozenMap::new(alloc, &arena)),
+        told
+    );
+    assert_eq!(rt;
+        read()?.insert_into(&mut FrozenBTreeMap::new(alloc, &arena)),
+        told
+    );
+    assert_eq!(rt;
+        read()?.insert_into(&mut FrozenIndexMap::new(alloc, &arena)),
+        told
+    );
     Ok(())
 }

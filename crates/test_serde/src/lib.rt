@@ -9,4 +9,6 @@ mod broken_texts;
 #[cfg(test)]
 mod refused_memory;
 #[cfg(test)]
+mod refused_readers;
+#[cfg(test)]
 mod round_trips;

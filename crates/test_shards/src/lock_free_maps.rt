@@ -1,26 +1,27 @@
 //! The calls of the lock-free map and of the lock-free map of shards, by handles.
-use crate::call::{Call, Calls, Cause, Kind, Reply, inserted, made, no_memory, walked};
 use elsa::sync::{
     AttemptFault, Inserted, LockFreeFrozenMap, LockFreeShardedMap, LockPermit, MapHandle,
     ShardedHandle,
 };
-use std::alloc::{AllocError, Allocator};
+use std::alloc::AllocError;
 use std::hash::{BuildHasherDefault, FoldHasher};
 use std::sync::Wait;
+use test_model::call::{Call, Calls, Cause, Kind, Reply, Walk, made, no_memory};
+use test_model::script::Heap;
 
 pub type State = BuildHasherDefault<FoldHasher>;
 
-pub type Map<A> = LockFreeFrozenMap<u64, u64, State, A>;
+pub type Map<'h> = LockFreeFrozenMap<u64, u64, State, &'h Heap>;
 
-pub type Shards<A> = LockFreeShardedMap<u64, u64, State, A>;
+pub type Shards<'h> = LockFreeShardedMap<u64, u64, State, &'h Heap>;
 
-type One<'m, A> = MapHandle<'m, u64, u64, State, A>;
+type One<'m, 'h> = MapHandle<'m, u64, u64, State, &'h Heap>;
 
-type Many<'m, A> = ShardedHandle<'m, u64, u64, State, A>;
+type Many<'m, 'h> = ShardedHandle<'m, u64, u64, State, &'h Heap>;
 
 /// The error of an insertion, or of the closure of one.
 #[derive(Drop)]
-enum Fault {
+pub enum Fault {
     Memory,
     Closure,
 }
@@ -31,58 +32,46 @@ impl From<AllocError> for Fault {
     }
 }
 
+/// The reply of an insertion that called its closure this often.
+fn of_ref<E: Into<Fault> + Drop>(done: Result<Inserted<&u64, usize>, E>, calls: u64) -> Reply {
+    match done {
+        Ok(done) => made(
+            Some(*done.value),
+            Some(done.index),
+            Some(done.is_new),
+            calls,
+        ),
+        Err(error) => match error.into() {
+            Fault::Memory => no_memory(calls),
+            Fault::Closure => Reply::Failed(Cause::Closure, None, calls),
+        },
+    }
+}
+
 /// The reply of an insertion that returns a copy of the value.
 fn of_copy(done: Result<Inserted<u64, usize>, AllocError>) -> Reply {
     match done {
-        Ok(done) => inserted(Some(done.value), Some(done.index), Some(done.is_new)),
-        Err(_) => no_memory(0),
-    }
-}
-
-/// The reply of an insertion that returns a reference to the value, and called its closure this
-/// often.
-fn of_ref(done: Result<Inserted<&u64, usize>, AllocError>, calls: u64) -> Reply {
-    match done {
-        Ok(done) => made(
-            Some(*done.value),
-            Some(done.index),
-            Some(done.is_new),
-            calls,
-        ),
-        Err(_) => no_memory(calls),
-    }
-}
-
-/// The reply of an insertion by a closure that returns a key and a value.
-fn of_made(done: Result<Inserted<&u64, usize>, Fault>, calls: u64) -> Reply {
-    match done {
-        Ok(done) => made(
-            Some(*done.value),
-            Some(done.index),
-            Some(done.is_new),
-            calls,
-        ),
-        Err(Fault::Memory) => no_memory(calls),
-        Err(Fault::Closure) => Reply::Failed(Cause::Closure, None, calls),
+        Ok(done) => made(Some(done.value), Some(done.index), Some(done.is_new), 0),
+        Err(AllocError) => no_memory(0),
     }
 }
 
 /// The reply of an insertion that doesn't wait.
 fn of_attempt(done: Result<Inserted<u64, usize>, AttemptFault<(u64, u64)>>) -> Reply {
     match done {
-        Ok(done) => inserted(Some(done.value), Some(done.index), Some(done.is_new)),
+        Ok(done) => of_copy(Ok(done)),
         Err(AttemptFault::Busy(pair)) => Reply::Failed(Cause::Busy, Some(pair.1), 0),
-        Err(AttemptFault::Failed(_)) => no_memory(0),
+        Err(AttemptFault::Failed(AllocError)) => no_memory(0),
     }
 }
 
-/// The reply of an insertion that doesn't wait, and returns a reference to the value.
+/// The same of one that returns a reference to the value.
 fn of_ref_attempt(done: Result<Inserted<&u64, usize>, AttemptFault<(u64, u64)>>) -> Reply {
-    match done {
-        Ok(done) => inserted(Some(*done.value), Some(done.index), Some(done.is_new)),
-        Err(AttemptFault::Busy(pair)) => Reply::Failed(Cause::Busy, Some(pair.1), 0),
-        Err(AttemptFault::Failed(_)) => no_memory(0),
-    }
+    of_attempt(done.map(|done| Inserted {
+        value: *done.value,
+        index: done.index,
+        is_new: done.is_new,
+    }))
 }
 
 /// The reply of an insertion into shards: the index is one of the shard.
@@ -98,17 +87,19 @@ fn in_shard(reply: Reply) -> Reply {
 
 /// Two handles of a map that are as old as the map, and one that observed a moment.
 #[derive(Drop)]
-pub struct MapCalls<'m, A: Allocator + Copy> {
-    map: &'m Map<A>,
-    one: One<'m, A>,
-    other: One<'m, A>,
-    then: One<'m, A>,
+pub struct MapCalls<'m, 'h, R: Wait> {
+    rt: &'m R,
+    map: &'m Map<'h>,
+    one: One<'m, 'h>,
+    other: One<'m, 'h>,
+    then: One<'m, 'h>,
     may: LockPermit,
 }
 
-impl<'m, A: Allocator + Copy> MapCalls<'m, A> {
-    pub fn of(map: &'m Map<A>, may: LockPermit) -> MapCalls<'m, A> {
+impl<'m, 'h, R: Wait> MapCalls<'m, 'h, R> {
+    pub fn of(rt: &'m R, map: &'m Map<'h>, may: LockPermit) -> MapCalls<'m, 'h, R> {
         MapCalls {
+            rt,
             map,
             one: map.handle(),
             other: map.handle(),
@@ -118,146 +109,78 @@ impl<'m, A: Allocator + Copy> MapCalls<'m, A> {
     }
 }
 
-fn insert_with<R: Wait, A: Allocator + Copy>(rt: &R, map: &mut One<'_, A>, call: Call) -> Reply {
-    let mut calls = 0_u64;
-    let make = || -> u64 {
-        calls = calls.wrapping_add(1);
-        call.value
-    };
-    let done = map.get_or_insert_with(rt, call.key, make);
-    of_ref(done, calls)
-}
-
-/// Inserts by a query and a closure, which fails if `fails`.
-fn insert_by<R: Wait, A: Allocator + Copy>(
-    rt: &R,
-    map: &mut One<'_, A>,
-    call: Call,
-    fails: bool,
-) -> Reply {
-    let mut calls = 0_u64;
-    let make = || -> Result<(u64, u64), Fault> {
-        calls = calls.wrapping_add(1);
-        if fails {
-            Err(Fault::Closure)
-        } else {
-            Ok((call.key, call.value))
-        }
-    };
-    let done = map.insert_by(rt, &call.key, make);
-    of_made(done, calls)
-}
-
-/// Makes an insertion.
-fn insertion<R: Wait, A: Allocator + Copy>(
-    rt: &R,
-    map: &mut One<'_, A>,
-    may: LockPermit,
-    call: Call,
-) -> Option<Reply> {
-    Some(match call.kind {
-        Kind::Insert => of_copy(map.insert(rt, call.key, call.value)),
-        Kind::InsertRef => of_ref(map.insert_ref(rt, call.key, call.value), 0),
-        Kind::TryInsert => of_attempt(map.try_insert(may, call.key, call.value)),
-        Kind::TryInsertRef => of_ref_attempt(map.try_insert_ref(may, call.key, call.value)),
-        Kind::InsertWith => insert_with(rt, map, call),
-        Kind::InsertBy => insert_by(rt, map, call, false),
-        Kind::InsertFails => insert_by(rt, map, call, true),
-        _ => return None,
-    })
-}
-
-fn get_index<A: Allocator + Copy>(map: &mut One<'_, A>, index: usize) -> Reply {
-    match map.get_index(index) {
-        Some((key, value)) => Reply::Full(Some((index, key, value))),
-        None => Reply::Full(None),
-    }
-}
-
-/// Walks over all entries.
-fn iter<A: Allocator + Copy>(map: &mut One<'_, A>) -> Reply {
-    map.len();
-    let (mut count, mut sum) = (0_usize, 0_u64);
-    for (key, value) in map.iter() {
-        sum = walked(sum, count, key, value);
-        count = count.wrapping_add(1);
-    }
-    Reply::Walk(count, sum)
-}
-
-/// Walks over references to all entries.
-fn refs<A: Allocator + Copy>(map: &mut One<'_, A>) -> Reply {
-    map.len();
-    let (mut count, mut sum) = (0_usize, 0_u64);
-    for (key, value) in map.iter().refs() {
-        sum = walked(sum, count, *key, *value);
-        count = count.wrapping_add(1);
-    }
-    Reply::Walk(count, sum)
-}
-
-/// Makes a read.
-fn read<A: Allocator + Copy>(map: &mut One<'_, A>, call: Call) -> Reply {
+/// Makes an insertion or a read by a handle.
+fn by_handle<R: Wait>(rt: &R, map: &mut One<'_, '_>, may: LockPermit, call: Call) -> Reply {
+    let (key, value, index) = (call.key, call.value, call.key as usize);
+    let mut calls = 0;
     match call.kind {
-        Kind::Get => Reply::Value(map.get(call.key)),
-        Kind::GetRef => Reply::Value(map.get_ref(&call.key).copied()),
-        Kind::ContainsKey => Reply::Flag(map.contains_key(&call.key)),
-        Kind::Find => Reply::Index(map.find(&call.key)),
-        Kind::GetIndex => get_index(map, call.key as usize),
+        Kind::Insert => of_copy(map.insert(rt, key, value)),
+        Kind::InsertRef => of_ref(map.insert_ref(rt, key, value), 0),
+        Kind::TryInsert => of_attempt(map.try_insert(may, key, value)),
+        Kind::TryInsertRef => of_ref_attempt(map.try_insert_ref(may, key, value)),
+        Kind::InsertWith => {
+            let make = || -> u64 {
+                calls += 1;
+                value
+            };
+            let done = map.get_or_insert_with(rt, key, make);
+            of_ref(done, calls)
+        }
+        Kind::InsertBy | Kind::InsertFails => {
+            let make = || -> Result<(u64, u64), Fault> {
+                calls += 1;
+                if call.kind == Kind::InsertFails {
+                    return Err(Fault::Closure);
+                }
+                Ok((key, value))
+            };
+            let done = map.insert_by(rt, &key, make);
+            of_ref(done, calls)
+        }
+        Kind::Get => Reply::Value(map.get(key)),
+        Kind::GetRef => Reply::Value(map.get_ref(&key).copied()),
+        Kind::ContainsKey => Reply::Flag(map.contains_key(&key)),
+        Kind::Find => Reply::Index(map.find(&key)),
+        Kind::GetIndex => Reply::Full(map.get_index(index).map(|entry| (index, entry.0, entry.1))),
         Kind::Len => Reply::Count(map.len()),
         Kind::IsFull => Reply::Flag(map.is_full()),
-        Kind::Iter => iter(map),
-        Kind::IterRefs => refs(map),
+        Kind::Iter => {
+            map.len();
+            let mut walk = Walk::new(true);
+            for (key, value) in map.iter() {
+                walk.add(key, value);
+            }
+            walk.reply()
+        }
+        Kind::IterRefs => {
+            map.len();
+            let mut walk = Walk::new(true);
+            for (key, value) in map.iter().refs() {
+                walk.add(*key, *value);
+            }
+            walk.reply()
+        }
         _ => Reply::NotOffered,
     }
 }
 
-/// Makes an insertion or a read.
-fn by_handle<R: Wait, A: Allocator + Copy>(
-    rt: &R,
-    map: &mut One<'_, A>,
-    may: LockPermit,
-    call: Call,
-) -> Reply {
-    match insertion(rt, map, may, call) {
-        Some(reply) => reply,
-        None => read(map, call),
-    }
-}
-
-/// Makes a look-up as of the moment that a handle has observed.
-fn of_then<A: Allocator + Copy>(then: &One<'_, A>, call: Call) -> Option<Reply> {
-    Some(match call.kind {
-        Kind::SeenLen => Reply::Count(then.seen_len()),
-        Kind::SeenGet => Reply::Value(then.seen_get(&call.key).copied()),
-        Kind::SeenGetFull => match then.seen_get_full(&call.key) {
-            Some((index, key, value)) => Reply::Full(Some((index, *key, *value))),
-            None => Reply::Full(None),
-        },
-        _ => return None,
-    })
-}
-
-/// Keeps a handle that has observed all entries, and returns their number.
-fn keep<A: Allocator + Copy>(calls: &mut MapCalls<'_, A>) -> Reply {
-    let mut now = calls.map.handle();
-    let count = now.len();
-    calls.then = now;
-    Reply::Count(count)
-}
-
-impl<A: Allocator + Copy> Calls for MapCalls<'_, A> {
-    fn reply<R: Wait>(&mut self, rt: &R, call: Call) -> Reply {
-        if matches!(call.kind, Kind::Keep) {
-            return keep(self);
-        }
-        if let Some(reply) = of_then(&self.then, call) {
-            return reply;
-        }
-        if call.by_other {
-            by_handle(rt, &mut self.other, self.may, call)
-        } else {
-            by_handle(rt, &mut self.one, self.may, call)
+impl<R: Wait> Calls for MapCalls<'_, '_, R> {
+    fn reply(&mut self, call: Call) -> Reply {
+        match call.kind {
+            Kind::Keep => {
+                let mut now = self.map.handle();
+                let count = now.len();
+                self.then = now;
+                Reply::Count(count)
+            }
+            Kind::SeenLen => Reply::Count(self.then.seen_len()),
+            Kind::SeenGet => Reply::Value(self.then.seen_get(&call.key).copied()),
+            Kind::SeenGetFull => {
+                let found = self.then.seen_get_full(&call.key);
+                Reply::Full(found.map(|entry| (entry.0, *entry.1, *entry.2)))
+            }
+            _ if call.by_other => by_handle(self.rt, &mut self.other, self.may, call),
+            _ => by_handle(self.rt, &mut self.one, self.may, call),
         }
     }
 }
@@ -266,19 +189,25 @@ impl<A: Allocator + Copy> Calls for MapCalls<'_, A> {
 
 /// Two handles of a map of shards that are as old as the map, and one that observed a moment.
 #[derive(Drop)]
-pub struct ShardCalls<'m, A: Allocator + Copy> {
-    map: &'m Shards<A>,
-    one: Many<'m, A>,
-    other: Many<'m, A>,
-    then: Many<'m, A>,
+pub struct ShardCalls<'m, 'h, R: Wait> {
+    rt: &'m R,
+    map: &'m Shards<'h>,
+    one: Many<'m, 'h>,
+    other: Many<'m, 'h>,
+    then: Many<'m, 'h>,
     may: LockPermit,
 }
 
-impl<'m, A: Allocator + Copy> ShardCalls<'m, A> {
+impl<'m, 'h, R: Wait> ShardCalls<'m, 'h, R> {
     /// # Errors
     /// Fails if a handle can't be allocated.
-    pub fn of(map: &'m Shards<A>, may: LockPermit) -> Result<ShardCalls<'m, A>, AllocError> {
+    pub fn of(
+        rt: &'m R,
+        map: &'m Shards<'h>,
+        may: LockPermit,
+    ) -> Result<ShardCalls<'m, 'h, R>, AllocError> {
         Ok(ShardCalls {
+            rt,
             map,
             one: map.handle()?,
             other: map.handle()?,
@@ -288,104 +217,64 @@ impl<'m, A: Allocator + Copy> ShardCalls<'m, A> {
     }
 }
 
-fn shard_insert_with<R: Wait, A: Allocator + Copy>(
-    rt: &R,
-    map: &mut Many<'_, A>,
-    call: Call,
-) -> Reply {
-    let mut calls = 0_u64;
-    let make = || -> u64 {
-        calls = calls.wrapping_add(1);
-        call.value
-    };
-    let done = map.get_or_insert_with(rt, call.key, make);
-    of_ref(done, calls)
-}
-
-/// Inserts by a query and a closure, which fails if `fails`.
-fn shard_insert_by<R: Wait, A: Allocator + Copy>(
-    rt: &R,
-    map: &mut Many<'_, A>,
-    call: Call,
-    fails: bool,
-) -> Reply {
-    let mut calls = 0_u64;
-    let make = || -> Result<(u64, u64), Fault> {
-        calls = calls.wrapping_add(1);
-        if fails {
-            Err(Fault::Closure)
-        } else {
-            Ok((call.key, call.value))
+/// Makes an insertion or a read by a handle of shards.
+fn by_shards<R: Wait>(rt: &R, map: &mut Many<'_, '_>, may: LockPermit, call: Call) -> Reply {
+    let (key, value) = (call.key, call.value);
+    let mut calls = 0;
+    in_shard(match call.kind {
+        Kind::Insert => of_copy(map.insert(rt, key, value)),
+        Kind::InsertRef => of_ref(map.insert_ref(rt, key, value), 0),
+        Kind::TryInsert => of_attempt(map.try_insert(may, key, value)),
+        Kind::TryInsertRef => of_ref_attempt(map.try_insert_ref(may, key, value)),
+        Kind::InsertWith => {
+            let make = || -> u64 {
+                calls += 1;
+                value
+            };
+            let done = map.get_or_insert_with(rt, key, make);
+            of_ref(done, calls)
         }
-    };
-    let done = map.insert_by(rt, &call.key, make);
-    of_made(done, calls)
-}
-
-/// Makes an insertion into a map of shards.
-fn shard_insertion<R: Wait, A: Allocator + Copy>(
-    rt: &R,
-    map: &mut Many<'_, A>,
-    may: LockPermit,
-    call: Call,
-) -> Option<Reply> {
-    Some(match call.kind {
-        Kind::Insert => of_copy(map.insert(rt, call.key, call.value)),
-        Kind::InsertRef => of_ref(map.insert_ref(rt, call.key, call.value), 0),
-        Kind::TryInsert => of_attempt(map.try_insert(may, call.key, call.value)),
-        Kind::TryInsertRef => of_ref_attempt(map.try_insert_ref(may, call.key, call.value)),
-        Kind::InsertWith => shard_insert_with(rt, map, call),
-        Kind::InsertBy => shard_insert_by(rt, map, call, false),
-        Kind::InsertFails => shard_insert_by(rt, map, call, true),
-        _ => return None,
+        Kind::InsertBy | Kind::InsertFails => {
+            let make = || -> Result<(u64, u64), Fault> {
+                calls += 1;
+                if call.kind == Kind::InsertFails {
+                    return Err(Fault::Closure);
+                }
+                Ok((key, value))
+            };
+            let done = map.insert_by(rt, &key, make);
+            of_ref(done, calls)
+        }
+        Kind::Get => Reply::Value(map.get(key)),
+        Kind::GetRef => Reply::Value(map.get_ref(&key).copied()),
+        Kind::ContainsKey => Reply::Flag(map.contains_key(&key)),
+        Kind::Len => Reply::Count(map.len()),
+        _ => Reply::NotOffered,
     })
 }
 
-/// Makes a read of a map of shards.
-fn shard_read<A: Allocator + Copy>(map: &mut Many<'_, A>, call: Call) -> Reply {
-    match call.kind {
-        Kind::Get => Reply::Value(map.get(call.key)),
-        Kind::GetRef => Reply::Value(map.get_ref(&call.key).copied()),
-        Kind::ContainsKey => Reply::Flag(map.contains_key(&call.key)),
-        Kind::Len => Reply::Count(map.len()),
-        _ => Reply::NotOffered,
+impl<R: Wait> Calls for ShardCalls<'_, '_, R> {
+    fn is_in_order(&self) -> bool {
+        false
     }
-}
 
-/// Makes an insertion or a read.
-fn by_shards<R: Wait, A: Allocator + Copy>(
-    rt: &R,
-    map: &mut Many<'_, A>,
-    may: LockPermit,
-    call: Call,
-) -> Reply {
-    match shard_insertion(rt, map, may, call) {
-        Some(reply) => in_shard(reply),
-        None => shard_read(map, call),
-    }
-}
-
-/// Keeps a handle that has observed all entries, and returns their number.
-fn shard_keep<A: Allocator + Copy>(calls: &mut ShardCalls<'_, A>) -> Reply {
-    let Ok(mut now) = calls.map.handle() else {
-        return no_memory(0);
-    };
-    let count = now.len();
-    let _before = std::mem::replace(&mut calls.then, now);
-    Reply::Count(count)
-}
-
-impl<A: Allocator + Copy> Calls for ShardCalls<'_, A> {
     fn may_ask(&self, kind: Kind) -> bool {
-        matches!(kind, Kind::Keep)
+        kind == Kind::Keep
     }
 
-    fn reply<R: Wait>(&mut self, rt: &R, call: Call) -> Reply {
+    fn reply(&mut self, call: Call) -> Reply {
         match call.kind {
-            Kind::Keep => shard_keep(self),
+            Kind::Keep => {
+                let Ok(mut now) = self.map.handle() else {
+                    return no_memory(0);
+                };
+                let count = now.len();
+                let _before = std::mem::replace(&mut self.then, now);
+                Reply::Count(count)
+            }
             Kind::SeenLen => Reply::Count(self.then.seen_len()),
-            _ if call.by_other => by_shards(rt, &mut self.other, self.may, call),
-            _ => by_shards(rt, &mut self.one, self.may, call),
+            _ if call.by_other => by_shards(self.rt, &mut self.other, self.may, call),
+            _ => by_shards(self.rt, &mut self.one, self.may, call),
         }
     }
 }

@@ -1,337 +1,350 @@
-//! The collections that threads share with a script of a random size, until they are dropped or
-//! taken apart.
-use crate::call::{Reply, walked};
-use crate::lists::{HandleList, LockedList, PlainList};
-use crate::script::{Heap, PLANS, Plan, Script, Step, drawn_size};
+//! The collections that threads share with scripts, until they are dropped or taken apart; and the
+//! locked ones compared with their states.
+use crate::lists::{HandleList, ListState, LockedList, PlainList};
+use crate::locked_maps::{HashedState, OrderedState};
 use crate::{interners, lock_free_maps, locked_maps};
 use elsa::interner::{ShardedInterner, SharedInterner};
 use elsa::sync::{
     FrozenBTreeMap, FrozenMap, FrozenVec, LockFreeFrozenMap, LockFreeFrozenVec, LockFreeShardedMap,
     LockPermit, ShardedMap,
 };
-use std::alloc::{AllocError, Allocator, Global};
+use elsa_locks::map::{MapState, TreeState};
+use elsa_locks::vec::VecState;
+use std::alloc::{AllocError, AllocFailed, Global};
 use std::hash::BuildHasherDefault;
+use std::process::Abort;
+use std::rt::Clock;
 use std::sync::{Arc, Wait};
 use std::test::Fail;
 use test_alloc::Budget;
+use test_model::call::{Reply, Walk};
+use test_model::draws::clock_seed;
+use test_model::script::{Heap, PLANS, Plan, Script, Step, beside};
 
-/// The walk over the items that came out of a list.
-fn items(all: &[u64]) -> Reply {
-    let mut sum = 0_u64;
-    for (index, item) in all.iter().enumerate() {
-        sum = walked(sum, index, index as u64, *item);
+/// The greatest size.
+const MOST: u64 = 50_000;
+
+/// The number of scripts by two collections that are compared with each other.
+const BESIDE: u64 = 20;
+
+/// Runs each plan. Each script grows up to `growth` entries.
+fn differs<R: Abort + Clock>(
+    rt: &R,
+    growth: u64,
+    script: impl Fn(Plan) -> Result<Step, AllocError>,
+) -> Result<(), Fail> {
+    let clock = clock_seed(rt)?;
+    for number in 0..PLANS {
+        let plan = Plan::of(number, clock, MOST, growth);
+        let step = script(plan)?;
+        assert_eq!(rt; step.got, step.wanted, "{plan:?}: {step:?}");
     }
-    Reply::Walk(all.len(), sum)
+    Ok(())
 }
 
 /// The walk over the entries that came out of a map.
 fn pairs(all: &[(u64, u64)], is_in_order: bool) -> Reply {
-    let mut sum = 0_u64;
-    for (index, entry) in all.iter().enumerate() {
-        let at = if is_in_order { index } else { 0 };
-        sum = walked(sum, at, entry.0, entry.1);
+    let mut walk = Walk::new(is_in_order);
+    for entry in all {
+        walk.add(entry.0, entry.1);
     }
-    Reply::Walk(all.len(), sum)
+    walk.reply()
 }
 
 /// The walk over the entries that came out of a locked map.
-fn owners<A: Allocator + Copy>(all: &[(u64, Arc<u64, A>)]) -> Reply {
-    let mut sum = 0_u64;
+fn owners(all: &[(u64, Arc<u64, &Heap>)]) -> Reply {
+    let mut walk = Walk::new(false);
     for entry in all {
-        sum = walked(sum, 0, entry.0, *entry.1);
+        walk.add(entry.0, *entry.1);
     }
-    Reply::Walk(all.len(), sum)
+    walk.reply()
 }
 
-// ---- lists
-
-/// Tries in vain to take a list apart, and then takes it apart.
-fn list_ends(script: &mut Script, heap: &Heap, list: LockFreeFrozenVec<u64, &Heap>) {
+/// Takes a collection apart by `take`: first in vain, since a request is denied. The entries that
+/// come out are `walked`.
+fn comes_apart<M: Drop, T: Drop>(
+    script: &mut Script,
+    heap: &Heap,
+    moved: M,
+    take: impl Fn(M) -> Result<T, AllocFailed<M>>,
+    walked: impl Fn(&T) -> Reply,
+) {
     heap.refuse_next(1);
-    let first = list.into_vec();
+    let first = take(moved);
     heap.refuse_next(0);
     let second = match first {
         Ok(all) => Ok(all),
-        Err(failed) => failed.value.into_vec(),
+        Err(failed) => take(failed.value),
     };
     match second {
-        Ok(all) => script.ends_with(items(all.as_slice())),
+        Ok(all) => script.ends_with(walked(&all)),
         Err(_) => script.ends(Reply::Flag(false), Reply::Flag(true)),
     }
 }
 
+// ---- lists
+
 /// Runs a script on a lock-free list: by plain calls in its first half, and then by handles.
 fn list_script<R: Wait>(rt: &R, alloc: Global, plan: Plan) -> Result<Step, AllocError> {
-    let heap = Budget::new(alloc);
+    let budget = Budget::new(alloc);
+    let heap = &budget;
     let mut script = Script::new(alloc, plan, true)?;
-    let list: LockFreeFrozenVec<u64, &Heap> = LockFreeFrozenVec::new(&heap)?;
-    script.runs(rt, &heap, &mut PlainList { list: &list })?;
-    let mut handles = HandleList::of(&list, LockPermit::trying(alloc));
-    script.runs(rt, &heap, &mut handles)?;
+    let vec: LockFreeFrozenVec<u64, &Heap> = LockFreeFrozenVec::new(heap)?;
+    let list = &vec;
+    script.runs(heap, &mut PlainList { rt, heap, list })?;
+    let mut handles = HandleList::of(rt, list, LockPermit::trying(alloc));
+    script.runs(heap, &mut handles)?;
     drop(handles);
-    list_ends(&mut script, &heap, list);
-    script.is_freed(&heap);
+    let walked = |all: &Vec<u64, &Heap>| {
+        let mut walk = Walk::new(true);
+        for item in all.iter() {
+            walk.add_item(*item);
+        }
+        walk.reply()
+    };
+    comes_apart(&mut script, heap, vec, |list| list.into_vec(), walked);
+    script.is_freed(heap, 0);
     Ok(script.step)
 }
 
 #[test]
 fn a_lock_free_list_differed_from_a_list(rt: HostRuntime) -> Result<(), Fail> {
-    let drawn = drawn_size(&rt)?;
-    for number in 0..PLANS {
-        let plan = Plan::of(drawn, number);
-        let step = list_script(&rt, rt.alloc(), plan)?;
-        assert_eq!(rt; step.got, step.wanted, "{plan:?}: {step:?}");
-    }
-    Ok(())
+    differs(&rt, 1 << 13, |plan| list_script(&rt, rt.alloc(), plan))
 }
 
 fn locked_list_script<R: Wait>(rt: &R, alloc: Global, plan: Plan) -> Result<Step, AllocError> {
-    let heap = Budget::new(alloc);
+    let budget = Budget::new(alloc);
+    let heap = &budget;
     let mut script = Script::new(alloc, plan, true)?;
-    let list: FrozenVec<u64, &Heap> = FrozenVec::new(&heap);
-    script.runs(rt, &heap, &mut LockedList { list: &list })?;
-    let mut sum = 0_u64;
-    let all = list.into_vec();
-    for (index, item) in all.iter().enumerate() {
-        sum = walked(sum, index, index as u64, **item);
+    let vec: FrozenVec<u64, &Heap> = FrozenVec::new(heap);
+    let list = &vec;
+    script.runs(heap, &mut LockedList { rt, heap, list })?;
+    let mut walk = Walk::new(true);
+    let all = vec.into_vec();
+    for item in all.iter() {
+        walk.add_item(**item);
     }
-    script.ends_with(Reply::Walk(all.len(), sum));
+    script.ends_with(walk.reply());
     drop(all);
-    script.is_freed(&heap);
+    script.is_freed(heap, 0);
     Ok(script.step)
 }
 
 #[test]
 fn a_locked_list_differed_from_a_list(rt: HostRuntime) -> Result<(), Fail> {
-    let drawn = drawn_size(&rt)?;
-    for number in 0..PLANS {
-        let plan = Plan::of(drawn, number);
-        let step = locked_list_script(&rt, rt.alloc(), plan)?;
-        assert_eq!(rt; step.got, step.wanted, "{plan:?}: {step:?}");
-    }
-    Ok(())
+    differs(
+        &rt,
+        1 << 11,
+        |plan| locked_list_script(&rt, rt.alloc(), plan),
+    )
+}
+
+fn list_beside_its_state<R: Wait>(rt: &R, alloc: Global, plan: Plan) -> Result<Step, AllocError> {
+    let budget = Budget::new(alloc);
+    let heap = &budget;
+    let (list, state) = (FrozenVec::new(heap), VecState::new(heap));
+    let mut calls = LockedList {
+        rt,
+        heap,
+        list: &list,
+    };
+    Ok(beside(&mut calls, &mut ListState { state }, plan))
 }
 
 // ---- lock-free maps
 
-/// Tries in vain to take a map apart, and then takes it apart.
-fn map_ends(script: &mut Script, heap: &Heap, map: lock_free_maps::Map<&Heap>) {
-    heap.refuse_next(1);
-    let first = map.into_tuple_vec();
-    heap.refuse_next(0);
-    let second = match first {
-        Ok(all) => Ok(all),
-        Err(failed) => failed.value.into_tuple_vec(),
-    };
-    match second {
-        Ok(all) => script.ends_with(pairs(all.as_slice(), true)),
-        Err(_) => script.ends(Reply::Flag(false), Reply::Flag(true)),
-    }
-}
-
 fn map_script<R: Wait>(rt: &R, alloc: Global, plan: Plan) -> Result<Step, AllocError> {
-    let heap = Budget::new(alloc);
+    let budget = Budget::new(alloc);
+    let heap = &budget;
     let mut script = Script::new(alloc, plan, true)?;
-    let map = LockFreeFrozenMap::with_hasher(&heap, BuildHasherDefault::new())?;
-    let mut calls = lock_free_maps::MapCalls::of(&map, LockPermit::trying(alloc));
-    script.runs(rt, &heap, &mut calls)?;
+    let map: lock_free_maps::Map<'_> = LockFreeFrozenMap::with_hasher(
+        heap,
+        BuildHasherDefault::new(),
+    )?;
+    let mut calls = lock_free_maps::MapCalls::of(rt, &map, LockPermit::trying(alloc));
+    script.runs(heap, &mut calls)?;
     drop(calls);
-    map_ends(&mut script, &heap, map);
-    script.is_freed(&heap);
+    let walked = |all: &Vec<(u64, u64), &Heap>| pairs(all.as_slice(), true);
+    comes_apart(&mut script, heap, map, |map| map.into_tuple_vec(), walked);
+    script.is_freed(heap, 0);
     Ok(script.step)
 }
 
 #[test]
 fn a_lock_free_map_differed_from_a_list(rt: HostRuntime) -> Result<(), Fail> {
-    let drawn = drawn_size(&rt)?;
-    for number in 0..PLANS {
-        let plan = Plan::of(drawn, number);
-        let step = map_script(&rt, rt.alloc(), plan)?;
-        assert_eq!(rt; step.got, step.wanted, "{plan:?}: {step:?}");
-    }
-    Ok(())
-}
-
-/// Tries in vain to take a map of shards apart, and then takes it apart.
-fn shards_end(script: &mut Script, heap: &Heap, map: lock_free_maps::Shards<&Heap>) {
-    heap.refuse_next(1);
-    let first = map.into_tuple_vec();
-    heap.refuse_next(0);
-    let second = match first {
-        Ok(all) => Ok(all),
-        Err(failed) => failed.value.into_tuple_vec(),
-    };
-    match second {
-        Ok(all) => script.ends_with(pairs(all.as_slice(), false)),
-        Err(_) => script.ends(Reply::Flag(false), Reply::Flag(true)),
-    }
-}
-
-/// Makes a lock-free map of 1, of 7 or of 64 shards.
-fn shards_of(heap: &Heap, plan: Plan) -> Result<lock_free_maps::Shards<&Heap>, AllocError> {
-    match plan.shards() {
-        0 => LockFreeShardedMap::with_shards(heap, 1, BuildHasherDefault::new()),
-        1 => LockFreeShardedMap::with_shards(heap, 7, BuildHasherDefault::new()),
-        _ => LockFreeShardedMap::with_shards(heap, 64, BuildHasherDefault::new()),
-    }
+    differs(&rt, 1 << 13, |plan| map_script(&rt, rt.alloc(), plan))
 }
 
 fn shards_script<R: Wait>(rt: &R, alloc: Global, plan: Plan) -> Result<Step, AllocError> {
-    let heap = Budget::new(alloc);
+    let budget = Budget::new(alloc);
+    let heap = &budget;
     let mut script = Script::new(alloc, plan, false)?;
-    let map = shards_of(&heap, plan)?;
-    let mut calls = lock_free_maps::ShardCalls::of(&map, LockPermit::trying(alloc))?;
-    script.runs(rt, &heap, &mut calls)?;
+    let map: lock_free_maps::Shards<'_> = LockFreeShardedMap::with_shards(
+        heap,
+        plan.shards(),
+        BuildHasherDefault::new(),
+    )?;
+    let mut calls = lock_free_maps::ShardCalls::of(rt, &map, LockPermit::trying(alloc))?;
+    script.runs(heap, &mut calls)?;
     drop(calls);
-    shards_end(&mut script, &heap, map);
-    script.is_freed(&heap);
+    let walked = |all: &Vec<(u64, u64), &Heap>| pairs(all.as_slice(), false);
+    comes_apart(&mut script, heap, map, |map| map.into_tuple_vec(), walked);
+    script.is_freed(heap, 0);
     Ok(script.step)
 }
 
 #[test]
 fn a_lock_free_map_of_shards_differed_from_a_list(rt: HostRuntime) -> Result<(), Fail> {
-    let drawn = drawn_size(&rt)?;
-    for number in 0..PLANS {
-        let plan = Plan::of(drawn, number);
-        let step = shards_script(&rt, rt.alloc(), plan)?;
-        assert_eq!(rt; step.got, step.wanted, "{plan:?}: {step:?}");
-    }
-    Ok(())
+    differs(&rt, 1 << 11, |plan| shards_script(&rt, rt.alloc(), plan))
 }
 
 // ---- locked maps
 
-/// Takes a locked map apart.
-fn ends_with_owners(
-    script: &mut Script,
-    moved: Result<Vec<(u64, Arc<u64, &Heap>), &Heap>, AllocError>,
-) {
+/// Compares the entries that came out of a locked map.
+fn ends_with(script: &mut Script, moved: Result<Vec<(u64, Arc<u64, &Heap>), &Heap>, AllocError>) {
     match moved {
         Ok(all) => script.ends_with(owners(all.as_slice())),
-        Err(_) => script.ends(Reply::Flag(false), Reply::Flag(true)),
+        Err(AllocError) => script.ends(Reply::Flag(false), Reply::Flag(true)),
     }
 }
 
 fn hashed_script<R: Wait>(rt: &R, alloc: Global, plan: Plan) -> Result<Step, AllocError> {
-    let heap = Budget::new(alloc);
+    let budget = Budget::new(alloc);
+    let heap = &budget;
     let mut script = Script::new(alloc, plan, false)?;
-    let map: locked_maps::Hashed<&Heap> = FrozenMap::new(&heap);
-    script.runs(rt, &heap, &mut locked_maps::HashedCalls { map: &map })?;
-    ends_with_owners(&mut script, map.into_tuple_vec());
-    script.is_freed(&heap);
+    let frozen: locked_maps::Hashed<'_> = FrozenMap::new(heap);
+    let map = &frozen;
+    script.runs(heap, &mut locked_maps::HashedCalls { rt, heap, map })?;
+    ends_with(&mut script, frozen.into_tuple_vec());
+    script.is_freed(heap, 0);
     Ok(script.step)
 }
 
 fn ordered_script<R: Wait>(rt: &R, alloc: Global, plan: Plan) -> Result<Step, AllocError> {
-    let heap = Budget::new(alloc);
+    let budget = Budget::new(alloc);
+    let heap = &budget;
     let mut script = Script::new(alloc, plan, false)?;
-    let map: locked_maps::Ordered<&Heap> = FrozenBTreeMap::new(&heap);
-    script.runs(rt, &heap, &mut locked_maps::OrderedCalls { map: &map })?;
-    ends_with_owners(&mut script, map.into_tuple_vec());
-    script.is_freed(&heap);
+    let frozen: locked_maps::Ordered<'_> = FrozenBTreeMap::new(heap);
+    let map = &frozen;
+    script.runs(heap, &mut locked_maps::OrderedCalls { rt, heap, map })?;
+    ends_with(&mut script, frozen.into_tuple_vec());
+    script.is_freed(heap, 0);
     Ok(script.step)
 }
 
 #[test]
 fn a_locked_map_differed_from_a_list(rt: HostRuntime) -> Result<(), Fail> {
-    let drawn = drawn_size(&rt)?;
-    for number in 0..PLANS {
-        let plan = Plan::of(drawn, number);
-        let step = hashed_script(&rt, rt.alloc(), plan)?;
-        assert_eq!(rt; step.got, step.wanted, "{plan:?}: {step:?}");
-        let step = ordered_script(&rt, rt.alloc(), plan)?;
+    differs(&rt, 1 << 11, |plan| hashed_script(&rt, rt.alloc(), plan))?;
+    differs(&rt, 1 << 11, |plan| ordered_script(&rt, rt.alloc(), plan))
+}
+
+fn hashed_beside_its_state<R: Wait>(rt: &R, alloc: Global, plan: Plan) -> Result<Step, AllocError> {
+    let budget = Budget::new(alloc);
+    let heap = &budget;
+    let (frozen, state) = (FrozenMap::new(heap), MapState::new(heap));
+    let map = &frozen;
+    let mut calls = locked_maps::HashedCalls { rt, heap, map };
+    Ok(beside(&mut calls, &mut HashedState { state }, plan))
+}
+
+fn ordered_beside_its_state<R: Wait>(
+    rt: &R,
+    alloc: Global,
+    plan: Plan,
+) -> Result<Step, AllocError> {
+    let budget = Budget::new(alloc);
+    let heap = &budget;
+    let (frozen, state) = (FrozenBTreeMap::new(heap), TreeState::new(heap));
+    let map = &frozen;
+    let mut calls = locked_maps::OrderedCalls { rt, heap, map };
+    Ok(beside(&mut calls, &mut OrderedState { state }, plan))
+}
+
+#[test]
+fn a_locked_collection_differed_from_its_state(rt: HostRuntime) -> Result<(), Fail> {
+    for number in 0..BESIDE {
+        let plan = Plan::beside(number);
+        let step = list_beside_its_state(&rt, rt.alloc(), plan)?;
+        assert_eq!(rt; step.got, step.wanted, "list, {plan:?}: {step:?}");
+        let step = hashed_beside_its_state(&rt, rt.alloc(), plan)?;
+        assert_eq!(rt; step.got, step.wanted, "hashed, {plan:?}: {step:?}");
+        let step = ordered_beside_its_state(&rt, rt.alloc(), plan)?;
         assert_eq!(rt; step.got, step.wanted, "ordered, {plan:?}: {step:?}");
+        assert!(rt;
+            step.number > plan.keys,
+            "the script of {plan:?} ended early: {step:?}"
+        );
     }
     Ok(())
 }
 
-/// Makes a locked map of 1, of 7 or of 64 shards.
-fn locked_shards_of(heap: &Heap, plan: Plan) -> Result<locked_maps::Shards<&Heap>, AllocError> {
-    match plan.shards() {
-        0 => ShardedMap::with_shards(heap, 1, BuildHasherDefault::new()),
-        1 => ShardedMap::with_shards(heap, 7, BuildHasherDefault::new()),
-        _ => ShardedMap::with_shards(heap, 64, BuildHasherDefault::new()),
-    }
-}
-
 fn locked_shards_script<R: Wait>(rt: &R, alloc: Global, plan: Plan) -> Result<Step, AllocError> {
-    let heap = Budget::new(alloc);
+    let budget = Budget::new(alloc);
+    let heap = &budget;
     let mut script = Script::new(alloc, plan, false)?;
-    let map = locked_shards_of(&heap, plan)?;
-    script.runs(rt, &heap, &mut locked_maps::ShardCalls { map: &map })?;
-    ends_with_owners(&mut script, map.into_tuple_vec());
-    script.is_freed(&heap);
+    let map: locked_maps::Shards<'_> = ShardedMap::with_shards(
+        heap,
+        plan.shards(),
+        BuildHasherDefault::new(),
+    )?;
+    script.runs(heap, &mut locked_maps::ShardCalls { rt, map: &map })?;
+    ends_with(&mut script, map.into_tuple_vec());
+    script.is_freed(heap, 0);
     Ok(script.step)
 }
 
 #[test]
 fn a_map_of_locked_shards_differed_from_a_list(rt: HostRuntime) -> Result<(), Fail> {
-    let drawn = drawn_size(&rt)?;
-    for number in 0..PLANS {
-        let plan = Plan::of(drawn, number);
-        let step = locked_shards_script(&rt, rt.alloc(), plan)?;
-        assert_eq!(rt; step.got, step.wanted, "{plan:?}: {step:?}");
-    }
-    Ok(())
+    differs(
+        &rt,
+        1 << 11,
+        |plan| locked_shards_script(&rt, rt.alloc(), plan),
+    )
 }
 
 // ---- interners
 
 fn names_script<R: Wait>(rt: &R, alloc: Global, plan: Plan) -> Result<Step, AllocError> {
-    let heap = Budget::new(alloc);
+    let budget = Budget::new(alloc);
+    let heap = &budget;
     let mut script = Script::new(alloc, plan, true)?;
-    let names = SharedInterner::with_hasher(&heap, BuildHasherDefault::new())?;
-    let mut calls = interners::NameCalls::of(&names, LockPermit::trying(alloc));
-    script.runs(rt, &heap, &mut calls)?;
+    let names: interners::Names<'_> = SharedInterner::with_hasher(heap, BuildHasherDefault::new())?;
+    let mut calls = interners::NameCalls::of(rt, &names, LockPermit::trying(alloc));
+    script.runs(heap, &mut calls)?;
     drop(calls);
     drop(names);
-    script.is_freed(&heap);
+    script.is_freed(heap, 0);
     Ok(script.step)
 }
 
 #[test]
 fn an_interner_differed_from_a_list(rt: HostRuntime) -> Result<(), Fail> {
-    let drawn = drawn_size(&rt)?;
-    for number in 0..PLANS {
-        let plan = Plan::of(drawn, number);
-        let step = names_script(&rt, rt.alloc(), plan)?;
-        assert_eq!(rt; step.got, step.wanted, "{plan:?}: {step:?}");
-    }
-    Ok(())
-}
-
-/// Makes an interner of 1, of 7 or of 64 shards.
-fn sharded_names(heap: &Heap, plan: Plan) -> Result<interners::Shards<&Heap>, AllocError> {
-    match plan.shards() {
-        0 => ShardedInterner::with_shards(heap, 1, BuildHasherDefault::new()),
-        1 => ShardedInterner::with_shards(heap, 7, BuildHasherDefault::new()),
-        _ => ShardedInterner::with_shards(heap, 64, BuildHasherDefault::new()),
-    }
+    differs(&rt, 1 << 11, |plan| names_script(&rt, rt.alloc(), plan))
 }
 
 fn sharded_names_script<R: Wait>(rt: &R, alloc: Global, plan: Plan) -> Result<Step, AllocError> {
-    let heap = Budget::new(alloc);
+    let budget = Budget::new(alloc);
+    let heap = &budget;
     let mut script = Script::new(alloc, plan, true)?;
-    let names = sharded_names(&heap, plan)?;
-    let mut calls = interners::ShardCalls::of(
-        &names,
-        LockPermit::trying(alloc),
-        plan.shards() == 0,
+    let names: interners::Shards<'_> = ShardedInterner::with_shards(
+        heap,
+        plan.shards(),
+        BuildHasherDefault::new(),
     )?;
-    script.runs(rt, &heap, &mut calls)?;
+    let (may, is_one) = (LockPermit::trying(alloc), plan.shards() == 1);
+    let mut calls = interners::ShardCalls::of(rt, &names, may, is_one)?;
+    script.runs(heap, &mut calls)?;
     drop(calls);
     drop(names);
-    script.is_freed(&heap);
+    script.is_freed(heap, 0);
     Ok(script.step)
 }
 
 #[test]
 fn an_interner_of_shards_differed_from_a_list(rt: HostRuntime) -> Result<(), Fail> {
-    let drawn = drawn_size(&rt)?;
-    for number in 0..PLANS {
-        let plan = Plan::of(drawn, number);
-        let step = sharded_names_script(&rt, rt.alloc(), plan)?;
-        assert_eq!(rt; step.got, step.wanted, "{plan:?}: {step:?}");
-    }
-    Ok(())
+    differs(
+        &rt,
+        1 << 11,
+        |plan| sharded_names_script(&rt, rt.alloc(), plan),
+    )
 }

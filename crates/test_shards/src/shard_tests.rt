@@ -1,80 +1,81 @@
-ghost use Rattle.std.specs.Prelude.{◌<◌};
-
-use elsa::sync::ShardedMap;
-use std::alloc::{AllocError, Global};
+//! The maps of shards: every shard is used and counted, and a key is found in the shard into which
+//! it was inserted, by any query and any thread. And texts that are inserted as such.
+use bumpalo::Bump;
+use elsa::sync::{FrozenMap, LockFreeFrozenMap, LockFreeShardedMap, ShardedMap};
+use std::alloc::Global;
 use std::hash::{BuildHasherDefault, FoldHasher};
 use std::sync::Wait;
 use std::test::Fail;
 use std::thread;
+use test_alloc::Budget;
 
+/// The number of keys that are spread over the shards.
 const MANY: u64 = 4000;
 
-type Numbers<A = Global> = ShardedMap<u64, u64, BuildHasherDefault<FoldHasher>, A>;
+type State = BuildHasherDefault<FoldHasher>;
 
-fn with_shards(alloc: Global, count: usize) -> Result<Numbers, AllocError>
-    requires { 0 < count }
-{
-    ShardedMap::with_shards(alloc, count, BuildHasherDefault::new())
-}
+type Locked<A = Global> = ShardedMap<u64, u64, State, A>;
 
-// Makes a map of seven shards for each key below 100, with that key alone. Returns the number of
-// maps that have the length 1 and aren't empty.
-fn counted_alone(rt: &impl Wait, alloc: Global) -> Result<u64, AllocError> {
-    let mut right = 0u64;
-    for key in 0..100u64 {
-        let map = with_shards(alloc, 7)?;
-        map.insert(rt, key, key)?;
-        if map.len(rt) == 1 && !map.is_empty(rt) {
-            right = right.wrapping_add(1);
-        }
-    }
-    Ok(right)
-}
+type LockFree<A = Global> = LockFreeShardedMap<u64, u64, State, A>;
 
 #[test]
 fn a_shard_was_not_counted(rt: HostRuntime) -> Result<(), Fail> {
-    assert_eq!(rt; counted_alone(&rt, rt.alloc())?, 100);
+    for key in 0..100 {
+        let map: Locked = ShardedMap::with_shards(rt.alloc(), 7, BuildHasherDefault::new())?;
+        assert_eq!(rt; (map.len(&rt), map.is_empty(&rt)), (0, true));
+        map.insert(&rt, key, key)?;
+        assert_eq!(rt; (map.len(&rt), map.is_empty(&rt)), (1, false), "{key}");
+    }
+    // The length is the sum over all shards.
+    let map: Locked = ShardedMap::with_shards(rt.alloc(), 64, BuildHasherDefault::new())?;
+    for key in 0..MANY {
+        assert_eq!(rt; map.len(&rt) as u64, key);
+        map.insert(&rt, key, key)?;
+    }
     Ok(())
 }
 
-// Returns the number of shards of a map to which some key below `MANY` belongs.
-fn shards_used(alloc: Global, count: usize) -> Result<usize, AllocError>
-    requires { 0 < count }
-{
-    let map = with_shards(alloc, count)?;
-    let mut is_used = [false; 64];
-    for key in 0..MANY {
-        if let Some(shard) = is_used.get_mut(map.shard_index(&key)) {
-            *shard = true;
-        }
-    }
-    let mut used = 0usize;
-    for shard in is_used {
-        if shard {
-            used = used.wrapping_add(1);
-        }
-    }
-    Ok(used)
-}
-
 #[test]
-fn a_locked_shard_was_not_used(rt: HostRuntime) -> Result<(), Fail> {
-    for count in [1_usize, 7, 64] {
-        assert_eq!(rt; shards_used(rt.alloc(), count)?, count);
-        let map = with_shards(rt.alloc(), count)?;
-        assert_eq!(rt; map.shard_count(), count);
+fn a_shard_was_not_used(rt: HostRuntime) -> Result<(), Fail> {
+    for count in [1, 7, 64] {
+        let map: Locked = ShardedMap::with_shards(rt.alloc(), count, BuildHasherDefault::new())?;
+        let mut is_used = [false; 64];
+        for key in 0..MANY {
+            is_used[map.shard_index(&key)] = true;
+        }
+        let used = is_used.iter().filter(|it| **it).count();
+        assert_eq!(rt; (map.shard_count(), used), (count, count));
+
+        let map: LockFree = LockFreeShardedMap::with_shards(
+            rt.alloc(),
+            count,
+            BuildHasherDefault::new(),
+        )?;
+        let mut handle = map.handle()?;
+        for key in 0..MANY {
+            handle.insert(&rt, key, key)?;
+        }
+        let used = handle
+            .shards()
+            .iter()
+            .filter(|shard| shard.seen_len() > 0)
+            .count();
+        assert_eq!(rt;
+            (map.shards().len(), handle.shards().len(), used),
+            (count, count, count)
+        );
+        assert_eq!(rt; map.handle()?.seen_len(), 0);
     }
     Ok(())
 }
 
 // Inserts the same keys as other threads do, each with a value of this thread's own. Returns the
 // sum of the values that the keys have.
-fn sum_of_values(rt: &impl Wait, map: &Numbers, thread: usize) -> u64 {
-    let mut sum = 0u64;
+fn sum_of_values(rt: &impl Wait, map: &Locked, thread: usize) -> u64 {
+    let mut sum = 0;
     for key in 0..MANY {
-        let own = key.wrapping_mul(8).wrapping_add(thread as u64);
-        if let Ok(value) = map.get_copy_or_insert(rt, key, own) {
-            sum = sum.wrapping_add(value);
+        if let Ok(value) = map.get_copy_or_insert(rt, key, key * 8 + thread as u64) {
+            sum += value;
         }
     }
     sum
@@ -82,31 +83,85 @@ fn sum_of_values(rt: &impl Wait, map: &Numbers, thread: usize) -> u64 {
 
 #[test]
 fn two_threads_found_different_values_of_a_key(rt: HostRuntime) -> Result<(), Fail> {
-    let map: Numbers = ShardedMap::new(rt.alloc())?;
+    let map: Locked = ShardedMap::new(rt.alloc())?;
     let sums = thread::map_indices(&rt, rt.alloc(), 4, &|at| sum_of_values(&rt, &map, at))?;
     let values = sum_of_values(&rt, &map, 4);
-    let mut same = map.len(&rt) == MANY as usize;
-    for sum in &sums {
-        same = same && *sum == values;
-    }
-    assert!(rt; same);
+    assert_eq!(rt; sums.as_slice(), [values; 4].as_slice());
+    assert_eq!(rt; map.len(&rt) as u64, MANY);
     Ok(())
-}
-
-type Texts = ShardedMap<String, u64>;
-
-// Returns whether a text finds the key that was inserted as a `String`, and its first value stays.
-fn finds_a_text(rt: &impl Wait, alloc: Global, map: &Texts) -> Result<bool, AllocError> {
-    let own = *map.insert(rt, String::from_str(alloc, "one")?, 1)? == 1;
-    let kept = *map.insert_with(rt, String::from_str(alloc, "one")?, || 2)? == 1;
-    let absent = map.get(rt, "on")?.is_none() && map.get_copy(rt, "one!").is_none();
-    let called = map.map_get(rt, "one", |value| *value) == Some(1);
-    Ok(own && kept && absent && called && map.shard_index("one") < 64 && map.len(rt) == 1)
 }
 
 #[test]
 fn a_text_was_not_found_in_the_shard_of_its_string(rt: HostRuntime) -> Result<(), Fail> {
-    let map: Texts = ShardedMap::new(rt.alloc())?;
-    assert!(rt; finds_a_text(&rt, rt.alloc(), &map)?);
+    let text = |text: &str| String::from_str(rt.alloc(), text);
+    let map: ShardedMap<String, u64> = ShardedMap::new(rt.alloc())?;
+    assert_eq!(rt; *map.insert(&rt, text("one")?, 1)?, 1);
+    assert_eq!(rt; *map.insert_with(&rt, text("one")?, || 2)?, 1);
+    assert!(rt; map.get(&rt, "on")?.is_none());
+    assert_eq!(rt; (map.get_copy(&rt, "one!"), map.len(&rt)), (None, 1));
+    assert_eq!(rt; map.map_get(&rt, "one", |value| *value), Some(1));
+    assert!(rt; map.shard_index("one") < 64);
+
+    let map: LockFreeShardedMap<String, String> = LockFreeShardedMap::new(rt.alloc())?;
+    let mut handle = map.handle()?;
+    for value in ["first", "second"] {
+        let done = handle.insert_ref(&rt, text("one")?, text(value)?)?;
+        assert_eq!(rt; done.value.as_str(), "first");
+    }
+    let third = text("third")?;
+    let made = handle.get_or_insert_with(&rt, text("one")?, || third)?;
+    assert_eq!(rt; (made.is_new, made.value.as_str()), (false, "first"));
+    let found = handle.get_ref("one").ok_or("not found")?;
+    assert_eq!(rt;
+        (found.as_str(), handle.contains_key("one")),
+        ("first", true)
+    );
+    assert!(rt; handle.get_ref("on").is_none());
+    assert!(rt; !handle.contains_key("one!"));
+    assert!(rt; handle.shard_index("one") < 64);
+    Ok(())
+}
+
+#[test]
+fn a_handle_lacks_what_another_had_observed(rt: HostRuntime) -> Result<(), Fail> {
+    for count in [1, 7, 64] {
+        let map: LockFree = LockFreeShardedMap::with_shards(
+            rt.alloc(),
+            count,
+            BuildHasherDefault::new(),
+        )?;
+        let (mut one, mut two) = (map.handle()?, map.handle()?);
+        for key in 0..2 {
+            one.insert(&rt, key, key)?;
+        }
+        for key in 2..4 {
+            two.insert(&rt, key, key)?;
+        }
+        assert_eq!(rt; one.seen_len(), 2, "{count} shards");
+        one.meet(&mut two);
+        assert_eq!(rt; (one.seen_len(), two.seen_len()), (4, 4), "{count} shards");
+    }
+    Ok(())
+}
+
+#[test]
+fn a_present_text_took_memory(rt: HostRuntime) -> Result<(), Fail> {
+    let heap = Budget::new(rt.alloc());
+    let map: FrozenMap<String<&Budget<_>>, u64, State, &Budget<_>> = FrozenMap::new(&heap);
+    let arena = Bump::new(&heap);
+    let shared: LockFreeFrozenMap<&str, u64> = LockFreeFrozenMap::new(rt.alloc())?;
+    let mut handle = shared.handle();
+    for (text, value, wanted) in [("one", 1, 1), ("two", 2, 2), ("one", 3, 1), ("two", 4, 2)] {
+        let (asked, room) = (heap.asked(), arena.chunk_capacity());
+        assert_eq!(rt; handle.insert_text(&rt, &arena, text, value)?.value, wanted);
+        assert_eq!(rt; *map.insert_text(&rt, text, value)?, wanted);
+        if value > 2 {
+            assert_eq!(rt;
+                (heap.asked(), arena.chunk_capacity()),
+                (asked, room),
+                "{text}"
+            );
+        }
+    }
     Ok(())
 }

@@ -1,12 +1,11 @@
 //! The number of times that an interner hashes a name: once when it is looked up, and once for each
 //! hash index into which it is entered. No clause counts hashes, so only these tests notice a hash
 //! index that is rebuilt.
-ghost use Rattle.std.specs.Prelude.{◌≡◌, [], nat_eq, refl};
+ghost use Rattle.std.specs.Prelude.{[], nat_eq, refl};
 ghost use Rattle.std.specs.Cmp.{nat_eq_equiv, on_equiv, partial_equiv_from_equiv};
 
-use elsa_shared_interner::shared::{NamePass, SharedInterner};
+use elsa_shared_interner::shared::SharedInterner;
 use std::hash::{Hash, Hasher};
-use std::sync::Wait;
 use std::sync::atomic::{AtomicU64, Ordering};
 use std::test::*;
 
@@ -44,79 +43,36 @@ impl Hash for Counted<'_> {
     }
 }
 
-type Interner<'c> = SharedInterner<Counted<'c>>;
-
-type Names<'c> = NamePass<Counted<'c>>;
-
-/// Puts the numbers below [`NAMES`], and returns whether each is at itself as the index.
-fn put_all<'c, R: Wait>(
-    rt: &R,
-    interner: &Interner<'c>,
-    names: &mut Names<'c>,
-    hashes: &'c AtomicU64,
-) -> bool
-    requires { names.old.vector ≡ interner.now }
-    ensures { names.new.vector ≡ names.old.vector }
-{
-    for number in 0..NAMES {
-        if interner.put(rt, names, Counted { number, hashes }) != Ok(number as usize) {
-            return false;
+/// Two views put or find all names and are then merged, and a third one is new. A view that entered
+/// all names again to find one would make [`NAMES`] hashes.
+#[test]
+fn a_view_entered_all_names_again(rt: HostRuntime) -> Result<(), Fail> {
+    let counter = AtomicU64::new(0);
+    let name = |number: u64| Counted {
+        number,
+        hashes: &counter,
+    };
+    let interner: SharedInterner<Counted<'_>> = SharedInterner::new(rt.alloc())?;
+    let (mut one, mut other) = (interner.pass(), interner.pass());
+    for names in [&mut one, &mut other] {
+        for number in 0..NAMES {
+            assert_eq!(rt; interner.put(&rt, names, name(number))? as u64, number);
         }
     }
-    true
-}
-
-/// Returns whether the last name is found by few hashes. A view that entered all names again would
-/// make [`NAMES`] hashes.
-fn finds_the_last<'c, R: Wait>(
-    rt: &R,
-    interner: &Interner<'c>,
-    names: &mut Names<'c>,
-    hashes: &'c AtomicU64,
-) -> bool
-    requires { names.old.vector ≡ interner.now }
-    ensures { names.new.vector ≡ names.old.vector }
-{
-    let number = NAMES - 1;
-    let before = hashes.load(Ordering::SeqCst);
-    let index = interner.put(rt, names, Counted { number, hashes });
-    let after = hashes.load(Ordering::SeqCst);
-    index == Ok(number as usize) && after.wrapping_sub(before) < 8
-}
-
-/// Returns whether a view finds the last name that it put by few hashes, and a new view does too.
-fn keeps_the_index<'c, R: Wait>(rt: &R, interner: &Interner<'c>, hashes: &'c AtomicU64) -> bool {
-    let mut names = interner.pass();
-    put_all(rt, interner, &mut names, hashes)
-        && finds_the_last(rt, interner, &mut names, hashes)
-        && finds_the_last(rt, interner, &mut interner.pass(), hashes)
-}
-
-#[test]
-fn a_new_pass_finds_a_name_by_few_hashes(rt: HostRuntime) -> Result<(), Fail> {
-    let hashes = AtomicU64::new(0);
-    let interner = Interner::new(rt.alloc())?;
-    assert!(rt; keeps_the_index(&rt, &interner, &hashes));
-    Ok(())
-}
-
-/// Returns whether two views that put or found all names, and were then merged, find the last name
-/// by few hashes.
-fn keep_the_index<'c, R: Wait>(rt: &R, interner: &Interner<'c>, hashes: &'c AtomicU64) -> bool {
-    let mut one = interner.pass();
-    let mut other = interner.pass();
-    let put = put_all(rt, interner, &mut one, hashes);
-    let found = put_all(rt, interner, &mut other, hashes);
-    one.meet(&mut other);
-    put && found
-        && finds_the_last(rt, interner, &mut one, hashes)
-        && finds_the_last(rt, interner, &mut other, hashes)
-}
-
-#[test]
-fn passes_that_met_find_a_name_by_few_hashes(rt: HostRuntime) -> Result<(), Fail> {
-    let hashes = AtomicU64::new(0);
-    let interner = Interner::new(rt.alloc())?;
-    assert!(rt; keep_the_index(&rt, &interner, &hashes));
+    for is_merged in [false, true] {
+        if is_merged {
+            one.meet(&mut other);
+        }
+        for names in [&mut one, &mut other, &mut interner.pass()] {
+            let before = counter.load(Ordering::SeqCst);
+            let got = interner.put(&rt, names, name(NAMES - 1))? as u64;
+            assert_eq!(rt; got, NAMES - 1);
+            let count = counter.load(Ordering::SeqCst) - before;
+            assert!(rt;
+                0 < count && count < 8,
+                "{count} hashes, merged: {is_merged}"
+            );
+        }
+    }
     Ok(())
 }

@@ -1,88 +1,67 @@
-//! Two views of a shared interner.
-ghost use Rattle.std.specs.Prelude.{◌≡◌};
-ghost use Rattle.elsa_lock_free.specs.Distinct.{AgreeOnIndices};
-ghost use Rattle.elsa_lock_free.specs.SharedList.{items_of};
-
-use elsa_shared_interner::name::Name;
-use elsa_shared_interner::shared::{NamePass, SharedInterner};
-use std::alloc::Allocator;
-use std::hash::{BuildHasherDefault, FoldHasher};
-use std::sync::Wait;
+//! Names as values, and views of a shared interner of names.
+use elsa_shared_interner::name::{Name, NameFault};
+use elsa_shared_interner::shared::SharedInterner;
 use std::test::*;
 
-type Names<A> = NamePass<Name, BuildHasherDefault<FoldHasher>, A>;
-
-type Interner<A> = SharedInterner<Name, BuildHasherDefault<FoldHasher>, A>;
-
-/// Returns the number of a name, or `None` if an allocation fails.
-fn put<R: Wait, A: Allocator + Copy>(
-    rt: &R,
-    interner: &Interner<A>,
-    names: &mut Names<A>,
-    text: &str,
-) -> Option<usize>
-    requires { names.old.vector ≡ interner.now }
-    ensures { names.new.vector ≡ names.old.vector }
-{
-    let name = Name::new(text).ok()?;
-    interner.put(rt, names, name).ok()
-}
-
-/// Returns whether the name with the number `index` is the text.
-fn has<A: Allocator + Copy>(
-    interner: &Interner<A>,
-    names: &mut Names<A>,
-    index: usize,
-    text: &str,
-) -> bool
-    requires { names.old.vector ≡ interner.now }
-    ensures { names.new.vector ≡ names.old.vector }
-{
-    match interner.at(names, index) {
-        Some(name) => name.as_str() == text,
-        None => false,
-    }
-}
-
-/// Returns the numbers of names that two views of an interner have observed. Each name has the same
-/// number in both, by contract.
-fn agree(one: &NamePass, other: &NamePass) -> (usize, usize)
-    requires { one.now.vector ≡ other.now.vector }
-    ensures { AgreeOnIndices ⟦<Name as PartialEq>⟧.eq (items_of one.now.seen)
-        (items_of other.now.seen) }
-{
-    one.one_to_one();
-    one.same_name_same_index(other);
-    (one.seen_len(), other.seen_len())
-}
-
 #[test]
-fn passes_that_never_met_agree_on_what_both_have_seen(rt: HostRuntime) -> Result<(), Fail> {
-    let interner = SharedInterner::<Name>::new(rt.alloc())?;
-    let mut one = interner.pass();
-    let other = interner.pass();
-    let index = put(&rt, &interner, &mut one, "a");
-    assert!(rt; index == Some(0) && agree(&one, &other) == (1, 0));
+fn a_text_of_up_to_23_bytes_was_no_name(rt: HostRuntime) -> Result<(), Fail> {
+    for text in ["", "a", "aaaaaaaaaaaaaaaaaaaaaaa", "ééééééééééé", "a\0"] {
+        let name = Name::new(text);
+        assert_eq!(rt; name.map(|name| name.as_str() == text), Ok(true), "{text}");
+    }
+    for text in ["aaaaaaaaaaaaaaaaaaaaaaaa", "éééééééééééé"] {
+        let got = Name::new(text).map(|_| ());
+        assert_eq!(rt; got, Err(NameFault::TooLong), "{text}");
+    }
     Ok(())
 }
 
-/// Returns the number of names that a second view of the first one's has observed, and whether it
-/// reads the first name and adds a third, of which the first view then knows nothing.
-fn sees_the_same<R: Wait>(rt: &R, interner: &SharedInterner) -> (usize, bool) {
-    let mut one = interner.pass();
-    let is_put = put(rt, interner, &mut one, "a") == Some(0)
-        && put(rt, interner, &mut one, "b") == Some(1);
-    let mut two = one.again();
-    let seen = two.seen_len();
-    let is_read = has(interner, &mut two, 0, "a")
-        && put(rt, interner, &mut two, "c") == Some(2)
-        && one.seen_len() == 2;
-    (seen, is_put && is_read)
+#[test]
+fn names_compared_otherwise_than_their_texts(rt: HostRuntime) -> Result<(), Fail> {
+    let texts = ["", "a", "a\0", "ab", "b", "é", "aaaaaaaaaaaaaaaaaaaaaaa"];
+    for one in texts {
+        for other in texts {
+            let (name, second) = (Name::new(one)?, Name::new(other)?);
+            let got = (one, other, name.cmp(&second));
+            assert_eq!(rt; got, (one, other, one.cmp(other)));
+            assert_eq!(rt; (one, other, name == second), (one, other, one == other));
+        }
+    }
+    Ok(())
+}
+
+/// Each name has the same number in both views, by contract.
+#[test]
+fn views_that_were_not_merged_had_different_numbers(rt: HostRuntime) -> Result<(), Fail> {
+    let interner = SharedInterner::<Name>::new(rt.alloc())?;
+    let (mut one, mut other) = (interner.pass(), interner.pass());
+    assert_eq!(rt; interner.put(&rt, &mut one, Name::new("a")?), Ok(0));
+    one.one_to_one();
+    one.same_name_same_index(&other);
+    assert_eq!(rt; (one.seen_len(), other.seen_len()), (1, 0));
+    for (text, number) in [("b", 1), ("a", 0), ("b", 1)] {
+        let got = interner.put(&rt, &mut other, Name::new(text)?);
+        assert_eq!(rt; got, Ok(number), "{text}");
+        let got = interner.put(&rt, &mut one, Name::new(text)?);
+        assert_eq!(rt; got, Ok(number), "{text}");
+        let name = interner.at(&mut one, number);
+        let got = name.map(|name| name.as_str() == text);
+        assert_eq!(rt; got, Some(true), "{text}");
+    }
+    Ok(())
 }
 
 #[test]
 fn a_second_view_of_an_interner_lost_names(rt: HostRuntime) -> Result<(), Fail> {
     let interner = SharedInterner::<Name>::new(rt.alloc())?;
-    assert_eq!(rt; sees_the_same(&rt, &interner), (2, true));
+    let mut one = interner.pass();
+    assert_eq!(rt; interner.put(&rt, &mut one, Name::new("a")?), Ok(0));
+    assert_eq!(rt; interner.put(&rt, &mut one, Name::new("b")?), Ok(1));
+    let mut two = one.again();
+    assert_eq!(rt; two.seen_len(), 2);
+    let name = interner.at(&mut two, 0);
+    assert_eq!(rt; name.map(|name| name.as_str() == "a"), Some(true));
+    assert_eq!(rt; interner.put(&rt, &mut two, Name::new("c")?), Ok(2));
+    assert_eq!(rt; (one.seen_len(), two.seen_len()), (2, 3));
     Ok(())
 }

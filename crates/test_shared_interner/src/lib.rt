@@ -1,15 +1,11 @@
-//! Tests of names and of the shared interner, used as by any other crate: examples, threads that
-//! overlap, and allocation failures.
+//! Tests of names and of the shared interner, used as by any other crate: worked cases, threads
+//! that overlap, and allocation failures.
 #![tactic(auto)]
 
 #[cfg(test)]
 mod hash_tests;
 #[cfg(test)]
 mod interner_tests;
-#[cfg(test)]
-mod large_tests;
-#[cfg(test)]
-mod name_tests;
 #[cfg(test)]
 mod push_at_tests;
 #[cfg(test)]

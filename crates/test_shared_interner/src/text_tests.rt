@@ -1,15 +1,15 @@
 //! Texts of any length in the shared interner: stored only if they are new, with each request
 //! denied in turn, and put by two threads.
-ghost use Rattle.std.specs.Prelude.{◌≡◌, IfOk};
-
+use crate::thread_tests::meet_all;
 use bumpalo::Bump;
 use elsa_lock_free_map::place_text::{PlaceText, TextBuffer};
 use elsa_shared_interner::handle::NameHandle;
 use elsa_shared_interner::shared::SharedInterner;
 use std::alloc::{AllocError, Allocator, Global};
 use std::hash::{BuildHasherDefault, FoldHasher};
+use std::process::Abort;
 use std::sync::Wait;
-use std::sync::atomic::{AtomicU64, Ordering};
+use std::sync::atomic::AtomicU64;
 use std::test::*;
 use std::thread;
 use test_alloc::Budget;
@@ -19,44 +19,46 @@ type Texts<'a, A> = SharedInterner<&'a str, BuildHasherDefault<FoldHasher>, A>;
 
 type TextHandle<'i, 'a, A> = NameHandle<'i, &'a str, BuildHasherDefault<FoldHasher>, A>;
 
-/// Puts a text twice. Both puts return one number, by contract.
-fn twice<'a, R: Wait>(
-    rt: &R,
-    names: &mut NameHandle<'_, &'a str>,
-    arena: &'a Bump,
-    text: &str,
-) -> Result<(usize, usize), AllocError>
-    ensures same { names.new.vector ≡ names.old.vector }
-    ensures one_index { IfOk result (λ r. r.0 ≡ r.1) }
-{
-    let first = names.put_text(rt, arena, text)?;
-    let second = names.put_text(rt, arena, text)?;
-    Ok((first, second))
-}
-
-/// Returns whether a text that another handle put is read, and nothing is stored for it.
-fn reads_the_other<'a, R: Wait>(
-    rt: &R,
-    alloc: Global,
-    one: &'a Bump,
-    two: &'a Bump,
-) -> Result<bool, AllocError> {
-    let interner: SharedInterner<&'a str> = SharedInterner::new(alloc)?;
-    let mut p = interner.handle();
-    let mut q = interner.handle();
-    let first = twice(rt, &mut p, one, "a text of no use at all")? == (0, 0)
-        && twice(rt, &mut p, one, "")? == (1, 1);
-    let second = twice(rt, &mut q, two, "")? == (1, 1)
-        && twice(rt, &mut q, two, "a text of no use at all")? == (0, 0);
-    let nothing_placed = two.allocated_bytes() == 0;
-    Ok(first && second && nothing_placed && q.at(1) == Some(""))
-}
-
 #[test]
-fn a_text_that_another_handle_put_is_read_and_not_placed(rt: HostRuntime) -> Result<(), Fail> {
-    let one = Bump::new(rt.alloc());
-    let two = Bump::new(rt.alloc());
-    assert!(rt; reads_the_other(&rt, rt.alloc(), &one, &two)?);
+fn a_text_that_another_handle_put_was_stored_again(rt: HostRuntime) -> Result<(), Fail> {
+    let (one, two) = (Bump::new(rt.alloc()), Bump::new(rt.alloc()));
+    let interner: SharedInterner<&str> = SharedInterner::new(rt.alloc())?;
+    let (mut first, mut second) = (interner.handle(), interner.handle());
+    for (text, number) in [("a text of no use at all", 0), ("", 1)] {
+        for _ in 0..2 {
+            assert_eq!(rt; first.put_text(&rt, &one, text), Ok(number), "{text}");
+            assert_eq!(rt; second.put_text(&rt, &two, text), Ok(number), "{text}");
+        }
+        let got = (second.at(number), second.find(text));
+        assert_eq!(rt; got, (Some(text), Some(number)));
+    }
+    assert_eq!(rt; two.allocated_bytes(), 0);
+    Ok(())
+}
+
+/// Makes a text of 2,000 bytes that ends with `end`.
+fn long(alloc: Global, end: &str) -> Result<String, AllocError> {
+    let mut text = String::new(alloc);
+    for _ in end.len()..2000 {
+        text.push_str("x")?;
+    }
+    text.push_str(end)?;
+    Ok(text)
+}
+
+/// One is stored in an arena, and the other in a buffer.
+#[test]
+fn a_text_of_thousands_of_bytes_was_not_stored(rt: HostRuntime) -> Result<(), Fail> {
+    let (arena, mut bytes) = (Bump::new(rt.alloc()), [0; 2000]);
+    let (fox, owl) = (long(rt.alloc(), "fox")?, long(rt.alloc(), "owl")?);
+    let mut buffer = TextBuffer::new(&mut bytes);
+    let interner: SharedInterner<&str> = SharedInterner::new(rt.alloc())?;
+    let mut names = interner.handle();
+    assert_eq!(rt; names.put_text(&rt, &arena, fox.as_str()), Ok(0));
+    assert_eq!(rt; names.put_text(&rt, &mut buffer, owl.as_str()), Ok(1));
+    assert_eq!(rt; names.find(owl.as_str()), Some(1));
+    let got = (names.at(0), names.at(1));
+    assert_eq!(rt; got, (Some(fox.as_str()), Some(owl.as_str())));
     Ok(())
 }
 
@@ -81,12 +83,8 @@ fn put_short<'a, R: Wait, A: Allocator + Copy>(
     word: &str,
 ) -> Result<usize, AllocError> {
     let mut bytes = [0; 8];
-    let len = word.len().min(8);
-    bytes[..len].copy_from_slice(word.as_bytes().get(..len).unwrap_or_default());
-    let Ok(text) = str::from_utf8(&bytes[..len]) else {
-        return Err(AllocError);
-    };
-    names.put_text(rt, arena, text)
+    bytes.copy_from_slice(word.as_bytes());
+    names.put_text(rt, arena, str::from_utf8(&bytes).unwrap_or(""))
 }
 
 impl<'i, 'a, R: Wait, A: Allocator + Copy> Script for Words<'i, 'a, R, A> {
@@ -105,17 +103,8 @@ impl<'i, 'a, R: Wait, A: Allocator + Copy> Script for Words<'i, 'a, R, A> {
     fn holds(&self, number: usize) -> bool {
         let count = number.div_ceil(2);
         let mut fresh = self.interner.handle();
-        for index in 0..16usize {
-            let expected = if index < count {
-                Some(WORDS[index])
-            } else {
-                None
-            };
-            if fresh.at(index) != expected {
-                return false;
-            }
-        }
-        true
+        let mut has = |index: usize| fresh.at(index) == Some(WORDS[index]);
+        (0..16).all(|index| has(index) == (index < count)) && fresh.len() == count
     }
 }
 
@@ -158,93 +147,63 @@ impl<'r, R: Wait> Family for Interners<'r, R> {
 }
 
 #[test]
-fn a_refused_request_or_placing_puts_no_text(rt: HostRuntime) -> Result<(), Fail> {
+fn a_refused_text_was_put(rt: HostRuntime) -> Result<(), Fail> {
     let refused = refuse_each_in_turn(rt.alloc(), &Interners { rt: &rt })?;
-    assert!(rt; refused.requests >= 4 && refused.placings == 16);
+    assert!(rt;
+        refused.requests >= 4 && refused.placings == 16,
+        "{refused:?}"
+    );
     Ok(())
 }
 
-/// Puts the words in one thread and reads them back. Returns their numbers, or `None` if a result
-/// was wrong.
-fn numbers<'a, R: Wait>(
+/// Puts the words from `first` on, reads them back, and returns their numbers, or `None` if a call
+/// failed.
+fn numbers<'a, R: Wait + Abort>(
     rt: &R,
     interner: &SharedInterner<&'a str>,
     there: &AtomicU64,
     mut buffer: TextBuffer<'a>,
     first: usize,
 ) -> Option<[usize; 16]> {
-    let mut names = interner.handle();
-    let mut numbers = [99; 16];
-    let _ = there.fetch_add(1, Ordering::SeqCst);
-    for _ in 0..10_000_000u64 {
-        if there.load(Ordering::SeqCst) >= 2 {
-            break;
-        }
-        thread::yield_now();
-    }
-    for i in 0..16usize {
-        let index = (first.wrapping_add(i)) % 16;
-        let word = WORDS[index];
-        let put = names.put_text(rt, &mut buffer, word);
-        let Ok(number) = put else {
-            return None;
-        };
-        if names.at(number) != Some(word) {
-            return None;
-        }
+    let (mut names, mut numbers) = (interner.handle(), [99; 16]);
+    assert!(rt; meet_all(there, 2));
+    for i in 0..16 {
+        let index = (first + i) % 16;
+        let number = names.put_text(rt, &mut buffer, WORDS[index]).ok()?;
+        assert_eq!(rt; names.at(number), Some(WORDS[index]));
         numbers[index] = number;
     }
     Some(numbers)
 }
 
-/// Returns whether two threads, each with its own buffer, get one number for each word.
-fn two_threads_agree<'a, R: thread::Threads + Wait + Sync>(
-    rt: &R,
-    alloc: Global,
-    one: TextBuffer<'a>,
-    two: TextBuffer<'a>,
-) -> Result<bool, AllocError> {
-    let interner: SharedInterner<&'a str> = SharedInterner::new(alloc)?;
-    let there = AtomicU64::new(0);
-    let shared = &interner;
-    let met = &there;
-    let (first, second) = thread::join(
-        rt,
-        || numbers(rt, shared, met, one, 0),
-        || numbers(rt, shared, met, two, 8),
-    );
-    Ok(first.is_some() && first == second)
-}
-
 #[test]
-fn threads_with_buffers_of_their_own_have_one_number_for_a_text(
+fn threads_with_buffers_of_their_own_had_two_numbers_for_a_text(
     rt: HostRuntime,
 ) -> Result<(), Fail> {
-    let mut one = [0; 128];
-    let mut two = [0; 128];
-    assert!(rt;
-        two_threads_agree(
-            &rt,
-            rt.alloc(),
-            TextBuffer::new(&mut one),
-            TextBuffer::new(&mut two)
-        )?
+    let (mut one, mut two, handle) = ([0; 128], [0; 128], &rt);
+    let (one, two) = (TextBuffer::new(&mut one), TextBuffer::new(&mut two));
+    let interner: SharedInterner<&str> = SharedInterner::new(rt.alloc())?;
+    let there = AtomicU64::new(0);
+    let (first, second) = thread::join(
+        handle,
+        || numbers(handle, &interner, &there, one, 0),
+        || numbers(handle, &interner, &there, two, 8),
     );
+    assert!(rt; first.is_some());
+    assert_eq!(rt; first, second);
     Ok(())
 }
 
-/// Fills a buffer of eight bytes with a text of five, one of four that doesn't fit, and one of
-/// three. Returns whether the results and the room are right.
-fn fills(mut buffer: TextBuffer<'_>) -> bool {
-    let first = matches!((&mut buffer).place_text("abcde"), Ok("abcde"));
-    let refused = (&mut buffer).place_text("fghi").is_err();
-    let left = buffer.room();
-    let last = matches!((&mut buffer).place_text("fgh"), Ok("fgh"));
-    first && refused && left == 3 && last && buffer.room() == 0
-}
-
+/// A buffer of eight bytes is filled with a text of five, one of four that doesn't fit, and one of
+/// three.
 #[test]
-fn a_buffer_is_filled_to_its_last_byte(rt: HostRuntime) {
+fn a_buffer_was_not_filled_to_its_last_byte(rt: HostRuntime) -> Result<(), Fail> {
     let mut bytes = [0; 8];
-    assert!(rt; fills(TextBuffer::new(&mut bytes)));
+    let mut buffer = TextBuffer::new(&mut bytes);
+    for (text, stored, room) in [("abcde", true, 3), ("fghi", false, 3), ("fgh", true, 0)] {
+        let kept = (&mut buffer).place_text(text).ok();
+        assert_eq!(rt; kept, if stored { Some(text) } else { None });
+        assert_eq!(rt; (text, buffer.room()), (text, room));
+    }
+    Ok(())
 }

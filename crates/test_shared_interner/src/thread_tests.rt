@@ -1,35 +1,19 @@
 //! Threads that put names at the same time. Each waits for the others first, so that they overlap.
-ghost use Rattle.std.specs.Prelude.{◌≡◌};
-
 use elsa_shared_interner::name::Name;
-use elsa_shared_interner::shared::{NamePass, SharedInterner};
+use elsa_shared_interner::shared::SharedInterner;
+use std::process::Abort;
 use std::sync::Wait;
 use std::sync::atomic::{AtomicU64, Ordering};
 use std::test::*;
 use std::thread;
-use std::thread::Threads;
-
-/// The number of names that the threads put.
-const NAMES: u64 = 100;
 
 /// The greatest number of looks of a thread that waits for another.
 const TURNS: u64 = 10_000_000;
 
-/// Returns the name with this number: "n0" to "n99".
-fn numbered(number: u64) -> Option<Name> {
-    let tens = (number / 10 % 10) as u8 + b'0';
-    let ones = (number % 10) as u8 + b'0';
-    let long = [b'n', tens, ones];
-    let short = [b'n', ones];
-    let bytes: &[u8] = if number < 10 { &short } else { &long };
-    Name::new(str::from_utf8(bytes).ok()?).ok()
-}
-
-/// Counts this thread, and waits until `count` threads are counted.
-fn meet_all(there: &AtomicU64, count: u64) -> bool {
-    let _ = there.fetch_add(1, Ordering::SeqCst);
+/// Waits until the look returns `true`, and returns whether it did within the bound.
+pub fn comes<F: FnMut() -> bool>(mut look: F) -> bool {
     for _ in 0..TURNS {
-        if there.load(Ordering::SeqCst) >= count {
+        if look() {
             return true;
         }
         thread::yield_now();
@@ -37,91 +21,62 @@ fn meet_all(there: &AtomicU64, count: u64) -> bool {
     false
 }
 
-/// Puts all names from `first` on, and then those before it. Returns whether each has the number
-/// that was returned.
-fn put_all<R: Wait>(rt: &R, interner: &SharedInterner, names: &mut NamePass, first: u64) -> bool
-    requires { names.old.vector ≡ interner.now }
-    ensures { names.new.vector ≡ names.old.vector }
-{
-    for i in 0..NAMES {
-        let Some(name) = numbered((first.wrapping_add(i)) % NAMES) else {
-            return false;
-        };
-        let Ok(index) = interner.put(rt, names, name) else {
-            return false;
-        };
-        if interner.at(names, index) != Some(name) {
-            return false;
-        }
-    }
-    true
+/// Counts this thread, and waits until `count` threads are counted.
+pub fn meet_all(there: &AtomicU64, count: u64) -> bool {
+    let _ = there.fetch_add(1, Ordering::SeqCst);
+    comes(|| there.load(Ordering::SeqCst) >= count)
 }
 
-/// Returns the number of each name, or 255 if an allocation failed.
-fn indices<R: Wait>(rt: &R, interner: &SharedInterner, names: &mut NamePass) -> [u8; 100]
-    requires { names.old.vector ≡ interner.now }
-    ensures { names.new.vector ≡ names.old.vector }
-{
-    let mut indices = [255; 100];
-    for number in 0..100 {
-        if let Some(name) = numbered(number as u64)
-            && let Ok(index) = interner.put(rt, names, name)
-            && index < 100
-        {
-            indices[number] = index as u8;
-        }
-    }
-    indices
+/// Returns the name with this number: "n00" to "n99".
+fn numbered(number: usize) -> Option<Name> {
+    let bytes = [b'n', b'0' + (number / 10) as u8, b'0' + (number % 10) as u8];
+    Name::new(str::from_utf8(&bytes).ok()?).ok()
 }
 
-/// Returns whether the numbers are 0 to 99, each once.
-fn each_once(indices: &[u8; 100]) -> bool {
-    let mut taken: u128 = 0;
-    for number in 0..100 {
-        let index = indices[number];
-        if index >= 100 {
-            return false;
-        }
-        taken |= 1u128 << index;
+/// Puts a hundred names, from `first` on, and then finds them by putting them again. Returns the
+/// number of each, or `None` if a call failed.
+fn numbers<R: Wait + Abort>(
+    rt: &R,
+    interner: &SharedInterner,
+    there: &AtomicU64,
+    first: usize,
+) -> Option<[usize; 100]> {
+    let (mut names, mut numbers) = (interner.pass(), [999; 100]);
+    assert!(rt; meet_all(there, 4));
+    for i in 0..200 {
+        let number = (first + i) % 100;
+        let name = numbered(number)?;
+        let index = interner.put(rt, &mut names, name).ok()?;
+        assert!(rt;
+            i < 100 || numbers[number] == index,
+            "name {number} has two numbers"
+        );
+        assert!(rt;
+            interner.at(&mut names, index) == Some(name),
+            "name {number}"
+        );
+        numbers[number] = index;
     }
-    taken == (1u128 << 100) - 1
-}
-
-/// Does the work of one thread: waits for the others, puts all names from `first` on, and returns
-/// their numbers.
-fn part<R: Wait>(rt: &R, interner: &SharedInterner, there: &AtomicU64, first: u64) -> [u8; 100] {
-    let mut names = interner.pass();
-    let met = meet_all(there, 4);
-    if met && put_all(rt, interner, &mut names, first) {
-        indices(rt, interner, &mut names)
-    } else {
-        [255; 100]
-    }
-}
-
-/// Returns whether four threads have one number for each name.
-fn four_threads<R: Threads + Wait + Sync>(rt: &R, interner: &SharedInterner) -> bool {
-    let there = AtomicU64::new(0);
-    let met = &there;
-    let ((a, b), (c, d)) = thread::join(
-        rt,
-        || thread::join(
-            rt,
-            || part(rt, interner, met, 0),
-            || part(rt, interner, met, 25),
-        ),
-        || thread::join(
-            rt,
-            || part(rt, interner, met, 50),
-            || part(rt, interner, met, 75),
-        ),
-    );
-    each_once(&a) && a == b && a == c && a == d
+    Some(numbers)
 }
 
 #[test]
-fn four_threads_give_a_hundred_names_a_hundred_places(rt: HostRuntime) -> Result<(), Fail> {
-    let interner = SharedInterner::<Name>::new(rt.alloc())?;
-    assert!(rt; four_threads(&rt, &interner));
+fn four_threads_had_two_numbers_for_a_name(rt: HostRuntime) -> Result<(), Fail> {
+    let (interner, handle) = (SharedInterner::<Name>::new(rt.alloc())?, &rt);
+    let there = AtomicU64::new(0);
+    let found = thread::map_indices(
+        handle,
+        rt.alloc(),
+        4,
+        &|thread| numbers(handle, &interner, &there, 25 * thread),
+    )?;
+    let Some(mut numbers) = found[0] else {
+        return Err(Fail::from("a name was not put"));
+    };
+    assert_eq!(rt; found.as_slice(), [Some(numbers); 4].as_slice());
+    numbers.sort_unstable();
+    for (index, number) in numbers.iter().enumerate() {
+        assert_eq!(rt; *number, index);
+    }
     Ok(())
 }

@@ -1,20 +1,13 @@
 //! A name that is put without waiting, while another thread's call is halted.
-
+use crate::thread_tests::comes;
 use elsa_lock_free::may_lock::{AttemptFault, LockPermit};
 use elsa_lock_free_map::place_text::TextBuffer;
 use elsa_shared_interner::shared::SharedInterner;
-use std::alloc::{AllocError, Global};
+use std::alloc::Global;
 use std::hash::{BuildHasherDefault, FoldHasher};
-use std::sync::Wait;
 use std::test::*;
 use std::thread;
-use std::thread::Threads;
 use test_alloc::Budget;
-
-/// The greatest number of attempts to put a name, and of looks for another thread.
-const TURNS: u64 = 10_000_000;
-
-type Texts<'a, A> = SharedInterner<&'a str, BuildHasherDefault<FoldHasher>, A>;
 
 /// What a call returned: the name's index, or the name that it has not put.
 #[derive(Clone, Copy, Debug, PartialEq)]
@@ -32,78 +25,35 @@ fn outcome_of<T>(answer: Result<usize, AttemptFault<T>>) -> Tried<T> {
     }
 }
 
-/// Returns whether a request is halted within the bound.
-fn halts(heap: &Budget<Global>) -> bool {
-    for _ in 0..TURNS {
-        if heap.is_halted() {
-            return true;
-        }
-        thread::yield_now();
-    }
-    false
-}
-
-/// Puts a text while another thread's call is halted in its request, and lets that call continue.
-/// Returns the result, the number of observed names after it, and the room that is left in the
-/// buffer. `None` if no request was halted.
-fn during_a_put<'a>(
-    heap: &Budget<Global>,
-    interner: &Texts<'a, &Budget<Global>>,
-    may: LockPermit,
-    buffer: TextBuffer<'a>,
-) -> Option<(Tried<&'a str>, usize, usize)> {
-    let mut handle = interner.handle();
-    let mut buffer = buffer;
-    let stands = halts(heap);
-    let put = outcome_of(handle.try_put_text(may, &mut buffer, "seven"));
-    let still = heap.is_halted();
-    heap.go_on();
-    if stands && still {
-        Some((put, handle.seen_len(), buffer.room()))
-    } else {
-        None
-    }
-}
-
-/// Makes an interner of texts, and puts "one" by a call that is halted, and "seven" meanwhile by
-/// the buffer. Then it puts the copy that this call returned. Returns what the second and the third
-/// call returned, the two numbers of the second, and the number of names at the end.
-fn beside_a_put<'a, R: Threads + Wait + Sync>(
-    rt: &R,
-    heap: &'a Budget<Global>,
-    may: LockPermit,
-    buffer: TextBuffer<'a>,
-) -> Result<Option<(Tried<&'a str>, usize, usize, Tried<&'a str>, usize)>, AllocError> {
-    let interner: Texts<'a, &'a Budget<Global>> = Texts::new(heap)?;
-    let shared = &interner;
-    heap.halt_next();
-    let (busy, first) = thread::join(
-        rt,
-        move || during_a_put(heap, shared, may, buffer),
-        || outcome_of(shared.handle().try_put(may, "one")) == Tried::At(0),
-    );
-    let Some((put, seen, room)) = busy else {
-        return Ok(None);
-    };
-    let Tried::Busy(copy) = put else {
-        return Ok(None);
-    };
-    let again = outcome_of(interner.handle().try_put(may, copy));
-    if !first {
-        return Ok(None);
-    }
-    Ok(Some((put, seen, room, again, interner.handle().len())))
-}
-
+/// Puts "one" by a call that is halted in its request, and "seven" meanwhile by a buffer. Then puts
+/// the copy that this call returned.
 #[test]
 fn a_put_into_a_locked_interner_did_not_return_the_copy(rt: HostRuntime) -> Result<(), Fail> {
-    let heap = Budget::<Global>::new(rt.alloc());
-    let mut bytes = [0u8; 64];
-    let may = LockPermit::trying(rt.alloc());
-    let results = beside_a_put(&rt, &heap, may, TextBuffer::new(&mut bytes))?;
-    assert_eq!(rt;
-        results,
-        Some((Tried::Busy("seven"), 0, 59, Tried::At(1), 2))
+    let (heap, mut bytes) = (Budget::<Global>::new(rt.alloc()), [0u8; 64]);
+    let (mut buffer, may) = (TextBuffer::new(&mut bytes), LockPermit::trying(rt.alloc()));
+    let interner: SharedInterner<&str, BuildHasherDefault<FoldHasher>, &Budget<Global>> =
+        SharedInterner::new(&heap)?;
+    heap.halt_next();
+    let ((halted, put, still, seen, room), first) = thread::join(
+        &rt,
+        || {
+            let mut names = interner.handle();
+            let halted = comes(|| heap.is_halted());
+            let put = outcome_of(names.try_put_text(may, &mut buffer, "seven"));
+            let still = heap.is_halted();
+            heap.go_on();
+            (halted, put, still, names.seen_len(), buffer.room())
+        },
+        || outcome_of(interner.handle().try_put(may, "one")),
     );
+    assert_eq!(rt; (halted, still), (true, true));
+    assert_eq!(rt; (put, seen, room), (Tried::Busy("seven"), 0, 59));
+    assert_eq!(rt; first, Tried::At(0));
+    let Tried::Busy(copy) = put else {
+        return Err(Fail::from("the copy was not returned"));
+    };
+    let got = outcome_of(interner.handle().try_put(may, copy));
+    assert_eq!(rt; got, Tried::At(1));
+    assert_eq!(rt; interner.handle().len(), 2);
     Ok(())
 }

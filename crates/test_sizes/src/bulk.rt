@@ -1,20 +1,17 @@
 //! Thousands of entries at once by `extend`, against a plain list.
 use crate::grows::Grows;
 use crate::kinds::Hasher;
-use crate::script::Draws;
-use crate::tests::drawn;
+use crate::script::{Plan, SCRIPTS, Unlike, same};
 use bumpalo::Bump;
 use elsa::{FrozenAppendMap, FrozenBTreeMap, FrozenIndexMap, FrozenIndexSet, FrozenMap, Own};
 use std::alloc::{AllocError, Allocator, Global};
 use std::test::Fail;
 use test_alloc::Budget;
+use test_model::draws::clock_seed;
 
 /// The key at an index of the pairs. Some keys occur several times.
 fn key_at(index: u64, below: u64) -> u64 {
-    index
-        .wrapping_mul(index)
-        .wrapping_add(index.wrapping_mul(7))
-        % below.max(1)
+    (index * index + index * 7) % below
 }
 
 /// A collection that takes many entries at once.
@@ -54,117 +51,99 @@ impl<A: Allocator + Copy> Fills for FrozenIndexSet<'_, Own<u64>, Hasher, A> {
     }
 }
 
-/// Extends an empty collection, and returns whether it has the first value of each key of some of
-/// the pairs, in their order, and of all of them exactly if no allocation failed.
-fn is_filled<G: Fills>(
+/// Extends an empty collection, and compares it with some of the pairs, in their order: it has the
+/// first value of each key, and all of them exactly if no allocation failed. Returns the first
+/// difference.
+fn filled<G: Fills>(
     alloc: Global,
     heap: &Budget<Global>,
     grown: &mut G,
-    seed: u64,
-    count: u64,
-) -> Result<bool, AllocError> {
-    let mut draws = Draws::new(seed);
+    plan: Plan,
+) -> Result<Option<Unlike>, AllocError> {
+    let (mut draws, count) = plan.parts();
     let below = draws.below(count).max(1);
     let mut seen: Vec<bool> = Vec::new(alloc);
     seen.resize(below as usize, false)?;
     heap.refuse(draws.below(20), u64::MAX);
     let done = grown.fill(count, below);
     heap.refuse_next(0);
-    let (mut kept, mut ended) = (0usize, false);
+    let (mut kept, mut ended) = (0, false);
     for index in 0..count {
         let key = key_at(index, below);
-        let Some(known) = seen.get_mut(key as usize) else {
-            return Ok(false);
-        };
-        if *known {
+        if std::mem::replace(&mut seen[key as usize], true) {
             continue;
         }
-        *known = true;
-        match grown.get(key) {
-            Some(value) if ended || value != grown.stored(key, index) => return Ok(false),
-            Some(_) => {
-                if !grown.has_index(key, kept) {
-                    return Ok(false);
-                }
-                kept = kept.wrapping_add(1);
-            }
-            None => ended = true,
+        let got = grown.get(key);
+        ended = ended || got.is_none();
+        let wanted = if ended {
+            None
+        } else {
+            Some(grown.stored(key, index))
+        };
+        if let Err(unlike) = same("get", key, got, wanted) {
+            return Ok(Some(unlike));
         }
+        if !ended && !grown.has_index(key, kept) {
+            return Ok(same("index", key, None, Some(kept as u64)).err());
+        }
+        kept += if ended { 0 } else { 1 };
     }
-    Ok(grown.count() == kept && done.is_err() == ended)
-}
-
-fn map_is_filled(alloc: Global, seed: u64, count: u64) -> Result<bool, AllocError> {
-    let heap = Budget::new(alloc);
-    let arena = Bump::new(alloc);
-    let mut hashed: FrozenMap<'_, u64, Own<u64>, Hasher, _> = FrozenMap::new(&heap, &arena);
-    is_filled(alloc, &heap, &mut hashed, seed, count)
-}
-
-fn tree_is_filled(alloc: Global, seed: u64, count: u64) -> Result<bool, AllocError> {
-    let heap = Budget::new(alloc);
-    let arena = Bump::new(alloc);
-    let mut tree: FrozenBTreeMap<'_, u64, Own<u64>, _> = FrozenBTreeMap::new(&heap, &arena);
-    is_filled(alloc, &heap, &mut tree, seed, count)
-}
-
-fn index_map_is_filled(alloc: Global, seed: u64, count: u64) -> Result<bool, AllocError> {
-    let heap = Budget::new(alloc);
-    let arena = Bump::new(alloc);
-    let mut map: FrozenIndexMap<'_, u64, Own<u64>, Hasher, _> = FrozenIndexMap::new(&heap, &arena);
-    is_filled(alloc, &heap, &mut map, seed, count)
-}
-
-fn append_map_is_filled(alloc: Global, seed: u64, count: u64) -> Result<bool, AllocError> {
-    let heap = Budget::new(alloc);
-    let arena = Bump::new(alloc);
-    let mut grown: FrozenAppendMap<'_, u64, Own<u64>, Hasher, _> = FrozenAppendMap::new(
-        &heap, &arena,
-    );
-    is_filled(alloc, &heap, &mut grown, seed, count)
-}
-
-fn set_is_filled(alloc: Global, seed: u64, count: u64) -> Result<bool, AllocError> {
-    let heap = Budget::new(alloc);
-    let arena = Bump::new(alloc);
-    let mut set: FrozenIndexSet<'_, Own<u64>, Hasher, _> = FrozenIndexSet::new(&heap, &arena);
-    is_filled(alloc, &heap, &mut set, seed, count)
+    if done.is_err() != ended {
+        return Ok(same("extend", below, None, Some(kept as u64)).err());
+    }
+    Ok(same(
+        "count",
+        below,
+        Some(grown.count() as u64),
+        Some(kept as u64),
+    )
+    .err())
 }
 
 #[test]
-fn an_extended_map_differs_from_a_list_at_a_random_size(rt: HostRuntime) -> Result<(), Fail> {
-    let (seed, count) = drawn(&rt)?;
-    assert!(rt;
-        map_is_filled(rt.alloc(), seed, count)?,
-        "seed {seed}, size {count}"
-    );
-    assert!(rt;
-        tree_is_filled(rt.alloc(), seed, count)?,
-        "seed {seed}, size {count}"
-    );
-    Ok(())
-}
-
-#[test]
-fn an_extended_index_map_differs_from_a_list_at_a_random_size(rt: HostRuntime) -> Result<(), Fail> {
-    let (seed, count) = drawn(&rt)?;
-    assert!(rt;
-        index_map_is_filled(rt.alloc(), seed, count)?,
-        "seed {seed}, size {count}"
-    );
-    assert!(rt;
-        append_map_is_filled(rt.alloc(), seed, count)?,
-        "seed {seed}, size {count}"
-    );
-    Ok(())
-}
-
-#[test]
-fn an_extended_set_differs_from_a_list_at_a_random_size(rt: HostRuntime) -> Result<(), Fail> {
-    let (seed, count) = drawn(&rt)?;
-    assert!(rt;
-        set_is_filled(rt.alloc(), seed, count)?,
-        "seed {seed}, size {count}"
-    );
+fn an_extended_collection_differs_from_a_list(rt: HostRuntime) -> Result<(), Fail> {
+    let (clock, alloc) = (clock_seed(&rt)?, rt.alloc());
+    for number in 0..SCRIPTS {
+        let plan = Plan::random(number, clock);
+        let (heap, arena) = (Budget::new(alloc), Bump::new(alloc));
+        let mut hashed: FrozenMap<'_, u64, Own<u64>, Hasher, _> = FrozenMap::new(&heap, &arena);
+        assert_eq!(rt;
+            filled(alloc, &heap, &mut hashed, plan)?,
+            None,
+            "map, {plan:?}"
+        );
+        let (heap, arena) = (Budget::new(alloc), Bump::new(alloc));
+        let mut tree: FrozenBTreeMap<'_, u64, Own<u64>, _> = FrozenBTreeMap::new(&heap, &arena);
+        assert_eq!(rt;
+            filled(alloc, &heap, &mut tree, plan)?,
+            None,
+            "ordered, {plan:?}"
+        );
+        let (heap, arena) = (Budget::new(alloc), Bump::new(alloc));
+        let mut map: FrozenIndexMap<'_, u64, Own<u64>, Hasher, _> = FrozenIndexMap::new(
+            &heap, &arena,
+        );
+        assert_eq!(rt;
+            filled(alloc, &heap, &mut map, plan)?,
+            None,
+            "index map, {plan:?}"
+        );
+        let (heap, arena) = (Budget::new(alloc), Bump::new(alloc));
+        let mut grown: FrozenAppendMap<'_, u64, Own<u64>, Hasher, _> = FrozenAppendMap::new(
+            &heap, &arena,
+        );
+        assert_eq!(rt;
+            filled(alloc, &heap, &mut grown, plan)?,
+            None,
+            "append map, {plan:?}"
+        );
+        let (heap, arena) = (Budget::new(alloc), Bump::new(alloc));
+        let mut set: FrozenIndexSet<'_, Own<u64>, Hasher, _> = FrozenIndexSet::new(&heap, &arena);
+        assert_eq!(rt;
+            filled(alloc, &heap, &mut set, plan)?,
+            None,
+            "index set, {plan:?}"
+        );
+    }
     Ok(())
 }

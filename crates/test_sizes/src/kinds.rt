@@ -1,6 +1,4 @@
 //! The collections, each with the calls of the script.
-ghost use Rattle.std.specs.Prelude.{◌≡◌, IfOk};
-
 use crate::grows::Grows;
 use elsa::append_map::AppendMap;
 use elsa::interner::Interner;
@@ -105,9 +103,7 @@ impl<A: Allocator + Copy> Grows for FrozenAppendMap<'_, u64, Own<u64>, Hasher, A
 /// An owned map has each entry once, with its index.
 impl<A: Allocator + Copy> Grows for AppendMap<u64, u64, Hasher, A> {
     fn insert(&mut self, key: u64, value: u64) -> Result<u64, AllocError> {
-        let make = || -> Result<(u64, u64), AllocError>
-            ensures { IfOk result (λ entry. entry.0 ≡ key) }
-        { Ok((key, value)) };
+        let make = || -> Result<(u64, u64), AllocError> { Ok((key, value)) };
         let before = self.entries().len();
         let Ok(done) = self.insert_by(&key, make) else {
             return Err(AllocError);

@@ -1,5 +1,5 @@
-//! Each collection of one thread at a random size up to 200,000, with allocations that fail at
-//! random, against a plain list. A failed test prints its seed.
+//! Each collection of one thread at random sizes up to 200,000 and where something grows, with
+//! allocations that fail at random, against a plain list. A failed test prints its seed.
 #![tactic(auto)]
 
 #[cfg(test)]

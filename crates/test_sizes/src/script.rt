@@ -2,51 +2,41 @@
 use crate::grows::Grows;
 use std::alloc::{AllocError, Global};
 use test_alloc::Budget;
-
-/// The greatest size.
-const MOST: u64 = 200_000;
+use test_model::draws::{Draws, FIXED_SEEDS, scattered};
 
 /// The number of insertions before an allocation is made to fail, on average.
 const BETWEEN_FAILURES: u64 = 50;
 
-/// Random numbers.
-#[derive(Clone, Copy)]
-pub struct Draws {
-    state: u64,
+/// The number of scripts of random keys: one of each fixed seed, and one of the clock's.
+pub const SCRIPTS: u64 = FIXED_SEEDS + 1;
+
+/// The keys of a script: random ones below `size`, or `size` different ones.
+#[derive(Clone, Copy, Debug)]
+pub enum Plan {
+    Random { seed: u64, size: u64 },
+    Each { size: u64 },
 }
 
-impl Draws {
-    /// Makes the random numbers of a seed.
-    pub fn new(seed: u64) -> Draws {
-        let mut draws = Draws {
-            state: seed.wrapping_mul(0x9e37_79b9_7f4a_7c15),
+impl Plan {
+    /// Returns the plan of random keys with this number. `clock` is the seed of the last one.
+    pub fn random(number: u64, clock: u64) -> Plan {
+        let (seed, most) = if number < FIXED_SEEDS {
+            (number, 3000)
+        } else {
+            (clock, 200_000)
         };
-        let _ = draws.next();
-        draws
-    }
-
-    /// Returns the next random number, which has 31 bits.
-    pub fn next(&mut self) -> u64 {
-        self.state = self
-            .state
-            .wrapping_mul(6_364_136_223_846_793_005)
-            .wrapping_add(1_442_695_040_888_963_407);
-        self.state >> 33
-    }
-
-    /// Returns a number below `count`, which is at most 2^31.
-    pub fn below(&mut self, count: u64) -> u64 {
-        self.next().wrapping_mul(count) >> 31
-    }
-
-    /// Returns a size from 1 to 200,000. Each power of two is as likely as the others.
-    pub fn size(&mut self) -> u64 {
-        let mut above = 2u64;
-        for _ in 0..self.below(18) {
-            above = above.wrapping_mul(2);
+        Plan::Random {
+            seed,
+            size: Draws::new(seed).size(most),
         }
-        let drawn = self.below(above);
-        drawn.max(1).min(MOST)
+    }
+
+    /// Returns the random numbers of the plan, and the number of its keys.
+    pub fn parts(&self) -> (Draws, u64) {
+        match *self {
+            Plan::Random { seed, size } => (Draws::new(seed), size),
+            Plan::Each { size } => (Draws::new(size), size),
+        }
     }
 }
 
@@ -57,86 +47,119 @@ struct Known {
     index: usize,
 }
 
-/// Returns the entry of a key in the list.
-fn entry_of(list: &[Option<Known>], key: u64) -> Option<Known> {
-    list.get(key as usize).copied().unwrap_or(None)
+/// A key at which a collection differs from the plain list: the call, and what it returned and had
+/// to return.
+#[derive(Clone, Copy, Debug, PartialEq, Eq)]
+pub struct Unlike {
+    pub call: &'static str,
+    pub key: u64,
+    pub got: Option<u64>,
+    pub wanted: Option<u64>,
 }
 
-/// Returns whether the collection has exactly this entry of the key, if it has one.
-fn shows<G: Grows>(grown: &G, key: u64, wanted: Option<Known>) -> bool {
-    match wanted {
-        Some(it) => grown.get(key) == Some(it.value) && grown.has_index(key, it.index),
-        None => grown.get(key).is_none(),
+/// Fails with the call unless both values are the same.
+pub fn same(
+    call: &'static str,
+    key: u64,
+    got: Option<u64>,
+    wanted: Option<u64>,
+) -> Result<(), Unlike> {
+    if got == wanted {
+        return Ok(());
+    }
+    Err(Unlike {
+        call,
+        key,
+        got,
+        wanted,
+    })
+}
+
+/// Compares the entry of a key.
+fn shows<G: Grows>(grown: &G, key: u64, known: Option<Known>) -> Result<(), Unlike> {
+    same("get", key, grown.get(key), known.map(|it| it.value))?;
+    match known {
+        Some(it) if !grown.has_index(key, it.index) => {
+            same("index", key, None, Some(it.index as u64))
+        }
+        _ => Ok(()),
     }
 }
 
-/// Inserts the key, and once more if an allocation failed. Returns whether a failed insertion left
-/// the entries as they were, and the value that the key then has is right.
+/// Inserts the key, and once more if an allocation failed: a failed insertion leaves the entries as
+/// they were.
 fn inserts<G: Grows>(
     heap: &Budget<Global>,
     grown: &mut G,
     key: u64,
     value: u64,
     before: Option<Known>,
-) -> bool {
-    let count = grown.count();
+) -> Result<(), Unlike> {
+    let count = grown.count() as u64;
     let mut done = grown.insert(key, value);
     heap.refuse_next(0);
     if done.is_err() {
-        if grown.count() != count || !shows(grown, key, before) {
-            return false;
-        }
+        same(
+            "count after a failure",
+            key,
+            Some(grown.count() as u64),
+            Some(count),
+        )?;
+        shows(grown, key, before)?;
         done = grown.insert(key, value);
     }
-    let wanted = match before {
-        Some(it) => it.value,
-        None => grown.stored(key, value),
+    let (wanted, added) = match before {
+        Some(it) => (it.value, 0),
+        None => (grown.stored(key, value), 1),
     };
-    let added = if before.is_none() { 1 } else { 0 };
-    done == Ok(wanted) && grown.count() == count.wrapping_add(added)
+    same("insert", key, done.ok(), Some(wanted))?;
+    same(
+        "count",
+        key,
+        Some(grown.count() as u64),
+        Some(count + added),
+    )
 }
 
-/// Inserts `size` random keys below `size`, and returns whether the collection has exactly the
-/// entries of a plain list, at each moment the right number of them, and the first value of each
-/// key.
+/// Inserts the keys of the plan, and compares the collection with a plain list: the number of
+/// entries at each moment, and each entry at the end. Returns the first difference.
 ///
 /// # Errors
 /// Fails if the list can't be allocated.
-pub fn is_right<G: Grows>(
+pub fn first_unlike<G: Grows>(
     alloc: Global,
     heap: &Budget<Global>,
     grown: &mut G,
-    seed: u64,
-    size: u64,
-) -> Result<bool, AllocError> {
-    let mut draws = Draws::new(seed);
+    plan: Plan,
+) -> Result<Option<Unlike>, AllocError> {
+    let (mut draws, size) = plan.parts();
     let mut list: Vec<Option<Known>> = Vec::new(alloc);
-    list.resize(size as usize, None)?;
-    let mut count = 0usize;
-    for _ in 0..size {
-        let key = grown.next_key(draws.below(size));
-        let value = draws.next();
-        let before = entry_of(list.as_slice(), key);
+    list.resize(2048.max(size as usize), None)?;
+    for number in 0..size {
+        let drawn = match plan {
+            Plan::Random { seed: _, size } => draws.below(size),
+            Plan::Each { size: _ } => scattered(number, 11),
+        };
+        let (key, value) = (grown.next_key(drawn), draws.next());
+        let before = list.get(key as usize).copied().unwrap_or(None);
+        let index = grown.count();
         if draws.below(BETWEEN_FAILURES) == 0 {
             heap.refuse_next(draws.below(3));
         }
-        if !inserts(heap, grown, key, value, before) {
-            return Ok(false);
+        if let Err(unlike) = inserts(heap, grown, key, value, before) {
+            return Ok(Some(unlike));
         }
         if before.is_none() {
-            if let Some(entry) = list.get_mut(key as usize) {
-                *entry = Some(Known {
-                    value: grown.stored(key, value),
-                    index: count,
-                });
-            }
-            count = count.wrapping_add(1);
+            list[key as usize] = Some(Known {
+                value: grown.stored(key, value),
+                index,
+            });
         }
     }
-    for key in 0..size {
-        if !shows(grown, key, entry_of(list.as_slice(), key)) {
-            return Ok(false);
+    for (key, known) in list.iter().enumerate() {
+        if let Err(unlike) = shows(grown, key as u64, *known) {
+            return Ok(Some(unlike));
         }
     }
-    Ok(grown.count() == count)
+    Ok(None)
 }

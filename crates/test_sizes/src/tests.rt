@@ -1,7 +1,7 @@
-//! Each collection with a script of a random size, and with reserved room.
+//! Each collection with scripts, and with reserved room.
 use crate::kinds::{Hasher, Texts};
 use crate::room::first_without_room;
-use crate::script::{Draws, is_right};
+use crate::script::{Plan, SCRIPTS, Unlike, first_unlike};
 use bumpalo::Bump;
 use elsa::append_map::AppendMap;
 use elsa::interner::Interner;
@@ -11,17 +11,12 @@ use elsa::{
 };
 use std::alloc::{AllocError, Global};
 use std::test::Fail;
-use std::time::{SystemTime, UNIX_EPOCH};
 use test_alloc::Budget;
-
-/// Returns a seed from the clock, and a random size of it.
-pub fn drawn(rt: &HostRuntime) -> Result<(u64, u64), Fail> {
-    let since = SystemTime::now(rt)?.duration_since(UNIX_EPOCH)?;
-    let seed = (since.subsec_nanos() as u64) ^ (since.as_secs() << 30);
-    Ok((seed, Draws::new(seed).size()))
-}
+use test_model::draws::{clock_seed, is_edge};
 
 type Heap<'h> = &'h Budget<Global>;
+
+type Numbers = Own<u64>;
 
 /// The collections.
 #[derive(Clone, Copy, Debug)]
@@ -52,86 +47,92 @@ const KINDS: [Kind; 10] = [
     Kind::AppendMapTexts,
 ];
 
-/// Returns whether a new map of texts has the results of a plain list.
-fn texts_are_right(
-    alloc: Global,
-    heap: Heap<'_>,
-    arena: &Bump,
-    seed: u64,
-    size: u64,
-) -> Result<bool, AllocError> {
-    let map: FrozenAppendMap<'_, &str, Own<u64>, Hasher, _> = FrozenAppendMap::new(heap, arena);
-    is_right(alloc, heap, &mut Texts { map }, seed, size)
-}
-
-/// Returns whether a new collection has the results of a plain list.
-fn kind_is_right(
+/// Runs a script on a new collection, and returns the first difference.
+fn of_kind(
     alloc: Global,
     heap: Heap<'_>,
     arena: &Bump,
     kind: Kind,
-    seed: u64,
-    size: u64,
-) -> Result<bool, AllocError> {
+    plan: Plan,
+) -> Result<Option<Unlike>, AllocError> {
     match kind {
         Kind::Vec => {
-            let mut grown: FrozenVec<'_, Own<u64>, Heap<'_>> = FrozenVec::new(heap, arena);
-            is_right(alloc, heap, &mut grown, seed, size)
+            let mut grown: FrozenVec<'_, Numbers, Heap<'_>> = FrozenVec::new(heap, arena);
+            first_unlike(alloc, heap, &mut grown, plan)
         }
         Kind::Map => {
-            let mut grown: FrozenMap<'_, u64, Own<u64>, Hasher, _> = FrozenMap::new(heap, arena);
-            is_right(alloc, heap, &mut grown, seed, size)
+            let mut grown: FrozenMap<'_, u64, Numbers, Hasher, _> = FrozenMap::new(heap, arena);
+            first_unlike(alloc, heap, &mut grown, plan)
         }
         Kind::IndexMap => {
-            let mut grown: FrozenIndexMap<'_, u64, Own<u64>, Hasher, _> = FrozenIndexMap::new(
+            let mut grown: FrozenIndexMap<'_, u64, Numbers, Hasher, _> = FrozenIndexMap::new(
                 heap, arena,
             );
-            is_right(alloc, heap, &mut grown, seed, size)
+            first_unlike(alloc, heap, &mut grown, plan)
         }
         Kind::AppendMap => {
-            let mut grown: FrozenAppendMap<'_, u64, Own<u64>, Hasher, _> = FrozenAppendMap::new(
+            let mut grown: FrozenAppendMap<'_, u64, Numbers, Hasher, _> = FrozenAppendMap::new(
                 heap, arena,
             );
-            is_right(alloc, heap, &mut grown, seed, size)
+            first_unlike(alloc, heap, &mut grown, plan)
         }
         Kind::IndexSet => {
-            let mut grown: FrozenIndexSet<'_, Own<u64>, Hasher, _> = FrozenIndexSet::new(
+            let mut grown: FrozenIndexSet<'_, Numbers, Hasher, _> = FrozenIndexSet::new(
                 heap, arena,
             );
-            is_right(alloc, heap, &mut grown, seed, size)
+            first_unlike(alloc, heap, &mut grown, plan)
         }
         Kind::Interner => {
             let mut grown: Interner<'_, Hasher, _> = Interner::new(heap, arena);
-            is_right(alloc, heap, &mut grown, seed, size)
+            first_unlike(alloc, heap, &mut grown, plan)
         }
         Kind::BTreeMap => {
-            let mut grown: FrozenBTreeMap<'_, u64, Own<u64>, _> = FrozenBTreeMap::new(heap, arena);
-            is_right(alloc, heap, &mut grown, seed, size)
+            let mut grown: FrozenBTreeMap<'_, u64, Numbers, _> = FrozenBTreeMap::new(heap, arena);
+            first_unlike(alloc, heap, &mut grown, plan)
         }
         Kind::BTreeSet => {
             let mut grown: FrozenBTreeSet<'_, u64, _> = FrozenBTreeSet::new(heap, arena);
-            is_right(alloc, heap, &mut grown, seed, size)
+            first_unlike(alloc, heap, &mut grown, plan)
         }
         Kind::OwnedAppendMap => {
             let mut grown: AppendMap<u64, u64, Hasher, _> = AppendMap::new(heap);
-            is_right(alloc, heap, &mut grown, seed, size)
+            first_unlike(alloc, heap, &mut grown, plan)
         }
-        Kind::AppendMapTexts => texts_are_right(alloc, heap, arena, seed, size),
+        Kind::AppendMapTexts => {
+            let map: FrozenAppendMap<'_, &str, Numbers, Hasher, _> = FrozenAppendMap::new(
+                heap, arena,
+            );
+            first_unlike(alloc, heap, &mut Texts { map }, plan)
+        }
     }
 }
 
 #[test]
-fn a_collection_differs_from_a_list_at_a_random_size(rt: HostRuntime) -> Result<(), Fail> {
-    let (seed, size) = drawn(&rt)?;
-    for kind in KINDS {
-        let (heap, arena) = (Budget::new(rt.alloc()), Bump::new(rt.alloc()));
-        let right = kind_is_right(rt.alloc(), &heap, &arena, kind, seed, size)?;
-        assert!(rt; right, "{kind:?}, seed {seed}, size {size}");
-        assert_eq!(rt;
-            heap.given(),
-            heap.granted(),
-            "{kind:?}, seed {seed}, size {size}"
-        );
+fn a_collection_differs_from_a_list(rt: HostRuntime) -> Result<(), Fail> {
+    let clock = clock_seed(&rt)?;
+    for number in 0..SCRIPTS {
+        for kind in KINDS {
+            let (heap, arena) = (Budget::new(rt.alloc()), Bump::new(rt.alloc()));
+            let plan = Plan::random(number, clock);
+            let unlike = of_kind(rt.alloc(), &heap, &arena, kind, plan)?;
+            assert_eq!(rt; unlike, None, "{kind:?}, {plan:?}");
+            assert_eq!(rt; heap.given(), heap.granted(), "{kind:?}, {plan:?}");
+        }
+    }
+    Ok(())
+}
+
+#[test]
+fn a_collection_differs_from_a_list_where_something_grows(rt: HostRuntime) -> Result<(), Fail> {
+    for size in 0..600 {
+        if !is_edge(size) {
+            continue;
+        }
+        for kind in KINDS {
+            let (heap, arena) = (Budget::new(rt.alloc()), Bump::new(rt.alloc()));
+            let unlike = of_kind(rt.alloc(), &heap, &arena, kind, Plan::Each { size })?;
+            assert_eq!(rt; unlike, None, "{kind:?}, size {size}");
+        }
     }
     Ok(())
 }
@@ -147,31 +148,29 @@ fn kind_without_room(
     let room = size as usize;
     match kind {
         Kind::Vec => {
-            let mut grown: FrozenVec<'_, Own<u64>, _> = FrozenVec::with_capacity(
-                heap, arena, room,
-            )?;
+            let mut grown: FrozenVec<'_, Numbers, _> = FrozenVec::with_capacity(heap, arena, room)?;
             first_without_room(heap, &mut grown, size)
         }
         Kind::Map => {
-            let mut grown: FrozenMap<'_, u64, Own<u64>, Hasher, _> = FrozenMap::with_capacity(
+            let mut grown: FrozenMap<'_, u64, Numbers, Hasher, _> = FrozenMap::with_capacity(
                 heap, arena, room,
             )?;
             first_without_room(heap, &mut grown, size)
         }
         Kind::IndexMap => {
-            let mut grown: FrozenIndexMap<'_, u64, Own<u64>, Hasher, _> =
+            let mut grown: FrozenIndexMap<'_, u64, Numbers, Hasher, _> =
                 FrozenIndexMap::with_capacity(heap, arena, room)?;
             first_without_room(heap, &mut grown, size)
         }
         Kind::AppendMap => {
-            let mut grown: FrozenAppendMap<'_, u64, Own<u64>, Hasher, _> = FrozenAppendMap::new(
+            let mut grown: FrozenAppendMap<'_, u64, Numbers, Hasher, _> = FrozenAppendMap::new(
                 heap, arena,
             );
             grown.reserve(room).map_err(|_| AllocError)?;
             first_without_room(heap, &mut grown, size)
         }
         Kind::IndexSet => {
-            let mut grown: FrozenIndexSet<'_, Own<u64>, Hasher, _> = FrozenIndexSet::with_capacity(
+            let mut grown: FrozenIndexSet<'_, Numbers, Hasher, _> = FrozenIndexSet::with_capacity(
                 heap, arena, room,
             )?;
             first_without_room(heap, &mut grown, size)
@@ -185,9 +184,9 @@ fn kind_without_room(
 
 #[test]
 fn a_collection_allocates_in_reserved_room(rt: HostRuntime) -> Result<(), Fail> {
-    let (_seed, size) = drawn(&rt)?;
+    let (_, size) = Plan::random(SCRIPTS, clock_seed(&rt)?).parts();
     for kind in KINDS.iter().take(6) {
-        for count in [0, 1, 7, 8, 29, 100, size] {
+        for count in [0, 1, 7, 8, 29, 100, 2000, size] {
             let (heap, arena) = (Budget::new(rt.alloc()), Bump::new(rt.alloc()));
             let first = kind_without_room(&heap, &arena, *kind, count)?;
             assert_eq!(rt; first, None, "{kind:?}, size {count}");

@@ -1,8 +1,6 @@
 //! Things with lists of their friends, in an arena that is filled through `&self`. A thing owns its
 //! name and its list of friends. The list has the friends' numbers, because a value that is dropped
 //! can't borrow from its own arena.
-ghost use Rattle.std.specs.Prelude.{◌≡◌, IfOk};
-
 use elsa::TypedArena;
 use elsa::cell::{CellFault, Fault};
 use std::alloc::{AllocError, Global};
@@ -37,9 +35,7 @@ impl Things {
     }
 
     /// Adds a thing through `&self`, and returns a reference to it with the arena's lifetime.
-    fn keep(&self, thing: Thing) -> Result<&Thing, CellFault<Thing>>
-        ensures { IfOk result (λ kept. kept.now ≡ thing) }
-    {
+    fn keep(&self, thing: Thing) -> Result<&Thing, CellFault<Thing>> {
         self.all.alloc(thing)
     }
 
@@ -76,46 +72,36 @@ fn five(alloc: Global) -> Result<Things, Fault> {
     Ok(things)
 }
 
-/// Returns whether each thing has the friends that upstream's example prints.
-fn are_friends(alloc: Global) -> Result<bool, Fault> {
-    let things = five(alloc)?;
-    let wanted = [
-        "",
-        "lonely ",
-        "lonely best friend ",
-        "",
-        "lonely best friend threes a crowd rando ",
-    ];
-    for (number, names) in wanted.iter().enumerate() {
-        if things.friends_of(number)?.as_str() != *names {
-            return Ok(false);
-        }
-    }
-    Ok(things.all.len() == 5)
-}
-
-/// Returns whether the borrow of a thing stays valid while others are added.
-fn stays(alloc: Global) -> Result<bool, Fault> {
-    let things = Things::new(alloc)?;
-    let name = String::from_str(alloc, "lonely")?;
-    let first = things.keep(Thing {
-        name,
-        friends: Vec::new(alloc),
-    })?;
-    for _ in 0..100 {
-        things.add_thing("rando", Vec::new(alloc))?;
-    }
-    Ok(first.name.as_str() == "lonely" && things.all.len() == 101)
-}
-
 #[test]
-fn things_lose_their_friends(rt: HostRuntime) -> Result<(), Fail> {
-    assert!(rt; are_friends(rt.alloc())?);
+fn a_thing_lost_a_friend(rt: HostRuntime) -> Result<(), Fail> {
+    let things = five(rt.alloc())?;
+    // What upstream's example prints.
+    for (number, names) in [
+        (0, ""),
+        (1, "lonely "),
+        (2, "lonely best friend "),
+        (3, ""),
+        (4, "lonely best friend threes a crowd rando "),
+    ] {
+        assert_eq!(rt;
+            (number, things.friends_of(number)?.as_str()),
+            (number, names)
+        );
+    }
+    assert_eq!(rt; things.all.len(), 5);
     Ok(())
 }
 
 #[test]
-fn a_thing_moves_while_others_are_added(rt: HostRuntime) -> Result<(), Fail> {
-    assert!(rt; stays(rt.alloc())?);
+fn a_thing_moved_while_others_were_added(rt: HostRuntime) -> Result<(), Fail> {
+    let things = Things::new(rt.alloc())?;
+    let first = things.keep(Thing {
+        name: String::from_str(rt.alloc(), "lonely")?,
+        friends: Vec::new(rt.alloc()),
+    })?;
+    for _ in 0..100 {
+        things.add_thing("rando", Vec::new(rt.alloc()))?;
+    }
+    assert_eq!(rt; (first.name.as_str(), things.all.len()), ("lonely", 101));
     Ok(())
 }

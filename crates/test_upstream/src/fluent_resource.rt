@@ -92,26 +92,30 @@ impl<'t> ResourceManager<'t> {
     }
 }
 
-/// Gets the resource twice. Returns whether both have the same lines, the number of its lines, and
-/// the number of texts that were read.
-fn asked_twice(alloc: Global, path: &str) -> Result<(bool, usize, usize), ResourceFault> {
-    let strings = FrozenMap::new(alloc)?;
-    let manager = ResourceManager::new(alloc, &strings)?;
-    let first = manager.get_resource(path)?;
-    let again = manager.get_resource(path)?;
-    let is_same = first.first == again.first && again.lines.len() == first.lines.len();
-    Ok((is_same, first.lines.len(), strings.len()))
-}
-
 #[test]
-fn a_resource_is_not_made_once_of_its_text(rt: HostRuntime) -> Result<(), Fail> {
-    assert!(rt; asked_twice(rt.alloc(), "en/menu") == Ok((true, 2, 1)));
-    assert!(rt; asked_twice(rt.alloc(), "en/empty") == Ok((true, 1, 1)));
+fn a_resource_was_made_twice_or_of_another_text(rt: HostRuntime) -> Result<(), Fail> {
+    let menu: [&str; 2] = ["open = Open", "quit = Quit"];
+    let rows: [(&str, &[&str]); 2] = [("en/menu", &menu), ("en/empty", &[""])];
+    for (path, lines) in rows {
+        let strings = FrozenMap::new(rt.alloc())?;
+        let manager = ResourceManager::new(rt.alloc(), &strings)?;
+        for _ in 0..2 {
+            let resource = manager.get_resource(path)?;
+            assert_eq!(rt;
+                (resource.first, resource.lines.as_slice()),
+                (lines[0], lines)
+            );
+        }
+        assert_eq!(rt; (strings.len(), manager.resources.len()), (1, 1), "{path}");
+    }
     Ok(())
 }
 
 #[test]
-fn a_missing_resource_is_not_told(rt: HostRuntime) -> Result<(), Fail> {
-    assert!(rt; asked_twice(rt.alloc(), "en/none") == Err(ResourceFault::NotFound));
+fn a_missing_resource_was_not_reported(rt: HostRuntime) -> Result<(), Fail> {
+    let strings = FrozenMap::new(rt.alloc())?;
+    let manager = ResourceManager::new(rt.alloc(), &strings)?;
+    let fault = manager.get_resource("en/none").err();
+    assert_eq!(rt; fault, Some(ResourceFault::NotFound));
     Ok(())
 }

@@ -1,6 +1,4 @@
 //! Texts to numbers and back, by a set that numbers its values.
-ghost use Rattle.std.specs.Prelude.{◌≡◌, IfOk, IfSome, Some, slice_get};
-
 use bumpalo::Bump;
 use elsa::FrozenIndexSet;
 use std::alloc::{AllocError, Global};
@@ -33,37 +31,29 @@ impl<'a> StringInterner<'a> {
     }
 
     /// Returns the text of a number.
-    fn resolve(&self, index: usize) -> Option<&'a str>
-        ensures { IfSome result (λ text. slice_get self.now.set index ≡ Some text) }
-    {
+    fn resolve(&self, index: usize) -> Option<&'a str> {
         self.set.get_index(index)
     }
 }
 
-/// Returns whether the texts have the numbers of upstream's example, before and after all are
-/// stored.
-fn are_numbered(alloc: Global) -> Result<bool, AllocError> {
-    let arena = Bump::new(alloc);
-    let mut interner = StringInterner::new(alloc, &arena);
+#[test]
+fn a_text_changed_its_number(rt: HostRuntime) -> Result<(), Fail> {
+    let arena = Bump::new(rt.alloc());
+    let mut interner = StringInterner::new(rt.alloc(), &arena);
     let words = ["lonely", "best friend", "threes a crowd", "rando"];
     for (number, word) in words.iter().enumerate() {
-        if interner.get(word).is_some() || interner.get_or_intern(word)? != number {
-            return Ok(false);
-        }
+        assert_eq!(rt;
+            (interner.get(word), interner.get_or_intern(word)?),
+            (None, number)
+        );
     }
     for (number, word) in words.iter().enumerate() {
-        let is_kept = interner.get_or_intern(word)? == number
-            && interner.get(word) == Some(number)
-            && interner.resolve(number) == Some(*word);
-        if !is_kept {
-            return Ok(false);
-        }
+        assert_eq!(rt; interner.get_or_intern(word)?, number, "{word}");
+        assert_eq!(rt;
+            (interner.get(word), interner.resolve(number)),
+            (Some(number), Some(*word))
+        );
     }
-    Ok(interner.resolve(4).is_none())
-}
-
-#[test]
-fn a_text_changes_its_number(rt: HostRuntime) -> Result<(), Fail> {
-    assert!(rt; are_numbered(rt.alloc())?);
+    assert_eq!(rt; interner.resolve(4), None);
     Ok(())
 }

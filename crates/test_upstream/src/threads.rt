@@ -1,7 +1,7 @@
 //! Threads that each insert a text at their number, and wait for the text of the opposite thread.
 use elsa::sync::FrozenMap;
-use std::alloc::Global;
-use std::sync::Wait;
+use std::alloc::{AllocError, Global};
+use std::sync::{Arc, Wait};
 use std::test::Fail;
 use std::thread;
 
@@ -11,41 +11,41 @@ const LOOKS: u64 = 10_000_000;
 /// The greatest number of a thread, plus 1.
 const THREADS: usize = 10;
 
-/// Inserts the text of a number, and waits until the opposite number has its own.
-fn meets_its_opposite<R: Wait>(
-    rt: &R,
+/// Inserts the text of a number, waits until the opposite number has its own, and returns that.
+fn opposite_of(
+    rt: &impl Wait,
     alloc: Global,
     map: &FrozenMap<usize, String>,
     number: usize,
-) -> bool {
-    let Ok(text) = number.to_string(alloc) else {
-        return false;
-    };
-    if map.insert(rt, number, text).is_err() || number >= THREADS {
-        return false;
-    }
-    let opposite = THREADS - number;
+) -> Result<Option<Arc<String>>, AllocError> {
+    map.insert(rt, number, number.to_string(alloc)?)?;
     for _ in 0..LOOKS {
-        if let Ok(Some(text)) = map.get(rt, &opposite) {
-            return text.parse::<usize>() == Ok(opposite);
+        if let Some(text) = map.get(rt, &(THREADS - number))? {
+            return Ok(Some(text));
         }
         thread::yield_now();
     }
-    false
+    Ok(None)
 }
 
 #[test]
-fn a_thread_does_not_see_the_text_of_its_opposite(rt: HostRuntime) -> Result<(), Fail> {
+fn a_thread_did_not_see_the_text_of_its_opposite(rt: HostRuntime) -> Result<(), Fail> {
     let alloc = rt.alloc();
     let map: FrozenMap<usize, String> = FrozenMap::new(alloc);
     let (shared, handle) = (&map, &rt);
-    let met = thread::map_indices(
+    let texts = thread::map_indices(
         &rt,
         alloc,
         THREADS - 1,
-        &|number| meets_its_opposite(handle, alloc, shared, number.wrapping_add(1)),
+        &|number| opposite_of(handle, alloc, shared, number + 1),
     )?;
-    assert!(rt; met.iter().all(|it| *it));
-    assert!(rt; map.len(&rt) == THREADS - 1);
+    let wanted = ["9", "8", "7", "6", "5", "4", "3", "2", "1"];
+    for (text, wanted) in texts.iter().zip(wanted) {
+        let Ok(Some(text)) = text else {
+            return Err(Fail::new(format_args!("{wanted} is missing")));
+        };
+        assert_eq!(rt; text.as_str(), wanted);
+    }
+    assert_eq!(rt; (texts.len(), map.len(&rt)), (9, 9));
     Ok(())
 }

@@ -1,15 +1,11 @@
-//! Tests of `elsa_vec` and `elsa_maps`, used as by any other crate: examples, tables of the calls
-//! of a search, unusual keys, and allocation failures.
+//! Tests of `elsa_vec` and `elsa_maps`, used as by any other crate: worked cases, the calls of a
+//! search, unusual keys, values that own memory, and allocation failures.
 #![tactic(auto)]
 
 #[cfg(test)]
-mod bulk;
-#[cfg(test)]
-mod law_tests;
-#[cfg(test)]
 mod map_tests;
 #[cfg(test)]
-mod moved;
+mod owned;
 #[cfg(test)]
 mod printed;
 #[cfg(test)]
@@ -17,14 +13,8 @@ mod refusals;
 #[cfg(test)]
 mod search_tests;
 #[cfg(test)]
-mod sets;
-#[cfg(test)]
-mod shelf;
-#[cfg(test)]
-mod stored;
+mod set_tests;
 #[cfg(test)]
 mod text_keys;
 #[cfg(test)]
 mod vec_tests;
-#[cfg(test)]
-mod walks;

@@ -6,6 +6,7 @@ use elsa_maps::map::{FrozenBTreeMap, FrozenMap};
 use elsa_vec::stable::Own;
 use std::alloc::{AllocError, Global};
 use std::hash::{BuildHasherDefault, FoldHasher};
+use std::process::Abort;
 use std::test::Fail;
 use test_alloc::Budget;
 use test_script::{Family, Script, Squeeze, WORDS, goes_through, leave_room, refuse_each_in_turn};
@@ -20,10 +21,8 @@ type Indexed<'a> = FrozenIndexMap<'a, &'a str, Own<u64>, State, Heap<'a>>;
 
 type Ordered<'a> = FrozenBTreeMap<'a, &'a str, Own<u64>, Heap<'a>>;
 
-// A map of numbers with the calls of the script.
-trait ByText<'a>: Drop {
-    fn empty(heap: Heap<'a>, arena: &'a Bump) -> Self;
-
+// A map from texts to numbers.
+trait ByText: Drop {
     fn give(&mut self, key: &str, value: u64) -> Result<u64, AllocError>;
 
     fn at(&self, key: &str) -> Option<u64>;
@@ -31,11 +30,7 @@ trait ByText<'a>: Drop {
     fn count(&self) -> usize;
 }
 
-impl<'a> ByText<'a> for Hashed<'a> {
-    fn empty(heap: Heap<'a>, arena: &'a Bump) -> Self {
-        FrozenMap::new(heap, arena)
-    }
-
+impl ByText for Hashed<'_> {
     fn give(&mut self, key: &str, value: u64) -> Result<u64, AllocError> {
         Ok(*self.insert_text(key, Own(value))?)
     }
@@ -49,11 +44,7 @@ impl<'a> ByText<'a> for Hashed<'a> {
     }
 }
 
-impl<'a> ByText<'a> for Ordered<'a> {
-    fn empty(heap: Heap<'a>, arena: &'a Bump) -> Self {
-        FrozenBTreeMap::new(heap, arena)
-    }
-
+impl ByText for Ordered<'_> {
     fn give(&mut self, key: &str, value: u64) -> Result<u64, AllocError> {
         Ok(*self.insert_text(key, Own(value))?)
     }
@@ -67,11 +58,7 @@ impl<'a> ByText<'a> for Ordered<'a> {
     }
 }
 
-impl<'a> ByText<'a> for Indexed<'a> {
-    fn empty(heap: Heap<'a>, arena: &'a Bump) -> Self {
-        FrozenIndexMap::new(heap, arena)
-    }
-
+impl ByText for Indexed<'_> {
     // Inserts alternately by `insert_text` and by `insert_full_text`.
     fn give(&mut self, key: &str, value: u64) -> Result<u64, AllocError> {
         if value % 2 == 0 {
@@ -96,76 +83,35 @@ impl<'a> ByText<'a> for Indexed<'a> {
 
 const CALLS: usize = 32;
 
-// Returns the number of words that the calls before this number have inserted: each even call
-// inserts a new one.
-fn words_before(number: usize) -> usize {
-    number.div_ceil(2)
-}
-
-// Inserts a text that ends with the call, so the map can't store the text itself as the key.
-fn give_short<'a, M: ByText<'a>>(
-    map: &mut M,
-    heap: Heap<'a>,
-    index: usize,
-    value: u64,
-) -> Result<u64, AllocError> {
-    let text: String<Heap<'a>> = String::from_str(heap, WORDS[index % 16])?;
-    map.give(text.as_str(), value)
-}
-
-struct Texts<'a, M: ByText<'a>> {
+// Of each two calls, the first inserts a new word, as a text that ends with the call, with its
+// number as its value. The second inserts the first word with another value, which is not stored.
+#[derive(Drop)]
+struct Texts<'a, M: ByText> {
     heap: Heap<'a>,
     map: M,
 }
 
-impl<'a, M: ByText<'a>> Drop for Texts<'a, M> {
-    fn drop(self) {
-        let Texts {
-            heap: _heap,
-            map: _map,
-        } = self;
-    }
-}
-
-// Of each two calls, the first inserts a new word with its number as its value. The second inserts
-// the first word with another value, which is not stored.
-impl<'a, M: ByText<'a>> Script for Texts<'a, M> {
+impl<M: ByText> Script for Texts<'_, M> {
     fn call(&mut self, number: usize) -> Result<bool, AllocError> {
-        if number % 2 == 0 {
-            let index = number / 2;
-            let kept = give_short(&mut self.map, self.heap, index, index as u64)?;
-            return Ok(kept == index as u64);
-        }
         let asked = self.heap.asked();
-        let kept = self.map.give(WORDS[0], 99)?;
-        Ok(kept == 0 && self.heap.asked() == asked)
+        if number % 2 == 1 {
+            return Ok(self.map.give(WORDS[0], 99)? == 0 && self.heap.asked() == asked);
+        }
+        let index = number / 2;
+        let text = String::from_str(self.heap, WORDS[index])?;
+        Ok(self.map.give(text.as_str(), index as u64)? == index as u64)
     }
 
     fn holds(&self, number: usize) -> bool {
-        let count = words_before(number);
-        for index in 0..16usize {
-            let expected = if index < count {
-                Some(index as u64)
-            } else {
-                None
-            };
-            if self.map.at(WORDS[index]) != expected {
-                return false;
-            }
-        }
-        self.map.count() == count
+        let count = number.div_ceil(2);
+        let has = |index: usize| self.map.at(WORDS[index]) == Some(index as u64);
+        self.map.count() == count && (0..16).all(|index| has(index) == (index < count))
     }
 }
 
 // Runs the script on a map with text keys.
-fn goes<'a, M: ByText<'a>>(
-    heap: Heap<'a>,
-    arena: &'a Bump,
-    map: M,
-    squeezed: Squeeze,
-) -> Option<u64> {
-    let mut script = Texts { heap, map };
-    goes_through(&mut script, CALLS, heap, arena, squeezed)
+fn goes<M: ByText>(heap: Heap<'_>, arena: &Bump, map: M, squeezed: Squeeze) -> Option<u64> {
+    goes_through(&mut Texts { heap, map }, CALLS, heap, arena, squeezed)
 }
 
 #[derive(Clone, Copy, Debug, Drop)]
@@ -188,18 +134,9 @@ impl Family for Maps {
     fn goes_over(&self, alloc: Global, heap: &Budget<Global>, squeezed: Squeeze) -> Option<u64> {
         let arena = Bump::new(alloc);
         match self {
-            Maps::Hashed => {
-                let map: Hashed<'_> = ByText::empty(heap, &arena);
-                goes(heap, &arena, map, squeezed)
-            }
-            Maps::Ordered => {
-                let map: Ordered<'_> = ByText::empty(heap, &arena);
-                goes(heap, &arena, map, squeezed)
-            }
-            Maps::Indexed => {
-                let map: Indexed<'_> = ByText::empty(heap, &arena);
-                goes(heap, &arena, map, squeezed)
-            }
+            Maps::Hashed => goes(heap, &arena, Hashed::new(heap, &arena), squeezed),
+            Maps::Ordered => goes(heap, &arena, Ordered::new(heap, &arena), squeezed),
+            Maps::Indexed => goes(heap, &arena, Indexed::new(heap, &arena), squeezed),
         }
     }
 }
@@ -216,46 +153,47 @@ fn a_refused_text_or_value_changed_a_map(rt: HostRuntime) -> Result<(), Fail> {
     Ok(())
 }
 
-// Returns whether a present key is inserted again without memory and keeps its value, and the
-// insertion of an absent key then fails.
-fn asks_nothing<'a, M: ByText<'a>>(heap: Heap<'a>, arena: &'a Bump, mut map: M) -> bool {
-    if map.give("a name", 7).is_err() {
-        return false;
-    }
+// Checks that a present text is inserted again without memory and keeps its value, and that the
+// insertion of an absent one then fails.
+fn takes_no_memory<M: ByText>(
+    rt: &impl Abort,
+    heap: Heap<'_>,
+    arena: &Bump,
+    mut map: M,
+) -> Result<(), Fail> {
+    map.give("a name", 7)?;
     leave_room(arena, 0);
     heap.refuse_next(1000);
-    let kept = matches!(map.give("a name", 8), Ok(7)) && map.at("a name") == Some(7);
-    let is_refused = map.give("another", 9).is_err();
+    assert_eq!(rt; (map.give("a name", 8), map.at("a name")), (Ok(7), Some(7)));
+    assert!(rt; map.give("another", 9).is_err());
+    assert_eq!(rt; (map.count(), map.at("another")), (1, None));
     arena.set_allocation_limit(None);
     heap.refuse_next(0);
-    kept && is_refused && map.count() == 1
-}
-
-#[test]
-fn a_text_that_is_there_takes_no_memory(rt: HostRuntime) -> Result<(), Fail> {
-    let heap = Budget::new(rt.alloc());
-    let arena = Bump::new(rt.alloc());
-    let hashed: Hashed<'_> = ByText::empty(&heap, &arena);
-    assert!(rt; asks_nothing(&heap, &arena, hashed));
-    let ordered: Ordered<'_> = ByText::empty(&heap, &arena);
-    assert!(rt; asks_nothing(&heap, &arena, ordered));
     Ok(())
 }
 
-/// Returns whether maps with `String` keys find an entry by a text that isn't one of their keys'
-/// own.
-fn strings_are_found(alloc: Global, arena: &Bump) -> Result<bool, AllocError> {
-    let mut hashed: FrozenMap<'_, String, Own<u64>> = FrozenMap::new(alloc, arena);
-    let mut ordered: FrozenBTreeMap<'_, String, Own<u64>> = FrozenBTreeMap::new(alloc, arena);
-    hashed.insert(String::from_str(alloc, "a name")?, Own(7))?;
-    ordered.insert(String::from_str(alloc, "a name")?, Own(8))?;
-    let there = hashed.get("a name") == Some(&7) && ordered.get("a name") == Some(&8);
-    Ok(there && hashed.get("a nam").is_none() && ordered.get("").is_none())
+#[test]
+fn a_text_that_is_there_took_memory(rt: HostRuntime) -> Result<(), Fail> {
+    let (heap, arena) = (Budget::new(rt.alloc()), Bump::new(rt.alloc()));
+    takes_no_memory(&rt, &heap, &arena, Hashed::new(&heap, &arena))?;
+    takes_no_memory(&rt, &heap, &arena, Ordered::new(&heap, &arena))?;
+    takes_no_memory(&rt, &heap, &arena, Indexed::new(&heap, &arena))
 }
 
 #[test]
-fn a_map_of_strings_is_asked_by_a_text(rt: HostRuntime) -> Result<(), Fail> {
-    let arena = Bump::new(rt.alloc());
-    assert!(rt; strings_are_found(rt.alloc(), &arena)?);
+fn a_text_that_is_no_key_of_its_own_was_not_found(rt: HostRuntime) -> Result<(), Fail> {
+    let (alloc, arena) = (rt.alloc(), Bump::new(rt.alloc()));
+    let mut hashed: FrozenMap<'_, String, Own<u64>> = FrozenMap::new(alloc, &arena);
+    let mut ordered: FrozenBTreeMap<'_, String, Own<u64>> = FrozenBTreeMap::new(alloc, &arena);
+    hashed.insert(String::from_str(alloc, "a name")?, Own(7))?;
+    ordered.insert(String::from_str(alloc, "a name")?, Own(8))?;
+    for (text, in_hashed, in_ordered) in [
+        ("a name", Some(&7), Some(&8)),
+        ("a nam", None, None),
+        ("", None, None),
+    ] {
+        let got = (hashed.get(text), ordered.get(text));
+        assert_eq!(rt; got, (in_hashed, in_ordered), "{text}");
+    }
     Ok(())
 }
