@@ -1,4 +1,5 @@
 """One row of the measurements, and the groups of rows."""
+import dataclasses, pathlib
 
 NAMES, ALONE, CELLS, OWNERS, LOCKED, SHARDS, FREE, FREE_MAP, FREE_SHARDS, OWNED, SHARED, SHARED_SHARDS, WORKERS = (
     "names",
@@ -23,40 +24,31 @@ CRAFTED = "crafted keys of `FrozenAppendMap`"
 OUR_HASH = "upstream with our hash"
 
 
+@dataclasses.dataclass(eq=False)
 class Job:
     """One row: its group and name; its goals compared with upstream and with the best peer, in time and in memory; and
     the commands of all sides. `by` is the clock that counts. If `compared_with` is given, the best peer is the fastest
-    whose name begins with it."""
+    whose name begins with it. `references` are sides that are no peers, since they do less work or are upstream's; they
+    are shown next to the name of the row."""
 
-    def __init__(
-        self,
-        group,
-        name,
-        sides,
-        goal="",
-        peer_goal="",
-        stdin=None,
-        by="wall",
-        threads=1,
-        often=1.0,
-        entries=None,
-        references=(),
-        compared_with=None,
-        memory_goal="",
-    ):
-        self.group, self.name, self.sides, self.goal, self.peer_goal = group, name, sides, goal, peer_goal
-        # `references` are sides that are no peers, since they do less work or are upstream's; they are shown next to the
-        # name of the row.
-        self.stdin, self.by, self.threads, self.often, self.entries, self.references = (
-            stdin,
-            by,
-            threads,
-            often,
-            entries,
-            references,
-        )
-        self.compared_with, self.memory_goal = compared_with, memory_goal
-        self.runs, self.times, self.memory, self.spread, self.noisy = {}, {}, {}, 0.0, False
+    group: str
+    name: str
+    sides: dict
+    goal: str = ""
+    peer_goal: str = ""
+    stdin: pathlib.Path | None = None
+    by: str = "wall"
+    threads: int = 1
+    often: float = 1.0
+    entries: int | None = None
+    references: tuple = ()
+    compared_with: str | None = None
+    memory_goal: str = ""
+    runs: dict = dataclasses.field(default_factory=dict)
+    times: dict = dataclasses.field(default_factory=dict)
+    memory: dict = dataclasses.field(default_factory=dict)
+    spread: float = 0.0
+    noisy: bool = False
 
     def fastest(self, sides):
         return min(sides, key=lambda side: self.times[side], default=None)

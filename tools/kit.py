@@ -6,8 +6,11 @@ crate `name`, `folder`, `rlib`, `below()`, `stamp()`, `words(..)`, `build_rlib(.
 import importlib.machinery
 import importlib.util
 import pathlib
+import shutil
 import subprocess
 import sys
+
+from repository import lines, root, stands_on
 
 # The kits for which this is written, by a part of what `rt version` prints.
 WRITTEN_FOR = "logic dac8208d650f15bf"
@@ -30,3 +33,19 @@ def toolchain():
     # its first call sets a signal's handler, which only this thread may
     made.rtlib.guarded()
     return made
+
+
+def scratch_crate(folder, line, texts):
+    """The toolchain's crate of this line of crates.txt, with these source files, in a new repository in the folder that has
+    the libraries below it."""
+    name, needed = line.split(": ")
+    below, top = stands_on(*(it for it in needed.split() if it in lines())), pathlib.Path(folder)
+    subprocess.run(["git", "init", "-q", "."], cwd=top, check=True)
+    for it in below:
+        shutil.copytree(root / "crates" / it, top / "crates" / it, ignore=shutil.ignore_patterns("out", "must-fail"))
+    (top / "crates.txt").write_text("".join(f"{lines()[it]}\n" for it in below) + f"{line}\n")
+    source = top / "crates" / name / "src"
+    source.mkdir(parents=True)
+    for module, text in texts.items():
+        (source / f"{module}.rt").write_text(text)
+    return {it.name: it for it in toolchain().rtlib.crates_below(folder)}[name]

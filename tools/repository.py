@@ -1,7 +1,10 @@
 """What the scripts of this repository share: its crates, and the libraries that each depends on."""
-import os, pathlib, signal, subprocess, sys
+import os, pathlib, re, signal, subprocess, sys
 
 root = pathlib.Path(__file__).resolve().parent.parent
+# About the processor minutes of a proof from nothing, by the table that CI prints: of the vector with the libraries
+# below it, and of the whole library. README.md and docs/guide/start.md have the same numbers.
+VECTOR_MINUTES, LIBRARY_MINUTES = 8, 75
 
 
 def tell_help(page):
@@ -51,6 +54,20 @@ def files_below(folder):
     return sorted(it for it in found if not made & set(it.relative_to(folder).parts))
 
 
+def is_example(name):
+    return name.startswith("example_")
+
+
+def examples(top=root):
+    return [it for it in lines(top) if is_example(it)]
+
+
+def is_unproved(name):
+    """Whether a crate is only built and run: a test crate, but for the callers' tests, or the program that bench/run
+    measures."""
+    return name == "elsa_bench" or name.startswith("test_") and name != "test_callers"
+
+
 def is_program(name):
     return (root / "crates" / name / "src" / "main.rt").is_file()
 
@@ -64,6 +81,28 @@ def source_lines(name):
 def tests_in(name):
     """The number of the crate's tests."""
     return source_lines(name).count("#[test]")
+
+
+def specs_file(path):
+    """The file of a module of specs/, as elsa_maps.specs.FirstWins."""
+    crate, _, *below = path.split(".")
+    return root / "crates" / crate / "specs" / ("/".join(below) + ".antt")
+
+
+def line_of(name, text):
+    """The line of a text of specs/ at which a definition begins, or None."""
+    begins = re.compile(rf" *(?:pub |abbrev |unfoldable |record |data )*{re.escape(name)}(?: [({{].*)? :")
+    return next((at for at, line in enumerate(text.split("\n")) if begins.match(line)), None)
+
+
+def origin(name, file):
+    """The file of specs/ that has a definition: this file, or the one of which it is a second name."""
+    text = file.read_text() if file.is_file() else ""
+    if line_of(name, text) is None:
+        for path, names in re.findall(r"^(?:pub )?use Rattle\.(elsa\w*\.specs\.[\w.]+)\.\{([^}]*)\}", text, re.M):
+            if name in re.findall(r"[\w-]+", names):
+                return origin(name, specs_file(path))
+    return file
 
 
 def processors():

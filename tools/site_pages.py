@@ -254,32 +254,3 @@ SEARCHED = {
     "async": "guide/index.html",
     "wheel": "guide/bindings.html",
 }
-STYLE = """
-/* the column of text takes the width that the two lists leave */
-.md-grid { max-width: 80rem; }
-@media screen and (min-width: 76.25em) {
-  .md-sidebar { width: 10.5rem; }
-  .md-sidebar--secondary { width: 9.5rem; }
-}
-/* a line of code stays one line, with its indentation */
-.md-typeset pre > code { white-space: pre; overflow-x: auto; font-size: 0.62rem; padding: 0.6em 0.8em; }
-.md-typeset table:not([class]) { font-size: 0.62rem; }
-.md-typeset pre.plain > code { white-space: pre-wrap; overflow-wrap: anywhere; }
-/* a name in a table isn't broken */
-.md-typeset table:not([class]) code { word-break: normal; overflow-wrap: normal; }
-/* on a phone the cells of a row are one below the other */
-@media screen and (max-width: 44.9375em) {
-  .md-typeset__table { width: 100%; }
-  .md-typeset table:not([class]), .md-typeset table:not([class]) :is(tbody, tr, td) { display: block; }
-  .md-typeset table:not([class]) thead, .md-typeset table:not([class]) td:empty { display: none; }
-  .md-typeset table:not([class]) td { border: 0; min-width: 0; padding: 0.2em 0.8em; overflow-wrap: break-word; }
-  .md-typeset table:not([class]) td:first-child { border-top: 0.05rem solid var(--md-typeset-table-color); padding-top: 0.6em; font-weight: bold; }
-  .md-typeset table:not([class]) td:last-child { padding-bottom: 0.6em; }
-  .md-typeset table:not([class]) td:not(:first-child):not([data-head=""])::before { content: attr(data-head) ": "; color: var(--md-default-fg-color--light); }
-  .md-typeset table:not([class]) code { overflow-wrap: anywhere; }
-}
-/* letters have a contrast of at least 4.5 to what is under them */
-[data-md-color-scheme="default"] { --md-default-fg-color--light: hsla(0, 0%, 0%, 0.62); }
-[data-md-color-scheme="slate"] { --md-default-fg-color--light: hsla(232, 75%, 95%, 0.8); --md-typeset-a-color: #9db8ff; }
-.md-copyright { color: var(--md-footer-fg-color--light); }
-"""

@@ -1,5 +1,5 @@
-"""The traits that tools/auto_traits.txt states: tools/reference writes them on the pages, tools/auto_traits checks them."""
-import collections, re
+"""The traits that tools/auto_traits.toml states: tools/reference writes them on the pages, tools/auto_traits checks them."""
+import collections, re, tomllib
 
 from repository import root
 
@@ -9,12 +9,8 @@ TypeTraits = collections.namedtuple("TypeTraits", "path traits reason")
 
 
 def type_traits():
-    found = []
-    for line in (root / "tools" / "auto_traits.txt").read_text().splitlines():
-        if line and not line.startswith("#"):
-            path, traits, reason = (it.strip() for it in line.split("|"))
-            found.append(TypeTraits(path, traits.split(), reason))
-    return found
+    rows = tomllib.loads((root / "tools" / "auto_traits.toml").read_text())
+    return [TypeTraits(path, row["traits"], row.get("reason", "")) for path, row in rows.items()]
 
 
 def traits_on_pages():

@@ -15,19 +15,17 @@ ORDERED = (
 PAGES = {
     "cell-FrozenVec": LIST,
     "TypedArena": LIST,
-    "cell-FrozenMap": ("map|moved", "FrozenMap|Squares", ("test_cell", "test_calls")),
+    "cell-FrozenMap": ("map|moved", "FrozenMap|Squares", ("test_cell", "test_calls", "test_callers")),
     "cell-FrozenBTreeMap": ("map|self", "FrozenBTreeMap", ORDERED),
     "cell-FrozenIndexSet": ("set", "FrozenSet|FrozenIndexSet", ("test_cell", "test_calls")),
-    "sync-LockFreeFrozenVec": ("vector|vec", "LockFreeFrozenVec", ("test_lock_free", "test_shared_interner")),
+    "sync-LockFreeFrozenVec": (
+        "vector|vec",
+        "LockFreeFrozenVec",
+        ("test_lock_free", "test_shared_interner", "test_callers"),
+    ),
 }
-# The code of these calls is that of a `cell::FrozenMap`, whose tests make them.
-SAME_CODE = "handle_since", "with_rule"
-# The script makes a list with room, and its `get_since` makes such a handle.
-IN_OTHERS = "new", "handle_since"
-OTHERS = {
-    *(("cell-FrozenBTreeMap", it) for it in SAME_CODE),
-    *((page, it) for page in ("cell-FrozenVec", "TypedArena") for it in IN_OTHERS),
-}
+# The code of the first is that of a `cell::FrozenMap`, whose tests make it. The script makes a list with room.
+OTHERS = {("cell-FrozenBTreeMap", "with_rule"), ("cell-FrozenVec", "new"), ("TypedArena", "new")}
 
 
 def calls_of(page):

@@ -15,7 +15,7 @@ class TestLimits(unittest.TestCase):
 
     def is_late(self, command):
         output, errors, status = test.run(["sh", "-c", command])
-        return status is None and test.LATE.search(errors) is not None
+        return status is None and b"had not ended" in errors
 
     def test_a_command_whose_children_use_the_processor_for_too_long_is_late(self):
         self.assertTrue(self.is_late("(while :; do :; done) & wait"))
@@ -33,44 +33,44 @@ class TestLimits(unittest.TestCase):
 
 
 class TestJoined(unittest.TestCase):
-    """Which crates of a joined trial run alone."""
+    """What counts of crates whose tests are built as one program."""
 
     def setUp(self):
-        self.alone, self.kept = [], (test.run, test.joined, test.tests_in, test.try_tests)
-        test.joined = lambda names, folder, tests: folder
+        self.kept = test.run, test.build, test.tests_in
         test.tests_in = {"a": 2, "b": 1}.get
-        test.try_tests = lambda name: self.alone.append(name) or [(f"{name}: alone", "")]
 
     def tearDown(self):
-        test.run, test.joined, test.tests_in, test.try_tests = self.kept
+        test.run, test.build, test.tests_in = self.kept
 
-    def results(self, *outputs):
-        left = list(outputs)
-        test.run = lambda words, folder: left.pop(0)
-        found = test.try_joined_tests(["a", "b"])
-        self.assertEqual(left, [])
-        return [name for name, fault in found if not fault]
+    def results(self, names, listed, failing=(), broken=()):
+        """The results where the program lists these tests, of which some fail, and these crates do not compile."""
 
-    GOOD = b"test a::x::one ... ok\ntest a::x::two ... ok\ntest b::y::one ... ok\n"
-    ALL = (GOOD + b"test result: ok. 3 passed; 0 failed; 0 ignored\n", b"", 0)
+        def build(own, kept, tests):
+            if set(own) & set(broken):
+                raise test.Unbuilt("no such name")
+            return own
 
-    def test_all_results_count_if_the_trial_passes(self):
-        self.assertEqual(self.results(self.ALL), ["a::x::one", "a::x::two", "b::y::one"])
-        self.assertEqual(self.alone, [])
+        def run(words, checks):
+            own, name = words
+            found = [it for it in listed if it.split("::")[0] in own]
+            status = 0 if name == "--list" or name not in failing else 1
+            return "".join(f"{it}: test\n" for it in found).encode(), b"", status
 
-    def test_a_late_trial_runs_once_more(self):
-        self.assertEqual(len(self.results((b"", b"x had not ended after 900", None), self.ALL)), 3)
-        self.assertEqual(self.alone, [])
+        test.build, test.run = build, run
+        return {name: bool(fault) for name, fault in test.try_tests(names)}
 
-    def test_only_a_crate_with_a_failed_or_missing_result_runs_alone(self):
-        for last in (b"test b::y::one ... FAILED\n", b""):
-            self.alone.clear()
-            self.assertEqual(len(self.results((self.GOOD[:44] + last, b"", 1))), 3)
-            self.assertEqual(self.alone, ["b"])
+    LISTED = ["a::x::one", "a::x::two", "b::y::one"]
 
-    def test_all_run_alone_if_the_trial_fails_and_says_of_none_why(self):
-        self.results((self.GOOD, b"a crash at the end", 1))
-        self.assertEqual(self.alone, ["a", "b"])
+    def test_each_test_counts(self):
+        found = self.results(["a", "b"], self.LISTED, failing=["a::x::two"])
+        self.assertEqual(found, {"a::x::one": False, "a::x::two": True, "b::y::one": False})
+
+    def test_a_test_that_the_program_lacks_is_a_fault(self):
+        self.assertTrue(self.results(["a", "b"], self.LISTED[1:])["a: all of its tests"])
+
+    def test_a_crate_that_does_not_compile_hides_no_other(self):
+        found = self.results(["a", "b"], self.LISTED, broken=["b"])
+        self.assertEqual(found, {"a::x::one": False, "a::x::two": False, "b: its tests": True})
 
 
 if __name__ == "__main__":

@@ -1,13 +1,9 @@
 """What tools/wording reads of a text, and which phrases it finds there."""
-import re, unittest
+import unittest
 
-from scripts import root, script
-
-from contents import NAME, RENAMED
+from scripts import script
 
 wording = script("tools/wording")
-# Old words that the pinned names of the runs, of the step machine and of `StableDeref::place` keep.
-KEPT = {"place", "places", "_place"}
 
 
 def found(lines):
@@ -32,14 +28,6 @@ class TestWording(unittest.TestCase):
 
     def test_a_lock_is_under_and_not_after(self):
         self.assertEqual(found(enumerate(["it is behind a lock", "it is behind the word"])), [1])
-
-    def test_no_source_has_a_word_that_was_renamed(self):
-        old = set((root / RENAMED).read_text().split()[::2]) - KEPT
-        files = (it for end in ("rt", "antt") for it in (root / "crates").glob(f"*/[sp]*/**/*.{end}"))
-        # but for the names of the kit, which a proof imports
-        texts = {it.relative_to(root): re.sub(r"(?m)^use (?!Rattle\.elsa).*$", "", it.read_text()) for it in files}
-        found = {f"{it}: {word}" for it, text in texts.items() for word in old & set(NAME.findall(text))}
-        self.assertEqual(found, set())
 
 
 if __name__ == "__main__":
