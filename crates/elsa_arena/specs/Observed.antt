@@ -1,4 +1,4 @@
--- What a handle of a collection has observed: a prefix of its list, which only grows at its end.
+-- What was observed of a collection: a prefix of its list, which only grows at its end.
 use Rattle.std.specs.Prelude.{ℕ, ◌≡◌, ◌<◌, ◌^◌, List, [], ◌∷◌, ◌++◌, Some, length, slice_get}
 use mathlib.Core.List.{IsPrefix}
 use Rattle.elsa_slots.specs.Ahead.{GoesOn}
@@ -6,8 +6,8 @@ use Rattle.elsa_slots.specs.Geometry.{IsAt}
 use Rattle.elsa_arena.specs.declared.state.State.{State}
 use Rattle.elsa_arena.specs.Ready.{AreReady}
 
--- A handle: its collection, by the names of its buffers, and the prefix of the list that it has
--- observed. A lock guard of a map or set: its collection, and the whole list.
+-- What was observed: the collection, by the names of its buffers, and the prefix of its list. A lock
+-- guard of a map or set: its collection, and the whole list.
 pub record View (T : Type 0) : Type 0 where
   pub vector : List ℕ
   pub seen : List T
@@ -24,16 +24,16 @@ module _ {T : Type 0} where
   abbrev pub EachHolds : (T → Type 0) → List T → Type 0
   EachHolds holds items = (i : ℕ) (x : T) → slice_get items i ≡ Some x → holds x
 
-  -- What a handle that is made under a lock guard has observed: all items.
+  -- What a lock guard has observed: all items.
   abbrev pub view_of : Whole T → View T
   view_of w = record { vector = w.vector; seen = w.seen }
 
-  -- The same handle later: it has observed as much or more.
+  -- What was observed of the same collection later: as much or more.
   pub record Continues (before after : View T) : Type 0 where
     pub same : after.vector ≡ before.vector
     pub seen : IsPrefix before.seen after.seen
 
-  -- The list was `old`, or longer by items of other handles; then `x` was appended at the index
+  -- The list was `old`, or longer by items of other calls; then `x` was appended at the index
   -- `index`.
   abbrev pub Appends : List T → List T → ℕ → T → Type 0
   Appends old new index x = (before : List T) × IsPrefix old before × (length before ≡ index) × (new ≡ before ++ x ∷ [])

@@ -36,6 +36,7 @@ impl<X: Fits> Kept<X> {
     }
 
     /// Puts a value in, and returns the one before.
+    #[inline(always)]
     pub(crate) fn replace(&self, value: X) -> X
         requires { X.fits self.now value }
         ensures { X.fits self.now result }

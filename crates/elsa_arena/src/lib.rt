@@ -2,21 +2,25 @@
 //! [`TypedArena`](arena::TypedArena).
 //!
 //! The maps and sets of `elsa_cell` are built on its state ([`state`]), which a call takes out of
-//! the collection and puts back ([`shared`]), and on what handles have observed ([`views`]).
+//! the collection and puts back ([`shared`]), on the items so far ([`items`]), and on what was
+//! observed of them ([`observed`], [`views`]).
 #![tactic(auto)]
 
 pub mod arena;
 pub mod fault;
+pub mod invariant;
+pub mod items;
 mod kept;
 pub mod list_cell;
 pub mod observed;
 mod search;
 pub mod shared;
-pub mod shown;
 pub mod state;
 pub mod vec;
 pub mod views;
 
 pub use fault::{CellFault, Fault, InUse};
+pub use invariant::{Invariant, OfList};
+pub use items::Items;
 pub use observed::{Iter, Observed, Seen};
-pub use vec::{FrozenVec, Handle, Hold};
+pub use vec::{FrozenVec, Hold};

@@ -4,16 +4,16 @@ ghost use Rattle.elsa_arena.specs.Observed.{IsStateOf};
 ghost use Rattle.elsa_arena.specs.Parts.{IsLaterOf, IsNextSlotOf};
 ghost use Rattle.elsa_slots.specs.Geometry.{slots_before};
 
+use crate::items::Items;
 use crate::observed::Seen;
 use crate::shared::Shared;
-use crate::shown::Shown;
 use crate::state::{Fresh, State};
 use boxcar::tag::Tag;
 use counted_slot::Fits;
 use elsa_slots::geometry::prior_total_buffer_size;
 use elsa_slots::slots::{Ahead, Buffer, Slots, WriteRights, Written, WrittenPrefix};
 use std::alloc::Allocator;
-use std::marker::Model;
+use std::marker::{Model, PhantomData};
 
 /// The next slot of the open buffer, which isn't the first one of it, and the right to push there.
 /// It owns no memory.
@@ -121,6 +121,7 @@ impl<T, A: Allocator + Copy> NextSlot<T, A> {
         let seen = Seen {
             prefix: prefix.again(),
             count: count + 1,
+            invariant: PhantomData,
         };
         if slot + 1 < size {
             let next = NextSlot {
@@ -239,8 +240,8 @@ impl<T, A: Allocator + Copy> ListCell<T, A> {
     }
 
     /// Takes the state out, or returns `None` if another call has it.
-    pub fn take(&self, shown: &Shown<T, A>) -> Option<State<T, A>>
-        requires { shown.now ≡ self.now }
+    pub fn take(&self, items: &Items<T, A>) -> Option<State<T, A>>
+        requires { items.now ≡ self.now }
         ensures { IfSome result (IsStateOf self.now) }
     {
         let Some(later) = self.later.take() else {
@@ -256,7 +257,7 @@ impl<T, A: Allocator + Copy> ListCell<T, A> {
                 Some(next.join(later, self))
             }
             None => {
-                let seen = shown.read();
+                let seen = items.read();
                 if seen.count != prior_total_buffer_size(later.first) {
                     self.later.put(later);
                     return None;
@@ -298,20 +299,19 @@ impl<T, A: Allocator + Copy> ListCell<T, A> {
     #[inline(always)]
     pub fn append<'v>(
         &self,
-        into: &'v Slots<T, A>,
-        shown: &Shown<T, A>,
+        items: &'v Items<T, A>,
         next: NextSlot<T, A>,
         item: T,
     ) -> (&'v T, Seen<T, A>)
-        requires same { (self.now ≡ into.now) × (shown.now ≡ into.now) }
-        requires next { IsNextSlotOf into.now next }
+        requires same { self.now ≡ items.now }
+        requires next { IsNextSlotOf items.now next }
         ensures lent { result.0.now ≡ item }
-        ensures seen { (result.1.vector ≡ into.now)
+        ensures seen { (result.1.vector ≡ items.now)
             × (result.1.seen ≡ next.prefix.items ++ item ∷ []) }
         ensures limit { length result.1.seen < 2 ^ 62 }
     {
-        let (lent, seen, after) = next.write(into, item);
-        shown.show(seen.again());
+        let (lent, seen, after) = next.write(&items.slots, item);
+        Items::show(items, seen.again());
         if let Some(next) = after {
             self.next.put(next);
         }

@@ -1,11 +1,12 @@
-//! Binary searches over the items that were observed, for any closure. The searches of a handle
-//! and of the list itself call them.
+//! Binary searches over the items that were observed, for any closure. The searches of the
+//! list itself call them.
 ghost use Rattle.std.specs.Prelude.{◌≡◌, ◌<◌, ℕ, Bool, length, IfOk, false, true};
 ghost use Rattle.std.specs.declared.cmp.Ordering.{Ordering};
 ghost use Rattle.std.specs.Fn.{CalledAt, TakesAt};
 ghost use Rattle.std.specs.List.Sorted.{IsBinarySearchResult, IsPartitionPoint, IsPartitionedBy};
 ghost use Rattle.elsa_arena.specs.Search.{SearchedTo, Searched, Brackets, IsBetween, Answered, AnswersByItem, AnswersByIndex, CallableAtItems, Compares, ComparesAt, Falls, Parts, Rises, Splits};
 
+use crate::invariant::Invariant;
 use crate::observed::Observed;
 use std::alloc::Allocator;
 use std::cmp::Ordering;
@@ -13,8 +14,8 @@ use std::cmp::Ordering;
 /// Returns an index for whose item the closure returned `Equal`, or `Err` with an index between one
 /// that returned `Less` and one that returned `Greater`. The closure has the state in which the
 /// last call of the search left it.
-fn search_by<T, A: Allocator + Copy, F: FnMut(&T) -> Ordering>(
-    items: &Observed<'_, T, A>,
+fn search_by<T, A: Allocator + Copy, L: Invariant<T>, F: FnMut(&T) -> Ordering>(
+    items: &Observed<'_, T, A, L>,
     order: &mut F,
 ) -> Result<usize, usize>
     requires { CallableAtItems (CalledAt F.FnMut) (TakesAt F.FnMut) items.now.seen order.old }
@@ -36,8 +37,8 @@ fn search_by<T, A: Allocator + Copy, F: FnMut(&T) -> Ordering>(
 
 /// Searches as [`search_by`] does, by keys: the key that the closure returns is compared with
 /// `key`.
-fn search_by_key<T, A: Allocator + Copy, K: Ord + Drop, F: FnMut(&T) -> K>(
-    items: &Observed<'_, T, A>,
+fn search_by_key<T, A: Allocator + Copy, L: Invariant<T>, K: Ord + Drop, F: FnMut(&T) -> K>(
+    items: &Observed<'_, T, A, L>,
     key: &K,
     key_of: &mut F,
 ) -> Result<usize, usize>
@@ -61,8 +62,8 @@ fn search_by_key<T, A: Allocator + Copy, K: Ord + Drop, F: FnMut(&T) -> K>(
 
 /// Returns an index between an item for which the closure returned true and one for which it
 /// returned false.
-fn part_by<T, A: Allocator + Copy, F: FnMut(&T) -> bool>(
-    items: &Observed<'_, T, A>,
+fn part_by<T, A: Allocator + Copy, L: Invariant<T>, F: FnMut(&T) -> bool>(
+    items: &Observed<'_, T, A, L>,
     belongs: &mut F,
 ) -> usize
     requires { CallableAtItems (CalledAt F.FnMut) (TakesAt F.FnMut) items.now.seen belongs.old }
@@ -82,7 +83,7 @@ fn part_by<T, A: Allocator + Copy, F: FnMut(&T) -> bool>(
     left
 }
 
-impl<T, A: Allocator + Copy> Observed<'_, T, A> {
+impl<T, A: Allocator + Copy, L: Invariant<T>> Observed<'_, T, A, L> {
     /// Searches sorted items for one that compares as equal with `target`.
     ///
     /// `Ok` has the index of an item that compares as equal. `Err` has an index between an item

@@ -50,6 +50,7 @@ impl<S: Fits + Drop> Shared<S> {
     }
 
     /// Takes the state out, or returns `None` if another call has it.
+    #[inline(always)]
     pub fn take(&self) -> Option<S>
         ensures { IfSome result (λ s. S.fits self.now s) }
     {
@@ -57,6 +58,7 @@ impl<S: Fits + Drop> Shared<S> {
     }
 
     /// Puts the state back.
+    #[inline(always)]
     pub fn put(&self, state: S)
         requires { S.fits self.now state }
     {

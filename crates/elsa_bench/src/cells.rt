@@ -39,7 +39,7 @@ fn reads(items: &FrozenVec<u64>, count: usize) -> u64 {
 }
 
 fn walks(items: &FrozenVec<u64>) -> u64 {
-    let seen = items.handle();
+    let seen = items.observed();
     let mut sum = 0u64;
     for _turn in 0..TIMES {
         for item in seen.iter() {

@@ -161,3 +161,12 @@ inserted_equal equal laws old new key value kept index false e i at = passes_at 
 pub inserted_own : {K V : Type 0} (equal : K → K → Bool) (old new : List (Entry K V)) (key : K) (value kept : V) (index : ℕ) (is_new : Bool) (e : Entry K V) → Inserts equal old new key value kept index is_new → slice_get new index ≡ Some e → is_new ≡ true → key_of e ≡ key
 inserted_own equal old new key value kept index true e i at new_key = ap key_of (entry_last old new i.1.0 e index i.1.2 i.3 at) ∙ ap (λ p. p.0) i.1.1
 inserted_own equal old new key value kept index false e i at new_key = absurd (true≢false (sym new_key))
+
+-- After an insertion a key that equals itself is found, with the value that it then has.
+pub found_once : {K V : Type 0} (equal : K → K → Bool) (before after : List (Entry K V)) (key : K) (value kept : V) (index : ℕ) (is_new : Bool) → equal key key ≡ true → InsertsOnce equal before after key value kept index is_new
+    → lookup (equal key) (pairs_of after) ≡ Some kept
+found_once {V = V} equal before after key value kept index true itself i =
+    let e = i.2.1.0 in
+    ap (λ l. lookup (equal key) (pairs_of l)) i.2.1.2 ∙ (ap (lookup (equal key)) (map_append pair_of i.0 (e ∷ [])) ∙ (lookup-append (equal key) (pairs_of i.0) (pair_of e ∷ [])
+    ∙ (ap (λ (o : Option V). option_or o (lookup (equal key) (pair_of e ∷ []))) i.2.0 ∙ (ap (λ p. lookup (equal key) (p ∷ [])) i.2.1.1 ∙ (ap (λ b. cond b (Some value) None) itself ∙ ap Some (sym i.2.2))))))
+found_once equal before after key value kept index false itself i = ap (λ l. lookup (equal key) (pairs_of l)) i.2.2 ∙ i.2.0

@@ -1,4 +1,4 @@
--- A search among the entries that a handle has observed, compared with one among all entries.
+-- A search among the entries that were observed, compared with one among all entries.
 use Rattle.std.proofs.Common.{◌≡◌, ◌+◌, ◌<◌, ◌≤◌, ℕ, zero, suc, arith, Bool, true, false, is_some, true≢false, List, [], ◌∷◌, ◌++◌, cond, map, length, position, slice_get, Option, None, Some, refl, sym, ap, ◌∙◌}
 use Rattle.std.proofs.lemmas.Iterator.Adapters.{position_from-zero}
 use Rattle.std.proofs.lemmas.List.{map-append}

@@ -1,4 +1,4 @@
--- What a handle of a map has observed: entries of a key and a value, each key once.
+-- What was observed of a map: entries of a key and a value, each key once.
 use Rattle.std.specs.Prelude.{ℕ, ◌≡◌, ◌-◌, ◌^◌, ◌≤◌, ◌⊎◌, Bool, true, false, Some, None, List, [], ◌∷◌, ◌++◌, length, map, position}
 use Rattle.std.specs.Map.{lookup}
 use mathlib.Core.List.{IsPrefix}
@@ -41,7 +41,7 @@ module _ {K V : Type 0} where
   Inserts equal old new key value kept index false = (lookup (equal key) (pairs_of old) ≡ Some kept) × (position (equal key) (map key_of old) ≡ Some index) × (new ≡ old)
 
   -- The effect of an insertion, from what was observed: the map was that, or it had further entries
-  -- of other handles; then the insertion took place.
+  -- of other calls; then the insertion took place.
   abbrev pub InsertsOnce : (K → K → Bool) → List (Entry K V) → List (Entry K V) → K → V → V → ℕ → Bool → Type 0
   InsertsOnce equal before after key value kept index is_new = (all : List (Entry K V)) × IsPrefix before all × Inserts equal all after key value kept index is_new
 

@@ -5,7 +5,6 @@ ghost use Rattle.elsa_buckets.specs.Table.{IsRoom, IsVacancy, most_indices, indi
 
 use crate::indices::{Indices, KeyList, Seeks};
 use crate::map::Frozen;
-use crate::map_handle::FrozenHandle;
 use crate::map_hold::FrozenHold;
 use elsa_buckets::query::{Missing, Query, search};
 use elsa_buckets::table::IndexTable;
@@ -37,10 +36,6 @@ pub type FrozenMap<K, V, S = BuildHasherDefault<FoldHasher>, A = Global, R = Any
 #[deprecated(since = "0.5.0", note = "use `FrozenMap`, which is the same type")]
 pub type FrozenIndexMap<K, V, S = BuildHasherDefault<FoldHasher>, A = Global, R = AnyEntries> =
     FrozenMap<K, V, S, A, R>;
-
-/// The handle of a [`FrozenMap`].
-pub type MapHandle<'m, K, V, S = BuildHasherDefault<FoldHasher>, A = Global, R = AnyEntries> =
-    FrozenHandle<'m, K, V, Hashed<S, A>, A, R>;
 
 /// The lock guard of a [`FrozenMap`].
 pub type MapHold<'m, K, V, S = BuildHasherDefault<FoldHasher>, A = Global, R = AnyEntries> =

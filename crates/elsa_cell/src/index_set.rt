@@ -6,23 +6,23 @@ ghost use Rattle.elsa_arena.specs.Extended.{TakesAll};
 ghost use Rattle.elsa_arena.specs.Faults.{GivesBack};
 ghost use Rattle.elsa_cell.specs.Entries.{key_of};
 
-use crate::map::{Entry, FrozenMap, MapHandle, MapHold};
-use crate::map_state::MOST;
-use elsa_arena::fault::{CellFault, Fault, InUse};
-use elsa_arena::observed::{Iter, Seen};
+use crate::map::{Entry, FrozenMap};
+use crate::map_state::{MOST, SeenEntries};
+use elsa_arena::fault::CellFault;
 use elsa_buckets::query::Query;
 use elsa_tables::Inserted;
 use std::alloc::{AllocError, Allocator, Global};
 use std::hash::{BuildHasher, BuildHasherDefault, FoldHasher, Hash};
 use std::marker::Model;
+use std::ops::Deref;
 
 /// A set that grows through `&self`, owns its items, and numbers them in the order of their
 /// insertion: references to them are valid as long as the set. Contracts see the names of its
 /// buffers, which no other set has.
 ///
-/// It is a [`FrozenMap`] from items to `()`: a [`MapHandle`] states which items it has observed,
-/// and a [`MapHold`] all of them. The calls on the set itself are short forms, which state less.
-/// Reads never fail.
+/// It is a [`FrozenMap`] from items to `()`, to which it dereferences: what was observed of the map
+/// ([`ObservedEntries`](crate::ObservedEntries)) states which items there are, and its guard all of
+/// them. The calls on the set itself are short forms, which state less. Reads never fail.
 #[derive(Drop)]
 pub struct FrozenIndexSet<
     T: Eq + Hash + Drop,
@@ -45,6 +45,19 @@ impl<T: Eq + Hash + Drop, S: BuildHasher + Drop, A: Allocator + Copy> Model
     ghost view = { λ s. s.map };
 }
 
+impl<T: Eq + Hash + Drop, S: BuildHasher + Drop, A: Allocator + Copy> Deref
+    for FrozenIndexSet<T, S, A> {
+    ghost use Rattle.std.specs.Prelude.{◌≡◌};
+
+    type Target = FrozenMap<T, (), S, A>;
+
+    ghost deref_gives = { λ s m. m ≡ s };
+
+    fn deref(&self) -> &FrozenMap<T, (), S, A> {
+        &self.map
+    }
+}
+
 impl<T: Eq + Hash + Drop, A: Allocator + Copy> FrozenIndexSet<
     T,
     BuildHasherDefault<FoldHasher>,
@@ -61,14 +74,15 @@ impl<T: Eq + Hash + Drop, A: Allocator + Copy> FrozenIndexSet<
         FrozenIndexSet::with_hasher(alloc, BuildHasherDefault::default())
     }
 
-    /// Makes an empty set with room for `count` items, as [`reserve`](Self::reserve) makes it.
+    /// Makes an empty set with room for `count` items, as [`reserve`](crate::Frozen::reserve) makes
+    /// it.
     ///
     /// # Errors
     /// Fails if an allocation fails, or if `count` is above the greatest number of items,
     /// `2^32 - 1`.
     ///
     /// # Allocates
-    /// As [`new`](Self::new) and [`reserve`](Self::reserve) do.
+    /// As [`new`](Self::new) and [`reserve`](crate::Frozen::reserve) do.
     pub fn with_capacity(alloc: A, count: usize) -> Result<Self, AllocError>
         ensures limit { OnOk result (count ≤ 2 ^ 32 - 1) }
     {
@@ -92,40 +106,14 @@ impl<T: Eq + Hash + Drop, S: BuildHasher + Drop, A: Allocator + Copy> FrozenInde
         })
     }
 
-    /// Makes a handle that has observed all items, each as the key of an entry. It allocates
-    /// nothing.
-    ///
-    /// # Cost
-    /// `O(1)`.
-    pub fn handle(&self) -> MapHandle<'_, T, (), S, A>
-        ensures same_vector { result.vector ≡ self.now }
-    {
-        self.map.handle()
-    }
-
-    /// Locks the set for one caller: until the guard is dropped, each other insertion fails with
-    /// [`InUse`], and a look-up by item compares one item after the other. It allocates nothing.
-    ///
-    /// # Errors
-    /// Fails with [`InUse`] if the call is made inside another call of the set, or while another
-    /// [`MapHold`] of it exists.
-    ///
-    /// # Cost
-    /// `O(1)`.
-    pub fn hold(&self) -> Result<MapHold<'_, T, (), S, A>, InUse>
-        ensures same_vector { IfOk result (λ h. h.vector ≡ self.now) }
-    {
-        self.map.hold()
-    }
-
     /// Inserts an item unless the set has an equal one, and returns a reference to the item that
     /// the set then has: [`insert_new`](Self::insert_new) with the item alone.
     ///
     /// # Errors
     /// Fails with [`CellFault::Memory`] if an allocation fails, with [`CellFault::Full`] if the set
     /// has the greatest number of items, `2^32 - 1`, and with [`CellFault::InUse`] if the call is
-    /// made inside another call of the set, or while a [`MapHold`] of it exists. Each contains
-    /// `item`.
+    /// made inside another call of the set, or while a [`MapHold`](crate::MapHold) of it exists.
+    /// Each contains `item`.
     ///
     /// # Allocates
     /// As [`FrozenMap::insert`](crate::FrozenMap::insert) does.
@@ -178,7 +166,7 @@ impl<T: Eq + Hash + Drop, S: BuildHasher + Drop, A: Allocator + Copy> FrozenInde
         ensures limit { IfOk result (λ r. r.index < 2 ^ 32 - 1) }
         ensures given_back { IfErr result (GivesBack item) }
     {
-        let Ok(mut hold) = self.hold() else {
+        let Ok(mut hold) = self.map.hold() else {
             return Err(CellFault::InUse(item));
         };
         match hold.insert_entry(item, ()) {
@@ -206,15 +194,16 @@ impl<T: Eq + Hash + Drop, S: BuildHasher + Drop, A: Allocator + Copy> FrozenInde
     ///
     /// # Errors
     /// Fails with [`CellFault::InUse`] and `None` if the call is made inside another call of the
-    /// set, or while a [`MapHold`] of it exists; no item is then taken. Otherwise fails as
-    /// [`insert`](Self::insert) does, with the item that was not inserted; the items before it are
-    /// inserted.
+    /// set, or while a [`MapHold`](crate::MapHold) of it exists; no item is then taken. Otherwise
+    /// fails as [`insert`](Self::insert) does, with the item that was not inserted; the items
+    /// before it are inserted.
     ///
     /// # Allocates
     /// As [`FrozenMap::insert`](crate::FrozenMap::insert) does.
     ///
     /// # Cost
-    /// One hash and one search for each item.
+    /// One hash and one search for each item. A look-up that the iterator makes in this set
+    /// compares one item after the other: `O(n)`.
     pub fn extend<I: IntoIterator<Item = T> + Drop>(
         &self,
         items: I,
@@ -223,7 +212,7 @@ impl<T: Eq + Hash + Drop, S: BuildHasher + Drop, A: Allocator + Copy> FrozenInde
             I.IntoIter.can_next s × IsFinite (I.IntoIter.remaining s) }
         ensures taken { TakesAll I.into_iter_gives I.IntoIter.next_gives (λ x. x) items result }
     {
-        let Ok(mut hold) = self.hold() else {
+        let Ok(mut hold) = self.map.hold() else {
             return Err(CellFault::InUse(None));
         };
         for item in items {
@@ -306,7 +295,7 @@ impl<T: Eq + Hash + Drop, S: BuildHasher + Drop, A: Allocator + Copy> FrozenInde
     pub fn into_vec<Z: Allocator>(
         self,
         alloc: Z,
-        seen: &Seen<Entry<T, ()>, A>,
+        seen: &SeenEntries<T, (), A>,
     ) -> Result<Vec<T, Z>, CellFault<Self>>
         requires same_vector { seen.now.vector ≡ self }
         ensures items { IfOk result (λ all. IsPrefix (map key_of seen.now.seen) all.items) }
@@ -320,54 +309,5 @@ impl<T: Eq + Hash + Drop, S: BuildHasher + Drop, A: Allocator + Copy> FrozenInde
             Err(CellFault::InUse(map)) => Err(CellFault::InUse(FrozenIndexSet { map })),
             Err(CellFault::Full(map)) => Err(CellFault::Full(FrozenIndexSet { map })),
         }
-    }
-
-    /// Returns the number of items. It allocates nothing.
-    ///
-    /// # Cost
-    /// `O(1)`.
-    pub fn len(&self) -> usize
-        ensures limit { result ≤ 2 ^ 32 - 1 }
-    {
-        self.map.len()
-    }
-
-    /// Returns whether the set has no item. It allocates nothing.
-    ///
-    /// # Cost
-    /// `O(1)`.
-    pub fn is_empty(&self) -> bool {
-        self.map.is_empty()
-    }
-
-    /// Returns whether the set has the greatest number of items, `2^32 - 1`. It allocates nothing.
-    ///
-    /// # Cost
-    /// `O(1)`.
-    pub fn is_full(&self) -> bool {
-        self.map.is_full()
-    }
-
-    /// Reserves room for `additional` more items, as [`FrozenMap::reserve`](crate::Frozen::reserve)
-    /// does for entries.
-    ///
-    /// # Errors
-    /// Fails with a [`Fault`], as [`FrozenMap::reserve`](crate::Frozen::reserve) does.
-    pub fn reserve(&self, additional: usize) -> Result<(), Fault>
-        ensures limit { OnOk result (additional ≤ 2 ^ 32 - 1) }
-    {
-        self.map.reserve(additional)
-    }
-
-    /// Returns an iterator over the items so far, each as the key of an entry, in the order of
-    /// their insertion and each once. Others may be inserted while it runs; they are not among its
-    /// items. It allocates nothing.
-    ///
-    /// # Cost
-    /// `O(1)`, and so is each item.
-    pub fn iter(&self) -> Iter<'_, Entry<T, ()>, A>
-        ensures limit { length result ≤ 2 ^ 32 - 1 }
-    {
-        self.map.iter()
     }
 }

@@ -14,26 +14,25 @@ ghost use Rattle.elsa_tables.specs.Rules.{HoldsAt};
 ghost use Rattle.elsa_cell.specs.declared.map.Entry.{Entry};
 
 use crate::fault::TryFault;
-pub use crate::hashed::{FrozenMap, MapHandle, MapHold};
+pub use crate::hashed::{FrozenMap, MapHold};
 use crate::indices::{Indices, Seeks};
-use crate::map_handle::FrozenHandle;
 use crate::map_hold::FrozenHold;
-use crate::map_state::{Keys, MOST, MapState, OfMap, Pairs, Parked, park};
-pub use crate::ordered::{BTreeHandle, BTreeHold, FrozenBTreeMap};
+use crate::map_state::{
+    Keys, MOST, MapState, ObservedEntries, OfMap, Pairs, Parked, SeenEntries, park,
+};
+pub use crate::ordered::{BTreeHold, FrozenBTreeMap};
 use crate::scan::scan;
-use boxcar::tag::Tag;
 use elsa_arena::fault::{CellFault, Fault, InUse};
-use elsa_arena::observed::{Iter, Observed, Seen};
-use elsa_arena::shared::{OfSlots, Shared};
-use elsa_arena::shown::{Shown, observed_since};
+use elsa_arena::items::Items;
+use elsa_arena::shared::Shared;
 use elsa_arena::state::State;
-use elsa_arena::views::is_evidence_behind;
-use elsa_slots::slots::Slots;
+use elsa_arena::views::is_behind;
 use elsa_tables::{AnyEntries, EntryRule, Inserted};
 use std::alloc::{AllocError, Allocator, Global};
 use std::marker::Model;
+use std::ops::Deref;
 
-/// An entry, as handles observe it: its key and its value.
+/// An entry, as it is observed: its key and its value.
 #[derive(Drop)]
 pub struct Entry<K, V> {
     pub(crate) key: K,
@@ -42,6 +41,7 @@ pub struct Entry<K, V> {
 
 impl<K, V> Entry<K, V> {
     /// Returns the key by reference.
+    #[inline(always)]
     pub fn key(&self) -> &K
         ensures { result.now ≡ key_of self.now }
     {
@@ -49,6 +49,7 @@ impl<K, V> Entry<K, V> {
     }
 
     /// Returns the value by reference.
+    #[inline(always)]
     pub fn value(&self) -> &V
         ensures { result.now ≡ self.now.value }
     {
@@ -59,10 +60,9 @@ impl<K, V> Entry<K, V> {
 /// Returns references to the key and the value of the observed entry at an index.
 #[tactic(auto, using(crate::proofs::EntryLemmas::pair_at, crate::proofs::EntryLemmas::no_pair_at))]
 pub(crate) fn pair_at<'m, K, V, A: Allocator + Copy, R: EntryRule<K, V>>(
-    entries: &Observed<'m, Entry<K, V>, A>,
+    entries: &ObservedEntries<'m, K, V, A, R>,
     index: usize,
 ) -> Option<(&'m K, &'m V)>
-    requires rule { HoldsEach R.holds entries.now.seen }
     ensures entry { option_map (λ r. (r.0.now, r.1.now)) result
         ≡ slice_get (pairs_of entries.now.seen) index }
     ensures holds { IfSome result (λ r. R.holds r.0.now r.1.now) }
@@ -83,10 +83,7 @@ pub(crate) fn find_beside<
     Q: Seeks<K, T>,
     A: Allocator + Copy,
     R: EntryRule<K, V>,
->(entries: &Observed<'m, Entry<K, V>, A>, query: Q) -> Option<(usize, &'m Entry<K, V>)>
-    requires limit { length entries.now.seen ≤ 2 ^ 32 - 1 }
-    requires rule { HoldsEach R.holds entries.now.seen }
-
+>(entries: &ObservedEntries<'m, K, V, A, R>, query: Q) -> Option<(usize, &'m Entry<K, V>)>
     // Index, entry and value are those of the first key that the query finds.
     ensures index { option_map (λ f. f.0) result
         ≡ position (Q.finds query) (map key_of entries.now.seen) }
@@ -98,7 +95,7 @@ pub(crate) fn find_beside<
     ensures limit { IfSome result (λ f. f.0 < 2 ^ 32 - 1) }
 {
     let count = entries.len();
-    let index = scan::<K, T, Q, Observed<'m, Entry<K, V>, A>>(entries, count, query)?;
+    let index = scan::<K, T, Q, ObservedEntries<'m, K, V, A, R>>(entries, count, query)?;
     Some((index, entries.item(index)))
 }
 
@@ -112,8 +109,9 @@ pub(crate) fn find_beside<
 /// `R` is a rule over keys and values ([`EntryRule`]): an insertion requires it of its key and its
 /// value, and what a look-up returns obeys it. A type that names none allows any value.
 ///
-/// A [`FrozenHandle`] states which entries it has observed, and each of its calls which values come
-/// back. The calls on the map itself are short forms, which state less. Reads never fail.
+/// Its reads by index are those of [`Items`], to which it dereferences. What was observed of it
+/// ([`ObservedEntries`]) states which entries there are. A call whose name ends in `_as` states
+/// what it finds there, or what it inserts. Reads never fail.
 ///
 /// Its entries keep the order of their insertion, and each has an index. It has at most `2^32 - 1`
 /// entries. It drops each entry once, in that order: its key, then its value.
@@ -124,9 +122,8 @@ pub struct Frozen<
     A: Allocator + Copy = Global,
     R: EntryRule<K, V> = AnyEntries,
 > {
-    slots: Slots<Entry<K, V>, A>,
-    cell: Shared<Parked<K, V, T, A, R>>,
-    shown: Shown<Entry<K, V>, A, OfMap<R>>,
+    pub(crate) entries: Items<Entry<K, V>, A, OfMap<R>>,
+    pub(crate) cell: Shared<Parked<K, V, T, A, R>>,
 }
 
 impl<K: Drop, V, T: Indices<K> + Drop, A: Allocator + Copy, R: EntryRule<K, V>> Model
@@ -135,17 +132,31 @@ impl<K: Drop, V, T: Indices<K> + Drop, A: Allocator + Copy, R: EntryRule<K, V>> 
 
     ghost Value = { List ℕ };
 
-    ghost view = { λ m. m.slots };
+    ghost view = { λ m. m.entries };
 
-    // The state and the length that reads take are of this map's entries.
-    ghost invariant = { λ m. (m.cell.numbers ≡ m.slots) × (m.shown ≡ m.slots) };
+    // The state is of this map's entries.
+    ghost invariant = { λ m. m.cell.numbers ≡ m.entries };
+}
+
+impl<K: Drop, V, T: Indices<K> + Drop, A: Allocator + Copy, R: EntryRule<K, V>> Deref
+    for Frozen<K, V, T, A, R> {
+    ghost use Rattle.std.specs.Prelude.{◌≡◌};
+
+    type Target = Items<Entry<K, V>, A, OfMap<R>>;
+
+    ghost deref_gives = { λ m g. g ≡ m };
+
+    #[inline(always)]
+    fn deref(&self) -> &Items<Entry<K, V>, A, OfMap<R>> {
+        &self.entries
+    }
 }
 
 impl<K: Drop, V: Drop, T: Indices<K> + Drop, A: Allocator + Copy, R: EntryRule<K, V>> Drop
     for Frozen<K, V, T, A, R> {
     fn drop(self) {
-        let Self { slots, cell, shown } = self;
-        drop(shown);
+        let Self { entries, cell } = self;
+        let slots = Items::into_slots(entries);
         match cell.into_state() {
             Some(Parked { state, rule: _ }) => {
                 let MapState { list, table } = Box::into_inner(state);
@@ -171,15 +182,17 @@ impl<K: Drop, V: Drop, T: Indices<K> + Drop, A: Allocator + Copy, R: EntryRule<K
     pub(crate) fn over(alloc: A, table: T) -> Result<Self, AllocError>
         requires { T.is_for table [] }
     {
-        let (slots, further) = Slots::new(alloc)?;
-        let tag = Tag::of::<Slots<Entry<K, V>, A>, OfSlots>(&slots);
-        let shown = Shown::first(&further, &tag);
+        let (entries, further) = Items::new(alloc)?;
+        let tag = Items::tag(&entries);
         let state = MapState {
             list: State::first(alloc, further),
             table,
         };
-        let cell = park(alloc, state, &tag)?;
-        Ok(Frozen { slots, cell, shown })
+        let Ok(cell) = park(alloc, state, &tag) else {
+            drop(Items::into_slots(entries));
+            return Err(AllocError);
+        };
+        Ok(Frozen { entries, cell })
     }
 }
 
@@ -199,81 +212,41 @@ impl<K: Drop, V: Drop, T: Indices<K> + Drop, A: Allocator + Copy, R: EntryRule<K
     ///
     /// # Cost
     /// `O(1)`.
+    #[inline(always)]
     pub fn hold(&self) -> Result<FrozenHold<'_, K, V, T, A, R>, InUse>
         ensures same_vector { IfOk result (λ h. h.vector ≡ self.now) }
     {
         let Some(Parked { state, rule: _ }) = self.cell.take() else {
             return Err(InUse);
         };
-        Ok(FrozenHold {
-            slots: &self.slots,
-            cell: &self.cell,
-            shown: &self.shown,
-            state,
-        })
+        Ok(FrozenHold::new(self, state))
     }
 
-    /// Makes a handle that has observed all entries. It allocates nothing.
+    /// Locks the map for one caller, as [`hold`](Self::hold) does. The guard has all entries that
+    /// were observed. It allocates nothing.
+    ///
+    /// # Errors
+    /// Fails with [`InUse`] if the call is made inside another call of the map, or while another
+    /// [`FrozenHold`] of it exists.
     ///
     /// # Cost
     /// `O(1)`.
-    pub fn handle(&self) -> FrozenHandle<'_, K, V, T, A, R>
-        ensures same_vector { result.vector ≡ self.now }
+    pub fn hold_as(
+        &self,
+        observed: &ObservedEntries<'_, K, V, A, R>,
+    ) -> Result<FrozenHold<'_, K, V, T, A, R>, InUse>
+        requires same_vector { observed.now.vector ≡ self.now }
+        ensures same_vector { IfOk result (λ h. h.vector ≡ self.now) }
+        ensures items { IfOk result (λ h. IsPrefix observed.now.seen h.seen) }
     {
-        FrozenHandle {
-            cell: &self.cell,
-            shown: &self.shown,
-            observed: self.observed(),
+        let Some(Parked { state, rule: _ }) = self.cell.take() else {
+            return Err(InUse);
+        };
+        if !is_behind(&observed.evidence(), &state.list) {
+            self.cell.put(Parked::of(state));
+            return Err(InUse);
         }
-    }
-
-    /// Makes a handle that has observed all entries, those of which `seen` is evidence among them:
-    /// a caller that keeps the evidence finds its entries by each call of the handle. It allocates
-    /// nothing. [`obeys_rule`](FrozenHandle::obeys_rule) of the handle that observed the entries
-    /// proves that they obey the rule.
-    ///
-    /// # Cost
-    /// `O(1)`.
-    pub fn handle_since(&self, seen: &Seen<Entry<K, V>, A>) -> FrozenHandle<'_, K, V, T, A, R>
-        requires same_vector { seen.now.vector ≡ self.now }
-        requires limit { length seen.now.seen ≤ 2 ^ 32 - 1 }
-        requires rule { HoldsEach R.holds seen.now.seen }
-        ensures same_vector { result.vector ≡ self.now }
-        ensures entries { IsPrefix seen.now.seen result.seen }
-    {
-        let mut observed = observed_since(&self.slots, seen);
-        let mut all = self.observed();
-        observed.merge(&mut all);
-        FrozenHandle {
-            cell: &self.cell,
-            shown: &self.shown,
-            observed,
-        }
-    }
-
-    /// Returns what the map has so far, to read it while the map grows. It allocates nothing.
-    ///
-    /// # Cost
-    /// `O(1)`.
-    pub fn observed(&self) -> Observed<'_, Entry<K, V>, A>
-        ensures same_vector { result.vector ≡ self.now }
-        ensures limit { length result.seen ≤ 2 ^ 32 - 1 }
-        ensures rule { HoldsEach R.holds result.seen }
-    {
-        self.shown.observe(&self.slots)
-    }
-
-    /// Returns an iterator over the entries so far, in the order of their insertion and each once.
-    /// Others may be inserted while it runs; they are not among its entries. It allocates nothing.
-    ///
-    /// # Cost
-    /// `O(1)`, and so is each entry.
-    pub fn iter(&self) -> Iter<'_, Entry<K, V>, A>
-        ensures limit { length result ≤ 2 ^ 32 - 1 }
-        ensures rule { HoldsEach R.holds result }
-    {
-        let observed = self.observed();
-        observed.iter_from(0)
+        Ok(FrozenHold::new(self, state))
     }
 
     /// Returns the index of the entry whose key `query` finds, and a reference to it.
@@ -285,13 +258,13 @@ impl<K: Drop, V: Drop, T: Indices<K> + Drop, A: Allocator + Copy, R: EntryRule<K
     {
         match self.hold() {
             Ok(hold) => hold.find(query),
-            Err(_) => find_beside::<K, V, T, Q, A, R>(&self.observed(), query),
+            Err(_) => find_beside::<K, V, T, Q, A, R>(&self.entries.observed(), query),
         }
     }
 
     /// Returns a reference to the value of the key that `query` finds, or `None` if the map has no
-    /// such key. It allocates nothing. Which value comes back is not proved beyond the rule: a
-    /// handle's [`get`](FrozenHandle::get) promises it.
+    /// such key. It allocates nothing. Which value comes back is not proved beyond the rule:
+    /// [`get_as`](Self::get_as) promises it.
     ///
     /// A query is a reference to a key, a `&str` for `String` keys, or another that [`Seeks`]
     /// names.
@@ -300,29 +273,12 @@ impl<K: Drop, V: Drop, T: Indices<K> + Drop, A: Allocator + Copy, R: EntryRule<K
     /// One search: one hash and `O(1)` comparisons if the table hashes, `O(log n)` comparisons if
     /// it is ordered. Inside another call of the map, or while a guard exists, one comparison for
     /// each key: `O(n)`.
+    #[inline(always)]
     pub fn get<Q: Seeks<K, T>>(&self, query: Q) -> Option<&V>
         ensures holds { IfSome result (λ v. HoldsAt R.holds (Q.finds query) v.now) }
     {
         let (_, entry) = self.find(query)?;
         Some(entry.value())
-    }
-
-    /// Returns a reference to the value of the key that `query` finds, or `None` if the map has no
-    /// such key. `seen` is evidence of entries that the map has ([`Observed::evidence`]): a key
-    /// among them has exactly the value that it has there. It allocates nothing.
-    ///
-    /// # Cost
-    /// As [`get`](Self::get).
-    pub fn get_since<Q: Seeks<K, T>>(&self, seen: &Seen<Entry<K, V>, A>, query: Q) -> Option<&V>
-        requires same_vector { seen.now.vector ≡ self.now }
-        requires limit { length seen.now.seen ≤ 2 ^ 32 - 1 }
-        requires rule { HoldsEach R.holds seen.now.seen }
-        ensures holds { IfSome result (λ v. HoldsAt R.holds (Q.finds query) v.now) }
-        ensures found { (v : V) → lookup (Q.finds query) (pairs_of seen.now.seen) ≡ Some v →
-            option_map (λ r. r.now) result ≡ Some v }
-    {
-        let mut handle = self.handle_since(seen);
-        handle.get(query)
     }
 
     /// Returns the index of the key that `query` finds, and references to the key and its value, or
@@ -378,26 +334,7 @@ impl<K: Drop, V: Drop, T: Indices<K> + Drop, A: Allocator + Copy, R: EntryRule<K
         ensures limit { IfSome result (λ _. index < 2 ^ 32 - 1) }
         ensures holds { IfSome result (λ r. R.holds r.0.now r.1.now) }
     {
-        pair_at::<K, V, A, R>(&self.observed(), index)
-    }
-
-    /// Returns the number of keys. It allocates nothing.
-    ///
-    /// # Cost
-    /// `O(1)`.
-    pub fn len(&self) -> usize
-        ensures limit { result ≤ 2 ^ 32 - 1 }
-    {
-        let observed = self.observed();
-        observed.len()
-    }
-
-    /// Returns whether the map has no key. It allocates nothing.
-    ///
-    /// # Cost
-    /// `O(1)`.
-    pub fn is_empty(&self) -> bool {
-        self.len() == 0
+        pair_at::<K, V, A, R>(&self.entries.observed(), index)
     }
 
     /// Returns whether the map has the greatest number of entries, `2^32 - 1`. It allocates
@@ -406,7 +343,7 @@ impl<K: Drop, V: Drop, T: Indices<K> + Drop, A: Allocator + Copy, R: EntryRule<K
     /// # Cost
     /// `O(1)`.
     pub fn is_full(&self) -> bool {
-        self.len() == MOST
+        self.entries.len() == MOST
     }
 
     /// Reserves room for `additional` more entries, as a guard's [`FrozenHold::reserve`] does.
@@ -452,7 +389,7 @@ impl<K: Drop, V: Drop, T: Indices<K> + Drop, A: Allocator + Copy, R: EntryRule<K
     /// Inserts a value unless the map has an equal key. Returns the value that the key then has,
     /// its index in the order of insertion, and whether the key was new. A present key keeps its
     /// value, and `key` and `value` are dropped. Which value a present key has is not proved beyond
-    /// the rule: a handle's [`insert_new`](FrozenHandle::insert_new) promises it.
+    /// the rule: [`insert_new_as`](Self::insert_new_as) promises it.
     ///
     /// # Errors
     /// Fails with [`CellFault::Memory`] if an allocation fails, with [`CellFault::Full`] if the map
@@ -479,7 +416,7 @@ impl<K: Drop, V: Drop, T: Indices<K> + Drop, A: Allocator + Copy, R: EntryRule<K
             return Err(CellFault::InUse(value));
         };
         let inserted = hold.insert_new(key, value);
-        hold.obeys_rule();
+        hold.obeys_invariant();
         inserted
     }
 
@@ -497,7 +434,8 @@ impl<K: Drop, V: Drop, T: Indices<K> + Drop, A: Allocator + Copy, R: EntryRule<K
     /// As [`insert_new`](Self::insert_new) does.
     ///
     /// # Cost
-    /// That of [`insert_new`](Self::insert_new) for each pair.
+    /// That of [`insert_new`](Self::insert_new) for each pair. A look-up by key that the iterator
+    /// makes in this map compares one key after the other: `O(n)`.
     pub fn extend<I: IntoIterator<Item = (K, V)> + Drop>(
         &self,
         pairs: I,
@@ -519,9 +457,8 @@ impl<K: Drop, V: Drop, T: Indices<K> + Drop, A: Allocator + Copy, R: EntryRule<K
         }
     }
 
-    /// Inserts a key with the value that `make` returns, unless the map has an equal key, as a
-    /// handle's [`insert_with`](FrozenHandle::insert_with) does. While `make` runs, no call has the
-    /// map.
+    /// Inserts a key with the value that `make` returns, unless the map has an equal key, as
+    /// [`insert_with_as`](Self::insert_with_as) does. While `make` runs, no call has the map.
     ///
     /// # Errors
     /// Fails as [`insert_new`](Self::insert_new) does. Each error contains the value if `make` had
@@ -543,9 +480,9 @@ impl<K: Drop, V: Drop, T: Indices<K> + Drop, A: Allocator + Copy, R: EntryRule<K
         ensures made { IfOk result (λ r. r.is_new ≡ true → F.post make r.value.now) }
         ensures limit { IfOk result (λ r. r.index < 2 ^ 32 - 1) }
     {
-        let mut handle = self.handle();
-        let inserted = handle.insert_with(key, make);
-        handle.obeys_rule();
+        let mut observed = self.entries.observed();
+        let inserted = self.insert_with_as(&mut observed, key, make);
+        observed.obeys_invariant();
         inserted
     }
 
@@ -575,15 +512,15 @@ impl<K: Drop, V: Drop, T: Indices<K> + Drop, A: Allocator + Copy, R: EntryRule<K
         ensures limit { IfOk result (λ r. r.index < 2 ^ 32 - 1) }
         ensures cause { IfErr result (λ f. (e : E) → f ≡ TryFault.Value e → F.post make (Err e)) }
     {
-        let mut handle = self.handle();
-        let inserted = handle.try_insert_with(key, make);
-        handle.obeys_rule();
+        let mut observed = self.entries.observed();
+        let inserted = self.try_insert_with_as(&mut observed, key, make);
+        observed.obeys_invariant();
         inserted
     }
 
     /// Looks up the key that `query` finds, and inserts the entry that `make` returns if the map
-    /// has no such key, as a handle's [`insert_by`](FrozenHandle::insert_by) does. While `make`
-    /// runs, no call has the map.
+    /// has no such key, as [`insert_by_as`](Self::insert_by_as) does. While `make` runs, no call
+    /// has the map.
     ///
     /// # Errors
     /// Fails with the error of `make`, and with one that is made of a [`Fault`] as
@@ -606,9 +543,9 @@ impl<K: Drop, V: Drop, T: Indices<K> + Drop, A: Allocator + Copy, R: EntryRule<K
         ensures cause { IfErr result (λ e. F.post make (Err e) ⊎ ((f : Fault) × E.from_gives f e)) }
         ensures limit { IfOk result (λ r. r.index < 2 ^ 32 - 1) }
     {
-        let mut handle = self.handle();
-        let inserted = handle.insert_by(query, make);
-        handle.obeys_rule();
+        let mut observed = self.entries.observed();
+        let inserted = self.insert_by_as(&mut observed, query, make);
+        observed.obeys_invariant();
         inserted
     }
 
@@ -642,21 +579,19 @@ impl<K: Drop, V: Drop, T: Indices<K> + Drop, A: Allocator + Copy, R: EntryRule<K
 
     /// Makes the map of its state again, which may be lost.
     fn again(
-        slots: Slots<Entry<K, V>, A>,
-        shown: Shown<Entry<K, V>, A, OfMap<R>>,
+        entries: Items<Entry<K, V>, A, OfMap<R>>,
         state: Option<Box<MapState<K, V, T, A>, A>>,
     ) -> Self
-        requires state { IfSome state (λ s. IsMapOf T.is_for
-            slots s.value.list s.value.table × HoldsEach R.holds s.value.list.prefix.items) }
-        requires shown { shown ≡ slots }
-        ensures { result ≡ slots }
+        requires { IfSome state (λ s. IsMapOf T.is_for
+            entries s.value.list s.value.table × HoldsEach R.holds s.value.list.prefix.items) }
+        ensures { result ≡ entries }
     {
-        let tag = Tag::of::<Slots<Entry<K, V>, A>, OfSlots>(&slots);
+        let tag = Items::tag(&entries);
         let cell = match state {
             Some(state) => Shared::new(Parked::of(state), &tag),
             None => Shared::lost(&tag),
         };
-        Frozen { slots, cell, shown }
+        Frozen { entries, cell }
     }
 
     /// Moves all entries into a vector of `alloc`, in the order of insertion, and drops none.
@@ -675,22 +610,21 @@ impl<K: Drop, V: Drop, T: Indices<K> + Drop, A: Allocator + Copy, R: EntryRule<K
     pub fn into_tuple_vec<Z: Allocator>(
         self,
         alloc: Z,
-        seen: &Seen<Entry<K, V>, A>,
+        seen: &SeenEntries<K, V, A, R>,
     ) -> Result<Vec<(K, V), Z>, CellFault<Self>>
         requires same_vector { seen.now.vector ≡ self }
         ensures items { IfOk result (λ all. IsPrefix (pairs_of seen.now.seen) all.items) }
         ensures given_back { IfErr result (λ f. (f ≡ CellFault.Memory self)
             ⊎ (f ≡ CellFault.InUse self)) }
     {
-        let (slots, shown, state) = self.into_parts(seen)?;
+        let (entries, state) = self.into_parts(seen)?;
         let Ok(items) = Vec::with_capacity(alloc, state.list.count) else {
-            return Err(CellFault::Memory(Frozen::again(slots, shown, Some(state))));
+            return Err(CellFault::Memory(Frozen::again(entries, Some(state))));
         };
-        drop(shown);
         let mut all = Pairs { items };
         Box::into_inner(state)
             .into_list()
-            .move_items(slots, &mut all);
+            .move_items(Items::into_slots(entries), &mut all);
         let Pairs { items } = all;
         Ok(items)
     }
@@ -701,31 +635,30 @@ impl<K: Drop, V: Drop, T: Indices<K> + Drop, A: Allocator + Copy, R: EntryRule<K
     /// Fails with the map if a guard of it was forgotten.
     fn into_parts(
         self,
-        seen: &Seen<Entry<K, V>, A>,
+        seen: &SeenEntries<K, V, A, R>,
     ) -> Result<
         (
-            Slots<Entry<K, V>, A>,
-            Shown<Entry<K, V>, A, OfMap<R>>,
+            Items<Entry<K, V>, A, OfMap<R>>,
             Box<MapState<K, V, T, A>, A>,
         ),
         CellFault<Self>,
     >
         requires same_vector { seen.now.vector ≡ self }
         ensures state { IfOk result (λ parts. IsMapOf T.is_for
-            parts.0 parts.2.value.list parts.2.value.table
-            × HoldsEach R.holds parts.2.value.list.prefix.items) }
-        ensures same_slots { IfOk result (λ parts. (parts.0 ≡ self) × (parts.1 ≡ self)) }
-        ensures items { IfOk result (λ parts. IsPrefix seen.now.seen parts.2.value.list.prefix.items) }
+            parts.0 parts.1.value.list parts.1.value.table
+            × HoldsEach R.holds parts.1.value.list.prefix.items) }
+        ensures same_slots { IfOk result (λ parts. parts.0 ≡ self) }
+        ensures items { IfOk result (λ parts. IsPrefix seen.now.seen parts.1.value.list.prefix.items) }
         ensures given_back { IfErr result (λ f. f ≡ CellFault.InUse self) }
     {
-        let Self { slots, cell, shown } = self;
+        let Self { entries, cell } = self;
         let Some(Parked { state, rule: _ }) = cell.into_state() else {
-            return Err(CellFault::InUse(Frozen::again(slots, shown, None)));
+            return Err(CellFault::InUse(Frozen::again(entries, None)));
         };
-        if !is_evidence_behind(seen, &state.list) {
-            return Err(CellFault::InUse(Frozen::again(slots, shown, Some(state))));
+        if !is_behind(seen, &state.list) {
+            return Err(CellFault::InUse(Frozen::again(entries, Some(state))));
         }
-        Ok((slots, shown, state))
+        Ok((entries, state))
     }
 }
 
@@ -735,22 +668,21 @@ impl<K: Drop, T: Indices<K> + Drop, A: Allocator + Copy> Frozen<K, (), T, A> {
     pub(crate) fn into_key_vec<Z: Allocator>(
         self,
         alloc: Z,
-        seen: &Seen<Entry<K, ()>, A>,
+        seen: &SeenEntries<K, (), A>,
     ) -> Result<Vec<K, Z>, CellFault<Self>>
         requires same_vector { seen.now.vector ≡ self }
         ensures items { IfOk result (λ all. IsPrefix (map key_of seen.now.seen) all.items) }
         ensures given_back { IfErr result (λ f. (f ≡ CellFault.Memory self)
             ⊎ (f ≡ CellFault.InUse self)) }
     {
-        let (slots, shown, state) = self.into_parts(seen)?;
+        let (entries, state) = self.into_parts(seen)?;
         let Ok(items) = Vec::with_capacity(alloc, state.list.count) else {
-            return Err(CellFault::Memory(Frozen::again(slots, shown, Some(state))));
+            return Err(CellFault::Memory(Frozen::again(entries, Some(state))));
         };
-        drop(shown);
         let mut all = Keys { items };
         Box::into_inner(state)
             .into_list()
-            .move_items(slots, &mut all);
+            .move_items(Items::into_slots(entries), &mut all);
         let Keys { items } = all;
         Ok(items)
     }

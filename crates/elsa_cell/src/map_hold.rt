@@ -3,30 +3,29 @@ ghost use Rattle.std.specs.Prelude.{◌≡◌, ◌↔◌, ◌+◌, ◌-◌, ◌<
 ghost use Rattle.std.specs.Iterator.{IsFinite};
 ghost use Rattle.std.specs.Map.{lookup};
 ghost use Rattle.std.specs.Option.{option_map};
-ghost use Rattle.elsa_cell.specs.Entries.{HoldsEach, Inserts, key_of, pair_of, pairs_of};
+ghost use Rattle.elsa_cell.specs.Entries.{HoldsEach, Inserts, IsMapOf, key_of, pair_of, pairs_of};
 ghost use Rattle.elsa_cell.specs.Extended.{ExtendsByFirsts, YieldsHolding};
 ghost use Rattle.elsa_tables.specs.Rules.{HoldsAt};
 ghost use Rattle.elsa_arena.specs.Faults.{Refuses};
 ghost use Rattle.elsa_arena.specs.Observed.{Continues};
 
 use crate::indices::{Indices, Seeks};
-use crate::map::{Entry, pair_at};
-use crate::map_handle::FrozenHandle;
-use crate::map_state::{MOST, MapState, OfMap, Parked};
+use crate::map::{Entry, Frozen};
+use crate::map_state::{MOST, MapState, ObservedEntries, Parked};
 use elsa_arena::fault::{CellFault, Fault};
-use elsa_arena::observed::Observed;
-use elsa_arena::shared::Shared;
-use elsa_arena::shown::Shown;
-use elsa_arena::views::observe;
-use elsa_slots::slots::Slots;
+use elsa_arena::items::Items;
+use elsa_arena::views::{evidence_of, observe, set_observed, slots_of};
 use elsa_tables::{AnyEntries, EntryRule, Inserted};
 use std::alloc::{Allocator, Global};
 use std::marker::Model;
+use std::ops::Deref;
 
 /// A lock guard of a map: its caller alone inserts, and each other insertion fails with [`InUse`].
 /// Contracts see the map, by the names of its buffers, and all its entries.
 ///
-/// It is the form for a loop of insertions, and for what needs the whole map unchanged.
+/// It is the form for a loop of insertions, and for what needs the whole map unchanged. It has
+/// observed all entries, and its reads by index are those of [`Observed`](elsa_arena::Observed), to
+/// which it dereferences.
 pub struct FrozenHold<
     'm,
     K: Drop,
@@ -35,9 +34,9 @@ pub struct FrozenHold<
     A: Allocator + Copy = Global,
     R: EntryRule<K, V> = AnyEntries,
 > {
-    pub(crate) slots: &'m Slots<Entry<K, V>, A>,
-    pub(crate) cell: &'m Shared<Parked<K, V, T, A, R>>,
-    pub(crate) shown: &'m Shown<Entry<K, V>, A, OfMap<R>>,
+    pub(crate) map: &'m Frozen<K, V, T, A, R>,
+    // All entries.
+    pub(crate) observed: ObservedEntries<'m, K, V, A, R>,
     pub(crate) state: Box<MapState<K, V, T, A>, A>,
 }
 
@@ -45,29 +44,45 @@ impl<'m, K: Drop, V, T: Indices<K> + Drop, A: Allocator + Copy, R: EntryRule<K, 
     for FrozenHold<'m, K, V, T, A, R> {
     ghost use Rattle.std.specs.Prelude.{◌≡◌};
     ghost use Rattle.elsa_arena.specs.Observed.{View};
-    ghost use Rattle.elsa_cell.specs.Entries.{HoldsEach, IsMapOf};
+    ghost use Rattle.elsa_cell.specs.Entries.{IsMapOf};
     ghost use Rattle.elsa_cell.specs.declared.map.Entry.{Entry};
 
     ghost Value = { View (Entry K V) };
 
-    ghost view = { λ h. record { vector = h.slots.now; seen = h.state.value.list.prefix.items } };
+    ghost view = { λ h. h.observed };
 
-    // The table has the index of each key in the state's list, and the rule holds for each entry.
+    // The table has the index of each key in the state's list, all of which is observed.
     ghost invariant = { λ h. IsMapOf T.is_for
-        h.slots.now h.state.value.list h.state.value.table × (h.cell.now.numbers ≡ h.slots.now)
-        × (h.shown.now ≡ h.slots.now) × HoldsEach R.holds h.state.value.list.prefix.items };
+        h.map.now h.state.value.list h.state.value.table × (h.observed.vector ≡ h.map.now)
+        × (h.observed.seen ≡ h.state.value.list.prefix.items) };
 }
 
 impl<K: Drop, V, T: Indices<K> + Drop, A: Allocator + Copy, R: EntryRule<K, V>> Drop
     for FrozenHold<'_, K, V, T, A, R> {
+    #[inline(always)]
     fn drop(self) {
         let Self {
-            slots: _,
-            cell,
-            shown: _,
+            map,
+            observed,
             state,
         } = self;
-        cell.put(Parked::of(state));
+        observed.obeys_invariant();
+        drop(observed);
+        map.cell.put(Parked::of(state));
+    }
+}
+
+impl<'m, K: Drop, V, T: Indices<K> + Drop, A: Allocator + Copy, R: EntryRule<K, V>> Deref
+    for FrozenHold<'m, K, V, T, A, R> {
+    ghost use Rattle.std.specs.Prelude.{◌≡◌};
+
+    type Target = ObservedEntries<'m, K, V, A, R>;
+
+    ghost deref_gives = { λ h o. o ≡ h };
+
+    #[inline(always)]
+    fn deref(&self) -> &ObservedEntries<'m, K, V, A, R> {
+        &self.observed
     }
 }
 
@@ -79,49 +94,39 @@ impl<
     A: Allocator + Copy,
     R: EntryRule<K, V>,
 > FrozenHold<'m, K, V, T, A, R> {
-    /// Returns all entries, to read them after the guard is dropped.
-    pub fn observed(&self) -> Observed<'m, Entry<K, V>, A>
-        ensures same_view { result ≡ self.now }
-        ensures limit { length result.seen ≤ 2 ^ 32 - 1 }
-        ensures rule { HoldsEach R.holds result.seen }
+    /// Makes a guard that has the state.
+    pub(crate) fn new(
+        map: &'m Frozen<K, V, T, A, R>,
+        state: Box<MapState<K, V, T, A>, A>,
+    ) -> FrozenHold<'m, K, V, T, A, R>
+        requires state { IsMapOf T.is_for map.now state.value.list state.value.table }
+        requires rule { HoldsEach R.holds state.value.list.prefix.items }
+        ensures vector { result.vector ≡ map.now }
+        ensures entries { result.seen ≡ state.value.list.prefix.items }
     {
-        observe(self.slots, &self.state.list)
-    }
-
-    /// Makes a handle that has observed all entries. It allocates nothing.
-    pub fn handle(&self) -> FrozenHandle<'m, K, V, T, A, R>
-        ensures same_view { result ≡ self.now }
-    {
-        FrozenHandle {
-            cell: self.cell,
-            shown: self.shown,
-            observed: self.observed(),
+        let slots = Items::slots(&map.entries);
+        let observed = observe(slots, evidence_of(&state.list, slots));
+        FrozenHold {
+            map,
+            observed,
+            state,
         }
     }
 
-    /// Proves that each entry obeys the rule. It does nothing when it runs.
-    pub fn obeys_rule(&self)
-        ensures { HoldsEach R.holds self.now.seen }
+    /// Drops the guard. All its entries are then observed.
+    pub(crate) fn release(self, observed: &mut ObservedEntries<'_, K, V, A, R>)
+        requires same_vector { self.vector ≡ observed.old.vector }
+        ensures same { observed.new.vector ≡ observed.old.vector }
+        ensures seen { observed.new.seen ≡ self.entry.seen }
     {
-        let _ = &self.slots;
-    }
-
-    /// Returns the number of keys.
-    ///
-    /// # Cost
-    /// `O(1)`.
-    pub fn len(&self) -> usize
-        ensures length { result ≡ length self.now.seen }
-        ensures limit { result ≤ 2 ^ 32 - 1 }
-    {
-        self.state.list.count
+        set_observed(observed, self.observed.evidence());
     }
 
     /// Returns whether the map has the greatest number of entries, `2^32 - 1`.
     pub fn is_full(&self) -> bool
         ensures full { IsTrue result ↔ (length self.now.seen ≡ 2 ^ 32 - 1) }
     {
-        self.len() == MOST
+        self.observed.len() == MOST
     }
 
     /// Reserves room for `additional` more entries.
@@ -144,25 +149,16 @@ impl<
         if additional > MOST - self.state.list.count {
             return Err(Fault::Full);
         }
-        let slots = self.slots;
+        let slots = slots_of(&self.observed);
         match self.state.reserve(slots, additional) {
             Ok(()) => Ok(()),
             Err(_) => Err(Fault::Memory),
         }
     }
 
-    /// Returns a reference to the entry at an index.
-    pub(crate) fn entry_at(&self, index: usize) -> &'m Entry<K, V>
-        requires { index < length self.now.seen }
-        ensures entry { slice_get self.now.seen index ≡ Some result.now }
-        ensures holds { R.holds (key_of result.now) result.now.value }
-    {
-        let observed = self.observed();
-        observed.item(index)
-    }
-
     /// Returns the index of the entry whose key `query` finds, and a reference to it.
     #[tactic(auto, using(crate::proofs::EntryLemmas::absent_at, crate::proofs::EntryLemmas::within_at, crate::proofs::EntryLemmas::passes_at))]
+    #[inline(always)]
     pub(crate) fn find<Q: Seeks<K, T>>(&self, query: Q) -> Option<(usize, &'m Entry<K, V>)>
         ensures found_key { IfSome result (λ f. (Q.finds query (key_of f.1.now) ≡ true)
             × R.holds (key_of f.1.now) f.1.now.value) }
@@ -173,8 +169,8 @@ impl<
             ≡ lookup (Q.finds query) (pairs_of self.now.seen) }
         ensures limit { IfSome result (λ f. f.0 < 2 ^ 32 - 1) }
     {
-        let index = self.state.find(self.slots, query)?;
-        Some((index, self.entry_at(index)))
+        let index = self.state.find(&self.observed, query)?;
+        Some((index, self.observed.item(index)))
     }
 
     /// Returns the index of the entry whose key equals `key`, and a reference to it.
@@ -187,8 +183,8 @@ impl<
             ≡ lookup (T.same key.now) (pairs_of self.now.seen) }
         ensures limit { IfSome result (λ f. f.0 < 2 ^ 32 - 1) }
     {
-        match self.state.seek(self.slots, key) {
-            Ok(present) => Some((present, self.entry_at(present))),
+        match self.state.seek(&self.observed, key) {
+            Ok(present) => Some((present, self.observed.item(present))),
             Err(_) => None,
         }
     }
@@ -229,20 +225,6 @@ impl<
         Some((index, entry.key(), entry.value()))
     }
 
-    /// Returns references to the key and the value at an index, or `None` exactly if the index is
-    /// at or above the number of keys. It allocates nothing.
-    ///
-    /// # Cost
-    /// `O(1)`.
-    pub fn get_index(&self, index: usize) -> Option<(&'m K, &'m V)>
-        ensures entry { option_map (λ r. (r.0.now, r.1.now)) result
-            ≡ slice_get (pairs_of self.now.seen) index }
-        ensures holds { IfSome result (λ r. R.holds r.0.now r.1.now) }
-    {
-        let observed = self.observed();
-        pair_at::<K, V, A, R>(&observed, index)
-    }
-
     /// Inserts a value unless the map has an equal key. Returns the value that the key then has,
     /// its index in the order of insertion, and whether the key was new. A present key keeps its
     /// value, and `key` and `value` are dropped.
@@ -280,7 +262,7 @@ impl<
             }),
             Err(entry) => {
                 let Entry { key: _key, value } = entry;
-                Err(if self.len() < MOST {
+                Err(if self.observed.len() < MOST {
                     CellFault::Memory(value)
                 } else {
                     CellFault::Full(value)
@@ -345,20 +327,24 @@ impl<
         ensures refused { IfErr result (λ _. (self.new ≡ self.old)
             × (lookup (T.same key) (pairs_of self.old.seen) ≡ None)) }
     {
-        let missing = match self.state.seek(self.slots, &key) {
+        self.observed.obeys_invariant();
+        let missing = match self.state.seek(&self.observed, &key) {
             Ok(present) => {
                 return Ok(Inserted {
-                    value: self.entry_at(present),
+                    value: self.observed.item(present),
                     index: present,
                     is_new: false,
                 });
             }
             Err(missing) => missing,
         };
-        let slots = self.slots;
+        let map = self.map;
+        let slots = slots_of(&self.observed);
         match self.state.add(slots, missing, Entry { key, value }) {
             Ok((index, entry)) => {
-                self.shown.set(&self.state.list);
+                let seen = evidence_of(&self.state.list, slots);
+                Items::show(&map.entries, seen.again());
+                set_observed(&mut self.observed, seen);
                 return Ok(Inserted {
                     value: entry,
                     index,

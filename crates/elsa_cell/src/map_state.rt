@@ -7,14 +7,13 @@ use crate::indices::{Indices, KeyList, Seeks};
 use crate::map::Entry;
 use boxcar::tag::Tag;
 use counted_slot::Fits;
-use elsa_arena::observed::Observed;
+use elsa_arena::invariant::Invariant;
+use elsa_arena::observed::{Observed, Seen};
 use elsa_arena::shared::Shared;
-use elsa_arena::shown::Bounds;
 use elsa_arena::state::{self, State, push_item};
-use elsa_arena::views::observe;
 use elsa_slots::slots::{Sink, Slots};
-use elsa_tables::EntryRule;
-use std::alloc::{AllocError, Allocator};
+use elsa_tables::{AnyEntries, EntryRule};
+use std::alloc::{AllocError, Allocator, Global};
 use std::marker::PhantomData;
 
 /// The greatest number of entries: a table has 32 bits for an index plus 1.
@@ -25,7 +24,7 @@ pub struct OfMap<R> {
     rule: PhantomData<R>,
 }
 
-impl<K, V, R: EntryRule<K, V>> Bounds<Entry<K, V>> for OfMap<R> {
+impl<K, V, R: EntryRule<K, V>> Invariant<Entry<K, V>> for OfMap<R> {
     ghost use Rattle.std.specs.Prelude.{◌-◌, ◌^◌};
 
     ghost most = { 2 ^ 32 - 1 };
@@ -48,6 +47,7 @@ impl<K, V, Z: Allocator> Sink<Entry<K, V>> for Pairs<K, V, Z> {
 
     ghost capacity = { λ p. vec_capacity p.items };
 
+    #[inline(always)]
     fn receive(&mut self, item: Entry<K, V>) {
         let Entry { key, value } = item;
         self.items.push_reserved((key, value));
@@ -69,14 +69,27 @@ impl<K, Z: Allocator> Sink<Entry<K, ()>> for Keys<K, Z> {
 
     ghost capacity = { λ p. vec_capacity p.items };
 
+    #[inline(always)]
     fn receive(&mut self, item: Entry<K, ()>) {
         let Entry { key, value: _ } = item;
         self.items.push_reserved(key);
     }
 }
 
+/// What was observed of a map: a prefix of its entries.
+pub type ObservedEntries<'m, K, V, A = Global, R = AnyEntries> = Observed<
+    'm,
+    Entry<K, V>,
+    A,
+    OfMap<R>,
+>;
+
+/// Evidence of what was observed of a map ([`Seen`]).
+pub type SeenEntries<K, V, A = Global, R = AnyEntries> = Seen<Entry<K, V>, A, OfMap<R>>;
+
 /// The keys of observed entries.
-impl<K, V, A: Allocator + Copy> KeyList<K> for Observed<'_, Entry<K, V>, A> {
+impl<K, V, A: Allocator + Copy, L: Invariant<Entry<K, V>>> KeyList<K>
+    for Observed<'_, Entry<K, V>, A, L> {
     ghost use Rattle.std.specs.Prelude.{map};
     ghost use Rattle.elsa_cell.specs.Entries.{key_of};
 
@@ -135,6 +148,7 @@ impl<K: Drop, V, T: Indices<K> + Drop, A: Allocator + Copy, R: EntryRule<K, V>> 
     R,
 > {
     /// Marks a state, whose entries obey the rule.
+    #[inline(always)]
     pub(crate) fn of(state: Box<MapState<K, V, T, A>, A>) -> Parked<K, V, T, A, R>
         ensures { result.state ≡ state }
     {
@@ -149,6 +163,7 @@ impl<K: Drop, V, T: Indices<K> + Drop, A: Allocator + Copy, R: EntryRule<K, V>> 
 ///
 /// # Errors
 /// Fails if an allocation fails.
+#[inline(always)]
 pub(crate) fn park<K: Drop, V, T: Indices<K> + Drop, A: Allocator + Copy, R: EntryRule<K, V>>(
     alloc: A,
     state: MapState<K, V, T, A>,
@@ -176,32 +191,37 @@ impl<K: Drop, V, T: Indices<K> + Drop, A: Allocator + Copy> MapState<K, V, T, A>
         list
     }
 
-    /// Returns the index of the key that `query` finds. It allocates nothing.
+    /// Returns the index of the key that `query` finds in the entries of the list. It allocates
+    /// nothing.
     #[inline(always)]
-    pub(crate) fn find<Q: Seeks<K, T>>(
+    pub(crate) fn find<Q: Seeks<K, T>, L: Invariant<Entry<K, V>>>(
         &self,
-        slots: &Slots<Entry<K, V>, A>,
+        entries: &Observed<'_, Entry<K, V>, A, L>,
         query: Q,
     ) -> Option<usize>
-        requires { IsMapOf T.is_for slots.now self.now.list self.now.table }
-        ensures { result ≡ position (Q.finds query) (map key_of self.now.list.prefix.items) }
+        requires { T.is_for self.now.table (map key_of entries.now.seen) }
+        ensures { result ≡ position (Q.finds query) (map key_of entries.now.seen) }
     {
-        query.seek(&self.table, &observe(slots, &self.list))
+        query.seek(&self.table, entries)
     }
 
     /// Returns the index of the key that equals `key`, or `Err` with the end of the search. It
     /// allocates nothing.
     #[inline(always)]
-    pub(crate) fn seek(&self, slots: &Slots<Entry<K, V>, A>, key: &K) -> Result<usize, T::End>
-        requires { IsMapOf T.is_for slots.now self.now.list self.now.table }
+    pub(crate) fn seek<L: Invariant<Entry<K, V>>>(
+        &self,
+        entries: &Observed<'_, Entry<K, V>, A, L>,
+        key: &K,
+    ) -> Result<usize, T::End>
+        requires { T.is_for self.now.table (map key_of entries.now.seen) }
         ensures found { IfOk result (λ i.
-            position (T.same key.now) (map key_of self.now.list.prefix.items) ≡ Some i) }
+            position (T.same key.now) (map key_of entries.now.seen) ≡ Some i) }
         ensures absent { OnErr result (
-            position (T.same key.now) (map key_of self.now.list.prefix.items) ≡ None) }
+            position (T.same key.now) (map key_of entries.now.seen) ≡ None) }
         ensures end { IfErr result (λ e.
-            T.ends self.now.table (map key_of self.now.list.prefix.items) key.now e) }
+            T.ends self.now.table (map key_of entries.now.seen) key.now e) }
     {
-        self.table.seek(&observe(slots, &self.list), key)
+        self.table.seek(entries, key)
     }
 
     /// Makes room for `additional` more entries.

@@ -14,10 +14,8 @@ ghost use Rattle.elsa_cell.specs.Queries.{equal_alike, higher_stays, lower_stays
 
 use crate::indices::{Indices, KeyList, Seeks};
 use crate::map::{Entry, Frozen};
-use crate::map_handle::FrozenHandle;
 use crate::map_hold::FrozenHold;
-use crate::map_state::MOST;
-use elsa_arena::observed::Observed;
+use crate::map_state::{MOST, ObservedEntries};
 use elsa_tables::{AnyEntries, EntryRule};
 use std::alloc::{AllocError, Allocator, Global};
 use std::cmp::Ordering;
@@ -412,16 +410,6 @@ impl<K: Ord, Q: OrderQuery<K>, A: Allocator + Copy> Seeks<K, Ordered<A>> for Q {
 /// block may still grow to 256 keys.
 pub type FrozenBTreeMap<K, V, A = Global, R = AnyEntries> = Frozen<K, V, Ordered<A>, A, R>;
 
-/// The handle of a [`FrozenBTreeMap`].
-pub type BTreeHandle<'m, K, V, A = Global, R = AnyEntries> = FrozenHandle<
-    'm,
-    K,
-    V,
-    Ordered<A>,
-    A,
-    R,
->;
-
 /// The lock guard of a [`FrozenBTreeMap`].
 pub type BTreeHold<'m, K, V, A = Global, R = AnyEntries> = FrozenHold<'m, K, V, Ordered<A>, A, R>;
 
@@ -454,9 +442,9 @@ impl<K: Ord + Drop, V: Drop, A: Allocator + Copy, R: EntryRule<K, V>> FrozenBTre
 /// An iterator over the entries of a [`FrozenBTreeMap`], ascending by key. Contracts see the
 /// entries that are left.
 #[derive(Drop)]
-pub struct Ascending<'h, 'm, K, V, A: Allocator + Copy = Global> {
+pub struct Ascending<'h, 'm, K, V, A: Allocator + Copy = Global, R: EntryRule<K, V> = AnyEntries> {
     blocks: &'h [Vec<u32, A>],
-    observed: Observed<'m, Entry<K, V>, A>,
+    observed: ObservedEntries<'m, K, V, A, R>,
     /// The block of the next index, and its position in it.
     at: usize,
     next: usize,
@@ -464,7 +452,8 @@ pub struct Ascending<'h, 'm, K, V, A: Allocator + Copy = Global> {
     left: usize,
 }
 
-impl<'h, 'm, K, V, A: Allocator + Copy> Model for Ascending<'h, 'm, K, V, A> {
+impl<'h, 'm, K, V, A: Allocator + Copy, R: EntryRule<K, V>> Model
+    for Ascending<'h, 'm, K, V, A, R> {
     ghost use Rattle.std.specs.Prelude.{◌≡◌, ◌+◌, ◌<◌, ℕ, List, Some, drop, length, slice_get, vec_items};
     ghost use Rattle.elsa_cell.specs.Ordered.{IsWalkAt, joined, picked, rank_of};
     ghost use Rattle.elsa_cell.specs.declared.map.Entry.{Entry};
@@ -494,7 +483,8 @@ fn next_position(at: usize, position: usize, len: usize) -> (usize, usize)
     (at + 1, 0)
 }
 
-impl<'h, 'm, K, V, A: Allocator + Copy> Iterator for Ascending<'h, 'm, K, V, A> {
+impl<'h, 'm, K, V, A: Allocator + Copy, R: EntryRule<K, V>> Iterator
+    for Ascending<'h, 'm, K, V, A, R> {
     type Item = &'m Entry<K, V>;
 
     ghost next_gives = { YieldsFirstRef (λ left. left) };
@@ -530,12 +520,12 @@ impl<'m, K: Ord + Drop, V: Drop, A: Allocator + Copy, R: EntryRule<K, V>> BTreeH
     ///
     /// # Cost
     /// `O(1)`, and so is each entry.
-    pub fn ascending(&self) -> Ascending<'_, 'm, K, V, A>
+    pub fn ascending(&self) -> Ascending<'_, 'm, K, V, A, R>
         ensures in_order { IsInOrder K.cmp self.now.seen result }
     {
         Ascending {
             blocks: self.state.table.blocks.as_slice(),
-            observed: self.observed(),
+            observed: self.observed.again(),
             at: 0,
             next: 0,
             left: self.state.table.count,
@@ -548,7 +538,7 @@ impl<'m, K: Ord + Drop, V: Drop, A: Allocator + Copy, R: EntryRule<K, V>> BTreeH
         ensures entry { (i : ℕ) × (slice_get self.now.seen i ≡ Some result.now) }
         ensures least { IsLeast K.cmp (key_of result.now) (map key_of self.now.seen) }
     {
-        self.entry_at(self.state.table.first())
+        self.observed.item(self.state.table.first())
     }
 
     /// Returns the entry of the greatest key.
@@ -557,7 +547,7 @@ impl<'m, K: Ord + Drop, V: Drop, A: Allocator + Copy, R: EntryRule<K, V>> BTreeH
         ensures entry { (i : ℕ) × (slice_get self.now.seen i ≡ Some result.now) }
         ensures greatest { IsGreatest K.cmp (key_of result.now) (map key_of self.now.seen) }
     {
-        self.entry_at(self.state.table.last())
+        self.observed.item(self.state.table.last())
     }
 
     /// Returns references to the least key and its value, or `None` exactly if the map has no
@@ -572,7 +562,7 @@ impl<'m, K: Ord + Drop, V: Drop, A: Allocator + Copy, R: EntryRule<K, V>> BTreeH
         ensures least { IfSome result (λ r.
             IsLeast K.cmp r.0.now (map key_of self.now.seen)) }
     {
-        if self.len() == 0 {
+        if self.observed.len() == 0 {
             return None;
         }
         let entry = self.first_entry();
@@ -591,7 +581,7 @@ impl<'m, K: Ord + Drop, V: Drop, A: Allocator + Copy, R: EntryRule<K, V>> BTreeH
         ensures greatest { IfSome result (λ r.
             IsGreatest K.cmp r.0.now (map key_of self.now.seen)) }
     {
-        if self.len() == 0 {
+        if self.observed.len() == 0 {
             return None;
         }
         let entry = self.last_entry();

@@ -43,19 +43,24 @@ impl<'t> Editor<'t> {
     /// unchanged; words that are symbols already stay.
     pub fn type_line(&mut self, text: &str) -> Result<usize, EditFault> {
         let version = self.versions.len().saturating_add(1);
-        let mut symbols = self.table.handle();
         let mut line = Vec::new(self.alloc);
         for word in text.split_whitespace() {
-            let number = match symbols.get_full(word) {
+            let number = match self.table.get_full(word) {
                 Some((number, _, _)) => number,
                 None => {
                     let key = String::from_str(self.alloc, word)?;
-                    symbols.insert_new(key, version).map_err(Fault::from)?.index
+                    let inserted = self.table.insert_new(key, version);
+                    inserted.map_err(Fault::from)?.index
                 }
             };
             line.push(number).map_err(AllocError::from)?;
         }
-        let next = Version { symbols, line };
+        let (table, symbols) = (self.table, self.table.observed());
+        let next = Version {
+            table,
+            symbols,
+            line,
+        };
         self.versions.push(next).map_err(AllocError::from)?;
         Ok(version)
     }

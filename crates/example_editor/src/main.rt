@@ -2,8 +2,8 @@
 //! table as it was when the version was made.
 //!
 //! The table is a [`FrozenMap`](elsa::cell::FrozenMap), from which nothing is removed: so a version
-//! is a handle of it and the numbers of one line, and an undo drops the last version. A word that
-//! is typed again has its number from before.
+//! is what was observed of it and the numbers of one line, and an undo drops the last version. A
+//! word that is typed again has its number from before.
 //!
 //! Standard input has a command on each line: `type WORDS`, `undo`, `find WORD`, `show`.
 #![tactic(auto)]

@@ -3,22 +3,26 @@ ghost use Rattle.std.specs.Prelude.{◌≡◌, map, option_map, position, slice_
 ghost use Rattle.std.specs.Str.{bytes_eq};
 ghost use Rattle.elsa_cell.specs.Entries.{key_of};
 
-use elsa::cell::{FrozenMap, MapHandle};
+use elsa::cell::{FrozenMap, ObservedEntries};
 
 /// The words, each with the number of the version in which it is first. The number of a word is its
 /// index.
 pub type Table = FrozenMap<String, usize>;
 
-/// A handle of the words.
-pub type Symbols<'t> = MapHandle<'t, String, usize>;
+/// The words that were observed.
+pub type Symbols<'t> = ObservedEntries<'t, String, usize>;
 
 /// A version: no later change of the table changes what its calls return.
 #[derive(Drop)]
 pub struct Version<'t> {
-    /// The table, as it was when the version was made.
+    /// The table, which has more words now.
+    pub table: &'t Table,
+    /// The words that it had when the version was made.
     pub symbols: Symbols<'t>,
     /// The numbers of the words of its last line.
     pub line: Vec<usize>,
+    // The words are those of this table.
+    ghost same_table: { symbols.vector ≡ table.now },
 }
 
 impl<'t> Version<'t> {
@@ -27,7 +31,7 @@ impl<'t> Version<'t> {
         ensures { result ≡ position (λ k. bytes_eq word.now (string_bytes k))
             (map key_of self.now.symbols.seen) }
     {
-        let (number, _, _) = self.symbols.seen_get_full(word)?;
+        let (number, _, _) = self.table.get_full_as(&self.symbols, word)?;
         Some(number)
     }
 
@@ -36,8 +40,8 @@ impl<'t> Version<'t> {
         ensures { option_map (λ w. w.now) result
             ≡ option_map (λ e. string_bytes (key_of e)) (slice_get self.now.symbols.seen number) }
     {
-        let (word, _) = self.symbols.get_index(number)?;
-        Some(word.as_str())
+        let entry = self.symbols.get(number)?;
+        Some(entry.key().as_str())
     }
 
     /// Returns whether the version's last line has a word with this number.

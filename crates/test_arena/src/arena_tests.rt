@@ -228,10 +228,11 @@ fn a_buffer_that_was_ready_was_lost(rt: HostRuntime) -> Result<(), Fail> {
 #[test]
 fn an_index_showed_the_value_of_another(rt: HostRuntime) -> Result<(), Fail> {
     let arena = TypedArena::new(rt.alloc())?;
-    let mut handle = arena.handle();
-    let (first, second) = (handle.push(7)?, handle.push(8)?);
+    let mut observed = arena.observed();
+    let first = arena.push_as(&mut observed, 7)?;
+    let second = arena.push_as(&mut observed, 8)?;
     assert_eq!(rt;
-        (handle.get(first), handle.get(second)),
+        (observed.get(first), observed.get(second)),
         (Some(&7), Some(&8))
     );
     Ok(())

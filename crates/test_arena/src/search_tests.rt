@@ -14,18 +14,18 @@ fn multiples(alloc: Global, count: u64) -> Result<FrozenVec<u64>, Fail> {
 fn a_search_found_another_index(rt: HostRuntime) -> Result<(), Fail> {
     for count in [0, 1, 2, 15, 255, 256, 600, 601] {
         let list = multiples(rt.alloc(), count)?;
-        let handle = list.handle();
+        let observed = list.observed();
         for wanted in [0, 1, 2, 3, 44, 45, 762, 765, 768, 1797, 1798, 1800, 1803] {
             let end = (wanted as usize).div_ceil(3).min(count as usize);
             let is_found = wanted % 3 == 0 && end < count as usize;
             let index = if is_found { Ok(end) } else { Err(end) };
             for (call, found) in [
                 list.binary_search(&wanted),
-                handle.binary_search(&wanted),
+                observed.binary_search(&wanted),
                 list.binary_search_by(|number| number.cmp(&wanted)),
-                handle.binary_search_by(|number| number.cmp(&wanted)),
+                observed.binary_search_by(|number| number.cmp(&wanted)),
                 list.binary_search_by_key(&wanted, |number| *number),
-                handle.binary_search_by_key(&wanted, |number| *number),
+                observed.binary_search_by_key(&wanted, |number| *number),
             ]
             .iter()
             .enumerate()
@@ -34,7 +34,7 @@ fn a_search_found_another_index(rt: HostRuntime) -> Result<(), Fail> {
             }
             let points = (
                 list.partition_point(|number| *number < wanted),
-                handle.partition_point(|number| *number < wanted),
+                observed.partition_point(|number| *number < wanted),
             );
             assert_eq!(rt; points, (end, end), "{wanted} of {count}");
         }
@@ -60,7 +60,7 @@ fn evidence_led_to_another_item(rt: HostRuntime) -> Result<(), Fail> {
     let seen = list.observed().evidence();
     let moved = list;
     let last = moved.push(5)?;
-    assert_eq!(rt; moved.get_since(&seen, 699), Some(&2097));
-    assert_eq!(rt; moved.get_since(&seen, last), Some(&5));
+    assert_eq!(rt; moved.since(&seen).get(699), Some(&2097));
+    assert_eq!(rt; moved.since(&seen).get(last), Some(&5));
     Ok(())
 }

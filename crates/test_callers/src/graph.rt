@@ -3,7 +3,7 @@
 ghost use Rattle.std.specs.Prelude.{◌≡◌, slice_get};
 ghost use Rattle.std.specs.Option.{option_map};
 
-use elsa_arena::{FrozenVec, Handle};
+use elsa_arena::{FrozenVec, Observed};
 use std::alloc::{AllocError, Global};
 use std::test::*;
 
@@ -31,8 +31,8 @@ impl<'g> Node<'g> {
     }
 }
 
-/// Returns the node at an index, of those that the handle has observed.
-fn node_at<'g>(nodes: &Handle<'_, &'g Node<'g>>, index: usize) -> Option<&'g Node<'g>>
+/// Returns the node at an index, of those that were observed.
+fn node_at<'g>(nodes: &Observed<'_, &'g Node<'g>>, index: usize) -> Option<&'g Node<'g>>
     ensures { result ≡ slice_get nodes.now.seen index }
 {
     let node = nodes.get(index)?;
@@ -40,7 +40,7 @@ fn node_at<'g>(nodes: &Handle<'_, &'g Node<'g>>, index: usize) -> Option<&'g Nod
 }
 
 /// Follows the first edges from a node, and returns the name of the node after `steps` edges.
-fn name_after<'g>(nodes: &Handle<'_, &'g Node<'g>>, steps: usize) -> Option<&'g str> {
+fn name_after<'g>(nodes: &Observed<'_, &'g Node<'g>>, steps: usize) -> Option<&'g str> {
     let mut at = 0;
     for _ in 0..steps {
         at = node_at(nodes, at)?.edge(0)?;
@@ -62,7 +62,7 @@ fn a_cycle_is_followed(alloc: Global) -> Result<bool, AllocError> {
         }
     }
     let linked = ann.link(1) && bob.link(2) && cyd.link(0);
-    let nodes = graph.handle();
+    let nodes = graph.observed();
     Ok(
         linked
             && name_after(&nodes, 2) == Some("cyd")

@@ -13,10 +13,10 @@ pub fn two_values<A: Allocator + Copy>(
 ) -> Option<(u64, u64)>
     ensures { IfSome result (λ r. (r.0 ≡ one) × (r.1 ≡ two)) }
 {
-    let mut handle = arena.handle();
-    let first = handle.push(one).ok()?;
-    let second = handle.push(two).ok()?;
-    Some((*handle.get(first)?, *handle.get(second)?))
+    let mut observed = arena.observed();
+    let first = arena.push_as(&mut observed, one).ok()?;
+    let second = arena.push_as(&mut observed, two).ok()?;
+    Some((*observed.get(first)?, *observed.get(second)?))
 }
 
 /// Stores two values under a guard that has capacity for them. It can't fail.

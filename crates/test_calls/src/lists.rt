@@ -2,8 +2,8 @@
 use crate::counted::Counted;
 use crate::replies::{done, failed, failed_made};
 use elsa_arena::fault::{CellFault, InUse};
-use elsa_arena::observed::Seen;
-use elsa_arena::vec::{FrozenVec, Handle, Hold};
+use elsa_arena::observed::{Observed, Seen};
+use elsa_arena::vec::{FrozenVec, Hold};
 use std::cell::Cell;
 use test_model::call::{Call, Calls, Kind, Reply, Walk, inserted};
 use test_model::script::Heap;
@@ -12,11 +12,11 @@ pub type List<'c, 'h> = FrozenVec<Counted<'c>, &'h Heap>;
 
 type Guard<'m, 'c, 'h> = Hold<'m, Counted<'c>, &'h Heap>;
 
-/// A list, a handle of it that is as old as the list, and evidence of that moment.
+/// A list, what was observed of it, first when it was made, and evidence of that moment.
 #[derive(Drop)]
 pub struct ListCalls<'m, 'c, 'h> {
     pub list: &'m List<'c, 'h>,
-    pub handle: Handle<'m, Counted<'c>, &'h Heap>,
+    pub observed: Observed<'m, Counted<'c>, &'h Heap>,
     pub seen: Seen<Counted<'c>, &'h Heap>,
     pub alive: &'c Cell<u64>,
 }
@@ -25,7 +25,7 @@ impl<'m, 'c, 'h> ListCalls<'m, 'c, 'h> {
     pub fn of(list: &'m List<'c, 'h>, alive: &'c Cell<u64>) -> ListCalls<'m, 'c, 'h> {
         ListCalls {
             list,
-            handle: list.handle(),
+            observed: list.observed(),
             seen: list.observed().evidence(),
             alive,
         }
@@ -39,8 +39,8 @@ impl<'m, 'c, 'h> ListCalls<'m, 'c, 'h> {
                 Err(fault) => failed(fault),
             },
             Kind::Push => pushed(list.push(item)),
-            Kind::InsertByHandle => pushed(self.handle.push(item)),
-            Kind::InsertByGuard => match list.hold() {
+            Kind::InsertAs => pushed(list.push_as(&mut self.observed, item)),
+            Kind::InsertByGuard => match list.hold_as(&self.observed) {
                 Ok(mut hold) => pushed(hold.push(item)),
                 Err(InUse) => failed(CellFault::InUse(item)),
             },
@@ -87,13 +87,18 @@ fn value(found: Option<&Counted<'_>>) -> Reply {
     Reply::Value(found.map(|item| item.number()))
 }
 
-/// Walks over what a handle had observed, and then over its news.
-fn news(handle: &mut Handle<'_, Counted<'_>, &Heap>) -> Reply {
+/// Walks over what was observed, observes all, and then walks over the others.
+fn news<'m, 'c, 'h>(
+    list: &'m List<'c, 'h>,
+    observed: &mut Observed<'m, Counted<'c>, &'h Heap>,
+) -> Reply {
     let mut walk = Walk::new(true);
-    for item in handle.iter() {
+    let before = observed.len();
+    for item in observed.iter() {
         walk.add_item(item.number());
     }
-    for item in handle.news() {
+    list.observe(observed);
+    for item in observed.iter_from(before) {
         walk.add_item(item.number());
     }
     walk.reply()
@@ -143,11 +148,10 @@ impl<'c> Calls for ListCalls<'_, 'c, '_> {
         let index = call.key as usize;
         let reply = match call.kind {
             Kind::Get => value(list.get(index)),
-            Kind::GetSince => value(list.get_since(&self.seen, index)),
-            Kind::HandleSince => value(list.handle_since(&self.seen).get(index)),
-            Kind::GetByHandle => {
-                self.handle.len();
-                value(self.handle.get(index))
+            Kind::GetSince => value(list.since(&self.seen).get(index)),
+            Kind::GetObserved => {
+                list.observe(&mut self.observed);
+                value(self.observed.get(index))
             }
             Kind::GetIndex => {
                 let found = list.get(index);
@@ -156,7 +160,7 @@ impl<'c> Calls for ListCalls<'_, 'c, '_> {
             Kind::First => value(list.first()),
             Kind::Last => value(list.last()),
             Kind::Len => Reply::Count(list.len()),
-            Kind::LenByHandle => Reply::Count(self.handle.len()),
+            Kind::Observe => Reply::Count(list.observe(&mut self.observed)),
             Kind::LenByGuard => match &guard {
                 Some(hold) => Reply::Count(hold.len()),
                 None => list
@@ -166,7 +170,7 @@ impl<'c> Calls for ListCalls<'_, 'c, '_> {
             },
             Kind::IsEmpty => Reply::Flag(list.is_empty()),
             Kind::Iter => iter(list),
-            Kind::News => news(&mut self.handle),
+            Kind::News => news(list, &mut self.observed),
             Kind::Hold => Reply::Flag(list.hold().is_ok()),
             Kind::Reserve | Kind::ReserveAll => done(list.reserve(call.value as usize)),
             Kind::BinarySearch

@@ -2,7 +2,7 @@
 use crate::counted::{Counted, Number};
 use crate::replies::{done, failed, failed_empty, failed_made};
 use elsa_arena::fault::{CellFault, Fault, InUse};
-use elsa_cell::{Entry, Frozen, FrozenHandle, FrozenHold, Indices, Seeks, Seen, TryFault};
+use elsa_cell::{Frozen, FrozenHold, Indices, ObservedEntries, Seeks, SeenEntries, TryFault};
 use elsa_tables::Inserted;
 use std::cell::Cell;
 use test_model::call::{Call, Calls, Cause, Kind, Reply, Walk, inserted, made};
@@ -10,18 +10,18 @@ use test_model::script::Heap;
 
 type Map<'c, 'h, T> = Frozen<Counted<'c>, Counted<'c>, T, &'h Heap>;
 
-type Old<'m, 'c, 'h, T> = FrozenHandle<'m, Counted<'c>, Counted<'c>, T, &'h Heap>;
+type Entries<'m, 'c, 'h> = ObservedEntries<'m, Counted<'c>, Counted<'c>, &'h Heap>;
 
 type Guard<'m, 'c, 'h, T> = FrozenHold<'m, Counted<'c>, Counted<'c>, T, &'h Heap>;
 
-/// A map, a handle of it that is as old as the map, evidence of that moment, and a handle that
-/// observed a later moment.
+/// A map, what was observed of it, first when it was made, evidence of that moment, and what was
+/// observed at a later one.
 #[derive(Drop)]
 pub struct MapCalls<'m, 'c, 'h, T: Indices<Counted<'c>> + Drop> {
     map: &'m Map<'c, 'h, T>,
-    handle: Old<'m, 'c, 'h, T>,
-    seen: Seen<Entry<Counted<'c>, Counted<'c>>, &'h Heap>,
-    then: Old<'m, 'c, 'h, T>,
+    observed: Entries<'m, 'c, 'h>,
+    seen: SeenEntries<Counted<'c>, Counted<'c>, &'h Heap>,
+    then: Entries<'m, 'c, 'h>,
     keeps_room: bool,
     alive: &'c Cell<u64>,
 }
@@ -61,9 +61,9 @@ where
     ) -> MapCalls<'m, 'c, 'h, T> {
         MapCalls {
             map,
-            handle: map.handle(),
+            observed: map.observed(),
             seen: map.observed().evidence(),
-            then: map.handle(),
+            then: map.observed(),
             keeps_room,
             alive,
         }
@@ -86,11 +86,11 @@ where
                 Ok(done) => all_of(done, 0),
                 Err(fault) => failed(fault),
             },
-            Kind::InsertByHandle => match self.handle.insert_new(key, value) {
+            Kind::InsertAs => match map.insert_new_as(&mut self.observed, key, value) {
                 Ok(done) => all_of(done, 0),
                 Err(fault) => failed(fault),
             },
-            Kind::InsertByGuard => match map.hold() {
+            Kind::InsertByGuard => match map.hold_as(&self.observed) {
                 Ok(mut hold) => match hold.insert_new(key, value) {
                     Ok(done) => all_of(done, 0),
                     Err(fault) => failed(fault),
@@ -118,17 +118,23 @@ where
         })
     }
 
-    /// Makes an insertion whose closure makes the value, or the entry.
+    /// Makes an insertion whose closure makes the value, or the entry: for odd values by the call
+    /// that takes what was observed.
     fn insertion_with(&mut self, call: Call) -> Reply {
         let (map, query, alive) = (self.map, Number { number: call.key }, self.alive);
-        let mut calls = 0;
+        let (key, is_plain, mut calls) = (self.counted(call.key), call.value % 2 == 0, 0);
         match call.kind {
             Kind::InsertWith => {
                 let make = || {
                     calls += 1;
                     Counted::of(call.value, alive)
                 };
-                match map.insert_with(self.counted(call.key), make) {
+                let done = if is_plain {
+                    map.insert_with(key, make)
+                } else {
+                    map.insert_with_as(&mut self.observed, key, make)
+                };
+                match done {
                     Ok(done) => all_of(done, calls),
                     Err(fault) => failed_made(fault, calls),
                 }
@@ -141,7 +147,12 @@ where
                     }
                     Ok(Counted::of(call.value, alive))
                 };
-                match map.try_insert_with(self.counted(call.key), make) {
+                let done = if is_plain {
+                    map.try_insert_with(key, make)
+                } else {
+                    map.try_insert_with_as(&mut self.observed, key, make)
+                };
+                match done {
                     Ok(done) => all_of(done, calls),
                     Err(TryFault::Map(fault)) => failed_made(fault, calls),
                     Err(TryFault::Value(error)) if error == call.value => {
@@ -156,7 +167,12 @@ where
                     Ok((Counted::of(call.key, alive), Counted::of(call.value, alive)))
                 };
                 if call.kind == Kind::InsertBy {
-                    match map.insert_by(query, make) {
+                    let done = if is_plain {
+                        map.insert_by(query, make)
+                    } else {
+                        map.insert_by_as(&mut self.observed, query, make)
+                    };
+                    match done {
                         Ok(done) => all_of(done, calls),
                         Err(fault) => failed_empty(fault, calls),
                     }
@@ -187,11 +203,11 @@ where
         full(hold.get_full(Number { number: call.key }))
     }
 
-    /// Keeps a handle that has observed all entries, and returns their number.
+    /// Keeps what is observed of all entries, and returns their number.
     fn keep(&mut self) -> Reply {
-        let handle = self.map.handle();
-        self.then = handle.again();
-        Reply::Count(handle.seen_len())
+        let observed = self.map.observed();
+        self.then = observed.again();
+        Reply::Count(observed.len())
     }
 }
 
@@ -230,25 +246,30 @@ where
         let reply = match call.kind {
             Kind::Get => value(map.get(query)),
             Kind::GetFull => full(map.get_full(query)),
-            Kind::GetSince => value(map.get_since(&self.seen, query)),
-            Kind::HandleSince => value(map.handle_since(&self.seen).seen_get(query)),
-            Kind::GetByHandle => value(self.handle.get(query)),
-            Kind::GetFullByHandle => full(self.handle.get_full(query)),
+            Kind::GetSince => value(map.get_as(&map.since(&self.seen), query)),
+            Kind::GetObserved => {
+                map.observe(&mut self.observed);
+                value(map.get_as(&self.observed, query))
+            }
+            Kind::GetFullObserved => {
+                map.observe(&mut self.observed);
+                full(map.get_full_as(&self.observed, query))
+            }
             Kind::GetFullByGuard | Kind::LenByGuard => self.by_guard(&guard, call),
             Kind::ContainsKey => Reply::Flag(map.contains_key(query)),
-            Kind::ContainsKeyByHandle => Reply::Flag(self.handle.contains_key(query)),
             Kind::MapGet => Reply::Value(map.map_get(query, |found| found.number())),
             Kind::Keep => self.keep(),
-            Kind::SeenGet => value(self.then.seen_get(query)),
-            Kind::SeenGetFull => full(self.then.seen_get_full(query)),
-            Kind::SeenLen => Reply::Count(self.then.seen_len()),
+            Kind::SeenGet => value(map.get_as(&self.then, query)),
+            Kind::SeenGetFull => full(map.get_full_as(&self.then, query)),
+            Kind::SeenLen => Reply::Count(self.then.len()),
             Kind::GetIndex => full_at(index, map.get_index(index)),
-            Kind::GetIndexByHandle => {
-                self.handle.len();
-                full_at(index, self.handle.get_index(index))
+            Kind::GetIndexObserved => {
+                map.observe(&mut self.observed);
+                let found = self.observed.get(index);
+                full_at(index, found.map(|entry| (entry.key(), entry.value())))
             }
             Kind::Len => Reply::Count(map.len()),
-            Kind::LenByHandle => Reply::Count(self.handle.len()),
+            Kind::Observe => Reply::Count(map.observe(&mut self.observed)),
             Kind::IsEmpty => Reply::Flag(map.is_empty()),
             Kind::IsFull => Reply::Flag(map.is_full()),
             Kind::Iter => iter(map),

@@ -219,7 +219,7 @@ pub fn set_script(alloc: Global, plan: Plan, one_more: bool) -> Result<Step, All
     let (heap, none, alive) = (Budget::new(alloc), denying(alloc), counter(one_more));
     let mut script = Script::new(alloc, plan, true)?;
     let set: Set<'_, '_> = FrozenSet::with_capacity(&heap, script.room())?;
-    let seen = set.handle().observed().evidence();
+    let seen = set.observed().evidence();
     script.runs(&heap, &mut SetCalls::of(&set, &alive))?;
     if script.plain.len() == 0 {
         drop(set);

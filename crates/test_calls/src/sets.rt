@@ -1,7 +1,7 @@
 //! The calls of the set in `cell`. The value of an item is the item.
 use crate::counted::{Counted, Number};
 use crate::replies::{done, failed, failed_made};
-use elsa_cell::{FrozenSet, MapHandle};
+use elsa_cell::{FrozenSet, ObservedEntries};
 use std::cell::Cell;
 use std::hash::{BuildHasherDefault, FoldHasher};
 use test_model::call::{Call, Calls, Kind, Reply, Walk, inserted};
@@ -11,14 +11,14 @@ type State = BuildHasherDefault<FoldHasher>;
 
 pub type Set<'c, 'h> = FrozenSet<Counted<'c>, State, &'h Heap>;
 
-type Old<'s, 'c, 'h> = MapHandle<'s, Counted<'c>, (), State, &'h Heap>;
+type Entries<'s, 'c, 'h> = ObservedEntries<'s, Counted<'c>, (), &'h Heap>;
 
-/// A set, a handle of it that is as old as the set, and one that observed a moment.
+/// A set, what was observed of it, first when it was made, and what was observed at a moment.
 #[derive(Drop)]
 pub struct SetCalls<'s, 'c, 'h> {
     set: &'s Set<'c, 'h>,
-    handle: Old<'s, 'c, 'h>,
-    then: Old<'s, 'c, 'h>,
+    observed: Entries<'s, 'c, 'h>,
+    then: Entries<'s, 'c, 'h>,
     alive: &'c Cell<u64>,
 }
 
@@ -26,8 +26,8 @@ impl<'s, 'c, 'h> SetCalls<'s, 'c, 'h> {
     pub fn of(set: &'s Set<'c, 'h>, alive: &'c Cell<u64>) -> SetCalls<'s, 'c, 'h> {
         SetCalls {
             set,
-            handle: set.handle(),
-            then: set.handle(),
+            observed: set.observed(),
+            then: set.observed(),
             alive,
         }
     }
@@ -38,8 +38,8 @@ fn full(found: Option<(usize, &Counted<'_>)>) -> Reply {
     Reply::Full(found.map(|entry| (entry.0, entry.1.number(), entry.1.number())))
 }
 
-/// The same of a handle.
-fn full_of_handle(found: Option<(usize, &Counted<'_>, &())>) -> Reply {
+/// The same of an entry.
+fn full_entry(found: Option<(usize, &Counted<'_>, &())>) -> Reply {
     full(found.map(|entry| (entry.0, entry.1)))
 }
 
@@ -102,17 +102,19 @@ impl<'c> Calls for SetCalls<'_, 'c, '_> {
             },
             Kind::Get => Reply::Value(set.get(query).map(|kept| kept.number())),
             Kind::GetFull => full(set.get_full(query)),
-            Kind::GetFullByHandle => full_of_handle(self.handle.get_full(query)),
-            Kind::SeenGetFull => full_of_handle(self.then.seen_get_full(query)),
+            Kind::GetFullObserved => {
+                set.observe(&mut self.observed);
+                full_entry(set.get_full_as(&self.observed, query))
+            }
+            Kind::SeenGetFull => full_entry(set.get_full_as(&self.then, query)),
             Kind::ContainsKey => Reply::Flag(set.contains(query)),
-            Kind::ContainsKeyByHandle => Reply::Flag(self.handle.contains_key(query)),
             Kind::GetIndex => full(set.get_index(index).map(|kept| (index, kept))),
             Kind::Len => Reply::Count(set.len()),
-            Kind::LenByHandle => Reply::Count(self.handle.len()),
+            Kind::Observe => Reply::Count(set.observe(&mut self.observed)),
             Kind::Keep => {
-                let handle = set.handle();
-                self.then = handle.again();
-                Reply::Count(handle.seen_len())
+                let observed = set.observed();
+                self.then = observed.again();
+                Reply::Count(observed.len())
             }
             Kind::IsEmpty => Reply::Flag(set.is_empty()),
             Kind::IsFull => Reply::Flag(set.is_full()),

@@ -26,8 +26,7 @@ fn failures(map: &FrozenMap<u64, u64>) -> [Option<Fault>; 7] {
         tried,
         map.insert_by(&absent, move || made_pair(absent)).err(),
         map.reserve(1).err(),
-        map.handle()
-            .insert_new(absent, 5)
+        map.insert_new_as(&mut map.observed(), absent, 5)
             .map_err(Fault::from)
             .err(),
     ]
@@ -46,9 +45,9 @@ fn a_closure_did_not_find_what_its_map_has(rt: HostRuntime) -> Result<(), Fail> 
     let map: FrozenMap<u64, u64> = FrozenMap::new(rt.alloc())?;
     map.extend([(0, 0), (1, 1)])?;
     for n in 2..81 {
-        let mut handle = map.handle();
+        let mut observed = map.observed();
         let read = |key: u64| map.get(&key).copied().unwrap_or(0);
-        let made = handle.insert_with(n, || read(n - 1) + read(n - 2))?;
+        let made = map.insert_with_as(&mut observed, n, || read(n - 1) + read(n - 2))?;
         assert!(rt; made.is_new, "{n}");
     }
     // The eightieth Fibonacci number.
@@ -59,8 +58,8 @@ fn a_closure_did_not_find_what_its_map_has(rt: HostRuntime) -> Result<(), Fail> 
 #[test]
 fn a_value_from_inside_was_replaced(rt: HostRuntime) -> Result<(), Fail> {
     let map: FrozenMap<u64, u64> = FrozenMap::new(rt.alloc())?;
-    let mut handle = map.handle();
-    let made = handle.insert_with(5, || {
+    let mut observed = map.observed();
+    let made = map.insert_with_as(&mut observed, 5, || {
         let _inside = map.insert(5, 2).is_ok();
         7
     })?;
@@ -84,16 +83,17 @@ fn a_closure_that_reads_could_not_insert(rt: HostRuntime) -> Result<(), Fail> {
 #[test]
 fn a_guard_from_inside_did_not_lock(rt: HostRuntime) -> Result<(), Fail> {
     let map: FrozenMap<u64, u64> = FrozenMap::new(rt.alloc())?;
-    let mut handle = map.handle();
+    let mut observed = map.observed();
     let mut kept = None;
-    let failed = handle.insert_with(11, || {
+    let failed = map.insert_with_as(&mut observed, 11, || {
         kept = map.hold().ok();
         7
     });
     assert!(rt; matches!(failed, Err(CellFault::InUse(Some(7)))));
     assert_eq!(rt; failures(&map), IN_USE);
     drop(kept);
-    assert_eq!(rt; handle.get(&11), None);
+    map.observe(&mut observed);
+    assert_eq!(rt; map.get_as(&observed, &11), None);
     Ok(())
 }
 
@@ -123,7 +123,7 @@ fn calls_inside(query: &Nested<'_>) {
         && map.get_index(3) == Some((&3, &103))
         && map.contains_key(&0)
         && map.len() == 10
-        && map.handle().get(&7) == Some(&107)
+        && map.get_as(&map.observed(), &7) == Some(&107)
         && map.iter().count() == 10;
     if reads && failures(map) == IN_USE {
         let _ = query.calls.right.fetch_add(1, Ordering::SeqCst);
@@ -170,9 +170,9 @@ impl Query<u64> for Nested<'_> {
 
 /// Looks up a key by each call that takes a query. Returns the value that each found.
 fn found_nested(map: &FrozenMap<u64, u64>, query: Nested<'_>) -> [Option<u64>; 10] {
-    let mut handle = map.handle();
+    let mut observed = map.observed();
     let full = map.get_full(query).map(|found| *found.2);
-    let by_handle = handle.get_full(query).map(|found| *found.2);
+    let full_observed = map.get_full_as(&observed, query).map(|found| *found.2);
     let (value, full_by_guard) = found_by_guard(map, query);
     [
         map.get(query).copied(),
@@ -182,10 +182,9 @@ fn found_nested(map: &FrozenMap<u64, u64>, query: Nested<'_>) -> [Option<u64>; 1
         map.insert_by(query, || made_pair(0))
             .ok()
             .map(|done| *done.value),
-        handle.get(query).copied(),
-        by_handle,
-        handle
-            .insert_by(query, || made_pair(0))
+        map.get_as(&observed, query).copied(),
+        full_observed,
+        map.insert_by_as(&mut observed, query, || made_pair(0))
             .ok()
             .map(|done| *done.value),
         value,

@@ -79,8 +79,8 @@ fn a_text_was_not_found_or_out_of_order(rt: HostRuntime) -> Result<(), Fail> {
 #[test]
 fn a_value_from_inside_an_ordered_map_was_replaced(rt: HostRuntime) -> Result<(), Fail> {
     let map: FrozenBTreeMap<u64, u64> = FrozenBTreeMap::new(rt.alloc())?;
-    let mut handle = map.handle();
-    let made = handle.insert_with(5, || {
+    let mut observed = map.observed();
+    let made = map.insert_with_as(&mut observed, 5, || {
         let _inside = map.insert(5, 2).is_ok();
         7
     });

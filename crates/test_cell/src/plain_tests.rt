@@ -20,7 +20,7 @@ fn an_insertion_was_not_shown(rt: HostRuntime) -> Result<(), Fail> {
     assert_eq!(rt; walked(), 2);
     map.get_or_try_insert(&10, || -> Result<(u64, u64), Fault> { Ok((10, 10)) })?;
     assert_eq!(rt; walked(), 22);
-    map.handle().insert_new(100, 100)?;
+    map.insert_new_as(&mut map.observed(), 100, 100)?;
     assert_eq!(rt; walked(), 222);
     let mut hold = map.hold()?;
     hold.insert_new(1000, 1000)?;
@@ -82,10 +82,9 @@ fn evidence_was_lost(rt: HostRuntime) -> Result<(), Fail> {
     let seen = map.observed().evidence();
     let moved = map;
     moved.insert(8, 80)?;
-    let mut handle = moved.handle_since(&seen);
-    assert_eq!(rt; (handle.get(&7), handle.get(&8)), (Some(&70), Some(&80)));
+    let observed = moved.since(&seen);
     assert_eq!(rt;
-        (moved.get_since(&seen, &7), moved.get_since(&seen, &8)),
+        (moved.get_as(&observed, &7), moved.get_as(&observed, &8)),
         (Some(&70), Some(&80))
     );
     let set: FrozenIndexSet<String> = FrozenIndexSet::with_hasher(
@@ -133,7 +132,7 @@ fn a_value_or_a_key_was_not_dropped_once(rt: HostRuntime) -> Result<(), Fail> {
         }
         assert_eq!(rt; owners(), (1, 1));
     }
-    // The evidence of a list, of which no handle had observed the last two items.
+    // The evidence of a list, whose last two items were not observed.
     let list: elsa_cell::FrozenVec<Arc<i32>> = elsa_cell::FrozenVec::new(rt.alloc())?;
     list.push(keys.clone()?)?;
     let seen = list.observed().evidence();
@@ -155,14 +154,17 @@ fn no_caller_could_cite_that_the_first_value_stays(_rt: HostRuntime) -> Result<(
 }
 
 #[test]
-fn a_handle_found_an_entry_of_a_guard(rt: HostRuntime) -> Result<(), Fail> {
+fn a_moment_had_an_entry_of_a_guard(rt: HostRuntime) -> Result<(), Fail> {
     let map: FrozenBTreeMap<u64, u64> = FrozenBTreeMap::new(rt.alloc())?;
     map.insert(7, 70)?;
-    let then = map.handle();
+    let then = map.observed();
     let mut guard = map.hold()?;
     guard.insert_new(5, 50)?;
-    assert_eq!(rt; (then.seen_get(&7), then.seen_get(&5)), (Some(&70), None));
-    assert_eq!(rt; then.seen_get_full(&7), Some((0, &7, &70)));
+    assert_eq!(rt;
+        (map.get_as(&then, &7), map.get_as(&then, &5)),
+        (Some(&70), None)
+    );
+    assert_eq!(rt; map.get_full_as(&then, &7), Some((0, &7, &70)));
     Ok(())
 }
 

@@ -17,7 +17,8 @@ pub enum Kind {
     InsertFails,
     InsertBy,
     GetOrTryInsert,
-    InsertByHandle,
+    /// `insert_new_as` or `push_as`.
+    InsertAs,
     InsertByGuard,
     /// `extend` by an entry, and in a map or set by another one with the same key.
     Extend,
@@ -29,20 +30,18 @@ pub enum Kind {
     GetRef,
     GetCopy,
     GetFull,
-    /// `get_since`, with evidence that is as old as the collection.
+    /// A look-up in what is observed `since` the evidence that is as old as the collection.
     GetSince,
-    /// A look-up by a new handle of `handle_since`, with the same evidence.
-    HandleSince,
-    GetByHandle,
-    GetFullByHandle,
+    /// A look-up in what was observed, after `observe`.
+    GetObserved,
+    GetFullObserved,
     GetFullByGuard,
     Find,
     ContainsKey,
-    ContainsKeyByHandle,
     MapGet,
     GetIndex,
-    GetIndexByHandle,
-    /// `handle`, which is kept for the look-ups as of that moment.
+    GetIndexObserved,
+    /// `observed` or `handle`, which is kept for the look-ups as of that moment.
     Keep,
     SeenGet,
     SeenGetFull,
@@ -52,7 +51,7 @@ pub enum Kind {
     Least,
     Greatest,
     Len,
-    LenByHandle,
+    Observe,
     LenByGuard,
     IsEmpty,
     IsFull,
@@ -92,7 +91,7 @@ pub const INSERTIONS: [Kind; 20] = [
     Kind::InsertFails,
     Kind::InsertBy,
     Kind::GetOrTryInsert,
-    Kind::InsertByHandle,
+    Kind::InsertAs,
     Kind::InsertByGuard,
     Kind::Extend,
     Kind::ExtendByGuard,
@@ -102,22 +101,20 @@ pub const INSERTIONS: [Kind; 20] = [
 ];
 
 /// The other calls.
-pub const OTHERS: [Kind; 42] = [
+pub const OTHERS: [Kind; 40] = [
     Kind::Get,
     Kind::GetRef,
     Kind::GetCopy,
     Kind::GetFull,
     Kind::GetSince,
-    Kind::HandleSince,
-    Kind::GetByHandle,
-    Kind::GetFullByHandle,
+    Kind::GetObserved,
+    Kind::GetFullObserved,
     Kind::GetFullByGuard,
     Kind::Find,
     Kind::ContainsKey,
-    Kind::ContainsKeyByHandle,
     Kind::MapGet,
     Kind::GetIndex,
-    Kind::GetIndexByHandle,
+    Kind::GetIndexObserved,
     Kind::Keep,
     Kind::SeenGet,
     Kind::SeenGetFull,
@@ -127,7 +124,7 @@ pub const OTHERS: [Kind; 42] = [
     Kind::Least,
     Kind::Greatest,
     Kind::Len,
-    Kind::LenByHandle,
+    Kind::Observe,
     Kind::LenByGuard,
     Kind::IsEmpty,
     Kind::IsFull,
@@ -155,7 +152,7 @@ pub fn is_insertion(kind: Kind) -> bool {
 impl Kind {
     /// Returns whether the call has an index where others have a key.
     pub fn has_index(self) -> bool {
-        matches!(self, Kind::GetIndex | Kind::GetIndexByHandle)
+        matches!(self, Kind::GetIndex | Kind::GetIndexObserved)
     }
 
     /// Returns whether the call visits each entry, so that it is made seldom.

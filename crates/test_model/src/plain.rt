@@ -155,25 +155,22 @@ impl Plain {
             | Kind::GetRef
             | Kind::GetCopy
             | Kind::GetSince
-            | Kind::HandleSince
-            | Kind::GetByHandle
+            | Kind::GetObserved
             | Kind::MapGet => Reply::Value(self.value_of(call.key)),
-            Kind::GetFull | Kind::GetFullByHandle | Kind::GetFullByGuard => {
+            Kind::GetFull | Kind::GetFullObserved | Kind::GetFullByGuard => {
                 Reply::Full(self.full_of(call.key))
             }
             Kind::Find => Reply::Index(self.index_of(call.key)),
-            Kind::GetIndex | Kind::GetIndexByHandle => Reply::Full(self.full_at(call.key as usize)),
+            Kind::GetIndex | Kind::GetIndexObserved => Reply::Full(self.full_at(call.key as usize)),
             Kind::SeenGet => Reply::Value(self.full_then(call.key).map(|found| found.2)),
             Kind::SeenGetFull => Reply::Full(self.full_then(call.key)),
             Kind::SeenLen => Reply::Count(self.kept),
-            Kind::ContainsKey | Kind::ContainsKeyByHandle => {
-                Reply::Flag(self.index_of(call.key).is_some())
-            }
+            Kind::ContainsKey => { Reply::Flag(self.index_of(call.key).is_some()) }
             Kind::First => Reply::Value(self.value_at(0)),
             Kind::Last => Reply::Value(self.value_at(self.len().wrapping_sub(1))),
             Kind::Least => Reply::Pair(self.end(false)),
             Kind::Greatest => Reply::Pair(self.end(true)),
-            Kind::Len | Kind::LenByHandle | Kind::LenByGuard | Kind::Keep => {
+            Kind::Len | Kind::Observe | Kind::LenByGuard | Kind::Keep => {
                 Reply::Count(self.len())
             }
             Kind::IsEmpty => Reply::Flag(self.len() == 0),

@@ -1,9 +1,8 @@
 use Rattle.std.proofs.Common.{nat_eq, ◌∙◌}
 use Rattle.test_callers.proofs.of_maps.found_again.Goals as goal
 
--- What the evidence has is in what the handle has observed, and then in what the look-up has.
+-- What the evidence has is in what was observed since, and so in what the look-up has.
 pub returns : goal.returns
 returns c =
-    let test = nat_eq c.args.key.now in let stays = c.first_value_stays.ensures in let value = c.args._value in
-    let observed = stays test c.args.seen.now.seen c.handle_since-handle.result.seen value c.handle_since-handle.ensures.entries c.requires.found in
-    c.get.ensures.found ∙ stays test c.handle_since-handle.result.seen c.get.new.self.seen value c.get.ensures.continues.seen observed
+    let test = nat_eq c.args.key.now in
+    c.get_as.ensures.found ∙ c.first_value_stays.ensures test c.args.seen.now.seen c.since-observed.result.seen c.args._value c.since-observed.ensures.items c.requires.found

@@ -12,7 +12,7 @@ pub invariant_of-seen : goal.invariant_of-seen
 invariant_of-seen g c =
     let s = c.args.self in let low = index_low s.count s.buffer s.slot c.requires.at.index c.requires.openable in
     let many = ap length c.again.ensures.1 ∙ (ap length c.add.ensures.1 ∙ length-append s.prefix.items (c.write_lent-written.result.1.value ∷ [])) in let count = c.requires.count in
-    (omega (arith, many, count), low)
+    (omega (arith, many, count), low, omega (arith, many, count, low), λ _ _ _. tt)
 
 pub returns-then-slot-size-clause-limit : goal.returns-then-slot-size-clause-limit
 returns-then-slot-size-clause-limit g c =
@@ -24,7 +24,7 @@ pub invariant_of-seen-2 : goal.invariant_of-seen-2
 invariant_of-seen-2 g c =
     let s = c.args.self in let low = index_low s.count s.buffer s.slot c.requires.at.index c.requires.openable in
     let many = ap length c.again.ensures.1 ∙ (ap length c.add.ensures.1 ∙ length-append s.prefix.items (c.write_lent-written.result.1.value ∷ [])) in let count = c.requires.count in
-    (omega (arith, many, count), low)
+    (omega (arith, many, count), low, omega (arith, many, count, low), λ _ _ _. tt)
 
 pub returns-clause-limit : goal.returns-clause-limit
 returns-clause-limit g c =

@@ -8,7 +8,7 @@ use Rattle.elsa_cell.proofs.map.Frozen.over.Goals as goal
 pub park-requires : goal.park-requires
 park-requires g c = let none = ap length c.first.ensures.empty in record {
   state = (
-    subst (λ names. IsStateOf names c.first.result) (c.in_ok-slots.ensures.rights ∙ sym c.of-tag.ensures) c.first.ensures.same_vector,
+    subst (λ names. IsStateOf names c.first.result) (c.in_ok-entries.ensures.rights ∙ sym c.tag-tag.ensures) c.first.ensures.same_vector,
     subst (λ (es : List (Entry g.row.K.Denot g.row.V.Denot)). g.T.Indices.is_for c.args.table (map key_of es)) (sym c.first.ensures.empty) c.requires,
     omega (arith, none),
   );

@@ -59,7 +59,7 @@ returns-clause-steps g c =
           let next = rank_next vec_items blocks it.at b there in
           ap (λ e. rank_of vec_items blocks e.0 + e.1) (c.next_position-at.ensures.past (omega (arith, end, long))) ∙ (let e : rank_of vec_items blocks (it.at + 1) + 0 ≡ rank + 1 = omega (arith, end, next) in e)
     ] in
-    sym c.self.view_is ∙ (next_picked seen table rank i c.item-entry.result.now has c.item-entry.ensures ∙ ap (λ n. c.item-entry.result.now ∷ picked seen (drop n table)) (sym moved))
+    sym c.self.view_is ∙ (next_picked seen table rank i c.item-entry.result.now has c.item-entry.ensures.item ∙ ap (λ n. c.item-entry.result.now ∷ picked seen (drop n table)) (sym moved))
 
 pub returns-clause-goes : goal.returns-clause-goes
 returns-clause-goes g c =
