@@ -84,13 +84,13 @@ impl Calls for MapHandle<'_, u64, u64> {
 impl Calls for ShardedHandle<'_, u64, u64> {
     #[inline(always)]
     fn put<R: Wait>(&mut self, rt: &R, key: u64, value: u64) -> Option<u64> {
-        let put = self.insert(rt, key, value).ok()?;
-        Some(put.value)
+        let put = self.insert_ref(rt, key, value).ok()?;
+        Some(*put.value)
     }
 
     #[inline(always)]
     fn find(&mut self, key: u64) -> Option<u64> {
-        self.get(key)
+        self.get_ref(&key).copied()
     }
 
     fn observe(&mut self) {

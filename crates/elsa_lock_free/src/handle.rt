@@ -7,14 +7,13 @@ ghost use Rattle.std.specs.Prelude.{◌≡◌, ℕ, ◌≤◌, ◌<◌, ◌^◌,
 ghost use Rattle.elsa_lock_free.specs.SharedList.{BeginsABuffer, BeginsAmong, Continues, IsLaterPass, Meet, PushedAll, Pushes, PushesNext, copied, entry, items_of, mine};
 ghost use Rattle.elsa_lock_free.specs.declared.event.Entry.{Entry};
 ghost use Rattle.elsa_lock_free.specs.Attempts.{IfBusy, IfFailed};
-ghost use Rattle.elsa_lock_free.specs.Distinct.{AgreeOnIndices, EachIsNew, EachItemIsNew, IsOneToOne};
 ghost use mathlib.Core.List.{IsPrefix};
 ghost use Rattle.elsa_lock_free.specs.History.{list_of};
 ghost use lib.Pointwise.{pointwise};
 
 use crate::atomic_list::{AtomicList, LIMIT, wait_a_little};
 use crate::history::VectorHistory;
-use crate::item_rule::{AnyItems, DistinctItems, ItemRule};
+use crate::item_rule::{AnyItems, ItemRule};
 use crate::lock_free::LockFreeFrozenVec;
 use crate::may_lock::{AttemptFault, LockPermit};
 use crate::pass::{Pass, PushRight};
@@ -23,6 +22,7 @@ use elsa_slots::iter::Iter;
 use elsa_slots::slots::Beside;
 use std::alloc::{AllocError, AllocFailed, Allocator, Global};
 use std::marker::Model;
+use std::ops::Deref;
 use std::sync::Wait;
 
 /// A vector and a thread's view of it, with the right to push. Contracts see the view: its vector,
@@ -49,6 +49,19 @@ impl<'v, T, A: Allocator, K: ItemRule<T>, X: Beside<T>> Model for Handle<'v, T, 
     // The view is of this list, and the right is that of its writer.
     ghost invariant = { λ h. (h.pass.vector ≡ (h.list.now.first.book, h.list.now.first.names))
         × (h.right ≡ h.pass.writer) };
+}
+
+// A handle is read as its view.
+impl<'v, T, A: Allocator, K: ItemRule<T>, X: Beside<T>> Deref for Handle<'v, T, A, K, X> {
+    ghost use Rattle.std.specs.Prelude.{◌≡◌};
+
+    type Target = Pass<T, A, K, X>;
+
+    ghost deref_gives = { λ h p. p ≡ h };
+
+    fn deref(&self) -> &Pass<T, A, K, X> {
+        &self.pass
+    }
 }
 
 /// What a handle has observed of a vector, for reading: it has no right to push. Contracts see the
@@ -110,13 +123,6 @@ impl<'v, T: Drop, A: Allocator + Copy, K: ItemRule<T>, X: Beside<T> + Drop> Hand
         }
     }
 
-    /// Returns a reference to the view.
-    pub fn pass(&self) -> &Pass<T, A, K, X>
-        ensures same_view { result.now ≡ self.now }
-    {
-        &self.pass
-    }
-
     /// Returns the view, to store it or to pass it to the calls that take one.
     pub fn into_pass(self) -> Pass<T, A, K, X>
         ensures same_view { result ≡ self.entry }
@@ -174,34 +180,6 @@ impl<'v, T: Drop, A: Allocator + Copy, K: ItemRule<T>, X: Beside<T> + Drop> Hand
         let (pass, n) = self.pass.lend().read_length(list, known);
         self.pass = pass;
         n
-    }
-
-    /// Returns the number of items that the handle has observed, without an atomic step.
-    ///
-    /// # Cost
-    /// `O(1)`.
-    pub fn seen_len(&self) -> usize
-        ensures length { result ≡ length self.now.seen }
-        ensures limit { result < 2 ^ 62 }
-    {
-        self.pass.seen_len()
-    }
-
-    /// Proves what the vector's rule promises of all items that the handle has observed. It does
-    /// nothing at run time.
-    pub fn obeys_rule(&self)
-        ensures entries { EachIsNew K.is_new self.now.seen }
-        ensures items { EachItemIsNew K.is_new self.now.seen }
-    {
-        self.pass.obeys_rule();
-    }
-
-    /// Returns the history that the handle has observed. It has no bytes, and takes no atomic step.
-    pub fn history(&self) -> VectorHistory<T, A, K, X>
-        ensures same_vector { result.vector ≡ self.now.vector }
-        ensures list { list_of result.events ≡ self.now.seen }
-    {
-        self.pass.history()
     }
 
     /// Returns a reference to the item at an index that the handle has observed. It takes no atomic
@@ -621,25 +599,6 @@ impl<'v, T: Copy + Drop, A: Allocator + Copy> Handle<'v, T, A> {
             return Err(AllocError);
         }
         Ok(index)
-    }
-}
-
-impl<'v, T: Copy + Drop + Eq, A: Allocator + Copy> Handle<'v, T, A, DistinctItems> {
-    /// Proves that equal items that the handle has observed are at one index. It does nothing at
-    /// run time.
-    pub fn one_to_one(&self)
-        ensures { IsOneToOne T.eq (items_of self.now.seen) }
-    {
-        self.pass.one_to_one();
-    }
-
-    /// Proves that equal items that two handles of a vector have observed are at one index, whether
-    /// the handles were merged or not. It does nothing at run time.
-    pub fn same_index(&self, other: &Handle<'_, T, A, DistinctItems>)
-        requires same_vector { self.now.vector ≡ other.now.vector }
-        ensures { AgreeOnIndices T.eq (items_of self.now.seen) (items_of other.now.seen) }
-    {
-        self.pass.same_index(&other.pass);
     }
 }
 

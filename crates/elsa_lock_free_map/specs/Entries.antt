@@ -6,6 +6,8 @@ use Rattle.elsa_hash_index.specs.declared.entry.Entry.{Entry}
 use Rattle.elsa_hash_index.specs.Entries.{IsAbsent, IsBehind, keys_of}
 use Rattle.elsa_lock_free.specs.SharedList.{PushesNext, View, items_of, mine}
 use Rattle.elsa_tables.specs.declared.put.Inserted.{Inserted}
+use Rattle.elsa_lock_free.specs.declared.may_lock.AttemptFault.{AttemptFault}
+use Rattle.elsa_lock_free.specs.declared.may_lock.AttemptFault.TheVariants.{Busy, Failed}
 
 -- 32 bits of a hash, of which each depends on all 64
 abbrev pub short : ℕ → ℕ
@@ -34,6 +36,10 @@ module _ {K V S : Type 0} where
     -- an entry of the key, with this value, is at the index
     abbrev pub HasAt : List (Entry K V S) → ℕ → Q → V → Type 0
     HasAt es i key value = (e : Entry K V S) × (slice_get es i ≡ Some e) × (equal key e.key ≡ true) × (e.value ≡ value)
+
+    -- At the index is an entry whose key the query finds.
+    abbrev pub IsAt : List (Entry K V S) → ℕ → Q → Type 0
+    IsAt es i query = (e : Entry K V S) × (slice_get es i ≡ Some e) × (equal query e.key ≡ true)
 
     -- The key has this value, at some index.
     abbrev pub Has : List (Entry K V S) → Q → V → Type 0
@@ -80,3 +86,13 @@ GetsOrInserts {K = K} {V = V} equal finds made before after query r =
     ((r.is_new ≡ false) × InsertsOnce finds before after query r)
     ⊎ ((key : K) × (value : V) × made key value × Lacks finds (items_of before.seen) query
     × InsertsOnce equal before after key r × (r.is_new ≡ true → r.value ≡ value))
+
+-- the effect of a successful insertion of which a call returns the index alone
+abbrev pub InsertsAt : {Q K V S : Type 0} → (Q → K → Bool) → View (Entry K V S) → View (Entry K V S) → Q → ℕ → Type 0
+InsertsAt {V = V} equal before after key index =
+    (value : V) × (is_new : Bool) × InsertsOnce equal before after key (record { value = value; index = index; is_new = is_new })
+
+-- the fault of an insertion with the key alone
+abbrev pub alone : {K V E : Type 0} → AttemptFault (K × V) E → AttemptFault K E
+alone (Busy pair) = Busy pair.0
+alone (Failed e) = Failed e

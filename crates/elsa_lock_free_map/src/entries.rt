@@ -4,7 +4,7 @@ ghost use Rattle.std.specs.Prelude.{◌≡◌, ◌<◌, ◌^◌, fold, length};
 ghost use Rattle.elsa_lock_free.specs.Distinct.{AgreeOnIndices, IsOneToOne};
 ghost use Rattle.elsa_lock_free.specs.SharedList.{items_of};
 ghost use Rattle.elsa_hash_index.specs.Entries.{keys_of};
-ghost use Rattle.elsa_lock_free_map.specs.Entries.{AgreeOnEntries, short};
+ghost use Rattle.elsa_lock_free_map.specs.Entries.{AgreeOnEntries, HoldsEach, short};
 
 use elsa_hash_index::entry::{Entry, Sought};
 use elsa_hash_index::row::Row;
@@ -105,6 +105,20 @@ pub fn one_to_one<
     L: EntryRule<K, V>,
 >(pass: &EntriesPass<K, V, S, A, L>)
     ensures { IsOneToOne K.eq (keys_of (items_of pass.now.seen)) }
+{
+    pass.obeys_rule();
+}
+
+/// Proves that each entry that a view has observed obeys the map's rule. It does nothing at run
+/// time.
+pub fn all_obey<
+    K: Drop + Hash,
+    V: Drop,
+    S: BuildHasher + Copy + Drop,
+    A: Allocator + Copy,
+    L: EntryRule<K, V>,
+>(pass: &EntriesPass<K, V, S, A, L>)
+    ensures { HoldsEach L.holds (items_of pass.now.seen) }
 {
     pass.obeys_rule();
 }

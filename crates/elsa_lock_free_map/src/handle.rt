@@ -7,17 +7,18 @@
 //! index entries next to each buffer of them.
 ghost use Rattle.std.specs.Prelude.{◌≡◌, ◌↔◌, ◌⊎◌, ◌+◌, ◌≤◌, ◌<◌, ◌^◌, true, false, IsTrue, IfOk, IfErr, IfSome, IfNone, OnErr, Some, Ok, Err, alloc_error, length, slice_get};
 ghost use Rattle.elsa_lock_free.specs.Attempts.{IfBusy};
-ghost use Rattle.elsa_lock_free.specs.History.{list_of};
 ghost use Rattle.elsa_lock_free.specs.SharedList.{Continues, IsLaterPass, IsSamePass, Meet, SeesAlike, items_of, mine};
 ghost use Rattle.elsa_lock_free.specs.Distinct.{AgreeOnIndices, IsOneToOne};
 ghost use Rattle.elsa_hash_index.specs.declared.entry.Entry.{Entry};
 ghost use Rattle.elsa_hash_index.specs.Entries.{keys_of};
 ghost use Rattle.elsa_tables.specs.Rules.{HoldsAt};
-ghost use Rattle.elsa_lock_free_map.specs.Entries.{AgreeOnEntries, FindsAt, GetsOrInserts, Has, HoldsEach, InsertsOnce, Lacks, PushesPair, pairs_of};
+ghost use Rattle.elsa_lock_free_map.specs.Entries.{AgreeOnEntries, FindsAt, GetsOrInserts, Has, HoldsEach, InsertsOnce, IsAt, Lacks, PushesPair, pairs_of};
 
-use crate::entries::{EntriesHandle, Index, NewKeys, Query, hash_of, one_to_one, same_index};
+use crate::entries::{
+    EntriesHandle, Index, NewKeys, Query, all_obey, hash_of, one_to_one, same_index,
+};
 use crate::iter::{MapIter, walk};
-use crate::map::{LockFreeFrozenMap, MapHistory, MapPass, copied};
+use crate::map::{LockFreeFrozenMap, MapPass, copied};
 use elsa_hash_index::entry::{Entry, Shelf, entered, lookup, regrown};
 use elsa_hash_index::row::Row;
 use elsa_lock_free::hold::{ATTEMPTS, Hold};
@@ -28,6 +29,7 @@ use indexmap::Equivalent;
 use std::alloc::{AllocError, Allocator, Global};
 use std::hash::{BuildHasher, BuildHasherDefault, FoldHasher, Hash};
 use std::marker::Model;
+use std::ops::Deref;
 use std::sync::Wait;
 
 /// The greatest number of entries: an index entry has 32 bits for an index plus 1.
@@ -64,6 +66,26 @@ impl<
     ghost Value = { View (Entry K V S) };
 
     ghost view = { λ h. h.list };
+}
+
+// A handle is read as its view.
+impl<
+    'm,
+    K: Drop + Hash,
+    V: Drop,
+    S: BuildHasher + Copy + Drop,
+    A: Allocator + Copy,
+    L: EntryRule<K, V>,
+> Deref for MapHandle<'m, K, V, S, A, L> {
+    ghost use Rattle.std.specs.Prelude.{◌≡◌};
+
+    type Target = MapPass<K, V, S, A, L>;
+
+    ghost deref_gives = { λ h p. p ≡ h };
+
+    fn deref(&self) -> &MapPass<K, V, S, A, L> {
+        &self.list
+    }
 }
 
 impl<
@@ -136,22 +158,6 @@ impl<
         list.into_pass()
     }
 
-    /// Returns a reference to the view.
-    pub fn pass(&self) -> &MapPass<K, V, S, A, L>
-        ensures same_view { result.now ≡ self.now }
-    {
-        self.list.pass()
-    }
-
-    /// Returns the history of the map's list that the handle has observed. It has no bytes, and
-    /// takes no atomic step.
-    pub fn history(&self) -> MapHistory<K, V, S, A, L>
-        ensures same_vector { result.vector ≡ self.now.vector }
-        ensures list { list_of result.events ≡ self.now.seen }
-    {
-        self.list.history()
-    }
-
     /// Returns the number of entries that the handle has observed, without an atomic step.
     ///
     /// # Cost
@@ -172,14 +178,17 @@ impl<
         self.list.item(index)
     }
 
-    /// Returns the index of a key among the entries that the handle has observed, by what stands
-    /// for the key.
+    /// Returns the index of a key in the order of insertion, or `None` if none of the entries that
+    /// the handle has observed has the key. It observes no more, as
+    /// [`seen_get_full`](Self::seen_get_full).
+    ///
+    /// # Cost
+    /// That of `seen_get_full`.
     // As a call of its own it costs a look-up a third more instructions.
     #[inline]
-    fn index_of<Q: Equivalent<K>>(&self, query: Q) -> Option<usize>
-        ensures found { IfSome result (λ i. (e : Entry K V S) ×
-            (slice_get (items_of self.now.seen) i ≡ Some e)
-            × (Q.equivalent query e.key ≡ true)) }
+    pub fn seen_find<Q: Equivalent<K>>(&self, query: Q) -> Option<usize>
+        ensures found { IfSome result (λ i.
+            IsAt Q.equivalent (items_of self.now.seen) i query) }
         ensures within { IfSome result (λ i. i < length self.now.seen) }
         ensures absent { IfNone result (Lacks Q.equivalent (items_of self.now.seen) query) }
     {
@@ -203,7 +212,7 @@ impl<
         ensures holds { IfSome result (λ r. L.holds r.1.now r.2.now) }
         ensures absent { IfNone result (Lacks Q.equivalent (items_of self.now.seen) query) }
     {
-        if let Some(index) = self.index_of(query) {
+        if let Some(index) = self.seen_find(query) {
             self.obeys_rule();
             let found = self.entry(index);
             return Some((index, &found.key, &found.value));
@@ -221,7 +230,7 @@ impl<
         ensures holds { IfSome result (λ v. HoldsAt L.holds (Q.equivalent query) v.now) }
         ensures absent { IfNone result (Lacks Q.equivalent (items_of self.now.seen) query) }
     {
-        if let Some(seen) = self.index_of(query) {
+        if let Some(seen) = self.seen_find(query) {
             self.obeys_rule();
             return Some(&self.entry(seen).value);
         }
@@ -240,13 +249,12 @@ impl<
     /// `O(1)` if the hashes differ.
     pub fn find<Q: Equivalent<K>>(&mut self, query: Q) -> Option<usize>
         ensures continues { Continues self.old self.new }
-        ensures found { IfSome result (λ i. (e : Entry K V S) ×
-            (slice_get (items_of self.new.seen) i ≡ Some e)
-            × (Q.equivalent query e.key ≡ true)) }
+        ensures found { IfSome result (λ i.
+            IsAt Q.equivalent (items_of self.new.seen) i query) }
         ensures within { IfSome result (λ i. i < length self.new.seen) }
         ensures absent { IfNone result (Lacks Q.equivalent (items_of self.new.seen) query) }
     {
-        let found = self.index_of(query);
+        let found = self.seen_find(query);
         if found.is_some() {
             return found;
         }
@@ -254,7 +262,7 @@ impl<
         if self.list.len() == seen {
             return None;
         }
-        self.index_of(query)
+        self.seen_find(query)
     }
 
     /// Returns a reference to the value of a key, or `None` if no entry that the handle has then
@@ -415,7 +423,7 @@ impl<
                     });
                 }
                 Err((key, value)) => {
-                    if let Some(index) = self.index_of(&key) {
+                    if let Some(index) = self.seen_find(&key) {
                         return Ok(Inserted {
                             value: &self.entry(index).value,
                             index,
@@ -495,7 +503,7 @@ impl<
                     });
                 }
                 Err((key, value)) => {
-                    if let Some(at) = self.index_of(&key) {
+                    if let Some(at) = self.seen_find(&key) {
                         return Ok(Inserted {
                             value: &self.entry(at).value,
                             index: at,
@@ -540,19 +548,23 @@ impl<
         ensures later { IsLaterPass self.old self.new }
         ensures inserted { IfOk result (λ r. InsertsOnce K.eq self.old self.new key
             (record { value = r.value.now; index = r.index; is_new = r.is_new })) }
-        ensures own_value { IfOk result (λ r. r.is_new ≡ true → r.value.now ≡ value) }
+        ensures value { IfOk result (λ r. (r.is_new ≡ true → r.value.now ≡ value)
+            × HoldsAt L.holds (K.eq key) r.value.now) }
         ensures refused { IfErr result (λ e. mine self.new ≡ mine self.old) }
         ensures only_new { OnErr result (Lacks K.eq (items_of self.old.seen) key) }
     {
-        if let Some(earlier) = self.index_of(&key) {
+        if let Some(earlier) = self.seen_find(&key) {
             self.one_to_one();
+            self.obeys_rule();
             return Ok(Inserted {
                 value: &self.entry(earlier).value,
                 index: earlier,
                 is_new: false,
             });
         }
-        self.insert_absent(rt, key, value)
+        let inserted = self.insert_absent(rt, key, value)?;
+        self.obeys_rule();
+        Ok(inserted)
     }
 
     /// Inserts a key and its value, as [`insert_ref`](Self::insert_ref) does, but never waits for
@@ -581,20 +593,24 @@ impl<
         ensures later { IsLaterPass self.old self.new }
         ensures inserted { IfOk result (λ r. InsertsOnce K.eq self.old self.new key
             (record { value = r.value.now; index = r.index; is_new = r.is_new })) }
-        ensures own_value { IfOk result (λ r. r.is_new ≡ true → r.value.now ≡ value) }
+        ensures value { IfOk result (λ r. (r.is_new ≡ true → r.value.now ≡ value)
+            × HoldsAt L.holds (K.eq key) r.value.now) }
         ensures refused { IfErr result (λ f. (mine self.new ≡ mine self.old)
             × IfBusy f (λ pair. pair ≡ (key, value))) }
         ensures only_new { OnErr result (Lacks K.eq (items_of self.old.seen) key) }
     {
-        if let Some(observed) = self.index_of(&key) {
+        if let Some(observed) = self.seen_find(&key) {
             self.one_to_one();
+            self.obeys_rule();
             return Ok(Inserted {
                 value: &self.entry(observed).value,
                 index: observed,
                 is_new: false,
             });
         }
-        self.try_insert_absent(may, key, value)
+        let inserted = self.try_insert_absent(may, key, value)?;
+        self.obeys_rule();
+        Ok(inserted)
     }
 
     /// Inserts a key with the value that `make` returns, unless a thread has inserted an equal key.
@@ -686,12 +702,16 @@ impl<
         ensures inserted { IfOk result (λ r. GetsOrInserts K.eq Q.equivalent
             (λ k v. F.post make (Ok (k, v))) self.old self.new query
             (record { value = r.value.now; index = r.index; is_new = r.is_new })) }
+        ensures holds { IfOk result (λ r. HoldsAt L.holds (Q.equivalent query) r.value.now
+            ⊎ ((k : K) × (v : V) × F.post make (Ok (k, v))
+            × HoldsAt L.holds (K.eq k) r.value.now)) }
         ensures refused { IfErr result (λ e. (mine self.new ≡ mine self.old)
             × (F.post make (Err e) ⊎ E.from_gives alloc_error e)) }
         ensures only_new { OnErr result (Lacks Q.equivalent (items_of self.old.seen) query) }
     {
         if let Some(present) = self.find(query) {
             self.one_to_one();
+            self.obeys_rule();
             return Ok(Inserted {
                 value: &self.entry(present).value,
                 index: present,
@@ -713,7 +733,7 @@ impl<
     pub fn obeys_rule(&self)
         ensures { HoldsEach L.holds (items_of self.now.seen) }
     {
-        self.list.obeys_rule();
+        all_obey(&self.list);
     }
 
     /// Proves that equal keys that the handle has observed are at one index. It does nothing at run
@@ -721,7 +741,7 @@ impl<
     pub fn one_to_one(&self)
         ensures { IsOneToOne K.eq (keys_of (items_of self.now.seen)) }
     {
-        one_to_one(self.list.pass());
+        one_to_one(&self.list);
     }
 
     /// Proves that equal keys that two handles of a map have observed are at one index and have one
@@ -732,7 +752,7 @@ impl<
             (keys_of (items_of other.now.seen)) }
         ensures value { AgreeOnEntries K.eq (items_of self.now.seen) (items_of other.now.seen) }
     {
-        same_index(self.list.pass(), other.list.pass());
+        same_index(&self.list, &other.list);
     }
 
     /// Merges what two handles of a map have observed: afterwards both have observed the longer
@@ -805,7 +825,8 @@ impl<
         requires rule { L.holds key value }
         ensures later { IsLaterPass self.old self.new }
         ensures inserted { IfOk result (λ r. InsertsOnce K.eq self.old self.new key r) }
-        ensures own_value { IfOk result (λ r. r.is_new ≡ true → r.value ≡ value) }
+        ensures value { IfOk result (λ r. (r.is_new ≡ true → r.value ≡ value)
+            × HoldsAt L.holds (K.eq key) r.value) }
         ensures refused { IfErr result (λ e. mine self.new ≡ mine self.old) }
         ensures only_new { OnErr result (Lacks K.eq (items_of self.old.seen) key) }
     {
@@ -826,7 +847,8 @@ impl<
         requires rule { L.holds key value }
         ensures later { IsLaterPass self.old self.new }
         ensures inserted { IfOk result (λ r. InsertsOnce K.eq self.old self.new key r) }
-        ensures own_value { IfOk result (λ r. r.is_new ≡ true → r.value ≡ value) }
+        ensures value { IfOk result (λ r. (r.is_new ≡ true → r.value ≡ value)
+            × HoldsAt L.holds (K.eq key) r.value) }
         ensures refused { IfErr result (λ f. (mine self.new ≡ mine self.old)
             × IfBusy f (λ pair. pair ≡ (key, value))) }
         ensures only_new { OnErr result (Lacks K.eq (items_of self.old.seen) key) }

@@ -1,5 +1,5 @@
 -- Lemmas on the entries that the shards of a map had, those of each shard at a moment of its own.
-use Rattle.std.proofs.Common.{◌≡◌, ◌+◌, ◌-◌, ◌^◌, ◌++◌, ◌∷◌, ◌∙◌, ℕ, min, Bool, List, [], ap, flat_map, length, map, refl, subst, sym, arith}
+use Rattle.std.proofs.Common.{◌≡◌, ◌+◌, ◌-◌, ◌^◌, ◌++◌, ◌∷◌, ◌∙◌, ℕ, min, Bool, List, [], ap, flat_map, length, refl, subst, sym, arith}
 use Rattle.std.specs.List.{IsDistinct}
 use Rattle.std.specs.Map.{keys_of}
 use Rattle.std.specs.declared.sync.Arc.{Arc}

@@ -9,6 +9,8 @@ use Rattle.elsa_lock_free.specs.Distinct.{AgreeOnIndices}
 use Rattle.elsa_lock_free.specs.SharedList.{View, item_of, items_of}
 use Rattle.elsa_shards.proofs.ShardLemmas.{some_equal}
 use Rattle.elsa_shards.specs.Numbers.{AgreeOnNumbers}
+use Rattle.elsa_hash_index.specs.declared.entry.Entry.{Entry}
+use Rattle.elsa_hash_index.specs.Entries.{keys_of}
 
 -- A number leads back to the index and to the shard.
 pub index_of_number : (index shard count : ℕ) → shard < count → (index * count + shard) / count ≡ index
@@ -23,12 +25,12 @@ same_number i j n m count index shard =
     sym (div-add-mod' i n) ∙ (ap (λ p. p * n + i % n) index ∙ (ap (λ k. j / m * k + i % n) count ∙ (ap (λ s. j / m * m + s) shard ∙ div-add-mod' j m)))
 
 -- In the views at the indices below k, equal names have one index.
-abbrev pub AgreeBelow : {T : Type 0} → (T → T → Bool) → ℕ → List (View T) → List (View T) → Type 0
-AgreeBelow {T} equal k one two =
-    (i : ℕ) (a b : View T) → i < k → slice_get one i ≡ Some a → slice_get two i ≡ Some b → AgreeOnIndices equal (items_of a.seen) (items_of b.seen)
+abbrev pub AgreeBelow : {T V S : Type 0} → (T → T → Bool) → ℕ → List (View (Entry T V S)) → List (View (Entry T V S)) → Type 0
+AgreeBelow {T} {V} {S} equal k one two =
+    (i : ℕ) (a b : View (Entry T V S)) → i < k → slice_get one i ≡ Some a → slice_get two i ≡ Some b → AgreeOnIndices equal (keys_of (items_of a.seen)) (keys_of (items_of b.seen))
 
 -- If they agree in all shards, equal names have one number.
-pub agree_on_numbers : {T : Type 0} (equal : T → T → Bool) (shard : T → ℕ) (k : ℕ) (one two : List (View T)) → length one ≤ k → length one ≡ length two → AgreeBelow equal k one two → ((x y : T) → equal x y ≡ true → shard x ≡ shard y) → AgreeOnNumbers equal shard one two
+pub agree_on_numbers : {T V S : Type 0} (equal : T → T → Bool) (shard : T → ℕ) (k : ℕ) (one two : List (View (Entry T V S))) → length one ≤ k → length one ≡ length two → AgreeBelow equal k one two → ((x y : T) → equal x y ≡ true → shard x ≡ shard y) → AgreeOnNumbers equal shard one two
 agree_on_numbers equal shard k one two le counts all respects i j x y p q same =
     let shards = p.3 ∙ (respects x y same ∙ sym q.3) in
     let at_two = subst (λ s. slice_get two s ≡ Some q.0) (sym shards) q.1 in
@@ -37,12 +39,12 @@ agree_on_numbers equal shard k one two le counts all respects i j x y p q same =
     same_number i j (length one) (length two) counts indices shards
 
 -- At the next index they agree too.
-pub agree_more : {T : Type 0} (equal : T → T → Bool) (k : ℕ) (one two : List (View T)) (a b : View T) → AgreeBelow equal k one two → slice_get one k ≡ Some a → slice_get two k ≡ Some b → AgreeOnIndices equal (items_of a.seen) (items_of b.seen) → AgreeBelow equal (k + 1) one two
+pub agree_more : {T V S : Type 0} (equal : T → T → Bool) (k : ℕ) (one two : List (View (Entry T V S))) (a b : View (Entry T V S)) → AgreeBelow equal k one two → slice_get one k ≡ Some a → slice_get two k ≡ Some b → AgreeOnIndices equal (keys_of (items_of a.seen)) (keys_of (items_of b.seen)) → AgreeBelow equal (k + 1) one two
 agree_more equal k one two a b all at at_two here i x y lt at_x at_y = elim (cases_eq i k) [
   | inl same ↦
       let x_is = some_equal a x (sym at ∙ subst (λ j. slice_get one j ≡ Some x) same at_x) in
       let y_is = some_equal b y (sym at_two ∙ subst (λ j. slice_get two j ≡ Some y) same at_y) in
-      subst (λ v. AgreeOnIndices equal (items_of v.seen) (items_of y.seen)) x_is (subst (λ v. AgreeOnIndices equal (items_of a.seen) (items_of v.seen)) y_is here)
+      subst (λ v. AgreeOnIndices equal (keys_of (items_of v.seen)) (keys_of (items_of y.seen))) x_is (subst (λ v. AgreeOnIndices equal (keys_of (items_of a.seen)) (keys_of (items_of v.seen))) y_is here)
   | inr other ↦ all i x y (omega (arith, lt, other)) at_x at_y
 ]
 

@@ -1,5 +1,5 @@
 //! [`LockFreeShardedMap`]: a map of shards whose look-ups take no lock.
-ghost use Rattle.std.specs.Prelude.{◌≡◌, ◌⊎◌, ◌<◌, ◌≤◌, [], true, false, All, IfOk, IfErr, IfSome, IfNone, Ok, Err, alloc_error, flat_map, length, map, sum_by, vec_capacity, vec_len};
+ghost use Rattle.std.specs.Prelude.{◌≡◌, ◌⊎◌, ◌<◌, ◌≤◌, ◌^◌, [], true, false, All, IfOk, IfErr, IfSome, IfNone, OnErr, Ok, Err, alloc_error, flat_map, length, map, sum_by, vec_capacity, vec_len};
 ghost use Rattle.elsa_lock_free.specs.Attempts.{IfBusy};
 ghost use Rattle.elsa_lock_free.specs.SharedList.{Continues, IsLaterPass, items_of, mine};
 ghost use Rattle.elsa_lock_free_map.specs.Entries.{GetsOrInserts, Has, InsertsOnce, Lacks};
@@ -47,15 +47,16 @@ impl<
     A: Allocator + Copy,
     L: EntryRule<K, V>,
 > Model for LockFreeShardedMap<K, V, S, A, L> {
-    ghost use Rattle.std.specs.Prelude.{List, length, ◌<◌};
+    ghost use Rattle.std.specs.Prelude.{List, length, ◌<◌, ◌≤◌, ◌^◌};
     ghost use Rattle.elsa_lock_free.specs.SharedList.{Vector};
 
     ghost Value = { List Vector × S };
 
     ghost view = { λ m. (m.shards.items, m.hash_builder) };
 
-    // A key's shard is its hash modulo the number of shards, so there is one.
-    ghost invariant = { λ m. 0 < length m.shards.items };
+    // A key's shard is its hash modulo the number of shards, so there is one; and a shard's number
+    // has 32 bits.
+    ghost invariant = { λ m. (0 < length m.shards.items) × (length m.shards.items ≤ 2 ^ 32) };
 }
 
 impl<K: Drop + Hash, V: Drop, A: Allocator + Copy> LockFreeShardedMap<
@@ -87,7 +88,7 @@ impl<K: Drop + Hash, V: Drop, S: BuildHasher + Copy + Drop, A: Allocator + Copy>
     /// Makes an empty map with `count` shards that hashes its keys by `hash_builder`. It allocates
     /// and fails as [`with_rule`](Self::with_rule) does.
     pub fn with_shards(alloc: A, count: usize, hash_builder: S) -> Result<Self, AllocError>
-        requires positive { 0 < count }
+        requires count { (0 < count) × (count ≤ 2 ^ 32) }
         ensures count { IfOk result (λ m. length m.0 ≡ count) }
         ensures same_hasher { IfOk result (λ m. m.1 ≡ hash_builder) }
     {
@@ -111,7 +112,7 @@ impl<
     /// # Allocates
     /// The list of shards, and the directory of each.
     pub fn with_rule(alloc: A, count: usize, hash_builder: S) -> Result<Self, AllocError>
-        requires positive { 0 < count }
+        requires count { (0 < count) × (count ≤ 2 ^ 32) }
         ensures count { IfOk result (λ m. length m.0 ≡ count) }
         ensures same_hasher { IfOk result (λ m. m.1 ≡ hash_builder) }
     {
@@ -257,7 +258,7 @@ pub struct ShardedHandle<
     A: Allocator + Copy = Global,
     L: EntryRule<K, V> = AnyEntries,
 > {
-    handles: Vec<MapHandle<'m, K, V, S, A, L>, A>,
+    pub(crate) handles: Vec<MapHandle<'m, K, V, S, A, L>, A>,
     hash_builder: S,
 }
 
@@ -269,7 +270,7 @@ impl<
     A: Allocator + Copy,
     L: EntryRule<K, V>,
 > Model for ShardedHandle<'m, K, V, S, A, L> {
-    ghost use Rattle.std.specs.Prelude.{List, length, ◌<◌};
+    ghost use Rattle.std.specs.Prelude.{List, length, ◌<◌, ◌≤◌, ◌^◌};
     ghost use Rattle.elsa_lock_free.specs.SharedList.{View};
     ghost use Rattle.elsa_hash_index.specs.declared.entry.Entry.{Entry};
 
@@ -277,8 +278,8 @@ impl<
 
     ghost view = { λ h. (h.handles.items, h.hash_builder) };
 
-    // A key's handle is that of its shard, so there is one.
-    ghost invariant = { λ h. 0 < length h.handles.items };
+    // As in the map: a handle for each shard.
+    ghost invariant = { λ h. (0 < length h.handles.items) × (length h.handles.items ≤ 2 ^ 32) };
 }
 
 impl<
@@ -366,7 +367,8 @@ impl<
     /// blocks.
     ///
     /// # Cost
-    /// Two hashes and one search.
+    /// Two hashes and one search; if the key is not found and the shard has grown since, three
+    /// hashes and two searches.
     pub fn get_ref<Q: Equivalent<K>>(&mut self, query: Q) -> Option<&'m V>
         ensures same_map { IsSameMap self.old self.new }
         ensures on_shard { OnShard self.old.0 self.new.0
@@ -404,8 +406,9 @@ impl<
     /// its shard, and whether it is new. If the key isn't new, `key` and `value` are dropped.
     ///
     /// # Errors
-    /// Fails if an allocation fails, or if the shard has `2^32 - 1` entries. Then nothing is
-    /// inserted, and `key` and `value` are dropped; the same insertion may succeed later.
+    /// Fails if an allocation fails, or if the shard has `2^32 - 1` entries; never for a key that
+    /// the handle has observed. Then nothing is inserted, and `key` and `value` are dropped; the
+    /// same insertion may succeed later.
     ///
     /// # Blocks
     /// While another thread inserts into the same shard, unless the handle has observed the key.
@@ -430,8 +433,10 @@ impl<
             (λ before after. IsLaterPass before after
             × IfOk result (λ r. InsertsOnce K.eq before after key
             (record { value = r.value.now; index = r.index; is_new = r.is_new }))
-            × IfErr result (λ e. mine after ≡ mine before)) }
-        ensures own_value { IfOk result (λ r. r.is_new ≡ true → r.value.now ≡ value) }
+            × IfErr result (λ e. mine after ≡ mine before)
+            × OnErr result (Lacks K.eq (items_of before.seen) key)) }
+        ensures value { IfOk result (λ r. (r.is_new ≡ true → r.value.now ≡ value)
+            × HoldsAt L.holds (K.eq key) r.value.now) }
     {
         let index = self.shard_index(&key);
         self.handles[index].insert_ref(rt, key, value)
@@ -443,8 +448,8 @@ impl<
     /// # Errors
     /// Fails with `Busy` if another thread has the lock of the key's shard, or has inserted into it
     /// first in each of four attempts: the error has the key and the value. Fails with `Failed`
-    /// where `insert_ref` fails: `key` and `value` are dropped. In both cases nothing is inserted;
-    /// the same insertion may succeed later.
+    /// where `insert_ref` fails: `key` and `value` are dropped. In both cases nothing is inserted,
+    /// and the handle had not observed the key; the same insertion may succeed later.
     ///
     /// # Allocates
     /// A buffer of the shard and its row of index entries, as `insert_ref` does. The call then has
@@ -468,8 +473,10 @@ impl<
             (λ before after. IsLaterPass before after
             × IfOk result (λ r. InsertsOnce K.eq before after key
             (record { value = r.value.now; index = r.index; is_new = r.is_new }))
-            × IfErr result (λ f. mine after ≡ mine before)) }
-        ensures own_value { IfOk result (λ r. r.is_new ≡ true → r.value.now ≡ value) }
+            × IfErr result (λ f. mine after ≡ mine before)
+            × OnErr result (Lacks K.eq (items_of before.seen) key)) }
+        ensures value { IfOk result (λ r. (r.is_new ≡ true → r.value.now ≡ value)
+            × HoldsAt L.holds (K.eq key) r.value.now) }
         ensures busy { IfErr result (λ f. IfBusy f (λ pair. pair ≡ (key, value))) }
     {
         let index = self.shard_index(&key);
@@ -485,9 +492,9 @@ impl<
     /// `key` and the value of `make` are dropped.
     ///
     /// # Errors
-    /// Fails if an allocation fails, or if the shard has `2^32 - 1` entries. Then nothing is
-    /// inserted, and `key` and the value of `make` are dropped; the same insertion may succeed
-    /// later.
+    /// Fails if an allocation fails, or if the shard has `2^32 - 1` entries; never for a key that
+    /// the handle has observed. Then nothing is inserted, and `key` and the value of `make` are
+    /// dropped; the same insertion may succeed later.
     ///
     /// # Blocks
     /// While another thread inserts into the same shard, unless the key was found.
@@ -513,7 +520,8 @@ impl<
             (λ before after. IsLaterPass before after
             × IfOk result (λ r. InsertsOnce K.eq before after key
             (record { value = r.value.now; index = r.index; is_new = r.is_new }))
-            × IfErr result (λ e. mine after ≡ mine before)) }
+            × IfErr result (λ e. mine after ≡ mine before)
+            × OnErr result (Lacks K.eq (items_of before.seen) key)) }
         ensures value { IfOk result (λ r. (r.is_new ≡ true → F.post make r.value.now)
             × HoldsAt L.holds (K.eq key) r.value.now) }
     {
@@ -530,8 +538,9 @@ impl<
     ///
     /// # Errors
     /// Fails with the error of `make`, or with one that is made of an `AllocError` if an allocation
-    /// fails or the shard has `2^32 - 1` entries. Then nothing is inserted, and what `make`
-    /// returned is dropped; the same insertion may succeed later.
+    /// fails or the shard has `2^32 - 1` entries; never if the handle has observed a key that the
+    /// query finds. Then nothing is inserted, and what `make` returned is dropped; the same
+    /// insertion may succeed later.
     ///
     /// # Blocks
     /// While another thread inserts into the same shard, unless the key was found.
@@ -565,95 +574,11 @@ impl<
             (λ k v. F.post make (Ok (k, v))) before after query
             (record { value = r.value.now; index = r.index; is_new = r.is_new }))
             × IfErr result (λ e. (mine after ≡ mine before)
-            × (F.post make (Err e) ⊎ E.from_gives alloc_error e))) }
+            × (F.post make (Err e) ⊎ E.from_gives alloc_error e))
+            × OnErr result (Lacks Q.equivalent (items_of before.seen) query)) }
+        ensures holds { IfOk result (λ r. HoldsAt L.holds (Q.equivalent query) r.value.now) }
     {
         let index = self.shard_index(query);
         self.handles[index].insert_by(rt, query, make)
-    }
-}
-
-impl<
-    'm,
-    K: Copy + Drop + Hash,
-    V: Copy + Drop,
-    S: BuildHasher + Copy + Drop,
-    A: Allocator + Copy,
-    L: EntryRule<K, V>,
-> ShardedHandle<'m, K, V, S, A, L> {
-    /// Returns the value of a key, or `None` if no entry of the key's shard that the handle has
-    /// then observed has the key. It takes no lock, allocates nothing and never blocks.
-    ///
-    /// # Cost
-    /// Two hashes and one search.
-    pub fn get(&mut self, key: K) -> Option<V>
-        ensures same_map { IsSameMap self.old self.new }
-        ensures on_shard { OnShard self.old.0 self.new.0
-            (shard_of S.BuildHasher S.Hasher.Hasher self.old.1 (length self.old.0)
-            (K.hash_input key))
-            (λ before after. Continues before after
-            × IfSome result (λ v. Has K.eq (items_of after.seen) key v)
-            × IfNone result (Lacks K.eq (items_of after.seen) key)) }
-        ensures holds { IfSome result (HoldsAt L.holds (K.eq key)) }
-    {
-        let index = self.shard_index(&key);
-        self.handles[index].get(key)
-    }
-
-    /// Inserts a key with its value, as [`insert_ref`](Self::insert_ref) does, and returns a copy
-    /// of the value that the key has.
-    ///
-    /// # Errors
-    /// Fails if an allocation fails, or if the shard has `2^32 - 1` entries. Nothing is inserted;
-    /// the same insertion may succeed later.
-    ///
-    /// # Blocks
-    /// While another thread inserts into the same shard, unless the handle has observed the key.
-    ///
-    /// # Cost
-    /// Two hashes and one search for a present key, three hashes and two searches for a new one.
-    pub fn insert<R: Wait>(
-        &mut self,
-        rt: &R,
-        key: K,
-        value: V,
-    ) -> Result<Inserted<V, usize>, AllocError>
-        requires rule { L.holds key value }
-        ensures same_map { IsSameMap self.old self.new }
-        ensures on_shard { OnShard self.old.0 self.new.0
-            (shard_of S.BuildHasher S.Hasher.Hasher self.old.1 (length self.old.0)
-            (K.hash_input key))
-            (λ before after. IsLaterPass before after
-            × IfOk result (InsertsOnce K.eq before after key)
-            × IfErr result (λ e. mine after ≡ mine before)) }
-        ensures own_value { IfOk result (λ r. r.is_new ≡ true → r.value ≡ value) }
-    {
-        let index = self.shard_index(&key);
-        self.handles[index].insert(rt, key, value)
-    }
-
-    /// Inserts a key with its value, as [`try_insert_ref`](Self::try_insert_ref) does, and returns
-    /// a copy of the value that the key has. It never waits for the lock.
-    ///
-    /// # Errors
-    /// Fails as `try_insert_ref` does. Nothing is inserted; the same insertion may succeed later.
-    pub fn try_insert(
-        &mut self,
-        may: LockPermit,
-        key: K,
-        value: V,
-    ) -> Result<Inserted<V, usize>, AttemptFault<(K, V)>>
-        requires rule { L.holds key value }
-        ensures same_map { IsSameMap self.old self.new }
-        ensures on_shard { OnShard self.old.0 self.new.0
-            (shard_of S.BuildHasher S.Hasher.Hasher self.old.1 (length self.old.0)
-            (K.hash_input key))
-            (λ before after. IsLaterPass before after
-            × IfOk result (InsertsOnce K.eq before after key)
-            × IfErr result (λ f. mine after ≡ mine before)) }
-        ensures own_value { IfOk result (λ r. r.is_new ≡ true → r.value ≡ value) }
-        ensures busy { IfErr result (λ f. IfBusy f (λ pair. pair ≡ (key, value))) }
-    {
-        let index = self.shard_index(&key);
-        self.handles[index].try_insert(may, key, value)
     }
 }

@@ -100,6 +100,6 @@ fn a_history_of_a_map_had_bytes(rt: HostRuntime) -> Result<(), AllocError> {
     handle.insert(&rt, 7, 14)?;
     let history = handle.history();
     assert_eq!(rt; size_of_val(&history), 0);
-    history.is_one_with(&handle.pass().history());
+    history.is_one_with(&handle.history());
     Ok(())
 }

@@ -222,10 +222,10 @@ fn by_shards<R: Wait>(rt: &R, map: &mut Many<'_, '_>, may: LockPermit, call: Cal
     let (key, value) = (call.key, call.value);
     let mut calls = 0;
     in_shard(match call.kind {
-        Kind::Insert => of_copy(map.insert(rt, key, value)),
-        Kind::InsertRef => of_ref(map.insert_ref(rt, key, value), 0),
-        Kind::TryInsert => of_attempt(map.try_insert(may, key, value)),
-        Kind::TryInsertRef => of_ref_attempt(map.try_insert_ref(may, key, value)),
+        Kind::Insert | Kind::InsertRef => of_ref(map.insert_ref(rt, key, value), 0),
+        Kind::TryInsert | Kind::TryInsertRef => {
+            of_ref_attempt(map.try_insert_ref(may, key, value))
+        }
         Kind::InsertWith => {
             let make = || -> u64 {
                 calls += 1;
@@ -245,8 +245,7 @@ fn by_shards<R: Wait>(rt: &R, map: &mut Many<'_, '_>, may: LockPermit, call: Cal
             let done = map.insert_by(rt, &key, make);
             of_ref(done, calls)
         }
-        Kind::Get => Reply::Value(map.get(key)),
-        Kind::GetRef => Reply::Value(map.get_ref(&key).copied()),
+        Kind::Get | Kind::GetRef => Reply::Value(map.get_ref(&key).copied()),
         Kind::ContainsKey => Reply::Flag(map.contains_key(&key)),
         Kind::Len => Reply::Count(map.len()),
         _ => Reply::NotOffered,

@@ -31,7 +31,7 @@ fn the_entries_of_lock_free_shards_came_out_in_another_order(rt: HostRuntime) ->
             let (mut draws, mut handle) = (Draws::new(calls), map.handle()?);
             for value in 0..calls {
                 let key = draws.below(KEYS);
-                handle.insert(&rt, key, value)?;
+                handle.insert_ref(&rt, key, value)?;
                 if !std::mem::replace(&mut is_known[key as usize], true) {
                     firsts.push((key, value))?;
                 }
@@ -60,8 +60,8 @@ fn inserts_each(rt: &impl Wait, map: &LockFree, thread: usize) -> u64 {
         return 0;
     };
     for key in 0..KEYS {
-        if let Ok(done) = handle.insert(rt, key, key * 8 + thread as u64) {
-            sum += done.value;
+        if let Ok(done) = handle.insert_ref(rt, key, key * 8 + thread as u64) {
+            sum += *done.value;
         }
     }
     sum

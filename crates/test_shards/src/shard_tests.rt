@@ -53,7 +53,7 @@ fn a_shard_was_not_used(rt: HostRuntime) -> Result<(), Fail> {
         )?;
         let mut handle = map.handle()?;
         for key in 0..MANY {
-            handle.insert(&rt, key, key)?;
+            handle.insert_ref(&rt, key, key)?;
         }
         let used = handle
             .shards()
@@ -132,10 +132,10 @@ fn a_handle_lacks_what_another_had_observed(rt: HostRuntime) -> Result<(), Fail>
         )?;
         let (mut one, mut two) = (map.handle()?, map.handle()?);
         for key in 0..2 {
-            one.insert(&rt, key, key)?;
+            one.insert_ref(&rt, key, key)?;
         }
         for key in 2..4 {
-            two.insert(&rt, key, key)?;
+            two.insert_ref(&rt, key, key)?;
         }
         assert_eq!(rt; one.seen_len(), 2, "{count} shards");
         one.meet(&mut two);

@@ -4,7 +4,7 @@
 ghost use Rattle.std.specs.Prelude.{[], nat_eq, refl};
 ghost use Rattle.std.specs.Cmp.{nat_eq_equiv, on_equiv, partial_equiv_from_equiv};
 
-use elsa_shared_interner::shared::SharedInterner;
+use elsa_lock_free_map::interner::SharedInterner;
 use std::hash::{Hash, Hasher};
 use std::sync::atomic::{AtomicU64, Ordering};
 use std::test::*;

@@ -1,6 +1,7 @@
 //! Names as values, and views of a shared interner of names.
-use elsa_shared_interner::name::{Name, NameFault};
-use elsa_shared_interner::shared::SharedInterner;
+use elsa_lock_free_map::entries::{one_to_one, same_index};
+use elsa_lock_free_map::interner::{NamePass, SharedInterner};
+use elsa_lock_free_map::name::{Name, NameFault};
 use std::test::*;
 
 #[test]
@@ -36,8 +37,8 @@ fn views_that_were_not_merged_had_different_numbers(rt: HostRuntime) -> Result<(
     let interner = SharedInterner::<Name>::new(rt.alloc())?;
     let (mut one, mut other) = (interner.pass(), interner.pass());
     assert_eq!(rt; interner.put(&rt, &mut one, Name::new("a")?), Ok(0));
-    one.one_to_one();
-    one.same_name_same_index(&other);
+    one_to_one(&one);
+    same_index(&one, &other);
     assert_eq!(rt; (one.seen_len(), other.seen_len()), (1, 0));
     for (text, number) in [("b", 1), ("a", 0), ("b", 1)] {
         let got = interner.put(&rt, &mut other, Name::new(text)?);
@@ -63,5 +64,17 @@ fn a_second_view_of_an_interner_lost_names(rt: HostRuntime) -> Result<(), Fail> 
     assert_eq!(rt; name.map(|name| name.as_str() == "a"), Some(true));
     assert_eq!(rt; interner.put(&rt, &mut two, Name::new("c")?), Ok(2));
     assert_eq!(rt; (one.seen_len(), two.seen_len()), (2, 3));
+    Ok(())
+}
+
+#[test]
+fn a_call_of_an_interner_had_no_path(rt: HostRuntime) -> Result<(), Fail> {
+    let interner = SharedInterner::<Name>::new(rt.alloc())?;
+    let mut one: NamePass = SharedInterner::pass(&interner);
+    let mut other: NamePass = SharedInterner::pass(&interner);
+    let name = Name::new("a")?;
+    assert_eq!(rt; SharedInterner::put(&interner, &rt, &mut one, name), Ok(0));
+    NamePass::meet(&mut one, &mut other);
+    assert_eq!(rt; SharedInterner::at(&interner, &mut other, 0), Some(name));
     Ok(())
 }

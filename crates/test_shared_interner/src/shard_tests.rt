@@ -3,8 +3,8 @@
 use crate::thread_tests::meet_all;
 use bumpalo::Bump;
 use elsa_lock_free::may_lock::LockPermit;
+use elsa_lock_free_map::name::Name;
 use elsa_shards::interner::ShardedInterner;
-use elsa_shared_interner::name::Name;
 use std::alloc::Global;
 use std::hash::{BuildHasherDefault, FoldHasher};
 use std::process::Abort;

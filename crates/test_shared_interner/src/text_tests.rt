@@ -2,9 +2,8 @@
 //! denied in turn, and put by two threads.
 use crate::thread_tests::meet_all;
 use bumpalo::Bump;
+use elsa_lock_free_map::interner::{NameHandle, SharedInterner};
 use elsa_lock_free_map::place_text::{PlaceText, TextBuffer};
-use elsa_shared_interner::handle::NameHandle;
-use elsa_shared_interner::shared::SharedInterner;
 use std::alloc::{AllocError, Allocator, Global};
 use std::hash::{BuildHasherDefault, FoldHasher};
 use std::process::Abort;

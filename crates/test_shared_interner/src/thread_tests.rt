@@ -1,6 +1,6 @@
 //! Threads that put names at the same time. Each waits for the others first, so that they overlap.
-use elsa_shared_interner::name::Name;
-use elsa_shared_interner::shared::SharedInterner;
+use elsa_lock_free_map::interner::SharedInterner;
+use elsa_lock_free_map::name::Name;
 use std::process::Abort;
 use std::sync::Wait;
 use std::sync::atomic::{AtomicU64, Ordering};

@@ -1,8 +1,8 @@
 //! A name that is put without waiting, while another thread's call is halted.
 use crate::thread_tests::comes;
 use elsa_lock_free::may_lock::{AttemptFault, LockPermit};
+use elsa_lock_free_map::interner::SharedInterner;
 use elsa_lock_free_map::place_text::TextBuffer;
-use elsa_shared_interner::shared::SharedInterner;
 use std::alloc::Global;
 use std::hash::{BuildHasherDefault, FoldHasher};
 use std::test::*;

@@ -82,8 +82,8 @@ fn a_value_of_an_arena_moved_or_evidence_led_to_another_item(rt: HostRuntime) ->
     list.push(7)?;
     let seen: cell::Seen<u64> = list.observed().evidence();
     list.push(8)?;
-    assert_eq!(rt; list.get_since(&seen, 0), Some(&7));
-    assert_eq!(rt; list.handle_since(&seen).len(), 2);
+    assert_eq!(rt; list.since(&seen).get(0), Some(&7));
+    assert_eq!(rt; list.since(&seen).len(), 2);
     Ok(())
 }
 

@@ -17,7 +17,7 @@ fn a_read_with_a_history_did_not_observe_it(rt: HostRuntime) -> Result<(), Alloc
     assert_eq!(rt; two.len_after(&history), 2);
     assert_eq!(rt; *two.item(1), 8);
     history.is_made();
-    history.is_one_with(&two.pass().history());
+    history.is_one_with(&two.history());
     Ok(())
 }
 

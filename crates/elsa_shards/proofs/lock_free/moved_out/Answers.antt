@@ -1,4 +1,4 @@
-use Rattle.std.proofs.Common.{◌≡◌, ◌+◌, ◌≤◌, ◌∙◌, drop, length, map, sum_by, refl, ap, sym, arith}
+use Rattle.std.proofs.Common.{◌+◌, ◌∙◌, drop, length, map, sum_by, ap, sym, arith}
 use Rattle.std.specs.Vec.Iter.{into_iter_items}
 use Rattle.std.proofs.lemmas.List.Sums.{sum_by-cons}
 use Rattle.elsa_tables.proofs.RuleLemmas.{any_kept}

@@ -14,13 +14,13 @@ returns-in-Ok-clause-inserted g c =
     inserts_since eq c.args.self.now b after key (record { value = item.value; index = i; is_new = true }) ((inv.2, inv.3), inv.4, inv.5) c.requires.absent
     (stands_at eq (items_of after.seen) i key item (here.0, here.1, here.2) c.entry.ensures) (omega (arith, at), up.1.3.1 ∙ ap (λ i. mine b ++ i ∷ []) (sym at))
 
-pub returns-in-Some-index_of-clause-inserted : goal.returns-in-Some-index_of-clause-inserted
-returns-in-Some-index_of-clause-inserted g c =
-    let eq = g.K.PartialEq.eq in let b = c.loop.self in let after = c.push_absent.new.self in let i = c.in-Some-index_of.index in let inv = c.loop.invariant in let key = c.args.key in let item = c.entry-in-Some-index_of.result.now in
+pub returns-in-Some-seen_find-clause-inserted : goal.returns-in-Some-seen_find-clause-inserted
+returns-in-Some-seen_find-clause-inserted g c =
+    let eq = g.K.PartialEq.eq in let b = c.loop.self in let after = c.push_absent.new.self in let i = c.in-Some-seen_find.index in let inv = c.loop.invariant in let key = c.args.key in let item = c.entry-in-Some-seen_find.result.now in
     let back = err_at c.in_ok-index.field-0 (c.in-Err.key, c.in-Err.value) _ c.in-Err.is c.in_ok-index.ensures.again in
-    let same = ap (λ q. q.0) (back.0 ∙ inv.7) in let f = c.in-Some-index_of.ensures.found in
+    let same = ap (λ q. q.0) (back.0 ∙ inv.7) in let f = c.in-Some-seen_find.ensures.found in
     inserts_since eq c.args.self.now b after key (record { value = item.value; index = i; is_new = false }) ((inv.2, inv.3), inv.4, inv.5) c.requires.absent
-    (stands_at eq (items_of after.seen) i key item (f.0, f.1, subst (λ k. eq k f.0.key ≡ true) same f.2) c.entry-in-Some-index_of.ensures) back.1
+    (stands_at eq (items_of after.seen) i key item (f.0, f.1, subst (λ k. eq k f.0.key ≡ true) same f.2) c.entry-in-Some-seen_find.ensures) back.1
 
 pub loop-preserved : goal.loop-preserved
 loop-preserved g c =

@@ -1,7 +1,7 @@
 use Rattle.std.proofs.Common.{refl, sym, ◌∙◌, inl, inr}
 use Rattle.elsa_lock_free.specs.SharedList.{items_of}
 use Rattle.elsa_lock_free.proofs.RuleLemmas.History.{items_prefix}
-use Rattle.elsa_lock_free_map.proofs.MapLemmas.{inserts_later, key_at, lacks_before, later_at, one_value, stands_at}
+use Rattle.elsa_lock_free_map.proofs.MapLemmas.{inserts_later, key_at, lacks_before, later_at, one_value, stands_at, stands_holds}
 use Rattle.elsa_lock_free_map.proofs.handle.MapHandle.insert_by.Goals as goal
 
 pub returns-in-Some-clause-inserted : goal.returns-in-Some-clause-inserted
@@ -24,6 +24,17 @@ returns-in-Some-clause-inserted g c =
       ),
     )
 
+pub returns-in-Some-clause-holds : goal.returns-in-Some-clause-holds
+returns-in-Some-clause-holds g c =
+    let finds = g.Q.Equivalent.equivalent in
+    let new = items_of c.find.new.self.seen in
+    inl (stands_holds finds g.L.EntryRule.holds new c.args.query c.in-Some.present c.entry.result.now.value c.obeys_rule.ensures (stands_at finds new c.in-Some.present c.args.query c.entry.result.now c.in-Some.ensures.found c.entry.ensures))
+
+pub returns-in-Ok-insert_ref-clause-holds : goal.returns-in-Ok-insert_ref-clause-holds
+returns-in-Ok-insert_ref-clause-holds g c =
+    let made = c.in-Ok.made in
+    inr (made.0, made.1, c.in-Ok.ensures, c.in-Ok-insert_ref.ensures.value.1)
+
 pub make-requires : goal.make-requires
 make-requires g c =
     let p = items_prefix c.args.self.now.seen c.find.new.self.seen c.find.ensures.continues.1 in
@@ -35,7 +46,7 @@ returns-in-Ok-insert_ref-clause-inserted g c =
     let p = items_prefix c.args.self.now.seen c.find.new.self.seen c.find.ensures.continues.1 in
     let lacks = lacks_before g.Q.Equivalent.equivalent (items_of c.args.self.now.seen) (items_of c.find.new.self.seen) c.args.query p c.in_default.ensures.absent in
     let done = c.in-Ok-insert_ref.ensures in
-    inr (made.0, made.1, c.in-Ok.ensures, lacks, inserts_later g.K.PartialEq.eq c.args.self.now c.find.new.self c.insert_ref.new.self made.0 _ c.find.ensures.continues done.inserted, done.own_value)
+    inr (made.0, made.1, c.in-Ok.ensures, lacks, inserts_later g.K.PartialEq.eq c.args.self.now c.find.new.self c.insert_ref.new.self made.0 _ c.find.ensures.continues done.inserted, done.value.0)
 
 pub returns-in-Err-clause-only_new : goal.returns-in-Err-clause-only_new
 returns-in-Err-clause-only_new g c =

@@ -1,4 +1,4 @@
-use Rattle.std.proofs.Common.{rules, ◌≡◌, [], ◌∷◌, All, arith, subst, sym}
+use Rattle.std.proofs.Common.{rules, ◌≡◌, [], All, arith, subst, sym}
 use Rattle.std.proofs.lemmas.Grind.{common_steps}
 use Rattle.std.proofs.lemmas.List.Elements.{All-push}
 use Rattle.elsa_lock_free.specs.SharedList.{mine}

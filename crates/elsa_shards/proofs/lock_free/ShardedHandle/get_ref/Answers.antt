@@ -1,4 +1,4 @@
-use Rattle.std.proofs.Common.{◌≡◌, ◌<◌, Some, length, map, ap, sym, ◌∙◌, arith}
+use Rattle.std.proofs.Common.{◌<◌, Some, length, map, ap, sym, ◌∙◌, arith}
 use Rattle.std.proofs.lemmas.Option.{slice_get-get_or}
 use Rattle.elsa_shards.proofs.ShardLemmas.{same_vectors_at}
 use Rattle.elsa_shards.proofs.lock_free.ShardedHandle.get_ref.Goals as goal

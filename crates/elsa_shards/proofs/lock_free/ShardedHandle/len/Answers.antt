@@ -1,4 +1,4 @@
-use Rattle.std.proofs.Common.{◌≡◌, ◌<◌, length, map, ap, sym, subst, ◌∙◌, drop, get_or, arith}
+use Rattle.std.proofs.Common.{length, map, ap, sym, subst, ◌∙◌, drop, get_or, arith}
 use Rattle.std.proofs.lemmas.List.{take_at}
 use Rattle.std.proofs.lemmas.Option.{slice_get-get_or}
 use Rattle.elsa_shards.proofs.ShardLemmas.{continues_at, same_vectors_of}

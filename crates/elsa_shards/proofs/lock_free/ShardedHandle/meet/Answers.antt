@@ -1,4 +1,4 @@
-use Rattle.std.proofs.Common.{◌≡◌, ◌<◌, Some, length, map, ap, subst, sym, ◌∙◌, arith}
+use Rattle.std.proofs.Common.{◌<◌, Some, length, map, ap, subst, sym, ◌∙◌, arith}
 use Rattle.std.proofs.lemmas.Option.{slice_get-get_or}
 use Rattle.elsa_shards.proofs.MeetLemmas.{meet_at, meet_at_last, same_length, same_vector_at}
 use Rattle.elsa_shards.proofs.ShardLemmas.{same_vectors_at}

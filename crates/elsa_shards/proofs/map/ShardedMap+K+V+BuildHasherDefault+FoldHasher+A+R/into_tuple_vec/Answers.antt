@@ -1,4 +1,4 @@
-use Rattle.std.proofs.Common.{◌≡◌, ◌+◌, length, refl, ap, arith}
+use Rattle.std.proofs.Common.{◌+◌, length, ap, arith}
 use Rattle.elsa_locks.specs.Shared.{shown}
 use Rattle.elsa_shards.proofs.MomentLemmas.{joined_arcs, none_joined}
 use Rattle.elsa_shards.proofs.map.ShardedMap+K+V+BuildHasherDefault+FoldHasher+A+R.into_tuple_vec.Goals as goal

@@ -1,6 +1,0 @@
-use Rattle.std.proofs.Common.{◌≡◌, length}
-use Rattle.elsa_shards.proofs.interner.ShardedInterner.with_shards.Given as goal
-
--- There is one shard for each iteration.
-abbrev pub invariant-loop : goal.invariant-loop
-invariant-loop g l = length l.shards.items ≡ l.counter

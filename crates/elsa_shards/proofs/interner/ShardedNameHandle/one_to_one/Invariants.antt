@@ -1,6 +1,0 @@
-use Rattle.elsa_shards.proofs.NumberLemmas.{AgreeBelow}
-use Rattle.elsa_shards.proofs.interner.ShardedNameHandle.one_to_one.Given as goal
-
--- In the shards that were visited, equal names have one index.
-abbrev pub invariant-loop-index : goal.invariant-loop-index
-invariant-loop-index g l = AgreeBelow g.T.PartialEq.eq l.index l.self-inside.names.items l.self-inside.names.items
