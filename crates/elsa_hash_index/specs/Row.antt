@@ -4,6 +4,7 @@
 use Rattle.std.specs.Prelude.{◌≡◌, ℕ, zero, suc, ◌+◌, ◌*◌, ◌/◌, ◌%◌, ◌^◌, ◌<◌, ◌==◌, true, List, [], ◌∷◌, length, Option, Some, None, if◌then◌else◌}
 use Rattle.std.specs.Bool.{nat_lt}
 use Rattle.logbook.specs.Pages.{Book, Cell, cell, Named, Step, View}
+use Rattle.elsa_hash_index.specs.Words.{groups_of}
 use Rattle.elsa_hash_index.specs.declared.row.Event.{Event}
 use Rattle.elsa_hash_index.specs.declared.row.Event.TheVariants.{Opened, Filled}
 
@@ -16,14 +17,14 @@ first_not_0 (suc a) b = suc a
 abbrev pub digit : ℕ → ℕ → ℕ → ℕ
 digit bits j n = n / 2 ^ (j * bits) % 2 ^ bits
 
--- The number of words of the tags of `count` index entries.
+-- The number of words of the tags of `count` index entries: two for each group.
 abbrev pub tag_words : ℕ → ℕ
-tag_words count = count / 8 + 1
+tag_words count = 2 * groups_of count
 
--- The number of words of a row of `count` index entries: those of the tags, then those of the
--- numbers.
+-- The number of words of a row for `count` index entries: those of the tags, then those of the
+-- numbers, eight for each group.
 abbrev pub words_of : ℕ → ℕ
-words_of count = tag_words count + (count / 2 + 1)
+words_of count = tag_words count + 8 * groups_of count
 
 -- The bits of a digit of the word k: a tag has 8, a number 32.
 unfoldable pub bits_of : ℕ → ℕ → ℕ

@@ -1,14 +1,16 @@
-//! A row of index entries, in one book of `logbook`: words with eight tags of 8 bits each, then
-//! words with two numbers of 32 bits each. A tag or a number is a digit of its word, and the rule
-//! of the book states that each digit has the value of the first event that set it.
+//! A row of index entries, in one book of `logbook`: words with eight tags of 8 bits each, two for
+//! each group of sixteen, then words with two numbers of 32 bits each. A tag or a number is a digit
+//! of its word, and the rule of the book states that each digit has the value of the first event
+//! that set it.
 ghost use Rattle.std.specs.Prelude.{◌≡◌, ℕ, ◌+◌, ◌*◌, ◌^◌, ◌<◌, ◌≤◌, true, [], ◌∷◌, length, IfOk, Some};
 ghost use mathlib.Core.List.{IsPrefix};
 ghost use Rattle.elsa_hash_index.specs.Row.{Shows, bits_of, builder_of, count_of, digit, named_from, word_at, words_of};
 ghost use Rattle.elsa_hash_index.specs.declared.row.Event.TheVariants.{Opened};
 
-use crate::probe::Words;
+use crate::probe::{Words, groups};
 use logbook::{Gain, Offer, Opening, Plain, Play, Rule, Seen, Start, Word};
 use std::alloc::{AllocError, Allocator, Global};
+use std::simd::prelude::*;
 
 /// An event of a row. A history is a list of events; no value of this type is ever made.
 pub enum Event<S> {
@@ -108,7 +110,7 @@ pub struct Row<S: Copy + Drop, A: Allocator = Global> {
 }
 
 impl<S: Copy + Drop, A: Allocator + Copy> Row<S, A> {
-    /// Makes a row of `count` index entries, all of them 0.
+    /// Makes a row of groups for `count` index entries, all of them 0.
     ///
     /// # Errors
     /// Fails if an allocation fails.
@@ -118,8 +120,7 @@ impl<S: Copy + Drop, A: Allocator + Copy> Row<S, A> {
     pub fn new(alloc: A, count: usize, builder: S) -> Result<Row<S, A>, AllocError>
         ensures { IfOk result (λ r. (r.count ≡ count) × (r.builder ≡ builder)) }
     {
-        let tags = count / 8 + 1;
-        let number = tags + count / 2 + 1;
+        let number = 10 * groups(count);
         let mut words = Vec::with_capacity(alloc, number)?;
         let (first, mut pens) = Seen::open_row::<(usize, S), Opens>(
             &(count, builder),
@@ -280,8 +281,17 @@ impl<'a, S: Copy + Drop, A: Allocator> Words<S> for RowView<'a, S, A> {
     }
 
     #[inline(always)]
+    fn tags(&mut self, group: usize) -> u8x16 {
+        // Most look-ups read a number of the group next. This load doesn't wait for the tags.
+        let _early = self.load_word(2 * groups(self.row.count) + (8 * group + 4));
+        let low = self.load_word(2 * group);
+        let high = self.load_word(2 * group + 1);
+        u64x2::from_array([low, high]).to_le_bytes()
+    }
+
+    #[inline(always)]
     fn number(&mut self, at: usize) -> u64 {
-        let word = self.load_word(self.row.count / 8 + 1 + at / 2);
+        let word = self.load_word(2 * groups(self.row.count) + at / 2);
         (word >> (at % 2 * 32)) % 0x1_0000_0000
     }
 
@@ -291,7 +301,7 @@ impl<'a, S: Copy + Drop, A: Allocator> Words<S> for RowView<'a, S, A> {
 
     fn set_number(&mut self, at: usize, number: u64) -> bool {
         self.set(
-            self.row.count / 8 + 1 + at / 2,
+            2 * groups(self.row.count) + at / 2,
             at % 2,
             at % 2 * 32,
             0x1_0000_0000,

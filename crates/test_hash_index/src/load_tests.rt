@@ -1,6 +1,7 @@
-//! The loads of a look-up, in a row of which two thirds are set: of tags, and of numbers.
+//! The loads of a look-up, in a row of which two thirds are set: of groups of tags, and of numbers.
 use elsa_hash_index::probe::{Words, enter, find};
 use elsa_hash_index::row::Row;
+use std::simd::prelude::*;
 use std::test::*;
 
 /// The number of index entries of the row.
@@ -13,7 +14,7 @@ const ENTERED: usize = 4_000;
 #[derive(Drop)]
 struct Counting<W> {
     words: W,
-    tags: u64,
+    groups: u64,
     numbers: u64,
 }
 
@@ -29,8 +30,12 @@ impl<S, W: Words<S>> Words<S> for Counting<W> {
     }
 
     fn tag(&mut self, at: usize) -> u64 {
-        self.tags = self.tags.wrapping_add(1);
         self.words.tag(at)
+    }
+
+    fn tags(&mut self, group: usize) -> u8x16 {
+        self.groups = self.groups.wrapping_add(1);
+        self.words.tags(group)
     }
 
     fn number(&mut self, at: usize) -> u64 {
@@ -62,25 +67,28 @@ fn a_look_up_walked_the_row_or_read_the_number_of_another_key(rt: HostRuntime) -
     let row = Row::new(rt.alloc(), COUNT, 7u64)?;
     let mut view = Counting {
         words: row.view(),
-        tags: 0,
+        groups: 0,
         numbers: 0,
     };
     for index in 0..ENTERED {
         enter(&mut view, hash_of(index), index)?;
     }
     let entered = ENTERED as u64;
-    for (is_present, most_tags, most_numbers) in [
-        (true, 4 * entered, 41 * (entered / 40)),
-        (false, 10 * entered, entered / 20),
+    for (is_present, most_groups, most_numbers) in [
+        (true, 41 * (entered / 40), 41 * (entered / 40)),
+        (false, 11 * (entered / 10), entered / 20),
     ] {
-        (view.tags, view.numbers) = (0, 0);
+        (view.groups, view.numbers) = (0, 0);
         for index in 0..ENTERED {
             let hash = hash_of(if is_present { index } else { index + ENTERED });
             let found = find(&mut view, hash, ENTERED, |p| is_present && p == index);
             assert_eq!(rt; found, if is_present { Some(index) } else { None });
         }
-        let (tags, numbers) = (view.tags, view.numbers);
-        assert!(rt; tags <= most_tags, "{tags} tags, present: {is_present}");
+        let (groups, numbers) = (view.groups, view.numbers);
+        assert!(rt;
+            groups <= most_groups,
+            "{groups} groups, present: {is_present}"
+        );
         assert!(rt;
             numbers <= most_numbers,
             "{numbers} numbers, present: {is_present}"

@@ -1,14 +1,15 @@
-//! The first index entry that a look-up reads in a row of more than 2^32 index entries, of which no
-//! memory has any.
+//! The first group that a look-up reads in a row of more than 2^32 groups, of which no memory has
+//! any.
 use elsa_hash_index::probe::{Words, find};
 use elsa_hash_index::row::Row;
+use std::simd::prelude::*;
 use std::test::*;
 
-/// The number of index entries of the row of a map with `2^30` entries.
-const COUNT: usize = 6 << 30;
+/// The number of index entries of the row: sixteen for each of its `6 * 2^30` groups.
+const COUNT: usize = 96 << 30;
 
-/// A row of `COUNT` index entries, all of them 0, which remembers the index entry whose tag was
-/// loaded last.
+/// A row of `COUNT` index entries, all of them 0, which remembers the group whose tags were loaded
+/// last.
 #[derive(Drop)]
 struct Vacant<W> {
     words: W,
@@ -18,7 +19,7 @@ struct Vacant<W> {
 impl<S, W: Words<S>> Words<S> for Vacant<W> {
     ghost whose = { λ v. W.whose v.words };
 
-    ghost count = { λ v. 6442450944 };
+    ghost count = { λ v. 103079215104 };
 
     ghost known = { λ v i. 0 };
 
@@ -26,9 +27,13 @@ impl<S, W: Words<S>> Words<S> for Vacant<W> {
         COUNT
     }
 
-    fn tag(&mut self, at: usize) -> u64 {
-        self.loaded = at;
+    fn tag(&mut self, _at: usize) -> u64 {
         0
+    }
+
+    fn tags(&mut self, group: usize) -> u8x16 {
+        self.loaded = group;
+        u8x16::splat(0)
     }
 
     fn number(&mut self, _at: usize) -> u64 {
@@ -45,11 +50,11 @@ impl<S, W: Words<S>> Words<S> for Vacant<W> {
 }
 
 // A hash that is half of 2^32 leads to the middle of the row, and so on: 6 * 2^30 times 1/4, 1/2,
-// 2/3 and 3/4. The greatest hash leads to the last index entry but one, since 6 * 2^30 / 2^32 is
-// more than 1.
+// 2/3 and 3/4. The greatest hash leads to the last group but one, since 6 * 2^30 / 2^32 is more
+// than 1.
 #[test]
 fn a_look_up_of_a_long_row_began_elsewhere(rt: HostRuntime) -> Result<(), Fail> {
-    for (hash, at) in [
+    for (hash, group) in [
         (0, 0),
         (0x4000_0000, 1_610_612_736),
         (0x8000_0000, 3_221_225_472),
@@ -63,7 +68,7 @@ fn a_look_up_of_a_long_row_began_elsewhere(rt: HostRuntime) -> Result<(), Fail> 
             loaded: COUNT,
         };
         let found = find(&mut vacant, hash, 0, |_| false);
-        assert_eq!(rt; (hash, found, vacant.loaded), (hash, None, at));
+        assert_eq!(rt; (hash, found, vacant.loaded), (hash, None, group));
     }
     Ok(())
 }

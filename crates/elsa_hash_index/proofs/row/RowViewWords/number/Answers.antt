@@ -1,4 +1,4 @@
-use Rattle.std.proofs.Common.{◌+◌, ◌/◌, ◌%◌, ap, sym, ◌∙◌, arith}
+use Rattle.std.proofs.Common.{◌+◌, ◌*◌, ◌/◌, ◌%◌, ap, sym, ◌∙◌, arith}
 use Rattle.elsa_hash_index.specs.Row.{bits_of, digit, word_at}
 use Rattle.elsa_hash_index.proofs.RowLemmas.{later_at}
 use Rattle.elsa_hash_index.proofs.TagLemmas.{number_bits, number_digit}
@@ -12,5 +12,5 @@ returns-clause-number g c =
     let at = c.args.at in
     let count = c.args.self.now.row.now.count in
     let after = c.load_word-word.new.self in
-    let width = ap (λ n. bits_of n (count / 8 + 1 + at / 2)) (after.opened ∙ ap (λ r. r.count) c.load_word-word.ensures.same.0) ∙ number_bits count at in
-    sym (ap (λ b. digit b (at % 2) c.load_word-word.result) width) ∙ (c.load_word-word.ensures.shown (at % 2) (omega arith) ∙ ap (λ d. word_at d after.seen.log) (number_digit count at))
+    let width = ap (λ n. bits_of n (2 * c.groups.result + at / 2)) (after.opened ∙ ap (λ r. r.count) c.load_word-word.ensures.same.0) ∙ number_bits count c.groups.result at c.groups.ensures in
+    sym (ap (λ b. digit b (at % 2) c.load_word-word.result) width) ∙ (c.load_word-word.ensures.shown (at % 2) (omega arith) ∙ ap (λ d. word_at d after.seen.log) (number_digit count c.groups.result at c.groups.ensures))
