@@ -48,8 +48,24 @@ fn near_end(piece: &[u8]) -> usize
     ends.trailing_zeros() as usize
 }
 
+/// Returns the index of the first byte 10 from `start` on, or the number of bytes if there is none.
+/// No byte before `start` is 10.
+fn far_end(piece: &[u8], start: usize) -> usize
+    requires within { start ≤ length piece.now }
+    requires before { (k : ℕ) → k < start → is_byte 10 (slice_index piece.now k) ≡ false }
+    ensures within { result ≤ length piece.now }
+    ensures before { (k : ℕ) → k < result → is_byte 10 (slice_index piece.now k) ≡ false }
+    ensures line_end { result < length piece.now →
+        is_byte 10 (slice_index piece.now result) ≡ true }
+{
+    match memchr(10, &piece[start..]) {
+        Some(further) => start + further,
+        None => piece.len(),
+    }
+}
+
 /// Returns the index of the first byte 10, or the number of bytes if there is none. Most lines are
-/// short, so the first sixteen bytes are compared together first.
+/// short, so the first sixteen bytes are compared together first, and then the next sixteen.
 #[inline(always)]
 fn line_end(piece: &[u8]) -> usize
     ensures within { result ≤ length piece.now }
@@ -57,13 +73,21 @@ fn line_end(piece: &[u8]) -> usize
     ensures line_end { result < length piece.now →
         is_byte 10 (slice_index piece.now result) ≡ true }
 {
-    if piece.len() >= 16 {
-        let near = near_end(piece);
-        if near < 16 {
-            return near;
-        }
+    if piece.len() < 16 {
+        return far_end(piece, 0);
     }
-    memchr(10, piece).unwrap_or(piece.len())
+    let near = near_end(piece);
+    if near < 16 {
+        return near;
+    }
+    if piece.len() < 32 {
+        return far_end(piece, 16);
+    }
+    let next = near_end(&piece[16..]);
+    if next < 16 {
+        return 16 + next;
+    }
+    far_end(piece, 32)
 }
 
 impl<'t> Chunk for &'t [u8] {

@@ -1,6 +1,7 @@
 -- The end of the first line of a piece, and that a text may be cut there.
-use Rattle.std.proofs.Common.{◌≡◌, ℕ, ◌+◌, ◌-◌, ◌%◌, ◌^◌, ◌<◌, ◌≤◌, true, false, cond, not, nat_eq, map, replicate, w8, take, drop, get_or, List, ◌∷◌, ◌++◌, length, arith, sym, ap, subst, ◌∙◌}
-use Rattle.std.proofs.lemmas.List.{length-append, length-take}
+use Rattle.std.proofs.Common.{◌≡◌, ℕ, ◌+◌, ◌-◌, ◌%◌, ◌^◌, ◌<◌, ◌≤◌, true, false, cond, not, Bool, refl, nat_eq, nat_lt, map, replicate, w8, take, drop, get_or, List, ◌∷◌, ◌++◌, length, arith, sym, ap, subst, ◌∙◌}
+use Rattle.std.proofs.lemmas.List.{get_or-drop, length-append, length-drop, length-take, take_all}
+use Rattle.std.proofs.lemmas.Bool.{ltb-false, ltb-true}
 use Rattle.std.proofs.Math.Seq.{drop-append-add, get_or-append_seam, take-append_seam}
 use Rattle.std.proofs.lemmas.Simd.{bitmask_splat, none_from_empty_mask, run_in_chunk_fails, run_in_chunk_le, run_in_chunk_stops, trailing_mask_l}
 use Rattle.std.specs.Simd.Lanes.{mask_l, top, zip2}
@@ -45,6 +46,31 @@ pub near_there : (xs : List ℕ) → 16 ≤ length xs → (ends_of xs ≡ 0 → 
 near_there xs room some l =
     let from_zero : 0 + count_trailing_zeros 64 (ends_of xs) ≡ count_trailing_zeros 64 (ends_of xs) = omega arith in
     subst (λ n. is_byte 10 (get_or xs n 0) ≡ true) from_zero (run_in_chunk_stops (is_byte 10) xs 0 16 _ 0 (omega arith) (counted xs room some) l)
+
+-- What is left of a piece after its first n bytes.
+abbrev pub left_of : List ℕ → ℕ → List ℕ
+left_of xs n = take (length xs - n) (drop n xs)
+
+-- A byte of what is left is one of the piece.
+byte_left : (xs : List ℕ) (n k : ℕ) → is_byte 10 (get_or (left_of xs n) k 0) ≡ is_byte 10 (get_or xs (n + k) 0)
+byte_left xs n k =
+    let whole : left_of xs n ≡ drop n xs = take_all (length xs - n) (drop n xs) (rw length-drop (omega arith)) in
+    ap (λ ys. is_byte 10 (get_or ys k 0)) whole ∙ ap (is_byte 10) (get_or-drop n xs k 0)
+
+-- No byte before n is 10, and none of the next m bytes is.
+pub none_in_both : (xs : List ℕ) (n m : ℕ) → ((k : ℕ) → k < n → is_byte 10 (get_or xs k 0) ≡ false) → ((k : ℕ) → k < m → is_byte 10 (get_or (left_of xs n) k 0) ≡ false) → (k : ℕ) → k < n + m → is_byte 10 (get_or xs k 0) ≡ false
+none_in_both xs n m first later k within = by_side (nat_lt k n) refl
+  where
+    by_side : (b : Bool) → nat_lt k n ≡ b → is_byte 10 (get_or xs k 0) ≡ false
+    by_side true t = first k (ltb-true k n t)
+    by_side false f =
+        let le : n ≤ k = ltb-false k n f in
+        let there : n + (k - n) ≡ k = omega (arith, le) in
+        ap (λ i. is_byte 10 (get_or xs i 0)) (sym there) ∙ (sym (byte_left xs n (k - n)) ∙ later (k - n) (omega (arith, le, within)))
+
+-- A byte 10 after the first n bytes.
+pub there_in_both : (xs : List ℕ) (n k : ℕ) → is_byte 10 (get_or (left_of xs n) k 0) ≡ true → is_byte 10 (get_or xs (n + k) 0) ≡ true
+there_in_both xs n k h = sym (byte_left xs n k) ∙ h
 
 within_text : (line later : List ℕ) → length line < length (line ++ 10 ∷ later)
 within_text line later = rw length-append (omega arith)
