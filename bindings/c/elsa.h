@@ -100,7 +100,7 @@ void elsa_dictionary_free(elsa_dictionary *dictionary);
 uint32_t elsa_shared_new(elsa_shared *names, const elsa_seed *seed);
 
 /* Makes other a handle of the same names, for another thread. Names that it had are freed, if no other handle has
- * them.
+ * them. other must not be names.
  *
  * Returns 0, or the number of a fault: then other has no names. */
 uint32_t elsa_shared_again(elsa_shared *names, elsa_shared *other);

@@ -745,7 +745,7 @@ class TestPandas(unittest.TestCase):
 class TestSurface(unittest.TestCase):
     def test_names_are_missing(self):
         self.assertTrue(all(hasattr(elsa_proved, it) for it in elsa_proved.__all__))
-        self.assertRegex(elsa_proved.__version__, r"^\d+\.\d+\.\d+$")
+        self.assertRegex(elsa_proved.__version__, r"^\d+\.\d+\.\d+(\.dev0)?$")
         for it in (
             factorize,
             factorize_block,

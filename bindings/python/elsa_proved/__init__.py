@@ -24,7 +24,7 @@ try:
 except ImportError:
     numpy = None
 
-__version__ = "0.4.0"
+__version__ = "0.5.0.dev0"
 __all__ = [
     "ClosedInterner",
     "Fault",

@@ -212,7 +212,7 @@ pub extern "C" fn elsa_shared_new(alloc: Global, names: &mut Shared, seed: &Seed
 }
 
 /// Makes `other` a handle of the same names, for another thread. Names that it had are freed, if no
-/// other handle has them.
+/// other handle has them. `other` must not be `names`.
 ///
 /// Returns 0, or the number of a fault: then `other` has no names.
 #[unsafe(no_mangle)]

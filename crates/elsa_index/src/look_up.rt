@@ -64,8 +64,8 @@ impl<'q, 'a, U: Eq + Hash> SeeksValue<&'a [U]> for &'q [U] {
 
 /// A value that can be inserted into a set of `B`, and that can be looked up there.
 ///
-/// The six types are `String` and `&str` for a set of `&str`, `Vec<U>` and `&[U]` for a set of
-/// `&[U]`, and `Own<U>` and `&U` for a set of `&U`.
+/// The types are `String` and `&str` for a set of `&str`, `Vec<U>` and `&[U]` for a set of `&[U]`,
+/// and `Own<U>` and `&U` for a set of `&U`, in which `U` itself can be looked up, too.
 pub trait LookUp<B: Eq + Hash>: HasTarget<B> {
     // Whether a stored value equals the target of this one.
     ghost finds: { Self → B → Bool };
@@ -164,5 +164,15 @@ impl<'a, 'b, U: Eq + Hash> LookUp<&'a U> for &'b U {
 
     fn position<S: BuildHasher, A: Allocator>(&self, set: &IndexSet<&'a U, S, A>) -> Option<usize> {
         position_of(set, *self)
+    }
+}
+
+impl<'a, U: Eq + Hash> LookUp<&'a U> for U {
+    ghost finds = { λ s k. U.eq s k.now };
+
+    ghost finds_target = { λ q b k h. ap (λ t. U.eq t k.now) (sym h) };
+
+    fn position<S: BuildHasher, A: Allocator>(&self, set: &IndexSet<&'a U, S, A>) -> Option<usize> {
+        position_of(set, self)
     }
 }
