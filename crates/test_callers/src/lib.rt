@@ -1,6 +1,7 @@
 //! Callers that were written from docs/guide alone: code for any type of map, the cache, the runs,
 //! a memo table under a lock with a rule of its entries, lists and maps that grow through `&self`,
-//! a list of rising numbers and one of even numbers that threads share.
+//! lists of rising and of even numbers and a table of costs that threads share, and the symbols of
+//! a lexer.
 #![tactic(auto)]
 
 #[cfg(test)]
@@ -9,8 +10,10 @@ mod cached;
 mod caller_tests;
 #[cfg(test)]
 mod columns;
+pub mod costs;
 #[cfg(test)]
 mod even;
+pub mod events;
 #[cfg(test)]
 mod filled;
 #[cfg(test)]
@@ -23,7 +26,8 @@ mod inserted;
 mod kept;
 #[cfg(test)]
 mod labels;
-pub mod locked_memo;
+pub mod lexer;
+mod locked_memo;
 #[cfg(test)]
 mod names;
 pub mod of_lists;
