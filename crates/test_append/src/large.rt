@@ -106,11 +106,8 @@ fn insertions_into_reserved_room_allocate_nothing(rt: HostRuntime) -> Result<(),
         heap.refuse_next(u64::MAX);
         let asked = heap.asked();
         fill(&mut map, from, end)?;
-        assert_eq!(rt;
-            (heap.asked(), first_wrong(&map, end)),
-            (asked, None),
-            "{from} {count}"
-        );
+        let got = (heap.asked(), first_wrong(&map, end));
+        assert_eq!(rt; got, (asked, None), "{from} {count}");
     }
     Ok(())
 }

@@ -34,10 +34,8 @@ fn a_borrowed_text_finds_a_borrowed_text(rt: HostRuntime) -> Result<(), Fail> {
     let mut map: FrozenAppendMap<'_, &str, &str> = FrozenAppendMap::new(rt.alloc(), &arena);
     map.insert("one", "1")?;
     let copy = String::from_str(rt.alloc(), "one")?;
-    assert_eq!(rt;
-        (map.get(copy.as_str()), map.get(&"two")),
-        (Some("1"), None)
-    );
+    let got = (map.get(copy.as_str()), map.get(&"two"));
+    assert_eq!(rt; got, (Some("1"), None));
     Ok(())
 }
 

@@ -30,25 +30,6 @@ const CALLS: usize = 32;
 struct Calls<'a, 'b> {
     heap: Heap<'b>,
     map: Map<'a, 'b>,
-    // The words as keys, in memory that is always granted.
-    keys: Vec<Text<'b>>,
-}
-
-impl Script for Calls<'_, '_> {
-    fn call(&mut self, number: usize) -> Result<bool, AllocError> {
-        let count = number.div_ceil(2);
-        match number % 8 {
-            1 => inserts(&mut self.map, self.heap, number / 2, false),
-            3 => clones(&mut self.map, count),
-            5 => reserves(&mut self.map, number),
-            7 => lists(&mut self.map, self.heap, count),
-            _ => inserts(&mut self.map, self.heap, number / 2, true),
-        }
-    }
-
-    fn holds(&self, number: usize) -> bool {
-        has_words(&self.map, self.keys.as_slice(), number.div_ceil(2))
-    }
 }
 
 fn word(index: usize) -> &'static str {
@@ -56,75 +37,33 @@ fn word(index: usize) -> &'static str {
 }
 
 fn value(index: usize) -> &'static str {
-    word(index.wrapping_add(5))
+    word(index + 5)
 }
 
-// Whether the word is new as expected, and has its value.
-fn inserts<'b>(
-    map: &mut Map<'_, 'b>,
-    heap: Heap<'b>,
-    index: usize,
-    is_new: bool,
-) -> Result<bool, AllocError> {
-    let key = String::from_str(heap, word(index))?;
-    let text = String::from_str(heap, if is_new { value(index) } else { "other" })?;
-    Ok(map.insert_new(key, text)? == (value(index), is_new))
-}
-
-fn clones(map: &mut Map<'_, '_>, count: usize) -> Result<bool, AllocError> {
-    let copy = map.as_mut().clone()?;
-    Ok(copy.entries().len() == count)
-}
-
-fn reserves(map: &mut Map<'_, '_>, number: usize) -> Result<bool, AllocError> {
-    match map.reserve(number) {
-        Ok(()) => Ok(map.capacity() >= number),
-        Err(_) => Err(AllocError),
+impl Script for Calls<'_, '_> {
+    fn call(&mut self, number: usize) -> Result<bool, AllocError> {
+        let (heap, map, index, count) = (self.heap, &mut self.map, number / 2, number.div_ceil(2));
+        Ok(match number % 8 {
+            3 => map.as_mut().clone()?.entries().len() == count,
+            5 => {
+                map.reserve(number).map_err(|_| AllocError)?;
+                map.capacity() >= number
+            }
+            7 => map.as_mut().clone()?.into_pairs(heap)?.len() == count,
+            kind => {
+                let is_new = kind != 1;
+                let key = String::from_str(heap, word(index))?;
+                let text = String::from_str(heap, if is_new { value(index) } else { "other" })?;
+                map.insert_new(key, text)? == (value(index), is_new)
+            }
+        })
     }
-}
 
-fn lists<'b>(map: &mut Map<'_, 'b>, heap: Heap<'b>, count: usize) -> Result<bool, AllocError> {
-    let copy = map.as_mut().clone()?;
-    Ok(copy.into_pairs(heap)?.len() == count)
-}
-
-// Whether the first `count` words have their values, and no other word has one.
-fn has_words(map: &Map<'_, '_>, keys: &[Text<'_>], count: usize) -> bool {
-    let mut index = 0usize;
-    for key in keys {
-        let want = if index < count {
-            Some(value(index))
-        } else {
-            None
-        };
-        if map.get(key.as_str()) != want {
-            return false;
-        }
-        index = index.saturating_add(1);
+    fn holds(&self, number: usize) -> bool {
+        let (map, count) = (&self.map, number.div_ceil(2));
+        let has = |at: usize| map.get(word(at)) == (at < count).then(|| value(at));
+        map.len() == count && (0..16).all(has)
     }
-    map.len() == count && index == 16
-}
-
-// The words as keys.
-fn words<'b>(alloc: Global, heap: Heap<'b>) -> Result<Vec<Text<'b>>, AllocError> {
-    let mut keys = Vec::new(alloc);
-    for word in WORDS {
-        keys.push(String::from_str(heap, word)?)?;
-    }
-    Ok(keys)
-}
-
-fn goes<'b>(
-    alloc: Global,
-    heap: Heap<'b>,
-    open: Heap<'b>,
-    arena: &Bump,
-    squeezed: Squeeze,
-) -> Option<u64> {
-    let keys = words(alloc, open).ok()?;
-    let map = Map::new(heap, arena);
-    let mut script = Calls { heap, map, keys };
-    goes_through(&mut script, CALLS, heap, arena, squeezed)
 }
 
 #[derive(Drop)]
@@ -140,13 +79,9 @@ impl Family for Texts {
     }
 
     fn goes_over(&self, alloc: Global, heap: &Budget<Global>, squeezed: Squeeze) -> Option<u64> {
-        goes(
-            alloc,
-            heap,
-            &Budget::new(alloc),
-            &Bump::new(alloc),
-            squeezed,
-        )
+        let arena = Bump::new(alloc);
+        let map = Map::new(heap, &arena);
+        goes_through(&mut Calls { heap, map }, CALLS, heap, &arena, squeezed)
     }
 }
 

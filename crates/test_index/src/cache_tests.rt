@@ -49,44 +49,17 @@ fn a_path_was_loaded_or_parsed_once_more_or_not_again(rt: HostRuntime) -> Result
     let (mut loads, mut parses) = (0, 0);
     let missing = Err(CacheFault::Load(LoadFault::NotFound));
     let unparsed = Err(CacheFault::Parse(()));
+    let (both, text, bad) = (Ok(("left", "right")), Some("left right"), Some("spaceless"));
     for (path, file, wanted, calls, text, count) in [
-        (
-            "menu",
-            Some("left right"),
-            Ok(("left", "right")),
-            (1, 1),
-            Some("left right"),
-            1,
-        ),
-        (
-            "menu",
-            Some("other text"),
-            Ok(("left", "right")),
-            (1, 1),
-            Some("left right"),
-            1,
-        ),
-        (
-            "menu",
-            None,
-            Ok(("left", "right")),
-            (1, 1),
-            Some("left right"),
-            1,
-        ),
+        ("menu", text, both, (1, 1), text, 1),
+        ("menu", Some("other text"), both, (1, 1), text, 1),
+        ("menu", None, both, (1, 1), text, 1),
         // A path without a file is loaded again.
         ("gone", None, missing, (2, 1), None, 1),
         ("gone", Some("a b"), Ok(("a", "b")), (3, 2), Some("a b"), 2),
         // A text that can't be parsed stays, and is parsed again.
-        (
-            "bad",
-            Some("spaceless"),
-            unparsed,
-            (4, 3),
-            Some("spaceless"),
-            2,
-        ),
-        ("bad", Some("c d"), unparsed, (4, 4), Some("spaceless"), 2),
+        ("bad", bad, unparsed, (4, 3), bad, 2),
+        ("bad", Some("c d"), unparsed, (4, 4), bad, 2),
     ] {
         let found = at(
             rt.alloc(),
@@ -95,16 +68,8 @@ fn a_path_was_loaded_or_parsed_once_more_or_not_again(rt: HostRuntime) -> Result
             file,
             (&mut loads, &mut parses),
         );
-        assert_eq!(rt;
-            (found, (loads, parses)),
-            (wanted, calls),
-            "{path} {file:?}"
-        );
-        assert_eq!(rt;
-            (cache.text(path), cache.len()),
-            (text, count),
-            "{path} {file:?}"
-        );
+        let got = (found, (loads, parses), cache.text(path), cache.len());
+        assert_eq!(rt; got, (wanted, calls, text, count), "{path} {file:?}");
         assert_eq!(rt; cache.get(path).copied(), wanted.ok(), "{path} {file:?}");
     }
     let kept = (cache.get("menu").copied(), cache.text("menu"));
@@ -178,11 +143,8 @@ fn a_resource_had_another_first_character_or_was_loaded_again(rt: HostRuntime) -
             calls += 1;
             owned(rt.alloc(), file.ok_or(LoadFault::NotFound)?)
         });
-        assert_eq!(rt;
-            (resource.map(|it| it.get()), calls),
-            (wanted, loads),
-            "{path} {file:?}"
-        );
+        let got = (resource.map(|it| it.get()), calls);
+        assert_eq!(rt; got, (wanted, loads), "{path} {file:?}");
     }
     Ok(())
 }

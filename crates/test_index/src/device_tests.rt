@@ -17,18 +17,10 @@ const REPLIES: &[u8] = b"0\n1\n2\n3\n4\n1\nbest friend\n";
 /// The behaviour of a device: the greatest number of bytes of a call, the number of the call that
 /// fails, counted from 0, and whether a signal interrupts each call once.
 #[derive(Clone, Copy)]
-struct Habits {
-    most: usize,
-    fails_at: usize,
-    is_interrupted: bool,
-}
+struct Habits(usize, usize, bool);
 
 /// The behaviour of a device that doesn't fail and takes or returns all bytes in one call.
-const GOOD: Habits = Habits {
-    most: 1000,
-    fails_at: 1000,
-    is_interrupted: false,
-};
+const GOOD: Habits = Habits(1000, 1000, false);
 
 /// A device: a reader of the bytes, or a writer that appends to them.
 #[derive(Drop)]
@@ -54,16 +46,16 @@ impl<B> Device<B> {
 
     /// Makes a call with `bytes` bytes, and returns the number of bytes that it moves.
     fn call(&mut self, bytes: usize) -> io::Result<usize> {
-        self.is_again = self.habits.is_interrupted && !self.is_again;
+        self.is_again = self.habits.2 && !self.is_again;
         if self.is_again {
             self.interruptions += 1;
             return Err(io::Error::from(ErrorKind::Interrupted));
         }
         self.calls += 1;
-        if self.calls == self.habits.fails_at + 1 {
+        if self.calls == self.habits.1 + 1 {
             return Err(io::Error::from(ErrorKind::BrokenPipe));
         }
-        Ok(bytes.min(self.habits.most))
+        Ok(bytes.min(self.habits.0))
     }
 }
 
@@ -100,16 +92,10 @@ fn run(alloc: Global, reader: Habits, writer: Habits) -> (Outcome, usize) {
     let mut sink = Device::new(writer, Vec::new(alloc));
     let result = intern_engine(alloc, &arena, &mut source, &mut sink);
     let written = sink.device.bytes.as_slice();
-    let count = if REPLIES.starts_with(written) {
-        Some(written.len())
-    } else {
-        None
-    };
+    let count = REPLIES.starts_with(written).then(|| written.len());
     let interruptions = source.device.interruptions + sink.device.interruptions;
-    (
-        (result, source.failures, sink.failures, count),
-        interruptions,
-    )
+    let outcome = (result, source.failures, sink.failures, count);
+    (outcome, interruptions)
 }
 
 /// Returns the number of bytes of the replies to the whole lines among the first bytes of `INPUT`.
@@ -125,27 +111,16 @@ fn a_reader_that_failed_at_one_call_lost_a_reply(rt: HostRuntime) -> Result<(), 
         for fails_at in 0..INPUT.len() / most + 3 {
             let given = most * fails_at;
             let wanted = if given < INPUT.len() + most {
-                (
-                    Err(EngineFault::Read),
-                    1,
-                    0,
-                    Some(replied(given.min(INPUT.len()))),
-                )
+                let count = replied(given.min(INPUT.len()));
+                (Err(EngineFault::Read), 1, 0, Some(count))
             } else {
                 (Ok(()), 0, 0, Some(24))
             };
             for is_interrupted in [false, true] {
-                let habits = Habits {
-                    most,
-                    fails_at,
-                    is_interrupted,
-                };
+                let habits = Habits(most, fails_at, is_interrupted);
                 let (outcome, _) = run(rt.alloc(), habits, GOOD);
-                assert_eq!(rt;
-                    outcome,
-                    wanted,
-                    "{most} bytes a read, read {fails_at} fails"
-                );
+                let got = outcome;
+                assert_eq!(rt; got, wanted, "{most} bytes a read, read {fails_at} fails");
             }
         }
     }
@@ -165,17 +140,10 @@ fn a_writer_that_failed_at_one_call_had_no_beginning_of_the_replies(
                 (Ok(()), 0, 0, Some(24))
             };
             for is_interrupted in [false, true] {
-                let habits = Habits {
-                    most,
-                    fails_at,
-                    is_interrupted,
-                };
+                let habits = Habits(most, fails_at, is_interrupted);
                 let (outcome, _) = run(rt.alloc(), GOOD, habits);
-                assert_eq!(rt;
-                    outcome,
-                    wanted,
-                    "{most} bytes a write, write {fails_at} fails"
-                );
+                let got = outcome;
+                assert_eq!(rt; got, wanted, "{most} bytes a write, write {fails_at} fails");
             }
         }
     }
@@ -185,11 +153,7 @@ fn a_writer_that_failed_at_one_call_had_no_beginning_of_the_replies(
 #[test]
 fn a_call_that_a_signal_interrupted_was_not_made_again(rt: HostRuntime) -> Result<(), Fail> {
     for most in 1..=24 {
-        let habits = Habits {
-            most,
-            fails_at: 1000,
-            is_interrupted: true,
-        };
+        let habits = Habits(most, 1000, true);
         let (outcome, interruptions) = run(rt.alloc(), habits, habits);
         assert_eq!(rt; outcome, (Ok(()), 0, 0, Some(24)), "{most} bytes a call");
         assert!(rt; interruptions > 4, "{most} bytes a call");

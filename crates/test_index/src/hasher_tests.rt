@@ -82,10 +82,8 @@ fn a_seed_was_not_that_of_its_source(rt: HostRuntime) -> Result<(), Fail> {
     assert!(rt; SeededState::new(&Source { first: None }).is_err());
     let made = SeededState::new(&Source { first: Some(1) })?;
     let wanted = SeededState::with_seed(0x0807_0605_0403_0201, 0x100F_0E0D_0C0B_0A09);
-    assert_eq!(rt;
-        made.hash_one("best friend"),
-        wanted.hash_one("best friend")
-    );
+    let got = made.hash_one("best friend");
+    assert_eq!(rt; got, wanted.hash_one("best friend"));
     let (one, other) = (SeededState::new(&rt)?, SeededState::new(&rt)?);
     assert_ne!(rt; one.hash_one("lonely"), other.hash_one("lonely"));
     Ok(())
@@ -108,10 +106,8 @@ fn a_table_with_a_seed_lost_a_key(rt: HostRuntime) -> Result<(), Fail> {
     for (number, name) in [(1, "a"), (2, "best friend"), (3, "seventeen bytes..")] {
         map.insert(name, Own(number))?;
     }
-    assert_eq!(rt;
-        (map.get("best friend"), map.get("b"), map.len()),
-        (Some(&2), None, 3)
-    );
+    let got = (map.get("best friend"), map.get("b"), map.len());
+    assert_eq!(rt; got, (Some(&2), None, 3));
     let mut map: FrozenIndexMap<u64, &str, SeededState> = FrozenIndexMap::with_hasher(
         alloc, &arena, state,
     );
@@ -141,10 +137,8 @@ fn a_table_with_a_seed_lost_a_key(rt: HostRuntime) -> Result<(), Fail> {
     }
     let mut names = Interner::with_hasher(alloc, &arena, state);
     let [one, other] = CRAFTED;
-    assert_eq!(rt;
-        (names.put(one)?, names.put(other)?, names.find(one)),
-        (0, 1, Some(0))
-    );
+    let got = (names.put(one)?, names.put(other)?, names.find(one));
+    assert_eq!(rt; got, (0, 1, Some(0)));
     Ok(())
 }
 
@@ -156,9 +150,7 @@ fn the_engine_had_other_replies_under_a_seed(rt: HostRuntime) -> Result<(), Fail
     let mut writer = Counted::new(&mut bytes);
     let outcome = intern_engine_with_hasher(alloc, &arena, state, &mut reader, &mut writer);
     drop(writer);
-    assert_eq!(rt;
-        (outcome, bytes.as_slice()),
-        (Ok(()), b"0\n1\n0\nb\n2\nnone\n".as_slice())
-    );
+    let got = (outcome, bytes.as_slice());
+    assert_eq!(rt; got, (Ok(()), b"0\n1\n0\nb\n2\nnone\n".as_slice()));
     Ok(())
 }

@@ -50,10 +50,8 @@ fn maps_in_different_orders_were_unequal(rt: HostRuntime) -> Result<(), Fail> {
     assert!(rt; ab == ba);
     assert!(rt; ab != collected(rt.alloc(), &arena, &[(1, "a"), (2, "c")])?);
     assert!(rt; ab != collected(rt.alloc(), &arena, &[(1, "a"), (3, "b")])?);
-    assert_eq!(rt;
-        [&ab, &ba].map(|map| map.get_index_of(&1)),
-        [Some(0), Some(1)]
-    );
+    let got = [&ab, &ba].map(|map| map.get_index_of(&1));
+    assert_eq!(rt; got, [Some(0), Some(1)]);
     Ok(())
 }
 
@@ -86,17 +84,13 @@ fn a_walk_over_an_index_map_had_another_order(rt: HostRuntime) -> Result<(), Fai
     for (key, value) in &map {
         front.push((*key, *value))?;
     }
-    assert_eq!(rt;
-        front.as_slice(),
-        [(3, "c"), (1, "aa"), (2, "b")].as_slice()
-    );
+    let got = front.as_slice();
+    assert_eq!(rt; got, [(3, "c"), (1, "aa"), (2, "b")].as_slice());
     let back: Vec<u64> = map.iter().rev().map(|(key, _)| *key).collect(alloc)?;
     let keys: Vec<u64> = map.keys().copied().collect(alloc)?;
     let values: Vec<&str> = map.values().copied().collect(alloc)?;
-    assert_eq!(rt;
-        (back.as_slice(), keys.as_slice()),
-        ([2, 1, 3].as_slice(), [3, 1, 2].as_slice())
-    );
+    let got = (back.as_slice(), keys.as_slice());
+    assert_eq!(rt; got, ([2, 1, 3].as_slice(), [3, 1, 2].as_slice()));
     assert_eq!(rt; values.as_slice(), ["c", "aa", "b"].as_slice());
     let printed = format!(in alloc; "{map:?}")?;
     assert_eq!(rt; printed.as_str(), "{3: \"c\", 1: \"aa\", 2: \"b\"}");
@@ -113,10 +107,8 @@ fn a_walk_over_an_index_set_had_another_order(rt: HostRuntime) -> Result<(), Fai
     set.extend([3, 1, 2, 1].map(|number| Own(number)))?;
     let front: Vec<u64> = set.iter().map(|value| **value).collect(alloc)?;
     let back: Vec<u64> = set.iter().rev().map(|value| **value).collect(alloc)?;
-    assert_eq!(rt;
-        (front.as_slice(), back.as_slice()),
-        ([3, 1, 2].as_slice(), [2, 1, 3].as_slice())
-    );
+    let got = (front.as_slice(), back.as_slice());
+    assert_eq!(rt; got, ([3, 1, 2].as_slice(), [2, 1, 3].as_slice()));
     let printed = format!(in alloc; "{set:?}")?;
     assert_eq!(rt; printed.as_str(), "{3, 1, 2}");
     let mut one: FrozenIndexSet<'_, Own<u64>> = FrozenIndexSet::new(alloc, &arena);
@@ -142,10 +134,8 @@ fn a_set_changed_when_it_was_cloned_or_cleared(rt: HostRuntime) -> Result<(), Fa
     )?;
     let mut copy = ab.clone()?;
     assert!(rt; copy == ab);
-    assert_eq!(rt;
-        copy.insert_new(String::from_str(alloc, "c")?)?,
-        ("c", true)
-    );
+    let got = copy.insert_new(String::from_str(alloc, "c")?)?;
+    assert_eq!(rt; got, ("c", true));
     assert!(rt; copy != ab);
     let again: Set<'_> = FrozenIndexSet::from_set(&arena, copy.into_set());
     assert_eq!(rt; again.get_index_of(&"c"), Some(2));
@@ -178,10 +168,8 @@ fn a_law_of_an_index_collection_returned_a_wrong_index_or_flag(
     let between = vec![in alloc; owned("d")?]?;
     let twice = set_is_new_once(&mut set, owned("c")?, between, owned("c")?)?;
     assert_eq!(rt; twice, ((2, "c", true), (2, "c", false)));
-    assert_eq!(rt;
-        set_keeps_earlier_values(&mut set, owned("d")?)?,
-        (3, "d", false)
-    );
+    let got = set_keeps_earlier_values(&mut set, owned("d")?)?;
+    assert_eq!(rt; got, (3, "d", false));
     Ok(())
 }
 
@@ -248,10 +236,8 @@ fn a_second_equal_key_replaced_the_first(rt: HostRuntime) -> Result<(), Fail> {
     for (key, value) in &ordered.into_tuple_vec()? {
         in_order.push((key.0, key.1, *value))?;
     }
-    assert_eq!(rt;
-        in_order.as_slice(),
-        [(1, 'A', "x"), (2, 'b', "z")].as_slice()
-    );
+    let got = in_order.as_slice();
+    assert_eq!(rt; got, [(1, 'A', "x"), (2, 'b', "z")].as_slice());
     Ok(())
 }
 
@@ -315,10 +301,8 @@ fn a_set_stored_a_text_twice_or_a_text_that_did_not_fit(rt: HostRuntime) -> Resu
     let mut names: FrozenIndexSet<'_, &str> = FrozenIndexSet::new(rt.alloc(), &arena);
     names.insert_text("lonely")?;
     let left = arena.chunk_capacity();
-    assert_eq!(rt;
-        (names.insert_text("lonely")?, arena.chunk_capacity()),
-        ("lonely", left)
-    );
+    let got = (names.insert_text("lonely")?, arena.chunk_capacity());
+    assert_eq!(rt; got, ("lonely", left));
     leave_room(&arena, 0);
     assert!(rt; names.insert_text("best friend").is_err());
     assert_eq!(rt; (names.len(), names.contains("best friend")), (1, false));
@@ -342,15 +326,25 @@ fn a_value_that_owns_memory_moved_or_was_not_dropped_once(rt: HostRuntime) -> Re
         assert_eq!(rt; (at, **kept), (index, 7), "{name}");
     }
     let first = owners.insert_text("b", Own(Arc::new(alloc, 9)?))?;
-    assert_eq!(rt;
-        (owners.get("b").is_some(), owners.get("d").is_none()),
-        (true, true)
-    );
+    let got = (owners.get("b").is_some(), owners.get("d").is_none());
+    assert_eq!(rt; got, (true, true));
     // Three of the four are stored, besides `counted` itself.
     assert_eq!(rt; Arc::strong_count(&counted), 4);
     drop(owners);
     assert_eq!(rt; (**first, Arc::strong_count(&counted)), (7, 4));
     drop(values);
     assert_eq!(rt; Arc::strong_count(&counted), 1);
+    Ok(())
+}
+
+#[test]
+fn a_set_of_owned_numbers_is_asked_by_a_number(rt: HostRuntime) -> Result<(), AllocError> {
+    let arena = Bump::new(rt.alloc());
+    let mut set: FrozenIndexSet<'_, Own<u64>> = FrozenIndexSet::new(rt.alloc(), &arena);
+    set.insert(Own(7))?;
+    assert_eq!(rt;
+        (set.get(&7), set.get(&Own(7)), set.contains(&8)),
+        (Some(&7), Some(&7), false)
+    );
     Ok(())
 }

@@ -11,7 +11,6 @@ ghost use Rattle.std.proofs.Common.{ap, eqb-true};
 use bumpalo::Bump;
 use elsa::interner::Interner;
 use elsa::{FrozenBTreeMap, FrozenIndexMap, FrozenIndexSet, FrozenMap, FrozenVec, Own};
-use std::alloc::{AllocError, Global};
 use std::cmp::Ordering;
 use std::hash::{BuildHasher, Hash, Hasher};
 use std::sync::atomic;
@@ -128,179 +127,81 @@ const NODES: u64 = 48;
 /// that a thousand can be halved, plus 1.
 const HALVES: u64 = 11;
 
-/// The numbers of hashes of keys, of comparisons by `==`, and of comparisons by `cmp`.
-type Taken = (u64, u64, u64);
-
-/// A call, whether its result was right, and what it took.
-type Dear = (usize, bool, Taken);
-
-/// A collection with numbered calls, each of which looks a key up.
-trait Asked<'c> {
-    /// The number of calls.
-    const CALLS: usize;
-
-    /// Adds a key with its number.
-    fn add(&mut self, key: Key<'c>) -> Result<(), AllocError>;
-
-    /// Returns whether the call with this number has the right result for the key, which is 57, or
-    /// for an absent one.
-    fn answers(&mut self, call: usize, key: Key<'c>, absent: Key<'c>) -> Result<bool, AllocError>;
-}
-
-/// Adds a thousand keys, and makes each call. Returns the first one that has a wrong result, or
-/// takes other hashes or more comparisons than `most`.
-fn first_dear<'c, M: Asked<'c>>(
-    map: &mut M,
-    counts: &'c Counts,
-    most: Taken,
-) -> Result<Option<Dear>, AllocError> {
-    for number in 0..MANY {
-        map.add(key_of(counts, number))?;
-    }
-    for call in 0..M::CALLS {
-        let _ = counts.taken();
-        let held = map.answers(call, key_of(counts, 57), key_of(counts, MANY))?;
-        let taken = counts.taken();
-        if !held || taken.0 != most.0 || taken.1 > most.1 || taken.2 > most.2 {
-            return Ok(Some((call, held, taken)));
-        }
-    }
-    Ok(None)
-}
-
-// ---- maps and index collections
-
-impl<'c> Asked<'c> for FrozenMap<'_, Key<'c>, Own<u64>> {
-    const CALLS: usize = 7;
-
-    fn add(&mut self, key: Key<'c>) -> Result<(), AllocError> {
-        self.insert(key, Own(key.number))?;
-        Ok(())
-    }
-
-    fn answers(&mut self, call: usize, key: Key<'c>, absent: Key<'c>) -> Result<bool, AllocError> {
-        Ok(match call {
-            0 => self.get(&key) == Some(&57),
-            1 => self.get(&absent).is_none(),
-            2 => self.contains_key(&key),
-            3 => self.map_get(&key, |value| *value) == Some(57),
-            4 => self.get_key_value(&key).is_some(),
-            5 => self.insert(key, Own(0))? == &57,
-            _ => self.insert(absent, Own(1))? == &1,
-        })
-    }
-}
-
-impl<'c> Asked<'c> for FrozenIndexMap<'_, Key<'c>, Own<u64>> {
-    const CALLS: usize = 7;
-
-    fn add(&mut self, key: Key<'c>) -> Result<(), AllocError> {
-        self.insert(key, Own(key.number))?;
-        Ok(())
-    }
-
-    fn answers(&mut self, call: usize, key: Key<'c>, absent: Key<'c>) -> Result<bool, AllocError> {
-        Ok(match call {
-            0 => self.get(&key) == Some(&57),
-            1 => self.get_index_of(&absent).is_none(),
-            2 => self.contains_key(&key),
-            3 => self.get_index_of(&key) == Some(57),
-            4 => self.get_full(&key).is_some(),
-            5 => self.insert_full(key, Own(0))? == (57, &57),
-            _ => self.insert(absent, Own(1))? == &1,
-        })
-    }
-}
-
-impl<'a, 'c: 'a> Asked<'c> for FrozenIndexSet<'a, Own<Key<'c>>> {
-    const CALLS: usize = 4;
-
-    fn add(&mut self, key: Key<'c>) -> Result<(), AllocError> {
-        self.insert(Own(key))?;
-        Ok(())
-    }
-
-    fn answers(&mut self, call: usize, key: Key<'c>, absent: Key<'c>) -> Result<bool, AllocError> {
-        Ok(match call {
-            0 => self.get_index_of(&&key) == Some(57),
-            1 => self.contains(&&key),
-            2 => !self.contains(&&absent),
-            _ => self.insert_full(Own(key))?.0 == 57,
-        })
-    }
+/// Makes calls, each of which must have its result, make `most.0` hashes, and compare at most as
+/// often as the other two numbers.
+macro_rules! calls {
+    ($rt:ident, $counts:ident, $most:expr; $($call:expr => $wanted:expr;)+) => {
+        $({
+            let _ = $counts.taken();
+            let got = $call;
+            let (hashes, equalities, orders) = $counts.taken();
+            assert_eq!($rt; got, $wanted, stringify!($call));
+            let (wanted, most, most_orders): (u64, u64, u64) = $most;
+            assert_eq!($rt; hashes, wanted, stringify!($call));
+            assert!($rt; equalities <= most && orders <= most_orders, stringify!($call));
+        })+
+    };
 }
 
 #[test]
 fn a_call_by_key_hashes_once_and_compares_with_few(rt: HostRuntime) -> Result<(), Fail> {
-    let (arena, counts, once) = (Bump::new(rt.alloc()), Counts::new(), (1, FEW, 0));
-    let mut hashed: FrozenMap<'_, Key<'_>, Own<u64>> = FrozenMap::new(rt.alloc(), &arena);
-    assert_eq!(rt; first_dear(&mut hashed, &counts, once)?, None);
-    let mut indexed: FrozenIndexMap<'_, Key<'_>, Own<u64>> = FrozenIndexMap::new(
-        rt.alloc(),
-        &arena,
-    );
-    assert_eq!(rt; first_dear(&mut indexed, &counts, once)?, None);
-    let mut set: FrozenIndexSet<'_, Own<Key<'_>>> = FrozenIndexSet::new(rt.alloc(), &arena);
-    assert_eq!(rt; first_dear(&mut set, &counts, once)?, None);
+    let (alloc, arena, counts) = (rt.alloc(), Bump::new(rt.alloc()), Counts::new());
+    let (key, absent) = (key_of(&counts, 57), key_of(&counts, MANY));
+    let mut map: FrozenMap<'_, Key<'_>, Own<u64>> = FrozenMap::new(alloc, &arena);
+    let mut indexed: FrozenIndexMap<'_, Key<'_>, Own<u64>> = FrozenIndexMap::new(alloc, &arena);
+    let mut set: FrozenIndexSet<'_, Own<Key<'_>>> = FrozenIndexSet::new(alloc, &arena);
+    for number in 0..MANY {
+        map.insert(key_of(&counts, number), Own(number))?;
+        indexed.insert(key_of(&counts, number), Own(number))?;
+        set.insert(Own(key_of(&counts, number)))?;
+    }
+    calls! { rt, counts, (1, FEW, 0);
+        map.get(&key) => Some(&57);
+        map.get(&absent) => None;
+        map.contains_key(&key) => true;
+        map.map_get(&key, |value| *value) => Some(57);
+        map.get_key_value(&key).is_some() => true;
+        map.insert(key, Own(0))? => &57;
+        map.insert(absent, Own(1))? => &1;
+        indexed.get(&key) => Some(&57);
+        indexed.get_index_of(&absent) => None;
+        indexed.contains_key(&key) => true;
+        indexed.get_index_of(&key) => Some(57);
+        indexed.get_full(&key).is_some() => true;
+        indexed.insert_full(key, Own(0))? => (57, &57);
+        indexed.insert(absent, Own(1))? => &1;
+        set.get_index_of(&&key) => Some(57);
+        set.contains(&&key) => true;
+        set.contains(&&absent) => false;
+        set.insert_full(Own(key))?.0 => 57;
+    }
     Ok(())
-}
-
-// ---- ordered collections
-
-impl<'c> Asked<'c> for FrozenBTreeMap<'_, Key<'c>, Own<u64>> {
-    const CALLS: usize = 6;
-
-    fn add(&mut self, key: Key<'c>) -> Result<(), AllocError> {
-        self.insert(key, Own(key.number))?;
-        Ok(())
-    }
-
-    fn answers(&mut self, call: usize, key: Key<'c>, absent: Key<'c>) -> Result<bool, AllocError> {
-        Ok(match call {
-            0 => self.get(&key) == Some(&57),
-            1 => self.get(&absent).is_none(),
-            2 => self.contains_key(&key),
-            3 => self.map_get(&key, |value| *value) == Some(57),
-            4 => self.insert(key, Own(0))? == &57,
-            _ => self.insert(absent, Own(1))? == &1,
-        })
-    }
-}
-
-fn vector_halves<'a>(
-    alloc: Global,
-    arena: &'a Bump,
-    counts: &'a Counts,
-) -> Result<bool, AllocError> {
-    let mut items: FrozenVec<'a, Own<Key<'a>>> = FrozenVec::new(alloc, arena);
-    for number in 0..MANY {
-        items.push(Own(key_of(counts, number)))?;
-    }
-    let _ = counts.taken();
-    for number in 0..MANY {
-        let wanted = key_of(counts, number);
-        let found = items.binary_search(&wanted) == Ok(number as usize);
-        let (hashes, _equalities, orders) = counts.taken();
-        if !found || hashes != 0 || orders > HALVES {
-            return Ok(false);
-        }
-    }
-    Ok(true)
 }
 
 #[test]
 fn an_ordered_search_compares_with_few(rt: HostRuntime) -> Result<(), Fail> {
-    let arena = Bump::new(rt.alloc());
-    let counts = Counts::new();
-    let mut ordered: FrozenBTreeMap<'_, Key<'_>, Own<u64>> = FrozenBTreeMap::new(
-        rt.alloc(),
-        &arena,
-    );
-    assert_eq!(rt;
-        first_dear(&mut ordered, &counts, (0, u64::MAX, NODES))?,
-        None
-    );
-    assert!(rt; vector_halves(rt.alloc(), &arena, &counts)?);
+    let (alloc, arena, counts) = (rt.alloc(), Bump::new(rt.alloc()), Counts::new());
+    let (key, absent) = (key_of(&counts, 57), key_of(&counts, MANY));
+    let mut map: FrozenBTreeMap<'_, Key<'_>, Own<u64>> = FrozenBTreeMap::new(alloc, &arena);
+    let mut items: FrozenVec<'_, Own<Key<'_>>> = FrozenVec::new(alloc, &arena);
+    for number in 0..MANY {
+        map.insert(key_of(&counts, number), Own(number))?;
+        items.push(Own(key_of(&counts, number)))?;
+    }
+    calls! { rt, counts, (0, u64::MAX, NODES);
+        map.get(&key) => Some(&57);
+        map.get(&absent) => None;
+        map.contains_key(&key) => true;
+        map.map_get(&key, |value| *value) => Some(57);
+        map.insert(key, Own(0))? => &57;
+        map.insert(absent, Own(1))? => &1;
+    }
+    for number in 0..MANY {
+        let wanted = key_of(&counts, number);
+        calls! { rt, counts, (0, u64::MAX, HALVES);
+            items.binary_search(&wanted) => Ok(number as usize);
+        }
+    }
     Ok(())
 }
 
@@ -341,57 +242,30 @@ impl BuildHasher for Counting<'_> {
     }
 }
 
-const TEXT_CALLS: usize = 6;
-
-fn names_answer(names: &mut Interner<'_, Counting<'_>>, call: usize) -> Result<bool, AllocError> {
-    Ok(match call {
-        0 => names.put("eight")? == 8,
-        1 => names.put("other")? == 9,
-        2 => names.find("eight") == Some(8),
-        3 => names.find("none").is_none(),
-        4 => names.contains("eight"),
-        _ => names.put_placed("static")? == 10,
-    })
-}
-
-/// Returns whether each of the first nine names, whose hash table doubles meanwhile, and each later
-/// call with a text makes one hash.
-fn names_are_hashed_once(alloc: Global, arena: &Bump, counts: &Counts) -> Result<bool, AllocError> {
-    let mut names = Interner::with_hasher(alloc, arena, Counting { counts });
+// The hash table doubles while the first nine names are inserted.
+#[test]
+fn a_call_by_text_hashes_once(rt: HostRuntime) -> Result<(), Fail> {
+    let (alloc, arena, counts) = (rt.alloc(), Bump::new(rt.alloc()), Counts::new());
+    let builder = Counting { counts: &counts };
+    let mut names = Interner::with_hasher(alloc, &arena, builder);
     for name in ["0", "1", "2", "3", "4", "5", "6", "7", "eight"] {
         let _ = names.put(name)?;
     }
-    if counts.taken().0 != 9 {
-        return Ok(false);
-    }
-    for call in 0..TEXT_CALLS {
-        let held = names_answer(&mut names, call)?;
-        if !held || counts.taken().0 != 1 {
-            return Ok(false);
-        }
-    }
-    Ok(true)
-}
-
-/// Returns whether a lookup of a text, and an insertion of a present one, makes one hash.
-fn texts_are_hashed_once(alloc: Global, arena: &Bump, counts: &Counts) -> Result<bool, AllocError> {
+    assert_eq!(rt; counts.taken().0, 9);
     let mut map: FrozenMap<'_, &str, Own<u64>, Counting<'_>> = FrozenMap::with_hasher(
-        alloc,
-        arena,
-        Counting { counts },
+        alloc, &arena, builder,
     );
     map.insert_text("key", Own(1))?;
-    let _ = counts.taken();
-    let found = map.get("key") == Some(&1) && counts.taken().0 == 1;
-    let absent = map.get("other").is_none() && counts.taken().0 == 1;
-    Ok(found && absent && map.insert_text("key", Own(2))? == &1 && counts.taken().0 == 1)
-}
-
-#[test]
-fn a_call_by_text_hashes_once(rt: HostRuntime) -> Result<(), Fail> {
-    let arena = Bump::new(rt.alloc());
-    let counts = Counts::new();
-    assert!(rt; names_are_hashed_once(rt.alloc(), &arena, &counts)?);
-    assert!(rt; texts_are_hashed_once(rt.alloc(), &arena, &counts)?);
+    calls! { rt, counts, (1, u64::MAX, u64::MAX);
+        names.put("eight")? => 8;
+        names.put("other")? => 9;
+        names.find("eight") => Some(8);
+        names.find("none") => None;
+        names.contains("eight") => true;
+        names.put_placed("static")? => 10;
+        map.get("key") => Some(&1);
+        map.get("other") => None;
+        map.insert_text("key", Own(2))? => &1;
+    }
     Ok(())
 }

@@ -41,17 +41,11 @@ fn a_parsed_cache_gives_every_block_back(rt: HostRuntime) -> Result<(), Fail> {
             if length_at(rt.alloc(), &mut cache, path) != Ok(&2) {
                 failures += 1;
             }
-            assert_eq!(rt;
-                length_at(rt.alloc(), &mut cache, path),
-                Ok(&2),
-                "request {number}"
-            );
+            let got = length_at(rt.alloc(), &mut cache, path);
+            assert_eq!(rt; got, Ok(&2), "request {number}");
         }
-        assert_eq!(rt;
-            (cache.len(), failures),
-            (PATHS.len(), heap.refused()),
-            "request {number}"
-        );
+        let got = (cache.len(), failures);
+        assert_eq!(rt; got, (PATHS.len(), heap.refused()), "request {number}");
         drop(cache);
         assert_eq!(rt; heap.given(), heap.granted(), "request {number}");
         if heap.refused() == 0 {
@@ -71,10 +65,8 @@ fn a_parsed_path_asks_for_nothing(rt: HostRuntime) -> Result<(), Fail> {
     assert_eq!(rt; length_at(rt.alloc(), &mut cache, "path"), Ok(&8));
     let before = (heap.asked(), arena.chunk_capacity());
     assert_eq!(rt; length_at(rt.alloc(), &mut cache, "path"), Ok(&8));
-    assert_eq!(rt;
-        (cache.get("path"), cache.text("path")),
-        (Some(&8), Some("pathpath"))
-    );
+    let got = (cache.get("path"), cache.text("path"));
+    assert_eq!(rt; got, (Some(&8), Some("pathpath")));
     assert_eq!(rt; (heap.asked(), arena.chunk_capacity()), before);
     Ok(())
 }

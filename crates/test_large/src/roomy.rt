@@ -90,15 +90,11 @@ fn a_present_value_and_walks_of_lists_ask_for_nothing(rt: HostRuntime) -> Result
 
     let seven = items.get(0).ok_or("no item")?;
     assert!(rt; items.contains(seven));
-    assert_eq!(rt;
-        (items.as_slice().len(), items.iter().next_back()),
-        (1, Some(&7))
-    );
+    let got = (items.as_slice().len(), items.iter().next_back());
+    assert_eq!(rt; got, (1, Some(&7)));
     assert!(rt; set.contains(&&7));
-    assert_eq!(rt;
-        (set.iter().count(), set.insert_full(Own(7))?),
-        (1, (0, &7))
-    );
+    let got = (set.iter().count(), set.insert_full(Own(7))?);
+    assert_eq!(rt; got, (1, (0, &7)));
     assert!(rt; names.contains("name"));
     assert_eq!(rt; (names.iter().count(), names.put("name")?), (1, 0));
     assert_eq!(rt; asked(&heap, &arena), before);

@@ -32,216 +32,138 @@ fn gone(heap: &Bump, before: usize) -> usize {
     before.saturating_sub(heap.chunk_capacity())
 }
 
-// ---- runs
-
-/// Makes a thousand commands, which are all pushes or all not.
+/// Makes a thousand of these commands.
 fn commands<'a, A: Allocator + Copy + Drop>(
     heap: A,
-    pushes: bool,
+    command: impl Fn(usize) -> VecCommand<Own<usize>, Vec<&'a usize, A>>,
 ) -> Result<Vec<VecCommand<Own<usize>, Vec<&'a usize, A>>, A>, AllocError> {
     let mut commands = Vec::new(heap);
     for number in 0..MANY {
-        commands.push(if pushes {
-            VecCommand::Push(Own(number))
-        } else {
-            VecCommand::Len
-        })?;
+        commands.push(command(number))?;
     }
     Ok(commands)
-}
-
-/// Returns the number of bytes of a run of a thousand commands without a push.
-fn run_takes(heap: &Bump, arena: &Bump) -> Result<usize, AllocError> {
-    let mut items: FrozenVec<'_, Own<usize>, _> = FrozenVec::new(heap, arena);
-    let asked = commands(heap, false)?;
-    let before = heap.chunk_capacity();
-    let replies = run_vec(&mut items, asked)?;
-    let taken = gone(heap, before);
-    Ok(if replies.len() == MANY {
-        taken
-    } else {
-        usize::MAX
-    })
-}
-
-/// Returns the number of requests of a run of a thousand pushes.
-fn run_asks(heap: &Budget<Global>, arena: &Bump) -> Result<u64, AllocError> {
-    let mut items: FrozenVec<'_, Own<usize>, _> = FrozenVec::new(heap, arena);
-    let pushes = commands(heap, true)?;
-    let before = heap.asked();
-    let replies = run_vec(&mut items, pushes)?;
-    let asked = heap.asked().saturating_sub(before);
-    Ok(if replies.len() == MANY {
-        asked
-    } else {
-        u64::MAX
-    })
 }
 
 #[test]
 fn a_run_takes_a_reply_a_command_and_asks_as_its_table_doubles(
     rt: HostRuntime,
 ) -> Result<(), Fail> {
-    let heap = heap_of_a_megabyte(rt.alloc())?;
+    let (heap, arena) = (heap_of_a_megabyte(rt.alloc())?, Bump::new(rt.alloc()));
     let budget = Budget::new(rt.alloc());
-    let arena = Bump::new(rt.alloc());
+    let mut items: FrozenVec<'_, Own<usize>, _> = FrozenVec::new(&heap, &arena);
+    let lengths = commands(&heap, |_| VecCommand::Len)?;
+    let before = heap.chunk_capacity();
+    assert_eq!(rt; run_vec(&mut items, lengths)?.len(), MANY);
+    let (taken, replies) = (gone(&heap, before), MANY * size_of::<VecReply<&usize>>());
     // An alignment may leave 16 bytes free.
-    let replies = MANY.saturating_mul(size_of::<VecReply<&usize>>());
-    assert!(rt; run_takes(&heap, &arena)? <= replies.saturating_add(16));
+    assert!(rt; taken <= replies + 16, "{taken} bytes for {replies}");
+    let mut items: FrozenVec<'_, Own<usize>, _> = FrozenVec::new(&budget, &arena);
+    let pushes = commands(&budget, |number| VecCommand::Push(Own(number)))?;
+    let before = budget.asked();
+    assert_eq!(rt; run_vec(&mut items, pushes)?.len(), MANY);
+    let asked = budget.asked() - before;
     // One request is for the replies, and one for each doubling of the table up to a thousand.
-    assert!(rt; run_asks(&budget, &arena)? <= 1 + 10);
+    assert!(rt; asked <= 1 + 10, "{asked} requests");
     Ok(())
 }
 
-// ---- clones and collections
-
-/// Returns the number of requests of a clone of a vector.
-fn clone_asks(heap: &Budget<Global>, arena: &Bump) -> Result<u64, AllocError> {
-    let mut items: FrozenVec<'_, Own<usize>, _> = FrozenVec::new(heap, arena);
-    for number in 0..MANY {
-        items.push(Own(number))?;
-    }
-    let before = heap.asked();
-    let copy = items.clone()?;
-    let asked = heap.asked().saturating_sub(before);
-    Ok(if copy.len() == MANY { asked } else { u64::MAX })
-}
-
-/// Returns whether a clone of an index map has at most the bytes of a table with capacity for its
-/// pairs.
-fn clone_takes_its_room(heap: &Bump, arena: &Bump) -> Result<bool, AllocError> {
+#[test]
+fn a_clone_takes_a_table_and_a_collection_what_came(rt: HostRuntime) -> Result<(), Fail> {
+    let (room, arena) = (heap_of_a_megabyte(rt.alloc())?, Bump::new(rt.alloc()));
+    let (heap, budget) = (&room, Budget::new(rt.alloc()));
+    let mut items: FrozenVec<'_, Own<usize>, _> = FrozenVec::new(&budget, &arena);
     let mut map: FrozenIndexMap<'_, usize, Own<usize>, Hasher, _> = FrozenIndexMap::new(
-        heap, arena,
+        heap, &arena,
     );
     for number in 0..MANY {
+        items.push(Own(number))?;
         map.insert(number, Own(number))?;
     }
+    let before = budget.asked();
+    assert_eq!(rt; (items.clone()?.len(), budget.asked() - before), (MANY, 1));
     let before = heap.chunk_capacity();
     let room: IndexMap<usize, &usize, Hasher, _> = IndexMap::with_capacity_and_hasher(
         heap,
         MANY,
         BuildHasherDefault::default(),
     )?;
-    let for_room = gone(heap, before);
-    let before = heap.chunk_capacity();
+    let (for_room, before) = (gone(heap, before), heap.chunk_capacity());
     let copy = map.clone()?;
     let taken = gone(heap, before);
-    Ok(room.len() == 0 && copy.len() == MANY && taken <= for_room.saturating_add(16))
-}
-
-/// Returns the number of bytes of the tables for ten items of an iterator that may return a hundred
-/// thousand, and for ten pairs of one.
-fn collections_take(heap: &Bump, arena: &Bump) -> Result<usize, AllocError> {
+    assert_eq!(rt; (room.len(), copy.len()), (0, MANY));
+    assert!(rt;
+        taken <= for_room.saturating_add(16),
+        "{taken} bytes for {for_room}"
+    );
+    // Ten items of an iterator that may return a hundred thousand.
+    let tenths = || (0..100_000).filter(|number| number % 10_000 == 0);
     let before = heap.chunk_capacity();
-    let tenths = (0..100_000).filter(|number| number % 10_000 == 0);
-    let items: FrozenVec<'_, Own<usize>, _> = FrozenVec::from_iter(heap, arena, tenths.map(Own))?;
-    let pairs = (0..100_000)
-        .filter(|number| number % 10_000 == 0)
-        .map(|number| (number, Own(number)));
+    let items: FrozenVec<'_, Own<usize>, _> = FrozenVec::from_iter(
+        heap,
+        &arena,
+        tenths().map(Own),
+    )?;
     let map: FrozenMap<'_, usize, Own<usize>, Hasher, _> = FrozenMap::from_iter(
         heap,
-        arena,
+        &arena,
         BuildHasherDefault::default(),
-        pairs,
+        tenths().map(|number| (number, Own(number))),
     )?;
     let taken = gone(heap, before);
-    Ok(if items.len() == 10 && map.len() == 10 {
-        taken
-    } else {
-        usize::MAX
-    })
-}
-
-#[test]
-fn a_clone_takes_a_table_and_a_collection_what_came(rt: HostRuntime) -> Result<(), Fail> {
-    let heap = heap_of_a_megabyte(rt.alloc())?;
-    let budget = Budget::new(rt.alloc());
-    let arena = Bump::new(rt.alloc());
-    assert!(rt; clone_asks(&budget, &arena)? == 1);
-    assert!(rt; clone_takes_its_room(&heap, &arena)?);
-    assert!(rt; collections_take(&heap, &arena)? <= 4096);
+    assert_eq!(rt; (items.len(), map.len()), (10, 10));
+    assert!(rt; taken <= 4096, "{taken} bytes");
     Ok(())
 }
 
-// ---- names
-
-/// Returns the number of bytes of the list and the hash table for `count` names, with the smaller
-/// blocks that they grew from.
-fn names_take(heap: &Bump, arena: &Bump, count: usize) -> Result<usize, AllocError> {
-    let before = heap.chunk_capacity();
-    let mut names: Interner<'_, Hasher, _> = Interner::new(heap, arena);
-    for number in 0..count {
-        let bytes = [
-            b'a' + (number % 26) as u8,
-            b'a' + (number / 26 % 26) as u8,
-            b'a' + (number / 676 % 26) as u8,
-        ];
-        let Ok(name) = std::str::from_utf8(&bytes) else {
-            return Ok(usize::MAX);
-        };
-        let _ = names.put(name)?;
-    }
-    let taken = gone(heap, before);
-    Ok(if names.len() == count {
-        taken
-    } else {
-        usize::MAX
-    })
-}
-
-/// Checks that a name takes 16 bytes of the list and 11 to 22 of the hash table. A list that has
-/// doubled may have room for the same number of names again, and the blocks that both grew from
-/// have the same size again. For one name, the hash table has a group of 64 bytes and room for
-/// twelve hashes, and the list has room for four names.
+/// A name takes 16 bytes of the list and 11 to 22 of the hash table. A list that has doubled may
+/// have room for the same number of names again, and the blocks that both grew from have the same
+/// size again. For one name, the hash table has a group of 64 bytes and room for twelve hashes, and
+/// the list has room for four names.
 #[test]
 fn a_name_takes_sixteen_bytes_of_the_list_and_at_most_twenty_two_of_the_table(
     rt: HostRuntime,
 ) -> Result<(), Fail> {
-    let heap = heap_of_a_megabyte(rt.alloc())?;
-    let arena = Bump::new(rt.alloc());
-    assert!(rt; names_take(&heap, &arena, 1)? <= 64 + 12 * 4 + 4 * 16 + 16);
-    assert!(rt; names_take(&heap, &arena, MANY)? <= MANY * 2 * (2 * 16 + 22));
+    let (heap, arena) = (heap_of_a_megabyte(rt.alloc())?, Bump::new(rt.alloc()));
+    for (count, most) in [
+        (1, 64 + 12 * 4 + 4 * 16 + 16),
+        (MANY, MANY * 2 * (2 * 16 + 22)),
+    ] {
+        let before = heap.chunk_capacity();
+        let mut names: Interner<'_, Hasher, _> = Interner::new(&heap, &arena);
+        for number in 0..count {
+            let bytes = [1, 26, 676].map(|part| b'a' + (number / part % 26) as u8);
+            let _ = names.put(std::str::from_utf8(&bytes).map_err(|_| "no text")?)?;
+        }
+        let taken = gone(&heap, before);
+        assert_eq!(rt; names.len(), count);
+        assert!(rt; taken <= most, "{taken} bytes for {count} names");
+    }
     Ok(())
 }
 
-/// Returns the number of bytes of the engine for a name in a line that is longer than one read.
-fn line_takes(alloc: Global, heap: &Bump, arena: &Bump) -> Result<usize, AllocError> {
-    let mut line = String::new(alloc);
-    line.push_str("put ")?;
-    for _ in 0..1000 {
-        line.push_str("0123456789")?;
-    }
-    line.push_str("\n")?;
-    let mut text = line.as_bytes();
-    let mut reader = Counted::new(&mut text);
+/// Runs the engine over these lines.
+fn engine<A: Allocator + Copy>(alloc: Global, heap: A, arena: &Bump, mut text: &[u8]) -> bool {
     let mut bytes: Vec<u8> = Vec::new(alloc);
-    let mut writer = Counted::new(&mut bytes);
-    let before = heap.chunk_capacity();
-    let is_done = intern_engine(heap, arena, &mut reader, &mut writer).is_ok();
-    Ok(if is_done {
-        gone(heap, before)
-    } else {
-        usize::MAX
-    })
-}
-
-/// Returns the number of requests of the engine for three short lines with new names.
-fn line_asks(alloc: Global, heap: &Budget<Global>, arena: &Bump) -> u64 {
-    let mut text = b"put one\nput two\nput three\n".as_slice();
-    let mut reader = Counted::new(&mut text);
-    let mut bytes: Vec<u8> = Vec::new(alloc);
-    let mut writer = Counted::new(&mut bytes);
-    let is_done = intern_engine(heap, arena, &mut reader, &mut writer).is_ok();
-    if is_done { heap.asked() } else { u64::MAX }
+    let (mut reader, mut writer) = (Counted::new(&mut text), Counted::new(&mut bytes));
+    intern_engine(heap, arena, &mut reader, &mut writer).is_ok()
 }
 
 #[test]
 fn a_line_takes_a_few_times_its_length(rt: HostRuntime) -> Result<(), Fail> {
-    let heap = heap_of_a_megabyte(rt.alloc())?;
-    let budget = Budget::new(rt.alloc());
-    let arena = Bump::new(rt.alloc());
-    assert!(rt; line_takes(rt.alloc(), &heap, &arena)? <= 40_000);
+    let (alloc, arena) = (rt.alloc(), Bump::new(rt.alloc()));
+    let (heap, budget) = (heap_of_a_megabyte(alloc)?, Budget::new(alloc));
+    // A name in a line that is longer than one read.
+    let mut line = String::from_str(alloc, "put ")?;
+    for _ in 0..1000 {
+        line.push_str("0123456789")?;
+    }
+    line.push_str("\n")?;
+    let before = heap.chunk_capacity();
+    assert!(rt; engine(alloc, &heap, &arena, line.as_bytes()));
+    let taken = gone(&heap, before);
+    assert!(rt; taken <= 40_000, "{taken} bytes");
     // For three names, the engine requests a list, and of a hash table the groups and the hashes.
-    assert!(rt; line_asks(rt.alloc(), &budget, &arena) == 3);
+    assert!(rt; engine(alloc, &budget, &arena, b"put one\nput two\nput three\n"));
+    assert_eq!(rt; budget.asked(), 3);
     Ok(())
 }

@@ -11,10 +11,6 @@ use std::test::Fail;
 use std::thread;
 use test_alloc::Budget;
 
-type Hashed = FrozenMap<u64, u64>;
-
-type Ordered = FrozenBTreeMap<u64, u64>;
-
 // The reads of a map that has 6 at 1 and no other entry, with what they show. An entry is shown as
 // 106.
 const READS: [(&str, u64); 9] = [
@@ -66,84 +62,73 @@ fn insertion<T: Table<u64, Arc<u64>>>(
     })
 }
 
-fn hashed_call(rt: &impl Wait, alloc: Global, map: &Hashed, call: &str) -> Result<u64, AllocError> {
-    let (none, mut seen): (Hashed, u64) = (FrozenMap::new(alloc), 0);
-    Ok(match call {
-        "get" => map.get(rt, &1)?.map_or(0, |owner| *owner),
-        "get_copy" => map.get_copy(rt, &1).unwrap_or(0),
-        "map_get" => map.map_get(rt, &1, |value| *value).unwrap_or(0),
-        "len" => map.len(rt) as u64,
-        "is_empty" => u64::from(map.is_empty(rt)),
-        "keys_cloned" => map.keys_cloned(rt)?.iter().sum(),
-        "clone" => map.clone(rt)?.len(rt) as u64,
-        "equals" => u64::from(map.equals(rt, &none)? || none.equals(rt, map)?),
-        "for_each" => {
-            map.for_each(rt, |key, value| seen += 100 * *key + *value);
-            seen
-        }
-        _ => insertion(rt, map, call)?,
-    })
+// A map with its calls by their names.
+trait Named {
+    // Makes the call with this name, and returns what it shows.
+    fn made(&self, rt: &impl Wait, alloc: Global, call: &str) -> Result<u64, AllocError>;
 }
 
-fn ordered_call(
-    rt: &impl Wait,
-    alloc: Global,
-    map: &Ordered,
-    call: &str,
-) -> Result<u64, AllocError> {
-    let (none, mut seen): (Ordered, u64) = (FrozenBTreeMap::new(alloc), 0);
-    Ok(match call {
-        "get" => map.get(rt, &1)?.map_or(0, |owner| *owner),
-        "get_copy" => map.get_copy(rt, &1).unwrap_or(0),
-        "map_get" => map.map_get(rt, &1, |value| *value).unwrap_or(0),
-        "len" => map.len(rt) as u64,
-        "is_empty" => u64::from(map.is_empty(rt)),
-        "keys_cloned" => map.keys_cloned(rt)?.iter().sum(),
-        "clone" => map.clone(rt)?.len(rt) as u64,
-        "equals" => u64::from(map.equals(rt, &none)? || none.equals(rt, map)?),
-        "for_each" => {
-            map.for_each(rt, |key, value| seen += 100 * *key + *value);
-            seen
+// Writes the calls that both maps have, and these further ones.
+macro_rules! named {
+    ($type:ty; $map:ident, $rt:ident; $($name:literal => $shown:expr,)*) => {
+        impl Named for $type {
+            fn made(&self, $rt: &impl Wait, alloc: Global, call: &str) -> Result<u64, AllocError> {
+                let ($map, none, mut seen) = (self, <$type>::new(alloc), 0);
+                Ok(match call {
+                    "get" => $map.get($rt, &1)?.map_or(0, |owner| *owner),
+                    "get_copy" => $map.get_copy($rt, &1).unwrap_or(0),
+                    "map_get" => $map.map_get($rt, &1, |value| *value).unwrap_or(0),
+                    "len" => $map.len($rt) as u64,
+                    "is_empty" => u64::from($map.is_empty($rt)),
+                    "keys_cloned" => $map.keys_cloned($rt)?.iter().sum(),
+                    "clone" => $map.clone($rt)?.len($rt) as u64,
+                    "equals" => u64::from($map.equals($rt, &none)? || none.equals($rt, $map)?),
+                    "for_each" => {
+                        $map.for_each($rt, |key, value| seen += 100 * *key + *value);
+                        seen
+                    }
+                    $($name => $shown,)*
+                    _ => insertion($rt, $map, call)?,
+                })
+            }
         }
-        "for_each_in_range" => {
-            map.for_each_in_range(rt, 0..2, |key, value| seen += 100 * *key + *value);
-            seen
-        }
-        "first_key_value_cloned" => map
-            .first_key_value_cloned(rt)?
-            .map_or(0, |(key, owner)| 100 * key + *owner),
-        "last_key_value_cloned" => map
-            .last_key_value_cloned(rt)?
-            .map_or(0, |(key, owner)| 100 * key + *owner),
-        _ => insertion(rt, map, call)?,
-    })
+    };
+}
+
+named! { FrozenMap<u64, u64>; map, rt; }
+
+named! { FrozenBTreeMap<u64, u64>; map, rt;
+    "first_key_value_cloned" => shown(map.first_key_value_cloned(rt)?),
+    "last_key_value_cloned" => shown(map.last_key_value_cloned(rt)?),
+    "for_each_in_range" => {
+        let mut seen = 0;
+        map.for_each_in_range(rt, 0..2, |key, value| seen += 100 * *key + *value);
+        seen
+    },
+}
+
+fn shown(entry: Option<(u64, Arc<u64>)>) -> u64 {
+    entry.map_or(0, |(key, owner)| 100 * key + *owner)
+}
+
+// Whether this kind of map has a call.
+fn has(kind: &str, call: &str) -> bool {
+    kind == "ordered" || ORDERED_READS.iter().all(|it| it.0 != call)
 }
 
 // A read that takes the lock for writing would wait for the walk, which waits for the read.
 #[test]
 fn a_read_of_a_map_waited_for_a_walk(rt: HostRuntime) -> Result<(), Fail> {
     let (handle, alloc) = (&rt, rt.alloc());
-    let (hashed, ordered): (Hashed, Ordered) = (FrozenMap::new(alloc), FrozenBTreeMap::new(alloc));
-    hashed.insert(&rt, 1, 6)?;
-    ordered.insert(&rt, 1, 6)?;
-    for (call, wanted) in READS {
-        let talk = Talk::new();
-        let (_, got, returned) = talk.beside(
-            handle,
-            || hashed.for_each(handle, |_, _| talk.shares()),
-            || hashed_call(handle, alloc, &hashed, call),
-        );
-        assert_eq!(rt; (call, got, returned), (call, Ok(wanted), true));
-    }
-    for (call, wanted) in READS.into_iter().chain(ORDERED_READS) {
-        let talk = Talk::new();
-        let (_, got, returned) = talk.beside(
-            handle,
-            || ordered.for_each(handle, |_, _| talk.shares()),
-            || ordered_call(handle, alloc, &ordered, call),
-        );
-        assert_eq!(rt; (call, got, returned), (call, Ok(wanted), true), "ordered");
-    }
+    each_map! { alloc, u64, u64; map, kind => {
+        map.insert(&rt, 1, 6)?;
+        for (call, wanted) in READS.into_iter().chain(ORDERED_READS).filter(|it| has(kind, it.0)) {
+            let talk = Talk::new();
+            let walk = || map.for_each(handle, |_, _| talk.shares());
+            let (_, got, returned) = talk.beside(handle, walk, || map.made(handle, alloc, call));
+            assert_eq!(rt; (got, returned), (Ok(wanted), true), "{kind}, {call}");
+        }
+    }}
     Ok(())
 }
 
@@ -151,36 +136,22 @@ fn a_read_of_a_map_waited_for_a_walk(rt: HostRuntime) -> Result<(), Fail> {
 #[test]
 fn a_call_on_a_map_did_not_wait_for_an_insertion(rt: HostRuntime) -> Result<(), Fail> {
     let (handle, alloc) = (&rt, rt.alloc());
-    for (call, wanted) in READS.into_iter().chain(INSERTIONS) {
-        let (map, talk): (Hashed, Talk) = (FrozenMap::new(alloc), Talk::new());
-        let (put, got, waited) = talk.beside(
-            handle,
-            || {
-                let put = map.insert_with(handle, 1, || {
-                    talk.shuts_out();
-                    6
-                });
-                put.map(|owner| *owner)
-            },
-            || hashed_call(handle, alloc, &map, call),
-        );
-        assert_eq!(rt; (call, put, got, waited), (call, Ok(6), Ok(wanted), true));
-    }
     for (call, wanted) in READS.into_iter().chain(ORDERED_READS).chain(INSERTIONS) {
-        let (map, talk): (Ordered, Talk) = (FrozenBTreeMap::new(alloc), Talk::new());
-        let (put, got, waited) = talk.beside(
-            handle,
-            || {
-                let put = map.insert_with(handle, 1, || {
-                    talk.shuts_out();
-                    6
-                });
-                put.map(|owner| *owner)
-            },
-            || ordered_call(handle, alloc, &map, call),
-        );
-        let got = (call, put, got, waited);
-        assert_eq!(rt; got, (call, Ok(6), Ok(wanted), true), "ordered");
+        each_map! { alloc, u64, u64; map, kind => {
+            let talk = Talk::new();
+            let six = || {
+                talk.shuts_out();
+                6
+            };
+            if has(kind, call) {
+                let got = talk.beside(
+                    handle,
+                    || map.insert_with(handle, 1, six).map(|owner| *owner),
+                    || map.made(handle, alloc, call),
+                );
+                assert_eq!(rt; got, (Ok(6), Ok(wanted), true), "{kind}, {call}");
+            }
+        }}
     }
     Ok(())
 }

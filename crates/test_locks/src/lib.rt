@@ -2,6 +2,24 @@
 //! allocation failures.
 #![tactic(auto)]
 
+/// Runs a test with a map that is hashed, and then with one that is in order, and its kind.
+macro_rules! each_map {
+    ($alloc:expr, $key:ty, $value:ty; $map:ident, $kind:ident => $body:block) => {
+        {
+            let $map: elsa_locks::map::FrozenMap<$key, $value> =
+                elsa_locks::map::FrozenMap::new($alloc);
+            let $kind = "hashed";
+            $body
+        }
+        {
+            let $map: elsa_locks::map::FrozenBTreeMap<$key, $value> =
+                elsa_locks::map::FrozenBTreeMap::new($alloc);
+            let $kind = "ordered";
+            $body
+        }
+    };
+}
+
 #[cfg(test)]
 mod beside;
 #[cfg(test)]

@@ -140,10 +140,8 @@ fn a_refused_call_added_an_entry_or_a_receipt(rt: HostRuntime) -> Result<(), Fai
     })?;
     refuses_each(&rt, rt.alloc(), |heap, open| {
         let (map, failed) = recorded(&rt, heap, open, Ordered::new(heap), map_call)?;
-        assert_eq!(rt;
-            (map.len(), map.map_get(&15, |value| *value)),
-            (16, Some(30))
-        );
+        let got = (map.len(), map.map_get(&15, |value| *value));
+        assert_eq!(rt; got, (16, Some(30)));
         Ok(failed)
     })?;
     refuses_each(&rt, rt.alloc(), |heap, open| {

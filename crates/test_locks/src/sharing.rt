@@ -35,19 +35,13 @@ fn count_new<R: Wait, T: Table<u64, Arc<u64>>>(
 // for several threads, or for none.
 #[test]
 fn a_key_was_new_for_two_threads_or_for_none(rt: HostRuntime) -> Result<(), Fail> {
-    let (handle, alloc) = (&rt, rt.alloc());
-    let hashed: FrozenMap<u64, u64> = FrozenMap::new(alloc);
-    let ordered: FrozenBTreeMap<u64, u64> = FrozenBTreeMap::new(alloc);
-    let marks = [Mark::new(), Mark::new()];
-    let told = thread::map_indices(handle, alloc, 9, &|_| count_new(handle, &hashed, &marks[0]))?;
-    assert_eq!(rt; told.iter().sum::<u64>(), KEYS);
-    let told = thread::map_indices(
-        handle,
-        alloc,
-        9,
-        &|_| count_new(handle, &ordered, &marks[1]),
-    )?;
-    assert_eq!(rt; told.iter().sum::<u64>(), KEYS, "ordered");
+    let handle = &rt;
+    each_map! { rt.alloc(), u64, u64; map, kind => {
+        let arrived = Mark::new();
+        let count = |_: usize| count_new(handle, &map, &arrived);
+        let told = thread::map_indices(handle, rt.alloc(), 9, &count)?;
+        assert_eq!(rt; told.iter().sum::<u64>(), KEYS, "{kind}");
+    }}
     Ok(())
 }
 

@@ -56,20 +56,15 @@ fn a_text_was_lost_in_a_map_of_strings(rt: HostRuntime) -> Result<(), Fail> {
 
 #[test]
 fn a_text_that_lives_shorter_than_the_keys_was_not_found(rt: HostRuntime) -> Result<(), Fail> {
-    let hashed: FrozenMap<&'static str, u64> = FrozenMap::new(rt.alloc());
-    let ordered: FrozenBTreeMap<&'static str, u64> = FrozenBTreeMap::new(rt.alloc());
-    hashed.insert(&rt, "five", 5)?;
-    ordered.insert(&rt, "five", 5)?;
-    for (text, value) in [("five", Some(5)), ("fiv", None), ("", None)] {
-        let key = String::from_str(rt.alloc(), text)?;
-        let key = key.as_str();
-        let owner = hashed.get(&rt, key)?.map(|owner| *owner);
-        let got = (text, owner, hashed.get_copy(&rt, key));
-        assert_eq!(rt; got, (text, value, value));
-        let owner = ordered.get(&rt, key)?.map(|owner| *owner);
-        let got = (text, owner, ordered.get_copy(&rt, key));
-        assert_eq!(rt; got, (text, value, value), "ordered");
-    }
+    each_map! { rt.alloc(), &'static str, u64; map, kind => {
+        map.insert(&rt, "five", 5)?;
+        for (text, value) in [("five", Some(5)), ("fiv", None), ("", None)] {
+            let key = String::from_str(rt.alloc(), text)?;
+            let owner = map.get(&rt, key.as_str())?.map(|owner| *owner);
+            let got = (owner, map.get_copy(&rt, key.as_str()));
+            assert_eq!(rt; got, (value, value), "{kind}, {text}");
+        }
+    }}
     Ok(())
 }
 

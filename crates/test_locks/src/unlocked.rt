@@ -2,7 +2,6 @@
 //! that isn't stored, and a comparison with another collection. If it ran under the lock, a call of
 //! another thread on the same collection could wait for it, and it for that call: a deadlock.
 use crate::marks::{Talk, Watched};
-use elsa_locks::map::{FrozenBTreeMap, FrozenMap};
 use elsa_locks::vec::FrozenVec;
 use std::test::Fail;
 
@@ -11,43 +10,20 @@ use std::test::Fail;
 #[test]
 fn a_closure_that_reads_a_value_had_the_lock(rt: HostRuntime) -> Result<(), Fail> {
     let handle = &rt;
-    let hashed: FrozenMap<u64, u64> = FrozenMap::new(rt.alloc());
-    let ordered: FrozenBTreeMap<u64, u64> = FrozenBTreeMap::new(rt.alloc());
-    hashed.insert(&rt, 1, 6)?;
-    ordered.insert(&rt, 1, 6)?;
-    let talk = Talk::new();
-    let (read, put, returned) = talk.beside(
-        handle,
-        || {
-            hashed.map_get(handle, &1, |_| {
-                talk.shares();
-                if talk.is_right() {
-                    hashed.get_copy(handle, &2)
-                } else {
-                    None
-                }
-            })
-        },
-        || hashed.insert(handle, 2, 9).is_ok(),
-    );
-    assert_eq!(rt; (read, put, returned), (Some(Some(9)), true, true));
-    let talk = Talk::new();
-    let (read, put, returned) = talk.beside(
-        handle,
-        || {
-            ordered.map_get(handle, &1, |_| {
-                talk.shares();
-                if talk.is_right() {
-                    ordered.get_copy(handle, &2)
-                } else {
-                    None
-                }
-            })
-        },
-        || ordered.insert(handle, 2, 9).is_ok(),
-    );
-    let got = (read, put, returned);
-    assert_eq!(rt; got, (Some(Some(9)), true, true), "ordered");
+    each_map! { rt.alloc(), u64, u64; map, kind => {
+        map.insert(&rt, 1, 6)?;
+        let talk = Talk::new();
+        let read = |_: &u64| {
+            talk.shares();
+            if talk.is_right() { map.get_copy(handle, &2) } else { None }
+        };
+        let (read, put, returned) = talk.beside(
+            handle,
+            || map.map_get(handle, &1, read),
+            || map.insert(handle, 2, 9).is_ok(),
+        );
+        assert_eq!(rt; (read, put, returned), (Some(Some(9)), true, true), "{kind}");
+    }}
     Ok(())
 }
 
@@ -65,25 +41,17 @@ impl Drop for Dropped<'_> {
 
 #[test]
 fn a_value_for_a_present_key_was_dropped_under_the_lock(rt: HostRuntime) -> Result<(), Fail> {
-    let handle = &rt;
-    let talk = Talk::new();
-    let hashed: FrozenMap<u64, Dropped<'_>> = FrozenMap::new(rt.alloc());
-    assert!(rt; hashed.insert(&rt, 1, Dropped { talk: &talk }).is_ok());
-    let (put, count, returned) = talk.beside(
-        handle,
-        || hashed.insert(handle, 1, Dropped { talk: &talk }).is_ok(),
-        || hashed.len(handle),
-    );
-    assert_eq!(rt; (put, count, returned), (true, 1, true));
-    let talk = Talk::new();
-    let ordered: FrozenBTreeMap<u64, Dropped<'_>> = FrozenBTreeMap::new(rt.alloc());
-    assert!(rt; ordered.insert(&rt, 1, Dropped { talk: &talk }).is_ok());
-    let (put, count, returned) = talk.beside(
-        handle,
-        || ordered.insert(handle, 1, Dropped { talk: &talk }).is_ok(),
-        || ordered.len(handle),
-    );
-    assert_eq!(rt; (put, count, returned), (true, 1, true), "ordered");
+    let (handle, talks) = (&rt, [Talk::new(), Talk::new()]);
+    each_map! { rt.alloc(), u64, Dropped<'_>; map, kind => {
+        let talk = if kind == "hashed" { &talks[0] } else { &talks[1] };
+        assert!(rt; map.insert(&rt, 1, Dropped { talk }).is_ok());
+        let (put, count, returned) = talk.beside(
+            handle,
+            || map.insert(handle, 1, Dropped { talk }).is_ok(),
+            || map.len(handle),
+        );
+        assert_eq!(rt; (put, count, returned), (true, 1, true), "{kind}");
+    }}
     Ok(())
 }
 
@@ -106,29 +74,16 @@ fn a_comparison_had_the_lock_of_its_own_collection(rt: HostRuntime) -> Result<()
         || one.push(handle, watched(8, 0)).is_ok(),
     );
     assert_eq!(rt; (equal, put, returned), (Ok(true), true, true));
-    let (one, two): (FrozenMap<u64, Watched<'_>>, FrozenMap<u64, Watched<'_>>) = (
-        FrozenMap::new(alloc),
-        FrozenMap::new(alloc),
-    );
-    one.insert(&rt, 7, watched(7, 1))?;
-    two.insert(&rt, 7, watched(7, 1))?;
-    let (equal, put, returned) = talks[1].beside(
-        handle,
-        || one.equals(handle, &two),
-        || one.insert(handle, 8, watched(8, 1)).is_ok(),
-    );
-    assert_eq!(rt; (equal, put, returned), (Ok(true), true, true), "hashed");
-    let (one, two): (
-        FrozenBTreeMap<u64, Watched<'_>>,
-        FrozenBTreeMap<u64, Watched<'_>>,
-    ) = (FrozenBTreeMap::new(alloc), FrozenBTreeMap::new(alloc));
-    one.insert(&rt, 7, watched(7, 2))?;
-    two.insert(&rt, 7, watched(7, 2))?;
-    let (equal, put, returned) = talks[2].beside(
-        handle,
-        || one.equals(handle, &two),
-        || one.insert(handle, 8, watched(8, 2)).is_ok(),
-    );
-    assert_eq!(rt; (equal, put, returned), (Ok(true), true, true), "ordered");
+    each_map! { alloc, u64, Watched<'_>; one, kind => {
+        let at = if kind == "hashed" { 1 } else { 2 };
+        one.insert(&rt, 7, watched(7, at))?;
+        let two = one.clone(&rt)?;
+        let (equal, put, returned) = talks[at].beside(
+            handle,
+            || one.equals(handle, &two),
+            || one.insert(handle, 8, watched(8, at)).is_ok(),
+        );
+        assert_eq!(rt; (equal, put, returned), (Ok(true), true, true), "{kind}");
+    }}
     Ok(())
 }

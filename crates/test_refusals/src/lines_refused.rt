@@ -96,10 +96,8 @@ fn a_denied_request_cost_more_than_one_line_its_reply(rt: HostRuntime) -> Result
     let alloc = rt.alloc();
     for (lines, least) in [(WORKED.as_slice(), 2), (MANY.as_slice(), 3)] {
         let open = Budget::new(alloc);
-        assert_eq!(rt;
-            engine_fails(alloc, &open, &Bump::new(alloc), lines)?,
-            Ok(0)
-        );
+        let got = engine_fails(alloc, &open, &Bump::new(alloc), lines)?;
+        assert_eq!(rt; got, Ok(0));
         assert!(rt; open.asked() >= least);
         for number in 0..open.asked() {
             let heap = Budget::new(alloc);

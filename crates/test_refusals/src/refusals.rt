@@ -20,6 +20,34 @@ fn word(index: usize) -> &'static str {
     WORDS[index % 16]
 }
 
+/// Writes how a script is run: the number of values that a call stores in the arena, and the
+/// script.
+macro_rules! family {
+    ($name:ident, $number:ident => $placings:expr;
+        $alloc:ident, $heap:ident, $arena:ident => $script:expr) => {
+        impl Family for $name {
+            fn calls(&self) -> usize {
+                CALLS
+            }
+
+            fn placings(&self, $number: usize) -> usize {
+                $placings
+            }
+
+            fn goes_over(
+                &self,
+                $alloc: Global,
+                $heap: &Budget<Global>,
+                squeezed: Squeeze,
+            ) -> Option<u64> {
+                let owned = Bump::new($alloc);
+                let $arena = &owned;
+                goes_through(&mut $script, CALLS, $heap, $arena, squeezed)
+            }
+        }
+    };
+}
+
 // ---- the set
 
 type Set<'a, 'b> = FrozenIndexSet<'a, String<Heap<'b>>, Hasher, Heap<'b>>;
@@ -74,25 +102,8 @@ fn has_words(set: &Set<'_, '_>, count: usize) -> bool {
 
 struct Sets;
 
-impl Family for Sets {
-    fn calls(&self) -> usize {
-        CALLS
-    }
-
-    fn placings(&self, number: usize) -> usize {
-        [1, 0, 1, 0, 1, 2][number % 6]
-    }
-
-    fn goes_over(&self, alloc: Global, heap: &Budget<Global>, squeezed: Squeeze) -> Option<u64> {
-        let arena = Bump::new(alloc);
-        let mut script = SetCalls {
-            alloc,
-            heap,
-            arena: &arena,
-            set: FrozenIndexSet::new(heap, &arena),
-        };
-        goes_through(&mut script, CALLS, heap, &arena, squeezed)
-    }
+family! { Sets, number => [1, 0, 1, 0, 1, 2][number % 6];
+    alloc, heap, arena => SetCalls { alloc, heap, arena, set: FrozenIndexSet::new(heap, arena) }
 }
 
 #[test]
@@ -133,22 +144,8 @@ impl Script for Puts<'_, '_> {
 
 struct Interners;
 
-impl Family for Interners {
-    fn calls(&self) -> usize {
-        CALLS
-    }
-
-    fn placings(&self, number: usize) -> usize {
-        1 - number % 2
-    }
-
-    fn goes_over(&self, alloc: Global, heap: &Budget<Global>, squeezed: Squeeze) -> Option<u64> {
-        let arena = Bump::new(alloc);
-        let mut script = Puts {
-            names: Interner::new(heap, &arena),
-        };
-        goes_through(&mut script, CALLS, heap, &arena, squeezed)
-    }
+family! { Interners, number => 1 - number % 2;
+    _alloc, heap, arena => Puts { names: Interner::new(heap, arena) }
 }
 
 #[test]
@@ -215,25 +212,9 @@ impl Script for Resources<'_, '_> {
 
 struct Caches;
 
-impl Family for Caches {
-    fn calls(&self) -> usize {
-        CALLS
-    }
-
-    /// A load stores a text of eight bytes and a resource of sixteen.
-    fn placings(&self, number: usize) -> usize {
-        if number % 2 == 0 { 3 } else { 0 }
-    }
-
-    fn goes_over(&self, alloc: Global, heap: &Budget<Global>, squeezed: Squeeze) -> Option<u64> {
-        let arena = Bump::new(alloc);
-        let mut script = Resources {
-            alloc,
-            cache: ResourceCache::new(heap, &arena),
-            loads: 0,
-        };
-        goes_through(&mut script, CALLS, heap, &arena, squeezed)
-    }
+// A load stores a text of eight bytes and a resource of sixteen.
+family! { Caches, number => if number % 2 == 0 { 3 } else { 0 };
+    alloc, heap, arena => Resources { alloc, cache: ResourceCache::new(heap, arena), loads: 0 }
 }
 
 #[test]

@@ -105,11 +105,8 @@ fn a_put_whose_growth_failed_left_a_copy_in_the_arena(rt: HostRuntime) -> Result
         let before = (names.len(), room(&arena));
         let failed = failures(|_| names.put("seventeen letters").is_err());
         assert_eq!(rt; failed, 100, "{count} names, {granted} granted");
-        assert_eq!(rt;
-            (names.len(), room(&arena)),
-            before,
-            "{count} names, {granted} granted"
-        );
+        let got = (names.len(), room(&arena));
+        assert_eq!(rt; got, before, "{count} names, {granted} granted");
     }
     Ok(())
 }

@@ -301,11 +301,8 @@ fn a_denied_request_of_a_run_was_not_reported_or_stopped_it(rt: HostRuntime) -> 
     let alloc = rt.alloc();
     for kind in KINDS {
         let open = Budget::new(alloc);
-        assert_eq!(rt;
-            outcome_of(kind, &open, &Bump::new(alloc))?,
-            Outcome::Failed(0),
-            "{kind:?}"
-        );
+        let got = outcome_of(kind, &open, &Bump::new(alloc))?;
+        assert_eq!(rt; got, Outcome::Failed(0), "{kind:?}");
         assert!(rt; open.asked() > 4, "{kind:?}");
         for number in 1..open.asked() {
             let heap = Budget::new(alloc);

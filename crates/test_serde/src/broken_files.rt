@@ -129,11 +129,8 @@ fn is_read_as_list(at: (&impl Abort, Global, u64), bytes: &[u8]) -> Result<bool,
     let mut set: FrozenIndexSet<'_, String> = FrozenIndexSet::new(alloc, &arena);
     let said = serde_json::from_slice::<Items<String>>(alloc, bytes)?.insert_into(&mut set);
     let all: Vec<&str> = set.iter().copied().collect(alloc)?;
-    assert_eq!(rt;
-        (said, all.as_slice()),
-        (report, &texts[..stop]),
-        "file {seed}"
-    );
+    let got = (said, all.as_slice());
+    assert_eq!(rt; got, (report, &texts[..stop]), "file {seed}");
     let mut names: Interner<'_> = Interner::new(alloc, &arena);
     let said = serde_json::from_slice::<Names>(alloc, bytes)?.put_into(&mut names);
     for (index, text) in texts[..stop].iter().enumerate() {
@@ -176,11 +173,8 @@ fn is_read_as_map(at: (&impl Abort, Global, u64), bytes: &[u8]) -> Result<bool, 
         };
         assert_eq!(rt; object.len(), keys.len(), "file {seed}");
         for (key, number) in &read.0 {
-            assert_eq!(rt;
-                object.get(key).and_then(Value::as_u64),
-                Some(number.0),
-                "file {seed}"
-            );
+            let got = object.get(key).and_then(Value::as_u64);
+            assert_eq!(rt; got, Some(number.0), "file {seed}");
         }
     }
     has_entries(at, bytes, &keys, FrozenMap::new(alloc, &arena))?;

@@ -61,11 +61,8 @@ fn a_broken_text_was_read(rt: HostRuntime) -> Result<(), Fail> {
         assert_eq!(rt; refusal::<Read>(alloc, text), Some(kind), "{text}");
     }
     for text in ["[256]", "[-1]", "[1.5]"] {
-        assert_eq!(rt;
-            refusal::<Items<Own<u8>>>(alloc, text),
-            Some(data),
-            "{text}"
-        );
+        let got = refusal::<Items<Own<u8>>>(alloc, text);
+        assert_eq!(rt; got, Some(data), "{text}");
     }
     Ok(())
 }
@@ -81,11 +78,8 @@ fn a_duplicate_was_inserted(rt: HostRuntime) -> Result<(), Fail> {
         let told = Err(ReadFault::Duplicate(index));
         let mut names: Interner<'_> = Interner::new(alloc, &arena);
         let said = serde_json::from_str::<Names>(alloc, text)?.put_into(&mut names);
-        assert_eq!(rt;
-            (said, names.len(), names.at(index - 1)),
-            (told, index, Some(last)),
-            "{text}"
-        );
+        let got = (said, names.len(), names.at(index - 1));
+        assert_eq!(rt; got, (told, index, Some(last)), "{text}");
         let mut set: FrozenIndexSet<'_, String> = FrozenIndexSet::new(alloc, &arena);
         let said = serde_json::from_str::<Items<String>>(alloc, text)?.insert_into(&mut set);
         assert_eq!(rt; (said, set.len()), (told, index), "{text}");
@@ -93,17 +87,11 @@ fn a_duplicate_was_inserted(rt: HostRuntime) -> Result<(), Fail> {
     let text = r#"{"a":1,"b":2,"a":1}"#;
     let told = Err(ReadFault::Duplicate(2));
     let read = || serde_json::from_str::<Read>(alloc, text);
-    assert_eq!(rt;
-        read()?.insert_into(&mut FrozenMap::new(alloc, &arena)),
-        told
-    );
-    assert_eq!(rt;
-        read()?.insert_into(&mut FrozenBTreeMap::new(alloc, &arena)),
-        told
-    );
-    assert_eq!(rt;
-        read()?.insert_into(&mut FrozenIndexMap::new(alloc, &arena)),
-        told
-    );
+    let got = read()?.insert_into(&mut FrozenMap::new(alloc, &arena));
+    assert_eq!(rt; got, told);
+    let got = read()?.insert_into(&mut FrozenBTreeMap::new(alloc, &arena));
+    assert_eq!(rt; got, told);
+    let got = read()?.insert_into(&mut FrozenIndexMap::new(alloc, &arena));
+    assert_eq!(rt; got, told);
     Ok(())
 }

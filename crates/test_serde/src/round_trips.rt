@@ -94,10 +94,8 @@ fn a_hashed_map_changed_on_its_way_through_json(rt: HostRuntime) -> Result<(), F
     let again: Entries<u64, String> = serde_json::from_str(alloc, written.as_str())?;
     assert_eq!(rt; again.insert_into(&mut second), Ok(()));
     assert!(rt; first == second);
-    assert_eq!(rt;
-        [3, 20, 100].map(|key| second.get(&key)),
-        [Some("a"), Some("b"), Some("a")]
-    );
+    let got = [3, 20, 100].map(|key| second.get(&key));
+    assert_eq!(rt; got, [Some("a"), Some("b"), Some("a")]);
     assert_eq!(rt; second.len(), 3);
     Ok(())
 }

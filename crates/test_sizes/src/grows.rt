@@ -29,4 +29,18 @@ pub trait Grows {
     fn has_index(&self, _key: u64, _index: usize) -> bool {
         true
     }
+
+    /// Extends the collection at once by `count` entries, with keys below `below`, each with its
+    /// index as the value.
+    fn fill(&mut self, count: u64, below: u64) -> Result<(), AllocError> {
+        for index in 0..count {
+            self.insert(key_at(index, below), index)?;
+        }
+        Ok(())
+    }
+}
+
+/// The key at an index of the entries of `fill`. Some keys occur several times.
+pub fn key_at(index: u64, below: u64) -> u64 {
+    (index * index + index * 7) % below
 }

@@ -1,5 +1,5 @@
 //! The collections, each with the calls of the script.
-use crate::grows::Grows;
+use crate::grows::{Grows, key_at};
 use elsa::append_map::AppendMap;
 use elsa::interner::Interner;
 use elsa::{
@@ -11,7 +11,21 @@ use std::hash::{BuildHasherDefault, FoldHasher};
 
 pub type Hasher = BuildHasherDefault<FoldHasher>;
 
-impl<A: Allocator + Copy> Grows for FrozenVec<'_, Own<u64>, A> {
+pub type List<'a, A> = FrozenVec<'a, Own<u64>, A>;
+
+pub type Map<'a, A> = FrozenMap<'a, u64, Own<u64>, Hasher, A>;
+
+pub type TreeMap<'a, A> = FrozenBTreeMap<'a, u64, Own<u64>, A>;
+
+pub type IndexMap<'a, A> = FrozenIndexMap<'a, u64, Own<u64>, Hasher, A>;
+
+pub type LargeMap<'a, A> = FrozenAppendMap<'a, u64, Own<u64>, Hasher, A>;
+
+pub type IndexSet<'a, A> = FrozenIndexSet<'a, Own<u64>, Hasher, A>;
+
+pub type TextMap<'a, A> = FrozenAppendMap<'a, &'a str, Own<u64>, Hasher, A>;
+
+impl<A: Allocator + Copy> Grows for List<'_, A> {
     fn next_key(&self, _drawn: u64) -> u64 {
         self.len() as u64
     }
@@ -29,75 +43,40 @@ impl<A: Allocator + Copy> Grows for FrozenVec<'_, Own<u64>, A> {
     }
 }
 
-impl<A: Allocator + Copy> Grows for FrozenMap<'_, u64, Own<u64>, Hasher, A> {
-    fn insert(&mut self, key: u64, value: u64) -> Result<u64, AllocError> {
-        let (kept, _) = self.insert_new(key, Own(value))?;
-        Ok(*kept)
-    }
+/// Writes the calls of maps. The last expression says whether a present key has an index.
+macro_rules! maps {
+    ($map:ident, $key:ident, $index:ident; $($type:ty: $has:expr;)+) => {
+        $(impl<A: Allocator + Copy> Grows for $type {
+            fn insert(&mut self, key: u64, value: u64) -> Result<u64, AllocError> {
+                let (kept, _) = self.insert_new(key, Own(value))?;
+                Ok(*kept)
+            }
 
-    fn get(&self, key: u64) -> Option<u64> {
-        self.get(&key).copied()
-    }
+            fn get(&self, key: u64) -> Option<u64> {
+                self.get(&key).copied()
+            }
 
-    fn count(&self) -> usize {
-        self.len()
-    }
+            fn count(&self) -> usize {
+                self.len()
+            }
+
+            fn has_index(&self, $key: u64, $index: usize) -> bool {
+                let $map = self;
+                $has
+            }
+
+            fn fill(&mut self, count: u64, below: u64) -> Result<(), AllocError> {
+                self.extend((0..count).map(|index| (key_at(index, below), Own(index))))
+            }
+        })+
+    };
 }
 
-impl<A: Allocator + Copy> Grows for FrozenBTreeMap<'_, u64, Own<u64>, A> {
-    fn insert(&mut self, key: u64, value: u64) -> Result<u64, AllocError> {
-        let (kept, _) = self.insert_new(key, Own(value))?;
-        Ok(*kept)
-    }
-
-    fn get(&self, key: u64) -> Option<u64> {
-        self.get(&key).copied()
-    }
-
-    fn count(&self) -> usize {
-        self.len()
-    }
-}
-
-impl<A: Allocator + Copy> Grows for FrozenIndexMap<'_, u64, Own<u64>, Hasher, A> {
-    fn insert(&mut self, key: u64, value: u64) -> Result<u64, AllocError> {
-        let (kept, _) = self.insert_new(key, Own(value))?;
-        Ok(*kept)
-    }
-
-    fn get(&self, key: u64) -> Option<u64> {
-        self.get(&key).copied()
-    }
-
-    fn count(&self) -> usize {
-        self.len()
-    }
-
-    fn has_index(&self, key: u64, index: usize) -> bool {
-        self.get_index_of(&key) == Some(index)
-    }
-}
-
-impl<A: Allocator + Copy> Grows for FrozenAppendMap<'_, u64, Own<u64>, Hasher, A> {
-    fn insert(&mut self, key: u64, value: u64) -> Result<u64, AllocError> {
-        let (kept, _) = self.insert_new(key, Own(value))?;
-        Ok(*kept)
-    }
-
-    fn get(&self, key: u64) -> Option<u64> {
-        self.get(&key).copied()
-    }
-
-    fn count(&self) -> usize {
-        self.len()
-    }
-
-    fn has_index(&self, key: u64, index: usize) -> bool {
-        match self.get_full(&key) {
-            Some((at, kept, _)) => at == index && kept == key,
-            None => false,
-        }
-    }
+maps! { map, key, index;
+    Map<'_, A>: map.contains_key(&key) && index < map.len();
+    TreeMap<'_, A>: map.contains_key(&key) && index < map.len();
+    IndexMap<'_, A>: map.get_index_of(&key) == Some(index);
+    LargeMap<'_, A>: map.get_full(&key).is_some_and(|it| it.0 == index && it.1 == key);
 }
 
 /// An owned map has each entry once, with its index.
@@ -105,9 +84,7 @@ impl<A: Allocator + Copy> Grows for AppendMap<u64, u64, Hasher, A> {
     fn insert(&mut self, key: u64, value: u64) -> Result<u64, AllocError> {
         let make = || -> Result<(u64, u64), AllocError> { Ok((key, value)) };
         let before = self.entries().len();
-        let Ok(done) = self.insert_by(&key, make) else {
-            return Err(AllocError);
-        };
+        let done = self.insert_by(&key, make).map_err(|_| AllocError)?;
         let is_new = before < self.entries().len();
         match self.entries().get(done.index) {
             Some(entry) if entry.0 == key && done.is_new == is_new => Ok(done.value),
@@ -125,14 +102,12 @@ impl<A: Allocator + Copy> Grows for AppendMap<u64, u64, Hasher, A> {
     }
 
     fn has_index(&self, key: u64, index: usize) -> bool {
-        let Some((at, _, _)) = self.get_full(&key) else {
-            return false;
-        };
-        at == index && self.entries()[index].0 == key
+        let found = self.get_full(&key).map(|it| it.0);
+        found == Some(index) && self.entries()[index].0 == key
     }
 }
 
-impl<A: Allocator + Copy> Grows for FrozenIndexSet<'_, Own<u64>, Hasher, A> {
+impl<A: Allocator + Copy> Grows for IndexSet<'_, A> {
     fn stored(&self, key: u64, _value: u64) -> u64 {
         key
     }
@@ -151,6 +126,10 @@ impl<A: Allocator + Copy> Grows for FrozenIndexSet<'_, Own<u64>, Hasher, A> {
 
     fn has_index(&self, key: u64, index: usize) -> bool {
         self.get_index_of(&Own(key)) == Some(index) && self.get_index(index).copied() == Some(key)
+    }
+
+    fn fill(&mut self, count: u64, below: u64) -> Result<(), AllocError> {
+        self.extend((0..count).map(|index| Own(key_at(index, below))))
     }
 }
 
@@ -174,15 +153,18 @@ impl<A: Allocator + Copy> Grows for FrozenBTreeSet<'_, u64, A> {
     }
 }
 
-/// Returns the name of a key: five letters.
-fn letters(key: u64) -> [u8; 5] {
-    let mut name = [b'a'; 5];
-    let mut rest = key;
-    for letter in name.iter_mut() {
-        *letter = b'a' + (rest % 26) as u8;
-        rest /= 26;
+/// The name of a key: five letters.
+#[derive(Clone, Copy)]
+struct Letters([u8; 5]);
+
+impl Letters {
+    fn of(key: u64) -> Letters {
+        Letters([1, 26, 676, 17_576, 456_976].map(|part| b'a' + (key / part % 26) as u8))
     }
-    name
+
+    fn as_str(&self) -> &str {
+        std::str::from_utf8(&self.0).unwrap_or("")
+    }
 }
 
 impl<A: Allocator + Copy> Grows for Interner<'_, Hasher, A> {
@@ -191,23 +173,21 @@ impl<A: Allocator + Copy> Grows for Interner<'_, Hasher, A> {
     }
 
     fn insert(&mut self, key: u64, _value: u64) -> Result<u64, AllocError> {
-        let letters = letters(key);
-        let Ok(name) = std::str::from_utf8(&letters) else {
-            return Err(AllocError);
-        };
-        let number = self.put(name)?;
-        match self.at(number) {
-            Some(found) if found == name => Ok(key),
-            _ => Ok(u64::MAX),
-        }
+        let name = Letters::of(key);
+        let number = self.put(name.as_str())?;
+        Ok(if self.at(number) == Some(name.as_str()) {
+            key
+        } else {
+            u64::MAX
+        })
     }
 
     fn get(&self, key: u64) -> Option<u64> {
-        let letters = letters(key);
-        let Ok(name) = std::str::from_utf8(&letters) else {
-            return None;
-        };
-        if self.contains(name) { Some(key) } else { None }
+        if self.contains(Letters::of(key).as_str()) {
+            Some(key)
+        } else {
+            None
+        }
     }
 
     fn count(&self) -> usize {
@@ -215,49 +195,30 @@ impl<A: Allocator + Copy> Grows for Interner<'_, Hasher, A> {
     }
 
     fn has_index(&self, key: u64, index: usize) -> bool {
-        let letters = letters(key);
-        match std::str::from_utf8(&letters) {
-            Ok(name) => self.find(name) == Some(index),
-            Err(_) => false,
-        }
+        self.find(Letters::of(key).as_str()) == Some(index)
     }
 }
 
 /// A map whose keys are texts that end with the call which inserts them.
 #[derive(Drop)]
-pub struct Texts<M> {
-    pub map: M,
-}
+pub struct Texts<M>(pub M);
 
-impl<'a, A: Allocator + Copy> Grows for Texts<FrozenAppendMap<'a, &'a str, Own<u64>, Hasher, A>> {
+impl<'a, A: Allocator + Copy> Grows for Texts<TextMap<'a, A>> {
     fn insert(&mut self, key: u64, value: u64) -> Result<u64, AllocError> {
-        let letters = letters(key);
-        let Ok(name) = std::str::from_utf8(&letters) else {
-            return Err(AllocError);
-        };
-        Ok(*self.map.insert_text(name, Own(value))?)
+        Ok(*self.0.insert_text(Letters::of(key).as_str(), Own(value))?)
     }
 
     fn get(&self, key: u64) -> Option<u64> {
-        let letters = letters(key);
-        let Ok(name) = std::str::from_utf8(&letters) else {
-            return None;
-        };
-        self.map.get(name).copied()
+        self.0.get(Letters::of(key).as_str()).copied()
     }
 
     fn count(&self) -> usize {
-        self.map.len()
+        self.0.len()
     }
 
     fn has_index(&self, key: u64, index: usize) -> bool {
-        let letters = letters(key);
-        let Ok(name) = std::str::from_utf8(&letters) else {
-            return false;
-        };
-        match self.map.get_full(name) {
-            Some((at, kept, _)) => at == index && kept == name,
-            None => false,
-        }
+        let name = Letters::of(key);
+        let found = self.0.get_full(name.as_str());
+        found.is_some_and(|it| it.0 == index && it.1 == name.as_str())
     }
 }

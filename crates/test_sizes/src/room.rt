@@ -1,9 +1,8 @@
 //! Reserved capacity: it is there, it is at most eight times the capacity that was requested, and
 //! insertions in it make no request.
 use crate::grows::Grows;
-use crate::kinds::Hasher;
+use crate::kinds::{Hasher, IndexMap, IndexSet, LargeMap, List, Map};
 use elsa::interner::Interner;
-use elsa::{FrozenAppendMap, FrozenIndexMap, FrozenIndexSet, FrozenMap, FrozenVec, Own};
 use std::alloc::{AllocError, Allocator, Global};
 use test_alloc::Budget;
 
@@ -14,67 +13,24 @@ pub trait Roomy: Grows {
     fn room(&mut self) -> usize;
 }
 
-impl<A: Allocator + Copy> Roomy for FrozenVec<'_, Own<u64>, A> {
-    fn reserve(&mut self, additional: usize) -> Result<(), AllocError> {
-        self.reserve(additional)
-    }
+/// Writes the calls of these collections.
+macro_rules! roomy {
+    ($($type:ty),+) => {
+        $(impl<A: Allocator + Copy> Roomy for $type {
+            fn reserve(&mut self, additional: usize) -> Result<(), AllocError> {
+                self.reserve(additional).map_err(|_| AllocError)
+            }
 
-    fn room(&mut self) -> usize {
-        self.capacity()
-    }
+            fn room(&mut self) -> usize {
+                self.capacity()
+            }
+        })+
+    };
 }
 
-impl<A: Allocator + Copy> Roomy for FrozenMap<'_, u64, Own<u64>, Hasher, A> {
-    fn reserve(&mut self, additional: usize) -> Result<(), AllocError> {
-        self.reserve(additional)
-    }
-
-    fn room(&mut self) -> usize {
-        self.capacity()
-    }
-}
-
-impl<A: Allocator + Copy> Roomy for FrozenIndexMap<'_, u64, Own<u64>, Hasher, A> {
-    fn reserve(&mut self, additional: usize) -> Result<(), AllocError> {
-        self.reserve(additional)
-    }
-
-    fn room(&mut self) -> usize {
-        self.capacity()
-    }
-}
-
-impl<A: Allocator + Copy> Roomy for FrozenAppendMap<'_, u64, Own<u64>, Hasher, A> {
-    fn reserve(&mut self, additional: usize) -> Result<(), AllocError> {
-        match self.reserve(additional) {
-            Ok(()) => Ok(()),
-            Err(_) => Err(AllocError),
-        }
-    }
-
-    fn room(&mut self) -> usize {
-        self.capacity()
-    }
-}
-
-impl<A: Allocator + Copy> Roomy for FrozenIndexSet<'_, Own<u64>, Hasher, A> {
-    fn reserve(&mut self, additional: usize) -> Result<(), AllocError> {
-        self.reserve(additional)
-    }
-
-    fn room(&mut self) -> usize {
-        self.capacity()
-    }
-}
-
-impl<A: Allocator + Copy> Roomy for Interner<'_, Hasher, A> {
-    fn reserve(&mut self, additional: usize) -> Result<(), AllocError> {
-        self.reserve(additional)
-    }
-
-    fn room(&mut self) -> usize {
-        self.capacity()
-    }
+roomy! {
+    List<'_, A>, Map<'_, A>, IndexMap<'_, A>, LargeMap<'_, A>, IndexSet<'_, A>,
+    Interner<'_, Hasher, A>
 }
 
 /// Inserts the keys from `from` to `to - 1` while each request of the table fails. Returns the
@@ -108,15 +64,12 @@ pub fn first_without_room<G: Roomy>(
     size: u64,
 ) -> Result<Option<u64>, AllocError> {
     for round in 0..2_u64 {
-        let (from, to) = (
-            round.wrapping_mul(size),
-            round.wrapping_add(1).wrapping_mul(size),
-        );
+        let (from, to) = (round * size, (round + 1) * size);
         if round > 0 {
             grown.reserve(size as usize)?;
         }
         let room = grown.room() as u64;
-        if room < to || room > to.wrapping_mul(8).wrapping_add(64) {
+        if room < to || room > to * 8 + 64 {
             return Ok(Some(to));
         }
         let first = first_with_request(heap, grown, from, to);

@@ -1,5 +1,6 @@
-//! Each collection with scripts, and with reserved room.
-use crate::kinds::{Hasher, Texts};
+//! Each collection with scripts, extended at once, and with reserved room.
+use crate::bulk::filled;
+use crate::kinds::{Hasher, IndexMap, IndexSet, LargeMap, List, Map, TextMap, Texts, TreeMap};
 use crate::room::first_without_room;
 use crate::script::{Plan, SCRIPTS, Unlike, first_unlike};
 use bumpalo::Bump;
@@ -7,7 +8,7 @@ use elsa::append_map::AppendMap;
 use elsa::interner::Interner;
 use elsa::{
     FrozenAppendMap, FrozenBTreeMap, FrozenBTreeSet, FrozenIndexMap, FrozenIndexSet, FrozenMap,
-    FrozenVec, Own,
+    FrozenVec,
 };
 use std::alloc::{AllocError, Global};
 use std::test::Fail;
@@ -15,8 +16,6 @@ use test_alloc::Budget;
 use test_model::draws::{clock_seed, is_edge};
 
 type Heap<'h> = &'h Budget<Global>;
-
-type Numbers = Own<u64>;
 
 /// The collections.
 #[derive(Clone, Copy, Debug)]
@@ -47,63 +46,49 @@ const KINDS: [Kind; 10] = [
     Kind::AppendMapTexts,
 ];
 
-/// Runs a script on a new collection, and returns the first difference.
+/// Makes the collection of the kind, and calls a function with it.
+macro_rules! with_kind {
+    ($kind:ident, $grown:ident => $call:expr; $($name:ident: $type:ty = $new:expr;)+
+        $(_ => $rest:expr;)?) => {
+        match $kind {
+            $(Kind::$name => {
+                let mut $grown: $type = $new;
+                $call
+            })+
+            $(_ => $rest,)?
+        }
+    };
+}
+
+/// What is done with a collection: a script of single insertions, or of one `extend`.
+#[derive(Clone, Copy)]
+enum Job {
+    Script(Plan),
+    Fill(Plan),
+}
+
+/// Does a job with a new collection, and returns the first difference.
 fn of_kind(
     alloc: Global,
     heap: Heap<'_>,
     arena: &Bump,
     kind: Kind,
-    plan: Plan,
+    job: Job,
 ) -> Result<Option<Unlike>, AllocError> {
-    match kind {
-        Kind::Vec => {
-            let mut grown: FrozenVec<'_, Numbers, Heap<'_>> = FrozenVec::new(heap, arena);
-            first_unlike(alloc, heap, &mut grown, plan)
-        }
-        Kind::Map => {
-            let mut grown: FrozenMap<'_, u64, Numbers, Hasher, _> = FrozenMap::new(heap, arena);
-            first_unlike(alloc, heap, &mut grown, plan)
-        }
-        Kind::IndexMap => {
-            let mut grown: FrozenIndexMap<'_, u64, Numbers, Hasher, _> = FrozenIndexMap::new(
-                heap, arena,
-            );
-            first_unlike(alloc, heap, &mut grown, plan)
-        }
-        Kind::AppendMap => {
-            let mut grown: FrozenAppendMap<'_, u64, Numbers, Hasher, _> = FrozenAppendMap::new(
-                heap, arena,
-            );
-            first_unlike(alloc, heap, &mut grown, plan)
-        }
-        Kind::IndexSet => {
-            let mut grown: FrozenIndexSet<'_, Numbers, Hasher, _> = FrozenIndexSet::new(
-                heap, arena,
-            );
-            first_unlike(alloc, heap, &mut grown, plan)
-        }
-        Kind::Interner => {
-            let mut grown: Interner<'_, Hasher, _> = Interner::new(heap, arena);
-            first_unlike(alloc, heap, &mut grown, plan)
-        }
-        Kind::BTreeMap => {
-            let mut grown: FrozenBTreeMap<'_, u64, Numbers, _> = FrozenBTreeMap::new(heap, arena);
-            first_unlike(alloc, heap, &mut grown, plan)
-        }
-        Kind::BTreeSet => {
-            let mut grown: FrozenBTreeSet<'_, u64, _> = FrozenBTreeSet::new(heap, arena);
-            first_unlike(alloc, heap, &mut grown, plan)
-        }
-        Kind::OwnedAppendMap => {
-            let mut grown: AppendMap<u64, u64, Hasher, _> = AppendMap::new(heap);
-            first_unlike(alloc, heap, &mut grown, plan)
-        }
-        Kind::AppendMapTexts => {
-            let map: FrozenAppendMap<'_, &str, Numbers, Hasher, _> = FrozenAppendMap::new(
-                heap, arena,
-            );
-            first_unlike(alloc, heap, &mut Texts { map }, plan)
-        }
+    with_kind! { kind, grown => match job {
+            Job::Script(plan) => first_unlike(alloc, heap, &mut grown, plan),
+            Job::Fill(plan) => filled(alloc, heap, &mut grown, plan),
+        };
+        Vec: List<'_, Heap<'_>> = FrozenVec::new(heap, arena);
+        Map: Map<'_, Heap<'_>> = FrozenMap::new(heap, arena);
+        IndexMap: IndexMap<'_, Heap<'_>> = FrozenIndexMap::new(heap, arena);
+        AppendMap: LargeMap<'_, Heap<'_>> = FrozenAppendMap::new(heap, arena);
+        IndexSet: IndexSet<'_, Heap<'_>> = FrozenIndexSet::new(heap, arena);
+        Interner: Interner<'_, Hasher, Heap<'_>> = Interner::new(heap, arena);
+        BTreeMap: TreeMap<'_, Heap<'_>> = FrozenBTreeMap::new(heap, arena);
+        BTreeSet: FrozenBTreeSet<'_, u64, Heap<'_>> = FrozenBTreeSet::new(heap, arena);
+        OwnedAppendMap: AppendMap<u64, u64, Hasher, Heap<'_>> = AppendMap::new(heap);
+        AppendMapTexts: Texts<TextMap<'_, Heap<'_>>> = Texts(FrozenAppendMap::new(heap, arena));
     }
 }
 
@@ -114,7 +99,7 @@ fn a_collection_differs_from_a_list(rt: HostRuntime) -> Result<(), Fail> {
         for kind in KINDS {
             let (heap, arena) = (Budget::new(rt.alloc()), Bump::new(rt.alloc()));
             let plan = Plan::random(number, clock);
-            let unlike = of_kind(rt.alloc(), &heap, &arena, kind, plan)?;
+            let unlike = of_kind(rt.alloc(), &heap, &arena, kind, Job::Script(plan))?;
             assert_eq!(rt; unlike, None, "{kind:?}, {plan:?}");
             assert_eq!(rt; heap.given(), heap.granted(), "{kind:?}, {plan:?}");
         }
@@ -130,8 +115,34 @@ fn a_collection_differs_from_a_list_where_something_grows(rt: HostRuntime) -> Re
         }
         for kind in KINDS {
             let (heap, arena) = (Budget::new(rt.alloc()), Bump::new(rt.alloc()));
-            let unlike = of_kind(rt.alloc(), &heap, &arena, kind, Plan::Each { size })?;
+            let unlike = of_kind(
+                rt.alloc(),
+                &heap,
+                &arena,
+                kind,
+                Job::Script(Plan::Each { size }),
+            )?;
             assert_eq!(rt; unlike, None, "{kind:?}, size {size}");
+        }
+    }
+    Ok(())
+}
+
+#[test]
+fn an_extended_collection_differs_from_a_list(rt: HostRuntime) -> Result<(), Fail> {
+    let clock = clock_seed(&rt)?;
+    for number in 0..SCRIPTS {
+        for kind in [
+            Kind::Map,
+            Kind::BTreeMap,
+            Kind::IndexMap,
+            Kind::AppendMap,
+            Kind::IndexSet,
+        ] {
+            let (heap, arena) = (Budget::new(rt.alloc()), Bump::new(rt.alloc()));
+            let plan = Plan::random(number, clock);
+            let unlike = of_kind(rt.alloc(), &heap, &arena, kind, Job::Fill(plan))?;
+            assert_eq!(rt; unlike, None, "{kind:?}, {plan:?}");
         }
     }
     Ok(())
@@ -146,39 +157,18 @@ fn kind_without_room(
     size: u64,
 ) -> Result<Option<u64>, AllocError> {
     let room = size as usize;
-    match kind {
-        Kind::Vec => {
-            let mut grown: FrozenVec<'_, Numbers, _> = FrozenVec::with_capacity(heap, arena, room)?;
-            first_without_room(heap, &mut grown, size)
-        }
-        Kind::Map => {
-            let mut grown: FrozenMap<'_, u64, Numbers, Hasher, _> = FrozenMap::with_capacity(
-                heap, arena, room,
-            )?;
-            first_without_room(heap, &mut grown, size)
-        }
-        Kind::IndexMap => {
-            let mut grown: FrozenIndexMap<'_, u64, Numbers, Hasher, _> =
-                FrozenIndexMap::with_capacity(heap, arena, room)?;
-            first_without_room(heap, &mut grown, size)
-        }
-        Kind::AppendMap => {
-            let mut grown: FrozenAppendMap<'_, u64, Numbers, Hasher, _> = FrozenAppendMap::new(
-                heap, arena,
-            );
+    with_kind! { kind, grown => first_without_room(heap, &mut grown, size);
+        Vec: List<'_, Heap<'_>> = FrozenVec::with_capacity(heap, arena, room)?;
+        Map: Map<'_, Heap<'_>> = FrozenMap::with_capacity(heap, arena, room)?;
+        IndexMap: IndexMap<'_, Heap<'_>> = FrozenIndexMap::with_capacity(heap, arena, room)?;
+        AppendMap: LargeMap<'_, Heap<'_>> = {
+            let mut grown = FrozenAppendMap::new(heap, arena);
             grown.reserve(room).map_err(|_| AllocError)?;
-            first_without_room(heap, &mut grown, size)
-        }
-        Kind::IndexSet => {
-            let mut grown: FrozenIndexSet<'_, Numbers, Hasher, _> = FrozenIndexSet::with_capacity(
-                heap, arena, room,
-            )?;
-            first_without_room(heap, &mut grown, size)
-        }
-        _ => {
-            let mut grown: Interner<'_, Hasher, _> = Interner::with_capacity(heap, arena, room)?;
-            first_without_room(heap, &mut grown, size)
-        }
+            grown
+        };
+        IndexSet: IndexSet<'_, Heap<'_>> = FrozenIndexSet::with_capacity(heap, arena, room)?;
+        Interner: Interner<'_, Hasher, Heap<'_>> = Interner::with_capacity(heap, arena, room)?;
+        _ => Ok(Some(size));
     }
 }
 

@@ -1,120 +1,195 @@
 //! One run on a shared collection: pairs of threads, each thread with its own view. The two views
 //! of a pair are merged, and two other threads continue with them.
-use crate::script::{Draws, Entry, Log, Script, Wrong};
+use crate::script::{Entry, Log, Put, Script, Wrong, draws_of, holds, whole};
+use elsa::sync::AttemptFault;
 use std::alloc::{AllocError, Global};
+use std::hash::{BuildHasherDefault, FoldHasher};
 use std::sync::Wait;
 use std::sync::atomic::{AtomicU64, Ordering};
 use std::thread;
 use std::thread::Threads;
 use test_alloc::Budget;
+use test_model::draws::Draws;
 
 /// The number of looks of a thread for the others, after which it begins without them.
 const TURNS: u64 = 100_000;
 
 /// The greatest number of attempts of an insertion that doesn't wait.
-pub const ATTEMPTS: u64 = 10_000_000;
+const ATTEMPTS: u64 = 10_000_000;
+
+/// The number of attempts to make a handle: another thread may let each of them fail.
+const OPENINGS: u64 = 1_000;
 
 /// The least number of keys.
 pub const KEYS: u64 = 300;
 
+/// The allocator of the collections.
+pub type Heap<'h> = &'h Budget<Global>;
+
+/// The hash builder of the maps.
+pub type State = BuildHasherDefault<FoldHasher>;
+
+/// A view, and the log of the threads that had it.
+type Held<F> = (<F as Form>::Pass, Log);
+
 /// A shared collection with the calls of the scripts.
-pub trait Form {
+pub trait Form: Sized + Sync + Drop {
     /// The view that a thread has of the collection.
     type Pass: Send + Drop;
 
-    /// Whether a view belongs to the collection.
-    ghost of: { Self → Self.Pass → Type 0 };
-
-    fn pass(&self) -> Self::Pass
-        ensures { of self.now result };
+    fn pass(&self) -> Self::Pass;
 
     /// Inserts the key, and returns the entry that the collection then has, and whether it is new.
-    ///
-    /// # Errors
-    /// Fails if an allocation fails.
-    fn insert<R: Wait>(
-        &self,
-        rt: &R,
-        pass: &mut Self::Pass,
-        key: u64,
-        value: u64,
-    ) -> Result<(Entry, bool), AllocError>
-        requires { of self.now pass.old }
-        ensures { of self.now pass.new };
+    fn insert<R: Wait>(&self, rt: &R, pass: &mut Self::Pass, key: u64, value: u64) -> Put;
 
     /// Returns the entry with this number, or `None`.
-    fn at<R: Wait>(&self, rt: &R, pass: &mut Self::Pass, number: u64) -> Option<Entry>
-        requires { of self.now pass.old }
-        ensures { of self.now pass.new };
+    fn at<R: Wait>(&self, rt: &R, pass: &mut Self::Pass, number: u64) -> Option<Entry>;
 
     /// Returns the number of entries. The interners, of which no call returns whether a name is
     /// new, return `new`, unless a name doesn't have its number.
-    fn count<R: Wait>(&self, rt: &R, pass: &mut Self::Pass, new: u64) -> u64
-        requires { of self.now pass.old }
-        ensures { of self.now pass.new };
+    fn count<R: Wait>(&self, rt: &R, pass: &mut Self::Pass, new: u64) -> u64;
 
     /// Merges the two views, and returns the numbers of entries that they then have observed.
-    fn meet(&self, _one: &mut Self::Pass, _other: &mut Self::Pass) -> (usize, usize)
-        requires { of self.now _one.old × of self.now _other.old }
-        ensures { of self.now _one.new × of self.now _other.new }
-    {
+    fn meet(&self, _one: &mut Self::Pass, _other: &mut Self::Pass) -> (usize, usize) {
         (0, 0)
     }
-}
 
-/// Makes one random call with one of `keys` keys.
-fn call<R: Wait, F: Form>(
-    rt: &R,
-    heap: &Budget<Global>,
-    form: &F,
-    pass: &mut F::Pass,
-    draws: &mut Draws,
-    keys: u64,
-    log: &mut Log,
-) -> Result<(), AllocError>
-    requires { F.of form.now pass.old }
-    ensures { F.of form.now pass.new }
-{
-    match draws.below(32) {
-        0 => {
-            heap.refuse_next(draws.below(4));
-            Ok(())
-        }
-        1..16 => match form.insert(rt, pass, draws.below(keys), draws.whole()) {
-            Ok((entry, is_new)) => log.inserted(entry, is_new),
-            Err(_) => Ok(()),
-        },
-        _ => match form.at(rt, pass, draws.below(keys)) {
-            Some(entry) => log.saw(entry),
-            None => Ok(()),
-        },
+    /// Moves all entries out, where a collection has such a call, and checks them.
+    fn ends(self) -> Result<(), Wrong> {
+        Ok(())
     }
 }
 
-/// Returns the entry with the number of this one, if it differs.
-fn differs<R: Wait, F: Form>(rt: &R, form: &F, pass: &mut F::Pass, entry: Entry) -> Option<Wrong>
-    requires { F.of form.now pass.old }
-    ensures { F.of form.now pass.new }
-{
-    let found = form.at(rt, pass, entry.number);
-    if found == Some(entry) {
-        return None;
-    }
-    Some(Wrong::Entry(found, entry))
-}
-
-/// Returns an entry of a log that the collection has not, or has with another key or value.
-fn any_differs<R: Wait, F: Form>(rt: &R, form: &F, pass: &mut F::Pass, log: &Log) -> Option<Wrong>
-    requires { F.of form.now pass.old }
-    ensures { F.of form.now pass.new }
-{
-    for entry in &log.entries {
-        let wrong = differs(rt, form, pass, *entry);
-        if wrong.is_some() {
-            return wrong;
+/// Tries to insert until no other thread has the lock. Returns `None` if each attempt found the
+/// collection busy.
+pub fn patiently<T, X: Drop, E: Drop>(
+    mut attempt: impl FnMut() -> Result<T, AttemptFault<X, E>>,
+) -> Result<Option<T>, AllocError> {
+    for _ in 0..ATTEMPTS {
+        match attempt() {
+            Ok(done) => return Ok(Some(done)),
+            Err(AttemptFault::Busy(_)) => thread::yield_now(),
+            Err(AttemptFault::Failed(_)) => return Err(AllocError),
         }
     }
-    None
+    Ok(None)
+}
+
+/// Makes a handle, unless each attempt fails.
+pub fn opened<H: Drop>(make: impl Fn() -> Result<H, AllocError>) -> Result<H, AllocError> {
+    for _ in 0..OPENINGS {
+        if let Ok(handle) = make() {
+            return Ok(handle);
+        }
+    }
+    Err(AllocError)
+}
+
+/// A run on one collection.
+#[derive(Drop)]
+struct Run<'f, R, F> {
+    rt: &'f R,
+    alloc: Global,
+    heap: Heap<'f>,
+    form: &'f F,
+    script: Script,
+}
+
+impl<R: Threads + Wait + Sync, F: Form> Run<'_, R, F> {
+    /// Makes one random call with one of `keys` keys, and adds the entry that it returns.
+    fn call(
+        &self,
+        pass: &mut F::Pass,
+        draws: &mut Draws,
+        keys: u64,
+        log: &mut Log,
+    ) -> Result<(), AllocError> {
+        let (rt, form) = (self.rt, self.form);
+        let found = match draws.below(32) {
+            0 => {
+                self.heap.refuse_next(draws.below(4));
+                None
+            }
+            1..16 => match form.insert(rt, pass, draws.below(keys), whole(draws)) {
+                Ok((entry, is_new)) => {
+                    log.new += is_new as u64;
+                    Some(entry)
+                }
+                Err(_) => None,
+            },
+            _ => form.at(rt, pass, draws.below(keys)),
+        };
+        if let Some(entry) = found {
+            log.entries.push(entry)?;
+        }
+        Ok(())
+    }
+
+    /// Checks that the collection has each entry of a log, with its key and value.
+    fn has_all(&self, pass: &mut F::Pass, log: &Log) -> Result<(), Wrong> {
+        for entry in &log.entries {
+            let found = self.form.at(self.rt, pass, entry.0);
+            holds(found == Some(*entry), Wrong::Entry(found, *entry))?;
+        }
+        Ok(())
+    }
+
+    /// Makes the calls of one thread, and records a wrong result, as an entry that it observed and
+    /// that differs at the end.
+    fn work(&self, held: Held<F>, seed: u64) -> Held<F> {
+        let (mut pass, mut log) = held;
+        let mut draws = draws_of(seed, log.calls);
+        for _ in 0..self.script.calls {
+            let done = self.call(&mut pass, &mut draws, self.script.calls.max(KEYS), &mut log);
+            log.notes(done.map_err(Wrong::from));
+        }
+        log.calls += self.script.calls;
+        let all = self.has_all(&mut pass, &log);
+        log.notes(all);
+        (pass, log)
+    }
+
+    /// Runs two threads at once, each with a view and its log.
+    fn both(&self, one: Held<F>, other: Held<F>, seed: u64) -> (Held<F>, Held<F>) {
+        thread::join(
+            self.rt,
+            move || self.work(one, seed),
+            move || self.work(other, seed + 1),
+        )
+    }
+
+    /// Runs two threads, each with a view. Then it merges the views and runs two other threads,
+    /// each with the other's view.
+    fn pair(&self, number: usize) -> (Log, Log) {
+        let seed = self
+            .script
+            .seed
+            .wrapping_mul(1000)
+            .wrapping_add(number as u64)
+            << 2;
+        let fresh = || (self.form.pass(), Log::new(self.alloc));
+        let ((mut pass, mut log), (mut other, other_log)) = self.both(fresh(), fresh(), seed);
+        let (seen, seen_too) = self.form.meet(&mut pass, &mut other);
+        log.notes(holds(seen == seen_too, Wrong::Merged(seen, seen_too)));
+        let (one, other) = self.both((other, log), (pass, other_log), seed + 2);
+        (one.1, other.1)
+    }
+
+    /// Checks the entries that the threads observed, and the number of entries.
+    fn checks(&self, logs: &[(Log, Log)]) -> Result<(), Wrong> {
+        let (mut pass, mut new) = (self.form.pass(), 0);
+        for both in logs {
+            for log in [&both.0, &both.1] {
+                if let Some(wrong) = log.wrong {
+                    return Err(wrong);
+                }
+                self.has_all(&mut pass, log)?;
+                new += log.new;
+            }
+        }
+        let count = self.form.count(self.rt, &mut pass, new);
+        holds(count == new, Wrong::Count(count, new))
+    }
 }
 
 /// Counts this thread, and waits a bounded time until `count` threads are counted.
@@ -128,146 +203,31 @@ fn meet_all(there: &AtomicU64, count: u64) {
     }
 }
 
-/// Makes the calls of one thread, and records a wrong result, as an entry that it observed and that
-/// differs at the end.
-fn work<R: Wait, F: Form>(
-    rt: &R,
-    heap: &Budget<Global>,
-    form: &F,
-    pass: &mut F::Pass,
-    log: &mut Log,
-    seed: u64,
-    calls: u64,
-)
-    requires { F.of form.now pass.old }
-    ensures { F.of form.now pass.new }
-{
-    let mut draws = Draws::new(seed, log.calls);
-    let keys = calls.max(KEYS);
-    for _turn in 0..calls {
-        if call(rt, heap, form, pass, &mut draws, keys, log).is_err() {
-            log.notes(Some(Wrong::Stopped));
-        }
-    }
-    log.calls = log.calls.saturating_add(calls);
-    let wrong = any_differs(rt, form, pass, log);
-    log.notes(wrong);
-}
-
-/// Returns a view and its log after the calls of one thread.
-fn worked<R: Wait, F: Form>(
-    rt: &R,
-    heap: &Budget<Global>,
-    form: &F,
-    held: (F::Pass, Log),
-    seed: u64,
-    calls: u64,
-) -> (F::Pass, Log)
-    requires { F.of form.now held.0 }
-    ensures { F.of form.now result.0 }
-{
-    let (mut pass, mut log) = held;
-    work(rt, heap, form, &mut pass, &mut log, seed, calls);
-    (pass, log)
-}
-
-/// Runs two threads at once, each with a view and its log.
-fn both_work<R: Threads + Wait + Sync, F: Form + Sync>(
-    rt: &R,
-    heap: &Budget<Global>,
-    form: &F,
-    one: (F::Pass, Log),
-    other: (F::Pass, Log),
-    seed: u64,
-    calls: u64,
-) -> ((F::Pass, Log), (F::Pass, Log))
-    requires { F.of form.now one.0 × F.of form.now other.0 }
-    ensures { F.of form.now result.0.0 × F.of form.now result.1.0 }
-{
-    let first = move || -> (F::Pass, Log)
-        requires { F.of form.now one.0 }
-        ensures { F.of form.entry.now result.0 }
-    { worked(rt, heap, form, one, seed, calls) };
-    let second = move || -> (F::Pass, Log)
-        requires { F.of form.now other.0 }
-        ensures { F.of form.entry.now result.0 }
-    { worked(rt, heap, form, other, seed.wrapping_add(1), calls) };
-    thread::join(rt, first, second)
-}
-
-/// Runs two threads, each with a view. Then it merges the views and runs two other threads, each
-/// with the other's view.
-fn pair<R: Threads + Wait + Sync, F: Form + Sync>(
-    rt: &R,
-    alloc: Global,
-    heap: &Budget<Global>,
-    form: &F,
-    seed: u64,
-    calls: u64,
-) -> (Log, Log) {
-    let one = (form.pass(), Log::new(alloc));
-    let other = (form.pass(), Log::new(alloc));
-    let (one, other) = both_work(rt, heap, form, one, other, seed, calls);
-    let ((mut pass, mut log), (mut other_pass, other_log)) = (one, other);
-    let (observed, observed_too) = form.meet(&mut pass, &mut other_pass);
-    if observed != observed_too {
-        log.notes(Some(Wrong::Merged(observed, observed_too)));
-    }
-    let (one, other) = both_work(
-        rt,
-        heap,
-        form,
-        (other_pass, log),
-        (pass, other_log),
-        seed.wrapping_add(2),
-        calls,
-    );
-    (one.1, other.1)
-}
-
-/// Returns what is wrong of the entries that the threads observed, or of the number of entries.
-fn checks<R: Wait, F: Form>(rt: &R, form: &F, logs: &[(Log, Log)]) -> Option<Wrong> {
-    let mut pass = form.pass();
-    let mut new = 0u64;
-    for both in logs {
-        let (one, other) = (&both.0, &both.1);
-        let of_one = one.wrong.or(any_differs(rt, form, &mut pass, one));
-        let of_other = other.wrong.or(any_differs(rt, form, &mut pass, other));
-        let wrong = of_one.or(of_other);
-        if wrong.is_some() {
-            return wrong;
-        }
-        new = new.saturating_add(one.new).saturating_add(other.new);
-    }
-    let count = form.count(rt, &mut pass, new);
-    if count == new {
-        return None;
-    }
-    Some(Wrong::Count(count, new))
-}
-
-/// Makes one run on the collection, and returns a result that was wrong.
+/// Makes one run on the collection.
 ///
 /// # Errors
-/// Fails if an allocation of the test itself fails.
-pub fn runs<R: Threads + Wait + Sync, F: Form + Sync>(
+/// Fails with a result that was wrong.
+pub fn runs<R: Threads + Wait + Sync, F: Form>(
     rt: &R,
     alloc: Global,
     heap: &Budget<Global>,
-    form: &F,
+    form: F,
     script: Script,
-) -> Result<Option<Wrong>, AllocError> {
+) -> Result<(), Wrong> {
     let there = AtomicU64::new(0);
-    let (met, all) = (&there, script.pairs as u64);
-    let logs = thread::map_indices(
+    let run = Run {
         rt,
         alloc,
-        script.pairs,
-        &|number| {
-            meet_all(met, all);
-            pair(rt, alloc, heap, form, script.seed_of(number), script.calls)
-        },
-    )?;
+        heap,
+        form: &form,
+        script,
+    };
+    let pair = |number: usize| {
+        meet_all(&there, script.pairs as u64);
+        run.pair(number)
+    };
+    let logs = thread::map_indices(rt, alloc, script.pairs, &pair)?;
     heap.refuse_next(0);
-    Ok(checks(rt, form, &logs))
+    run.checks(&logs)?;
+    form.ends()
 }

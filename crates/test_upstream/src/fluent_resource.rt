@@ -101,10 +101,8 @@ fn a_resource_was_made_twice_or_of_another_text(rt: HostRuntime) -> Result<(), F
         let manager = ResourceManager::new(rt.alloc(), &strings)?;
         for _ in 0..2 {
             let resource = manager.get_resource(path)?;
-            assert_eq!(rt;
-                (resource.first, resource.lines.as_slice()),
-                (lines[0], lines)
-            );
+            let got = (resource.first, resource.lines.as_slice());
+            assert_eq!(rt; got, (lines[0], lines));
         }
         assert_eq!(rt; (strings.len(), manager.resources.len()), (1, 1), "{path}");
     }

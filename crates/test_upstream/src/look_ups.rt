@@ -13,29 +13,21 @@ fn a_key_was_not_found_in_a_map(rt: HostRuntime) -> Result<(), Fail> {
     assert_eq!(rt; lengths, [Some(1), None]);
     let mut map = FrozenMap::new(alloc, &arena);
     map.insert("1", Own('a'))?;
-    assert_eq!(rt;
-        (map.get("1"), map.get("2"), map["1"]),
-        (Some(&'a'), None, &'a')
-    );
+    let got = (map.get("1"), map.get("2"), map["1"]);
+    assert_eq!(rt; got, (Some(&'a'), None, &'a'));
     assert_eq!(rt; map.get_key_value(&"1"), Some(("1", &'a')));
-    assert_eq!(rt;
-        (map.get_key_value("2"), map.contains_key("1")),
-        (None, true)
-    );
+    let got = (map.get_key_value("2"), map.contains_key("1"));
+    assert_eq!(rt; got, (None, true));
     let mut map = FrozenBTreeMap::new(alloc, &arena);
     map.insert("x", Own('a'))?;
     assert_eq!(rt; (map.get("x"), map.get("y")), (Some(&'a'), None));
     assert_eq!(rt; map.map_get("x", |value| *value), Some('a'));
     let mut map = FrozenIndexMap::new(alloc, &arena);
     map.insert("1", Own('a'))?;
-    assert_eq!(rt;
-        (map.get_full("1"), map.get_full("2")),
-        (Some((0, "1", &'a')), None)
-    );
-    assert_eq!(rt;
-        (map.get_index_of("1"), map.get_index_of("2")),
-        (Some(0), None)
-    );
+    let got = (map.get_full("1"), map.get_full("2"));
+    assert_eq!(rt; got, (Some((0, "1", &'a')), None));
+    let got = (map.get_index_of("1"), map.get_index_of("2"));
+    assert_eq!(rt; got, (Some(0), None));
     Ok(())
 }
 
@@ -44,21 +36,15 @@ fn a_text_was_not_found_in_a_set(rt: HostRuntime) -> Result<(), Fail> {
     let (alloc, arena) = (rt.alloc(), Bump::new(rt.alloc()));
     let mut set = FrozenIndexSet::new(alloc, &arena);
     set.insert("a")?;
-    assert_eq!(rt;
-        (set.get_full("a"), set.get_full("b")),
-        (Some((0, "a")), None)
-    );
-    assert_eq!(rt;
-        (set.get_index_of("a"), set.get_index_of("b")),
-        (Some(0), None)
-    );
+    let got = (set.get_full("a"), set.get_full("b"));
+    assert_eq!(rt; got, (Some((0, "a")), None));
+    let got = (set.get_index_of("a"), set.get_index_of("b"));
+    assert_eq!(rt; got, (Some(0), None));
     assert_eq!(rt; (set.get("a"), set.get("b")), (Some("a"), None));
     let mut set = FrozenBTreeSet::new(alloc, &arena);
     set.insert_text("x", ())?;
-    assert_eq!(rt;
-        (set.get_key_value("x"), set.contains_key("y")),
-        (Some(("x", ())), false)
-    );
+    let got = (set.get_key_value("x"), set.contains_key("y"));
+    assert_eq!(rt; got, (Some(("x", ())), false));
     // A set finds a value of one type by a reference to a value of another with the same target.
     let mut set: FrozenIndexSet<'_, String> = FrozenIndexSet::new(alloc, &arena);
     let (one, other) = (String::from_str(alloc, "a")?, String::from_str(alloc, "b")?);

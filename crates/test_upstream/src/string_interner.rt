@@ -42,17 +42,13 @@ fn a_text_changed_its_number(rt: HostRuntime) -> Result<(), Fail> {
     let mut interner = StringInterner::new(rt.alloc(), &arena);
     let words = ["lonely", "best friend", "threes a crowd", "rando"];
     for (number, word) in words.iter().enumerate() {
-        assert_eq!(rt;
-            (interner.get(word), interner.get_or_intern(word)?),
-            (None, number)
-        );
+        let got = (interner.get(word), interner.get_or_intern(word)?);
+        assert_eq!(rt; got, (None, number));
     }
     for (number, word) in words.iter().enumerate() {
         assert_eq!(rt; interner.get_or_intern(word)?, number, "{word}");
-        assert_eq!(rt;
-            (interner.get(word), interner.resolve(number)),
-            (Some(number), Some(*word))
-        );
+        let got = (interner.get(word), interner.resolve(number));
+        assert_eq!(rt; got, (Some(number), Some(*word)));
     }
     assert_eq!(rt; interner.resolve(4), None);
     Ok(())

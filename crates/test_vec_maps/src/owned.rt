@@ -6,7 +6,7 @@ use elsa_arena::arena::TypedArena;
 use elsa_maps::map::{FrozenBTreeMapIn, FrozenMapIn};
 use elsa_vec::stable::{Own, Shelf, StableDeref};
 use elsa_vec::vec::{FrozenVec, FrozenVecIn};
-use std::alloc::{AllocError, Global};
+use std::alloc::{AllocError, Allocator, Global};
 use std::sync::Arc;
 use std::test::Fail;
 use test_alloc::Budget;
@@ -26,6 +26,14 @@ type Files<'a> = FrozenMapIn<Shelf<'a, Box<Parsed>>, &'a str, Box<Parsed>>;
 
 type Sorted<'a> = FrozenBTreeMapIn<Shelf<'a, Box<Parsed>>, &'a str, Box<Parsed>>;
 
+// A shelf for texts and values.
+fn shelf<'a, T, A: Allocator + Copy>(
+    texts: &'a Bump<A>,
+    values: &'a TypedArena<T, A>,
+) -> Shelf<'a, T, A> {
+    Shelf { texts, values }
+}
+
 // Makes a boxed file with this number of lines.
 fn file(alloc: Global, text: &str, lines: usize) -> Result<Box<Parsed>, AllocError> {
     let text = String::from_str(alloc, text)?;
@@ -42,10 +50,7 @@ fn a_stored_value_was_not_the_one_that_was_passed(rt: HostRuntime) -> Result<(),
     let mut moved: Moved<'_, u64, Own<u64>> = FrozenVecIn::new(alloc, &numbers);
     moved.push(Own(7))?;
     assert_eq!(rt; moved.push_get(Own(8))?, &8);
-    let shelf = Shelf {
-        texts: &arena,
-        values: &numbers,
-    };
+    let shelf = shelf(&arena, &numbers);
     let mut shelved: FrozenVecIn<Shelf<'_, u64>, Own<u64>> = FrozenVecIn::new(alloc, shelf);
     shelved.push(Own(17))?;
     assert_eq!(rt; shelved.push_get(Own(18))?, &18);
@@ -88,10 +93,7 @@ fn a_moved_value_ended_with_its_vector(rt: HostRuntime) -> Result<(), Fail> {
 fn a_path_lost_its_first_file(rt: HostRuntime) -> Result<(), Fail> {
     let alloc = rt.alloc();
     let (texts, values) = (Bump::new(alloc), TypedArena::new(alloc)?);
-    let shelf = Shelf {
-        texts: &texts,
-        values: &values,
-    };
+    let shelf = shelf(&texts, &values);
     let mut files: Files<'_> = FrozenMapIn::new(alloc, shelf);
     let path = String::from_str(alloc, "b")?;
     let first = files.insert_text(path.as_str(), file(alloc, "fox", 1)?)?;
@@ -108,10 +110,7 @@ fn a_path_lost_its_first_file(rt: HostRuntime) -> Result<(), Fail> {
 fn a_path_in_order_lost_its_first_file(rt: HostRuntime) -> Result<(), Fail> {
     let alloc = rt.alloc();
     let (texts, values) = (Bump::new(alloc), TypedArena::new(alloc)?);
-    let shelf = Shelf {
-        texts: &texts,
-        values: &values,
-    };
+    let shelf = shelf(&texts, &values);
     let mut files: Sorted<'_> = FrozenBTreeMapIn::new(alloc, shelf);
     let path = String::from_str(alloc, "b")?;
     let first = files.insert_text(path.as_str(), file(alloc, "fox", 1)?)?;
@@ -140,10 +139,7 @@ fn a_moved_value_was_not_dropped_once_with_its_arena(rt: HostRuntime) -> Result<
     }
     assert_eq!(rt; Arc::strong_count(&counted), 101);
     drop(kept);
-    let shelf = Shelf {
-        texts: &texts,
-        values: &values,
-    };
+    let shelf = shelf(&texts, &values);
     let mut map: FrozenMapIn<Shelf<'_, Arc<u64>>, &str, Own<Arc<u64>>> = FrozenMapIn::new(
         alloc, shelf,
     );
@@ -166,10 +162,7 @@ fn a_value_without_room_was_not_dropped_once(rt: HostRuntime) -> Result<(), Fail
     let alloc = rt.alloc();
     let (counted, heap) = (Arc::new(alloc, 0_u64)?, Budget::new(alloc));
     let (texts, values) = (Bump::new(&heap), TypedArena::new(&heap)?);
-    let shelf = Shelf {
-        texts: &texts,
-        values: &values,
-    };
+    let shelf = shelf(&texts, &values);
     let mut kept: FrozenVecIn<&TypedArena<Arc<u64>, &Budget<Global>>, Own<Arc<u64>>> =
         FrozenVecIn::new(alloc, &values);
     let mut map: FrozenBTreeMapIn<Tight<'_, Arc<u64>>, &str, Own<Arc<u64>>> = FrozenBTreeMapIn::new(
@@ -188,28 +181,22 @@ fn a_value_that_a_shelf_had_no_room_for_did_not_come_back(rt: HostRuntime) -> Re
     let (alloc, heap) = (rt.alloc(), Budget::new(rt.alloc()));
     let texts = Bump::new(&heap);
     let (strings, files) = (TypedArena::new(&heap)?, TypedArena::new(&heap)?);
-    let shelf: Tight<'_, String> = Shelf {
-        texts: &texts,
-        values: &strings,
-    };
+    let strings = shelf(&texts, &strings);
     heap.refuse(heap.asked(), u64::MAX);
-    let Err(back) = Own(String::from_str(alloc, "toad")?).place(shelf) else {
+    let Err(back) = Own(String::from_str(alloc, "toad")?).place(strings) else {
         return Err(Fail::from("a text was stored without room"));
     };
     assert_eq!(rt; back.0.as_str(), "toad");
     heap.refuse_next(0);
-    let got = back.place(shelf).ok().map(|kept| kept.as_str());
+    let got = back.place(strings).ok().map(|kept| kept.as_str());
     assert_eq!(rt; got, Some("toad"));
-    let shelf: Tight<'_, Box<Parsed>> = Shelf {
-        texts: &texts,
-        values: &files,
-    };
+    let files = shelf(&texts, &files);
     heap.refuse(heap.asked(), u64::MAX);
-    let Err(back) = file(alloc, "fox", 7)?.place(shelf) else {
+    let Err(back) = file(alloc, "fox", 7)?.place(files) else {
         return Err(Fail::from("a box was stored without room"));
     };
     assert_eq!(rt; (back.text.as_str(), back.lines), ("fox", 7));
     heap.refuse_next(0);
-    assert_eq!(rt; back.place(shelf).ok().map(|kept| kept.lines), Some(7));
+    assert_eq!(rt; back.place(files).ok().map(|kept| kept.lines), Some(7));
     Ok(())
 }

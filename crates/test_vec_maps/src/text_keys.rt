@@ -30,55 +30,37 @@ trait ByText: Drop {
     fn count(&self) -> usize;
 }
 
-impl ByText for Hashed<'_> {
-    fn give(&mut self, key: &str, value: u64) -> Result<u64, AllocError> {
-        Ok(*self.insert_text(key, Own(value))?)
-    }
+// Writes the calls of these maps, with their insertion.
+macro_rules! by_text {
+    ($map:ident, $key:ident, $value:ident; $($type:ty: $give:expr;)+) => {
+        $(impl ByText for $type {
+            fn give(&mut self, $key: &str, $value: u64) -> Result<u64, AllocError> {
+                let $map = self;
+                $give
+            }
 
-    fn at(&self, key: &str) -> Option<u64> {
-        self.get(key).copied()
-    }
+            fn at(&self, key: &str) -> Option<u64> {
+                self.get(key).copied()
+            }
 
-    fn count(&self) -> usize {
-        self.len()
-    }
+            fn count(&self) -> usize {
+                self.len()
+            }
+        })+
+    };
 }
 
-impl ByText for Ordered<'_> {
-    fn give(&mut self, key: &str, value: u64) -> Result<u64, AllocError> {
-        Ok(*self.insert_text(key, Own(value))?)
-    }
-
-    fn at(&self, key: &str) -> Option<u64> {
-        self.get(key).copied()
-    }
-
-    fn count(&self) -> usize {
-        self.len()
-    }
-}
-
-impl ByText for Indexed<'_> {
-    // Inserts alternately by `insert_text` and by `insert_full_text`.
-    fn give(&mut self, key: &str, value: u64) -> Result<u64, AllocError> {
+// An index map inserts alternately by `insert_text` and by `insert_full_text`.
+by_text! { map, key, value;
+    Hashed<'_>: Ok(*map.insert_text(key, Own(value))?);
+    Ordered<'_>: Ok(*map.insert_text(key, Own(value))?);
+    Indexed<'_>: {
         if value % 2 == 0 {
-            return Ok(*self.insert_text(key, Own(value))?);
+            return Ok(*map.insert_text(key, Own(value))?);
         }
-        let (index, kept) = self.insert_full_text(key, Own(value))?;
-        Ok(if self.get_index_of(key) == Some(index) {
-            *kept
-        } else {
-            u64::MAX
-        })
-    }
-
-    fn at(&self, key: &str) -> Option<u64> {
-        self.get(key).copied()
-    }
-
-    fn count(&self) -> usize {
-        self.len()
-    }
+        let (index, kept) = map.insert_full_text(key, Own(value))?;
+        Ok(if map.get_index_of(key) == Some(index) { *kept } else { u64::MAX })
+    };
 }
 
 const CALLS: usize = 32;
