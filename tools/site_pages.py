@@ -164,8 +164,8 @@ def reference_pages():
             pages.setdefault(f"reference/{page}", name.removeprefix("::"))
         group = {module.removeprefix("elsa::"): [{name: page} for page, name in pages.items()]}
         (groups if level == "##" else seldom).append(group)
-    others = [{"Faults": "reference/faults.md"}, {"Tests": "reference/tests.md"}]
-    return [{"Index": "reference/README.md"}, *groups, {"Seldom named": seldom}, *others]
+    faults = {"Faults": "reference/faults.md"}
+    return [{"Index": "reference/README.md"}, *groups, {"Seldom named": seldom}, faults]
 
 
 def navigation(pages):

@@ -42,6 +42,10 @@ pub record View (T : Type 0) : Type 0 where
 
 
 class TestContracts(unittest.TestCase):
+    def test_a_private_file_with_calls_of_a_type_names_it(self):
+        text = "impl<K: Map<u8>, V> Frozen<\n    K,\n> {\n}\n\nimpl Name {\n}\n\nimpl<T> Drop for Other<T> {\n}\n"
+        self.assertEqual(list(definitions.types_with_calls(text)), ["Frozen", "Name"])
+
     def test_only_the_clauses_of_public_functions_are_read(self):
         clauses = definitions.public_contracts(SOURCE)
         for name in ("Grows", "IsNumber", "IsStep"):

@@ -52,6 +52,30 @@ class TestPromises(unittest.TestCase):
         self.assertEqual(self.faults("`free`: `lost`"), ["there is no clause `lost`"])
 
 
+FRONT = """# Elsa
+
+## What is proved
+
+Some words.
+
+- One item,
+  of two lines.
+  <!-- clauses: `Cursor::next`: `item`;
+  `free`: `kept` -->
+- Another one.
+
+**Tested:** not this.
+
+- Nor this.
+"""
+
+
+class TestClaims(unittest.TestCase):
+    def test_each_item_of_the_section_is_read_with_its_comment(self):
+        found = [(7, "`Cursor::next`: `item`; `free`: `kept`"), (11, "")]
+        self.assertEqual(list(promises.claims(FRONT)), found)
+
+
 READS = """use std::alloc::{
     Allocator, Global,
 };

@@ -58,7 +58,48 @@ pub type Other<K> = Map<K>;
 
 #[deprecated(since = "1", note = "use Map")]
 pub type Old<K> = Map<K>;
+
+pub struct Pair<K, V> {}
+
+impl<K, V> Pair<K, V> {
+    pub fn key(&self) -> &K {}
+}
+
+pub type One<K> = Pair<K, ()>;
+pub type Two<K, V> = Pair<K, V>;
 """
+
+DEREFS = """
+pub struct Items<T> {}
+impl<T> Items<T> {
+    /// Returns the length. It is exact.
+    pub fn len(&self) -> usize {}
+    pub fn get(&self, index: usize) -> Option<&T> {}
+    pub fn merge(&mut self) {}
+    pub fn of(count: usize) -> Self {}
+}
+pub struct Map<K> {}
+impl<K: Drop> Deref
+    for Map<K> {
+    type Target = crate::Items<Entry<K>>;
+}
+impl<K> Map<K> {
+    /// Returns the value of a key.
+    pub fn get(&self, key: K) -> bool {}
+}
+pub struct Set<T> {}
+impl<T> Deref for Set<T> {
+    type Target = Map<T>;
+}
+"""
+
+
+def library_of(text):
+    """A library of one module, whose items are public, and its items by their names."""
+    library, read = reference.Library.__new__(reference.Library), module(text)
+    library.modules = {("crate", ()): read}
+    library.paths = {("crate", read.file, it.name): [f"crate::{it.name}"] for it in read.items}
+    return library, {it.name: it for it in read.items}
 
 
 def module(text):
@@ -97,17 +138,19 @@ class TestSources(unittest.TestCase):
 
 class TestCalls(unittest.TestCase):
     def setUp(self):
-        self.library = reference.Library.__new__(reference.Library)
-        read = module(ALIASES)
-        self.library.modules = {("crate", ()): read}
-        self.library.paths = {("crate", read.file, it.name): [f"crate::{it.name}"] for it in read.items}
-        self.items = {it.name: it for it in read.items}
+        self.library, self.items = library_of(ALIASES)
 
     def test_an_alias_and_an_alias_of_it_have_the_calls_of_the_type_and_a_deprecated_name_has_no_page(self):
-        self.assertEqual(set(self.items), {"Frozen", "Map", "Other"})
-        for name in self.items:
+        self.assertNotIn("Old", self.items)
+        for name in ("Frozen", "Map", "Other"):
             self.assertEqual([it.name for it in self.library.methods("crate", self.items[name])], ["get"], name)
-        self.assertEqual([it for it, _ in self.library.aliases_of("Frozen", "crate")], ["crate::Map"])
+        self.assertEqual([it for it, _ in self.library.aliases_of("Frozen", "crate")], ["crate::Map", "crate::Other"])
+
+    def test_an_alias_of_a_special_case_is_known_by_the_page_of_its_type(self):
+        for name, page in (("One", "crate-Pair.md"), ("Two", None), ("Pair", None), ("Map", "crate-Frozen.md")):
+            own, _, there = reference.own_calls(self.library, "crate", self.items[name])
+            self.assertEqual(there, page, name)
+        self.assertEqual([it.name for it in own], ["get"])
 
     def test_a_call_is_told_with_the_bounds_of_its_impl(self):
         (get,) = self.library.methods("crate", self.items["Frozen"])
@@ -116,6 +159,21 @@ class TestCalls(unittest.TestCase):
         self.assertEqual(reference.bounds_told(bounds[:3]), "`K: Eq + Drop`, `T: Table<K>`")
         self.assertEqual(reference.bounds_for(get, alias), (bounds[:2], {"Frozen", "K", "Hashed<K>"}))
         self.assertEqual(reference.common_bounds([(bounds[:2], {"K"}), (bounds[:1], {"K"}), ([], {"T"})]), bounds[:1])
+
+
+class TestDeref(unittest.TestCase):
+    def test_a_page_lists_the_reads_of_the_types_behind_it_but_those_that_its_own_calls_hide(self):
+        library, items = library_of(DEREFS)
+
+        def listed(name):
+            own = reference.own_calls(library, "crate", items[name])[0]
+            return [it for it in reference.through_deref(library, "crate", items[name], own) if it]
+
+        items_part = ["## Methods from Deref to `Items`", "- [`len`](crate-Items.md#len): Returns the length."]
+        map_part = ["## Methods from Deref to `Map`", "- [`get`](crate-Map.md#get): Returns the value of a key."]
+        self.assertEqual(listed("Items"), [])
+        self.assertEqual(listed("Map"), items_part)
+        self.assertEqual(listed("Set"), map_part + items_part)
 
 
 class TestPages(unittest.TestCase):
