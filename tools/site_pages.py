@@ -111,7 +111,7 @@ def license_page():
 
 def all_pages():
     """The text of each page of the site, by its path there."""
-    sources = [*FURTHER, "bench/RESULTS.md", "bench/TABLES.md"]
+    sources = [*FURTHER, "bench/RESULTS.md", "bench/TABLES.md", "bench/INSTRUCTIONS.md"]
     sources += [str(it.relative_to(root)) for it in sorted((root / "docs").rglob("*.md"))]
     texts = {it: (root / it).read_text() for it in sources}
     cited = set(re.findall(r"\]\((?:\.\./)*(crates/\w+/(?:specs|src)/[^)#]*)[)#]", "\n".join(texts.values())))
@@ -179,7 +179,13 @@ def navigation(pages):
         {"Guide": guide_pages()},
         {"Reference": reference_pages()},
         {"Examples": [{"All": it} if it.endswith("/index.md") else it for it in examples]},
-        {"Measurements": [{"For users": "bench/RESULTS.md"}, {"Tables": "bench/TABLES.md"}]},
+        {
+            "Measurements": [
+                {"For users": "bench/RESULTS.md"},
+                {"Tables": "bench/TABLES.md"},
+                {"Instructions": "bench/INSTRUCTIONS.md"},
+            ]
+        },
         {"Changes": ["changes.md"]},
         {"For maintainers": maintainers},
     ]
