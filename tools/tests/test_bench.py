@@ -169,14 +169,14 @@ class TestPagesOfFirstHour(unittest.TestCase):
         nanos = f"{min(row.nanos):.0f} to {max(row.nanos):.0f} ns with 10 to 10,000 numbers"
         self.assert_says("docs/guide/README.md", f"{nanos}, {span(row.ratios, 1)} times that of hashbrown")
 
-    def test_the_readme_says_what_is_slower_as_published(self):
+    def test_the_page_says_what_is_slower_as_published(self):
         fill, get, absent = "make a memo map, fill it, drop it", "look up a present key", "look up an absent key"
         cell, texts, tree = "`cell::FrozenMap`", "`FrozenMap`, texts", "`cell::FrozenBTreeMap`"
         upstream = [span(self.rows[does, cell].upstream) for does in (get, absent)]
         trees = [span(self.ratios(does, tree)) for does in (ORDERED_FILL, "look up in an ordered map")]
         first, *more = self.ratios("make an arena of numbers, fill it, drop it", "`TypedArena<u64>`")
         self.assert_says(
-            "README.md",
+            "bench/RESULTS.md",
             f"| {cell}, get, 10 to 10,000 keys | {upstream[0]}; absent {upstream[1]} |",
             f"10 to 10,000 texts: filled; get | {span(self.ratios(fill, texts))}; {span(self.ratios(get, texts))} |",
             f"| {tree}, 10 to 10,000 keys: filled; get | {'; '.join(trees)} |",
